@@ -1,0 +1,55 @@
+-- The texts of the report and of the listing.
+use Rattle.std.specs.Prelude.{ℕ, ◌+◌, ◌*◌, ◌/◌, ◌%◌, Bool, List, [], ◌∷◌, ◌++◌, length, map, zip, flat_map, Option, Some, None, if◌then◌else◌, slice_get, unwrap_or, codes, decimal}
+use Rattle.bench_net.specs.Statement.{Statement}
+use Rattle.bench_net.specs.Scan.{name_of, cells}
+use Rattle.fault_model.specs.declared.Line.{Line}
+use Rattle.fault_model.specs.declared.Line.TheVariants.{Stem, Pin, Data, Out}
+use Rattle.fault_model.specs.Fault.{Fault, faults}
+use Rattle.faultsim.specs.Verdict.{detected}
+
+-- the name of a signal, and of the cell of this number
+abbrev pub signal_text : List Statement → ℕ → List ℕ
+signal_text c s = unwrap_or (name_of c s) []
+
+abbrev pub cell_text : List Statement → ℕ → List ℕ
+cell_text c cell = unwrap_or (slice_get (map (λ qd. qd.0) (cells c)) cell) []
+
+-- a line: `stem NAME`, `pin GATE K`, `data Q` or `out J`, where K and J count from 1
+abbrev pub line_text : List Statement → Line → List ℕ
+line_text c (Stem s) = codes "stem " ++ signal_text c s
+line_text c (Pin gate pin) = codes "pin " ++ signal_text c gate ++ codes " " ++ decimal (pin + 1)
+line_text c (Data cell) = codes "data " ++ cell_text c cell
+line_text c (Out output) = codes "out " ++ decimal (output + 1)
+
+-- a fault: its line and ` sa0` or ` sa1`
+abbrev pub fault_text : List Statement → Fault → List ℕ
+fault_text c f = line_text c f.line ++ (if f.stuck then codes " sa1" else codes " sa0")
+
+-- the number of a test, or `none`
+abbrev pub first_text : Option ℕ → List ℕ
+first_text None = codes "none"
+first_text (Some t) = decimal t
+
+-- two decimal digits
+abbrev pub two_digits : ℕ → List ℕ
+two_digits n = (48 + n / 10) ∷ (48 + n % 10) ∷ []
+
+-- `D of T (P.PP%)`: with h = 10000 D div T, the whole part is h div 100 and the decimals are h mod 100
+abbrev pub coverage_line : ℕ → ℕ → List ℕ
+coverage_line found total =
+    let h : ℕ = 10000 * found / total in
+    decimal found ++ codes " of " ++ decimal total ++ codes " (" ++ decimal (h / 100) ++ codes "." ++ two_digits (h % 100) ++ codes "%)" ++ 10 ∷ []
+
+-- the fault lines: `FAULT FIRST` for each fault in order
+abbrev pub fault_lines : List Statement → List (Option ℕ) → List ℕ
+fault_lines c firsts = flat_map (λ at. fault_text c at.0 ++ codes " " ++ first_text at.1 ++ 10 ∷ []) (zip (faults c) firsts)
+
+-- the report: the fault lines where they are asked for, and the coverage line
+abbrev pub report : List Statement → List (Option ℕ) → Bool → List ℕ
+report c firsts list = (if list then fault_lines c firsts else []) ++ coverage_line (detected firsts) (length firsts)
+
+-- the listing: `FAULT class N` for each fault in order, then `T faults in C classes`
+abbrev pub listing : List Statement → List ℕ → ℕ → List ℕ
+listing c class_of class_count =
+    flat_map (λ at. fault_text c at.0 ++ codes " class " ++ decimal at.1 ++ 10 ∷ []) (zip (faults c) class_of)
+    ++ decimal (length (faults c)) ++ codes " faults in " ++ decimal class_count ++ codes " classes" ++ 10 ∷ []

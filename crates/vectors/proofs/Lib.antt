@@ -1,0 +1,7 @@
+pub mod Circuits
+pub mod Bench
+pub mod Facts
+pub mod Laws
+pub mod Values
+pub mod Listings
+pub mod Texts
