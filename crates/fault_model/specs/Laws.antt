@@ -1,0 +1,40 @@
+-- The laws of the fault model, each a statement on a statement list.
+use Rattle.std.specs.Prelude.{◌≡◌, ◌↔◌, ◌≢◌, ℕ, Bool, List, Contains, Option, Some, None}
+use Rattle.bench_net.specs.declared.Kind.{Kind}
+use Rattle.bench_net.specs.declared.Sink.{Sink}
+use Rattle.bench_net.specs.Statement.{Name, Statement, Gate}
+use Rattle.bench_net.specs.Reading.{HasArity}
+use Rattle.bench_net.specs.Scan.{names, observers}
+use Rattle.fault_model.specs.Fault.{Fault, faults}
+use Rattle.fault_model.specs.Solution.{Test, Solves, Detects, shows}
+use Rattle.fault_model.specs.Collapse.{Represents, IsClassOf, AreEquivalent}
+
+-- each gate has as many arguments as its kind takes, as each gate of a bench text has
+abbrev pub HaveArities : List Statement → Type 0
+HaveArities c = (n : Name) (kind : Kind) (args : List Name) → Contains c (Gate n kind args) → HasArity kind args
+
+-- under every test, without a fault and under each fault, some valuation solves
+abbrev pub HasSolutions : List Statement → Type 0
+HasSolutions c = (t : Test) (f : Option Fault) → (v : Name → Bool) × Solves c t f v
+
+-- two valuations that solve give each signal the same bit
+abbrev pub HasOneSolution : List Statement → Type 0
+HasOneSolution c = (t : Test) (f : Option Fault) (v w : Name → Bool) (n : Name) → Solves c t f v → Solves c t f w → Contains (names c) n → v n ≡ w n
+
+-- each fault of the list has a representative, which is a fault of the list, and no second one
+abbrev pub HasRepresentatives : List Statement → Type 0
+HasRepresentatives c = (f : Fault) → Contains (faults c) f
+    → (r : Fault) × Contains (faults c) r × Represents c f r × ((s : Fault) → Represents c f s → s ≡ r)
+
+-- each fault of the list has a class, and no second one
+abbrev pub HasClasses : List Statement → Type 0
+HasClasses c = (f : Fault) → Contains (faults c) f → (k : ℕ) × IsClassOf c f k × ((j : ℕ) → IsClassOf c f j → j ≡ k)
+
+-- two faults of one class are detected by the same tests
+abbrev pub ClassesDetectSame : List Statement → Type 0
+ClassesDetectSame c = (f g : Fault) (t : Test) → AreEquivalent c f g → Detects c t f ↔ Detects c t g
+
+-- whichever valuations solve, a fault is detected exactly where these two show different bits to some observer
+abbrev pub DetectionIsOfAnySolution : List Statement → Type 0
+DetectionIsOfAnySolution c = (f : Fault) (t : Test) (v w : Name → Bool) → Solves c t None v → Solves c t (Some f) w
+    → Detects c t f ↔ ((observer : Sink × Name) × Contains (observers c) observer × (shows None v observer ≢ shows (Some f) w observer))
