@@ -1,10 +1,9 @@
 -- A well-formed circuit has a solution under every test, without a fault and under each fault.
-use Rattle.std.proofs.Common.{◌≡◌, ◌<◌, ◌≤◌, ℕ, zero, suc, ◌+◌, refl, sym, ◌∙◌, ap, subst, Bool, false, List, [], ◌∷◌, arith, inl, inr, ◌⊎◌}
-use Rattle.std.specs.Prelude.{Contains, Option, Some, None, slice_get, slice_index_or, bytes_eq, unwrap_or}
-use Rattle.std.specs.List.{position_or_len}
+use Rattle.std.proofs.Common.{◌≡◌, ◌<◌, ◌≤◌, ℕ, zero, suc, refl, sym, ◌∙◌, ap, subst, Bool, false, List, [], ◌∷◌, arith}
+use Rattle.std.specs.Prelude.{Contains, Option, Some, None, slice_get, slice_index_or}
 use Rattle.bench_net.specs.declared.Kind.{Kind}
-use Rattle.bench_net.specs.Statement.{Name, Statement, Input, Output, Gate, Dff, defined}
-use Rattle.bench_net.specs.Scan.{names, sources, signal, name_of, definition}
+use Rattle.bench_net.specs.Statement.{Name, Statement, Input, Output, Gate, Dff}
+use Rattle.bench_net.specs.Scan.{names, sources, signal, definition}
 use Rattle.bench_net.specs.Circuit.{IsWellFormed}
 use Rattle.bench_net.proofs.Members.{Among, among, contained}
 use Rattle.bench_net.proofs.Numbers.{definition_defines, name_of-signal}
@@ -71,7 +70,7 @@ module _ (c : List Statement) (t : Test) (f : Option Fault) (well : IsWellFormed
       same m h =
           let lt : well.acyclic.0 m < well.acyclic.0 n = well.acyclic.1 n m (kind, args, at, contained args m h) in
           steady (suc (well.acyclic.0 m)) (well.acyclic.0 n) (suc (well.acyclic.0 m)) m (omega arith) (omega (arith, lt)) (omega arith)
-              (among (names c) m (read_named c (Gate n kind args) m well (among c (Gate n kind args) at) h))
+          (among (names c) m (read_named c (Gate n kind args) m well (among c (Gate n kind args) at) h))
 
   pub solution_solves : Solves c t f solution
   solution_solves = record { source = solved_source; gate = solved_gate }

@@ -1,13 +1,13 @@
 -- The faults of the list, and what a fault's next fault is.
-use Rattle.std.proofs.Common.{◌≡◌, ◌<◌, ℕ, zero, suc, ◌+◌, refl, sym, ◌∙◌, ap, subst, Bool, true, false, not, ◌&&◌, List, [], ◌∷◌, ◌++◌, arith, inl, inr, ◌⊎◌, eqb-true, eq-eqb}
-use Rattle.std.specs.Prelude.{Contains, Option, Some, None, slice_get, map, flat_map, length, nat_le, unwrap_or, ◌≢◌, if◌then◌else◌, option_map, option_and_then, ◌==◌}
+use Rattle.std.proofs.Common.{◌≡◌, ℕ, refl, sym, ◌∙◌, ap, subst, Bool, true, false, List, [], ◌∷◌, inl, inr, ◌⊎◌, eqb-true, eq-eqb}
+use Rattle.std.specs.Prelude.{Contains, Option, Some, None, slice_get, flat_map, length, nat_le, unwrap_or, ◌≢◌, option_map, option_and_then, ◌==◌}
 use Rattle.std.specs.Option.{option_map_or}
 use Rattle.std.specs.List.{enumerate_from}
 use Rattle.bench_net.specs.declared.Kind.{Kind}
 use Rattle.bench_net.specs.declared.Sink.{Sink}
 use Rattle.bench_net.specs.declared.Sink.TheVariants as sink
-use Rattle.bench_net.specs.Statement.{Name, Statement, Input, Output, Gate, Dff}
-use Rattle.bench_net.specs.Scan.{names, signal, name_of, sinks, definition, gate_of, gate_line}
+use Rattle.bench_net.specs.Statement.{Name, Statement, Gate}
+use Rattle.bench_net.specs.Scan.{names, signal, name_of, sinks, gate_line}
 use Rattle.bench_net.specs.Circuit.{IsWellFormed}
 use Rattle.bench_net.proofs.Members.{Among, among, contained}
 use Rattle.bench_net.proofs.Plain.{and_split}
@@ -91,8 +91,8 @@ stem_both l true = inr (inl refl)
 pub stem_listed : (c : List Statement) (s : ℕ) (n : Name) (b : Bool) → name_of c s ≡ Some n → Contains (faults c) (record { line = line.Stem s; stuck = b })
 stem_listed c s n b e =
     contained (faults c) (record { line = line.Stem s; stuck = b })
-        (among_joined (faults_of c) (enumerate_from 0 (names c)) (s, n) (record { line = line.Stem s; stuck = b }) (among_numbered (names c) s n e)
-            (among_left (both (line.Stem s)) (flat_map (λ k. both (branch k)) (branches c n)) (record { line = line.Stem s; stuck = b }) (stem_both (line.Stem s) b)))
+    (among_joined (faults_of c) (enumerate_from 0 (names c)) (s, n) (record { line = line.Stem s; stuck = b }) (among_numbered (names c) s n e)
+    (among_left (both (line.Stem s)) (flat_map (λ k. both (branch k)) (branches c n)) (record { line = line.Stem s; stuck = b }) (stem_both (line.Stem s) b)))
 
 -- what a fault with a next fault is made of
 record NextParts (c : List Statement) (f g : Fault) : Type 0 where

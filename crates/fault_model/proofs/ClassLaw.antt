@@ -1,0 +1,69 @@
+-- The laws on classes: two faults of one class show the same, and are detected by the same tests.
+use Rattle.std.proofs.Common.{◌≡◌, sym, ◌∙◌, ap, subst, Bool, List}
+use Rattle.std.specs.Prelude.{Contains, Option, Some, None, unwrap_or}
+use Rattle.bench_net.specs.declared.Sink.{Sink}
+use Rattle.bench_net.specs.Statement.{Name, Statement}
+use Rattle.bench_net.specs.Scan.{observers}
+use Rattle.bench_net.specs.Circuit.{IsWellFormed}
+use Rattle.fault_model.specs.Fault.{Fault, faults, branch}
+use Rattle.fault_model.specs.Solution.{Test, Solves, Detects, under, shows, ShowSame}
+use Rattle.fault_model.specs.Collapse.{Reaches, here, onward, IsClassOf, ClassesShowSame}
+use Rattle.fault_model.specs.Laws.{HaveArities, HasSolutions, HasOneSolution, ClassesDetectSame, DetectionIsOfAnySolution}
+use Rattle.fault_model.proofs.Unique.{agree}
+use Rattle.fault_model.proofs.Existence.{solution, solution_solves}
+use Rattle.fault_model.proofs.Listed.{next_listed}
+use Rattle.fault_model.proofs.Shown.{observes, step_shows_same}
+
+pub has_solutions : (c : List Statement) → IsWellFormed c → HasSolutions c
+has_solutions c well t f = (solution c t f well, solution_solves c t f well)
+
+pub has_one_solution : (c : List Statement) → IsWellFormed c → HasOneSolution c
+has_one_solution c well t f v w n p q at = agree c t f v w well p q n at
+
+-- two solutions under one fault show the same
+pub one_shows : (c : List Statement) (t : Test) (f : Option Fault) (v w : Name → Bool) (o : Sink × Name) → IsWellFormed c → Solves c t f v → Solves c t f w
+    → Contains (observers c) o → shows f v o ≡ shows f w o
+one_shows c t f v w o well p q at = ap (under f (branch o.0)) (agree c t f v w well p q o.1 (observes c o well at).named)
+
+pub same_itself : (c : List Statement) (f : Fault) → IsWellFormed c → ShowSame c f f
+same_itself c f well t v w o p q at = one_shows c t (Some f) v w o well p q at
+
+pub same_turned : (c : List Statement) (f g : Fault) → ShowSame c f g → ShowSame c g f
+same_turned c f g same t v w o p q at = sym (same t w v o q p at)
+
+pub same_through : (c : List Statement) (f g h : Fault) → IsWellFormed c → ShowSame c f g → ShowSame c g h → ShowSame c f h
+same_through c f g h well first then t v w o p q at =
+    let u = has_solutions c well t (Some g) in
+    first t v u.0 o p u.1 at ∙ then t u.0 w o u.1 q at
+
+-- a fault shows the same as each fault that is reached from it
+along : {c : List Statement} {f r : Fault} → IsWellFormed c → HaveArities c → Contains (faults c) f → Reaches c f r → ShowSame c f r
+along {c} {f} well arities at here = same_itself c f well
+along {c} {f} {r} well arities at (onward {g = g} e p) =
+    same_through c f g r well (step_shows_same c f g well arities at e) (along well arities (next_listed c f g well at e) p)
+
+pub classes_show_same : (c : List Statement) → IsWellFormed c → HaveArities c → ClassesShowSame c
+classes_show_same c well arities f g both =
+    let p : IsClassOf c f both.0 = both.1 in
+    let q : IsClassOf c g both.0 = both.2 in
+    let same : Some p.0 ≡ Some q.0 = sym p.3 ∙ q.3 in
+    let one : p.0 ≡ q.0 = ap (λ o. unwrap_or o q.0) same in
+    let from : ShowSame c f q.0 = subst (ShowSame c f) one (along well arities p.1 p.2.0) in
+    same_through c f q.0 g well from (same_turned c g q.0 (along well arities q.1 q.2.0))
+
+-- what shows the same is detected by the same tests
+detects_too : (c : List Statement) (f g : Fault) (t : Test) → IsWellFormed c → ShowSame c f g → Detects c t f → Detects c t g
+detects_too c f g t well same d =
+    let u = has_solutions c well t (Some g) in
+    (d.0, u.0, d.2, d.3, u.1, d.5, λ e. d.6 (e ∙ sym (same t d.1 u.0 d.2 d.4 u.1 d.5)))
+
+pub classes_detect_same : (c : List Statement) → IsWellFormed c → HaveArities c → ClassesDetectSame c
+classes_detect_same c well arities f g t both =
+    let same : ShowSame c f g = classes_show_same c well arities f g both in
+    (detects_too c f g t well same, detects_too c g f t well (same_turned c f g same))
+
+pub detection_is_of_any_solution : (c : List Statement) → IsWellFormed c → DetectionIsOfAnySolution c
+detection_is_of_any_solution c well f t v w p q = (
+  λ d. (d.2, d.5, λ e. d.6 (one_shows c t None d.0 v d.2 well d.3 p d.5 ∙ (e ∙ one_shows c t (Some f) w d.1 d.2 well q d.4 d.5))),
+  λ h. (v, w, h.0, p, q, h.1, h.2),
+)

@@ -1,0 +1,5 @@
+use Rattle.fault_model.proofs.ClassLaw.{detection_is_of_any_solution}
+use Rattle.fault_model.proofs.laws.detection.Goals as goal
+
+pub returns : goal.returns
+returns c = detection_is_of_any_solution

@@ -1,0 +1,8 @@
+use Rattle.fault_model.proofs.ClassLaw.{classes_show_same, classes_detect_same}
+use Rattle.fault_model.proofs.laws.equivalence.Goals as goal
+
+pub returns-clause-show_same : goal.returns-clause-show_same
+returns-clause-show_same c = classes_show_same
+
+pub returns-clause-detected_by_same : goal.returns-clause-detected_by_same
+returns-clause-detected_by_same c = classes_detect_same

@@ -1,0 +1,35 @@
+//! Laws of the fault model, on every circuit: what crates that simulate faults stand on.
+//!
+//! A law is a function without a body. Its clause is the law, and a proof names the function to use it.
+
+ghost use Rattle.std.specs.Prelude.{List};
+ghost use Rattle.bench_net.specs.Statement.{Statement};
+ghost use Rattle.bench_net.specs.Circuit.{IsWellFormed};
+ghost use Rattle.fault_model.specs.Collapse.{ClassesShowSame};
+ghost use Rattle.fault_model.specs.Laws.{HaveArities, HasSolutions, HasOneSolution, HasRepresentatives, HasClasses, ClassesDetectSame, DetectionIsOfAnySolution};
+
+/// A circuit without cycles has exactly one solution under each test, without a fault and under each
+/// single stuck-at fault.
+pub fn solutions()
+    ensures exist { (c : List Statement) → IsWellFormed c → HasSolutions c }
+    ensures are_one { (c : List Statement) → IsWellFormed c → HasOneSolution c }
+{}
+
+/// Collapsing ends: each fault of the list has exactly one representative, and so a class.
+pub fn collapsing()
+    ensures representatives { (c : List Statement) → IsWellFormed c → HasRepresentatives c }
+    ensures classes { (c : List Statement) → IsWellFormed c → HasClasses c }
+{}
+
+/// Equivalent faults: two faults of one class show the same bits to every observer under every test, and
+/// so the same tests detect them (Bushnell and Agrawal, Essentials of Electronic Testing, on fault
+/// equivalence).
+pub fn equivalence()
+    ensures show_same { (c : List Statement) → IsWellFormed c → HaveArities c → ClassesShowSame c }
+    ensures detected_by_same { (c : List Statement) → IsWellFormed c → HaveArities c → ClassesDetectSame c }
+{}
+
+/// A simulator may take whichever solutions it finds: these decide detection.
+pub fn detection()
+    ensures { (c : List Statement) → IsWellFormed c → DetectionIsOfAnySolution c }
+{}
