@@ -1,3 +1,4 @@
+pub mod Output
 pub mod Verdict
 pub mod Report
 pub mod EndToEnd

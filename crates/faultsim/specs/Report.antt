@@ -1,7 +1,7 @@
 -- The texts of the report and of the listing.
-use Rattle.std.specs.Prelude.{ℕ, ◌+◌, ◌*◌, ◌/◌, ◌%◌, Bool, List, [], ◌∷◌, ◌++◌, length, map, zip, flat_map, Option, Some, None, if◌then◌else◌, slice_get, unwrap_or, codes, decimal}
+use Rattle.std.specs.Prelude.{⊤, ℕ, ◌<◌, ◌+◌, ◌*◌, ◌/◌, ◌%◌, Bool, List, [], ◌∷◌, ◌++◌, length, map, zip, flat_map, Option, Some, None, if◌then◌else◌, slice_get, unwrap_or, codes, decimal}
 use Rattle.bench_net.specs.Statement.{Statement}
-use Rattle.bench_net.specs.Scan.{name_of, cells}
+use Rattle.bench_net.specs.Scan.{names, name_of, cells}
 use Rattle.fault_model.specs.declared.Line.{Line}
 use Rattle.fault_model.specs.declared.Line.TheVariants.{Stem, Pin, Data, Out}
 use Rattle.fault_model.specs.Fault.{Fault, faults}
@@ -38,18 +38,32 @@ two_digits n = (48 + n / 10) ∷ (48 + n % 10) ∷ []
 abbrev pub coverage_line : ℕ → ℕ → List ℕ
 coverage_line found total =
     let h : ℕ = 10000 * found / total in
-    decimal found ++ codes " of " ++ decimal total ++ codes " (" ++ decimal (h / 100) ++ codes "." ++ two_digits (h % 100) ++ codes "%)" ++ 10 ∷ []
+    decimal found ++ codes " of " ++ decimal total ++ codes " (" ++ decimal (h / 100) ++ codes "." ++ two_digits (h % 100) ++ codes "%)\n"
 
--- the fault lines: `FAULT FIRST` for each fault in order
+-- a fault line: `FAULT FIRST`
+abbrev pub first_line : List Statement → Fault × Option ℕ → List ℕ
+first_line c at = fault_text c at.0 ++ (codes " " ++ first_text at.1 ++ codes "\n")
+
+-- the fault lines: one for each fault in order
 abbrev pub fault_lines : List Statement → List (Option ℕ) → List ℕ
-fault_lines c firsts = flat_map (λ at. fault_text c at.0 ++ codes " " ++ first_text at.1 ++ 10 ∷ []) (zip (faults c) firsts)
+fault_lines c firsts = flat_map (first_line c) (zip (faults c) firsts)
 
 -- the report: the fault lines where they are asked for, and the coverage line
 abbrev pub report : List Statement → List (Option ℕ) → Bool → List ℕ
 report c firsts list = (if list then fault_lines c firsts else []) ++ coverage_line (detected firsts) (length firsts)
 
--- the listing: `FAULT class N` for each fault in order, then `T faults in C classes`
+-- a line of the listing: `FAULT class N`
+abbrev pub class_line : List Statement → Fault × ℕ → List ℕ
+class_line c at = fault_text c at.0 ++ (codes " class " ++ decimal at.1 ++ codes "\n")
+
+-- the listing: a line for each fault in order, then `T faults in C classes`
 abbrev pub listing : List Statement → List ℕ → ℕ → List ℕ
 listing c class_of class_count =
-    flat_map (λ at. fault_text c at.0 ++ codes " class " ++ decimal at.1 ++ 10 ∷ []) (zip (faults c) class_of)
-    ++ decimal (length (faults c)) ++ codes " faults in " ++ decimal class_count ++ codes " classes" ++ 10 ∷ []
+    flat_map (class_line c) (zip (faults c) class_of) ++ (decimal (length (faults c)) ++ codes " faults in " ++ decimal class_count ++ codes " classes\n")
+
+-- the line's numbers are those of signals, pins, cells and outputs that the circuit has, as far as its text needs them
+abbrev pub IsLineOf : List Statement → Line → Type 0
+IsLineOf c (Stem s) = s < length (names c)
+IsLineOf c (Pin gate pin) = gate < length (names c)
+IsLineOf c (Data cell) = cell < length (cells c)
+IsLineOf c (Out output) = ⊤

@@ -3,5 +3,4 @@ pub mod Bench
 pub mod Facts
 pub mod Laws
 pub mod Values
-pub mod Listings
 pub mod Texts

@@ -1,0 +1,6 @@
+pub mod Listings
+pub mod Outputs
+pub mod Cells
+pub mod Texts
+pub mod Lines
+pub mod Firsts

@@ -1,0 +1,14 @@
+use Rattle.std.proofs.Common.{rules, ◌≡◌, ◌≤◌, length, take, drop, List, ℕ, ◌++◌, ◌<◌, ◌∙◌}
+use Rattle.std.specs.Io.KnownBytes.{Appends}
+use Rattle.faultsim.proofs.Outputs.{appends_more, rest_split, counts_none}
+use Rattle.faultsim.proofs.output.put_all.Goals as goal
+
+pub loop-rest-preserved : goal.loop-rest-preserved
+loop-rest-preserved g c =
+    let n : ℕ = c.in_ok-taken.taken in
+    let rest : List ℕ = c.loop-rest.rest.now in
+    let inv = c.loop-rest.invariant.taken in
+    record {
+      taken = (inv.0 ++ take n rest, inv.1 ∙ rest_split inv.0 rest n c.in_ok-taken.ensures.within, appends_more _ _ _ _ _ inv.2 c.in_ok-taken.ensures.taken);
+      steady = c.in_ok-taken.ensures.counted ∙ (counts_none n _ _ c.if-taken-eq0.false ∙ c.loop-rest.invariant.steady);
+    }

@@ -1,0 +1,35 @@
+use Rattle.std.proofs.Common.{ap, ◌∙◌, ◌≡◌, ◌<◌, ◌≤◌, length, arith}
+use Rattle.std.specs.Prelude.{zip}
+use Rattle.std.specs.List.{flat_map}
+use Rattle.std.proofs.lemmas.Result.{err_from_is_err_and}
+use Rattle.bench_net.proofs.SignalsLists.{within_place}
+use Rattle.faultsim.specs.Report.{class_line}
+use Rattle.faultsim.proofs.Outputs.{appends_more, stopped, flat_map_cut, flat_map_taken, zipped_by, all_zipped, writes_same}
+use Rattle.faultsim.proofs.report.put_classes.Goals as goal
+
+pub returns-in_err-put_class_line : goal.returns-in_err-put_class_line
+returns-in_err-put_class_line g c =
+    let p = err_from_is_err_and c.from_residual.result c.from_residual.ensures.1 in
+    let lt : c.loop-fault.fault < length c.args.list.now = omega arith in
+    let at = within_place c.args.list.now c.loop-fault.fault lt in
+    let zipped = zipped_by c.args.list.now c.args.classes.now.class_of c.loop-fault.fault at.0 c.class_of.result (at.0, 0) at.1 c.class_of.ensures in
+    rw (p.1) (stopped _ _ _ _ _ _ _ _ _ _ c.loop-fault.invariant.taken c.loop-fault.invariant.steady (c.in_err-put_class_line.ensures at.0 at.1)
+    (flat_map_cut (class_line c.args.circuit.now) (zip c.args.list.now c.args.classes.now.class_of) c.loop-fault.fault _ _ zipped.0 (ap (class_line c.args.circuit.now) zipped.1)))
+
+pub loop-fault-preserved : goal.loop-fault-preserved
+loop-fault-preserved g c =
+    let lt : c.loop-fault.fault < length c.args.list.now = omega arith in
+    let at = within_place c.args.list.now c.loop-fault.fault lt in
+    let zipped = zipped_by c.args.list.now c.args.classes.now.class_of c.loop-fault.fault at.0 c.class_of.result (at.0, 0) at.1 c.class_of.ensures in
+    let wrote = c.in_ok-put_class_line.ensures at.0 at.1 in
+    record {
+      taken = rw (flat_map_taken (class_line c.args.circuit.now) (zip c.args.list.now c.args.classes.now.class_of) c.loop-fault.fault _ _ zipped.0 (ap (class_line c.args.circuit.now) zipped.1))
+          (appends_more _ _ _ _ _ c.loop-fault.invariant.taken wrote.0);
+      steady = wrote.1 ∙ c.loop-fault.invariant.steady;
+    }
+
+pub returns : goal.returns
+returns g c =
+    let le : length c.args.list.now ≤ c.loop-fault.fault = omega arith in
+    let all = all_zipped c.args.list.now c.args.classes.now.class_of c.loop-fault.fault c.requires.count le in
+    (rw (all) at c.loop-fault.invariant.taken, c.loop-fault.invariant.steady)
