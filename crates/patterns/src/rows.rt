@@ -1,0 +1,120 @@
+//! The rows of a test text or an order text.
+ghost use Rattle.std.specs.Prelude.{◌≡◌, ◌+◌, ◌^◌, ◌<◌, ◌==◌, length, drop};
+ghost use Rattle.std.specs.List.{position_or_len, before_first, after_first};
+ghost use Rattle.std.specs.Str.Lines.{strip_carriage_return};
+ghost use Rattle.patterns.specs.Rows.{trimmed, without_front, without_back, content};
+
+/// A row.
+#[derive(Clone, Copy)]
+pub(crate) struct Row<'a> {
+    /// The number of its line, counted from 1.
+    pub(crate) line: u64,
+    /// What the line holds: its bytes before a comment, without the blanks at their ends. There
+    /// is at least one.
+    pub(crate) bytes: &'a [u8],
+}
+
+/// The rows of a text, from the top.
+#[derive(Drop)]
+pub(crate) struct Rows<'a> {
+    /// The text from the next line on.
+    pub(crate) text: &'a [u8],
+    /// The number of that line, counted from 1.
+    pub(crate) line: u64,
+    /// Each line has at least its end or a byte, so the numbers of all lines fit.
+    ghost numbered: { line + length text.now < 2 ^ 64 },
+}
+
+/// The rows of a text.
+pub(crate) fn rows_of(text: &[u8]) -> Rows<'_>
+    ensures text { result.text.now ≡ text.now }
+    ensures line { result.line ≡ 1 }
+{
+    Rows { text, line: 1 }
+}
+
+impl<'a> Iterator for Rows<'a> {
+    ghost use Rattle.std.specs.Iterator.{YieldsFirstBy, item_count};
+    ghost use Rattle.patterns.specs.Reading.{row_of, rows_left};
+
+    type Item = Row<'a>;
+
+    ghost next_gives = { YieldsFirstBy row_of rows_left };
+
+    ghost remaining = { item_count rows_left };
+
+    fn next(&mut self) -> Option<Row<'a>> {
+        while !self.text.is_empty() {
+            let line = self.line;
+            let (first, rest) = split_line(self.text);
+            self.text = rest;
+            self.line += 1;
+            let bytes = content(first);
+            if !bytes.is_empty() {
+                return Some(Row { line, bytes });
+            }
+        }
+        None
+    }
+}
+
+/// The bytes of the first line with a carriage return of its end, and the bytes from the next line
+/// on.
+fn split_line(text: &[u8]) -> (&[u8], &[u8])
+    ensures first { result.0.now ≡ before_first (λ b. b == 10) text.now }
+    ensures rest { result.1.now ≡ after_first (λ b. b == 10) text.now }
+{
+    match text.iter().position(|byte| *byte == b'\n') {
+        Some(end) => (&text[..end], &text[end + 1..]),
+        None => (text, &[]),
+    }
+}
+
+/// What a line holds, given with the carriage return of its end if it has one.
+fn content(line: &[u8]) -> &[u8]
+    ensures { result.now ≡ content (strip_carriage_return line.now) }
+{
+    let line = without_carriage_return(line);
+    without_back(without_front(before_comment(line)))
+}
+
+fn without_carriage_return(line: &[u8]) -> &[u8]
+    ensures { result.now ≡ strip_carriage_return line.now }
+{
+    match line {
+        [front @ .., b'\r'] => front,
+        _ => line,
+    }
+}
+
+/// The bytes before the first `#`.
+fn before_comment(line: &[u8]) -> &[u8]
+    ensures { result.now ≡ before_first (λ b. b == 35) line.now }
+{
+    match line.iter().position(|byte| *byte == b'#') {
+        Some(end) => &line[..end],
+        None => line,
+    }
+}
+
+/// The bytes without the blanks at their front.
+fn without_front(bytes: &[u8]) -> &[u8]
+    ensures { result.now ≡ without_front bytes.now }
+{
+    let mut bytes = bytes;
+    while let [b' ' | b'\t', rest @ ..] = bytes {
+        bytes = rest;
+    }
+    bytes
+}
+
+/// The bytes without the blanks at their back.
+fn without_back(bytes: &[u8]) -> &[u8]
+    ensures { result.now ≡ without_back bytes.now }
+{
+    let mut bytes = bytes;
+    while let [rest @ .., b' ' | b'\t'] = bytes {
+        bytes = rest;
+    }
+    bytes
+}
