@@ -1,10 +1,11 @@
 //! Orders, and their reader.
 ghost use Rattle.std.specs.Prelude.{◌≡◌, ℕ, ◌+◌, ◌*◌, ◌^◌, ◌<◌, ◌≤◌, ◌⊎◌, IfOk, IfErr, Option, if◌then◌else◌};
 ghost use Rattle.patterns.specs.Order.{HasMoves, IsOrderRefusal, is_number, number, order_fault};
+ghost use Rattle.patterns.specs.Reading.{row_of};
 
 use crate::rows::{Row, rows_of};
 use crate::{MAX_DIGITS, MAX_MOVES, OrderFault};
-use std::alloc::{AllocError, Global};
+use std::alloc::Global;
 
 /// Reads an order text: a row for each move, with the number of the worker that moves, from 0.
 ///
@@ -22,13 +23,17 @@ pub fn read_order(alloc: Global, text: &[u8], workers: u32) -> Result<Vec<u32>, 
     let mut moves = Vec::new(alloc);
     for row in rows_of(text) {
         let worker = worker_of(moves.len(), row, workers)?;
-        moves.push(worker).map_err(AllocError::from)?;
+        moves.push(worker)?;
     }
     Ok(moves)
 }
 
 /// The worker that a row names, given with the row's place among the rows.
-fn worker_of(place: usize, row: Row<'_>, workers: u32) -> Result<u32, OrderFault> {
+fn worker_of(place: usize, row: Row<'_>, workers: u32) -> Result<u32, OrderFault>
+    ensures accepted { IfOk result (λ worker.
+        (order_fault workers (place, row_of row.entry) ≡ Option.None) × (worker ≡ number row.entry.bytes.now)) }
+    ensures refused { IfErr result (λ fault. order_fault workers (place, row_of row.entry) ≡ Option.Some fault) }
+{
     if place >= MAX_MOVES {
         return Err(OrderFault::TooMany);
     }

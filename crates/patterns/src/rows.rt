@@ -46,7 +46,7 @@ impl<'a> Iterator for Rows<'a> {
     fn next(&mut self) -> Option<Row<'a>> {
         while !self.text.is_empty() {
             let line = self.line;
-            let (first, rest) = split_line(self.text);
+            let (first, rest) = split_once(self.text, b'\n');
             self.text = rest;
             self.line += 1;
             let bytes = content(first);
@@ -58,15 +58,15 @@ impl<'a> Iterator for Rows<'a> {
     }
 }
 
-/// The bytes of the first line with a carriage return of its end, and the bytes from the next line
-/// on.
-fn split_line(text: &[u8]) -> (&[u8], &[u8])
-    ensures first { result.0.now ≡ before_first (λ b. b == 10) text.now }
-    ensures rest { result.1.now ≡ after_first (λ b. b == 10) text.now }
+/// The bytes before the first `separator` and those after it; all of them and none where there is
+/// no separator.
+fn split_once(bytes: &[u8], separator: u8) -> (&[u8], &[u8])
+    ensures before { result.0.now ≡ before_first (λ b. b == separator) bytes.now }
+    ensures after { result.1.now ≡ after_first (λ b. b == separator) bytes.now }
 {
-    match text.iter().position(|byte| *byte == b'\n') {
-        Some(end) => (&text[..end], &text[end + 1..]),
-        None => (text, &[]),
+    match bytes.iter().position(|byte| *byte == separator) {
+        Some(at) => (&bytes[..at], &bytes[at + 1..]),
+        None => (bytes, &[]),
     }
 }
 
@@ -74,8 +74,8 @@ fn split_line(text: &[u8]) -> (&[u8], &[u8])
 fn content(line: &[u8]) -> &[u8]
     ensures { result.now ≡ content (strip_carriage_return line.now) }
 {
-    let line = without_carriage_return(line);
-    without_back(without_front(before_comment(line)))
+    let (before_comment, _comment) = split_once(without_carriage_return(line), b'#');
+    without_back(without_front(before_comment))
 }
 
 fn without_carriage_return(line: &[u8]) -> &[u8]
@@ -84,16 +84,6 @@ fn without_carriage_return(line: &[u8]) -> &[u8]
     match line {
         [front @ .., b'\r'] => front,
         _ => line,
-    }
-}
-
-/// The bytes before the first `#`.
-fn before_comment(line: &[u8]) -> &[u8]
-    ensures { result.now ≡ before_first (λ b. b == 35) line.now }
-{
-    match line.iter().position(|byte| *byte == b'#') {
-        Some(end) => &line[..end],
-        None => line,
     }
 }
 

@@ -1,6 +1,9 @@
 //! Tests, laid out in words of 64, and their reader.
-ghost use Rattle.std.specs.Prelude.{◌≡◌, ℕ, ◌+◌, ◌*◌, ◌^◌, ◌<◌, ◌≤◌, ◌==◌, ◌⊎◌, ◌∷◌, ◌++◌, [], map, length, IfOk, IfErr, OnOk, Option};
-ghost use Rattle.patterns.specs.Tests.{HasTests, IsTestList, IsTestRefusal, IsWord, bit, blocks, size_of, test_fault};
+ghost use Rattle.std.specs.Prelude.{◌≡◌, ◌≢◌, ℕ, ◌+◌, ◌*◌, ◌^◌, ◌<◌, ◌≤◌, ◌==◌, ◌||◌, ◌⊎◌, ◌∷◌, ◌++◌, [], map, length, slice_index, IfOk, IfErr, OnOk, Option};
+ghost use Rattle.std.specs.Int.{bit_at};
+ghost use Rattle.std.specs.List.{list_all};
+ghost use Rattle.patterns.specs.Tests.{HasTests, IsTestList, IsTestRefusal, IsWord, as_number, bit, blocks, max_tests, size_of, test_fault};
+ghost use Rattle.patterns.specs.Reading.{row_of};
 
 use crate::rows::{Row, rows_of};
 use crate::{BLOCK_SIZE, MAX_TESTS, TestFault};
@@ -46,14 +49,42 @@ pub fn read_tests(alloc: Global, text: &[u8], width: u32) -> Result<Tests, TestF
 {
     let mut tests = Tests::new(alloc, width);
     for row in rows_of(text) {
-        tests.check(row)?;
+        check(tests.count(), row, width)?;
         tests.push(alloc, row.bytes)?;
     }
     Ok(tests)
 }
 
+/// Whether a row, given with its place among the rows, is a test of this width.
+fn check(place: u32, row: Row<'_>, width: u32) -> Result<(), TestFault>
+    ensures accepted { OnOk result (test_fault width (place, row_of row.entry) ≡ Option.None) }
+    ensures room { OnOk result (place < max_tests) }
+    ensures width { OnOk result (length row.entry.bytes.now ≡ width) }
+    ensures refused { IfErr result (λ fault. test_fault width (place, row_of row.entry) ≡ Option.Some fault) }
+{
+    if place >= MAX_TESTS {
+        return Err(TestFault::TooMany);
+    }
+    if !are_bits(row.bytes) {
+        return Err(TestFault::BadByte(row.line));
+    }
+    if row.bytes.len() != width as usize {
+        return Err(TestFault::BadWidth(row.line));
+    }
+    Ok(())
+}
+
+fn are_bits(bytes: &[u8]) -> bool
+    ensures { result ≡ list_all (λ b. b == 48 || b == 49) bytes.now }
+{
+    bytes.iter().all(|byte| matches!(byte, b'0' | b'1'))
+}
+
 impl Tests {
-    fn new(alloc: Global, width: u32) -> Self {
+    /// No tests.
+    fn new(alloc: Global, width: u32) -> Self
+        ensures { result ≡ record { width = width; tests = [] } }
+    {
         Tests {
             width,
             count: 0,
@@ -61,22 +92,12 @@ impl Tests {
         }
     }
 
-    /// Whether the row may be the next test.
-    fn check(&self, row: Row<'_>) -> Result<(), TestFault> {
-        if self.count >= MAX_TESTS {
-            return Err(TestFault::TooMany);
-        }
-        if !row.bytes.iter().all(|byte| matches!(byte, b'0' | b'1')) {
-            return Err(TestFault::BadByte(row.line));
-        }
-        if row.bytes.len() != self.width as usize {
-            return Err(TestFault::BadWidth(row.line));
-        }
-        Ok(())
-    }
-
     /// Adds a test, given by a `0` or a `1` for each source.
-    fn push(&mut self, alloc: Global, row: &[u8]) -> Result<(), AllocError> {
+    fn push(&mut self, alloc: Global, row: &[u8]) -> Result<(), AllocError>
+        requires room { length self.old.tests < max_tests }
+        requires width { length row.now ≡ self.old.width }
+        ensures { OnOk result (self.new ≡ record { width = self.old.width; tests = self.old.tests ++ map (λ b. b == 49) row.now ∷ [] }) }
+    {
         let lane = self.count % BLOCK_SIZE;
         if lane == 0 {
             self.words.push(vec![in alloc; 0; self.width as usize]?)?;
@@ -139,7 +160,13 @@ impl Tests {
 }
 
 /// Sets the bit at `lane` of the word of each source where the row has a `1`.
-fn set_lane(words: &mut [u64], row: &[u8], lane: u32) {
+fn set_lane(words: &mut [u64], row: &[u8], lane: u32)
+    requires lane { lane < 64 }
+    requires sources { length words.old ≡ length row.now }
+    requires clear { (source : ℕ) → bit_at (slice_index words.old source) lane ≡ 0 }
+    ensures set { (source : ℕ) → source < length row.now → bit_at (slice_index words.new source) lane ≡ as_number (slice_index row.now source == 49) }
+    ensures others { (source k : ℕ) → k ≢ lane → bit_at (slice_index words.new source) k ≡ bit_at (slice_index words.old source) k }
+{
     for (source, byte) in row.iter().enumerate() {
         if *byte == b'1' {
             words[source] |= 1 << lane;

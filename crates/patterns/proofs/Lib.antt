@@ -1,0 +1,5 @@
+pub mod RowLemmas
+pub mod OrderLemmas
+pub mod LaneLemmas
+pub mod BelowLemmas
+pub mod WordLemmas

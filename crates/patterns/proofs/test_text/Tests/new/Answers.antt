@@ -1,0 +1,7 @@
+use Rattle.std.proofs.Common.{ap}
+use Rattle.patterns.specs.Tests.{TestList}
+use Rattle.patterns.proofs.WordLemmas.{tests_of-none}
+use Rattle.patterns.proofs.test_text.Tests.new.Goals as goal
+
+pub returns : goal.returns
+returns c = rw (tests_of-none c.args.width)
