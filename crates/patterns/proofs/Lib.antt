@@ -3,3 +3,4 @@ pub mod OrderLemmas
 pub mod LaneLemmas
 pub mod BelowLemmas
 pub mod WordLemmas
+pub mod PushLemmas

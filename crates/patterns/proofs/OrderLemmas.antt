@@ -1,5 +1,5 @@
 -- Lemmas on the numbers of an order text.
-use Rattle.std.proofs.Common.{◌≡◌, ℕ, ◌+◌, ◌-◌, ◌*◌, ◌^◌, ◌<◌, ◌≤◌, Bool, true, ◌&&◌, leb, List, take, length, get_or, sym, refl, ap, ◌∙◌, add-one, arith, rules, take_all, lit<}
+use Rattle.std.proofs.Common.{◌≡◌, ℕ, ◌+◌, ◌-◌, ◌*◌, ◌^◌, ◌<◌, ◌≤◌, true, List, take, length, get_or, sym, refl, ap, ◌∙◌, add-one, arith, take_all, lit<}
 use Rattle.std.specs.List.{list_all}
 use Rattle.std.specs.Char.{is_ascii_digit}
 use Rattle.std.proofs.Math.Nat.{pow-suc, pow-le-pow_right}

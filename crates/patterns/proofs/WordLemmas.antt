@@ -1,5 +1,5 @@
 -- Lemmas on tests and the words that hold them.
-use Rattle.std.proofs.Common.{◌≡◌, ℕ, ◌+◌, ◌-◌, ◌*◌, ◌/◌, ◌%◌, ◌<◌, ◌≤◌, Bool, true, false, eqb, ◌==◌, List, [], ◌∷◌, ◌++◌, map, length, get_or, sym, refl, ap, ◌∙◌, arith, rules, ◌≢◌, ⊎_elim, All}
+use Rattle.std.proofs.Common.{◌≡◌, ℕ, ◌+◌, ◌*◌, ◌/◌, ◌%◌, ◌<◌, ◌≤◌, Bool, true, false, ◌==◌, List, [], map, length, get_or, sym, refl, ap, ◌∙◌, arith, ◌≢◌, ⊎_elim, All}
 use Rattle.std.specs.declared.vec.Vec.{Vec}
 use Rattle.std.specs.Int.{bit_at}
 use Rattle.std.proofs.lemmas.List.{get_or-map, length-map}
@@ -9,7 +9,7 @@ use Rattle.std.proofs.lemmas.List.Elements.{All-map}
 use Rattle.patterns.specs.Tests.{TestList, IsTestList, IsWord, bit, blocks, as_number}
 use Rattle.patterns.specs.Least.{below}
 use Rattle.patterns.specs.Words.{word_at, bit_of, tests_of, AreWords}
-use Rattle.patterns.proofs.BelowLemmas.{length-map-below, get_or-map-below, get_or-map-below_past, map-below_more, map-below_same}
+use Rattle.patterns.proofs.BelowLemmas.{length-map-below, get_or-map-below, get_or-map-below_past}
 
 -- the words of each block, as lists
 abbrev pub word_lists : {Z : Type 0} → List (Vec ℕ Z) → List (List ℕ)
@@ -45,7 +45,7 @@ each-tests_of width count words =
 pub block_start : (count block : ℕ) → block < blocks count → 64 * block < count
 block_start count block h = omega arith
 
-as_number_one : (b : Bool) → (as_number b == 1) ≡ b
+pub as_number_one : (b : Bool) → (as_number b == 1) ≡ b
 as_number_one true = refl
 as_number_one false = refl
 

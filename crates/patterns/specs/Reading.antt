@@ -1,5 +1,5 @@
 -- What the iterator over rows has left to yield.
-use Rattle.std.specs.Prelude.{ℕ, List}
+use Rattle.std.specs.Prelude.{List}
 use Rattle.patterns.specs.Rows.{Row, rows_from}
 use Rattle.patterns.specs.declared.rows.Rows.{Rows}
 use Rattle.patterns.specs.declared.rows.Row.{Row as Item}

@@ -1,6 +1,5 @@
-use Rattle.std.proofs.Common.{◌<◌, ◌≤◌, length, Some, None, sym, ap, ◌∙◌, arith, rules}
+use Rattle.std.proofs.Common.{Some, sym, ap, ◌∙◌, arith, rules}
 use Rattle.std.proofs.lemmas.Bool.{cond-true}
-use Rattle.patterns.specs.Order.{is_number, number}
 use Rattle.patterns.proofs.OrderLemmas.{IsRead-none, IsRead-more, IsRead-bound, is_number_all}
 use Rattle.patterns.proofs.order_text.number.Goals as goal
 

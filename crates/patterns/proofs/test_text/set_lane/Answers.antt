@@ -1,5 +1,5 @@
-use Rattle.std.proofs.Common.{sym, subst, arith, rules}
-use Rattle.patterns.proofs.LaneLemmas.{IsSetBelow, IsSetBelow-one, IsSetBelow-zero}
+use Rattle.std.proofs.Common.{arith, rules}
+use Rattle.patterns.proofs.LaneLemmas.{IsSetBelow-one, IsSetBelow-zero}
 use Rattle.patterns.proofs.test_text.set_lane.Goals as goal
 use Rattle.patterns.proofs.test_text.set_lane.Goals.{then-byte-eq49, else-byte-eq49}
 

@@ -1,4 +1,4 @@
-use Rattle.std.proofs.Common.{◌<◌, length, sym, ap, ◌∙◌, arith, rules}
+use Rattle.std.proofs.Common.{◌<◌, length, sym, ap, ◌∙◌, rules}
 use Rattle.patterns.proofs.RowLemmas.{rows_from_skip, rows_from_first}
 use Rattle.patterns.proofs.rows.RowsIterator.next.Goals as goal
 

@@ -1,5 +1,4 @@
-use Rattle.std.proofs.Common.{ap, sym, ◌∙◌, rules, arith}
-use Rattle.patterns.specs.Tests.{blocks}
+use Rattle.std.proofs.Common.{rules}
 use Rattle.patterns.proofs.WordLemmas.{seen-count}
 use Rattle.patterns.proofs.test_text.Tests.blocks.Goals as goal
 

@@ -1,5 +1,3 @@
-use Rattle.std.proofs.Common.{ap}
-use Rattle.patterns.specs.Tests.{TestList}
 use Rattle.patterns.proofs.WordLemmas.{tests_of-none}
 use Rattle.patterns.proofs.test_text.Tests.new.Goals as goal
 

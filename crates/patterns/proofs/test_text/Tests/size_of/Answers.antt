@@ -1,4 +1,4 @@
-use Rattle.std.proofs.Common.{◌*◌, ◌<◌, ap, sym, ◌∙◌, rules, arith}
+use Rattle.std.proofs.Common.{rules, arith}
 use Rattle.patterns.proofs.WordLemmas.{seen-count, block_start}
 use Rattle.patterns.proofs.test_text.Tests.size_of.Goals as goal
 

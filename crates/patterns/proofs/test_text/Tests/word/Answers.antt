@@ -1,7 +1,5 @@
-use Rattle.std.proofs.Common.{◌≡◌, ◌<◌, get_or, length, ap, sym, ◌∙◌, arith, rules}
-use Rattle.std.specs.Int.{bit_at}
+use Rattle.std.proofs.Common.{◌≡◌, ◌<◌, get_or, ap, sym, ◌∙◌, arith}
 use Rattle.std.proofs.lemmas.List.{get_or_read}
-use Rattle.patterns.specs.Tests.{bit, as_number}
 use Rattle.patterns.specs.Words.{word_at}
 use Rattle.patterns.proofs.WordLemmas.{word_lists, word_lists-read, block_width, block_within, IsWord-from_words}
 use Rattle.patterns.proofs.test_text.Tests.word.Goals as goal
