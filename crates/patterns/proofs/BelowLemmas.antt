@@ -1,12 +1,15 @@
 -- Lemmas on the numbers below a bound, and on lists that are made from them.
 use Rattle.std.proofs.Common.{◌≡◌, ℕ, ◌+◌, ◌<◌, ◌≤◌, List, [], ◌∷◌, ◌++◌, map, length, get_or, sym, refl, ◌∙◌, arith}
 use Rattle.std.specs.List.{range_with_len}
-use Rattle.std.proofs.lemmas.List.{same_lists, get_or_past, get_or-map, length-map}
-use Rattle.std.proofs.lemmas.List.FromFn.{length-map-range_with_len, get_or-map-range_with_len, map-range_with_len_more}
+use Rattle.std.proofs.lemmas.List.{map-id, same_lists, get_or_past, get_or-map, length-map}
+use Rattle.std.proofs.lemmas.List.FromFn.{length-range_with_len, get_or-range_with_len, length-map-range_with_len, get_or-map-range_with_len, map-range_with_len_more}
 use Rattle.patterns.specs.Least.{below}
 
-pub below_is : (n : ℕ) → below n ≡ range_with_len 0 n
-below_is n = refl
+pub length-below : (n : ℕ) → length (below n) ≡ n
+length-below n = length-range_with_len 0 n
+
+pub get_or-below : (n i d : ℕ) → i < n → get_or (below n) i d ≡ i
+get_or-below n i d h = get_or-range_with_len 0 n i d h ∙ omega arith
 
 pub length-map-below : {X : Type 0} (f : ℕ → X) (n : ℕ) → length (map f (below n)) ≡ n
 length-map-below f n = length-map-range_with_len f 0 n
@@ -19,6 +22,9 @@ get_or-map-below_past f n i d h = get_or_past _ i d (omega (arith, length-map-be
 
 pub map-below_more : {X : Type 0} (f : ℕ → X) (n : ℕ) → map f (below (n + 1)) ≡ map f (below n) ++ f n ∷ []
 map-below_more f n = map-range_with_len_more f 0 n n (omega arith)
+
+pub below_more : (n : ℕ) → below (n + 1) ≡ below n ++ n ∷ []
+below_more n = sym (map-id (below (n + 1))) ∙ map-below_more (λ (i : ℕ). i) n ∙ ap (λ front. front ++ n ∷ []) (map-id (below n))
 
 -- two functions that agree below n give one list
 pub map-below_same : {X : Type 0} (f g : ℕ → X) (n : ℕ) → ((i : ℕ) → i < n → f i ≡ g i) → map f (below n) ≡ map g (below n)

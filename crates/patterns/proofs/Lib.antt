@@ -4,3 +4,6 @@ pub mod LaneLemmas
 pub mod BelowLemmas
 pub mod WordLemmas
 pub mod PushLemmas
+pub mod LeastLemmas
+pub mod FaultLemmas
+pub mod AnswerLemmas

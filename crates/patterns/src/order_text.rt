@@ -3,7 +3,7 @@ ghost use Rattle.std.specs.Prelude.{◌≡◌, ℕ, ◌+◌, ◌*◌, ◌^◌, �
 ghost use Rattle.patterns.specs.Order.{HasMoves, IsOrderRefusal, is_number, number, order_fault};
 ghost use Rattle.patterns.specs.Reading.{row_of};
 
-use crate::rows::{Row, rows_of};
+use crate::rows::{Row, Rows};
 use crate::{MAX_DIGITS, MAX_MOVES, OrderFault};
 use std::alloc::Global;
 
@@ -21,7 +21,7 @@ pub fn read_order(alloc: Global, text: &[u8], workers: u32) -> Result<Vec<u32>, 
     ensures refused { IfErr result (λ fault. (fault ≡ OrderFault.Memory) ⊎ IsOrderRefusal text.now workers fault) }
 {
     let mut moves = Vec::new(alloc);
-    for row in rows_of(text) {
+    for row in Rows::new(text) {
         let worker = worker_of(moves.len(), row, workers)?;
         moves.push(worker)?;
     }

@@ -18,19 +18,24 @@ pub(crate) struct Row<'a> {
 #[derive(Drop)]
 pub(crate) struct Rows<'a> {
     /// The text from the next line on.
-    pub(crate) text: &'a [u8],
+    text: &'a [u8],
     /// The number of that line, counted from 1.
-    pub(crate) line: u64,
+    line: u64,
     /// Each line has at least its end or a byte, so the numbers of all lines fit.
     ghost numbered: { line + length text.now < 2 ^ 64 },
 }
 
-/// The rows of a text.
-pub(crate) fn rows_of(text: &[u8]) -> Rows<'_>
-    ensures text { result.text.now ≡ text.now }
-    ensures line { result.line ≡ 1 }
-{
-    Rows { text, line: 1 }
+impl<'a> Rows<'a> {
+    ghost use Rattle.std.specs.Prelude.{◌≡◌};
+    ghost use Rattle.patterns.specs.Rows.{rows};
+    ghost use Rattle.patterns.specs.Reading.{rows_left};
+
+    /// The rows of a text.
+    pub(crate) fn new(text: &'a [u8]) -> Self
+        ensures { rows_left result ≡ rows text.now }
+    {
+        Rows { text, line: 1 }
+    }
 }
 
 impl<'a> Iterator for Rows<'a> {

@@ -5,7 +5,7 @@ ghost use Rattle.std.specs.List.{list_all};
 ghost use Rattle.patterns.specs.Tests.{HasTests, IsTestList, IsTestRefusal, IsWord, as_number, bit, blocks, max_tests, size_of, test_fault};
 ghost use Rattle.patterns.specs.Reading.{row_of};
 
-use crate::rows::{Row, rows_of};
+use crate::rows::{Row, Rows};
 use crate::{BLOCK_SIZE, MAX_TESTS, TestFault};
 use std::alloc::{AllocError, Global};
 use std::marker::Model;
@@ -48,7 +48,7 @@ pub fn read_tests(alloc: Global, text: &[u8], width: u32) -> Result<Tests, TestF
     ensures refused { IfErr result (λ fault. (fault ≡ TestFault.Memory) ⊎ IsTestRefusal text.now width fault) }
 {
     let mut tests = Tests::new(alloc, width);
-    for row in rows_of(text) {
+    for row in Rows::new(text) {
         check(tests.count(), row, width)?;
         tests.push(alloc, row.bytes)?;
     }
