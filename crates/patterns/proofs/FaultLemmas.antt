@@ -1,7 +1,7 @@
 -- Lemmas on the faults of the rows of a text.
-use Rattle.std.proofs.Common.{◌≡◌, ◌≢◌, ℕ, ◌+◌, ◌<◌, ◌≤◌, ◌⊎◌, Bool, true, false, not, ◌==◌, ◌||◌, nat_lt, zero, suc, List, [], ◌∷◌, map, length, get_or, Option, Some, None, cond, sym, refl, ap, ◌∙◌, subst, inl, inr, ⊎_elim, arith, rules}
-use Rattle.std.specs.List.{filter_map, cons_option, enumerate_from, list_all}
-use Rattle.std.proofs.lemmas.Bool.{cond_both, cases_lt, not-false, ltb-true, eqb-true}
+use Rattle.std.proofs.Common.{◌≡◌, ℕ, ◌+◌, ◌<◌, zero, suc, List, [], ◌∷◌, length, get_or, Option, Some, None, sym, refl, ap, ◌∙◌, arith}
+use Rattle.std.specs.List.{filter_map, cons_option, enumerate_from}
+use Rattle.std.proofs.lemmas.Bool.{cond_both, not-false, ltb-true, eqb-true}
 use Rattle.std.proofs.lemmas.List.FromFn.{length-enumerate_from, get_or-enumerate_from}
 use Rattle.patterns.specs.declared.TestFault.{TestFault}
 use Rattle.patterns.specs.declared.TestFault.TheVariants as fault
@@ -9,7 +9,7 @@ use Rattle.patterns.specs.declared.OrderFault.{OrderFault}
 use Rattle.patterns.specs.declared.OrderFault.TheVariants as order
 use Rattle.patterns.specs.Rows.{Row, rows}
 use Rattle.patterns.specs.Tests.{max_tests, test_fault, test_faults}
-use Rattle.patterns.specs.Order.{max_moves, is_number, number, order_fault, order_faults}
+use Rattle.patterns.specs.Order.{max_moves, number, order_fault, order_faults}
 
 -- ---- what `filter_map` gives where it gives nothing, and its first element
 

@@ -1,10 +1,10 @@
 -- Lemmas on the least test over a table.
-use Rattle.std.proofs.Common.{◌≡◌, ◌≢◌, ℕ, zero, suc, ◌+◌, ◌-◌, ◌*◌, ◌/◌, ◌%◌, ◌<◌, ◌≤◌, ◌⊎◌, List, [], ◌∷◌, map, Option, Some, None, sym, refl, ap, ◌∙◌, subst, inl, inr, ⊎_elim, arith, rules}
-use Rattle.std.proofs.lemmas.Bool.{cases_eq, cases_lt}
+use Rattle.std.proofs.Common.{◌≡◌, ◌≢◌, ℕ, zero, suc, ◌+◌, ◌*◌, ◌/◌, ◌%◌, ◌<◌, ◌≤◌, ◌⊎◌, map, Some, None, sym, refl, ap, ◌∙◌, subst, inl, inr, ⊎_elim, arith}
+use Rattle.std.proofs.lemmas.Bool.{cases_eq}
 use Rattle.patterns.specs.declared.Outcome.{Outcome}
 use Rattle.patterns.specs.declared.Outcome.TheVariants.{Clear, Hit}
-use Rattle.patterns.specs.Tests.{blocks, size_of}
-use Rattle.patterns.specs.Least.{Table, from_up, below, first_hit, least, AreClear, IsLeastHit, IsFirstOfBlock, IsFirstTest}
+use Rattle.patterns.specs.Tests.{blocks}
+use Rattle.patterns.specs.Least.{Table, from_up, first_hit, least, AreClear, IsLeastHit, IsFirstOfBlock, IsFirstTest}
 
 some_same : {m n : ℕ} → Some m ≡ Some n → m ≡ n
 some_same e = cc
