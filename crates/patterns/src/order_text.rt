@@ -4,8 +4,11 @@ ghost use Rattle.patterns.specs.Order.{HasMoves, IsOrderRefusal, is_number, numb
 ghost use Rattle.patterns.specs.Reading.{row_of};
 
 use crate::rows::{Row, Rows};
-use crate::{MAX_DIGITS, MAX_MOVES, OrderFault};
+use crate::{MAX_MOVES, OrderFault};
 use std::alloc::Global;
+
+/// The greatest number of digits of a worker number.
+const MAX_DIGITS: usize = 9;
 
 /// Reads an order text: a row for each move, with the number of the worker that moves, from 0.
 ///

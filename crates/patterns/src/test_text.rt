@@ -12,7 +12,7 @@ use std::marker::Model;
 
 /// The tests of a text. Tests, sources and blocks are numbered from 0; block b has the tests
 /// `64 * b` to `64 * b + 63`, and the last block may be short.
-#[derive(Drop)]
+#[derive(Debug, Drop)]
 pub struct Tests {
     width: u32,
     count: u32,
