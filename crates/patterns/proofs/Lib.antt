@@ -1,0 +1,9 @@
+pub mod RowLemmas
+pub mod OrderLemmas
+pub mod LaneLemmas
+pub mod BelowLemmas
+pub mod WordLemmas
+pub mod PushLemmas
+pub mod LeastLemmas
+pub mod FaultLemmas
+pub mod AnswerLemmas

@@ -1,0 +1,5 @@
+use Rattle.patterns.proofs.WordLemmas.{IsTestList-from_words}
+use Rattle.patterns.proofs.test_text.Tests.width.Goals as goal
+
+pub returns-clause-tests : goal.returns-clause-tests
+returns-clause-tests c = rw (← c.self.view_is) (IsTestList-from_words _ _ _ c.self.invariant)

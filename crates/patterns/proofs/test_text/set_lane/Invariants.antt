@@ -1,0 +1,5 @@
+use Rattle.patterns.proofs.LaneLemmas.{IsSetBelow}
+use Rattle.patterns.proofs.test_text.set_lane.Given as goal
+
+abbrev pub invariant-loop-source : goal.invariant-loop-source
+invariant-loop-source l = IsSetBelow l.initial.words l.words l.row l.lane l.source

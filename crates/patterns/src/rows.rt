@@ -1,0 +1,115 @@
+//! The rows of a test text or an order text.
+ghost use Rattle.std.specs.Prelude.{◌≡◌, ◌+◌, ◌^◌, ◌<◌, ◌==◌, length, drop};
+ghost use Rattle.std.specs.List.{position_or_len, before_first, after_first};
+ghost use Rattle.std.specs.Str.Lines.{strip_carriage_return};
+ghost use Rattle.patterns.specs.Rows.{trimmed, without_front, without_back, content};
+
+/// A row.
+#[derive(Clone, Copy)]
+pub(crate) struct Row<'a> {
+    /// The number of its line, counted from 1.
+    pub(crate) line: u64,
+    /// What the line holds: its bytes before a comment, without the blanks at their ends. There
+    /// is at least one.
+    pub(crate) bytes: &'a [u8],
+}
+
+/// The rows of a text, from the top.
+#[derive(Drop)]
+pub(crate) struct Rows<'a> {
+    /// The text from the next line on.
+    text: &'a [u8],
+    /// The number of that line, counted from 1.
+    line: u64,
+    /// Each line has at least its end or a byte, so the numbers of all lines fit.
+    ghost numbered: { line + length text.now < 2 ^ 64 },
+}
+
+impl<'a> Rows<'a> {
+    ghost use Rattle.std.specs.Prelude.{◌≡◌};
+    ghost use Rattle.patterns.specs.Rows.{rows};
+    ghost use Rattle.patterns.specs.Reading.{rows_left};
+
+    /// The rows of a text.
+    pub(crate) fn new(text: &'a [u8]) -> Self
+        ensures { rows_left result ≡ rows text.now }
+    {
+        Rows { text, line: 1 }
+    }
+}
+
+impl<'a> Iterator for Rows<'a> {
+    ghost use Rattle.std.specs.Iterator.{YieldsFirstBy, item_count};
+    ghost use Rattle.patterns.specs.Reading.{row_of, rows_left};
+
+    type Item = Row<'a>;
+
+    ghost next_gives = { YieldsFirstBy row_of rows_left };
+
+    ghost remaining = { item_count rows_left };
+
+    fn next(&mut self) -> Option<Row<'a>> {
+        while !self.text.is_empty() {
+            let line = self.line;
+            let (first, rest) = split_once(self.text, b'\n');
+            self.text = rest;
+            self.line += 1;
+            let bytes = content(first);
+            if !bytes.is_empty() {
+                return Some(Row { line, bytes });
+            }
+        }
+        None
+    }
+}
+
+/// The bytes before the first `separator` and those after it; all of them and none where there is
+/// no separator.
+fn split_once(bytes: &[u8], separator: u8) -> (&[u8], &[u8])
+    ensures before { result.0.now ≡ before_first (λ b. b == separator) bytes.now }
+    ensures after { result.1.now ≡ after_first (λ b. b == separator) bytes.now }
+{
+    match bytes.iter().position(|byte| *byte == separator) {
+        Some(at) => (&bytes[..at], &bytes[at + 1..]),
+        None => (bytes, &[]),
+    }
+}
+
+/// What a line holds, given with the carriage return of its end if it has one.
+fn content(line: &[u8]) -> &[u8]
+    ensures { result.now ≡ content (strip_carriage_return line.now) }
+{
+    let (before_comment, _comment) = split_once(without_carriage_return(line), b'#');
+    without_back(without_front(before_comment))
+}
+
+fn without_carriage_return(line: &[u8]) -> &[u8]
+    ensures { result.now ≡ strip_carriage_return line.now }
+{
+    match line {
+        [front @ .., b'\r'] => front,
+        _ => line,
+    }
+}
+
+/// The bytes without the blanks at their front.
+fn without_front(bytes: &[u8]) -> &[u8]
+    ensures { result.now ≡ without_front bytes.now }
+{
+    let mut bytes = bytes;
+    while let [b' ' | b'\t', rest @ ..] = bytes {
+        bytes = rest;
+    }
+    bytes
+}
+
+/// The bytes without the blanks at their back.
+fn without_back(bytes: &[u8]) -> &[u8]
+    ensures { result.now ≡ without_back bytes.now }
+{
+    let mut bytes = bytes;
+    while let [rest @ .., b' ' | b'\t'] = bytes {
+        bytes = rest;
+    }
+    bytes
+}
