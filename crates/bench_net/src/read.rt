@@ -1,9 +1,23 @@
 //! The lines of a bench text as numbered statements.
 
-ghost use Rattle.std.specs.Prelude.{map, string_bytes};
+ghost use Rattle.std.specs.Prelude.{◌≡◌, ◌≤◌, length, map, string_bytes};
 ghost use Rattle.bench_net.specs.Stored.{AreLinesOf};
 
+use crate::fault::no_room;
 use crate::line::Line;
+use crate::number::{StatedLine, line_numbers, number_lines, number_names, own_names};
+use crate::statement::{Stated, read_line};
+use crate::{BenchFault, Limit};
+use std::alloc::Global;
+
+/// The greatest number of bytes of a text.
+pub const MAX_BYTES: usize = 16_777_216;
+
+/// The greatest number of signals, that is of lines that define a name.
+pub const MAX_SIGNALS: u64 = 1_000_000;
+
+/// The greatest number of gate pins, data pins and outputs together.
+pub const MAX_SINKS: u64 = 4_000_000;
 
 /// The statements of a text: the names in the order of their definitions, the lines over their numbers,
 /// and beside each line the number of its line in the text, from 1.
@@ -12,4 +26,84 @@ pub struct Lines {
     pub names: Vec<String>,
     pub lines: Vec<Line>,
     pub at: Vec<u64>,
+}
+
+/// The line without the carriage return that may end it.
+fn without_return<'a>(line: &'a [u8]) -> &'a [u8] {
+    match line.split_last() {
+        Some((last, start)) if *last == b'\r' => start,
+        _ => line,
+    }
+}
+
+/// The statements of a text, each with the number of its line.
+fn read_statements<'a>(
+    alloc: Global,
+    text: &'a [u8],
+) -> Result<Vec<StatedLine<'a>>, BenchFault>
+    requires { length text.now ≤ 16777216 }
+{
+    let mut stated = Vec::new(alloc);
+    let mut number = 0;
+    for line in text.split(|byte| *byte == b'\n') {
+        number += 1;
+        match read_line(alloc, without_return(line)) {
+            Ok(None) => {}
+            Ok(Some(statement)) => {
+                stated
+                    .push(StatedLine { number, statement })
+                    .map_err(no_room)?;
+            }
+            Err(fault) => return Err(fault.or_refusal(BenchFault::Syntax(number))),
+        }
+    }
+    Ok(stated)
+}
+
+/// How many names a statement defines.
+fn signal_count(statement: &Stated) -> u64 {
+    match statement {
+        Stated::Output(_) => 0,
+        _ => 1,
+    }
+}
+
+/// How many names a statement reads.
+fn sink_count(statement: &Stated) -> u64 {
+    match statement {
+        Stated::Input(_) => 0,
+        Stated::Gate(_, _, arguments) => arguments.len() as u64,
+        _ => 1,
+    }
+}
+
+/// Refuses more signals or more sinks than the limits.
+fn check_limits(stated: &[StatedLine]) -> Result<(), BenchFault> {
+    let mut signals: u64 = 0;
+    let mut sinks: u64 = 0;
+    for line in stated {
+        signals = signals.saturating_add(signal_count(&line.statement));
+        sinks = sinks.saturating_add(sink_count(&line.statement));
+    }
+    if signals > MAX_SIGNALS {
+        return Err(BenchFault::TooLarge(Limit::Signals));
+    }
+    if sinks > MAX_SINKS {
+        return Err(BenchFault::TooLarge(Limit::Sinks));
+    }
+    Ok(())
+}
+
+/// The statements of a text over numbers.
+pub fn read_lines(alloc: Global, text: &[u8]) -> Result<Lines, BenchFault> {
+    if text.len() > MAX_BYTES {
+        return Err(BenchFault::TooLarge(Limit::Bytes));
+    }
+    let stated = read_statements(alloc, text)?;
+    check_limits(&stated)?;
+    let names = number_names(alloc, &stated)?;
+    let lines = number_lines(alloc, &stated, &names)?;
+    let at = line_numbers(alloc, &stated)?;
+    let names = own_names(alloc, &names)?;
+    Ok(Lines { names, lines, at })
 }
