@@ -1,5 +1,7 @@
 //! The names of statements as numbers.
 
+ghost use Rattle.std.specs.Prelude.{◌≤◌, length};
+
 use crate::fault::{LineFault, no_memory, no_room};
 use crate::line::Line;
 use crate::statement::Stated;
@@ -46,7 +48,9 @@ pub fn number_names<'a>(
 }
 
 /// The number of a defined name.
-fn number_of(names: &Names, name: &[u8]) -> Result<u32, LineFault> {
+fn number_of(names: &Names, name: &[u8]) -> Result<u32, LineFault>
+    requires { length names.now.keys ≤ 1000000 }
+{
     match names.get_index_of(name) {
         Some(index) => Ok(index as u32),
         None => Err(LineFault::Refused),
@@ -59,7 +63,9 @@ fn number_gate(
     kind: crate::Kind,
     arguments: &[&[u8]],
     names: &Names,
-) -> Result<GateLine, LineFault> {
+) -> Result<GateLine, LineFault>
+    requires { length names.now.keys ≤ 1000000 }
+{
     let mut pins = SmallVec::new(alloc);
     for argument in arguments {
         pins.push(number_of(names, *argument)?)?;
@@ -73,7 +79,9 @@ fn number_line(
     statement: &Stated,
     next: u32,
     names: &Names,
-) -> Result<Line, LineFault> {
+) -> Result<Line, LineFault>
+    requires { length names.now.keys ≤ 1000000 }
+{
     match statement {
         Stated::Input(_) => Ok(Line::Input(next)),
         Stated::Output(name) => Ok(Line::Output(number_of(names, *name)?)),
@@ -90,16 +98,18 @@ pub fn number_lines(
     alloc: Global,
     stated: &[StatedLine],
     names: &Names,
-) -> Result<Vec<Line>, BenchFault> {
+) -> Result<Vec<Line>, BenchFault>
+    requires { length names.now.keys ≤ 1000000 }
+{
     let mut lines = Vec::with_capacity(alloc, stated.len()).map_err(no_memory)?;
-    let mut next = 0;
+    let mut next: u32 = 0;
     for line in stated {
         match number_line(alloc, &line.statement, next, names) {
             Ok(numbered) => lines.push(numbered).map_err(no_room)?,
             Err(fault) => return Err(fault.or_refusal(BenchFault::Undefined(line.number))),
         }
         if defined(&line.statement).is_some() {
-            next += 1;
+            next = next.wrapping_add(1);
         }
     }
     Ok(lines)

@@ -44,9 +44,9 @@ fn read_statements<'a>(
     requires { length text.now ≤ 16777216 }
 {
     let mut stated = Vec::new(alloc);
-    let mut number = 0;
+    let mut number: u64 = 0;
     for line in text.split(|byte| *byte == b'\n') {
-        number += 1;
+        number = number.wrapping_add(1);
         match read_line(alloc, without_return(line)) {
             Ok(None) => {}
             Ok(Some(statement)) => {
@@ -102,6 +102,9 @@ pub fn read_lines(alloc: Global, text: &[u8]) -> Result<Lines, BenchFault> {
     let stated = read_statements(alloc, text)?;
     check_limits(&stated)?;
     let names = number_names(alloc, &stated)?;
+    if names.len() > 1_000_000 {
+        return Err(BenchFault::TooLarge(Limit::Signals));
+    }
     let lines = number_lines(alloc, &stated, &names)?;
     let at = line_numbers(alloc, &stated)?;
     let names = own_names(alloc, &names)?;
