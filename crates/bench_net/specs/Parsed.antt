@@ -7,6 +7,8 @@ use Rattle.bench_net.specs.declared.fault.LineFault.TheVariants as fault
 use Rattle.bench_net.specs.declared.statement.Stated.{Stated}
 use Rattle.bench_net.specs.declared.statement.Stated.TheVariants as stated
 use Rattle.bench_net.specs.declared.statement.Argument.{Argument}
+use Rattle.bench_net.specs.declared.BenchFault.{BenchFault}
+use Rattle.bench_net.specs.declared.BenchFault.TheVariants.{Memory}
 use Rattle.bench_net.specs.Text.{Token, Word, Open}
 use Rattle.bench_net.specs.Statement.{Name, Statement, Input, Output, Gate, Dff}
 use Rattle.bench_net.specs.Plain.{tokens_of, args_of, port, driven_by, read_tokens}
@@ -62,3 +64,8 @@ abbrev pub IsLineReading : Option (Option Statement) → Result (Option Stated) 
 IsLineReading found (Ok s) = found ≡ Some (option_map stands_for s)
 IsLineReading found (Err fault.Refused) = found ≡ None
 IsLineReading found (Err fault.Memory) = ⊤
+
+-- the refusal where the line has the fault
+abbrev pub or_refusal : LineFault → BenchFault → BenchFault
+or_refusal fault.Refused refusal = refusal
+or_refusal fault.Memory refusal = Memory

@@ -1,6 +1,7 @@
 //! Why the work on a text stops.
 
 ghost use Rattle.std.specs.Prelude.{◌≡◌};
+ghost use Rattle.bench_net.specs.Parsed.{or_refusal};
 
 use crate::BenchFault;
 use std::alloc::{AllocError, AllocFailed};
@@ -14,7 +15,9 @@ pub enum LineFault {
 
 impl LineFault {
     /// The refusal of a text, given that of the line.
-    pub fn or_refusal(self, refusal: BenchFault) -> BenchFault {
+    pub fn or_refusal(self, refusal: BenchFault) -> BenchFault
+        ensures { result ≡ or_refusal self refusal }
+    {
         match self {
             LineFault::Refused => refusal,
             LineFault::Memory => BenchFault::Memory,

@@ -1,6 +1,10 @@
 //! The lines of a bench text as numbered statements.
 
-ghost use Rattle.std.specs.Prelude.{◌≡◌, ◌≤◌, length, map, string_bytes};
+ghost use Rattle.std.specs.Prelude.{◌≡◌, ◌⊎◌, ◌≤◌, length, map, string_bytes, IfOk, IfErr};
+ghost use Rattle.std.specs.Str.Lines.{strip_carriage_return};
+ghost use Rattle.bench_net.specs.Text.{lines};
+ghost use Rattle.bench_net.specs.Refusal.{IsRefused};
+ghost use Rattle.bench_net.specs.Entries.{entries_of, HaveEntries};
 ghost use Rattle.bench_net.specs.Stored.{AreLinesOf};
 
 use crate::fault::no_room;
@@ -29,7 +33,9 @@ pub struct Lines {
 }
 
 /// The line without the carriage return that may end it.
-fn without_return<'a>(line: &'a [u8]) -> &'a [u8] {
+fn without_return<'a>(line: &'a [u8]) -> &'a [u8]
+    ensures { result.now ≡ strip_carriage_return line.now }
+{
     match line.split_last() {
         Some((last, start)) if *last == b'\r' => start,
         _ => line,
@@ -42,11 +48,13 @@ fn read_statements<'a>(
     text: &'a [u8],
 ) -> Result<Vec<StatedLine<'a>>, BenchFault>
     requires { length text.now ≤ 16777216 }
+    ensures ok { IfOk result (λ stated. HaveEntries (lines text.now) (entries_of stated.items)) }
+    ensures refused { IfErr result (λ fault. (fault ≡ BenchFault.Memory) ⊎ IsRefused text.now fault) }
 {
     let mut stated = Vec::new(alloc);
-    let mut number: u64 = 0;
+    let mut number = 0;
     for line in text.split(|byte| *byte == b'\n') {
-        number = number.wrapping_add(1);
+        number += 1;
         match read_line(alloc, without_return(line)) {
             Ok(None) => {}
             Ok(Some(statement)) => {
