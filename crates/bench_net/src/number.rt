@@ -1,6 +1,10 @@
 //! The names of statements as numbers.
 
-ghost use Rattle.std.specs.Prelude.{◌≤◌, length};
+ghost use Rattle.std.specs.Prelude.{◌≡◌, ◌⊎◌, ◌≤◌, ℕ, length, map, IfOk, IfErr, option_map};
+ghost use Rattle.std.specs.Option.{option_to_list};
+ghost use Rattle.bench_net.specs.Statement.{defined};
+ghost use Rattle.bench_net.specs.Parsed.{stands_for, names_of};
+ghost use Rattle.bench_net.specs.Entries.{names_in, AreDistinct, IsAddition, IsFirstRedefinition};
 
 use crate::fault::{LineFault, no_memory, no_room};
 use crate::line::Line;
@@ -21,7 +25,9 @@ pub struct StatedLine<'a> {
 pub type Names<'a> = IndexSet<&'a [u8]>;
 
 /// The name that a statement defines.
-fn defined<'a>(statement: &Stated<'a>) -> Option<&'a [u8]> {
+fn defined<'a>(statement: &Stated<'a>) -> Option<&'a [u8]>
+    ensures { defined (stands_for statement.now) ≡ option_to_list (option_map (λ n. n.now) result) }
+{
     match statement {
         Stated::Input(name) => Some(*name),
         Stated::Output(_) => None,
@@ -30,18 +36,33 @@ fn defined<'a>(statement: &Stated<'a>) -> Option<&'a [u8]> {
     }
 }
 
+/// Adds a name behind the others, and says whether it is new.
+fn add_name<'a>(names: &mut Names<'a>, name: &'a [u8]) -> Result<bool, BenchFault>
+    ensures added { IfOk result (λ added. IsAddition (names_of names.old.keys) name.now added (names_of names.new.keys)) }
+    ensures refused { IfErr result (λ fault. fault ≡ BenchFault.Memory) }
+{
+    match names.insert_full(name) {
+        Ok((_, added)) => Ok(added),
+        Err(failed) => Err(no_room(failed)),
+    }
+}
+
 /// Numbers the defined names in the order of their lines.
 pub fn number_names<'a>(
     alloc: Global,
     stated: &[StatedLine<'a>],
-) -> Result<Names<'a>, BenchFault> {
+) -> Result<Names<'a>, BenchFault>
+    ensures numbered { IfOk result (λ names. names_of names.keys ≡ names_in stated.now) }
+    ensures distinct { IfOk result (λ names. AreDistinct (names_in stated.now)) }
+    ensures refused { IfErr result (λ fault. (fault ≡ BenchFault.Memory) ⊎ ((line : ℕ) × (fault ≡ BenchFault.Redefined line) × IsFirstRedefinition stated.now line)) }
+{
     let mut names = IndexSet::new(alloc);
     for line in stated {
-        if let Some(name) = defined(&line.statement) {
-            let (_, added) = names.insert_full(name).map_err(no_room)?;
-            if !added {
-                return Err(BenchFault::Redefined(line.number));
-            }
+        let Some(name) = defined(&line.statement) else {
+            continue;
+        };
+        if !add_name(&mut names, name)? {
+            return Err(BenchFault::Redefined(line.number));
         }
     }
     Ok(names)

@@ -1,10 +1,12 @@
 //! The lines of a bench text as numbered statements.
 
-ghost use Rattle.std.specs.Prelude.{◌≡◌, ◌⊎◌, ◌≤◌, length, map, string_bytes, IfOk, IfErr};
+ghost use Rattle.std.specs.Prelude.{◌≡◌, ◌⊎◌, ◌≤◌, length, map, string_bytes, IfOk, IfErr, IsTrue, ◌↔◌};
 ghost use Rattle.std.specs.Str.Lines.{strip_carriage_return};
 ghost use Rattle.bench_net.specs.Text.{lines};
 ghost use Rattle.bench_net.specs.Refusal.{IsRefused};
-ghost use Rattle.bench_net.specs.Entries.{entries_of, HaveEntries};
+ghost use Rattle.bench_net.specs.Entries.{entries_of, names_in, reads_in, HaveEntries};
+ghost use Rattle.bench_net.specs.Parsed.{stands_for};
+ghost use Rattle.bench_net.specs.Statement.{defines, read};
 ghost use Rattle.bench_net.specs.Stored.{AreLinesOf};
 
 use crate::fault::no_room;
@@ -18,10 +20,10 @@ use std::alloc::Global;
 pub const MAX_BYTES: usize = 16_777_216;
 
 /// The greatest number of signals, that is of lines that define a name.
-pub const MAX_SIGNALS: u64 = 1_000_000;
+pub const MAX_SIGNALS: usize = 1_000_000;
 
 /// The greatest number of gate pins, data pins and outputs together.
-pub const MAX_SINKS: u64 = 4_000_000;
+pub const MAX_SINKS: usize = 4_000_000;
 
 /// The statements of a text: the names in the order of their definitions, the lines over their numbers,
 /// and beside each line the number of its line in the text, from 1.
@@ -68,38 +70,54 @@ fn read_statements<'a>(
     Ok(stated)
 }
 
-/// How many names a statement defines.
-fn signal_count(statement: &Stated) -> u64 {
-    match statement {
-        Stated::Output(_) => 0,
-        _ => 1,
-    }
+/// Whether a statement defines a name.
+fn defines(statement: &Stated) -> bool
+    ensures { result ≡ defines (stands_for statement.now) }
+{
+    !matches!(statement, Stated::Output(_))
 }
 
 /// How many names a statement reads.
-fn sink_count(statement: &Stated) -> u64 {
+fn read_count(statement: &Stated) -> usize
+    ensures { result ≡ length (read (stands_for statement.now)) }
+{
     match statement {
         Stated::Input(_) => 0,
-        Stated::Gate(_, _, arguments) => arguments.len() as u64,
-        _ => 1,
+        Stated::Output(_) => 1,
+        Stated::Gate(_, _, arguments) => arguments.len(),
+        Stated::Dff(_, _) => 1,
     }
 }
 
-/// Refuses more signals or more sinks than the limits.
-fn check_limits(stated: &[StatedLine]) -> Result<(), BenchFault> {
-    let mut signals: u64 = 0;
-    let mut sinks: u64 = 0;
+/// Whether there are no more signals than the limit.
+fn signals_fit(stated: &[StatedLine]) -> bool
+    ensures { IsTrue result ↔ length (names_in stated.now) ≤ 1000000 }
+{
+    let mut count = 0;
     for line in stated {
-        signals = signals.saturating_add(signal_count(&line.statement));
-        sinks = sinks.saturating_add(sink_count(&line.statement));
+        if defines(&line.statement) {
+            if count == MAX_SIGNALS {
+                return false;
+            }
+            count += 1;
+        }
     }
-    if signals > MAX_SIGNALS {
-        return Err(BenchFault::TooLarge(Limit::Signals));
+    true
+}
+
+/// Whether there are no more sinks than the limit.
+fn sinks_fit(stated: &[StatedLine]) -> bool
+    ensures { IsTrue result ↔ length (reads_in stated.now) ≤ 4000000 }
+{
+    let mut count = 0;
+    for line in stated {
+        let more = read_count(&line.statement);
+        if more > MAX_SINKS - count {
+            return false;
+        }
+        count += more;
     }
-    if sinks > MAX_SINKS {
-        return Err(BenchFault::TooLarge(Limit::Sinks));
-    }
-    Ok(())
+    true
 }
 
 /// The statements of a text over numbers.
@@ -108,7 +126,12 @@ pub fn read_lines(alloc: Global, text: &[u8]) -> Result<Lines, BenchFault> {
         return Err(BenchFault::TooLarge(Limit::Bytes));
     }
     let stated = read_statements(alloc, text)?;
-    check_limits(&stated)?;
+    if !signals_fit(&stated) {
+        return Err(BenchFault::TooLarge(Limit::Signals));
+    }
+    if !sinks_fit(&stated) {
+        return Err(BenchFault::TooLarge(Limit::Sinks));
+    }
     let names = number_names(alloc, &stated)?;
     if names.len() > 1_000_000 {
         return Err(BenchFault::TooLarge(Limit::Signals));
