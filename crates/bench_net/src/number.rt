@@ -1,10 +1,14 @@
 //! The names of statements as numbers.
 
-ghost use Rattle.std.specs.Prelude.{◌≡◌, ◌⊎◌, ◌≤◌, ℕ, length, map, IfOk, IfErr, option_map};
+ghost use Rattle.std.specs.Prelude.{◌≡◌, ◌⊎◌, ◌<◌, ◌≤◌, ◌+◌, ℕ, length, map, IfOk, IfErr, option_map, Contains, string_bytes};
+ghost use Rattle.std.specs.List.{All};
+ghost use Rattle.std.specs.Str.{IsUtf8};
+ghost use Rattle.bench_net.specs.Stored.{name_at};
+ghost use Rattle.bench_net.specs.Numbering.{LacksOneOf, IsNextFor, IsNumberedLine, AreNumberedLines};
 ghost use Rattle.std.specs.Option.{option_to_list};
-ghost use Rattle.bench_net.specs.Statement.{defined};
+ghost use Rattle.bench_net.specs.Statement.{defined, read};
 ghost use Rattle.bench_net.specs.Parsed.{stands_for, names_of};
-ghost use Rattle.bench_net.specs.Entries.{names_in, AreDistinct, IsAddition, IsFirstRedefinition};
+ghost use Rattle.bench_net.specs.Entries.{names_in, AreDistinct, IsAddition, IsFirstRedefinition, IsFirstUndefined};
 
 use crate::fault::{LineFault, no_memory, no_room};
 use crate::line::Line;
@@ -12,7 +16,8 @@ use crate::statement::Stated;
 use crate::{BenchFault, GateLine};
 use indexmap::IndexSet;
 use smallvec::SmallVec;
-use std::alloc::Global;
+use std::alloc::{AllocError, Global};
+use std::str;
 
 /// A statement with the number of its line in the text, from 1.
 #[derive(Drop)]
@@ -71,6 +76,9 @@ pub fn number_names<'a>(
 /// The number of a defined name.
 fn number_of(names: &Names, name: &[u8]) -> Result<u32, LineFault>
     requires { length names.now.keys ≤ 1000000 }
+    ensures within { IfOk result (λ number. number < length (names_of names.now.keys)) }
+    ensures named { IfOk result (λ number. name_at (names_of names.now.keys) number ≡ name.now) }
+    ensures refused { IfErr result (λ fault. ¬ Contains (names_of names.now.keys) name.now) }
 {
     match names.get_index_of(name) {
         Some(index) => Ok(index as u32),
@@ -78,20 +86,23 @@ fn number_of(names: &Names, name: &[u8]) -> Result<u32, LineFault>
     }
 }
 
-/// The gate of a kind over the numbers of its arguments.
-fn number_gate(
+/// The numbers of the names of a gate's arguments.
+fn number_pins(
     alloc: Global,
-    kind: crate::Kind,
     arguments: &[&[u8]],
     names: &Names,
-) -> Result<GateLine, LineFault>
+) -> Result<SmallVec<u32, 4>, LineFault>
     requires { length names.now.keys ≤ 1000000 }
+    ensures within { IfOk result (λ pins. All (λ number. number < length (names_of names.now.keys)) pins.items) }
+    ensures named { IfOk result (λ pins. map (name_at (names_of names.now.keys)) pins.items ≡ names_of arguments.now) }
+    ensures refused { IfErr result (λ fault. fault ≡ LineFault.Refused → LacksOneOf (names_of names.now.keys) (names_of arguments.now)) }
 {
     let mut pins = SmallVec::new(alloc);
     for argument in arguments {
-        pins.push(number_of(names, *argument)?)?;
+        let number = number_of(names, *argument)?;
+        pins.push(number)?;
     }
-    Ok(GateLine { kind, pins })
+    Ok(pins)
 }
 
 /// The statement over numbers; `next` is the number of the name that it defines.
@@ -101,16 +112,39 @@ fn number_line(
     next: u32,
     names: &Names,
 ) -> Result<Line, LineFault>
-    requires { length names.now.keys ≤ 1000000 }
+    requires few { length names.now.keys ≤ 1000000 }
+    requires own { IsNextFor (names_of names.now.keys) next (stands_for statement.now) }
+    ensures numbered { IfOk result (IsNumberedLine (names_of names.now.keys) next (stands_for statement.now)) }
+    ensures refused { IfErr result (λ fault. fault ≡ LineFault.Refused → LacksOneOf (names_of names.now.keys) (read (stands_for statement.now))) }
 {
     match statement {
         Stated::Input(_) => Ok(Line::Input(next)),
-        Stated::Output(name) => Ok(Line::Output(number_of(names, *name)?)),
-        Stated::Gate(_, kind, arguments) => {
-            let gate = number_gate(alloc, *kind, arguments.as_slice(), names)?;
-            Ok(Line::Gate(next, gate))
+        Stated::Output(name) => {
+            let number = number_of(names, *name)?;
+            Ok(Line::Output(number))
         }
-        Stated::Dff(_, data) => Ok(Line::Dff(next, number_of(names, *data)?)),
+        Stated::Gate(_, kind, arguments) => {
+            let kind = *kind;
+            let pins = number_pins(alloc, arguments.as_slice(), names)?;
+            Ok(Line::Gate(next, GateLine { kind, pins }))
+        }
+        Stated::Dff(_, data) => {
+            let number = number_of(names, *data)?;
+            Ok(Line::Dff(next, number))
+        }
+    }
+}
+
+/// The number behind those of a statement's own names.
+fn number_behind(next: u32, statement: &Stated) -> u32
+    requires { next + length (defined (stands_for statement.now)) ≤ 1000000 }
+    ensures { result ≡ next + length (defined (stands_for statement.now)) }
+{
+    match statement {
+        Stated::Input(_) => next + 1,
+        Stated::Output(_) => next,
+        Stated::Gate(_, _, _) => next + 1,
+        Stated::Dff(_, _) => next + 1,
     }
 }
 
@@ -120,37 +154,52 @@ pub fn number_lines(
     stated: &[StatedLine],
     names: &Names,
 ) -> Result<Vec<Line>, BenchFault>
-    requires { length names.now.keys ≤ 1000000 }
+    requires few { length names.now.keys ≤ 1000000 }
+    requires own { names_of names.now.keys ≡ names_in stated.now }
+    ensures numbered { IfOk result (λ lines. AreNumberedLines (names_of names.now.keys) stated.now lines.items) }
+    ensures refused { IfErr result (λ fault. (fault ≡ BenchFault.Memory) ⊎ ((line : ℕ) × (fault ≡ BenchFault.Undefined line) × IsFirstUndefined (names_of names.now.keys) stated.now line)) }
 {
     let mut lines = Vec::with_capacity(alloc, stated.len()).map_err(no_memory)?;
-    let mut next: u32 = 0;
+    let mut next = 0;
     for line in stated {
-        match number_line(alloc, &line.statement, next, names) {
-            Ok(numbered) => lines.push(numbered).map_err(no_room)?,
+        let numbered = match number_line(alloc, &line.statement, next, names) {
+            Ok(numbered) => numbered,
             Err(fault) => return Err(fault.or_refusal(BenchFault::Undefined(line.number))),
-        }
-        if defined(&line.statement).is_some() {
-            next = next.wrapping_add(1);
-        }
+        };
+        lines.push(numbered).map_err(no_room)?;
+        next = number_behind(next, &line.statement);
     }
     Ok(lines)
 }
 
 /// The names as texts of their own.
-pub fn own_names(alloc: Global, names: &Names) -> Result<Vec<String>, BenchFault> {
+pub fn own_names(alloc: Global, names: &Names) -> Result<Vec<String>, BenchFault>
+    requires { All IsUtf8 (names_of names.now.keys) }
+    ensures named { IfOk result (λ owned. map string_bytes owned.items ≡ names_of names.now.keys) }
+    ensures refused { IfErr result (λ fault. fault ≡ BenchFault.Memory) }
+{
     let mut owned = Vec::with_capacity(alloc, names.len()).map_err(no_memory)?;
     for name in names.iter() {
-        let name = String::from_utf8_lossy(alloc, *name).map_err(no_memory)?;
+        let name = own_name(alloc, *name).map_err(no_memory)?;
         owned.push(name).map_err(no_room)?;
     }
     Ok(owned)
 }
 
-/// The numbers of the statements' lines.
-pub fn line_numbers(alloc: Global, stated: &[StatedLine]) -> Result<Vec<u64>, BenchFault> {
-    let mut numbers = Vec::with_capacity(alloc, stated.len()).map_err(no_memory)?;
-    for line in stated {
-        numbers.push(line.number).map_err(no_room)?;
+/// A name as a text of its own.
+fn own_name(alloc: Global, name: &[u8]) -> Result<String, AllocError>
+    requires { IsUtf8 name.now }
+    ensures { IfOk result (λ owned. string_bytes owned ≡ name.now) }
+{
+    match str::from_utf8(name) {
+        Ok(text) => String::from_str(alloc, text),
+        Err(_) => unreachable!(),
     }
-    Ok(numbers)
+}
+
+/// The numbers of the statements' lines.
+pub fn line_numbers(alloc: Global, stated: &[StatedLine]) -> Result<Vec<u64>, AllocError>
+    ensures { IfOk result (λ numbers. numbers.items ≡ map (λ line. line.number) stated.now) }
+{
+    stated.iter().map(|line| line.number).collect(alloc)
 }

@@ -9,7 +9,7 @@ ghost use Rattle.bench_net.specs.Parsed.{stands_for};
 ghost use Rattle.bench_net.specs.Statement.{defines, read};
 ghost use Rattle.bench_net.specs.Stored.{AreLinesOf};
 
-use crate::fault::no_room;
+use crate::fault::{no_memory, no_room};
 use crate::line::Line;
 use crate::number::{StatedLine, line_numbers, number_lines, number_names, own_names};
 use crate::statement::{Stated, read_line};
@@ -133,11 +133,8 @@ pub fn read_lines(alloc: Global, text: &[u8]) -> Result<Lines, BenchFault> {
         return Err(BenchFault::TooLarge(Limit::Sinks));
     }
     let names = number_names(alloc, &stated)?;
-    if names.len() > 1_000_000 {
-        return Err(BenchFault::TooLarge(Limit::Signals));
-    }
     let lines = number_lines(alloc, &stated, &names)?;
-    let at = line_numbers(alloc, &stated)?;
+    let at = line_numbers(alloc, &stated).map_err(no_memory)?;
     let names = own_names(alloc, &names)?;
     Ok(Lines { names, lines, at })
 }
