@@ -3,8 +3,9 @@ use Rattle.std.proofs.Common.{◌≡◌, ◌<◌, ◌≤◌, ◌+◌, ℕ, zero,
 use Rattle.std.specs.Prelude.{Contains, Option, Some, None, slice_get, slice_index_or, flat_map, bytes_eq, position, unwrap_or, cond, Result, Ok, Err, IfErr}
 use Rattle.std.specs.List.{All, list_any}
 use Rattle.std.specs.Borrow.{Bor}
+use Rattle.std.specs.Str.{IsUtf8}
 use Rattle.std.proofs.lemmas.List.{map_push, length-map, get_or-map, map-append, take_more}
-use Rattle.std.proofs.lemmas.List.Elements.{All-nil, All-head, All-tail, All-push, All-append, All-map, All-contains, All-from_get_or, Contains-get_or}
+use Rattle.std.proofs.lemmas.List.Elements.{Contains-append_right, All-nil, All-head, All-tail, All-push, All-append, All-map, All-contains, All-from_get_or, Contains-get_or}
 use Rattle.std.proofs.lemmas.List.Quantifiers.{position-Some}
 use Rattle.std.proofs.lemmas.List.Concat.{flat_map-append}
 use Rattle.bench_net.specs.declared.Kind.{Kind}
@@ -13,8 +14,12 @@ use Rattle.bench_net.specs.declared.line.Line.{Line}
 use Rattle.bench_net.specs.declared.line.Line.TheVariants as line
 use Rattle.bench_net.specs.declared.number.StatedLine.{StatedLine}
 use Rattle.bench_net.specs.Statement.{Name, Statement, Input, Output, Gate, Dff, defined, read}
-use Rattle.bench_net.specs.Parsed.{names_of, stands_for}
-use Rattle.bench_net.specs.Entries.{names_in, reads_in, defined_of, read_of}
+use Rattle.bench_net.specs.Parsed.{names_of, stands_for, or_refusal}
+use Rattle.bench_net.specs.declared.fault.LineFault.{LineFault}
+use Rattle.bench_net.specs.declared.fault.LineFault.TheVariants as stop
+use Rattle.bench_net.specs.declared.BenchFault.{BenchFault}
+use Rattle.bench_net.specs.declared.BenchFault.TheVariants.{Undefined, Memory}
+use Rattle.bench_net.specs.Entries.{names_in, reads_in, defined_of, read_of, IsFirstUndefined}
 use Rattle.bench_net.specs.Stored.{name_at, statement_of, statements_of, defined_numbers, read_numbers}
 use Rattle.bench_net.specs.Numbering.{LacksOneOf, IsNextFor, IsNumberedLine, statements_in, AreNumberedLines}
 use Rattle.bench_net.proofs.Checked.{same_bytes, among_in}
@@ -202,3 +207,28 @@ pub reads_known : (ns : List Name) (stated : List StatedLine) (lines : List Line
 reads_known ns stated lines h n inside =
     let same : reads_in stated ≡ map (name_at ns) (flat_map read_numbers lines) = reads_in_is stated ∙ sym (ap (flat_map read) h.stand) ∙ reads_numbers ns lines in
     in_map ns (flat_map read_numbers lines) n h.in_range (among (map (name_at ns) (flat_map read_numbers lines)) n (subst (λ ms. Contains ms n) same inside))
+
+pub undefined_or_memory : (f : LineFault) (number : ℕ) (answer : BenchFault) (P : ℕ → Type 0) → answer ≡ or_refusal f (Undefined number) → (f ≡ stop.Refused → P number)
+    → (answer ≡ Memory) ⊎ ((x : ℕ) × (answer ≡ Undefined x) × P x)
+undefined_or_memory stop.Refused number answer P e h = inr (number, e, h refl)
+undefined_or_memory stop.Memory number answer P e h = inl e
+
+-- the first line that reads a name that is not among the names
+pub first_undefined : (ns : List Name) (stated : List StatedLine) (lines : List Line) (i : ℕ) (new : StatedLine) → i < length stated → new ≡ get_or stated i new
+    → AreNumberedLines ns (take i stated) lines → LacksOneOf ns (read (stands_for new.statement)) → IsFirstUndefined ns stated new.number
+first_undefined ns stated lines i new h e so_far lacks = record {
+  front = take i stated;
+  line = new;
+  back = drop (suc i) stated;
+  name = lacks.0;
+  same = at_item stated i new h e;
+  number_is = refl;
+  reads = lacks.1;
+  missing = lacks.2;
+  others = reads_known ns (take i stated) lines so_far;
+}
+
+-- a name that is still to come
+pub utf8_in_rest : (done ns : List Name) (n : Name) (rest : List Name) → done ++ (n ∷ rest) ≡ ns → All IsUtf8 ns → IsUtf8 n
+utf8_in_rest done ns n rest e all =
+    All-contains IsUtf8 ns n all (subst (λ ms. Contains ms n) e (Contains-append_right done (n ∷ rest) n (0, omega arith, refl)))

@@ -121,7 +121,10 @@ fn sinks_fit(stated: &[StatedLine]) -> bool
 }
 
 /// The statements of a text over numbers.
-pub fn read_lines(alloc: Global, text: &[u8]) -> Result<Lines, BenchFault> {
+pub fn read_lines(alloc: Global, text: &[u8]) -> Result<Lines, BenchFault>
+    ensures lines { IfOk result (λ r. AreLinesOf text.now (map string_bytes r.names.items) r.lines.items r.at.items) }
+    ensures refused { IfErr result (λ fault. (fault ≡ BenchFault.Memory) ⊎ IsRefused text.now fault) }
+{
     if text.len() > MAX_BYTES {
         return Err(BenchFault::TooLarge(Limit::Bytes));
     }
