@@ -6,7 +6,7 @@ use Rattle.std.specs.Str.{IsUtf8, IsAscii}
 use Rattle.std.specs.Int.{is_in_range}
 use Rattle.std.proofs.lemmas.Bool.{leb-true}
 use Rattle.std.proofs.lemmas.List.{map_push, length-map, map-append}
-use Rattle.std.proofs.lemmas.List.Elements.{All-contains, All-from_recursion, All-cons, All-nil}
+use Rattle.std.proofs.lemmas.List.Elements.{All-contains, Contains-get_or}
 use Rattle.std.proofs.lemmas.Option.{slice_get-map}
 use Rattle.std.proofs.lemmas.Str.{IsUtf8-from_ascii}
 use Rattle.std.proofs.lemmas.Str.Ascii.{IsAscii-from_all}
@@ -25,10 +25,11 @@ use Rattle.bench_net.specs.Stored.{statement_of, statements_of, defined_numbers,
 use Rattle.bench_net.specs.Parsed.{stands_for}
 use Rattle.bench_net.specs.Entries.{Entry, entry_of, entries_of, stated_by, numbered_from, names_in, reads_in, defined_of, read_of, HaveEntries, AreDistinct, IsFirstRedefinition, IsFirstUndefined}
 use Rattle.bench_net.specs.Numbering.{statements_in, AreNumberedLines}
-use Rattle.bench_net.proofs.Plain.{and_split}
+use Rattle.bench_net.proofs.Plain.{some_path}
 use Rattle.bench_net.proofs.Members.{Among, among, contained}
 use Rattle.bench_net.proofs.Numbering.{reads_in_is, reads_known}
-use Rattle.bench_net.proofs.Rising.{Rise, numbered_rise, entry_at_line, line_of_entry, statements_numbered, at_entry, rise_front, front_below, below_in_front, contains_flat, of_flat, one_line}
+use Rattle.bench_net.proofs.Rising.{Rise, numbered_rise, entry_at_line, line_of_entry, statements_numbered, at_entry, rise_front, front_below, below_in_front, contains_flat, of_flat, one_line, rise_pairs, number_in, among_at}
+use Rattle.bench_net.proofs.Words.{names_utf8}
 
 -- the statements of entries, and the names that they define and read
 by_entries : (stated : List StatedLine) → stated_by (entries_of stated) ≡ statements_in stated
@@ -155,3 +156,55 @@ module _ (text : List ℕ) (stated : List StatedLine) (h : HaveEntries (lines te
       let r = subst (λ ms. IsFirstUndefined ms stated first.0) all first.2 in
       inr (subst (IsRefused text) (sym (first.1 ∙ ap Undefined (sym r.number_is)))
       (h.stated, within few signals sinks, no_redefinition distinct, lowest_undefined r.front r.back r.line r.same r.name r.reads r.missing r.others))
+
+  -- the defined names are UTF-8
+  pub all_utf8 : (ns : List Name) → ns ≡ names_in stated → All IsUtf8 ns
+  all_utf8 ns all k d below =
+      names_utf8 (lines text) (entries_of stated) h (slice_index_or ns k d) (subst (λ ms. Contains ms (slice_index_or ns k d)) (all ∙ sym (names_by stated)) (Contains-get_or ns k d below))
+
+  number_at : (at : List ℕ) → at ≡ map (λ line. line.number) stated → at ≡ map (λ e. e.0) (entries_of stated)
+  number_at at e = e ∙ go stated
+    where
+      go : (ls : List StatedLine) → map (λ line. line.number) ls ≡ map (λ x. x.0) (entries_of ls)
+      go [] = refl
+      go (l ∷ ls) = ap (λ ns. l.number ∷ ns) (go ls)
+
+  pair_at : (ns : List Name) (ls : List Line) (at : List ℕ) → AreNumberedLines ns stated ls → at ≡ map (λ line. line.number) stated
+      → (i number : ℕ) (l : Line) → slice_get at i ≡ Some number → slice_get ls i ≡ Some l → at_line h.stated number ≡ Some (Some (statement_of ns l))
+  pair_at ns ls at numbered e i number l here there = line_in number (statement_of ns l) (go (slice_get stated i) refl)
+    where
+      numbers : option_map (λ line. line.number) (slice_get stated i) ≡ Some number
+      numbers = sym (slice_get-map (λ line. line.number) stated i) ∙ ap (λ xs. slice_get xs i) (sym e) ∙ here
+
+      statement : option_map (λ line. stands_for line.statement) (slice_get stated i) ≡ Some (statement_of ns l)
+      statement = sym (slice_get-map (λ line. stands_for line.statement) stated i) ∙ ap (λ xs. slice_get xs i) (sym numbered.stand)
+          ∙ slice_get-map (statement_of ns) ls i ∙ ap (option_map (statement_of ns)) there
+
+      go : (o : Option StatedLine) → slice_get stated i ≡ o → Among (number, statement_of ns l) (entries_of stated)
+      go None f = let bad : None ≡ Some number = sym (ap (option_map (λ line. line.number)) f) ∙ numbers in cc
+      go (Some x) f =
+          let a : x.number ≡ number = some_path x.number number (sym (ap (option_map (λ line. line.number)) f) ∙ numbers) in
+          let b : stands_for x.statement ≡ statement_of ns l = some_path (stands_for x.statement) (statement_of ns l) (sym (ap (option_map (λ line. stands_for line.statement)) f) ∙ statement) in
+          let inside : Among (entry_of x) (entries_of stated) = among_at (entries_of stated) i (entry_of x) (slice_get-map entry_of stated i ∙ ap (option_map entry_of) f) in
+          subst (λ y. Among y (entries_of stated)) (λ j. (a j, b j)) inside
+
+  -- the numbered lines are those of the text
+  pub assembled : length text ≤ 16777216 → length (names_in stated) ≤ 1000000 → length (reads_in stated) ≤ 4000000 → AreDistinct (names_in stated)
+      → (ns : List Name) → ns ≡ names_in stated → (ls : List Line) (at : List ℕ) → AreNumberedLines ns stated ls → at ≡ map (λ line. line.number) stated → AreLinesOf text ns ls at
+  assembled few signals sinks distinct ns all ls at numbered e = record {
+    stated = h.stated;
+    within = within few signals sinks;
+    no_redefinition = no_redefinition distinct;
+    no_undefined = no_undefined (λ n inside. subst (λ ms. Contains ms n) all (reads_known ns stated ls numbered n inside));
+    same = numbered.stand ∙ same_statements;
+    numbered = record {
+      in_order = numbered.in_order;
+      count = numbered.own_count ∙ sym (ap length all);
+      in_range = λ s inside. All-contains (λ number. number < length ns) (flat_map read_numbers ls) s numbered.in_range inside;
+      names_are = ap (flat_map defined) (numbered.stand ∙ sym (by_entries stated)) ∙ names_by stated ∙ sym all;
+    };
+    line_count = ap length e ∙ length-map stated (λ line. line.number) ∙ sym (length-map stated (λ line. stands_for line.statement)) ∙ sym (ap length numbered.stand) ∙ length-map ls (statement_of ns);
+    line_at = pair_at ns ls at numbered e;
+    each_at = λ number s there. subst (λ ms. Contains ms number) (sym (number_at at e)) (number_in (entries_of stated) number s (entry_in number s there));
+    rising = subst (AllPairs (λ m n. m < n)) (sym (number_at at e)) (rise_pairs 1 (entries_of stated) rise);
+  }

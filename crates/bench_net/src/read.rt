@@ -128,16 +128,17 @@ pub fn read_lines(alloc: Global, text: &[u8]) -> Result<Lines, BenchFault>
     if text.len() > MAX_BYTES {
         return Err(BenchFault::TooLarge(Limit::Bytes));
     }
-    let stated = read_statements(alloc, text)?;
-    if !signals_fit(&stated) {
+    let read = read_statements(alloc, text)?;
+    let stated = read.as_slice();
+    if !signals_fit(stated) {
         return Err(BenchFault::TooLarge(Limit::Signals));
     }
-    if !sinks_fit(&stated) {
+    if !sinks_fit(stated) {
         return Err(BenchFault::TooLarge(Limit::Sinks));
     }
-    let names = number_names(alloc, &stated)?;
-    let lines = number_lines(alloc, &stated, &names)?;
-    let at = line_numbers(alloc, &stated).map_err(no_memory)?;
-    let names = own_names(alloc, &names)?;
+    let numbers = number_names(alloc, stated)?;
+    let lines = number_lines(alloc, stated, &numbers)?;
+    let at = line_numbers(alloc, stated).map_err(no_memory)?;
+    let names = own_names(alloc, &numbers)?;
     Ok(Lines { names, lines, at })
 }
