@@ -121,10 +121,13 @@ module _ (text : List ℕ) (stated : List StatedLine) (h : HaveEntries (lines te
         earlier = of_flat defined (entries_of front) name (subst (Among name) (sym (names_by front)) (among (names_in front) name before))
 
         at : IsRedefinition h.stated new.number
-        at = (name, earlier.0,
-              (stands_for new.statement, new_in, subst (λ ns. Contains ns name) (sym defines) (0, omega arith, refl)),
-              front_below 1 (entries_of front) (entries_of back) (entry_of new) earlier.0 earlier.1 rise_cut earlier.2,
-              (earlier.1, front_in earlier.0 earlier.1 earlier.2, contained (defined earlier.1) name earlier.3))
+        at = (
+          name,
+          earlier.0,
+          (stands_for new.statement, new_in, subst (λ ns. Contains ns name) (sym defines) (0, omega arith, refl)),
+          front_below 1 (entries_of front) (entries_of back) (entry_of new) earlier.0 earlier.1 rise_cut earlier.2,
+          (earlier.1, front_in earlier.0 earlier.1 earlier.2, contained (defined earlier.1) name earlier.3),
+        )
 
         lower : (line : ℕ) → line < new.number → IsRedefinition h.stated line → ⊥
         lower line lt bad =
@@ -134,10 +137,11 @@ module _ (text : List ℕ) (stated : List StatedLine) (h : HaveEntries (lines te
 
     lowest_undefined : (name : Name) → Contains (read_of new) name → ¬ Contains (names_in stated) name → ((n : Name) → Contains (reads_in front) n → Contains (names_in stated) n)
         → IsLowest (IsUndefined h.stated) new.number
-    lowest_undefined name reads missing others =
-        ((name, (stands_for new.statement, new_in, reads), λ inside. missing (subst (λ ns. Contains ns name) (sym same_names) inside)),
-         λ line lt bad. bad.2 (subst (λ ns. Contains ns bad.0) same_names (others bad.0 (subst (λ ns. Contains ns bad.0) (reads_by front)
-            (contains_flat read (entries_of front) line bad.1.0 bad.0 (lower_in line bad.1.0 bad.1.1 lt) bad.1.2)))))
+    lowest_undefined name reads missing others = (
+      (name, (stands_for new.statement, new_in, reads), λ inside. missing (subst (λ ns. Contains ns name) (sym same_names) inside)),
+      λ line lt bad. bad.2 (subst (λ ns. Contains ns bad.0) same_names (others bad.0 (subst (λ ns. Contains ns bad.0) (reads_by front)
+          (contains_flat read (entries_of front) line bad.1.0 bad.0 (lower_in line bad.1.0 bad.1.1 lt) bad.1.2)))),
+    )
 
   -- the refusals of the passes
   pub redefined : length text ≤ 16777216 → length (names_in stated) ≤ 1000000 → length (reads_in stated) ≤ 4000000

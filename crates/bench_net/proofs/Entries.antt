@@ -128,9 +128,11 @@ pub refused_line : (text : List ℕ) (parts : List (Bor (List ℕ))) (x : Bor (L
     → map (λ y. y.now) parts ≡ take (length parts) (slice_split (λ b. b == 10) text)
     → (length parts < length (slice_split (λ b. b == 10) text)) × (x.now ≡ get_or (slice_split (λ b. b == 10) text) (length parts) x.now)
     → l ≡ strip_carriage_return x.now → number ≡ length parts + 1 → HaveEntries (given parts) entries → stated_of l ≡ None → IsRefused text (Syntax number)
-refused_line text parts x l entries number few so_far turn e count h st =
-    (few, lowest_syntax text (length parts) number l entries count (line_at text (length parts) x.now turn.0 turn.1 ∙ ap Some (sym e)) st
-    (subst (λ ls. HaveEntries ls entries) (ap (map strip_carriage_return) so_far ∙ sym (take-map strip_carriage_return (length parts) (slice_split (λ b. b == 10) text))) h))
+refused_line text parts x l entries number few so_far turn e count h st = (
+  few,
+  lowest_syntax text (length parts) number l entries count (line_at text (length parts) x.now turn.0 turn.1 ∙ ap Some (sym e)) st
+      (subst (λ ls. HaveEntries ls entries) (ap (map strip_carriage_return) so_far ∙ sym (take-map strip_carriage_return (length parts) (slice_split (λ b. b == 10) text))) h),
+)
 
 -- a fault of a line is want of memory or the refusal
 pub by_fault : (f : LineFault) (refusal answer : BenchFault) (text : List ℕ) → answer ≡ or_refusal f refusal → (f ≡ stop.Refused → IsRefused text refusal) → (answer ≡ Memory) ⊎ IsRefused text answer

@@ -53,10 +53,7 @@ fn add_name<'a>(names: &mut Names<'a>, name: &'a [u8]) -> Result<bool, BenchFaul
 }
 
 /// Numbers the defined names in the order of their lines.
-pub fn number_names<'a>(
-    alloc: Global,
-    stated: &[StatedLine<'a>],
-) -> Result<Names<'a>, BenchFault>
+pub fn number_names<'a>(alloc: Global, stated: &[StatedLine<'a>]) -> Result<Names<'a>, BenchFault>
     ensures numbered { IfOk result (λ names. names_of names.keys ≡ names_in stated.now) }
     ensures distinct { IfOk result (λ names. AreDistinct (names_in stated.now)) }
     ensures refused { IfErr result (λ fault. (fault ≡ BenchFault.Memory) ⊎ ((line : ℕ) × (fault ≡ BenchFault.Redefined line) × IsFirstRedefinition stated.now line)) }

@@ -45,10 +45,7 @@ fn without_return<'a>(line: &'a [u8]) -> &'a [u8]
 }
 
 /// The statements of a text, each with the number of its line.
-fn read_statements<'a>(
-    alloc: Global,
-    text: &'a [u8],
-) -> Result<Vec<StatedLine<'a>>, BenchFault>
+fn read_statements<'a>(alloc: Global, text: &'a [u8]) -> Result<Vec<StatedLine<'a>>, BenchFault>
     requires { length text.now ≤ 16777216 }
     ensures ok { IfOk result (λ stated. HaveEntries (lines text.now) (entries_of stated.items)) }
     ensures refused { IfErr result (λ fault. (fault ≡ BenchFault.Memory) ⊎ IsRefused text.now fault) }

@@ -183,11 +183,7 @@ fn driven<'a>(name: &'a [u8], word: &[u8], arguments: Arguments<'a>) -> Option<S
 }
 
 /// The statement of a line `name = ..`, from the bytes behind the equals sign.
-fn read_driven<'a>(
-    alloc: Global,
-    name: &'a [u8],
-    bytes: &'a [u8],
-) -> Result<Stated<'a>, LineFault>
+fn read_driven<'a>(alloc: Global, name: &'a [u8], bytes: &'a [u8]) -> Result<Stated<'a>, LineFault>
     ensures { IsReading (option_and_then (driven_tokens name.now) (tokens_of bytes.now)) result }
 {
     let Some((word, rest)) = leading_word(bytes) else {
@@ -209,11 +205,7 @@ fn read_port<'a>(alloc: Global, word: &'a [u8], bytes: &'a [u8]) -> Result<State
 }
 
 /// The statement of a line that begins with this word, from the bytes behind it.
-fn read_behind<'a>(
-    alloc: Global,
-    word: &'a [u8],
-    bytes: &'a [u8],
-) -> Result<Stated<'a>, LineFault>
+fn read_behind<'a>(alloc: Global, word: &'a [u8], bytes: &'a [u8]) -> Result<Stated<'a>, LineFault>
     ensures { IsReading (option_and_then (λ ts. read_tokens (Word word.now ∷ ts)) (tokens_of bytes.now)) result }
 {
     match next_token(bytes) {

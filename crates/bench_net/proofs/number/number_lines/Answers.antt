@@ -15,7 +15,7 @@ pub returns-in-Err-clause-refused : goal.returns-in-Err-clause-refused
 returns-in-Err-clause-refused c =
     undefined_or_memory c.in-Err.fault c.line-item.result.number c.or_refusal.result (IsFirstUndefined (names_of c.args.names.now.keys) c.args.stated.now) c.or_refusal.ensures
     (λ e. first_undefined (names_of c.args.names.now.keys) c.args.stated.now c.loop-line.lines.items c.loop-line.line-index c.line-item.result (omega arith) c.line-item.is
-        c.loop-line.invariant.0 (c.in-Err.ensures.refused e))
+    c.loop-line.invariant.0 (c.in-Err.ensures.refused e))
 
 pub number_behind-next-requires : goal.number_behind-next-requires
 number_behind-next-requires c =
@@ -29,8 +29,9 @@ loop-line-preserved c =
     let i = c.loop-line.line-index in
     let ns = names_of c.args.names.now.keys in
     let ok : is_ok c.push.result ≡ true = sym c.map_err-in-loop-line.ensures.variant ∙ ap is_ok c.in_ok-map_err.was in
-    let items = rw ok at c.push.ensures.items in
-    (subst (AreNumberedLines ns (take (i + 1) c.args.stated.now)) (sym items)
-        (numbered_more ns c.args.stated.now c.loop-line.lines.items i c.line-item.result c.in-Ok.numbered c.loop-line.next (omega arith) c.line-item.is c.loop-line.invariant.0 c.loop-line.invariant.1
-            c.in-Ok.ensures.numbered),
-     c.number_behind-next.ensures ∙ ap (λ k. k + length (defined (stands_for c.line-item.result.statement))) c.loop-line.invariant.1 ∙ sym (next_count c.args.stated.now i c.line-item.result (omega arith) c.line-item.is))
+    let items = rw ok at c.push.ensures.items in (
+      subst (AreNumberedLines ns (take (i + 1) c.args.stated.now)) (sym items)
+          (numbered_more ns c.args.stated.now c.loop-line.lines.items i c.line-item.result c.in-Ok.numbered c.loop-line.next (omega arith) c.line-item.is c.loop-line.invariant.0 c.loop-line.invariant.1
+          c.in-Ok.ensures.numbered),
+      c.number_behind-next.ensures ∙ ap (λ k. k + length (defined (stands_for c.line-item.result.statement))) c.loop-line.invariant.1 ∙ sym (next_count c.args.stated.now i c.line-item.result (omega arith) c.line-item.is),
+    )

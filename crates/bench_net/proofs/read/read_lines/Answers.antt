@@ -30,14 +30,14 @@ returns-in_err-numbers-clause-refused c =
     let read = shown c.args.text.now c.in_ok-read.read.items c.as_slice-stated.result.now c.as_slice-stated.ensures.value c.in_ok-read.ensures.ok in
     let p = err_from_is_err_and c.from_residual-in_err-numbers.result c.from_residual-in_err-numbers.ensures.1 in
     rw (p.1, p.2) (redefined c.args.text.now c.as_slice-stated.result.now read (omega arith) (c.signals_fit.ensures.0 c.if-not-signals_fit.false) (c.sinks_fit.ensures.0 c.if-not-sinks_fit.false)
-        c.in_err-numbers.field-0.0 c.in_err-numbers.ensures.refused)
+    c.in_err-numbers.field-0.0 c.in_err-numbers.ensures.refused)
 
 pub returns-in_err-lines-clause-refused : goal.returns-in_err-lines-clause-refused
 returns-in_err-lines-clause-refused c =
     let read = shown c.args.text.now c.in_ok-read.read.items c.as_slice-stated.result.now c.as_slice-stated.ensures.value c.in_ok-read.ensures.ok in
     let p = err_from_is_err_and c.from_residual-in_err-lines.result c.from_residual-in_err-lines.ensures.1 in
     rw (p.1, p.2) (undefined c.args.text.now c.as_slice-stated.result.now read (omega arith) (c.signals_fit.ensures.0 c.if-not-signals_fit.false) (c.sinks_fit.ensures.0 c.if-not-sinks_fit.false)
-        c.in_ok-numbers.ensures.distinct (names_of c.in_ok-numbers.numbers.keys) c.in_ok-numbers.ensures.numbered c.in_err-lines.field-0.0 c.in_err-lines.ensures.refused)
+    c.in_ok-numbers.ensures.distinct (names_of c.in_ok-numbers.numbers.keys) c.in_ok-numbers.ensures.numbered c.in_err-lines.field-0.0 c.in_err-lines.ensures.refused)
 
 pub own_names-requires : goal.own_names-requires
 own_names-requires c =

@@ -20,9 +20,11 @@ loop-line-preserved c =
     let n = length_push c.loop-line.yielded c.in-Some.line in
     let read = rw c.in-Ok-Some.field-0-is at c.in-Ok-Some.ensures in
     let ok : is_ok c.push.result ≡ true = sym c.map_err.ensures.variant ∙ ap is_ok c.in_ok-map_err-in-Ok-Some.was in
-    let items = rw ok at c.push.ensures.items in
-    (omega arith, subst (λ stated. HaveEntries (given (c.loop-line.yielded ++ c.in-Some.line ∷ [])) (entries_of stated)) (sym items)
-    (given_one c.loop-line.yielded c.in-Some.line c.without_return.result.now c.loop-line.stated.items (c.loop-line.number + 1) c.in-Ok-Some.statement c.without_return.ensures c.loop-line.invariant.1 read (omega arith)))
+    let items = rw ok at c.push.ensures.items in (
+      omega arith,
+      subst (λ stated. HaveEntries (given (c.loop-line.yielded ++ c.in-Some.line ∷ [])) (entries_of stated)) (sym items)
+          (given_one c.loop-line.yielded c.in-Some.line c.without_return.result.now c.loop-line.stated.items (c.loop-line.number + 1) c.in-Ok-Some.statement c.without_return.ensures c.loop-line.invariant.1 read (omega arith)),
+    )
 
 pub returns-in-Err-clause-refused : goal.returns-in-Err-clause-refused
 returns-in-Err-clause-refused c =
@@ -31,7 +33,7 @@ returns-in-Err-clause-refused c =
     let front = YieldsList-so_far road c.loop-line.yielded _ c.loop-line.yielded_by in
     by_fault c.in-Err.fault (Syntax (c.loop-line.number + 1)) c.or_refusal.result c.args.text.now c.or_refusal.ensures
     (λ e. refused_line c.args.text.now c.loop-line.yielded c.in-Some.line c.without_return.result.now (entries_of c.loop-line.stated.items) (c.loop-line.number + 1) c.requires
-        front turn c.without_return.ensures (omega arith) c.loop-line.invariant.1 (line_refused _ c.in-Err.fault c.in-Err.ensures e))
+    front turn c.without_return.ensures (omega arith) c.loop-line.invariant.1 (line_refused _ c.in-Err.fault c.in-Err.ensures e))
 
 pub returns-clause-ok : goal.returns-clause-ok
 returns-clause-ok c =
