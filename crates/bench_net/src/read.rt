@@ -139,3 +139,6 @@ pub fn read_lines(alloc: Global, text: &[u8]) -> Result<Lines, BenchFault>
     let names = own_names(alloc, &numbers)?;
     Ok(Lines { names, lines, at })
 }
+
+#[cfg(test)]
+mod tests;
