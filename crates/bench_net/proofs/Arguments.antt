@@ -1,9 +1,9 @@
 -- The arguments that were read so far, before those that are still to come.
-use Rattle.std.proofs.Common.{◌≡◌, ℕ, refl, sym, ◌∙◌, ap, subst, List, [], ◌∷◌, ◌++◌, map, append_assoc}
+use Rattle.std.proofs.Common.{◌≡◌, refl, ◌∙◌, ap, List, [], ◌∷◌, ◌++◌}
 use Rattle.std.specs.Prelude.{Option, Some, None, option_map}
 use Rattle.std.specs.Borrow.{Bor}
 use Rattle.bench_net.specs.Statement.{Name}
-use Rattle.bench_net.specs.Parsed.{names_of, args_in}
+use Rattle.bench_net.specs.Parsed.{names_of}
 
 -- what these names and the arguments in the rest make together
 abbrev pub joined : List Name → Option (List Name) → Option (List Name)

@@ -1,34 +1,29 @@
 -- What the passes over the lines say of the text.
-use Rattle.std.proofs.Common.{◌≡◌, ◌<◌, ◌≤◌, ◌+◌, ℕ, zero, suc, refl, sym, ◌∙◌, ap, subst, Bool, true, false, not, ◌&&◌, List, [], ◌∷◌, ◌++◌, length, map, arith, inl, inr, ◌⊎◌, leb}
-use Rattle.std.specs.Prelude.{Contains, AllPairs, ◌≢◌, Option, Some, None, option_map, slice_get, slice_index_or, flat_map, IsTrue, ◌==◌, unwrap_or}
-use Rattle.std.specs.List.{All, AllZip, list_all}
-use Rattle.std.specs.Str.{IsUtf8, IsAscii}
-use Rattle.std.specs.Int.{is_in_range}
-use Rattle.std.proofs.lemmas.Bool.{leb-true}
-use Rattle.std.proofs.lemmas.List.{map_push, length-map, map-append}
+use Rattle.std.proofs.Common.{◌≡◌, ◌<◌, ◌≤◌, ℕ, refl, sym, ◌∙◌, ap, subst, List, [], ◌∷◌, ◌++◌, length, map, arith, inl, inr, ◌⊎◌}
+use Rattle.std.specs.Prelude.{Contains, AllPairs, Option, Some, None, option_map, slice_get, slice_index_or, flat_map}
+use Rattle.std.specs.List.{All}
+use Rattle.std.specs.Str.{IsUtf8}
+use Rattle.std.proofs.lemmas.List.{length-map, map-append}
 use Rattle.std.proofs.lemmas.List.Elements.{All-contains, Contains-get_or}
 use Rattle.std.proofs.lemmas.Option.{slice_get-map}
-use Rattle.std.proofs.lemmas.Str.{IsUtf8-from_ascii}
-use Rattle.std.proofs.lemmas.Str.Ascii.{IsAscii-from_all}
 use Rattle.bench_net.specs.declared.line.Line.{Line}
 use Rattle.bench_net.specs.declared.number.StatedLine.{StatedLine}
-use Rattle.bench_net.specs.declared.Limit.TheVariants.{Bytes, Signals, Sinks}
+use Rattle.bench_net.specs.declared.Limit.TheVariants.{Signals, Sinks}
 use Rattle.bench_net.specs.declared.BenchFault.{BenchFault}
 use Rattle.bench_net.specs.declared.BenchFault.TheVariants.{TooLarge, Redefined, Undefined, Memory}
-use Rattle.bench_net.specs.Text.{lines, Token, Open, Close, Equals, Word, is_word_byte, is_mark, Spells}
-use Rattle.bench_net.specs.Statement.{Name, Statement, Input, Output, Gate, Dff, defined, read}
-use Rattle.bench_net.specs.Reading.{States, statements}
+use Rattle.bench_net.specs.Text.{lines}
+use Rattle.bench_net.specs.Statement.{Name, Statement, defined, read}
+use Rattle.bench_net.specs.Reading.{statements}
 use Rattle.bench_net.specs.Scan.{names}
-use Rattle.bench_net.specs.Circuit.{sink_count}
-use Rattle.bench_net.specs.Refusal.{at_line, Defines, Reads, IsRedefinition, IsUndefined, IsLowest, NoLine, IsWithin, IsRefused}
-use Rattle.bench_net.specs.Stored.{statement_of, statements_of, defined_numbers, read_numbers, AreNumbered, AreLinesOf}
+use Rattle.bench_net.specs.Refusal.{at_line, IsRedefinition, IsUndefined, IsLowest, NoLine, IsWithin, IsRefused}
+use Rattle.bench_net.specs.Stored.{statement_of, read_numbers, AreLinesOf}
 use Rattle.bench_net.specs.Parsed.{stands_for}
-use Rattle.bench_net.specs.Entries.{Entry, entry_of, entries_of, stated_by, numbered_from, names_in, reads_in, defined_of, read_of, HaveEntries, AreDistinct, IsFirstRedefinition, IsFirstUndefined}
+use Rattle.bench_net.specs.Entries.{Entry, entry_of, entries_of, stated_by, names_in, reads_in, defined_of, read_of, HaveEntries, AreDistinct, IsFirstRedefinition, IsFirstUndefined}
 use Rattle.bench_net.specs.Numbering.{statements_in, AreNumberedLines}
 use Rattle.bench_net.proofs.Plain.{some_path}
 use Rattle.bench_net.proofs.Members.{Among, among, contained}
-use Rattle.bench_net.proofs.Numbering.{reads_in_is, reads_known}
-use Rattle.bench_net.proofs.Rising.{Rise, numbered_rise, entry_at_line, line_of_entry, statements_numbered, at_entry, rise_front, front_below, below_in_front, contains_flat, of_flat, one_line, rise_pairs, number_in, among_at}
+use Rattle.bench_net.proofs.Numbering.{reads_known}
+use Rattle.bench_net.proofs.Rising.{Rise, numbered_rise, entry_at_line, line_of_entry, statements_numbered, rise_front, front_below, below_in_front, contains_flat, of_flat, one_line, rise_pairs, number_in, among_at}
 use Rattle.bench_net.proofs.Words.{names_utf8}
 
 -- the statements of entries, and the names that they define and read

@@ -1,10 +1,9 @@
 -- The entries of lines, read one after another.
 use Rattle.std.proofs.Common.{◌≡◌, ◌<◌, ◌≤◌, ◌+◌, ℕ, zero, suc, refl, sym, ◌∙◌, ap, subst, List, [], ◌∷◌, ◌++◌, length, take, map, arith, get_or, add-one, inl, inr, ◌⊎◌, Err}
 use Rattle.std.specs.Prelude.{Option, Some, None, slice_get, ◌==◌, option_map}
-use Rattle.std.specs.List.{AllZip, slice_split, count_by}
+use Rattle.std.specs.List.{AllZip, slice_split}
 use Rattle.std.specs.Borrow.{Bor}
 use Rattle.std.specs.Str.Lines.{strip_carriage_return}
-use Rattle.std.proofs.Math.Numerals.{one-add}
 use Rattle.std.proofs.lemmas.Option.{slice_get-map, slice_get-get_or}
 use Rattle.std.proofs.lemmas.List.{take-map, map_push, length-map}
 use Rattle.std.proofs.lemmas.List.Splits.{length-slice_split}
@@ -12,7 +11,7 @@ use Rattle.std.proofs.lemmas.List.Sums.{count_by-le-length}
 use Rattle.bench_net.specs.Text.{lines}
 use Rattle.bench_net.specs.Statement.{Statement}
 use Rattle.bench_net.specs.Reading.{States}
-use Rattle.bench_net.specs.Refusal.{at_line, IsLowest, IsSyntaxFault, IsRefused}
+use Rattle.bench_net.specs.Refusal.{IsLowest, IsSyntaxFault, IsRefused}
 use Rattle.bench_net.specs.Entries.{Entry, entry_of, entries_of, numbered_from, HaveEntries}
 use Rattle.bench_net.specs.Parsed.{stands_for, or_refusal, IsLineReading}
 use Rattle.bench_net.specs.declared.number.StatedLine.{StatedLine}

@@ -1,13 +1,13 @@
 -- What the scanner finds at the front of a line.
-use Rattle.std.proofs.Common.{◌≡◌, ◌<◌, ◌≤◌, ◌+◌, ℕ, suc, refl, sym, ◌∙◌, ap, subst, Bool, true, false, ◌||◌, List, [], ◌∷◌, length, take, drop, arith, length-drop}
-use Rattle.std.specs.Prelude.{Option, Some, None, ◌==◌, option_map, cond}
+use Rattle.std.proofs.Common.{◌≡◌, ◌<◌, ◌+◌, ℕ, refl, sym, ◌∙◌, ap, subst, Bool, true, false, List, [], ◌∷◌, take, drop, arith, length-drop}
+use Rattle.std.specs.Prelude.{Option, Some, None, option_map}
 use Rattle.std.specs.List.{prefix_len}
 use Rattle.std.proofs.Math.Numerals.{one-add}
 use Rattle.std.proofs.lemmas.List.Sums.{prefix_len-le-length}
-use Rattle.bench_net.specs.Text.{Token, Open, Close, Comma, Equals, Word, is_blank, is_mark, is_word_byte}
+use Rattle.bench_net.specs.Text.{Token, Word, is_blank, is_word_byte}
 use Rattle.bench_net.specs.declared.scan.Front.{Front}
 use Rattle.bench_net.specs.declared.scan.Front.TheVariants as front
-use Rattle.bench_net.specs.Plain.{tokens_of, with_byte, onto_word, mark_of, starts_word, token_of, Leads, IsFront, IsPlainStart}
+use Rattle.bench_net.specs.Plain.{tokens_of, onto_word, starts_word, Leads, IsFront, IsPlainStart}
 use Rattle.bench_net.proofs.Plain.{word_byte, blank_byte}
 
 onto : (b : ℕ) (w : List ℕ) (o : Option (List Token)) → option_map (onto_word b) (option_map (λ ts. Word w ∷ ts) o) ≡ option_map (λ ts. Word (b ∷ w) ∷ ts) o

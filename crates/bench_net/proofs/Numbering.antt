@@ -1,11 +1,11 @@
 -- Names looked up by their numbers, and lines numbered one after another.
-use Rattle.std.proofs.Common.{◌≡◌, ◌<◌, ◌≤◌, ◌+◌, ℕ, zero, suc, refl, sym, ◌∙◌, ap, subst, Bool, true, false, List, [], ◌∷◌, ◌++◌, length, take, drop, map, arith, get_or, inl, inr, ◌⊎◌, nat_lt, length-append}
-use Rattle.std.specs.Prelude.{Contains, Option, Some, None, slice_get, slice_index_or, flat_map, bytes_eq, position, unwrap_or, cond, Result, Ok, Err, IfErr}
+use Rattle.std.proofs.Common.{◌≡◌, ◌<◌, ◌≤◌, ◌+◌, ℕ, zero, suc, refl, sym, ◌∙◌, ap, subst, Bool, true, false, List, [], ◌∷◌, ◌++◌, length, take, drop, map, arith, get_or, inl, inr, ◌⊎◌, length-append}
+use Rattle.std.specs.Prelude.{Contains, Some, slice_get, slice_index_or, flat_map, bytes_eq, position, Result, Ok, Err, IfErr}
 use Rattle.std.specs.List.{All, list_any}
 use Rattle.std.specs.Borrow.{Bor}
 use Rattle.std.specs.Str.{IsUtf8}
 use Rattle.std.proofs.lemmas.List.{map_push, length-map, get_or-map, map-append, take_more}
-use Rattle.std.proofs.lemmas.List.Elements.{Contains-append_right, All-nil, All-head, All-tail, All-push, All-append, All-map, All-contains, All-from_get_or, Contains-get_or}
+use Rattle.std.proofs.lemmas.List.Elements.{Contains-append_right, All-nil, All-head, All-tail, All-push, All-append, All-contains, Contains-get_or}
 use Rattle.std.proofs.lemmas.List.Quantifiers.{position-Some}
 use Rattle.std.proofs.lemmas.List.Concat.{flat_map-append}
 use Rattle.bench_net.specs.declared.Kind.{Kind}

@@ -1,5 +1,5 @@
 -- Steps of the passes over the lines: names counted, names defined, names read.
-use Rattle.std.proofs.Common.{◌≡◌, ◌<◌, ◌≤◌, ◌+◌, ℕ, zero, suc, refl, sym, ◌∙◌, ap, subst, Bool, true, false, ◌||◌, List, [], ◌∷◌, ◌++◌, length, take, drop, map, arith, get_or, add-one, inl, inr, ◌⊎◌, length-append, take-append-drop, add-zero}
+use Rattle.std.proofs.Common.{◌≡◌, ◌<◌, ◌≤◌, ◌+◌, ℕ, suc, refl, sym, ◌∙◌, ap, subst, Bool, true, false, List, [], ◌∷◌, ◌++◌, length, take, drop, arith, get_or, length-append, take-append-drop}
 use Rattle.std.specs.Prelude.{Contains, AllPairs, ◌≢◌, flat_map, not, bytes_eq, if◌then◌else◌}
 use Rattle.std.specs.List.{list_any}
 use Rattle.std.proofs.lemmas.List.{take_more, map_push}
@@ -14,7 +14,7 @@ use Rattle.bench_net.specs.Parsed.{names_of}
 use Rattle.bench_net.specs.Entries.{IsAddition}
 use Rattle.bench_net.proofs.Checked.{in_contained, among_in}
 use Rattle.bench_net.proofs.Answer.{is_in}
-use Rattle.bench_net.proofs.Members.{Among, among, contained}
+use Rattle.bench_net.proofs.Members.{among}
 
 append_nil : {A : Type 0} (xs : List A) → xs ++ [] ≡ xs
 append_nil [] = refl

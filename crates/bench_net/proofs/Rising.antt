@@ -1,7 +1,7 @@
 -- The entries of lines stand in the order of their numbers.
-use Rattle.std.proofs.Common.{◌≡◌, ◌<◌, ◌≤◌, ◌+◌, ℕ, zero, suc, refl, sym, ◌∙◌, ap, subst, List, [], ◌∷◌, ◌++◌, length, map, arith, inl, inr, ◌⊎◌}
-use Rattle.std.specs.Prelude.{Contains, AllPairs, ◌≢◌, Option, Some, None, slice_get, slice_index_or, flat_map, filter_map, ⊤}
-use Rattle.bench_net.specs.Statement.{Name, Statement, defined, read}
+use Rattle.std.proofs.Common.{◌≡◌, ◌<◌, ◌≤◌, ◌+◌, ℕ, zero, suc, refl, sym, ap, subst, List, [], ◌∷◌, ◌++◌, length, map, arith, inl, inr, ◌⊎◌}
+use Rattle.std.specs.Prelude.{Contains, AllPairs, Option, Some, None, slice_get, slice_index_or, flat_map, ⊤}
+use Rattle.bench_net.specs.Statement.{Name, Statement, defined}
 use Rattle.bench_net.specs.Reading.{statements}
 use Rattle.bench_net.specs.Refusal.{at_line}
 use Rattle.bench_net.specs.Entries.{Entry, numbered_from, stated_by, AreDistinct}

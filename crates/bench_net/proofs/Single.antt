@@ -1,9 +1,7 @@
 -- A text has one answer at most.
-use Rattle.std.proofs.Common.{◌≡◌, ◌<◌, ◌≤◌, ◌+◌, ℕ, zero, suc, refl, sym, ◌∙◌, ap, subst, List, [], ◌∷◌, length, arith, inl, inr, ◌⊎◌}
-use Rattle.std.specs.Prelude.{Contains, AllPairs, ◌≢◌, Option, Some, None, slice_get, flat_map, IsTrue, ⊤}
+use Rattle.std.proofs.Common.{◌≡◌, ◌<◌, ℕ, zero, suc, refl, sym, ◌∙◌, ap, subst, List, [], ◌∷◌, length, arith}
+use Rattle.std.specs.Prelude.{Contains, Option, Some, None, slice_get, flat_map, IsTrue}
 use Rattle.std.specs.List.{AllZip}
-use Rattle.bench_net.specs.declared.Kind.{Kind}
-use Rattle.bench_net.specs.declared.Limit.{Limit}
 use Rattle.bench_net.specs.declared.Limit.TheVariants.{Bytes, Signals, Sinks}
 use Rattle.bench_net.specs.declared.BenchFault.{BenchFault}
 use Rattle.bench_net.specs.declared.BenchFault.TheVariants.{TooLarge, Syntax, Redefined, Undefined, Cycle, Empty, Memory}
@@ -11,9 +9,9 @@ use Rattle.bench_net.specs.Text.{lines}
 use Rattle.bench_net.specs.Statement.{Name, Statement, defined, read}
 use Rattle.bench_net.specs.Reading.{States, LinesState, statements}
 use Rattle.bench_net.specs.Scan.{names}
-use Rattle.bench_net.specs.Circuit.{IsWellFormed, IsNumbering, IsStuckSet, IsStuck, HasArgument}
-use Rattle.bench_net.specs.Refusal.{at_line, IsSyntaxFault, IsRedefinition, IsUndefined, IsAccepted, IsRefused}
-use Rattle.bench_net.specs.Entries.{numbered_from, stated_by, AreDistinct}
+use Rattle.bench_net.specs.Circuit.{IsNumbering, IsStuck}
+use Rattle.bench_net.specs.Refusal.{IsSyntaxFault, IsRedefinition, IsUndefined, IsAccepted, IsRefused}
+use Rattle.bench_net.specs.Entries.{numbered_from, AreDistinct}
 use Rattle.bench_net.proofs.Reader.{states_one}
 use Rattle.bench_net.proofs.Rising.{numbered_rise, entry_at_line, statements_numbered, contains_flat, one_line}
 

@@ -1,6 +1,6 @@
 -- The names that a text defines are words, so they are UTF-8.
-use Rattle.std.proofs.Common.{◌≡◌, ◌<◌, ◌≤◌, ◌+◌, ℕ, zero, suc, refl, sym, ◌∙◌, ap, subst, Bool, true, not, ◌&&◌, List, [], ◌∷◌, arith, inl, inr, ◌⊎◌, leb}
-use Rattle.std.specs.Prelude.{Contains, Option, Some, None, slice_get, flat_map, ◌==◌}
+use Rattle.std.proofs.Common.{◌≡◌, ◌<◌, ◌≤◌, ℕ, zero, suc, subst, true, not, ◌&&◌, List, [], ◌∷◌, arith, inl, inr, leb}
+use Rattle.std.specs.Prelude.{Contains, Some, slice_get, flat_map, ◌==◌}
 use Rattle.std.specs.List.{All, AllZip, list_all}
 use Rattle.std.specs.Str.{IsUtf8}
 use Rattle.std.specs.Int.{is_in_range}
@@ -11,9 +11,9 @@ use Rattle.std.proofs.lemmas.Str.Ascii.{IsAscii-from_all}
 use Rattle.bench_net.specs.Text.{is_word_byte, is_mark, Spells}
 use Rattle.bench_net.specs.Statement.{Name, Statement, Input, Output, Gate, Dff, defined}
 use Rattle.bench_net.specs.Reading.{States}
-use Rattle.bench_net.specs.Entries.{Entry, numbered_from, stated_by, HaveEntries}
+use Rattle.bench_net.specs.Entries.{Entry, stated_by, HaveEntries}
 use Rattle.bench_net.proofs.Plain.{and_split}
-use Rattle.bench_net.proofs.Members.{Among, among, contained}
+use Rattle.bench_net.proofs.Members.{Among, among}
 use Rattle.bench_net.proofs.Rising.{at_entry, of_flat}
 
 word_ascii : (b : ℕ) → is_word_byte b ≡ true → b < 128

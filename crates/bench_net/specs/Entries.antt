@@ -5,7 +5,6 @@ use Rattle.bench_net.specs.declared.number.StatedLine.{StatedLine}
 use Rattle.bench_net.specs.Text.{lines}
 use Rattle.bench_net.specs.Statement.{Name, Statement, defined, read}
 use Rattle.bench_net.specs.Reading.{States}
-use Rattle.bench_net.specs.Scan.{names}
 use Rattle.bench_net.specs.Parsed.{stands_for}
 
 -- a statement beside the number of its line

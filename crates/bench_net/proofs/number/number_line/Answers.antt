@@ -1,4 +1,4 @@
-use Rattle.std.proofs.Common.{refl, ap, sym, ◌∙◌}
+use Rattle.std.proofs.Common.{refl, ap, ◌∙◌}
 use Rattle.bench_net.specs.Statement.{read}
 use Rattle.bench_net.specs.Parsed.{names_of, stands_for}
 use Rattle.bench_net.proofs.Numbering.{if_err, lacks_one, input_line, gate_line, cell_line}

@@ -1,4 +1,4 @@
-use Rattle.std.proofs.Common.{◌≡◌, ◌≤◌, ◌+◌, ◌++◌, ◌∷◌, [], length, true, is_ok, arith, ap, sym, ◌∙◌, subst, take}
+use Rattle.std.proofs.Common.{◌≡◌, ◌≤◌, ◌+◌, length, true, is_ok, arith, ap, sym, ◌∙◌, subst, take}
 use Rattle.std.proofs.lemmas.List.{length-map}
 use Rattle.bench_net.specs.Statement.{defined}
 use Rattle.bench_net.specs.Parsed.{names_of, stands_for}

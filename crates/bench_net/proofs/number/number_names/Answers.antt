@@ -1,8 +1,6 @@
-use Rattle.std.proofs.Common.{◌≡◌, ◌∙◌, ◌+◌, ℕ, suc, List, [], ◌∷◌, ◌++◌, length, map, take, drop, refl, sym, ap, subst, inl, inr, arith, Contains, option_map, Some}
+use Rattle.std.proofs.Common.{◌≡◌, ◌∙◌, ◌+◌, suc, [], ◌∷◌, ◌++◌, take, drop, refl, sym, ap, subst, inr, arith, Contains, option_map}
 use Rattle.std.specs.Option.{option_to_list}
-use Rattle.bench_net.specs.Statement.{Name, defined}
-use Rattle.bench_net.specs.Parsed.{stands_for, names_of}
-use Rattle.bench_net.specs.Entries.{names_in, defined_of, AreDistinct, IsAddition, IsFirstRedefinition}
+use Rattle.bench_net.specs.Entries.{names_in, defined_of, AreDistinct}
 use Rattle.bench_net.proofs.Passes.{at_item, names_more, not_added, is_added, distinct_push}
 use Rattle.bench_net.proofs.number.number_names.Goals as goal
 

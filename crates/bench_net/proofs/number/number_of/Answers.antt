@@ -1,4 +1,4 @@
-use Rattle.std.proofs.Common.{refl, sym, ◌∙◌}
+use Rattle.std.proofs.Common.{refl, sym}
 use Rattle.bench_net.proofs.Numbering.{position_named, not_found}
 use Rattle.bench_net.proofs.number.number_of.Goals as goal
 

@@ -1,4 +1,4 @@
-use Rattle.std.proofs.Common.{◌≡◌, ◌∙◌, ◌++◌, ◌∷◌, sym, ap, map, string_bytes}
+use Rattle.std.proofs.Common.{◌∙◌, ◌++◌, sym, ap, map, string_bytes}
 use Rattle.std.proofs.lemmas.Map.Iter.{rest_more}
 use Rattle.std.specs.Map.Iter.{deref}
 use Rattle.bench_net.specs.Parsed.{names_of}

@@ -1,9 +1,9 @@
-use Rattle.std.proofs.Common.{◌≡◌, ◌≤◌, ℕ, List, length, refl, sym, ap, subst, ◌∙◌, inl, inr, true, false, is_ok, arith, IsTrue, map, string_bytes, Ok, Err, Result}
+use Rattle.std.proofs.Common.{◌≡◌, ℕ, List, sym, subst, ◌∙◌, inr, true, false, arith, map, string_bytes, Ok, Err, Result}
 use Rattle.std.proofs.lemmas.Result.{err_from_is_err_and}
 use Rattle.bench_net.specs.declared.number.StatedLine.{StatedLine}
 use Rattle.bench_net.specs.Text.{lines}
 use Rattle.bench_net.specs.Parsed.{names_of}
-use Rattle.bench_net.specs.Entries.{entries_of, names_in, reads_in, HaveEntries, AreDistinct}
+use Rattle.bench_net.specs.Entries.{entries_of, HaveEntries}
 use Rattle.bench_net.specs.Numbering.{AreNumberedLines}
 use Rattle.std.specs.Result.{IfOk, MatchResult, IsErrAnd}
 use Rattle.bench_net.proofs.Assembled.{too_many_signals, too_many_sinks, redefined, undefined, all_utf8, assembled}

@@ -1,4 +1,4 @@
-use Rattle.std.proofs.Common.{◌≡◌, ◌+◌, ◌==◌, ℕ, List, length, map, rules, arith, inl, inr, ap, sym, ◌∙◌, subst, [], ◌∷◌, ◌++◌, true, is_ok}
+use Rattle.std.proofs.Common.{◌≡◌, ◌+◌, ◌==◌, map, rules, arith, ap, sym, ◌∙◌, subst, [], ◌∷◌, ◌++◌, true, is_ok}
 use Rattle.std.proofs.lemmas.List.{length_push}
 use Rattle.std.proofs.lemmas.Iterator.Splits.{YieldsList-from_slice_split}
 use Rattle.std.proofs.lemmas.Iterator.Consumers.{YieldsList-turn, YieldsList-end, YieldsList-so_far}
@@ -33,7 +33,7 @@ returns-in-Err-clause-refused c =
     let front = YieldsList-so_far road c.loop-line.yielded _ c.loop-line.yielded_by in
     by_fault c.in-Err.fault (Syntax (c.loop-line.number + 1)) c.or_refusal.result c.args.text.now c.or_refusal.ensures
     (λ e. refused_line c.args.text.now c.loop-line.yielded c.in-Some.line c.without_return.result.now (entries_of c.loop-line.stated.items) (c.loop-line.number + 1) c.requires
-    front turn c.without_return.ensures (omega arith) c.loop-line.invariant.1 (line_refused _ c.in-Err.fault c.in-Err.ensures e))
+    front turn c.without_return.ensures (ap (λ k. k + 1) c.loop-line.invariant.0) c.loop-line.invariant.1 (line_refused _ c.in-Err.fault c.in-Err.ensures e))
 
 pub returns-clause-ok : goal.returns-clause-ok
 returns-clause-ok c =

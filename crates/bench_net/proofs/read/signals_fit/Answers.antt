@@ -1,5 +1,5 @@
-use Rattle.std.proofs.Common.{◌≡◌, ◌≤◌, length, arith, take, true, false, sym, ◌∙◌}
-use Rattle.bench_net.specs.Entries.{names_in, defined_of}
+use Rattle.std.proofs.Common.{arith, sym, ◌∙◌}
+use Rattle.bench_net.specs.Entries.{defined_of}
 use Rattle.bench_net.proofs.Passes.{names_fit, defines_one}
 use Rattle.bench_net.specs.Parsed.{stands_for}
 use Rattle.bench_net.proofs.read.signals_fit.Goals as goal

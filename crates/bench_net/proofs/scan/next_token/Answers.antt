@@ -1,5 +1,4 @@
-use Rattle.std.proofs.Common.{◌≡◌, ◌≤◌, ◌-◌, ◌∙◌, ℕ, List, length, take, drop, arith, subst, sym, ap, length-drop}
-use Rattle.std.specs.List.{prefix_len}
+use Rattle.std.proofs.Common.{◌≡◌, ◌-◌, ℕ, List, length, take, drop, arith, subst, length-drop}
 use Rattle.std.proofs.lemmas.List.{take_all}
 use Rattle.bench_net.specs.Text.{is_blank}
 use Rattle.bench_net.specs.Plain.{IsFront}

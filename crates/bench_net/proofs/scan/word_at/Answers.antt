@@ -1,5 +1,5 @@
-use Rattle.std.proofs.Common.{◌≡◌, ◌<◌, ◌≤◌, ℕ, length, take, drop, arith, subst, sym}
-use Rattle.bench_net.proofs.Front.{word_leads, no_word}
+use Rattle.std.proofs.Common.{◌<◌, arith}
+use Rattle.bench_net.proofs.Front.{word_leads}
 use Rattle.bench_net.proofs.scan.word_at.Goals as goal
 
 pub returns : goal.returns
