@@ -26,9 +26,9 @@ abbrev pub HasRepresentatives : List Statement → Type 0
 HasRepresentatives c = (f : Fault) → Contains (faults c) f
     → (r : Fault) × Contains (faults c) r × Represents c f r × ((s : Fault) → Represents c f s → s ≡ r)
 
--- each fault of the list has a class
+-- each fault of the list has a class, and no second one
 abbrev pub HasClasses : List Statement → Type 0
-HasClasses c = (f : Fault) → Contains (faults c) f → (k : ℕ) × IsClassOf c f k
+HasClasses c = (f : Fault) → Contains (faults c) f → (k : ℕ) × IsClassOf c f k × ((j : ℕ) → IsClassOf c f j → j ≡ k)
 
 -- two faults of one class are detected by the same tests
 abbrev pub ClassesDetectSame : List Statement → Type 0
