@@ -38,7 +38,7 @@ pub faults_are : (c : List Statement) → flat_map both (lines c) ≡ faults c
 faults_are c =
     joined_twice both (lines_of c) (enumerate_from 0 (names c))
     ∙ joined_same (λ at. flat_map both (lines_of c at)) (faults_of c) (enumerate_from 0 (names c))
-        (λ at. ap (λ zs. both (line.Stem at.0) ++ zs) (joined_map both branch (branches c at.1)))
+    (λ at. ap (λ zs. both (line.Stem at.0) ++ zs) (joined_map both branch (branches c at.1)))
 
 -- the fault list is twice as long as the lines
 pub length_both : (ls : List Line) → length (flat_map both ls) ≡ 2 * length ls
@@ -57,7 +57,7 @@ at_odd (l ∷ ls) zero = refl
 at_odd (l ∷ ls) (suc i) = let two : suc i + suc i ≡ suc (suc (i + i)) = omega arith in rw two (at_odd ls i)
 
 -- no branch is a stem
-branch_no_stem : (k : Sink) (s : ℕ) → branch k ≡ line.Stem s → ⊥
+pub branch_no_stem : (k : Sink) (s : ℕ) → branch k ≡ line.Stem s → ⊥
 branch_no_stem (sink.Pin g p) s e = let bad : line.Pin g p ≡ line.Stem s = e in cc
 branch_no_stem (sink.Data i) s e = let bad : line.Data i ≡ line.Stem s = e in cc
 branch_no_stem (sink.Out i) s e = let bad : line.Out i ≡ line.Stem s = e in cc
@@ -156,7 +156,7 @@ few_lines c s (n ∷ ns) =
     let own : length (map branch (branches c n)) ≡ length (branches c n) = length-map (branches c n) branch in
     let few : length (branches c n) ≤ length (sinks c n) = few_branches c n in
     let parts : length (map branch (branches c n) ++ flat_map (lines_of c) (enumerate_from (s + 1) ns)) ≡ length (map branch (branches c n)) + length (flat_map (lines_of c) (enumerate_from (s + 1) ns))
-          = length-append (map branch (branches c n)) (flat_map (lines_of c) (enumerate_from (s + 1) ns)) in
+    = length-append (map branch (branches c n)) (flat_map (lines_of c) (enumerate_from (s + 1) ns)) in
     omega (arith, later, own, few, parts)
 
 pub lines_within : (c : List Statement) → IsCircuit c → length (lines c) ≤ max_signals + max_sinks
@@ -164,3 +164,11 @@ lines_within c is =
     let all : length (lines c) ≤ length (names c) + sum_over (λ n. length (sinks c n)) (names c) = few_lines c 0 (names c) in
     let read : sum_over (λ n. length (sinks c n)) (names c) ≤ sink_count c = sinks_counted c is.well_formed in
     omega (arith, all, read, is.signals, is.sinks)
+
+-- and so how many faults
+pub faults_within : (c : List Statement) → IsCircuit c → length (faults c) ≤ 2 * (max_signals + max_sinks)
+faults_within c is =
+    let same : length (flat_map both (lines c)) ≡ length (faults c) = ap length (faults_are c) in
+    let twice : length (flat_map both (lines c)) ≡ 2 * length (lines c) = length_both (lines c) in
+    let few : length (lines c) ≤ max_signals + max_sinks = lines_within c is in
+    omega (arith, same, twice, few)
