@@ -1,5 +1,5 @@
 -- The laws of the fault model, each a statement on a statement list.
-use Rattle.std.specs.Prelude.{◌≡◌, ◌↔◌, ◌≢◌, ℕ, Bool, List, Contains, Option, Some, None}
+use Rattle.std.specs.Prelude.{◌≡◌, ◌↔◌, ◌≢◌, ℕ, Bool, List, Contains, Option, Some, None, slice_get}
 use Rattle.bench_net.specs.declared.Kind.{Kind}
 use Rattle.bench_net.specs.declared.Sink.{Sink}
 use Rattle.bench_net.specs.Statement.{Name, Statement, Gate}
@@ -7,7 +7,7 @@ use Rattle.bench_net.specs.Reading.{HasArity}
 use Rattle.bench_net.specs.Scan.{names, observers}
 use Rattle.fault_model.specs.Fault.{Fault, faults}
 use Rattle.fault_model.specs.Solution.{Test, Solves, Detects, shows}
-use Rattle.fault_model.specs.Collapse.{Represents, IsClassOf, AreEquivalent}
+use Rattle.fault_model.specs.Collapse.{Represents, representatives, IsClassOf, AreEquivalent}
 
 -- each gate has as many arguments as its kind takes, as each gate of a bench text has
 abbrev pub HaveArities : List Statement → Type 0
@@ -33,6 +33,10 @@ HasClasses c = (f : Fault) → Contains (faults c) f → (k : ℕ) × IsClassOf 
 -- two faults of one class are detected by the same tests
 abbrev pub ClassesDetectSame : List Statement → Type 0
 ClassesDetectSame c = (f g : Fault) (t : Test) → AreEquivalent c f g → Detects c t f ↔ Detects c t g
+
+-- a test detects a fault exactly where it detects the representative of the fault's class
+abbrev pub RepresentativesDetectSame : List Statement → Type 0
+RepresentativesDetectSame c = (f r : Fault) (class : ℕ) (t : Test) → IsClassOf c f class → slice_get (representatives c) class ≡ Some r → Detects c t f ↔ Detects c t r
 
 -- whichever valuations solve, a fault is detected exactly where these two show different bits to some observer
 abbrev pub DetectionIsOfAnySolution : List Statement → Type 0
