@@ -138,7 +138,7 @@ distinct_sources (Dff q x ∷ c) d = distinct_between (inputs c) (map (λ cell. 
 pub source_place : (c : List Statement) (i : ℕ) (n : Name) → IsWellFormed c → slice_get (sources c) i ≡ Some n → position_or_len (bytes_eq n) (sources c) ≡ i
 source_place c i n well e =
     one_place_of (sources c) (position_or_len (bytes_eq n) (sources c)) i n (distinct_sources c (distinct_from_pairs (names c) well.once))
-        (at_position (sources c) n (at_place (sources c) i n e)) e
+    (at_position (sources c) n (at_place (sources c) i n e)) e
 
 -- what a statement reads is defined
 pub read_named : (c : List Statement) (st : Statement) (n : Name) → IsWellFormed c → Among st c → Among n (read st) → Contains (names c) n

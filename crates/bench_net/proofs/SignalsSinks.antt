@@ -14,7 +14,7 @@ use Rattle.bench_net.proofs.SignalsLists.{among_left, among_right, among_append,
 pub among_places : (n : Name) (ns : List Name) (i : ℕ) → slice_get ns i ≡ Some n → Among i (places n ns)
 among_places n ns i e =
     among_map (λ at. at.0) (filter (λ at. bytes_eq n at.1) (enumerate_from 0 ns)) (i, n)
-        (among_filter (λ at. bytes_eq n at.1) (enumerate_from 0 ns) (i, n) (among_numbered ns i n e) (bytes_refl n))
+    (among_filter (λ at. bytes_eq n at.1) (enumerate_from 0 ns) (i, n) (among_numbered ns i n e) (bytes_refl n))
 
 pub places_are : (n : Name) (ns : List Name) (i : ℕ) → Among i (places n ns) → slice_get ns i ≡ Some n
 places_are n ns i a =
@@ -28,8 +28,8 @@ pub pin_among : (c : List Statement) (x n : Name) (kind : Kind) (args : List Nam
     → Among (Pin (signal c x) pin) (sinks c n)
 pin_among c x n kind args pin a e =
     among_left (flat_map (pins_of c n) c) (map Out (places n (outputs c))) (Pin (signal c x) pin)
-        (among_joined (pins_of c n) c (Gate x kind args) (Pin (signal c x) pin) a
-            (among_map (λ k. Pin (signal c x) k) (places n args) pin (among_places n args pin e)))
+    (among_joined (pins_of c n) c (Gate x kind args) (Pin (signal c x) pin) a
+    (among_map (λ k. Pin (signal c x) k) (places n args) pin (among_places n args pin e)))
 
 -- so is an output that observes it
 pub out_among : (c : List Statement) (n : Name) (output : ℕ) → slice_get (outputs c) output ≡ Some n → Among (Out output) (sinks c n)
@@ -40,7 +40,7 @@ out_among c n output e =
 pub data_among : (c : List Statement) (q n : Name) → Among (Dff q n) c → Among (Data (cell c q)) (sinks c n)
 data_among c q n a =
     among_left (flat_map (pins_of c n) c) (map Out (places n (outputs c))) (Data (cell c q))
-        (among_joined (pins_of c n) c (Dff q n) (Data (cell c q)) a (rw (bytes_refl n) (inl refl)))
+    (among_joined (pins_of c n) c (Dff q n) (Data (cell c q)) a (rw (bytes_refl n) (inl refl)))
 
 -- the gate, its kind and its arguments that have this pin, which reads the name
 pub record PinReads (c : List Statement) (n : Name) (gate pin : ℕ) : Type 0 where
@@ -51,7 +51,7 @@ pub record PinReads (c : List Statement) (n : Name) (gate pin : ℕ) : Type 0 wh
   pub number : signal c name ≡ gate
   pub reads : slice_get args pin ≡ Some n
 
-pin_of : (c : List Statement) (n : Name) (st : Statement) (gate pin : ℕ) → Among st c → Among (Pin gate pin) (pins_of c n st) → PinReads c n gate pin
+pub pin_of : (c : List Statement) (n : Name) (st : Statement) (gate pin : ℕ) → Among st c → Among (Pin gate pin) (pins_of c n st) → PinReads c n gate pin
 pin_of c n (Input m) gate pin a h = absurd h
 pin_of c n (Output m) gate pin a h = absurd h
 pin_of c n (Gate x kind args) gate pin a h =

@@ -8,13 +8,14 @@ use Rattle.bench_net.specs.Scan.{names, signal, name_of, sinks}
 use Rattle.bench_net.specs.Circuit.{IsWellFormed}
 use Rattle.bench_net.proofs.Members.{Among, among, contained}
 use Rattle.bench_net.proofs.Numbers.{name_of-signal}
-use Rattle.bench_net.proofs.SignalsLists.{at_place, placed, among_filter}
+use Rattle.bench_net.proofs.SignalsLists.{at_place, placed, among_filter, one_place_of}
 use Rattle.bench_net.proofs.SignalsDefined.{defined_among, read_named}
 use Rattle.fault_model.specs.declared.Line.{Line}
 use Rattle.fault_model.specs.declared.Line.TheVariants as line
 use Rattle.fault_model.specs.Fault.{Fault, faults}
-use Rattle.fault_model.specs.Collapse.{next, Reaches, here, onward, Represents, representatives}
+use Rattle.fault_model.specs.Collapse.{next, Reaches, here, onward, Represents, representatives, IsClassOf}
 use Rattle.fault_model.specs.Laws.{HasRepresentatives, HasClasses}
+use Rattle.fault_model.proofs.Lines.{distinct_faults, distinct_filter}
 use Rattle.fault_model.proofs.Listed.{Step, step_of, next_listed}
 
 -- the sum of the numbers of some names, which none of them is above
@@ -117,8 +118,15 @@ has_representatives c well f at = let p = representative_of c f well at in (p.0,
 pub among_representatives : (c : List Statement) (r : Fault) → Contains (faults c) r → next c r ≡ None → Among r (representatives c)
 among_representatives c r at e = among_filter (λ f. is_none (next c f)) (faults c) r (among (faults c) r at) (ap is_none e)
 
+-- two classes of one fault are one
+pub one_class : (c : List Statement) (f : Fault) (j k : ℕ) → IsWellFormed c → IsClassOf c f j → IsClassOf c f k → j ≡ k
+one_class c f j k well p q =
+    let same : p.0 ≡ q.0 = one_representative c f q.0 p.0 q.2 p.2 in
+    one_place_of (representatives c) j k q.0 (distinct_filter (λ r. is_none (next c r)) (faults c) (distinct_faults c well)) (p.3 ∙ ap Some same) q.3
+
 pub has_classes : (c : List Statement) → IsWellFormed c → HasClasses c
 has_classes c well f at =
     let p = representative_of c f well at in
     let k = placed (representatives c) p.0 (among_representatives c p.0 p.1 p.2.1) in
-    (k.0, (p.0, at, p.2, k.1))
+    let is : IsClassOf c f k.0 = (p.0, at, p.2, k.1) in
+    (k.0, is, λ j other. one_class c f j k.0 well other is)

@@ -1,14 +1,16 @@
 -- The laws on classes: two faults of one class show the same, and are detected by the same tests.
-use Rattle.std.proofs.Common.{◌≡◌, sym, ◌∙◌, ap, subst, Bool, List}
-use Rattle.std.specs.Prelude.{Contains, Option, Some, None, unwrap_or}
+use Rattle.std.proofs.Common.{◌≡◌, ℕ, sym, ◌∙◌, ap, subst, Bool, true, false, List, refl}
+use Rattle.std.specs.Prelude.{Contains, Option, Some, None, unwrap_or, is_none, slice_get}
 use Rattle.bench_net.specs.declared.Sink.{Sink}
 use Rattle.bench_net.specs.Statement.{Name, Statement}
 use Rattle.bench_net.specs.Scan.{observers}
 use Rattle.bench_net.specs.Circuit.{IsWellFormed}
+use Rattle.bench_net.proofs.Members.{contained}
+use Rattle.bench_net.proofs.SignalsLists.{at_place, filtered_from}
 use Rattle.fault_model.specs.Fault.{Fault, faults, branch}
 use Rattle.fault_model.specs.Solution.{Test, Solves, Detects, under, shows, ShowSame}
-use Rattle.fault_model.specs.Collapse.{Reaches, here, onward, IsClassOf, ClassesShowSame}
-use Rattle.fault_model.specs.Laws.{HaveArities, HasSolutions, HasOneSolution, ClassesDetectSame, DetectionIsOfAnySolution}
+use Rattle.fault_model.specs.Collapse.{next, Reaches, here, onward, representatives, IsClassOf, ClassesShowSame}
+use Rattle.fault_model.specs.Laws.{HaveArities, HasSolutions, HasOneSolution, ClassesDetectSame, RepresentativesDetectSame, DetectionIsOfAnySolution}
 use Rattle.fault_model.proofs.Unique.{agree}
 use Rattle.fault_model.proofs.Existence.{solution, solution_solves}
 use Rattle.fault_model.proofs.Listed.{next_listed}
@@ -67,3 +69,16 @@ detection_is_of_any_solution c well f t v w p q = (
   λ d. (d.2, d.5, λ e. d.6 (one_shows c t None d.0 v d.2 well d.3 p d.5 ∙ (e ∙ one_shows c t (Some f) w d.1 d.2 well q d.4 d.5))),
   λ h. (v, w, h.0, p, q, h.1, h.2),
 )
+
+-- a representative is of its own class
+pub own_class : (c : List Statement) (r : Fault) (class : ℕ) → slice_get (representatives c) class ≡ Some r → IsClassOf c r class
+own_class c r class at =
+    let p = filtered_from (λ f. is_none (next c f)) (faults c) r (at_place (representatives c) class r at) in
+    (r, contained (faults c) r p.0, (here, none_is (next c r) p.1), at)
+  where
+    none_is : (o : Option Fault) → is_none o ≡ true → o ≡ None
+    none_is None e = refl
+    none_is (Some f) e = let bad : false ≡ true = e in cc
+
+pub representatives_detect_same : (c : List Statement) → IsWellFormed c → HaveArities c → RepresentativesDetectSame c
+representatives_detect_same c well arities f r class t is at = classes_detect_same c well arities f r t (class, is, own_class c r class at)

@@ -133,6 +133,10 @@ next_parts c f g e = go (readers c f.line) refl e
               gives = ap (λ o. unwrap_or o g) e;
             }
 
+-- a next fault is on a stem
+pub next_on_stem : (c : List Statement) (f g : Fault) → next c f ≡ Some g → (s : ℕ) × (b : Bool) × (record { line = line.Stem s; stuck = b } ≡ g)
+next_on_stem c f g e = let p = next_parts c f g e in (p.gate, p.bit, p.gives)
+
 -- One step from a fault of the list to its next fault: a pin of a gate reads a name, and that pin is
 -- the one reader of the fault's line, which is the stem of the name or the pin's branch.
 pub record Step (c : List Statement) (f g : Fault) : Type 0 where
@@ -174,7 +178,7 @@ step_with c f g n well p r on = record {
         ap (λ o. unwrap_or o r.kind) same
 
 -- the one reader of a line that is a gate pin is that pin, and the line is its branch
-branch_read : (c : List Statement) (k : Sink) (gate pin : ℕ) → readers c (branch k) ≡ sink.Pin gate pin ∷ [] → k ≡ sink.Pin gate pin
+pub branch_read : (c : List Statement) (k : Sink) (gate pin : ℕ) → readers c (branch k) ≡ sink.Pin gate pin ∷ [] → k ≡ sink.Pin gate pin
 branch_read c (sink.Pin g p) gate pin e = let h : sink.Pin g p ∷ [] ≡ sink.Pin gate pin ∷ [] = e in cc
 branch_read c (sink.Data i) gate pin e = let h : sink.Data i ∷ [] ≡ sink.Pin gate pin ∷ [] = e in cc
 branch_read c (sink.Out i) gate pin e = let h : sink.Out i ∷ [] ≡ sink.Pin gate pin ∷ [] = e in cc

@@ -1,5 +1,5 @@
 -- The laws of the fault model, each a statement on a statement list.
-use Rattle.std.specs.Prelude.{◌≡◌, ◌↔◌, ◌≢◌, ℕ, Bool, List, Contains, Option, Some, None}
+use Rattle.std.specs.Prelude.{◌≡◌, ◌↔◌, ◌≢◌, ℕ, Bool, List, Contains, Option, Some, None, slice_get}
 use Rattle.bench_net.specs.declared.Kind.{Kind}
 use Rattle.bench_net.specs.declared.Sink.{Sink}
 use Rattle.bench_net.specs.Statement.{Name, Statement, Gate}
@@ -7,7 +7,7 @@ use Rattle.bench_net.specs.Reading.{HasArity}
 use Rattle.bench_net.specs.Scan.{names, observers}
 use Rattle.fault_model.specs.Fault.{Fault, faults}
 use Rattle.fault_model.specs.Solution.{Test, Solves, Detects, shows}
-use Rattle.fault_model.specs.Collapse.{Represents, IsClassOf, AreEquivalent}
+use Rattle.fault_model.specs.Collapse.{Represents, representatives, IsClassOf, AreEquivalent}
 
 -- each gate has as many arguments as its kind takes, as each gate of a bench text has
 abbrev pub HaveArities : List Statement → Type 0
@@ -26,13 +26,17 @@ abbrev pub HasRepresentatives : List Statement → Type 0
 HasRepresentatives c = (f : Fault) → Contains (faults c) f
     → (r : Fault) × Contains (faults c) r × Represents c f r × ((s : Fault) → Represents c f s → s ≡ r)
 
--- each fault of the list has a class
+-- each fault of the list has a class, and no second one
 abbrev pub HasClasses : List Statement → Type 0
-HasClasses c = (f : Fault) → Contains (faults c) f → (k : ℕ) × IsClassOf c f k
+HasClasses c = (f : Fault) → Contains (faults c) f → (k : ℕ) × IsClassOf c f k × ((j : ℕ) → IsClassOf c f j → j ≡ k)
 
 -- two faults of one class are detected by the same tests
 abbrev pub ClassesDetectSame : List Statement → Type 0
 ClassesDetectSame c = (f g : Fault) (t : Test) → AreEquivalent c f g → Detects c t f ↔ Detects c t g
+
+-- a test detects a fault exactly where it detects the representative of the fault's class
+abbrev pub RepresentativesDetectSame : List Statement → Type 0
+RepresentativesDetectSame c = (f r : Fault) (class : ℕ) (t : Test) → IsClassOf c f class → slice_get (representatives c) class ≡ Some r → Detects c t f ↔ Detects c t r
 
 -- whichever valuations solve, a fault is detected exactly where these two show different bits to some observer
 abbrev pub DetectionIsOfAnySolution : List Statement → Type 0

@@ -6,7 +6,7 @@ ghost use Rattle.std.specs.Prelude.{List};
 ghost use Rattle.bench_net.specs.Statement.{Statement};
 ghost use Rattle.bench_net.specs.Circuit.{IsWellFormed};
 ghost use Rattle.fault_model.specs.Collapse.{ClassesShowSame};
-ghost use Rattle.fault_model.specs.Laws.{HaveArities, HasSolutions, HasOneSolution, HasRepresentatives, HasClasses, ClassesDetectSame, DetectionIsOfAnySolution};
+ghost use Rattle.fault_model.specs.Laws.{HaveArities, HasSolutions, HasOneSolution, HasRepresentatives, HasClasses, ClassesDetectSame, RepresentativesDetectSame, DetectionIsOfAnySolution};
 
 /// A circuit without cycles has exactly one solution under each test, without a fault and under each
 /// single stuck-at fault.
@@ -27,6 +27,7 @@ pub fn collapsing()
 pub fn equivalence()
     ensures show_same { (c : List Statement) → IsWellFormed c → HaveArities c → ClassesShowSame c }
     ensures detected_by_same { (c : List Statement) → IsWellFormed c → HaveArities c → ClassesDetectSame c }
+    ensures as_representative { (c : List Statement) → IsWellFormed c → HaveArities c → RepresentativesDetectSame c }
 {}
 
 /// A simulator may take whichever solutions it finds: these decide detection.

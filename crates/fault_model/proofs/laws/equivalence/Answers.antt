@@ -1,4 +1,4 @@
-use Rattle.fault_model.proofs.ClassLaw.{classes_show_same, classes_detect_same}
+use Rattle.fault_model.proofs.ClassLaw.{classes_show_same, classes_detect_same, representatives_detect_same}
 use Rattle.fault_model.proofs.laws.equivalence.Goals as goal
 
 pub returns-clause-show_same : goal.returns-clause-show_same
@@ -6,3 +6,6 @@ returns-clause-show_same c = classes_show_same
 
 pub returns-clause-detected_by_same : goal.returns-clause-detected_by_same
 returns-clause-detected_by_same c = classes_detect_same
+
+pub returns-clause-as_representative : goal.returns-clause-as_representative
+returns-clause-as_representative c = representatives_detect_same

@@ -1,0 +1,40 @@
+-- What the parts of collapsing compute.
+use Rattle.std.specs.Prelude.{◌≡◌, ℕ, ◌<◌, Bool, List, [], ◌∷◌, length, Option, Some, None, slice_get}
+use Rattle.bench_net.specs.declared.Sink.{Sink}
+use Rattle.bench_net.specs.declared.Sink.TheVariants as sink
+use Rattle.bench_net.specs.Statement.{Statement}
+use Rattle.bench_net.specs.Scan.{names}
+use Rattle.fault_model.specs.declared.Line.{Line}
+use Rattle.fault_model.specs.declared.Line.TheVariants as line
+use Rattle.fault_model.specs.Fault.{Fault, faults}
+use Rattle.fault_model.specs.Collapse.{next, IsClassOf}
+
+-- the gate whose pin is the only one of these sinks
+abbrev pub only_gate : List Sink → Option ℕ
+only_gate (sink.Pin gate pin ∷ []) = Some gate
+only_gate _ = None
+
+-- a stem is that of a signal
+abbrev pub IsInCircuit : List Statement → Line → Type 0
+IsInCircuit c (line.Stem s) = s < length (names c)
+IsInCircuit c _ = Unit {0}
+
+-- a table of classes has the class of the fault at this place
+abbrev pub HasClassAt : List Statement → List ℕ → ℕ → Type 0
+HasClassAt c class_of i = (f : Fault) → slice_get (faults c) i ≡ Some f → (k : ℕ) × (slice_get class_of i ≡ Some k) × IsClassOf c f k
+
+-- it has the class of each fault without a next
+abbrev pub HasEnds : List Statement → List ℕ → Type 0
+HasEnds c class_of = (i : ℕ) (f : Fault) → slice_get (faults c) i ≡ Some f → next c f ≡ None → HasClassAt c class_of i
+
+-- it has the class of the next fault of the fault at this place
+abbrev pub HasNext : List Statement → List ℕ → ℕ → Type 0
+HasNext c class_of i = (j : ℕ) (f g : Fault) → slice_get (faults c) i ≡ Some f → next c f ≡ Some g → slice_get (faults c) j ≡ Some g → HasClassAt c class_of j
+
+-- it has the class of each fault on a stem
+abbrev pub HasStems : List Statement → List ℕ → Type 0
+HasStems c class_of = (i s : ℕ) (b : Bool) → slice_get (faults c) i ≡ Some (record { line = line.Stem s; stuck = b }) → HasClassAt c class_of i
+
+-- what is known of one table is known of the other
+abbrev pub KeepsClasses : List Statement → List ℕ → List ℕ → Type 0
+KeepsClasses c before after = (i : ℕ) → HasClassAt c before i → HasClassAt c after i

@@ -1,0 +1,224 @@
+//! Equivalence collapsing.
+
+ghost use Rattle.std.specs.Prelude.{◌≡◌, ◌<◌, ◌≤◌, List, ℕ, map, length, IfOk, Some, None, Option, option_map, option_and_then, slice_get};
+ghost use Rattle.bench_net.specs.Scan.{names};
+ghost use Rattle.bench_net.specs.Circuit.{IsCircuit};
+ghost use Rattle.fault_model.specs.Fault.{Fault, faults};
+ghost use Rattle.fault_model.specs.Collapse.{next, next_stuck, readers, representatives, AreClassesOf, ClassesShowSame};
+ghost use Rattle.fault_model.specs.Laws.{HaveArities};
+ghost use Rattle.fault_model.specs.Known.{only_gate, IsInCircuit, HasClassAt, HasEnds, HasNext, HasStems, KeepsClasses};
+
+use crate::Line;
+use crate::faults::Faults;
+use bench_net::{Circuit, Kind, Sink};
+use std::alloc::{AllocError, Global};
+use std::marker::Model;
+
+/// The classes of equivalent faults of a circuit, numbered from 0 in the order of their representatives
+/// in the fault list.
+///
+/// No call takes memory or more time than a look-up.
+#[derive(Drop)]
+pub struct Classes {
+    class_of: Vec<u32>,
+    representative: Vec<u32>,
+}
+
+impl Model for Classes {
+    ghost use Rattle.std.specs.Prelude.{◌<◌, ◌^◌, vec_len};
+    ghost use Rattle.fault_model.specs.Collapse.{Collapsed};
+
+    ghost Value = { Collapsed };
+
+    ghost view = { λ a. record { class_of = a.class_of.items; representative = a.representative.items } };
+
+    ghost invariant = { λ a. vec_len a.representative < 2 ^ 32 };
+}
+
+impl Classes {
+    /// The number of classes.
+    pub fn count(&self) -> u32
+        ensures { result ≡ length self.now.representative }
+    {
+        self.representative.len() as u32
+    }
+
+    /// The class of a fault, whose number is below that of the faults.
+    pub fn class_of(&self, fault: u32) -> u32
+        requires { fault < length self.now.class_of }
+        ensures { slice_get self.now.class_of fault ≡ Some result }
+    {
+        self.class_of[fault as usize]
+    }
+
+    /// The number of the fault that stands for a class, whose number is below [`Classes::count`].
+    pub fn representative(&self, class: u32) -> u32
+        requires { class < length self.now.representative }
+        ensures { slice_get self.now.representative class ≡ Some result }
+    {
+        self.representative[class as usize]
+    }
+}
+
+/// The bit at which the output of a gate is stuck where a pin of it that is stuck at a bit fixes it: a
+/// controlling value fixes an AND, NAND, OR or NOR, and either value the one input of a NOT or BUFF. No
+/// value of one input fixes an XOR or XNOR.
+fn next_stuck(kind: Kind, stuck: bool) -> Option<bool>
+    ensures { result ≡ next_stuck kind stuck }
+{
+    match (kind, stuck) {
+        (Kind::And, false) | (Kind::Nor, true) => Some(false),
+        (Kind::Nand, false) | (Kind::Or, true) => Some(true),
+        (Kind::Buff, _) => Some(stuck),
+        (Kind::Not, _) => Some(!stuck),
+        _ => None,
+    }
+}
+
+/// The gate whose pin is the only one of these sinks.
+fn only_gate(sinks: &[Sink]) -> Option<u32>
+    ensures { result ≡ only_gate sinks.now }
+{
+    match sinks {
+        [Sink::Pin { gate, .. }] => Some(*gate),
+        _ => None,
+    }
+}
+
+/// The gate whose pin is all that reads a line, if the line has just this one reader.
+fn reading_gate(circuit: &Circuit, line: Line) -> Option<u32>
+    requires { IsInCircuit circuit.now line }
+    ensures { result ≡ only_gate (readers circuit.now line) }
+{
+    match line {
+        Line::Stem(signal) => only_gate(circuit.sinks_of(signal)),
+        Line::Pin { gate, .. } => Some(gate),
+        Line::Data { .. } | Line::Out { .. } => None,
+    }
+}
+
+/// The number of a fault's next fault, which no test tells apart from it, if it has one: where a gate's
+/// pin is all that reads the fault's line, the fault on the gate's stem that the table gives.
+fn next_fault(circuit: &Circuit, list: &Faults, fault: u32) -> Option<u32>
+    requires same { list.now ≡ faults circuit.now }
+    requires in_range { fault < length list.now }
+    ensures { option_map (slice_get list.now) result ≡ option_map Some (option_and_then (next circuit.now) (slice_get list.now fault)) }
+{
+    let gate = reading_gate(circuit, list.line_of(fault))?;
+    let kind = circuit.gate_of(gate)?.kind;
+    let stuck = next_stuck(kind, list.stuck_of(fault))?;
+    Some(list.stem_fault(gate, stuck))
+}
+
+/// Two tables under way: the class of each fault, which is right where a fault has no next, and the
+/// representative of each class.
+#[derive(Drop)]
+struct Ends {
+    class_of: Vec<u32>,
+    representative: Vec<u32>,
+}
+
+/// The classes of the faults that have no next, in the order of the list.
+fn number_ends(alloc: Global, circuit: &Circuit, list: &Faults) -> Result<Ends, AllocError>
+    requires { list.now ≡ faults circuit.now }
+    ensures count { IfOk result (λ ends. length ends.class_of.items ≡ length list.now) }
+    ensures few { IfOk result (λ ends. length ends.representative.items ≤ length list.now) }
+    ensures classes { IfOk result (λ ends. HasEnds circuit.now ends.class_of.items) }
+    ensures representatives { IfOk result (λ ends. map (slice_get list.now) ends.representative.items ≡ map Some (representatives circuit.now)) }
+{
+    let mut class_of = Vec::new(alloc);
+    let mut representative = Vec::new(alloc);
+    for fault in 0..list.count() {
+        class_of.push(representative.len() as u32)?;
+        if next_fault(circuit, list, fault).is_none() {
+            representative.push(fault)?;
+        }
+    }
+    Ok(Ends {
+        class_of,
+        representative,
+    })
+}
+
+/// A fault's class is that of its next fault.
+fn follow(circuit: &Circuit, list: &Faults, class_of: &mut [u32], fault: u32)
+    requires same { list.now ≡ faults circuit.now }
+    requires count { length class_of.old ≡ length list.now }
+    requires in_range { fault < length list.now }
+    requires ends { HasEnds circuit.now class_of.old }
+    requires next { HasNext circuit.now class_of.old fault }
+    ensures known { HasClassAt circuit.now class_of.new fault }
+    ensures kept { KeepsClasses circuit.now class_of.old class_of.new }
+{
+    if let Some(next) = next_fault(circuit, list, fault) {
+        class_of[fault as usize] = class_of[next as usize];
+    }
+}
+
+/// The classes of the faults on stems. Signals go from the highest level down, since a next fault is on
+/// the stem of a signal of a higher level.
+fn follow_stems(circuit: &Circuit, list: &Faults, class_of: &mut [u32])
+    requires same { list.now ≡ faults circuit.now }
+    requires count { length class_of.old ≡ length list.now }
+    requires ends { HasEnds circuit.now class_of.old }
+    ensures stems { HasStems circuit.now class_of.new }
+    ensures kept { KeepsClasses circuit.now class_of.old class_of.new }
+    ensures circuit { IsCircuit circuit.now }
+{
+    let order = circuit.in_level_order();
+    for place in (0..circuit.signals()).rev() {
+        let signal = order[place as usize];
+        follow(circuit, list, class_of, list.stem_fault(signal, false));
+        follow(circuit, list, class_of, list.stem_fault(signal, true));
+    }
+}
+
+/// The classes of all faults, from those on stems, since a next fault is on a stem.
+fn follow_all(circuit: &Circuit, list: &Faults, class_of: &mut [u32])
+    requires same { list.now ≡ faults circuit.now }
+    requires count { length class_of.old ≡ length list.now }
+    requires ends { HasEnds circuit.now class_of.old }
+    requires stems { HasStems circuit.now class_of.old }
+    ensures { (i : ℕ) → i < length list.now → HasClassAt circuit.now class_of.new i }
+{
+    for fault in 0..list.count() {
+        follow(circuit, list, class_of, fault);
+    }
+}
+
+/// The classes of all faults, from those that have no next.
+fn follow_chains(circuit: &Circuit, list: &Faults, class_of: &mut [u32])
+    requires same { list.now ≡ faults circuit.now }
+    requires count { length class_of.old ≡ length list.now }
+    requires ends { HasEnds circuit.now class_of.old }
+    ensures known { (i : ℕ) → i < length list.now → HasClassAt circuit.now class_of.new i }
+    ensures circuit { IsCircuit circuit.now }
+{
+    follow_stems(circuit, list, class_of);
+    follow_all(circuit, list, class_of);
+}
+
+/// The classes of the faults of a circuit. A fault whose line is read by one gate pin alone goes with
+/// the fault on the gate's stem that no test tells apart from it, and so on along the gates. The end of
+/// this chain is the representative, and the faults with one representative are a class.
+///
+/// The list is that of the circuit. Time and memory are linear in the number of sinks.
+///
+/// # Errors
+///
+/// `AllocError` where there is no memory for the classes.
+pub fn collapse(alloc: Global, circuit: &Circuit, list: &Faults) -> Result<Classes, AllocError>
+    requires { list.now ≡ faults circuit.now }
+    ensures classes { IfOk result (λ classes. AreClassesOf circuit.now classes) }
+    ensures same { IfOk result (λ _. HaveArities circuit.now → ClassesShowSame circuit.now) }
+{
+    let Ends {
+        mut class_of,
+        representative,
+    } = number_ends(alloc, circuit, list)?;
+    follow_chains(circuit, list, class_of.as_mut_slice());
+    Ok(Classes {
+        class_of,
+        representative,
+    })
+}

@@ -1,0 +1,114 @@
+//! The fault list of a circuit.
+
+ghost use Rattle.std.specs.Prelude.{◌≡◌, ◌++◌, ◌<◌, List, map, length, Contains, IfOk, IfSome, OnOk, Some, slice_get, nat_le, if◌then◌else◌, []};
+ghost use Rattle.fault_model.specs.declared.Line.TheVariants as line;
+ghost use Rattle.fault_model.specs.Fault.{Fault, branch, faults};
+
+use crate::Line;
+use bench_net::{Circuit, Sink};
+use std::alloc::{AllocError, Global};
+use std::marker::Model;
+
+/// The faults of a circuit, numbered from 0 in this order: for each signal its stem stuck at 0 and stuck
+/// at 1, and then, where two or more sinks read the signal, each branch stuck at 0 and stuck at 1. The
+/// branches go in the order of [`Circuit::sinks_of`].
+///
+/// No call takes memory or more time than a look-up.
+#[derive(Drop)]
+pub struct Faults {
+    /// The lines in the order of their faults: line `i` has the faults `2 * i` and `2 * i + 1`.
+    lines: Vec<Line>,
+    /// The place in `lines` of the stem of each signal.
+    stems: Vec<u32>,
+}
+
+impl Model for Faults {
+    ghost use Rattle.std.specs.Prelude.{List, flat_map};
+    ghost use Rattle.fault_model.specs.Fault.{Fault, both};
+    ghost use Rattle.fault_model.specs.Lines.{AreStemsOf, IsWithinLimits};
+
+    ghost Value = { List Fault };
+
+    ghost view = { λ a. flat_map both a.lines.items };
+
+    ghost invariant = { λ a. AreStemsOf a.lines.items a.stems.items × IsWithinLimits a.lines.items };
+}
+
+impl Faults {
+    /// The number of faults.
+    pub fn count(&self) -> u32
+        ensures { result ≡ length self.now }
+    {
+        (2 * self.lines.len()) as u32
+    }
+
+    /// The line of a fault, whose number is below [`Faults::count`].
+    pub fn line_of(&self, fault: u32) -> Line
+        requires { fault < length self.now }
+        ensures { IfSome (slice_get self.now fault) (λ f. result ≡ f.line) }
+    {
+        self.lines[(fault / 2) as usize]
+    }
+
+    /// Whether a fault, whose number is below [`Faults::count`], is stuck at 1.
+    pub fn stuck_of(&self, fault: u32) -> bool
+        requires { fault < length self.now }
+        ensures { IfSome (slice_get self.now fault) (λ f. result ≡ f.stuck) }
+    {
+        // Each line is stuck at 0 first.
+        let _lines = &self.lines;
+        fault % 2 == 1
+    }
+
+    /// The number of the fault on the stem of a signal, whose number is below that of the circuit's
+    /// signals.
+    pub fn stem_fault(&self, signal: u32, stuck: bool) -> u32
+        requires { Contains self.now (record { line = line.Stem signal; stuck = stuck }) }
+        ensures { slice_get self.now result ≡ Some (record { line = line.Stem signal; stuck = stuck }) }
+    {
+        let at_zero = 2 * self.stems[signal as usize];
+        if stuck { at_zero + 1 } else { at_zero }
+    }
+}
+
+/// The faults of a circuit.
+///
+/// # Errors
+///
+/// `AllocError` where there is no memory for the list.
+pub fn list_faults(alloc: Global, circuit: &Circuit) -> Result<Faults, AllocError>
+    ensures { IfOk result (λ list. list ≡ faults circuit.now) }
+{
+    let mut lines = Vec::new(alloc);
+    let mut stems = Vec::new(alloc);
+    for signal in 0..circuit.signals() {
+        stems.push(lines.len() as u32)?;
+        lines.push(Line::Stem(signal))?;
+        push_branches(&mut lines, circuit.sinks_of(signal))?;
+    }
+    Ok(Faults { lines, stems })
+}
+
+/// The branches of a stem that these sinks read: none where there is one sink or no sink.
+fn push_branches(lines: &mut Vec<Line>, sinks: &[Sink]) -> Result<(), AllocError>
+    ensures { OnOk result (lines.new.items ≡ lines.old.items ++ map branch (if nat_le 2 (length sinks.now) then sinks.now else [])) }
+{
+    if sinks.len() < 2 {
+        return Ok(());
+    }
+    for sink in sinks {
+        lines.push(branch(*sink))?;
+    }
+    Ok(())
+}
+
+/// The branch that a sink reads.
+fn branch(sink: Sink) -> Line
+    ensures { result ≡ branch sink }
+{
+    match sink {
+        Sink::Pin { gate, pin } => Line::Pin { gate, pin },
+        Sink::Data { cell } => Line::Data { cell },
+        Sink::Out { output } => Line::Out { output },
+    }
+}
