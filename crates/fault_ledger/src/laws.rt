@@ -1,0 +1,1 @@
+//! Laws of all legal histories of a ledger.
