@@ -1,2 +1,5 @@
 pub mod Tables
+pub mod Pieces
 pub mod Histories
+pub mod Legal
+pub mod Settles

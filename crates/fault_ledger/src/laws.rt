@@ -10,7 +10,7 @@ ghost use Rattle.fault_ledger.specs.Answer.{IsLegal, IsTrueTo, SettlesAtLeast, S
 /// A settled class is settled at the least test of every table of outcomes to which the reports are
 /// true, whatever the order of the reports and the drops.
 pub fn settles_at_the_least_test()
-    ensures { (shape : Shape) (table : Table) (h : History) → IsLegal shape h → IsTrueTo shape table h → SettlesAtLeast shape table h }
+    ensures { (shape : Shape) (table : Table) (h : History) → IsTrueTo shape table h → SettlesAtLeast shape table h }
 {}
 
 /// A skipped piece is never the first piece of its class that isn't clear.
