@@ -3,3 +3,4 @@ pub mod Pieces
 pub mod Histories
 pub mod Legal
 pub mod Settles
+pub mod Faces
