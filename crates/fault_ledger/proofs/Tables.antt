@@ -1,5 +1,5 @@
 -- Lists that a function of the place gives.
-use Rattle.std.proofs.Common.{◌≡◌, ◌≢◌, ℕ, zero, suc, ◌+◌, ◌<◌, ◌≤◌, Bool, ◌||◌, List, [], ◌∷◌, map, set, length, replicate, get_or, slice_get, Some, refl, sym, ap, ◌∙◌, subst, arith, add-zero, add-one}
+use Rattle.std.proofs.Common.{◌≡◌, ◌≢◌, ℕ, zero, suc, ◌+◌, ◌<◌, ◌≤◌, Bool, true, false, ◌||◌, List, [], ◌∷◌, map, set, length, replicate, get_or, slice_get, Some, refl, sym, ap, ◌∙◌, subst, arith, add-zero, add-one}
 use Rattle.std.specs.List.{list_any}
 use Rattle.std.proofs.lemmas.Option.{get_or_from_slice_get}
 use Rattle.patterns.specs.Least.{from_up, below}
@@ -57,3 +57,21 @@ any-from_up p q a (suc n) e =
 
 pub any-below : (p q : ℕ → Bool) (n : ℕ) → ((k : ℕ) → k < n → p k ≡ q k) → list_any p (below n) ≡ list_any q (below n)
 any-below p q n e = any-from_up p q 0 n (λ k l m. e k (omega arith))
+
+any_none-from_up : (p : ℕ → Bool) (a n : ℕ) → ((k : ℕ) → a ≤ k → k < a + n → p k ≡ false) → list_any p (from_up a n) ≡ false
+any_none-from_up p a zero e = refl
+any_none-from_up p a (suc n) e = rw (e a (omega arith) (omega arith)) (any_none-from_up p (a + 1) n (λ k l m. e k (omega arith) (omega arith)))
+
+pub any_none-below : (p : ℕ → Bool) (n : ℕ) → ((k : ℕ) → k < n → p k ≡ false) → list_any p (below n) ≡ false
+any_none-below p n e = any_none-from_up p 0 n (λ k l m. e k (omega arith))
+
+any_at-from_up : (p : ℕ → Bool) (a n k : ℕ) → a ≤ k → k < a + n → p k ≡ true → list_any p (from_up a n) ≡ true
+any_at-from_up p a zero k l m e = absurd (omega arith)
+any_at-from_up p a (suc n) k l m e = go (p a) refl (λ x. any_at-from_up p (a + 1) n k x (omega arith) e)
+  where
+    go : (b : Bool) → p a ≡ b → (a + 1 ≤ k → list_any p (from_up (a + 1) n) ≡ true) → (b || list_any p (from_up (a + 1) n)) ≡ true
+    go true x i = refl
+    go false x i = i (let q : a ≢ k = (λ y. let z = ap p y in absurd (cc)) in omega arith)
+
+pub any_at-below : (p : ℕ → Bool) (n k : ℕ) → k < n → p k ≡ true → list_any p (below n) ≡ true
+any_at-below p n k l e = any_at-from_up p 0 n k (omega arith) (omega arith) e
