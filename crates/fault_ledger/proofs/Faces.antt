@@ -60,7 +60,7 @@ pub state-entry : (f : Face) (h : History) (p : ℕ) → f ≡ face f.shape h �
 state-entry f h p e l = ap (λ x. slice_index_or x p state.Open) (states-is f h e) ∙ get-below (λ q. entry q h) (piece_count f.shape) p state.Open l
 
 -- a reply that is the answer, and a face that is that of the history with what the reply adds
-answered : (f g : Face) (c : Call) (r : Reply) → ((h : History) → IsLegal f.shape h → f ≡ face f.shape h → (r ≡ answer f.shape h c) × (g ≡ face f.shape (added c r ++ h))) → Answers f c r g
+pub answered : (f g : Face) (c : Call) (r : Reply) → ((h : History) → IsLegal f.shape h → f ≡ face f.shape h → (r ≡ answer f.shape h c) × (g ≡ face f.shape (added c r ++ h))) → Answers f c r g
 answered f g c r i h l e = let x = i h l e in (x.0, subst (λ (y : Reply). g ≡ face f.shape (added c y ++ h)) x.0 x.1)
 
 -- what every ledger is

@@ -4,3 +4,4 @@ pub mod Histories
 pub mod Legal
 pub mod Settles
 pub mod Faces
+pub mod Statuses
