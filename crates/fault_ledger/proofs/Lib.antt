@@ -5,3 +5,4 @@ pub mod Legal
 pub mod Settles
 pub mod Faces
 pub mod Statuses
+pub mod Finishes
