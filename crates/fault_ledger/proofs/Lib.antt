@@ -6,3 +6,4 @@ pub mod Settles
 pub mod Faces
 pub mod Statuses
 pub mod Finishes
+pub mod Replays
