@@ -99,16 +99,20 @@ pub claim-no_worker : (f : Face) (w : ℕ) → f.shape.workers ≤ w → Answers
 claim-no_worker f w l = answered f f (call.Claim w) (Refused NoSuchWorker) (λ h legal e. (sym (ap (λ b. cond b (claim_reply f.shape h (held w h)) (Refused NoSuchWorker)) (le-ltb w f.shape.workers l)), e))
 
 pub claim-holding : (f : Face) (w p : ℕ) → slice_get f.holding w ≡ Some (Some p) → Answers f (call.Claim w) (Refused Holding) f
-claim-holding f w p g = answered f f (call.Claim w) (Refused Holding) (λ h legal e.
-    (sym (ap (λ b. cond b (claim_reply f.shape h (held w h)) (Refused NoSuchWorker)) (lt-ltb w f.shape.workers (found-worker f h w (Some p) e g))
-      ∙ ap (claim_reply f.shape h) (found-held f h w (Some p) e g)), e))
+claim-holding f w p g = answered f f (call.Claim w) (Refused Holding) (λ h legal e. (
+  sym (ap (λ b. cond b (claim_reply f.shape h (held w h)) (Refused NoSuchWorker)) (lt-ltb w f.shape.workers (found-worker f h w (Some p) e g))
+      ∙ ap (claim_reply f.shape h) (found-held f h w (Some p) e g)),
+  e,
+))
 
 pub claim-exhausted : (f : Face) (w : ℕ) → slice_get f.holding w ≡ Some None → length f.states ≤ f.claimed → Answers f (call.Claim w) (Claimed claim_is.Exhausted) f
 claim-exhausted f w g l = answered f f (call.Claim w) (Claimed claim_is.Exhausted) (λ h legal e.
-    let few : piece_count f.shape ≤ claims h = (let a = claimed-is f h e in let b = states-length f h e in omega arith) in
-    (sym (ap (λ b. cond b (claim_reply f.shape h (held w h)) (Refused NoSuchWorker)) (lt-ltb w f.shape.workers (found-worker f h w None e g))
-      ∙ ap (claim_reply f.shape h) (found-held f h w None e g)
-      ∙ ap (λ b. cond b (Claimed (claim_is.Piece (class_of f.shape (claims h)) (block_of f.shape (claims h)))) (Claimed claim_is.Exhausted)) (le-ltb (claims h) (piece_count f.shape) few)), e))
+    let few : piece_count f.shape ≤ claims h = (let a = claimed-is f h e in let b = states-length f h e in omega arith) in (
+      sym (ap (λ b. cond b (claim_reply f.shape h (held w h)) (Refused NoSuchWorker)) (lt-ltb w f.shape.workers (found-worker f h w None e g))
+          ∙ ap (claim_reply f.shape h) (found-held f h w None e g)
+          ∙ ap (λ b. cond b (Claimed (claim_is.Piece (class_of f.shape (claims h)) (block_of f.shape (claims h)))) (Claimed claim_is.Exhausted)) (le-ltb (claims h) (piece_count f.shape) few)),
+      e,
+    ))
 
 pub claim-piece : (f : Face) (w : ℕ) → slice_get f.holding w ≡ Some None → f.claimed < length f.states
     → Answers f (call.Claim w) (Claimed (claim_is.Piece (f.claimed % f.shape.classes) (f.claimed / f.shape.classes))) (faced f.shape (f.claimed + 1) (set f.holding w (Some f.claimed)) f.states)
@@ -116,15 +120,15 @@ claim-piece f w g l = answered f (faced f.shape (f.claimed + 1) (set f.holding w
     let c = claimed-is f h e in
     let some : claims h < piece_count f.shape = (let b = states-length f h e in omega arith) in (
       sym (ap (λ b. cond b (claim_reply f.shape h (held w h)) (Refused NoSuchWorker)) (lt-ltb w f.shape.workers (found-worker f h w None e g))
-        ∙ ap (claim_reply f.shape h) (found-held f h w None e g)
-        ∙ ap (λ b. cond b (Claimed (claim_is.Piece (class_of f.shape (claims h)) (block_of f.shape (claims h)))) (Claimed claim_is.Exhausted)) (lt-ltb (claims h) (piece_count f.shape) some)
-        ∙ ap (λ n. Claimed (claim_is.Piece (class_of f.shape n) (block_of f.shape n))) (sym c)),
+          ∙ ap (claim_reply f.shape h) (found-held f h w None e g)
+          ∙ ap (λ b. cond b (Claimed (claim_is.Piece (class_of f.shape (claims h)) (block_of f.shape (claims h)))) (Claimed claim_is.Exhausted)) (lt-ltb (claims h) (piece_count f.shape) some)
+          ∙ ap (λ n. Claimed (claim_is.Piece (class_of f.shape n) (block_of f.shape n))) (sym c)),
       λ i. faced f.shape (c i + 1)
-        ((ap (λ l. set l w (Some f.claimed)) (holding-is f h e)
+          ((ap (λ l. set l w (Some f.claimed)) (holding-is f h e)
           ∙ set-below (λ v. held v h) (λ v. held v (Event.Claim w ∷ h)) f.shape.workers w (Some f.claimed) (found-worker f h w None e g)
-            (ap Some c ∙ sym (ap (λ b. cond b (Some (claims h)) (held w h)) (eq-eqb w w refl)))
-            (λ k n. sym (ap (λ b. cond b (Some (claims h)) (held k h)) (ne_eqb k w n)))) i)
-        (states-is f h e i),
+          (ap Some c ∙ sym (ap (λ b. cond b (Some (claims h)) (held w h)) (eq-eqb w w refl)))
+          (λ k n. sym (ap (λ b. cond b (Some (claims h)) (held k h)) (ne_eqb k w n)))) i)
+          (states-is f h e i),
     ))
 
 -- why no piece was found to report or drop
@@ -158,21 +162,21 @@ settled-face : (f : Face) (h now : History) (w p : ℕ) (x : PieceState) → IsL
 settled-face f h now w p x legal e g a b d =
     let is = found-held f h w (Some p) e g in
     λ i. faced f.shape ((claimed-is f h e ∙ sym a) i)
-      ((ap (λ l. set l w None) (holding-is f h e)
-        ∙ set-below (λ v. held v h) (λ v. held v now) f.shape.workers w None (found-worker f h w (Some p) e g)
-          (sym (b w ∙ ap (λ y. cond y None (held w h)) (eq-eqb w w refl)))
-          (λ k n. sym (b k ∙ ap (λ y. cond y None (held k h)) (ne_eqb k w n)))) i)
-      ((ap (λ l. set l p x) (states-is f h e)
-        ∙ set-below (λ q. entry q h) (λ q. entry q now) (piece_count f.shape) p x (held_piece f.shape w p h legal is)
-          (sym (d p ∙ ap (λ y. cond y x (entry p h)) (held-holds w p h is)))
-          (λ k n. sym (d k ∙ ap (λ y. cond y x (entry k h)) (holds-not w k h (λ y. n (let q : Some k ≡ Some p = sym y ∙ is in cc)))))) i)
+    ((ap (λ l. set l w None) (holding-is f h e)
+    ∙ set-below (λ v. held v h) (λ v. held v now) f.shape.workers w None (found-worker f h w (Some p) e g)
+    (sym (b w ∙ ap (λ y. cond y None (held w h)) (eq-eqb w w refl)))
+    (λ k n. sym (b k ∙ ap (λ y. cond y None (held k h)) (ne_eqb k w n)))) i)
+    ((ap (λ l. set l p x) (states-is f h e)
+    ∙ set-below (λ q. entry q h) (λ q. entry q now) (piece_count f.shape) p x (held_piece f.shape w p h legal is)
+    (sym (d p ∙ ap (λ y. cond y x (entry p h)) (held-holds w p h is)))
+    (λ k n. sym (d k ∙ ap (λ y. cond y x (entry k h)) (holds-not w k h (λ y. n (let q : Some k ≡ Some p = sym y ∙ is in cc)))))) i)
 
 pub report-done : (f : Face) (w p : ℕ) (o : Outcome) → slice_get f.holding w ≡ Some (Some p) → fits_size (size_of f.shape.tests (p / f.shape.classes)) o ≡ true
     → Answers f (call.Report w o) Done (faced f.shape f.claimed (set f.holding w None) (set f.states p (state_of o)))
 report-done f w p o g b = answered f (faced f.shape f.claimed (set f.holding w None) (set f.states p (state_of o))) (call.Report w o) Done (λ h legal e. (
-    sym (report-answer f h w o (Some p) e g ∙ ap (λ x. cond x Done (Refused BadOutcome)) b),
-    settled-face f h (Event.Report w o ∷ h) w p (state_of o) legal e g refl (λ v. refl) (λ q. refl),
-  ))
+  sym (report-answer f h w o (Some p) e g ∙ ap (λ x. cond x Done (Refused BadOutcome)) b),
+  settled-face f h (Event.Report w o ∷ h) w p (state_of o) legal e g refl (λ v. refl) (λ q. refl),
+))
 
 -- drops
 pub drop-no_worker : (f : Face) (w : ℕ) → f.shape.workers ≤ w → Answers f (call.Drop w) (Refused NoSuchWorker) f
@@ -199,7 +203,7 @@ shows-hit f h p e l =
     let some = some_class f.shape p l in
     any-below (λ block. is_hit (slice_index_or f.states (p % f.shape.classes + f.shape.classes * block) state.Open)) (λ block. is_hit (entry (piece_at f.shape (class_of f.shape p) block) h)) (p / f.shape.classes)
     (λ k m. ap is_hit (state-entry f h (piece_at f.shape (class_of f.shape p) k) e
-      (piece_at-below f.shape (class_of f.shape p) k (mod-lt p some) (let b = block_of-below f.shape p l in omega arith))))
+    (piece_at-below f.shape (class_of f.shape p) k (mod-lt p some) (let b = block_of-below f.shape p l in omega arith))))
 
 pub drop-bad : (f : Face) (w p : ℕ) → slice_get f.holding w ≡ Some (Some p) → shows_hit f p ≡ false → Answers f (call.Drop w) (Refused NoEarlierHit) f
 drop-bad f w p g b = answered f f (call.Drop w) (Refused NoEarlierHit) (λ h legal e.

@@ -30,6 +30,7 @@ claim_accepted s h w e = go (nat_lt w s.workers) (held w h) refl refl e
     more : (m : Bool) → added (call.Claim w) (cond m (Claimed (claim_is.Piece (class_of s (claims h)) (block_of s (claims h)))) (Claimed claim_is.Exhausted)) ++ h ≡ Event.Claim w ∷ h → m ≡ true
     more true e = refl
     more false e = absurd (grew h (Event.Claim w) e)
+
     go : (b : Bool) (o : Option ℕ) → nat_lt w s.workers ≡ b → held w h ≡ o → added (call.Claim w) (cond b (claim_reply s h o) (Refused NoSuchWorker)) ++ h ≡ Event.Claim w ∷ h → (w < s.workers) × (held w h ≡ None) × (claims h < piece_count s)
     go true None x y e = (ltb-true w s.workers x, y, ltb-true (claims h) (piece_count s) (more (nat_lt (claims h) (piece_count s)) e))
     go true (Some p) x y e = absurd (grew h (Event.Claim w) e)
@@ -41,6 +42,7 @@ report_accepted s h w o e = go (nat_lt w s.workers) (held w h) refl refl e
     more : (m : Bool) → added (call.Report w o) (cond m Done (Refused BadOutcome)) ++ h ≡ Event.Report w o ∷ h → m ≡ true
     more true e = refl
     more false e = absurd (grew h (Event.Report w o) e)
+
     go : (b : Bool) (x : Option ℕ) → nat_lt w s.workers ≡ b → held w h ≡ x → added (call.Report w o) (cond b (report_reply s o x) (Refused NoSuchWorker)) ++ h ≡ Event.Report w o ∷ h
         → (p : ℕ) × (w < s.workers) × (held w h ≡ Some p) × (fits_size (size_of s.tests (block_of s p)) o ≡ true)
     go true None y z e = absurd (grew h (Event.Report w o) e)
@@ -53,6 +55,7 @@ drop_accepted s h w e = go (nat_lt w s.workers) (held w h) refl refl e
     more : (m : Bool) → added (call.Drop w) (cond m Done (Refused NoEarlierHit)) ++ h ≡ Event.Drop w ∷ h → m ≡ true
     more true e = refl
     more false e = absurd (grew h (Event.Drop w) e)
+
     go : (b : Bool) (x : Option ℕ) → nat_lt w s.workers ≡ b → held w h ≡ x → added (call.Drop w) (cond b (drop_reply s h x) (Refused NoSuchWorker)) ++ h ≡ Event.Drop w ∷ h
         → (p : ℕ) × (w < s.workers) × (held w h ≡ Some p) × (has_earlier_hit s h p ≡ true)
     go true None y z e = absurd (grew h (Event.Drop w) e)

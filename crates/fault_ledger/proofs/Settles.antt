@@ -51,5 +51,5 @@ pub settles_at_least : (s : Shape) (table : Table) (h : History) → IsTrueTo s 
 settles_at_least s table h t class at l e =
     settled_at (λ b. entry (piece_at s class b) h) (table class) 0 (below (block_count s)) at
     (λ k. subst (λ b. Agrees (entry (piece_at s class k) h) (table class b)) (block_of-at s class k l)
-      (subst (λ c. Agrees (entry (piece_at s class k) h) (table c (block_of s (piece_at s class k)))) (class_of-at s class k l) (agrees s table h t (piece_at s class k))))
+    (subst (λ c. Agrees (entry (piece_at s class k) h) (table c (block_of s (piece_at s class k)))) (class_of-at s class k l) (agrees s table h t (piece_at s class k))))
     e

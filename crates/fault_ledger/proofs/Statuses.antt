@@ -55,11 +55,11 @@ shown-entry f h class block e l m = state-entry f h (piece_at f.shape class bloc
 
 pub status-answers : (f : Face) (class : ℕ) (x : Status) → class < f.shape.classes → status_from 0 (map (shown f class) (below (block_count f.shape))) ≡ x → Answers f (call.Status class) (reply.Status x) f
 status-answers f class x l e = answered f f (call.Status class) (reply.Status x) (λ h legal is. (
-    sym (ap (λ b. cond b (reply.Status (status f.shape h class)) (reply.Refused NoSuchClass)) (lt-ltb class f.shape.classes l)
+  sym (ap (λ b. cond b (reply.Status (status f.shape h class)) (reply.Refused NoSuchClass)) (lt-ltb class f.shape.classes l)
       ∙ ap (λ states. reply.Status (status_from 0 states)) (sym (same-below (shown f class) (λ block. entry (piece_at f.shape class block) h) (block_count f.shape) (λ k m. shown-entry f h class k is l m)))
       ∙ ap (λ y. reply.Status y) e),
-    is,
-  ))
+  is,
+))
 
 -- the test of a hit that is shown is below 64, and there are few blocks
 pub shown-hit : (f : Face) (class block k : ℕ) → IsLedger f → class < f.shape.classes → block < block_count f.shape → shown f class block ≡ state.Hit k → k < 64

@@ -23,9 +23,9 @@ loop-call-preserved c =
     record {
       faced = r.1 ∙ ap (face s) (sym (ap (after_all s []) more ∙ after_all-more s [] done next));
       replied = c.in_ok-push.ensures.items
-        ∙ ap (λ (xs : List Reply). xs ++ c.reply_to.result ∷ []) c.loop-call.invariant.replied
-        ∙ ap (λ (x : Reply). replies s [] done ++ x ∷ []) r.0
-        ∙ sym (ap (replies s []) more ∙ replies-more s [] done next);
+          ∙ ap (λ (xs : List Reply). xs ++ c.reply_to.result ∷ []) c.loop-call.invariant.replied
+          ∙ ap (λ (x : Reply). replies s [] done ++ x ∷ []) r.0
+          ∙ sym (ap (replies s []) more ∙ replies-more s [] done next);
     }
 
 pub returns-clause-legal : goal.returns-clause-legal

@@ -13,7 +13,7 @@ opens c =
     let a : c.in_ok-holding.holding.items ≡ replicate s.workers None = c.in_ok-holding.ensures.items_if_clones_equal (λ y is. search rules) in
     let b = c.in_ok-states.ensures.items_if_clones_equal (λ y is. is) in
     λ i. faced s 0 ((a ∙ replicate-below None (λ w. held w []) s.workers (λ w. refl)) i)
-      ((b ∙ ap (λ (n : ℕ). replicate n Open) c.pieces.ensures ∙ replicate-below Open (λ p. entry p []) (piece_count s) (λ p. refl)) i)
+    ((b ∙ ap (λ (n : ℕ). replicate n Open) c.pieces.ensures ∙ replicate-below Open (λ p. entry p []) (piece_count s) (λ p. refl)) i)
 
 pub invariant_of-result : goal.invariant_of-result
 invariant_of-result c = record {
