@@ -1,6 +1,6 @@
 //! The ledger of one owner.
 
-ghost use Rattle.std.specs.Prelude.{◌≡◌, ◌⊎◌, ◌<◌, ◌≤◌, ◌+◌, ◌*◌, ◌/◌, ◌%◌, [], length, slice_get, slice_index_or, IfOk, IfErr, Some, None, IsTrue};
+ghost use Rattle.std.specs.Prelude.{◌≡◌, ◌⊎◌, ◌<◌, ◌≤◌, ◌+◌, ◌*◌, ◌/◌, ◌%◌, [], length, slice_get, slice_index_or, IfOk, IfErr, OnErr, Some, None, IsTrue};
 ghost use Rattle.std.specs.List.{list_any};
 ghost use Rattle.patterns.specs.Least.{below};
 ghost use Rattle.fault_ledger.specs.declared.Call.{Call};
@@ -18,7 +18,7 @@ use std::marker::Model;
 ///
 /// The n-th claim, counted from 0, is for the piece of class `n % classes` and block `n / classes`.
 /// Only [`Ledger::new`] takes memory: one entry a piece and one a worker.
-#[derive(Drop)]
+#[derive(Debug, Drop)]
 pub struct Ledger {
     shape: Shape,
     claimed: u32,
@@ -78,7 +78,9 @@ impl Ledger {
     ///
     /// It is refused with [`Refusal::NoSuchWorker`], else with [`Refusal::Holding`].
     pub fn claim(&mut self, worker: u32) -> Result<Claim, Refusal>
-        ensures { Answers self.old (Call.Claim worker) (claim_reply_of result) self.new }
+        ensures answer { Answers self.old (Call.Claim worker) (claim_reply_of result) self.new }
+        ensures exhausted { result ≡ Ok Claim.Exhausted → self.new ≡ self.old }
+        ensures refused { OnErr result (self.new ≡ self.old) }
     {
         if worker >= self.shape.workers {
             return Err(Refusal::NoSuchWorker);
@@ -105,7 +107,8 @@ impl Ledger {
     /// [`Refusal::BadOutcome`] where the outcome names a test that the piece's block hasn't; the
     /// worker then still holds the piece.
     pub fn report(&mut self, worker: u32, outcome: Outcome) -> Result<(), Refusal>
-        ensures { Answers self.old (Call.Report worker outcome) (done_reply_of result) self.new }
+        ensures answer { Answers self.old (Call.Report worker outcome) (done_reply_of result) self.new }
+        ensures refused { OnErr result (self.new ≡ self.old) }
     {
         let piece = held_by(&self.holding, worker)?;
         let size = self.shape.size_of(piece / self.shape.classes);
@@ -124,7 +127,8 @@ impl Ledger {
     /// [`Refusal::NoEarlierHit`] where no earlier block of the class is a hit; the worker then still
     /// holds the piece. A piece of block 0 is always refused.
     pub fn drop_piece(&mut self, worker: u32) -> Result<(), Refusal>
-        ensures { Answers self.old (Call.Drop worker) (done_reply_of result) self.new }
+        ensures answer { Answers self.old (Call.Drop worker) (done_reply_of result) self.new }
+        ensures refused { OnErr result (self.new ≡ self.old) }
     {
         let piece = held_by(&self.holding, worker)?;
         if !has_earlier_hit(&self.states, self.shape.classes, piece) {

@@ -18,8 +18,8 @@ index-requires c =
     let b = s.holding.ok in
     omega arith
 
-pub returns-then-is_some : goal.returns-then-is_some
-returns-then-is_some c =
+pub returns-then-is_some-clause-answer : goal.returns-then-is_some-clause-answer
+returns-then-is_some-clause-answer c =
     let s = c.self.inside in
     let f = faced s.shape s.claimed s.holding.items s.states.items in
     let w = c.args.worker in
@@ -28,8 +28,8 @@ returns-then-is_some c =
     let held = some_of c.index.result.now (sym c.is_some.ensures ∙ c.if-is_some.true) in
     subst (λ (g : Face). Answers g (call.Claim w) (Refused Holding) g) c.self.view_is (claim-holding f w held.0 (found ∙ ap Some held.1))
 
-pub returns-then-piece-len : goal.returns-then-piece-len
-returns-then-piece-len c =
+pub returns-then-piece-len-clause-answer : goal.returns-then-piece-len-clause-answer
+returns-then-piece-len-clause-answer c =
     let s = c.self.inside in
     let f = faced s.shape s.claimed s.holding.items s.states.items in
     let w = c.args.worker in
@@ -75,8 +75,8 @@ invariant_of-self c =
     ledger-after (faced s.shape s.claimed s.holding.items s.states.items) (s.claimed + 1) (set s.holding.items c.args.worker (Some s.claimed)) s.states.items
     (call.Claim c.args.worker) (Claimed (claim_is.Piece (s.claimed % s.shape.classes) (s.claimed / s.shape.classes))) c.self.invariant (claims c)
 
-pub returns : goal.returns
-returns c =
+pub returns-clause-answer : goal.returns-clause-answer
+returns-clause-answer c =
     let s = c.self.inside in
     let r = Claimed (claim_is.Piece (s.claimed % s.shape.classes) (s.claimed / s.shape.classes)) in
     let new = faced s.shape (s.claimed + 1) (set s.holding.items c.args.worker (Some s.claimed)) s.states.items in

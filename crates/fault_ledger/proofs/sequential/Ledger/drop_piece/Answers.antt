@@ -12,8 +12,8 @@ use Rattle.fault_ledger.proofs.Pieces.{some_class}
 use Rattle.fault_ledger.proofs.Faces.{faced, FoundNone, ledger-states, ledger-after, found-piece, shows_hit, drop-refused, drop-bad, drop-done}
 use Rattle.fault_ledger.proofs.sequential.Ledger.drop_piece.Goals as goal
 
-pub returns-in_err-piece : goal.returns-in_err-piece
-returns-in_err-piece c =
+pub returns-in_err-piece-clause-answer : goal.returns-in_err-piece-clause-answer
+returns-in_err-piece-clause-answer c =
     let s = c.self.inside in
     let f = faced s.shape s.claimed s.holding.items s.states.items in
     let p = err_from_is_err_and c.from_residual.result c.from_residual.ensures.1 in
@@ -30,8 +30,8 @@ has_earlier_hit-requires c =
     let b = ledger-states f c.self.invariant in
     record { classes = some_class s.shape c.in_ok-piece.piece a; piece = (let d = ap (λ (l : List PieceState). length l) c.deref-2.ensures.value in omega arith) }
 
-pub returns-then-not-has_earlier_hit : goal.returns-then-not-has_earlier_hit
-returns-then-not-has_earlier_hit c =
+pub returns-then-not-has_earlier_hit-clause-answer : goal.returns-then-not-has_earlier_hit-clause-answer
+returns-then-not-has_earlier_hit-clause-answer c =
     let s = c.self.inside in
     let f = faced s.shape s.claimed s.holding.items s.states.items in
     let w = c.args.worker in
@@ -73,8 +73,8 @@ invariant_of-self c =
     ledger-after (faced s.shape s.claimed s.holding.items s.states.items) s.claimed (set s.holding.items c.args.worker None) (set s.states.items c.in_ok-piece.piece Skipped)
     (call.Drop c.args.worker) Done c.self.invariant (done c)
 
-pub returns : goal.returns
-returns c =
+pub returns-clause-answer : goal.returns-clause-answer
+returns-clause-answer c =
     let s = c.self.inside in
     let new = faced s.shape s.claimed (set s.holding.items c.args.worker None) (set s.states.items c.in_ok-piece.piece Skipped) in
     subst (λ (g : Face). Answers g (call.Drop c.args.worker) Done new) c.self.view_is (done c)

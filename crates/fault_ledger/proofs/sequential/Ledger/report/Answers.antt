@@ -12,8 +12,8 @@ use Rattle.fault_ledger.proofs.Pieces.{some_class, block_of-below}
 use Rattle.fault_ledger.proofs.Faces.{faced, FoundNone, ledger-states, ledger-after, found-piece, report-refused, report-bad, report-done}
 use Rattle.fault_ledger.proofs.sequential.Ledger.report.Goals as goal
 
-pub returns-in_err-piece : goal.returns-in_err-piece
-returns-in_err-piece c =
+pub returns-in_err-piece-clause-answer : goal.returns-in_err-piece-clause-answer
+returns-in_err-piece-clause-answer c =
     let s = c.self.inside in
     let f = faced s.shape s.claimed s.holding.items s.states.items in
     let p = err_from_is_err_and c.from_residual.result c.from_residual.ensures.1 in
@@ -34,8 +34,8 @@ nonzero_div-piece c = some_class c.self.inside.shape c.in_ok-piece.piece (in_ran
 pub size_of-size-requires : goal.size_of-size-requires
 size_of-size-requires c = block_of-below c.self.inside.shape c.in_ok-piece.piece (in_range c)
 
-pub returns-then-not-fits : goal.returns-then-not-fits
-returns-then-not-fits c =
+pub returns-then-not-fits-clause-answer : goal.returns-then-not-fits-clause-answer
+returns-then-not-fits-clause-answer c =
     let s = c.self.inside in
     let f = faced s.shape s.claimed s.holding.items s.states.items in
     let w = c.args.worker in
@@ -79,8 +79,8 @@ invariant_of-self c =
     ledger-after (faced s.shape s.claimed s.holding.items s.states.items) s.claimed (set s.holding.items c.args.worker None) (set s.states.items c.in_ok-piece.piece c.state_after.result)
     (call.Report c.args.worker c.args.outcome) Done c.self.invariant (done c)
 
-pub returns : goal.returns
-returns c =
+pub returns-clause-answer : goal.returns-clause-answer
+returns-clause-answer c =
     let s = c.self.inside in
     let new = faced s.shape s.claimed (set s.holding.items c.args.worker None) (set s.states.items c.in_ok-piece.piece c.state_after.result) in
     subst (λ (g : Face). Answers g (call.Report c.args.worker c.args.outcome) Done new) c.self.view_is (done c)
