@@ -80,6 +80,7 @@ impl Ledger {
     pub fn claim(&mut self, worker: u32) -> Result<Claim, Refusal>
         ensures answer { Answers self.old (Call.Claim worker) (claim_reply_of result) self.new }
         ensures exhausted { result ≡ Ok Claim.Exhausted → self.new ≡ self.old }
+        ensures shape { self.new.shape ≡ self.old.shape }
         ensures refused { OnErr result (self.new ≡ self.old) }
     {
         if worker >= self.shape.workers {
@@ -108,6 +109,7 @@ impl Ledger {
     /// worker then still holds the piece.
     pub fn report(&mut self, worker: u32, outcome: Outcome) -> Result<(), Refusal>
         ensures answer { Answers self.old (Call.Report worker outcome) (done_reply_of result) self.new }
+        ensures shape { self.new.shape ≡ self.old.shape }
         ensures refused { OnErr result (self.new ≡ self.old) }
     {
         let piece = held_by(&self.holding, worker)?;
@@ -128,6 +130,7 @@ impl Ledger {
     /// holds the piece. A piece of block 0 is always refused.
     pub fn drop_piece(&mut self, worker: u32) -> Result<(), Refusal>
         ensures answer { Answers self.old (Call.Drop worker) (done_reply_of result) self.new }
+        ensures shape { self.new.shape ≡ self.old.shape }
         ensures refused { OnErr result (self.new ≡ self.old) }
     {
         let piece = held_by(&self.holding, worker)?;
