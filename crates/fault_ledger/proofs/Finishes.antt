@@ -1,15 +1,14 @@
 -- Whether all classes are settled, read from their statuses.
-use Rattle.std.proofs.Common.{◌≡◌, ℕ, zero, suc, ◌+◌, ◌-◌, ◌<◌, ◌≤◌, Bool, true, false, cond, List, [], ◌∷◌, map, Option, Some, None, refl, sym, ap, ◌∙◌, subst, arith, lt-ltb, below_more}
+use Rattle.std.proofs.Common.{◌≡◌, ℕ, zero, suc, ◌+◌, ◌-◌, ◌<◌, ◌≤◌, cond, ◌∷◌, map, Option, sym, ap, ◌∙◌, arith, lt-ltb, below_more}
 use Rattle.patterns.specs.Least.{from_up, below}
 use Rattle.fault_ledger.specs.declared.Refusal.TheVariants.{NoSuchClass}
 use Rattle.fault_ledger.specs.declared.Status.{Status}
 use Rattle.fault_ledger.specs.declared.Status.TheVariants as status_is
-use Rattle.fault_ledger.specs.declared.Finish.{Finish}
 use Rattle.fault_ledger.specs.declared.Finish.TheVariants as finish_is
 use Rattle.fault_ledger.specs.declared.Call.TheVariants as call
 use Rattle.fault_ledger.specs.declared.Reply.TheVariants as reply
 use Rattle.fault_ledger.specs.History.{History}
-use Rattle.fault_ledger.specs.Settled.{status, finish_from, finish}
+use Rattle.fault_ledger.specs.Settled.{status, finish_from}
 use Rattle.fault_ledger.specs.Answer.{IsLegal}
 use Rattle.fault_ledger.specs.Face.{Face, face, Answers}
 use Rattle.fault_ledger.proofs.Faces.{answered}

@@ -1,9 +1,9 @@
 -- Facts about histories: who holds a piece, and what becomes of it.
-use Rattle.std.proofs.Common.{◌≡◌, ◌≢◌, ℕ, ◌+◌, ◌<◌, ◌≤◌, Bool, true, false, cond, eqb, List, [], ◌∷◌, ◌++◌, Option, Some, None, refl, sym, ap, ◌∙◌, arith, ne_eqb, eqb-true, eq-eqb}
+use Rattle.std.proofs.Common.{◌≡◌, ◌≢◌, ℕ, ◌+◌, ◌<◌, ◌≤◌, Bool, true, false, cond, eqb, [], ◌∷◌, ◌++◌, Option, Some, None, refl, sym, ap, ◌∙◌, arith, ne_eqb, eqb-true, eq-eqb}
 use Rattle.std.specs.Option.{option_map_or}
-use Rattle.fault_ledger.specs.declared.PieceState.{PieceState}
+use Rattle.fault_ledger.specs.declared.Event.{Event}
 use Rattle.fault_ledger.specs.declared.PieceState.TheVariants as state
-use Rattle.fault_ledger.specs.History.{Event, History, claims, held, holds, state_of, entry}
+use Rattle.fault_ledger.specs.History.{History, claims, held, holds, state_of, entry}
 
 -- a piece that is held was claimed
 pub held_below : (w p : ℕ) (h : History) → held w h ≡ Some p → p < claims h

@@ -1,11 +1,12 @@
 -- Facts about legal histories.
-use Rattle.std.proofs.Common.{◌≡◌, ◌≢◌, ℕ, zero, suc, ◌+◌, ◌*◌, ◌<◌, ◌≤◌, Bool, true, false, ◌||◌, cond, nat_lt, eqb, List, [], ◌∷◌, ◌++◌, length, Option, Some, None, refl, sym, ap, ◌∙◌, subst, arith, lit≤}
+use Rattle.std.proofs.Common.{◌≡◌, ◌≢◌, ℕ, zero, suc, ◌+◌, ◌<◌, ◌≤◌, Bool, true, false, ◌||◌, cond, nat_lt, List, [], ◌∷◌, ◌++◌, length, Option, Some, None, refl, sym, ap, ◌∙◌, subst, arith}
 use Rattle.std.specs.List.{list_any}
 use borrow.Author.Tests.{ltb-true}
 use Rattle.patterns.specs.declared.Outcome.{Outcome}
 use Rattle.patterns.specs.declared.Outcome.TheVariants as outcome
 use Rattle.patterns.specs.Tests.{size_of}
 use Rattle.patterns.specs.Least.{from_up, below}
+use Rattle.fault_ledger.specs.declared.Event.{Event}
 use Rattle.fault_ledger.specs.declared.Shape.{Shape}
 use Rattle.fault_ledger.specs.declared.PieceState.{PieceState}
 use Rattle.fault_ledger.specs.declared.PieceState.TheVariants as state
@@ -14,8 +15,8 @@ use Rattle.fault_ledger.specs.declared.Claim.TheVariants as claim_is
 use Rattle.fault_ledger.specs.declared.Call.{Call}
 use Rattle.fault_ledger.specs.declared.Call.TheVariants as call
 use Rattle.fault_ledger.specs.declared.Reply.{Reply}
-use Rattle.fault_ledger.specs.declared.Reply.TheVariants.{Claimed, Done, Refused, Status, Finish}
-use Rattle.fault_ledger.specs.History.{Event, History, Continues, claims, held, holds, state_of, entry, piece_count, class_of, block_of, piece_at, block_count}
+use Rattle.fault_ledger.specs.declared.Reply.TheVariants.{Claimed, Done, Refused}
+use Rattle.fault_ledger.specs.History.{History, claims, held, holds, state_of, entry, piece_count, class_of, block_of, piece_at}
 use Rattle.fault_ledger.specs.Answer.{fits_size, is_hit, has_earlier_hit, claim_reply, report_reply, drop_reply, answer, added, after, IsLegal, SkippedIsNeverFirst}
 use Rattle.fault_ledger.proofs.Histories.{held_below, holds-held, entry_past}
 use Rattle.fault_ledger.proofs.Pieces.{class_of-at, block_of-at}

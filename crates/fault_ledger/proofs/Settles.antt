@@ -1,13 +1,14 @@
 -- A class that is settled is settled at the least test of every table to which the reports are true.
-use Rattle.std.proofs.Common.{◌≡◌, ℕ, ◌+◌, ◌*◌, ◌<◌, Bool, true, false, cond, List, [], ◌∷◌, map, Option, Some, None, refl, sym, ap, ◌∙◌, subst}
+use Rattle.std.proofs.Common.{◌≡◌, ℕ, ◌+◌, Bool, true, false, cond, List, [], ◌∷◌, map, Option, refl, sym, subst}
 use Rattle.patterns.specs.declared.Outcome.{Outcome}
 use Rattle.patterns.specs.declared.Outcome.TheVariants as outcome
-use Rattle.patterns.specs.Least.{Table, below, first_hit, least}
+use Rattle.patterns.specs.Least.{Table, below, first_hit}
+use Rattle.fault_ledger.specs.declared.Event.{Event}
 use Rattle.fault_ledger.specs.declared.Shape.{Shape}
 use Rattle.fault_ledger.specs.declared.PieceState.{PieceState}
 use Rattle.fault_ledger.specs.declared.PieceState.TheVariants as state
 use Rattle.fault_ledger.specs.declared.Status.TheVariants.{Settled}
-use Rattle.fault_ledger.specs.History.{Event, History, held, holds, state_of, entry, class_of, block_of, piece_at, block_count}
+use Rattle.fault_ledger.specs.History.{History, holds, state_of, entry, class_of, block_of, piece_at, block_count}
 use Rattle.fault_ledger.specs.Settled.{status_from}
 use Rattle.fault_ledger.specs.Answer.{Gives, IsTrueTo, SettlesAtLeast}
 use Rattle.fault_ledger.proofs.Histories.{holds-held}

@@ -1,9 +1,8 @@
 -- The status of a class, read from the states of its pieces.
-use Rattle.std.proofs.Common.{◌≡◌, ℕ, zero, suc, ◌+◌, ◌-◌, ◌*◌, ◌<◌, ◌≤◌, Bool, true, false, cond, nat_lt, List, [], ◌∷◌, map, length, slice_index_or, Option, Some, None, refl, sym, ap, ◌∙◌, subst, arith, lt-ltb}
+use Rattle.std.proofs.Common.{◌≡◌, ℕ, zero, suc, ◌+◌, ◌-◌, ◌*◌, ◌<◌, ◌≤◌, cond, ◌∷◌, map, length, slice_index_or, Some, None, refl, sym, ap, ◌∙◌, arith, lt-ltb}
 use Rattle.std.proofs.lemmas.Option.{get_or_from_slice_get, slice_get_read}
 use Rattle.patterns.specs.Tests.{max_pieces}
 use Rattle.patterns.specs.Least.{from_up, below}
-use Rattle.fault_ledger.specs.declared.Shape.{Shape}
 use Rattle.fault_ledger.specs.declared.PieceState.{PieceState}
 use Rattle.fault_ledger.specs.declared.PieceState.TheVariants as state
 use Rattle.fault_ledger.specs.declared.Refusal.TheVariants.{NoSuchClass}
@@ -11,9 +10,8 @@ use Rattle.fault_ledger.specs.declared.Status.{Status}
 use Rattle.fault_ledger.specs.declared.Status.TheVariants as status_is
 use Rattle.fault_ledger.specs.declared.Call.TheVariants as call
 use Rattle.fault_ledger.specs.declared.Reply.TheVariants as reply
-use Rattle.fault_ledger.specs.History.{History, entry, block_count, piece_count, piece_at, class_of, block_of}
+use Rattle.fault_ledger.specs.History.{History, entry, block_count, piece_at}
 use Rattle.fault_ledger.specs.Settled.{status_from, status}
-use Rattle.fault_ledger.specs.Answer.{IsLegal}
 use Rattle.fault_ledger.specs.Face.{Face, face, IsLedger, Answers}
 use Rattle.fault_ledger.proofs.Tables.{same-below}
 use Rattle.fault_ledger.proofs.Pieces.{piece_at-below}

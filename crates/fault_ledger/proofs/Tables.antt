@@ -1,7 +1,6 @@
 -- Lists that a function of the place gives.
-use Rattle.std.proofs.Common.{◌≡◌, ◌≢◌, ℕ, zero, suc, ◌+◌, ◌<◌, ◌≤◌, Bool, true, false, ◌||◌, List, [], ◌∷◌, map, set, length, replicate, get_or, slice_get, Some, refl, sym, ap, ◌∙◌, subst, arith, add-zero, add-one}
+use Rattle.std.proofs.Common.{◌≡◌, ◌≢◌, ℕ, zero, suc, ◌+◌, ◌<◌, ◌≤◌, Bool, true, false, ◌||◌, ◌∷◌, map, set, length, replicate, get_or, refl, sym, ap, ◌∙◌, arith}
 use Rattle.std.specs.List.{list_any}
-use Rattle.std.proofs.lemmas.Option.{get_or_from_slice_get}
 use Rattle.patterns.specs.Least.{from_up, below}
 
 pub length-from_up : {X : Type 0} (f : ℕ → X) (a n : ℕ) → length (map f (from_up a n)) ≡ n

@@ -93,6 +93,17 @@ pub enum Claim {
     Exhausted,
 }
 
+/// One event of a ledger: a worker got the next piece, reported the piece that it held, or dropped it.
+///
+/// No call takes or gives one. Contracts speak of the history of a ledger, which is the list of its
+/// events.
+#[derive(Clone, Copy, Debug, PartialEq, Eq)]
+pub enum Event {
+    Claim(u32),
+    Report(u32, Outcome),
+    Drop(u32),
+}
+
 /// A call of a ledger, with the number of the worker or of the class.
 #[derive(Clone, Copy, Debug, PartialEq, Eq)]
 pub enum Call {

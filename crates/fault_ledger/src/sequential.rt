@@ -7,7 +7,7 @@ ghost use Rattle.fault_ledger.specs.declared.Call.{Call};
 ghost use Rattle.fault_ledger.specs.declared.Reply.{Reply};
 ghost use Rattle.fault_ledger.specs.declared.PieceState.{PieceState};
 ghost use Rattle.fault_ledger.specs.Answer.{fits_size, is_hit, claim_reply_of, done_reply_of};
-ghost use Rattle.fault_ledger.specs.Face.{face, shape_fault, Answers, IsLedger};
+ghost use Rattle.fault_ledger.specs.Face.{face, shape_of, shape_fault, Answers, IsLedger};
 
 use crate::{Claim, Finish, LedgerFault, PieceState, Refusal, Shape, Status, state_after};
 use patterns::Outcome;
@@ -43,9 +43,9 @@ impl Ledger {
     /// [`LedgerFault::TooManyWorkers`] above 64 workers, with [`LedgerFault::TooManyPieces`] above
     /// 4,194,304 pieces, and with [`LedgerFault::Memory`].
     pub fn new(alloc: Global, classes: u32, tests: u32, workers: u32) -> Result<Ledger, LedgerFault>
-        ensures face { IfOk result (λ ledger. ledger ≡ face (record { classes = classes; tests = tests; workers = workers }) []) }
-        ensures refused { (fault : LedgerFault) → shape_fault (record { classes = classes; tests = tests; workers = workers }) ≡ Some fault → result ≡ Err fault }
-        ensures memory { shape_fault (record { classes = classes; tests = tests; workers = workers }) ≡ None → IfErr result (λ fault. fault ≡ LedgerFault.Memory) }
+        ensures face { IfOk result (λ ledger. ledger ≡ face (shape_of classes tests workers) []) }
+        ensures refused { (fault : LedgerFault) → shape_fault (shape_of classes tests workers) ≡ Some fault → result ≡ Err fault }
+        ensures memory { shape_fault (shape_of classes tests workers) ≡ None → IfErr result (λ fault. fault ≡ LedgerFault.Memory) }
     {
         let shape = Shape {
             classes,

@@ -1,9 +1,8 @@
-use Rattle.std.proofs.Common.{◌≡◌, ℕ, ◌+◌, List, [], ◌∷◌, ◌++◌, take, get_or, sym, ap, ◌∙◌, refl}
+use Rattle.std.proofs.Common.{List, [], ◌∷◌, ◌++◌, take, get_or, sym, ap, ◌∙◌}
 use Rattle.std.proofs.lemmas.List.{take_more}
-use Rattle.fault_ledger.specs.declared.Call.{Call}
 use Rattle.fault_ledger.specs.declared.Call.TheVariants.{Claim}
 use Rattle.fault_ledger.specs.declared.Reply.{Reply}
-use Rattle.fault_ledger.specs.Answer.{replies, after_all, answer}
+use Rattle.fault_ledger.specs.Answer.{replies, after_all}
 use Rattle.fault_ledger.specs.Face.{face}
 use Rattle.fault_ledger.proofs.Legal.{never_first}
 use Rattle.fault_ledger.proofs.Settles.{settles_at_least}

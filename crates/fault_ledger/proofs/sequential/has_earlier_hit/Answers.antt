@@ -1,4 +1,4 @@
-use Rattle.std.proofs.Common.{◌≡◌, ℕ, ◌+◌, ◌*◌, ◌/◌, ◌%◌, ◌<◌, ◌≤◌, Bool, true, false, slice_index_or, sym, ap, arith}
+use Rattle.std.proofs.Common.{ℕ, ◌+◌, ◌*◌, ◌/◌, ◌%◌, Bool, slice_index_or, sym, ap, arith}
 use Rattle.fault_ledger.specs.declared.PieceState.TheVariants.{Open}
 use Rattle.fault_ledger.specs.Answer.{is_hit}
 use Rattle.fault_ledger.proofs.Tables.{any_none-below, any_at-below}

@@ -1,12 +1,11 @@
-use Rattle.std.proofs.Common.{◌≡◌, ℕ, ◌+◌, ◌%◌, ◌/◌, ◌<◌, ◌≤◌, Option, Some, None, set, length, slice_get, is_some, sym, ◌∙◌, subst, ap, arith, refl}
+use Rattle.std.proofs.Common.{◌+◌, ◌%◌, ◌/◌, ◌<◌, ◌≤◌, Some, set, length, sym, ◌∙◌, subst, ap, arith}
 use Rattle.std.proofs.lemmas.Option.{slice_get_read}
-use Rattle.patterns.specs.Tests.{max_pieces}
 use Rattle.fault_ledger.specs.declared.Refusal.TheVariants.{Holding}
 use Rattle.fault_ledger.specs.declared.Claim.TheVariants as claim_is
 use Rattle.fault_ledger.specs.declared.Call.TheVariants as call
 use Rattle.fault_ledger.specs.declared.Reply.TheVariants.{Claimed, Refused}
 use Rattle.fault_ledger.specs.History.{piece_count}
-use Rattle.fault_ledger.specs.Face.{Face, IsLedger, Answers}
+use Rattle.fault_ledger.specs.Face.{Face, Answers}
 use Rattle.fault_ledger.proofs.Faces.{faced, ledger-holding, ledger-states, ledger-few, ledger-after, none_of, some_of, claim-holding, claim-exhausted, claim-piece}
 use Rattle.fault_ledger.proofs.sequential.Ledger.claim.Goals as goal
 

@@ -1,4 +1,4 @@
-use Rattle.std.proofs.Common.{◌≡◌, ℕ, ◌+◌, ◌%◌, ◌/◌, ◌<◌, ◌≤◌, Bool, true, false, List, Option, Some, None, Err, set, length, slice_get, sym, ◌∙◌, subst, ap, arith, refl}
+use Rattle.std.proofs.Common.{◌≡◌, ℕ, true, false, List, Option, Some, None, Err, set, length, slice_get, sym, ◌∙◌, subst, ap, arith}
 use Rattle.std.proofs.lemmas.Option.{slice_get_within}
 use Rattle.std.proofs.lemmas.Result.{err_from_is_err_and}
 use Rattle.fault_ledger.specs.declared.PieceState.{PieceState}
@@ -7,7 +7,7 @@ use Rattle.fault_ledger.specs.declared.Refusal.TheVariants.{NoEarlierHit}
 use Rattle.fault_ledger.specs.declared.Call.TheVariants as call
 use Rattle.fault_ledger.specs.declared.Reply.TheVariants.{Done, Refused}
 use Rattle.fault_ledger.specs.Answer.{done_reply_of}
-use Rattle.fault_ledger.specs.Face.{Face, IsLedger, Answers}
+use Rattle.fault_ledger.specs.Face.{Face, Answers}
 use Rattle.fault_ledger.proofs.Pieces.{some_class}
 use Rattle.fault_ledger.proofs.Faces.{faced, FoundNone, ledger-states, ledger-after, found-piece, shows_hit, drop-refused, drop-bad, drop-done}
 use Rattle.fault_ledger.proofs.sequential.Ledger.drop_piece.Goals as goal

@@ -1,9 +1,5 @@
-use Rattle.std.proofs.Common.{◌≡◌, ℕ, ◌<◌, ap, subst, arith}
-use Rattle.fault_ledger.specs.declared.Status.{Status}
-use Rattle.fault_ledger.specs.declared.Status.TheVariants.{Settled, Waiting}
-use Rattle.fault_ledger.specs.declared.Call.TheVariants as call
-use Rattle.fault_ledger.specs.declared.Reply.TheVariants as reply
-use Rattle.fault_ledger.specs.Face.{Face, Answers}
+use Rattle.std.proofs.Common.{◌≡◌, ◌<◌, ap, subst, arith}
+use Rattle.fault_ledger.specs.Face.{Face}
 use Rattle.fault_ledger.proofs.Finishes.{SettledBelow, settled-none, settled-more, finished-all, finished-waits}
 use Rattle.fault_ledger.proofs.sequential.Ledger.finished.Goals as goal
 

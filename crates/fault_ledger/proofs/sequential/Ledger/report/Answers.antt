@@ -1,13 +1,13 @@
-use Rattle.std.proofs.Common.{◌≡◌, ℕ, ◌+◌, ◌%◌, ◌/◌, ◌<◌, ◌≤◌, Bool, true, false, List, Option, Some, None, Err, set, length, slice_get, sym, ◌∙◌, subst, ap, arith, refl}
+use Rattle.std.proofs.Common.{◌≡◌, ℕ, ◌<◌, List, Option, Some, None, Err, set, slice_get, sym, ◌∙◌, subst, ap, arith}
 use Rattle.std.proofs.lemmas.Option.{slice_get_within}
 use Rattle.std.proofs.lemmas.Result.{err_from_is_err_and}
 use Rattle.fault_ledger.specs.declared.PieceState.{PieceState}
 use Rattle.fault_ledger.specs.declared.Refusal.TheVariants.{BadOutcome}
 use Rattle.fault_ledger.specs.declared.Call.TheVariants as call
 use Rattle.fault_ledger.specs.declared.Reply.TheVariants.{Done, Refused}
-use Rattle.fault_ledger.specs.History.{state_of, block_count, piece_count}
+use Rattle.fault_ledger.specs.History.{piece_count}
 use Rattle.fault_ledger.specs.Answer.{fits_size, done_reply_of}
-use Rattle.fault_ledger.specs.Face.{Face, IsLedger, Answers}
+use Rattle.fault_ledger.specs.Face.{Face, Answers}
 use Rattle.fault_ledger.proofs.Pieces.{some_class, block_of-below}
 use Rattle.fault_ledger.proofs.Faces.{faced, FoundNone, ledger-states, ledger-after, found-piece, report-refused, report-bad, report-done}
 use Rattle.fault_ledger.proofs.sequential.Ledger.report.Goals as goal

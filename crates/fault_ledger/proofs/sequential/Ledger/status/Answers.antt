@@ -1,4 +1,4 @@
-use Rattle.std.proofs.Common.{◌≡◌, ℕ, ◌+◌, ◌*◌, ◌<◌, ◌≤◌, Some, None, slice_index_or, refl, sym, ap, ◌∙◌, subst, arith, below_more}
+use Rattle.std.proofs.Common.{◌≡◌, ℕ, ◌+◌, ◌*◌, ◌<◌, ◌≤◌, Some, None, sym, ◌∙◌, subst, arith, below_more}
 use Rattle.fault_ledger.specs.declared.PieceState.TheVariants.{Clear}
 use Rattle.fault_ledger.specs.declared.Status.TheVariants.{Settled, Waiting}
 use Rattle.fault_ledger.specs.declared.Call.TheVariants as call
