@@ -1,6 +1,6 @@
 //! The ledger of one owner.
 
-ghost use Rattle.std.specs.Prelude.{◌≡◌, ◌⊎◌, ◌<◌, ◌≤◌, ◌+◌, ◌*◌, ◌/◌, ◌%◌, [], length, slice_get, slice_index_or, IfOk, IfErr, OnErr, Some, None, IsTrue};
+ghost use Rattle.std.specs.Prelude.{◌≡◌, ◌⊎◌, ◌<◌, ◌≤◌, ◌+◌, ◌*◌, ◌/◌, ◌%◌, [], length, slice_get, slice_index_or, IfOk, IfErr, OnErr, Some, None};
 ghost use Rattle.std.specs.List.{list_any};
 ghost use Rattle.patterns.specs.Least.{below};
 ghost use Rattle.fault_ledger.specs.declared.Call.{Call};

@@ -26,6 +26,9 @@ fn blocks_out_of_order(rt: HostRuntime) -> Result<(), Fail> {
     assert_eq!(rt; ledger.report(1, Clear), Ok(()));
     assert_eq!(rt; ledger.status(0), Status::Settled(Some(128)));
     assert_eq!(rt; ledger.finished(), Finish::Finished);
+    for worker in [3, 4, 6] {
+        assert_eq!(rt; ledger.claim(worker), Err(Refusal::Holding));
+    }
     Ok(())
 }
 
@@ -105,6 +108,7 @@ fn a_short_last_block_bounds_the_outcome(rt: HostRuntime) -> Result<(), Fail> {
     assert_eq!(rt; ledger.report(0, Clear), Ok(()));
     assert_eq!(rt; ledger.claim(0), piece(0, 1));
     assert_eq!(rt; ledger.report(0, Hit(1)), Err(Refusal::BadOutcome));
+    assert_eq!(rt; ledger.drop_piece(0), Err(Refusal::NoEarlierHit));
     assert_eq!(rt; ledger.report(0, Hit(0)), Ok(()));
     assert_eq!(rt; ledger.status(0), Status::Settled(Some(64)));
     Ok(())
