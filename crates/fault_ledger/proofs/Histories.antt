@@ -1,0 +1,103 @@
+-- Facts about histories: who holds a piece, and what becomes of it.
+use Rattle.std.proofs.Common.{◌≡◌, ◌≢◌, ℕ, ◌+◌, ◌<◌, ◌≤◌, Bool, true, false, cond, eqb, [], ◌∷◌, ◌++◌, Option, Some, None, refl, sym, ap, ◌∙◌, arith, ne_eqb, eqb-true, eq-eqb}
+use Rattle.std.specs.Option.{option_map_or}
+use Rattle.fault_ledger.specs.declared.Event.{Event}
+use Rattle.fault_ledger.specs.declared.PieceState.TheVariants as state
+use Rattle.fault_ledger.specs.History.{History, claims, held, holds, state_of, entry}
+
+-- a piece that is held was claimed
+pub held_below : (w p : ℕ) (h : History) → held w h ≡ Some p → p < claims h
+held_below w p [] e = absurd (cc)
+held_below w p (Event.Claim u ∷ h) e = go (eqb w u) (held_below w p h) e
+  where
+    go : (b : Bool) → (held w h ≡ Some p → p < claims h) → cond b (Some (claims h)) (held w h) ≡ Some p → p < claims h + 1
+    go true i e = let q : claims h ≡ p = cc in omega arith
+    go false i e = let j = i e in omega arith
+held_below w p (Event.Report u o ∷ h) e = go (eqb w u) (held_below w p h) e
+  where
+    go : (b : Bool) → (held w h ≡ Some p → p < claims h) → cond b None (held w h) ≡ Some p → p < claims h
+    go true i e = absurd (cc)
+    go false i e = i e
+held_below w p (Event.Drop u ∷ h) e = go (eqb w u) (held_below w p h) e
+  where
+    go : (b : Bool) → (held w h ≡ Some p → p < claims h) → cond b None (held w h) ≡ Some p → p < claims h
+    go true i e = absurd (cc)
+    go false i e = i e
+
+-- no piece has two holders
+pub held_once : (w v p : ℕ) (h : History) → held w h ≡ Some p → held v h ≡ Some p → w ≡ v
+held_once w v p [] e f = absurd (cc)
+held_once w v p (Event.Claim u ∷ h) e f = go (eqb w u) (eqb v u) (held_once w v p h) refl refl e f
+  where
+    go : (a b : Bool) → (held w h ≡ Some p → held v h ≡ Some p → w ≡ v) → eqb w u ≡ a → eqb v u ≡ b → cond a (Some (claims h)) (held w h) ≡ Some p → cond b (Some (claims h)) (held v h) ≡ Some p → w ≡ v
+    go true true i x y e f = eqb-true w u x ∙ sym (eqb-true v u y)
+    go true false i x y e f = let q : claims h ≡ p = cc in let j = held_below v p h f in absurd (omega arith)
+    go false true i x y e f = let q : claims h ≡ p = cc in let j = held_below w p h e in absurd (omega arith)
+    go false false i x y e f = i e f
+held_once w v p (Event.Report u o ∷ h) e f = go (eqb w u) (eqb v u) (held_once w v p h) e f
+  where
+    go : (a b : Bool) → (held w h ≡ Some p → held v h ≡ Some p → w ≡ v) → cond a None (held w h) ≡ Some p → cond b None (held v h) ≡ Some p → w ≡ v
+    go true b i e f = absurd (cc)
+    go false true i e f = absurd (cc)
+    go false false i e f = i e f
+held_once w v p (Event.Drop u ∷ h) e f = go (eqb w u) (eqb v u) (held_once w v p h) e f
+  where
+    go : (a b : Bool) → (held w h ≡ Some p → held v h ≡ Some p → w ≡ v) → cond a None (held w h) ≡ Some p → cond b None (held v h) ≡ Some p → w ≡ v
+    go true b i e f = absurd (cc)
+    go false true i e f = absurd (cc)
+    go false false i e f = i e f
+
+is_some-piece : (p : ℕ) (o : Option ℕ) → option_map_or (λ q. eqb q p) o false ≡ true → o ≡ Some p
+is_some-piece p None e = absurd (cc)
+is_some-piece p (Some q) e = ap Some (eqb-true q p e)
+
+is_not-piece : (p : ℕ) (o : Option ℕ) → (o ≡ Some p → ⊥) → option_map_or (λ q. eqb q p) o false ≡ false
+is_not-piece p None n = refl
+is_not-piece p (Some q) n = ne_eqb q p (λ e. n (ap Some e))
+
+-- what `holds` says
+pub holds-held : (w p : ℕ) (h : History) → holds w p h ≡ true → held w h ≡ Some p
+holds-held w p h e = is_some-piece p (held w h) e
+
+pub holds-not : (w p : ℕ) (h : History) → (held w h ≡ Some p → ⊥) → holds w p h ≡ false
+holds-not w p h n = is_not-piece p (held w h) n
+
+pub held-holds : (w p : ℕ) (h : History) → held w h ≡ Some p → holds w p h ≡ true
+held-holds w p h e = ap (λ o. option_map_or (λ q. eqb q p) o false) e ∙ eq-eqb p p refl
+
+-- a piece that was not claimed is open
+pub unclaimed_open : (p : ℕ) (h : History) → claims h ≤ p → entry p h ≡ state.Open
+unclaimed_open p [] l = refl
+unclaimed_open p (Event.Claim w ∷ h) l = unclaimed_open p h (omega arith)
+unclaimed_open p (Event.Report w o ∷ h) l = rw (holds-not w p h (λ e. let i = held_below w p h e in omega arith)) (unclaimed_open p h l)
+unclaimed_open p (Event.Drop w ∷ h) l = rw (holds-not w p h (λ e. let i = held_below w p h e in omega arith)) (unclaimed_open p h l)
+
+-- a piece that is held is open
+pub held_open : (w p : ℕ) (h : History) → held w h ≡ Some p → entry p h ≡ state.Open
+held_open w p [] e = refl
+held_open w p (Event.Claim v ∷ h) e = go (eqb w v) (held_open w p h) e
+  where
+    go : (b : Bool) → (held w h ≡ Some p → entry p h ≡ state.Open) → cond b (Some (claims h)) (held w h) ≡ Some p → entry p h ≡ state.Open
+    go true i e = let q : claims h ≡ p = cc in unclaimed_open p h (omega arith)
+    go false i e = i e
+held_open w p (Event.Report v o ∷ h) e = go (eqb w v) (held_open w p h) refl e
+  where
+    go : (b : Bool) → (held w h ≡ Some p → entry p h ≡ state.Open) → eqb w v ≡ b → cond b None (held w h) ≡ Some p → cond (holds v p h) (state_of o) (entry p h) ≡ state.Open
+    go true i x e = absurd (cc)
+    go false i x e = rw (holds-not v p h (λ f. let q = eq-eqb w v (held_once w v p h e f) in absurd (cc))) (i e)
+held_open w p (Event.Drop v ∷ h) e = go (eqb w v) (held_open w p h) refl e
+  where
+    go : (b : Bool) → (held w h ≡ Some p → entry p h ≡ state.Open) → eqb w v ≡ b → cond b None (held w h) ≡ Some p → cond (holds v p h) state.Skipped (entry p h) ≡ state.Open
+    go true i x e = absurd (cc)
+    go false i x e = rw (holds-not v p h (λ f. let q = eq-eqb w v (held_once w v p h e f) in absurd (cc))) (i e)
+
+-- what was made of a piece stays
+pub entry_past : (p : ℕ) (d h : History) → entry p h ≢ state.Open → entry p (d ++ h) ≡ entry p h
+entry_past p [] h n = refl
+entry_past p (Event.Claim w ∷ d) h n = entry_past p d h n
+entry_past p (Event.Report w o ∷ d) h n =
+    let i = entry_past p d h n in
+    rw (holds-not w p (d ++ h) (λ e. n (sym i ∙ held_open w p (d ++ h) e))) i
+entry_past p (Event.Drop w ∷ d) h n =
+    let i = entry_past p d h n in
+    rw (holds-not w p (d ++ h) (λ e. n (sym i ∙ held_open w p (d ++ h) e))) i

@@ -1,0 +1,29 @@
+//! Laws of all legal histories of a ledger.
+
+ghost use Rattle.std.specs.Prelude.{◌≡◌, ◌≢◌, ℕ, Some};
+ghost use Rattle.patterns.specs.Least.{Table};
+ghost use Rattle.fault_ledger.specs.declared.Shape.{Shape};
+ghost use Rattle.fault_ledger.specs.declared.PieceState.{PieceState};
+ghost use Rattle.fault_ledger.specs.History.{History, Continues, held, entry};
+ghost use Rattle.fault_ledger.specs.Answer.{IsLegal, IsTrueTo, SettlesAtLeast, SkippedIsNeverFirst};
+
+/// A settled class is settled at the least test of every table of outcomes to which the reports are
+/// true, whatever the order of the reports and the drops.
+pub fn settles_at_the_least_test()
+    ensures { (shape : Shape) (table : Table) (h : History) → IsTrueTo shape table h → SettlesAtLeast shape table h }
+{}
+
+/// A skipped piece is never the first piece of its class that isn't clear.
+pub fn skipped_is_never_first()
+    ensures { (shape : Shape) (h : History) → IsLegal shape h → SkippedIsNeverFirst shape h }
+{}
+
+/// A piece that isn't open never changes again.
+pub fn pieces_change_once()
+    ensures { (piece : ℕ) (later h : History) → Continues later h → entry piece h ≢ PieceState.Open → entry piece later ≡ entry piece h }
+{}
+
+/// No two workers hold one piece.
+pub fn no_piece_is_held_twice()
+    ensures { (first second piece : ℕ) (h : History) → held first h ≡ Some piece → held second h ≡ Some piece → first ≡ second }
+{}

@@ -1,0 +1,210 @@
+//! The fault ledger: a list of pieces of work that workers claim and report to.
+//!
+//! A piece is one fault class and one block of 64 tests. Workers claim pieces in one fixed order,
+//! report what they found, or drop a piece where an earlier block of its class is known to detect.
+//! Outcomes come in any order; a class is settled at its earliest detecting test.
+#![tactic(auto)]
+
+pub mod calls;
+pub mod laws;
+pub mod sequential;
+#[cfg(test)]
+mod tests;
+
+ghost use Rattle.std.specs.Prelude.{◌≡◌, ◌<◌};
+ghost use Rattle.patterns.specs.Tests.{size_of};
+ghost use Rattle.fault_ledger.specs.History.{block_count, piece_count, state_of};
+ghost use Rattle.fault_ledger.specs.Face.{shape_fault};
+
+pub use calls::replay;
+use patterns::Outcome;
+pub use sequential::Ledger;
+use std::alloc::{AllocError, AllocFailed};
+use thiserror::Error;
+
+/// The most workers that a ledger serves.
+const MAX_WORKERS: u32 = 64;
+
+/// The most pieces that a ledger holds.
+const MAX_PIECES: u64 = 4_194_304;
+
+/// The numbers of fault classes, tests and workers of a ledger. Each is numbered from 0.
+#[derive(Clone, Copy, Debug, PartialEq, Eq)]
+pub struct Shape {
+    pub classes: u32,
+    pub tests: u32,
+    pub workers: u32,
+}
+
+/// What the ledger knows of a piece. A piece that isn't open never changes again.
+#[derive(Clone, Copy, Debug, PartialEq, Eq)]
+pub enum PieceState {
+    /// Neither reported nor dropped.
+    Open,
+    /// No test of the block detects the class.
+    Clear,
+    /// The first test of the block that detects the class, counted from 0 within the block.
+    Hit(u32),
+    /// Dropped, since an earlier block of the class is a hit.
+    Skipped,
+}
+
+/// What the ledger knows of a fault class.
+#[derive(Clone, Copy, Debug, PartialEq, Eq)]
+pub enum Status {
+    /// The first test that detects the class, counted from 0 over all blocks, or none.
+    Settled(Option<u32>),
+    /// The class waits for this block, its lowest open one.
+    Waiting(u32),
+}
+
+/// Whether all fault classes are settled.
+#[derive(Clone, Copy, Debug, PartialEq, Eq)]
+pub enum Finish {
+    /// All are.
+    Finished,
+    /// The lowest class that isn't settled, and the lowest open block of it.
+    Waiting { class: u32, block: u32 },
+}
+
+/// Why a call changed nothing.
+#[derive(Clone, Copy, Debug, PartialEq, Eq, Error)]
+pub enum Refusal {
+    #[error("no such worker")]
+    NoSuchWorker,
+    #[error("the worker holds a piece")]
+    Holding,
+    #[error("the worker holds no piece")]
+    NothingHeld,
+    #[error("no such test in the block")]
+    BadOutcome,
+    #[error("no earlier block is a hit")]
+    NoEarlierHit,
+    #[error("no such class")]
+    NoSuchClass,
+}
+
+/// What a claim gives.
+#[derive(Clone, Copy, Debug, PartialEq, Eq)]
+pub enum Claim {
+    /// The worker now holds this piece.
+    Piece { class: u32, block: u32 },
+    /// All pieces were claimed.
+    Exhausted,
+}
+
+/// One event of a ledger: a worker got the next piece, reported the piece that it held, or dropped it.
+///
+/// No call takes or gives one. Contracts speak of the history of a ledger, which is the list of its
+/// events.
+#[derive(Clone, Copy, Debug, PartialEq, Eq)]
+pub enum Event {
+    Claim(u32),
+    Report(u32, Outcome),
+    Drop(u32),
+}
+
+/// A call of a ledger, with the number of the worker or of the class.
+#[derive(Clone, Copy, Debug, PartialEq, Eq)]
+pub enum Call {
+    Claim(u32),
+    Report(u32, Outcome),
+    Drop(u32),
+    Status(u32),
+    Finished,
+}
+
+/// The reply to a call.
+#[derive(Clone, Copy, Debug, PartialEq, Eq)]
+pub enum Reply {
+    Claimed(Claim),
+    /// The report or drop was accepted.
+    Done,
+    Refused(Refusal),
+    Status(Status),
+    Finish(Finish),
+}
+
+/// Why there is no ledger of a shape.
+#[derive(Clone, Copy, Debug, PartialEq, Eq, Error)]
+pub enum LedgerFault {
+    #[error("no workers")]
+    NoWorkers,
+    #[error("more than 64 workers")]
+    TooManyWorkers,
+    #[error("more than 4194304 pieces")]
+    TooManyPieces,
+    #[error("out of memory")]
+    Memory,
+}
+
+impl From<AllocError> for LedgerFault {
+    ghost use Rattle.fault_ledger.specs.declared.LedgerFault.{LedgerFault};
+    ghost use Rattle.fault_ledger.specs.declared.LedgerFault.TheVariants.{Memory};
+
+    ghost from_gives = { λ _ fault. fault ≡ Memory };
+
+    fn from(_refused: AllocError) -> LedgerFault {
+        LedgerFault::Memory
+    }
+}
+
+impl<T: Drop> From<AllocFailed<T>> for LedgerFault {
+    ghost use Rattle.fault_ledger.specs.declared.LedgerFault.{LedgerFault};
+    ghost use Rattle.fault_ledger.specs.declared.LedgerFault.TheVariants.{Memory};
+
+    ghost from_gives = { λ _ fault. fault ≡ Memory };
+
+    fn from(_refused: AllocFailed<T>) -> LedgerFault {
+        LedgerFault::Memory
+    }
+}
+
+impl Shape {
+    /// The number of blocks of 64 tests; the last may be short.
+    pub(crate) fn blocks(self) -> u32
+        ensures { result ≡ block_count self }
+    {
+        self.tests.div_ceil(64)
+    }
+
+    /// The number of pieces: classes times blocks.
+    pub(crate) fn pieces(self) -> u64
+        ensures { result ≡ piece_count self }
+    {
+        u64::from(self.classes) * u64::from(self.blocks())
+    }
+
+    /// The number of tests in a block.
+    pub(crate) fn size_of(self, block: u32) -> u32
+        requires { block < block_count self }
+        ensures { result ≡ size_of self.tests block }
+    {
+        (self.tests - 64 * block).min(64)
+    }
+
+    /// Why there is no ledger of this shape, but for want of memory.
+    pub(crate) fn fault(self) -> Option<LedgerFault>
+        ensures { result ≡ shape_fault self }
+    {
+        if self.workers == 0 {
+            Some(LedgerFault::NoWorkers)
+        } else if self.workers > MAX_WORKERS {
+            Some(LedgerFault::TooManyWorkers)
+        } else if self.pieces() > MAX_PIECES {
+            Some(LedgerFault::TooManyPieces)
+        } else {
+            None
+        }
+    }
+}
+
+/// The state of a piece that was reported with this outcome.
+pub(crate) fn state_after(outcome: Outcome) -> PieceState
+    ensures { result ≡ state_of outcome }
+{
+    match outcome {
+        Outcome::Clear => PieceState::Clear,
+        Outcome::Hit(test) => PieceState::Hit(test),
+    }
+}

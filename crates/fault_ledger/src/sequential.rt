@@ -1,0 +1,213 @@
+//! The ledger of one owner.
+
+ghost use Rattle.std.specs.Prelude.{◌≡◌, ◌⊎◌, ◌<◌, ◌≤◌, ◌+◌, ◌*◌, ◌/◌, ◌%◌, [], length, slice_get, slice_index_or, IfOk, IfErr, OnErr, Some, None};
+ghost use Rattle.std.specs.List.{list_any};
+ghost use Rattle.patterns.specs.Least.{below};
+ghost use Rattle.fault_ledger.specs.declared.Call.{Call};
+ghost use Rattle.fault_ledger.specs.declared.Reply.{Reply};
+ghost use Rattle.fault_ledger.specs.declared.PieceState.{PieceState};
+ghost use Rattle.fault_ledger.specs.Answer.{fits_size, is_hit, claim_reply_of, done_reply_of};
+ghost use Rattle.fault_ledger.specs.Face.{face, shape_of, shape_fault, Answers, IsLedger};
+
+use crate::{Claim, Finish, LedgerFault, PieceState, Refusal, Shape, Status, state_after};
+use patterns::Outcome;
+use std::alloc::Global;
+use std::marker::Model;
+
+/// A ledger with one owner.
+///
+/// The n-th claim, counted from 0, is for the piece of class `n % classes` and block `n / classes`.
+/// Only [`Ledger::new`] takes memory: one entry a piece and one a worker.
+#[derive(Debug, Drop)]
+pub struct Ledger {
+    shape: Shape,
+    claimed: u32,
+    holding: Vec<Option<u32>>,
+    states: Vec<PieceState>,
+}
+
+impl Model for Ledger {
+    ghost use Rattle.fault_ledger.specs.Face.{Face, IsLedger};
+
+    ghost Value = { Face };
+
+    ghost view = { λ l. record { shape = l.shape; claimed = l.claimed; holding = l.holding.items; states = l.states.items } };
+
+    ghost invariant = { λ l. IsLedger (record { shape = l.shape; claimed = l.claimed; holding = l.holding.items; states = l.states.items }) };
+}
+
+impl Ledger {
+    /// A ledger of these numbers of fault classes, tests and workers, of which nothing is claimed.
+    ///
+    /// It is refused, in this order, with [`LedgerFault::NoWorkers`], with
+    /// [`LedgerFault::TooManyWorkers`] above 64 workers, with [`LedgerFault::TooManyPieces`] above
+    /// 4,194,304 pieces, and with [`LedgerFault::Memory`].
+    pub fn new(alloc: Global, classes: u32, tests: u32, workers: u32) -> Result<Ledger, LedgerFault>
+        ensures face { IfOk result (λ ledger. ledger ≡ face (shape_of classes tests workers) []) }
+        ensures refused { (fault : LedgerFault) → shape_fault (shape_of classes tests workers) ≡ Some fault → result ≡ Err fault }
+        ensures memory { shape_fault (shape_of classes tests workers) ≡ None → IfErr result (λ fault. fault ≡ LedgerFault.Memory) }
+    {
+        let shape = Shape {
+            classes,
+            tests,
+            workers,
+        };
+        if let Some(fault) = shape.fault() {
+            return Err(fault);
+        }
+        let holding = vec![in alloc; None; workers as usize]?;
+        let states = vec![in alloc; PieceState::Open; shape.pieces() as usize]?;
+        Ok(Ledger {
+            shape,
+            claimed: 0,
+            holding,
+            states,
+        })
+    }
+
+    /// The numbers of classes, tests and workers.
+    pub fn shape(&self) -> Shape
+        ensures shape { result ≡ self.now.shape }
+        ensures ledger { IsLedger self.now }
+    {
+        self.shape
+    }
+
+    /// The next piece for a worker that holds none, or [`Claim::Exhausted`] where all are claimed.
+    /// It takes constant time.
+    ///
+    /// It is refused with [`Refusal::NoSuchWorker`], else with [`Refusal::Holding`].
+    pub fn claim(&mut self, worker: u32) -> Result<Claim, Refusal>
+        ensures answer { Answers self.old (Call.Claim worker) (claim_reply_of result) self.new }
+        ensures exhausted { result ≡ Ok Claim.Exhausted → self.new ≡ self.old }
+        ensures shape { self.new.shape ≡ self.old.shape }
+        ensures refused { OnErr result (self.new ≡ self.old) }
+    {
+        if worker >= self.shape.workers {
+            return Err(Refusal::NoSuchWorker);
+        }
+        if self.holding[worker as usize].is_some() {
+            return Err(Refusal::Holding);
+        }
+        let piece = self.claimed;
+        if piece as usize >= self.states.len() {
+            return Ok(Claim::Exhausted);
+        }
+        self.holding[worker as usize] = Some(piece);
+        self.claimed = piece + 1;
+        Ok(Claim::Piece {
+            class: piece % self.shape.classes,
+            block: piece / self.shape.classes,
+        })
+    }
+
+    /// Takes a worker's outcome of the piece that it holds, which it then no longer holds. It takes
+    /// constant time.
+    ///
+    /// It is refused with [`Refusal::NoSuchWorker`], else with [`Refusal::NothingHeld`], else with
+    /// [`Refusal::BadOutcome`] where the outcome names a test that the piece's block hasn't; the
+    /// worker then still holds the piece.
+    pub fn report(&mut self, worker: u32, outcome: Outcome) -> Result<(), Refusal>
+        ensures answer { Answers self.old (Call.Report worker outcome) (done_reply_of result) self.new }
+        ensures shape { self.new.shape ≡ self.old.shape }
+        ensures refused { OnErr result (self.new ≡ self.old) }
+    {
+        let piece = held_by(&self.holding, worker)?;
+        let size = self.shape.size_of(piece / self.shape.classes);
+        if !fits(size, outcome) {
+            return Err(Refusal::BadOutcome);
+        }
+        self.holding[worker as usize] = None;
+        self.states[piece as usize] = state_after(outcome);
+        Ok(())
+    }
+
+    /// Skips the piece that a worker holds, which it then no longer holds. It takes at most the time
+    /// of a look at each earlier block of the piece's class.
+    ///
+    /// It is refused with [`Refusal::NoSuchWorker`], else with [`Refusal::NothingHeld`], else with
+    /// [`Refusal::NoEarlierHit`] where no earlier block of the class is a hit; the worker then still
+    /// holds the piece. A piece of block 0 is always refused.
+    pub fn drop_piece(&mut self, worker: u32) -> Result<(), Refusal>
+        ensures answer { Answers self.old (Call.Drop worker) (done_reply_of result) self.new }
+        ensures shape { self.new.shape ≡ self.old.shape }
+        ensures refused { OnErr result (self.new ≡ self.old) }
+    {
+        let piece = held_by(&self.holding, worker)?;
+        if !has_earlier_hit(&self.states, self.shape.classes, piece) {
+            return Err(Refusal::NoEarlierHit);
+        }
+        self.holding[worker as usize] = None;
+        self.states[piece as usize] = PieceState::Skipped;
+        Ok(())
+    }
+
+    /// Whether a class is settled, and at which test, else the block that it waits for. It takes at
+    /// most the time of a look at each block of the class, and stops at the first that isn't clear.
+    pub fn status(&self, class: u32) -> Status
+        requires { class < self.now.shape.classes }
+        ensures { Answers self.now (Call.Status class) (Reply.Status result) self.now }
+    {
+        for block in 0..self.shape.blocks() {
+            let piece = class + self.shape.classes * block;
+            match self.states[piece as usize] {
+                PieceState::Clear => {}
+                PieceState::Hit(test) => return Status::Settled(Some(64 * block + test)),
+                PieceState::Open => return Status::Waiting(block),
+                // A skipped piece stands behind a hit of its class.
+                PieceState::Skipped => unreachable!(),
+            }
+        }
+        Status::Settled(None)
+    }
+
+    /// Whether all classes are settled, else the lowest class that isn't, with the block that it
+    /// waits for. It takes at most the time of [`Ledger::status`] for that class and each lower one.
+    pub fn finished(&self) -> Finish
+        ensures { Answers self.now Call.Finished (Reply.Finish result) self.now }
+    {
+        for class in 0..self.shape.classes {
+            if let Status::Waiting(block) = self.status(class) {
+                return Finish::Waiting { class, block };
+            }
+        }
+        Finish::Finished
+    }
+}
+
+/// The piece that a worker holds.
+fn held_by(holding: &[Option<u32>], worker: u32) -> Result<u32, Refusal>
+    ensures held { IfOk result (λ piece. slice_get holding.now worker ≡ Some (Some piece)) }
+    ensures refused { IfErr result (λ refusal. ((refusal ≡ Refusal.NoSuchWorker) × (length holding.now ≤ worker)) ⊎ ((refusal ≡ Refusal.NothingHeld) × (slice_get holding.now worker ≡ Some None))) }
+{
+    match holding.get(worker as usize) {
+        None => Err(Refusal::NoSuchWorker),
+        Some(None) => Err(Refusal::NothingHeld),
+        Some(Some(piece)) => Ok(*piece),
+    }
+}
+
+/// Whether a block of this size has the test that an outcome names.
+fn fits(size: u32, outcome: Outcome) -> bool
+    ensures { result ≡ fits_size size outcome }
+{
+    match outcome {
+        Outcome::Clear => true,
+        Outcome::Hit(test) => test < size,
+    }
+}
+
+/// Whether an earlier block of the piece's class is a hit.
+fn has_earlier_hit(states: &[PieceState], classes: u32, piece: u32) -> bool
+    requires classes { 0 < classes }
+    requires piece { piece < length states.now }
+    ensures { result ≡ list_any (λ block. is_hit (slice_index_or states.now (piece % classes + classes * block) PieceState.Open)) (below (piece / classes)) }
+{
+    let class = piece % classes;
+    for block in 0..piece / classes {
+        if let PieceState::Hit(_) = states[(class + classes * block) as usize] {
+            return true;
+        }
+    }
+    false
+}
