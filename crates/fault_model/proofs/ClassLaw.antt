@@ -10,7 +10,8 @@ use Rattle.bench_net.proofs.SignalsLists.{at_place, filtered_from}
 use Rattle.fault_model.specs.Fault.{Fault, faults, branch}
 use Rattle.fault_model.specs.Solution.{Test, Solves, Detects, under, shows, ShowSame}
 use Rattle.fault_model.specs.Collapse.{next, Reaches, here, onward, representatives, IsClassOf, ClassesShowSame}
-use Rattle.fault_model.specs.Laws.{HaveArities, HasSolutions, HasOneSolution, ClassesDetectSame, RepresentativesDetectSame, DetectionIsOfAnySolution}
+use Rattle.bench_net.specs.Circuit.{HaveArities}
+use Rattle.fault_model.specs.Laws.{HasSolutions, HasOneSolution, ClassesDetectSame, RepresentativesDetectSame, DetectionIsOfAnySolution}
 use Rattle.fault_model.proofs.Unique.{agree}
 use Rattle.fault_model.proofs.Existence.{solution, solution_solves}
 use Rattle.fault_model.proofs.Listed.{next_listed}

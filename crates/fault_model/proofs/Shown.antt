@@ -19,7 +19,7 @@ use Rattle.fault_model.specs.declared.Line.TheVariants as line
 use Rattle.fault_model.specs.Fault.{Fault, faults, branch}
 use Rattle.fault_model.specs.Solution.{Test, Solves, value, sees, pins_see, shows, ShowSame}
 use Rattle.fault_model.specs.Collapse.{next, next_stuck}
-use Rattle.fault_model.specs.Laws.{HaveArities}
+use Rattle.bench_net.specs.Circuit.{HaveArities}
 use Rattle.fault_model.proofs.Unique.{Driven, driven}
 use Rattle.fault_model.proofs.Listed.{under_other, under_own, Step, step_of}
 use Rattle.fault_model.proofs.Chains.{read_below, read_defined, gate_defined}

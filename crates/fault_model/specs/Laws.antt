@@ -1,17 +1,11 @@
 -- The laws of the fault model, each a statement on a statement list.
 use Rattle.std.specs.Prelude.{◌≡◌, ◌↔◌, ◌≢◌, ℕ, Bool, List, Contains, Option, Some, None, slice_get}
-use Rattle.bench_net.specs.declared.Kind.{Kind}
 use Rattle.bench_net.specs.declared.Sink.{Sink}
-use Rattle.bench_net.specs.Statement.{Name, Statement, Gate}
-use Rattle.bench_net.specs.Reading.{HasArity}
+use Rattle.bench_net.specs.Statement.{Name, Statement}
 use Rattle.bench_net.specs.Scan.{names, observers}
 use Rattle.fault_model.specs.Fault.{Fault, faults}
 use Rattle.fault_model.specs.Solution.{Test, Solves, Detects, shows}
 use Rattle.fault_model.specs.Collapse.{Represents, representatives, IsClassOf, AreEquivalent}
-
--- each gate has as many arguments as its kind takes, as each gate of a bench text has
-abbrev pub HaveArities : List Statement → Type 0
-HaveArities c = (n : Name) (kind : Kind) (args : List Name) → Contains c (Gate n kind args) → HasArity kind args
 
 -- under every test, without a fault and under each fault, some valuation solves
 abbrev pub HasSolutions : List Statement → Type 0

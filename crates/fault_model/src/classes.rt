@@ -5,7 +5,6 @@ ghost use Rattle.bench_net.specs.Scan.{names};
 ghost use Rattle.bench_net.specs.Circuit.{IsCircuit};
 ghost use Rattle.fault_model.specs.Fault.{Fault, faults};
 ghost use Rattle.fault_model.specs.Collapse.{next, next_stuck, readers, representatives, AreClassesOf, ClassesShowSame};
-ghost use Rattle.fault_model.specs.Laws.{HaveArities};
 ghost use Rattle.fault_model.specs.Known.{only_gate, IsInCircuit, HasClassAt, HasEnds, HasNext, HasStems, KeepsClasses};
 
 use crate::Line;
@@ -210,7 +209,7 @@ fn follow_chains(circuit: &Circuit, list: &Faults, class_of: &mut [u32])
 pub fn collapse(alloc: Global, circuit: &Circuit, list: &Faults) -> Result<Classes, AllocError>
     requires { list.now ≡ faults circuit.now }
     ensures classes { IfOk result (λ classes. AreClassesOf circuit.now classes) }
-    ensures same { IfOk result (λ _. HaveArities circuit.now → ClassesShowSame circuit.now) }
+    ensures same { IfOk result (λ _. ClassesShowSame circuit.now) }
 {
     let Ends {
         mut class_of,

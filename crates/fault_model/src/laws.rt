@@ -4,9 +4,9 @@
 
 ghost use Rattle.std.specs.Prelude.{List};
 ghost use Rattle.bench_net.specs.Statement.{Statement};
-ghost use Rattle.bench_net.specs.Circuit.{IsWellFormed};
+ghost use Rattle.bench_net.specs.Circuit.{IsWellFormed, HaveArities};
 ghost use Rattle.fault_model.specs.Collapse.{ClassesShowSame};
-ghost use Rattle.fault_model.specs.Laws.{HaveArities, HasSolutions, HasOneSolution, HasRepresentatives, HasClasses, ClassesDetectSame, RepresentativesDetectSame, DetectionIsOfAnySolution};
+ghost use Rattle.fault_model.specs.Laws.{HasSolutions, HasOneSolution, HasRepresentatives, HasClasses, ClassesDetectSame, RepresentativesDetectSame, DetectionIsOfAnySolution};
 
 /// A circuit without cycles has exactly one solution under each test, without a fault and under each
 /// single stuck-at fault.

@@ -2,7 +2,6 @@
 
 ghost use Rattle.std.specs.Prelude.{◌≡◌, ◌<◌, IfOk, length, vec_len, slice_get, Some, ℕ, Option};
 ghost use Rattle.fault_model.specs.Fault.{Fault};
-ghost use Rattle.fault_model.specs.Laws.{HaveArities};
 ghost use Rattle.block_sim.specs.Parts.{Fits};
 ghost use Rattle.faultsim.specs.Verdict.{AreFirsts, IsFirstOfClass};
 
@@ -42,7 +41,6 @@ fn firsts_of_classes(alloc: Global, job: &Job) -> Result<Vec<Option<u32>>, Alloc
 
 /// The first test that detects each fault of the list, or none: that of its class.
 pub fn first_tests(alloc: Global, job: &Job) -> Result<Vec<Option<u32>>, AllocError>
-    requires { HaveArities job.now.circuit }
     ensures { IfOk result (λ firsts. AreFirsts job.now.circuit job.now.tests.tests firsts.items) }
 {
     let of_class = firsts_of_classes(alloc, job)?;

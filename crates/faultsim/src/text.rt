@@ -1,7 +1,6 @@
 //! From the bytes of texts to the bytes of the report or the listing.
 
 ghost use Rattle.std.specs.Prelude.{IfOk, IfErr};
-ghost use Rattle.fault_model.specs.Laws.{HaveArities};
 ghost use Rattle.faultsim.specs.EndToEnd.{WritesOneOf, IsReportOf, IsReportFault, IsListingOf, IsListingFault, IsJobOf, IsJobFault};
 
 use crate::first::first_tests;
@@ -151,7 +150,6 @@ pub fn simulate_text<R, W: Out>(
 /// The job of a bench text and a test text.
 fn job_of(alloc: Global, bench: &[u8], tests: &[u8]) -> Result<Job, SimFault>
     ensures job { IfOk result (IsJobOf bench.now tests.now) }
-    ensures arities { IfOk result (λ job. HaveArities job.circuit) }
     ensures refused { IfErr result (IsJobFault bench.now tests.now) }
 {
     let circuit = read_bench(alloc, bench)?;

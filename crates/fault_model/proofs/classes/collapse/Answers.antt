@@ -29,4 +29,4 @@ returns-clause-classes c =
     subst (λ xs. AreClassesOf circuit (record { class_of = xs; representative = c.in_ok-class_of.field-0.representative.items })) (sym items) right
 
 pub returns-clause-same : goal.returns-clause-same
-returns-clause-same c = classes_show_same c.args.circuit.now c.follow_chains.ensures.circuit.well_formed
+returns-clause-same c = classes_show_same c.args.circuit.now c.follow_chains.ensures.circuit.well_formed c.follow_chains.ensures.circuit.arities

@@ -27,6 +27,6 @@ loop-fault-preserved c =
         | inr h ↦
             let place : i ≡ c.loop-fault.fault = omega (arith, h.0, c.loop-fault.invariant.count, c.loop-fault.firsts.ok) in
             first_at circuit c.args.job.now.tests.tests c.args.job.now.classes c.loop-fault.fault c.class_of.result f first
-            (classes_detect_same circuit together.circuit.well_formed c.requires) together.classes at (rw (← place) e) (rw (← h.1) own)
+            (classes_detect_same circuit together.circuit.well_formed together.circuit.arities) together.classes at (rw (← place) e) (rw (← h.1) own)
       ];
     }
