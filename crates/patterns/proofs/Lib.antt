@@ -1,9 +1,10 @@
-pub mod RowLemmas
-pub mod OrderLemmas
-pub mod LaneLemmas
+mod RowLemmas
+mod OrderLemmas
+mod LaneLemmas
 pub mod BelowLemmas
-pub mod WordLemmas
-pub mod PushLemmas
+mod WordLemmas
+mod PushLemmas
 pub mod LeastLemmas
 pub mod FaultLemmas
 pub mod AnswerLemmas
+pub mod TestLemmas

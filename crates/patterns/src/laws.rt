@@ -1,6 +1,6 @@
 //! Laws of the definitions that the contracts cite, each a function that does nothing and whose
 //! contract is the law.
-ghost use Rattle.std.specs.Prelude.{◌≡◌, ◌↔◌, ◌⊎◌, ℕ, ◌<◌, ◌≤◌, Bool, true, List, length, All, Option};
+ghost use Rattle.std.specs.Prelude.{◌≡◌, ◌↔◌, ◌⊎◌, ℕ, ◌<◌, ◌≤◌, Bool, true, List, length, All};
 ghost use Rattle.patterns.specs.Least.{Table, least, AreClear, IsLeastHit, IsFirstOfBlock, IsFirstTest};
 ghost use Rattle.patterns.specs.Tests.{TestList, IsTestList, HasTests, IsTestRefusal, blocks};
 ghost use Rattle.patterns.specs.Order.{HasMoves, IsOrderRefusal, max_moves};
@@ -9,14 +9,14 @@ ghost use Rattle.patterns.specs.declared.OrderFault.{OrderFault};
 
 /// Over no blocks no class is hit.
 pub fn least_of_none()
-    ensures { (table : Table) (class : ℕ) → least table 0 class ≡ Option.None }
+    ensures { (table : Table) (class : ℕ) → least table 0 class ≡ None }
 {}
 
 /// The least test over a table is that of the least block that is hit, and there is none exactly
 /// where all blocks are clear.
 pub fn least_hit()
-    ensures hit { (table : Table) (blocks class t : ℕ) → (least table blocks class ≡ Option.Some t) ↔ IsLeastHit table blocks class t }
-    ensures clear { (table : Table) (blocks class : ℕ) → (least table blocks class ≡ Option.None) ↔ AreClear table blocks class }
+    ensures hit { (table : Table) (blocks class t : ℕ) → (least table blocks class ≡ Some t) ↔ IsLeastHit table blocks class t }
+    ensures clear { (table : Table) (blocks class : ℕ) → (least table blocks class ≡ None) ↔ AreClear table blocks class }
 {}
 
 /// Where the outcome of each block is the first of its tests that pass, the least test over the

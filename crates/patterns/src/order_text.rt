@@ -1,5 +1,5 @@
 //! Orders, and their reader.
-ghost use Rattle.std.specs.Prelude.{◌≡◌, ℕ, ◌+◌, ◌*◌, ◌^◌, ◌<◌, ◌≤◌, ◌⊎◌, IfOk, IfErr, Option, if◌then◌else◌};
+ghost use Rattle.std.specs.Prelude.{◌≡◌, ◌⊎◌, IfOk, IfErr, if◌then◌else◌};
 ghost use Rattle.patterns.specs.Order.{HasMoves, IsOrderRefusal, is_number, number, order_fault};
 ghost use Rattle.patterns.specs.Reading.{row_of};
 
@@ -34,8 +34,8 @@ pub fn read_order(alloc: Global, text: &[u8], workers: u32) -> Result<Vec<u32>, 
 /// The worker that a row names, given with the row's place among the rows.
 fn worker_of(place: usize, row: Row<'_>, workers: u32) -> Result<u32, OrderFault>
     ensures accepted { IfOk result (λ worker.
-        (order_fault workers (place, row_of row.entry) ≡ Option.None) × (worker ≡ number row.entry.bytes.now)) }
-    ensures refused { IfErr result (λ fault. order_fault workers (place, row_of row.entry) ≡ Option.Some fault) }
+        (order_fault workers (place, row_of row.entry) ≡ None) × (worker ≡ number row.entry.bytes.now)) }
+    ensures refused { IfErr result (λ fault. order_fault workers (place, row_of row.entry) ≡ Some fault) }
 {
     if place >= MAX_MOVES {
         return Err(OrderFault::TooMany);
@@ -51,7 +51,7 @@ fn worker_of(place: usize, row: Row<'_>, workers: u32) -> Result<u32, OrderFault
 /// The number that at most 9 decimal digits stand for; none where there is another byte or a tenth
 /// digit.
 fn number(bytes: &[u8]) -> Option<u32>
-    ensures { result ≡ (if is_number bytes.now then Option.Some (number bytes.now) else Option.None) }
+    ensures { result ≡ (if is_number bytes.now then Some (number bytes.now) else None) }
 {
     if bytes.len() > MAX_DIGITS {
         return None;

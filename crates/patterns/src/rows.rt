@@ -1,16 +1,15 @@
 //! The rows of a test text or an order text.
-ghost use Rattle.std.specs.Prelude.{◌≡◌, ◌+◌, ◌^◌, ◌<◌, ◌==◌, length, drop};
-ghost use Rattle.std.specs.List.{position_or_len, before_first, after_first};
+ghost use Rattle.std.specs.Prelude.{◌≡◌, ◌+◌, ◌^◌, ◌<◌, ◌==◌, length};
+ghost use Rattle.std.specs.List.{before_first, after_first};
 ghost use Rattle.std.specs.Str.Lines.{strip_carriage_return};
-ghost use Rattle.patterns.specs.Rows.{trimmed, without_front, without_back, content};
+ghost use Rattle.patterns.specs.Rows.{content, without_front, without_back};
 
-/// A row.
+/// A row: a line that holds something.
 #[derive(Clone, Copy)]
 pub(crate) struct Row<'a> {
     /// The number of its line, counted from 1.
     pub(crate) line: u64,
-    /// What the line holds: its bytes before a comment, without the blanks at their ends. There
-    /// is at least one.
+    /// What the line holds: its bytes before a comment, without the blanks at their ends.
     pub(crate) bytes: &'a [u8],
 }
 
@@ -26,7 +25,6 @@ pub(crate) struct Rows<'a> {
 }
 
 impl<'a> Rows<'a> {
-    ghost use Rattle.std.specs.Prelude.{◌≡◌};
     ghost use Rattle.patterns.specs.Rows.{rows};
     ghost use Rattle.patterns.specs.Reading.{rows_left};
 
@@ -83,6 +81,7 @@ fn content(line: &[u8]) -> &[u8]
     without_back(without_front(before_comment))
 }
 
+/// The bytes without one carriage return at their end.
 fn without_carriage_return(line: &[u8]) -> &[u8]
     ensures { result.now ≡ strip_carriage_return line.now }
 {

@@ -1,5 +1,5 @@
 //! Tests, laid out in words of 64, and their reader.
-ghost use Rattle.std.specs.Prelude.{◌≡◌, ◌≢◌, ℕ, ◌+◌, ◌*◌, ◌^◌, ◌<◌, ◌≤◌, ◌==◌, ◌||◌, ◌⊎◌, ◌∷◌, ◌++◌, [], map, length, slice_index, IfOk, IfErr, OnOk, Option};
+ghost use Rattle.std.specs.Prelude.{◌≡◌, ◌≢◌, ℕ, ◌<◌, ◌≤◌, ◌==◌, ◌||◌, ◌⊎◌, [], ◌∷◌, ◌++◌, map, length, slice_index, IfOk, IfErr, OnOk};
 ghost use Rattle.std.specs.Int.{bit_at};
 ghost use Rattle.std.specs.List.{list_all};
 ghost use Rattle.patterns.specs.Tests.{HasTests, IsTestList, IsTestRefusal, IsWord, as_number, bit, blocks, max_tests, size_of, test_fault};
@@ -49,18 +49,18 @@ pub fn read_tests(alloc: Global, text: &[u8], width: u32) -> Result<Tests, TestF
 {
     let mut tests = Tests::new(alloc, width);
     for row in Rows::new(text) {
-        check(tests.count(), row, width)?;
+        check_row(tests.count(), row, width)?;
         tests.push(alloc, row.bytes)?;
     }
     Ok(tests)
 }
 
 /// Whether a row, given with its place among the rows, is a test of this width.
-fn check(place: u32, row: Row<'_>, width: u32) -> Result<(), TestFault>
-    ensures accepted { OnOk result (test_fault width (place, row_of row.entry) ≡ Option.None) }
+fn check_row(place: u32, row: Row<'_>, width: u32) -> Result<(), TestFault>
+    ensures accepted { OnOk result (test_fault width (place, row_of row.entry) ≡ None) }
     ensures room { OnOk result (place < max_tests) }
     ensures width { OnOk result (length row.entry.bytes.now ≡ width) }
-    ensures refused { IfErr result (λ fault. test_fault width (place, row_of row.entry) ≡ Option.Some fault) }
+    ensures refused { IfErr result (λ fault. test_fault width (place, row_of row.entry) ≡ Some fault) }
 {
     if place >= MAX_TESTS {
         return Err(TestFault::TooMany);
@@ -74,6 +74,7 @@ fn check(place: u32, row: Row<'_>, width: u32) -> Result<(), TestFault>
     Ok(())
 }
 
+/// Whether each byte is `0` or `1`.
 fn are_bits(bytes: &[u8]) -> bool
     ensures { result ≡ list_all (λ b. b == 48 || b == 49) bytes.now }
 {
