@@ -1,16 +1,16 @@
 -- A text has one answer at most.
-use Rattle.std.proofs.Common.{◌≡◌, ◌<◌, ℕ, zero, suc, refl, sym, ◌∙◌, ap, subst, List, [], ◌∷◌, length, arith}
+use Rattle.std.proofs.Common.{◌≡◌, ◌<◌, ℕ, zero, suc, refl, sym, ◌∙◌, ap, subst, List, [], ◌∷◌, length, arith, inl, inr, ◌⊎◌}
 use Rattle.std.specs.Prelude.{Contains, Option, Some, None, slice_get, flat_map, IsTrue}
 use Rattle.std.specs.List.{AllZip}
 use Rattle.bench_net.specs.declared.Limit.TheVariants.{Bytes, Signals, Sinks}
 use Rattle.bench_net.specs.declared.BenchFault.{BenchFault}
 use Rattle.bench_net.specs.declared.BenchFault.TheVariants.{TooLarge, Syntax, Redefined, Undefined, Cycle, Empty, Memory}
 use Rattle.bench_net.specs.Text.{lines}
-use Rattle.bench_net.specs.Statement.{Name, Statement, defined, read}
+use Rattle.bench_net.specs.Statement.{Name, Statement, Gate, defined, read}
 use Rattle.bench_net.specs.Reading.{States, LinesState, statements}
 use Rattle.bench_net.specs.Scan.{names}
 use Rattle.bench_net.specs.Circuit.{IsNumbering, IsStuck}
-use Rattle.bench_net.specs.Refusal.{IsSyntaxFault, IsRedefinition, IsUndefined, IsAccepted, IsRefused}
+use Rattle.bench_net.specs.Refusal.{at_line, IsLowest, NoLine, IsWithin, IsSyntaxFault, IsRedefinition, IsUndefined, IsCyclic, IsAccepted, IsRefused}
 use Rattle.bench_net.specs.Entries.{numbered_from, AreDistinct}
 use Rattle.bench_net.proofs.Reader.{states_one}
 use Rattle.bench_net.proofs.Rising.{numbered_rise, entry_at_line, statements_numbered, contains_flat, one_line}
@@ -91,3 +91,121 @@ accepted_apart text c Empty a r =
     let same : a.0 ≡ r.0 = same_stated text a.0 r.0 a.1.each r.1.each in
     a.3.some (a.2 ∙ ap statements same ∙ r.2)
 accepted_apart text c Memory a r = r
+
+-- a lowest line is one line
+lowest_one : (Faulty : ℕ → Type 0) (i j : ℕ) → IsLowest Faulty i → IsLowest Faulty j → i ≡ j
+lowest_one Faulty i j a b = grind (arith, below i j a b, below j i b a)
+  where
+    below : (k l : ℕ) → IsLowest Faulty k → IsLowest Faulty l → k < l → ⊥
+    below k l p q lt = q.1 k lt p.0
+
+-- what a text is refused for, once its lines are read
+abbrev Stage : List (Option Statement) → BenchFault → Type 0
+Stage stated (Redefined line) = IsLowest (IsRedefinition stated) line
+Stage stated (Undefined line) = NoLine (IsRedefinition stated) × IsLowest (IsUndefined stated) line
+Stage stated (Cycle line) = NoLine (IsRedefinition stated) × NoLine (IsUndefined stated) × IsLowest (IsCyclic stated) line
+Stage stated Empty = statements stated ≡ []
+Stage stated _ = ⊥
+
+abbrev Early : List ℕ → BenchFault → Type 0
+Early text (TooLarge limit) = IsRefused text (TooLarge limit)
+Early text (Syntax line) = IsRefused text (Syntax line)
+Early text _ = ⊥
+
+-- a refusal is that of the text's bytes, lines or sizes, or one of its statements
+staged : (text : List ℕ) (f : BenchFault) → IsRefused text f → Early text f ⊎ ((stated : List (Option Statement)) × IsWithin text stated × Stage stated f)
+staged text (TooLarge limit) r = inl r
+staged text (Syntax line) r = inl r
+staged text (Redefined line) r = inr r
+staged text (Undefined line) r = inr (r.0, r.1, (r.2, r.3))
+staged text (Cycle line) r = inr (r.0, r.1, (r.2, r.3, r.4))
+staged text Empty r = inr r
+staged text Memory r = absurd r
+
+-- a text that is read and within the limits has none of the first refusals
+early_apart : (text : List ℕ) (f : BenchFault) (stated : List (Option Statement)) → Early text f → IsWithin text stated → ⊥
+early_apart text (TooLarge Bytes) stated r w = absurd (omega (arith, w.bytes, r))
+early_apart text (TooLarge Signals) stated r w =
+    let same : stated ≡ r.1 = same_stated text stated r.1 w.each r.2 in
+    absurd (omega (arith, w.signals, ap (λ s. length (names (statements s))) same, r.3))
+early_apart text (TooLarge Sinks) stated r w =
+    let same : stated ≡ r.1 = same_stated text stated r.1 w.each r.2 in
+    absurd (omega (arith, w.sinks, ap (λ s. length (flat_map read (statements s))) same, r.4))
+early_apart text (Syntax line) stated r w = no_syntax text stated line w.each r.1.0
+early_apart text (Redefined line) stated r w = r
+early_apart text (Undefined line) stated r w = r
+early_apart text (Cycle line) stated r w = r
+early_apart text Empty stated r w = r
+early_apart text Memory stated r w = r
+
+early_one : (text : List ℕ) (f g : BenchFault) → Early text f → Early text g → f ≡ g
+early_one text (TooLarge Bytes) (TooLarge Bytes) r s = refl
+early_one text (TooLarge Bytes) (TooLarge Signals) r s = absurd (omega (arith, r, s.0))
+early_one text (TooLarge Bytes) (TooLarge Sinks) r s = absurd (omega (arith, r, s.0))
+early_one text (TooLarge Bytes) (Syntax line) r s = absurd (omega (arith, r, s.0))
+early_one text (TooLarge Signals) (TooLarge Bytes) r s = absurd (omega (arith, s, r.0))
+early_one text (TooLarge Signals) (TooLarge Signals) r s = refl
+early_one text (TooLarge Signals) (TooLarge Sinks) r s =
+    let same : r.1 ≡ s.1 = same_stated text r.1 s.1 r.2 s.2 in
+    absurd (omega (arith, r.3, ap (λ x. length (names (statements x))) same, s.3))
+early_one text (TooLarge Signals) (Syntax line) r s = absurd (no_syntax text r.1 line r.2 s.1.0)
+early_one text (TooLarge Sinks) (TooLarge Bytes) r s = absurd (omega (arith, s, r.0))
+early_one text (TooLarge Sinks) (TooLarge Signals) r s =
+    let same : r.1 ≡ s.1 = same_stated text r.1 s.1 r.2 s.2 in
+    absurd (omega (arith, r.3, ap (λ x. length (names (statements x))) same, s.3))
+early_one text (TooLarge Sinks) (TooLarge Sinks) r s = refl
+early_one text (TooLarge Sinks) (Syntax line) r s = absurd (no_syntax text r.1 line r.2 s.1.0)
+early_one text (Syntax line) (TooLarge Bytes) r s = absurd (omega (arith, s, r.0))
+early_one text (Syntax line) (TooLarge Signals) r s = absurd (no_syntax text s.1 line s.2 r.1.0)
+early_one text (Syntax line) (TooLarge Sinks) r s = absurd (no_syntax text s.1 line s.2 r.1.0)
+early_one text (Syntax i) (Syntax j) r s = ap Syntax (lowest_one (IsSyntaxFault text) i j r.1 s.1)
+early_one text (Redefined line) g r s = absurd r
+early_one text (Undefined line) g r s = absurd r
+early_one text (Cycle line) g r s = absurd r
+early_one text Empty g r s = absurd r
+early_one text Memory g r s = absurd r
+early_one text f (Redefined line) r s = absurd s
+early_one text f (Undefined line) r s = absurd s
+early_one text f (Cycle line) r s = absurd s
+early_one text f Empty r s = absurd s
+early_one text f Memory r s = absurd s
+
+-- a line that defines or reads a name states a statement
+some_statement : (f : Statement → List Name) (stated : List (Option Statement)) (line : ℕ) (s : Statement) (n : Name) → statements stated ≡ [] → at_line stated line ≡ Some (Some s) → Contains (f s) n → ⊥
+some_statement f stated line s n none at inside =
+    let c = subst (λ c. Contains (flat_map f c) n) (statements_numbered 1 stated ∙ none) (contains_flat f (numbered_from 1 stated) line s n (entry_at_line stated line s at) inside) in
+    absurd (omega (arith, c.1))
+
+late_one : (stated : List (Option Statement)) (f g : BenchFault) → Stage stated f → Stage stated g → f ≡ g
+late_one stated (Redefined i) (Redefined j) r s = ap Redefined (lowest_one (IsRedefinition stated) i j r s)
+late_one stated (Redefined i) (Undefined j) r s = absurd (s.0 i r.0)
+late_one stated (Redefined i) (Cycle j) r s = absurd (s.0 i r.0)
+late_one stated (Redefined i) Empty r s = absurd (some_statement defined stated i r.0.2.0 r.0.0 s r.0.2.1 r.0.2.2)
+late_one stated (Undefined i) (Redefined j) r s = absurd (r.0 j s.0)
+late_one stated (Undefined i) (Undefined j) r s = ap Undefined (lowest_one (IsUndefined stated) i j r.1 s.1)
+late_one stated (Undefined i) (Cycle j) r s = absurd (s.1 i r.1.0)
+late_one stated (Undefined i) Empty r s = absurd (some_statement read stated i r.1.0.1.0 r.1.0.0 s r.1.0.1.1 r.1.0.1.2)
+late_one stated (Cycle i) (Redefined j) r s = absurd (r.0 j s.0)
+late_one stated (Cycle i) (Undefined j) r s = absurd (r.1 j s.1.0)
+late_one stated (Cycle i) (Cycle j) r s = ap Cycle (lowest_one (IsCyclic stated) i j r.2 s.2)
+late_one stated (Cycle i) Empty r s = absurd (some_statement defined stated i (Gate r.2.0.0 r.2.0.1 r.2.0.2) r.2.0.0 s r.2.0.3 (0, omega arith, refl))
+late_one stated Empty (Redefined j) r s = absurd (some_statement defined stated j s.0.2.0 s.0.0 r s.0.2.1 s.0.2.2)
+late_one stated Empty (Undefined j) r s = absurd (some_statement read stated j s.1.0.1.0 s.1.0.0 r s.1.0.1.1 s.1.0.1.2)
+late_one stated Empty (Cycle j) r s = absurd (some_statement defined stated j (Gate s.2.0.0 s.2.0.1 s.2.0.2) s.2.0.0 r s.2.0.3 (0, omega arith, refl))
+late_one stated Empty Empty r s = refl
+late_one stated (TooLarge limit) g r s = absurd r
+late_one stated (Syntax line) g r s = absurd r
+late_one stated Memory g r s = absurd r
+late_one stated f (TooLarge limit) r s = absurd s
+late_one stated f (Syntax line) r s = absurd s
+late_one stated f Memory r s = absurd s
+
+-- a text is refused for one reason at most
+pub refused_one : (text : List ℕ) (f g : BenchFault) → IsRefused text f → IsRefused text g → f ≡ g
+refused_one text f g r s = go (staged text f r) (staged text g s)
+  where
+    go : Early text f ⊎ ((stated : List (Option Statement)) × IsWithin text stated × Stage stated f) → Early text g ⊎ ((stated : List (Option Statement)) × IsWithin text stated × Stage stated g) → f ≡ g
+    go (inl a) (inl b) = early_one text f g a b
+    go (inl a) (inr b) = absurd (early_apart text f b.0 a b.1)
+    go (inr a) (inl b) = absurd (early_apart text g a.0 b a.1)
+    go (inr a) (inr b) = late_one b.0 f g (subst (λ s. Stage s f) (same_stated text a.0 b.0 a.1.each b.1.each) a.2) b.2

@@ -3,6 +3,7 @@
 ghost use Rattle.std.specs.Prelude.{◌≡◌, ◌⊎◌, ◌<◌, ◌≤◌, ◌+◌, ℕ, length, map, IfOk, IfErr, option_map, Contains, string_bytes};
 ghost use Rattle.std.specs.List.{All};
 ghost use Rattle.std.specs.Str.{IsUtf8};
+ghost use Rattle.bench_net.specs.Circuit.{max_signals};
 ghost use Rattle.bench_net.specs.Stored.{name_at};
 ghost use Rattle.bench_net.specs.Numbering.{LacksOneOf, IsNextFor, IsNumberedLine, AreNumberedLines};
 ghost use Rattle.std.specs.Option.{option_to_list};
@@ -72,7 +73,7 @@ pub fn number_names<'a>(alloc: Global, stated: &[StatedLine<'a>]) -> Result<Name
 
 /// The number of a defined name.
 fn number_of(names: &Names, name: &[u8]) -> Result<u32, LineFault>
-    requires { length names.now.keys ≤ 1000000 }
+    requires { length names.now.keys ≤ max_signals }
     ensures within { IfOk result (λ number. number < length (names_of names.now.keys)) }
     ensures named { IfOk result (λ number. name_at (names_of names.now.keys) number ≡ name.now) }
     ensures refused { IfErr result (λ fault. ¬ Contains (names_of names.now.keys) name.now) }
@@ -89,7 +90,7 @@ fn number_pins(
     arguments: &[&[u8]],
     names: &Names,
 ) -> Result<SmallVec<u32, 4>, LineFault>
-    requires { length names.now.keys ≤ 1000000 }
+    requires { length names.now.keys ≤ max_signals }
     ensures within { IfOk result (λ pins. All (λ number. number < length (names_of names.now.keys)) pins.items) }
     ensures named { IfOk result (λ pins. map (name_at (names_of names.now.keys)) pins.items ≡ names_of arguments.now) }
     ensures refused { IfErr result (λ fault. fault ≡ LineFault.Refused → LacksOneOf (names_of names.now.keys) (names_of arguments.now)) }
@@ -109,7 +110,7 @@ fn number_line(
     next: u32,
     names: &Names,
 ) -> Result<Line, LineFault>
-    requires few { length names.now.keys ≤ 1000000 }
+    requires few { length names.now.keys ≤ max_signals }
     requires own { IsNextFor (names_of names.now.keys) next (stands_for statement.now) }
     ensures numbered { IfOk result (IsNumberedLine (names_of names.now.keys) next (stands_for statement.now)) }
     ensures refused { IfErr result (λ fault. fault ≡ LineFault.Refused → LacksOneOf (names_of names.now.keys) (read (stands_for statement.now))) }
@@ -134,7 +135,7 @@ fn number_line(
 
 /// The number behind those of a statement's own names.
 fn number_behind(next: u32, statement: &Stated) -> u32
-    requires { next + length (defined (stands_for statement.now)) ≤ 1000000 }
+    requires { next + length (defined (stands_for statement.now)) ≤ max_signals }
     ensures { result ≡ next + length (defined (stands_for statement.now)) }
 {
     match statement {
@@ -151,7 +152,7 @@ pub fn number_lines(
     stated: &[StatedLine],
     names: &Names,
 ) -> Result<Vec<Line>, BenchFault>
-    requires few { length names.now.keys ≤ 1000000 }
+    requires few { length names.now.keys ≤ max_signals }
     requires own { names_of names.now.keys ≡ names_in stated.now }
     ensures numbered { IfOk result (λ lines. AreNumberedLines (names_of names.now.keys) stated.now lines.items) }
     ensures refused { IfErr result (λ fault. (fault ≡ BenchFault.Memory) ⊎ ((line : ℕ) × (fault ≡ BenchFault.Undefined line) × IsFirstUndefined (names_of names.now.keys) stated.now line)) }
@@ -169,6 +170,17 @@ pub fn number_lines(
     Ok(lines)
 }
 
+/// A name as a text of its own.
+fn own_name(alloc: Global, name: &[u8]) -> Result<String, AllocError>
+    requires { IsUtf8 name.now }
+    ensures { IfOk result (λ owned. string_bytes owned ≡ name.now) }
+{
+    match str::from_utf8(name) {
+        Ok(text) => String::from_str(alloc, text),
+        Err(_) => unreachable!(),
+    }
+}
+
 /// The names as texts of their own.
 pub fn own_names(alloc: Global, names: &Names) -> Result<Vec<String>, BenchFault>
     requires { All IsUtf8 (names_of names.now.keys) }
@@ -181,17 +193,6 @@ pub fn own_names(alloc: Global, names: &Names) -> Result<Vec<String>, BenchFault
         owned.push(name).map_err(no_room)?;
     }
     Ok(owned)
-}
-
-/// A name as a text of its own.
-fn own_name(alloc: Global, name: &[u8]) -> Result<String, AllocError>
-    requires { IsUtf8 name.now }
-    ensures { IfOk result (λ owned. string_bytes owned ≡ name.now) }
-{
-    match str::from_utf8(name) {
-        Ok(text) => String::from_str(alloc, text),
-        Err(_) => unreachable!(),
-    }
 }
 
 /// The numbers of the statements' lines.

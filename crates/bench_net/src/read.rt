@@ -1,8 +1,14 @@
 //! The lines of a bench text as numbered statements.
+//!
+//! The format is that of the ISCAS circuits (Brglez and Fujiwara, A neutral netlist of 10 combinational benchmark
+//! circuits, 1985; Brglez, Bryan and Kozminski, Combinational profiles of sequential benchmark circuits, 1989).
+//! The passes go over the whole text one after another: statements, limits, definitions, and names that are read.
+//! Each pass ends at the first line with its fault, so the refusals come in this order and name the lowest line.
 
 ghost use Rattle.std.specs.Prelude.{◌≡◌, ◌⊎◌, ◌≤◌, length, map, string_bytes, IfOk, IfErr, IsTrue, ◌↔◌};
 ghost use Rattle.std.specs.Str.Lines.{strip_carriage_return};
 ghost use Rattle.bench_net.specs.Text.{lines};
+ghost use Rattle.bench_net.specs.Circuit.{max_bytes, max_signals, max_sinks};
 ghost use Rattle.bench_net.specs.Refusal.{IsRefused};
 ghost use Rattle.bench_net.specs.Entries.{entries_of, names_in, reads_in, HaveEntries};
 ghost use Rattle.bench_net.specs.Parsed.{stands_for};
@@ -17,13 +23,13 @@ use crate::{BenchFault, Limit};
 use std::alloc::Global;
 
 /// The greatest number of bytes of a text.
-pub const MAX_BYTES: usize = 16_777_216;
+const MAX_BYTES: usize = 16_777_216;
 
 /// The greatest number of signals, that is of lines that define a name.
-pub const MAX_SIGNALS: usize = 1_000_000;
+const MAX_SIGNALS: usize = 1_000_000;
 
 /// The greatest number of gate pins, data pins and outputs together.
-pub const MAX_SINKS: usize = 4_000_000;
+const MAX_SINKS: usize = 4_000_000;
 
 /// The statements of a text: the names in the order of their definitions, the lines over their numbers,
 /// and beside each line the number of its line in the text, from 1.
@@ -46,7 +52,7 @@ fn without_return<'a>(line: &'a [u8]) -> &'a [u8]
 
 /// The statements of a text, each with the number of its line.
 fn read_statements<'a>(alloc: Global, text: &'a [u8]) -> Result<Vec<StatedLine<'a>>, BenchFault>
-    requires { length text.now ≤ 16777216 }
+    requires { length text.now ≤ max_bytes }
     ensures ok { IfOk result (λ stated. HaveEntries (lines text.now) (entries_of stated.items)) }
     ensures refused { IfErr result (λ fault. (fault ≡ BenchFault.Memory) ⊎ IsRefused text.now fault) }
 {
@@ -88,7 +94,7 @@ fn read_count(statement: &Stated) -> usize
 
 /// Whether there are no more signals than the limit.
 fn signals_fit(stated: &[StatedLine]) -> bool
-    ensures { IsTrue result ↔ length (names_in stated.now) ≤ 1000000 }
+    ensures { IsTrue result ↔ length (names_in stated.now) ≤ max_signals }
 {
     let mut count = 0;
     for line in stated {
@@ -104,7 +110,7 @@ fn signals_fit(stated: &[StatedLine]) -> bool
 
 /// Whether there are no more sinks than the limit.
 fn sinks_fit(stated: &[StatedLine]) -> bool
-    ensures { IsTrue result ↔ length (reads_in stated.now) ≤ 4000000 }
+    ensures { IsTrue result ↔ length (reads_in stated.now) ≤ max_sinks }
 {
     let mut count = 0;
     for line in stated {
@@ -117,7 +123,8 @@ fn sinks_fit(stated: &[StatedLine]) -> bool
     true
 }
 
-/// The statements of a text over numbers.
+/// The statements of a text over numbers, or the refusal of the text. Cycles and a text without statements are not
+/// looked for.
 pub fn read_lines(alloc: Global, text: &[u8]) -> Result<Lines, BenchFault>
     ensures lines { IfOk result (λ r. AreLinesOf text.now (map string_bytes r.names.items) r.lines.items r.at.items) }
     ensures refused { IfErr result (λ fault. (fault ≡ BenchFault.Memory) ⊎ IsRefused text.now fault) }

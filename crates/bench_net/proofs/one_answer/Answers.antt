@@ -1,4 +1,4 @@
-use Rattle.bench_net.proofs.Single.{accepted_one, accepted_apart}
+use Rattle.bench_net.proofs.Single.{accepted_one, accepted_apart, refused_one}
 use Rattle.bench_net.proofs.one_answer.Goals as goal
 
 pub returns-clause-one_circuit : goal.returns-clause-one_circuit
@@ -6,3 +6,6 @@ returns-clause-one_circuit c = accepted_one
 
 pub returns-clause-not_both : goal.returns-clause-not_both
 returns-clause-not_both c = accepted_apart
+
+pub returns-clause-one_refusal : goal.returns-clause-one_refusal
+returns-clause-one_refusal c = refused_one
