@@ -2,12 +2,13 @@
 //!
 //! A piece is one fault class and one block of 64 tests. Workers claim pieces in one fixed order,
 //! report what they found, or drop a piece where an earlier block of its class is known to detect.
-//! Outcomes come in any order; a class is settled at its earliest detecting test.
+//! Outcomes come in any order; a class is settled at its earliest detecting test. A drop is the fault
+//! dropping of Bushnell and Agrawal, Essentials of Electronic Testing, by blocks of tests.
 #![tactic(auto)]
 
-pub mod calls;
+mod calls;
 pub mod laws;
-pub mod sequential;
+mod sequential;
 #[cfg(test)]
 mod tests;
 
@@ -28,11 +29,14 @@ const MAX_WORKERS: u32 = 64;
 /// The most pieces that a ledger holds.
 const MAX_PIECES: u64 = 4_194_304;
 
-/// The numbers of fault classes, tests and workers of a ledger. Each is numbered from 0.
+/// The size of a ledger. Classes, tests and workers are numbered from 0.
 #[derive(Clone, Copy, Debug, PartialEq, Eq)]
 pub struct Shape {
+    /// The number of fault classes.
     pub classes: u32,
+    /// The number of tests.
     pub tests: u32,
+    /// The number of workers.
     pub workers: u32,
 }
 
@@ -70,16 +74,22 @@ pub enum Finish {
 /// Why a call changed nothing.
 #[derive(Clone, Copy, Debug, PartialEq, Eq, Error)]
 pub enum Refusal {
+    /// The worker's number isn't below the number of workers.
     #[error("no such worker")]
     NoSuchWorker,
+    /// A claim of a worker that holds a piece.
     #[error("the worker holds a piece")]
     Holding,
+    /// A report or a drop of a worker that holds none.
     #[error("the worker holds no piece")]
     NothingHeld,
+    /// A report of a hit at a test that the block hasn't.
     #[error("no such test in the block")]
     BadOutcome,
+    /// A drop where no earlier block of the class is a hit.
     #[error("no earlier block is a hit")]
     NoEarlierHit,
+    /// A status call, in a list of calls, of a class that isn't below the number of classes.
     #[error("no such class")]
     NoSuchClass,
 }
@@ -99,41 +109,57 @@ pub enum Claim {
 /// events.
 #[derive(Clone, Copy, Debug, PartialEq, Eq)]
 pub enum Event {
+    /// This worker got the next piece.
     Claim(u32),
+    /// This worker reported the outcome of the piece that it held.
     Report(u32, Outcome),
+    /// This worker dropped the piece that it held.
     Drop(u32),
 }
 
-/// A call of a ledger, with the number of the worker or of the class.
+/// A call of a [`Ledger`] in a list of calls for [`replay`].
 #[derive(Clone, Copy, Debug, PartialEq, Eq)]
 pub enum Call {
+    /// [`Ledger::claim`] of this worker.
     Claim(u32),
+    /// [`Ledger::report`] of this worker and outcome.
     Report(u32, Outcome),
+    /// [`Ledger::drop_piece`] of this worker.
     Drop(u32),
+    /// [`Ledger::status`] of this class, in range or not.
     Status(u32),
+    /// [`Ledger::finished`].
     Finished,
 }
 
 /// The reply to a call.
 #[derive(Clone, Copy, Debug, PartialEq, Eq)]
 pub enum Reply {
+    /// The claim was accepted.
     Claimed(Claim),
     /// The report or drop was accepted.
     Done,
+    /// The call changed nothing.
     Refused(Refusal),
+    /// The status of the class.
     Status(Status),
+    /// Whether all classes are settled.
     Finish(Finish),
 }
 
 /// Why there is no ledger of a shape.
 #[derive(Clone, Copy, Debug, PartialEq, Eq, Error)]
 pub enum LedgerFault {
+    /// The number of workers is 0.
     #[error("no workers")]
     NoWorkers,
+    /// The number of workers is above 64.
     #[error("more than 64 workers")]
     TooManyWorkers,
+    /// Classes times blocks is above 4,194,304.
     #[error("more than 4194304 pieces")]
     TooManyPieces,
+    /// An allocation was refused.
     #[error("out of memory")]
     Memory,
 }
