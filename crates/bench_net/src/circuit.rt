@@ -1,6 +1,11 @@
 //! A circuit: the statement list of a bench text, with its tables.
 
+use crate::levels::{LevelFault, Levels, levels_of};
 use crate::line::Line;
+use crate::read::Lines;
+use crate::tables::{Tables, tables_of};
+use crate::{BenchFault, GateLine, ScanCell, Sink};
+use std::alloc::Global;
 use std::marker::Model;
 
 /// A circuit, seen by contracts as its statement list.
@@ -8,6 +13,8 @@ use std::marker::Model;
 pub struct Circuit {
     names: Vec<String>,
     lines: Vec<Line>,
+    tables: Tables,
+    levels: Levels,
 }
 
 impl Model for Circuit {
@@ -22,4 +29,131 @@ impl Model for Circuit {
     ghost view = { λ c. statements_of (map string_bytes c.names.items) c.lines.items };
 
     ghost invariant = { λ c. IsCircuit (statements_of (map string_bytes c.names.items) c.lines.items) };
+}
+
+impl Circuit {
+    /// The number of signals. Signals are numbered from 0 in the order of the lines that define them.
+    pub fn signals(&self) -> u32 {
+        self.names.len() as u32
+    }
+
+    /// The width of a test row: one bit for each input, then one for each cell.
+    pub fn sources(&self) -> u32 {
+        (self.tables.inputs.len() + self.tables.cells.len()) as u32
+    }
+
+    /// The signals of the INPUT lines, in order.
+    pub fn inputs(&self) -> &[u32] {
+        self.tables.inputs.as_slice()
+    }
+
+    /// The flip-flop cells in order, under full scan: `q` is a source and `d` is observed.
+    pub fn scan_cells(&self) -> &[ScanCell] {
+        self.tables.cells.as_slice()
+    }
+
+    /// The signal of each OUTPUT line, in order.
+    pub fn outputs(&self) -> &[u32] {
+        self.tables.outputs.as_slice()
+    }
+
+    /// The place of a signal in a test row, from 0; `None` for the signal of a gate.
+    pub fn source_of(&self, signal: u32) -> Option<u32> {
+        self.tables.source_places[signal as usize]
+    }
+
+    /// The name of a signal, as the text spells it.
+    pub fn name_of(&self, signal: u32) -> &str {
+        self.names[signal as usize].as_str()
+    }
+
+    /// The gate that drives a signal; `None` for a source.
+    pub fn gate_of(&self, signal: u32) -> Option<&GateLine> {
+        match &self.lines[self.tables.definitions[signal as usize] as usize] {
+            Line::Gate(_, gate) => Some(gate),
+            _ => None,
+        }
+    }
+
+    /// The readers of a signal: gate pins and data pins by the line of the reader and then by pin, and
+    /// after these the OUTPUT lines.
+    pub fn sinks_of(&self, signal: u32) -> &[Sink] {
+        let rows = &self.tables.sinks;
+        let start = rows.starts[signal as usize] as usize;
+        let end = rows.starts[signal as usize + 1] as usize;
+        &rows.sinks[start..end]
+    }
+
+    /// The level of a signal: 0 for a source, and for a gate one more than the greatest level of the
+    /// signals that its pins read (Bushnell and Agrawal, Essentials of Electronic Testing).
+    pub fn level_of(&self, signal: u32) -> u32 {
+        self.levels.levels[signal as usize]
+    }
+
+    /// All signals by level, and within a level by number.
+    pub fn in_level_order(&self) -> &[u32] {
+        self.levels.order.as_slice()
+    }
+
+    /// The greatest level of a signal, and 0 where no signal is a gate's.
+    pub fn depth(&self) -> u32 {
+        self.levels.depth
+    }
+}
+
+/// The circuit of numbered statements. Refused are lines with a gate on a cycle of gates or fed by one,
+/// with the number of the lowest such line, and no lines at all.
+pub fn circuit_of(alloc: Global, lines: Lines) -> Result<Circuit, BenchFault> {
+    let Lines { names, lines, at } = lines;
+    if lines.is_empty() {
+        return Err(BenchFault::Empty);
+    }
+    let tables = tables_of(alloc, &lines, names.len()).map_err(|_| BenchFault::Memory)?;
+    match levels_of(alloc, &lines, &tables.definitions) {
+        Ok(levels) => Ok(Circuit {
+            names,
+            lines,
+            tables,
+            levels,
+        }),
+        Err(LevelFault::Memory) => Err(BenchFault::Memory),
+        Err(LevelFault::Cycle(signal)) => {
+            let place = tables.definitions[signal as usize];
+            Err(BenchFault::Cycle(at[place as usize]))
+        }
+    }
+}
+
+#[cfg(test)]
+mod tests {
+    use super::*;
+    use crate::Kind;
+    use smallvec::SmallVec;
+    use std::test::Fail;
+
+    /// A gate of these pins.
+    fn gate(alloc: Global, signal: u32, kind: Kind, pins: &[u32]) -> Result<Line, Fail> {
+        let pins = SmallVec::from_slice(alloc, pins)?;
+        Ok(Line::Gate(signal, GateLine { kind, pins }))
+    }
+
+    #[test]
+    fn chain_of_inverters(rt: HostRuntime) -> Result<(), Fail> {
+        let mut names = Vec::new(rt.alloc());
+        let mut lines = Vec::new(rt.alloc());
+        let mut at = Vec::new(rt.alloc());
+        for signal in 0..20_001u32 {
+            names.push(format!(in rt.alloc(); "n{signal}")?)?;
+            at.push(u64::from(signal) + 1)?;
+            if signal == 0 {
+                lines.push(Line::Input(0))?;
+            } else {
+                lines.push(gate(rt.alloc(), signal, Kind::Not, &[signal - 1])?)?;
+            }
+        }
+        let circuit = circuit_of(rt.alloc(), Lines { names, lines, at }).map_err(|_| "fault")?;
+        assert_eq!(rt; circuit.depth(), 20_000);
+        assert_eq!(rt; circuit.level_of(7), 7);
+        Ok(())
+    }
 }

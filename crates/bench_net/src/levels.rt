@@ -1,0 +1,179 @@
+//! The levels of signals, or a gate that has none: on a cycle of gates or fed by one.
+
+use crate::line::Line;
+use crate::rows::rows_of;
+use std::alloc::{AllocError, AllocFailed, Global};
+
+/// The level of each signal, the signals in the order of their levels, and the greatest level.
+#[derive(Drop)]
+pub struct Levels {
+    pub levels: Vec<u32>,
+    pub order: Vec<u32>,
+    pub depth: u32,
+}
+
+/// Why there are no levels: want of memory, or the lowest signal that is on a cycle of gates or fed by one.
+#[derive(Clone, Copy, Debug, PartialEq, Eq)]
+pub enum LevelFault {
+    Memory,
+    Cycle(u32),
+}
+
+impl From<AllocError> for LevelFault {
+    fn from(_error: AllocError) -> LevelFault {
+        LevelFault::Memory
+    }
+}
+
+impl<T: Drop> From<AllocFailed<T>> for LevelFault {
+    fn from(_error: AllocFailed<T>) -> LevelFault {
+        LevelFault::Memory
+    }
+}
+
+/// What is known of a signal's level. An `Open` gate is one whose pins are being followed.
+#[derive(Clone, Copy, Debug, PartialEq, Eq)]
+enum Mark {
+    Unvisited,
+    Open,
+    Level(u32),
+}
+
+/// A gate whose pins are being followed: those before `pin` have levels.
+#[derive(Clone, Copy)]
+struct Step {
+    gate: u32,
+    pin: u32,
+}
+
+/// The signals that the pins of a gate read; none for a source.
+fn pins_of<'a>(lines: &'a [Line], definitions: &[u32], signal: u32) -> &'a [u32] {
+    match &lines[definitions[signal as usize] as usize] {
+        Line::Gate(_, driver) => driver.pins.as_slice(),
+        _ => &[],
+    }
+}
+
+/// The first pin from `from` on whose signal has no level yet.
+fn first_without_level(marks: &[Mark], pins: &[u32], from: usize) -> Option<usize> {
+    for pin in from..pins.len() {
+        match marks[pins[pin] as usize] {
+            Mark::Level(_) => {}
+            Mark::Unvisited | Mark::Open => return Some(pin),
+        }
+    }
+    None
+}
+
+/// One more than the greatest level of the signals.
+fn level_above(marks: &[Mark], pins: &[u32]) -> u32 {
+    let mut greatest = 0;
+    for pin in pins {
+        if let Mark::Level(level) = marks[*pin as usize] {
+            greatest = greatest.max(level);
+        }
+    }
+    greatest + 1
+}
+
+/// Gives the gate `root` its level, and on the way each gate that feeds it. Gates are followed back by
+/// a path that is kept in a list, so a deep circuit takes no stack.
+fn level_gate(
+    lines: &[Line],
+    definitions: &[u32],
+    marks: &mut Vec<Mark>,
+    path: &mut Vec<Step>,
+    root: u32,
+) -> Result<(), LevelFault> {
+    path.push(Step { gate: root, pin: 0 })?;
+    marks[root as usize] = Mark::Open;
+    while let Some(step) = path.pop() {
+        let pins = pins_of(lines, definitions, step.gate);
+        match first_without_level(marks, pins, step.pin as usize) {
+            None => marks[step.gate as usize] = Mark::Level(level_above(marks, pins)),
+            Some(pin) => {
+                let signal = pins[pin];
+                if marks[signal as usize] == Mark::Open {
+                    return Err(LevelFault::Cycle(root));
+                }
+                path.push(Step {
+                    gate: step.gate,
+                    pin: pin as u32,
+                })?;
+                path.push(Step {
+                    gate: signal,
+                    pin: 0,
+                })?;
+                marks[signal as usize] = Mark::Open;
+            }
+        }
+    }
+    Ok(())
+}
+
+/// The marks before any gate is followed: a source has level 0.
+fn first_marks(
+    alloc: Global,
+    lines: &[Line],
+    definitions: &[u32],
+) -> Result<Vec<Mark>, AllocError> {
+    let mut marks = Vec::with_capacity(alloc, definitions.len())?;
+    for place in definitions {
+        marks.push(match &lines[*place as usize] {
+            Line::Gate(_, _) => Mark::Unvisited,
+            _ => Mark::Level(0),
+        })?;
+    }
+    Ok(marks)
+}
+
+/// The level of a mark that has one.
+fn marked_level(mark: &Mark) -> u32 {
+    match mark {
+        Mark::Level(level) => *level,
+        Mark::Unvisited | Mark::Open => 0,
+    }
+}
+
+/// The level of each signal: 0 for a source, and for a gate one more than the greatest of its pins'
+/// signals. The gates are followed in the order of their numbers, so the first that can't be given a
+/// level is the lowest.
+fn signal_levels(
+    alloc: Global,
+    lines: &[Line],
+    definitions: &[u32],
+) -> Result<Vec<u32>, LevelFault> {
+    let mut marks = first_marks(alloc, lines, definitions)?;
+    let mut path = Vec::new(alloc);
+    for signal in 0..definitions.len() {
+        if marks[signal] == Mark::Unvisited {
+            level_gate(lines, definitions, &mut marks, &mut path, signal as u32)?;
+        }
+    }
+    Ok(marks.iter().map(|mark| marked_level(mark)).collect(alloc)?)
+}
+
+/// The greatest of some levels, and 0 where there is none.
+fn greatest(levels: &[u32]) -> u32 {
+    let mut greatest = 0;
+    for level in levels {
+        greatest = greatest.max(*level);
+    }
+    greatest
+}
+
+/// The levels of lines whose definitions stand at these places.
+pub fn levels_of(
+    alloc: Global,
+    lines: &[Line],
+    definitions: &[u32],
+) -> Result<Levels, LevelFault> {
+    let levels = signal_levels(alloc, lines, definitions)?;
+    let depth = greatest(&levels);
+    let order = rows_of(alloc, &levels, depth as usize + 1)?.places;
+    Ok(Levels {
+        levels,
+        order,
+        depth,
+    })
+}
