@@ -1,5 +1,10 @@
 //! The levels of signals, or a gate that has none: on a cycle of gates or fed by one.
 
+ghost use Rattle.std.specs.Prelude.{◌≡◌, ◌+◌, ◌^◌, ◌<◌, ◌≤◌, ℕ, length, map, slice_index, slice_get, unwrap_or, Contains, Some, [], IfOk, IfErr, OnOk, MatchOption};
+ghost use Rattle.bench_net.specs.Level.{greatest};
+ghost use Rattle.bench_net.specs.Marks.{gate_pins, IsGraph, AreLevelsOf, IsLevelFault, IsRootFault, IsLevelled, level_or_zero, AreMarks, NoneOpen, KeepsLevels, level_of_mark};
+ghost use Rattle.bench_net.specs.declared.levels.Mark.{Mark};
+
 use crate::line::Line;
 use crate::rows::rows_of;
 use std::alloc::{AllocError, AllocFailed, Global};
@@ -47,7 +52,11 @@ struct Step {
 }
 
 /// The signals that the pins of a gate read; none for a source.
-fn pins_of<'a>(lines: &'a [Line], definitions: &[u32], signal: u32) -> &'a [u32] {
+fn pins_of<'a>(lines: &'a [Line], definitions: &[u32], signal: u32) -> &'a [u32]
+    requires below { signal < length definitions.now }
+    requires graph { IsGraph lines.now definitions.now }
+    ensures { result.now ≡ unwrap_or (gate_pins lines.now definitions.now signal) [] }
+{
     match &lines[definitions[signal as usize] as usize] {
         Line::Gate(_, driver) => driver.pins.as_slice(),
         _ => &[],
@@ -55,7 +64,13 @@ fn pins_of<'a>(lines: &'a [Line], definitions: &[u32], signal: u32) -> &'a [u32]
 }
 
 /// The first pin from `from` on whose signal has no level yet.
-fn first_without_level(marks: &[Mark], pins: &[u32], from: usize) -> Option<usize> {
+fn first_without_level(marks: &[Mark], pins: &[u32], from: usize) -> Option<usize>
+    requires { (p : ℕ) → Contains pins.now p → p < length marks.now }
+    ensures { MatchOption result
+        ((i : ℕ) → from ≤ i → i < length pins.now → IsLevelled marks.now (slice_index pins.now i))
+        (λ pin. (from ≤ pin) × (pin < length pins.now) × (¬ IsLevelled marks.now (slice_index pins.now pin))
+            × ((i : ℕ) → from ≤ i → i < pin → IsLevelled marks.now (slice_index pins.now i))) }
+{
     for pin in from..pins.len() {
         match marks[pins[pin] as usize] {
             Mark::Level(_) => {}
@@ -66,7 +81,11 @@ fn first_without_level(marks: &[Mark], pins: &[u32], from: usize) -> Option<usiz
 }
 
 /// One more than the greatest level of the signals.
-fn level_above(marks: &[Mark], pins: &[u32]) -> u32 {
+fn level_above(marks: &[Mark], pins: &[u32]) -> u32
+    requires below { (p : ℕ) → Contains pins.now p → p < length marks.now }
+    requires small { (p : ℕ) → Contains pins.now p → level_or_zero marks.now p + 1 < 2 ^ 32 }
+    ensures { result ≡ 1 + greatest (map (level_or_zero marks.now) pins.now) }
+{
     let mut greatest = 0;
     for pin in pins {
         if let Mark::Level(level) = marks[*pin as usize] {
@@ -84,7 +103,20 @@ fn level_gate(
     marks: &mut Vec<Mark>,
     path: &mut Vec<Step>,
     root: u32,
-) -> Result<(), LevelFault> {
+) -> Result<(), LevelFault>
+    requires few { length definitions.now < 2 ^ 32 }
+    requires graph { IsGraph lines.now definitions.now }
+    requires marks { AreMarks (gate_pins lines.now definitions.now) (length definitions.now) marks.old.items }
+    requires closed { NoneOpen marks.old.items }
+    requires path { path.old.items ≡ [] }
+    requires root { slice_get marks.old.items root ≡ Some Mark.Unvisited }
+    ensures marks { OnOk result (AreMarks (gate_pins lines.now definitions.now) (length definitions.now) marks.new.items) }
+    ensures closed { OnOk result (NoneOpen marks.new.items) }
+    ensures path { OnOk result (path.new.items ≡ []) }
+    ensures keeps { OnOk result (KeepsLevels marks.old.items marks.new.items) }
+    ensures root { OnOk result (IsLevelled marks.new.items root) }
+    ensures fault { IfErr result (IsRootFault (gate_pins lines.now definitions.now) root) }
+{
     path.push(Step { gate: root, pin: 0 })?;
     marks[root as usize] = Mark::Open;
     while let Some(step) = path.pop() {
@@ -93,7 +125,7 @@ fn level_gate(
             None => marks[step.gate as usize] = Mark::Level(level_above(marks, pins)),
             Some(pin) => {
                 let signal = pins[pin];
-                if marks[signal as usize] == Mark::Open {
+                if let Mark::Open = marks[signal as usize] {
                     return Err(LevelFault::Cycle(root));
                 }
                 path.push(Step {
@@ -116,7 +148,11 @@ fn first_marks(
     alloc: Global,
     lines: &[Line],
     definitions: &[u32],
-) -> Result<Vec<Mark>, AllocError> {
+) -> Result<Vec<Mark>, AllocError>
+    requires graph { IsGraph lines.now definitions.now }
+    ensures marks { IfOk result (λ marks. AreMarks (gate_pins lines.now definitions.now) (length definitions.now) marks.items) }
+    ensures closed { IfOk result (λ marks. NoneOpen marks.items) }
+{
     let mut marks = Vec::with_capacity(alloc, definitions.len())?;
     for place in definitions {
         marks.push(match &lines[*place as usize] {
@@ -128,7 +164,9 @@ fn first_marks(
 }
 
 /// The level of a mark that has one.
-fn marked_level(mark: &Mark) -> u32 {
+fn level_of(mark: &Mark) -> u32
+    ensures { result ≡ unwrap_or (level_of_mark (Some mark.now)) 0 }
+{
     match mark {
         Mark::Level(level) => *level,
         Mark::Unvisited | Mark::Open => 0,
@@ -142,19 +180,27 @@ fn signal_levels(
     alloc: Global,
     lines: &[Line],
     definitions: &[u32],
-) -> Result<Vec<u32>, LevelFault> {
+) -> Result<Vec<u32>, LevelFault>
+    requires few { length definitions.now < 2 ^ 32 }
+    requires graph { IsGraph lines.now definitions.now }
+    ensures levels { IfOk result (λ levels. AreLevelsOf (gate_pins lines.now definitions.now) (length definitions.now) levels.items) }
+    ensures small { IfOk result (λ levels. (s : ℕ) → s < length levels.items → slice_index levels.items s < length levels.items) }
+    ensures fault { IfErr result (IsLevelFault (gate_pins lines.now definitions.now) (length definitions.now)) }
+{
     let mut marks = first_marks(alloc, lines, definitions)?;
     let mut path = Vec::new(alloc);
     for signal in 0..definitions.len() {
-        if marks[signal] == Mark::Unvisited {
+        if let Mark::Unvisited = marks[signal] {
             level_gate(lines, definitions, &mut marks, &mut path, signal as u32)?;
         }
     }
-    Ok(marks.iter().map(|mark| marked_level(mark)).collect(alloc)?)
+    Ok(marks.iter().map(|mark| level_of(mark)).collect(alloc)?)
 }
 
 /// The greatest of some levels, and 0 where there is none.
-fn greatest(levels: &[u32]) -> u32 {
+fn greatest(levels: &[u32]) -> u32
+    ensures { result ≡ greatest levels.now }
+{
     let mut greatest = 0;
     for level in levels {
         greatest = greatest.max(*level);
