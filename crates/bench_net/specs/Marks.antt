@@ -1,5 +1,5 @@
 -- Gates by the numbers of their signals, their levels, and the marks of a search for levels.
-use Rattle.std.specs.Prelude.{◌≡◌, ◌≢◌, ℕ, ◌+◌, ◌<◌, List, [], map, length, Contains, Option, Some, None, slice_get, slice_index, unwrap_or, is_some, count_by, Bool, true, false}
+use Rattle.std.specs.Prelude.{◌≡◌, ◌≢◌, ℕ, ◌+◌, ◌<◌, ◌≤◌, ◌^◌, List, [], map, length, Contains, Option, Some, None, slice_get, slice_index, unwrap_or, is_some, count_by, Bool, true, false}
 use Rattle.bench_net.specs.declared.line.Line.{Line}
 use Rattle.bench_net.specs.declared.line.Line.TheVariants as line
 use Rattle.bench_net.specs.declared.levels.Mark.{Mark}
@@ -20,6 +20,7 @@ gate_pins lines definitions s = line_pins (slice_get lines (slice_index definiti
 -- each signal has a line, and each pin reads a signal
 pub record IsGraph (lines : List Line) (definitions : List ℕ) : Type 0 where
   pub has_line : (s : ℕ) → s < length definitions → slice_index definitions s < length lines
+  pub few_pins : (s : ℕ) (pins : List ℕ) → s < length definitions → gate_pins lines definitions s ≡ Some pins → length pins < 2 ^ 32
   pub pins_below : (s p : ℕ) (pins : List ℕ) → s < length definitions → gate_pins lines definitions s ≡ Some pins → Contains pins p → p < length definitions
 
 -- the level that a signal has when its pins have these levels
@@ -59,12 +60,21 @@ abbrev pub level_of_mark : Option Mark → Option ℕ
 level_of_mark (Some (Level k)) = Some k
 level_of_mark _ = None
 
+-- the mark of a signal by the pins of its gate, before any gate is followed
+abbrev pub mark_from : Option (List ℕ) → Mark
+mark_from None = Level 0
+mark_from (Some pins) = Unvisited
+
 abbrev pub marked_level : List Mark → ℕ → Option ℕ
 marked_level marks s = level_of_mark (slice_get marks s)
 
 abbrev pub has_level : Mark → Bool
 has_level (Level k) = true
 has_level _ = false
+
+abbrev pub is_unvisited : Mark → Bool
+is_unvisited Unvisited = true
+is_unvisited _ = false
 
 abbrev pub IsLevelled : List Mark → ℕ → Type 0
 IsLevelled marks s = (k : ℕ) × (marked_level marks s ≡ Some k)
@@ -77,12 +87,12 @@ abbrev pub PinsLevelled : List Mark → Option (List ℕ) → Type 0
 PinsLevelled marks None = Unit {0}
 PinsLevelled marks (Some pins) = (p : ℕ) → Contains pins p → IsLevelled marks p
 
--- The marked levels are levels of the signals, each less than their number; a signal with none is a gate's.
+-- The marked levels are levels of the signals, none above their number; a signal with none is a gate's.
 pub record AreMarks (pins : ℕ → Option (List ℕ)) (signals : ℕ) (marks : List Mark) : Type 0 where
   pub count : length marks ≡ signals
   pub pins_levelled : (s : ℕ) → IsLevelled marks s → PinsLevelled marks (pins s)
   pub levels : (s k : ℕ) → marked_level marks s ≡ Some k → k ≡ level_from (level_or_zero marks) (pins s)
-  pub small : (s k : ℕ) → marked_level marks s ≡ Some k → k < count_by has_level marks
+  pub small : (s k : ℕ) → marked_level marks s ≡ Some k → k ≤ count_by has_level marks
   pub gates : (s : ℕ) → s < signals → marked_level marks s ≡ None → (read : List ℕ) × (pins s ≡ Some read)
 
 -- no gate is being followed

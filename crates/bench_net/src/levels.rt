@@ -2,8 +2,9 @@
 
 ghost use Rattle.std.specs.Prelude.{◌≡◌, ◌+◌, ◌^◌, ◌<◌, ◌≤◌, ℕ, length, map, slice_index, slice_get, unwrap_or, Contains, Some, [], IfOk, IfErr, OnOk, MatchOption};
 ghost use Rattle.bench_net.specs.Level.{greatest};
-ghost use Rattle.bench_net.specs.Marks.{gate_pins, IsGraph, AreLevelsOf, IsLevelFault, IsRootFault, IsLevelled, level_or_zero, AreMarks, NoneOpen, KeepsLevels, level_of_mark};
+ghost use Rattle.bench_net.specs.Marks.{gate_pins, IsGraph, AreLevelsOf, IsLevelFault, IsRootFault, IsLevelled, level_or_zero, AreMarks, NoneOpen, KeepsLevels, level_of_mark, mark_from, line_pins};
 ghost use Rattle.bench_net.specs.declared.levels.Mark.{Mark};
+ghost use Rattle.bench_net.specs.declared.levels.LevelFault.TheVariants.{Memory};
 
 use crate::line::Line;
 use crate::rows::rows_of;
@@ -25,12 +26,16 @@ pub enum LevelFault {
 }
 
 impl From<AllocError> for LevelFault {
+    ghost from_gives = { λ _ fault. fault ≡ Memory };
+
     fn from(_error: AllocError) -> LevelFault {
         LevelFault::Memory
     }
 }
 
 impl<T: Drop> From<AllocFailed<T>> for LevelFault {
+    ghost from_gives = { λ _ fault. fault ≡ Memory };
+
     fn from(_error: AllocFailed<T>) -> LevelFault {
         LevelFault::Memory
     }
@@ -63,6 +68,16 @@ fn pins_of<'a>(lines: &'a [Line], definitions: &[u32], signal: u32) -> &'a [u32]
     }
 }
 
+/// The level of a mark, and 0 where it has none.
+fn level_of(mark: &Mark) -> u32
+    ensures { result ≡ unwrap_or (level_of_mark (Some mark.now)) 0 }
+{
+    match mark {
+        Mark::Level(level) => *level,
+        Mark::Unvisited | Mark::Open => 0,
+    }
+}
+
 /// The first pin from `from` on whose signal has no level yet.
 fn first_without_level(marks: &[Mark], pins: &[u32], from: usize) -> Option<usize>
     requires { (p : ℕ) → Contains pins.now p → p < length marks.now }
@@ -88,9 +103,7 @@ fn level_above(marks: &[Mark], pins: &[u32]) -> u32
 {
     let mut greatest = 0;
     for pin in pins {
-        if let Mark::Level(level) = marks[*pin as usize] {
-            greatest = greatest.max(level);
-        }
+        greatest = greatest.max(level_of(&marks[*pin as usize]));
     }
     greatest + 1
 }
@@ -104,7 +117,7 @@ fn level_gate(
     path: &mut Vec<Step>,
     root: u32,
 ) -> Result<(), LevelFault>
-    requires few { length definitions.now < 2 ^ 32 }
+    requires few { length definitions.now < 2 ^ 31 }
     requires graph { IsGraph lines.now definitions.now }
     requires marks { AreMarks (gate_pins lines.now definitions.now) (length definitions.now) marks.old.items }
     requires closed { NoneOpen marks.old.items }
@@ -143,7 +156,17 @@ fn level_gate(
     Ok(())
 }
 
-/// The marks before any gate is followed: a source has level 0.
+/// The mark of a line's signal before any gate is followed: a source has level 0.
+fn first_mark(line: &Line) -> Mark
+    ensures { result ≡ mark_from (line_pins (Some line.now)) }
+{
+    match line {
+        Line::Gate(_, _) => Mark::Unvisited,
+        _ => Mark::Level(0),
+    }
+}
+
+/// The marks before any gate is followed.
 fn first_marks(
     alloc: Global,
     lines: &[Line],
@@ -155,22 +178,9 @@ fn first_marks(
 {
     let mut marks = Vec::with_capacity(alloc, definitions.len())?;
     for place in definitions {
-        marks.push(match &lines[*place as usize] {
-            Line::Gate(_, _) => Mark::Unvisited,
-            _ => Mark::Level(0),
-        })?;
+        marks.push(first_mark(&lines[*place as usize]))?;
     }
     Ok(marks)
-}
-
-/// The level of a mark that has one.
-fn level_of(mark: &Mark) -> u32
-    ensures { result ≡ unwrap_or (level_of_mark (Some mark.now)) 0 }
-{
-    match mark {
-        Mark::Level(level) => *level,
-        Mark::Unvisited | Mark::Open => 0,
-    }
 }
 
 /// The level of each signal: 0 for a source, and for a gate one more than the greatest of its pins'
@@ -181,10 +191,10 @@ fn signal_levels(
     lines: &[Line],
     definitions: &[u32],
 ) -> Result<Vec<u32>, LevelFault>
-    requires few { length definitions.now < 2 ^ 32 }
+    requires few { length definitions.now < 2 ^ 31 }
     requires graph { IsGraph lines.now definitions.now }
     ensures levels { IfOk result (λ levels. AreLevelsOf (gate_pins lines.now definitions.now) (length definitions.now) levels.items) }
-    ensures small { IfOk result (λ levels. (s : ℕ) → s < length levels.items → slice_index levels.items s < length levels.items) }
+    ensures small { IfOk result (λ levels. (s : ℕ) → s < length levels.items → slice_index levels.items s ≤ length levels.items) }
     ensures fault { IfErr result (IsLevelFault (gate_pins lines.now definitions.now) (length definitions.now)) }
 {
     let mut marks = first_marks(alloc, lines, definitions)?;
