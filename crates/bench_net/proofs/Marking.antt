@@ -251,3 +251,13 @@ first_closed pins n marks len at s e = go (pins s) (sym (at s (omega (arith, len
     go : (o : Option (List ℕ)) → Some (mark_from o) ≡ Some Open → ⊥
     go None h = cc
     go (Some read) h = cc
+
+-- the greatest of some numbers, by their places
+pub greatest-at : (xs : List ℕ) (i : ℕ) → i < length xs → get_or xs i 0 ≤ greatest xs
+greatest-at [] i h = absurd (omega (arith, h))
+greatest-at (x ∷ xs) zero h = omega (arith, greatest-cons x xs)
+greatest-at (x ∷ xs) (suc i) h = omega (arith, greatest-cons x xs, greatest-at xs i (omega (arith, h)))
+
+pub greatest-within : (xs : List ℕ) (m : ℕ) → ((i : ℕ) → i < length xs → get_or xs i 0 ≤ m) → greatest xs ≤ m
+greatest-within [] m h = omega arith
+greatest-within (x ∷ xs) m h = omega (arith, greatest-cons x xs, h 0 (omega arith), greatest-within xs m (λ i lt. h (suc i) (omega (arith, lt))))

@@ -1,7 +1,8 @@
 //! The levels of signals, or a gate that has none: on a cycle of gates or fed by one.
 
-ghost use Rattle.std.specs.Prelude.{◌≡◌, ◌+◌, ◌^◌, ◌<◌, ◌≤◌, ℕ, length, map, slice_index, slice_get, unwrap_or, Contains, Some, [], IfOk, IfErr, OnOk, MatchOption};
+ghost use Rattle.std.specs.Prelude.{◌≡◌, ◌+◌, ◌^◌, ◌<◌, ◌≤◌, ℕ, List, length, map, slice_index, slice_get, unwrap_or, Contains, Some, [], IfOk, IfErr, OnOk, MatchOption};
 ghost use Rattle.bench_net.specs.Level.{greatest};
+ghost use Rattle.bench_net.specs.Rows.{AreRows};
 ghost use Rattle.bench_net.specs.Marks.{gate_pins, IsGraph, AreLevelsOf, IsLevelFault, IsRootFault, IsLevelled, level_or_zero, AreMarks, NoneOpen, KeepsLevels, level_of_mark, mark_from, line_pins};
 ghost use Rattle.bench_net.specs.declared.levels.Mark.{Mark};
 ghost use Rattle.bench_net.specs.declared.levels.LevelFault.TheVariants.{Memory};
@@ -183,6 +184,13 @@ fn first_marks(
     Ok(marks)
 }
 
+/// The levels of marks that all have one.
+fn marked_levels(alloc: Global, marks: &[Mark]) -> Result<Vec<u32>, AllocError>
+    ensures { IfOk result (λ levels. levels.items ≡ map (λ mark. unwrap_or (level_of_mark (Some mark)) 0) marks.now) }
+{
+    marks.iter().map(|mark| level_of(mark)).collect(alloc)
+}
+
 /// The level of each signal: 0 for a source, and for a gate one more than the greatest of its pins'
 /// signals. The gates are followed in the order of their numbers, so the first that can't be given a
 /// level is the lowest.
@@ -204,7 +212,7 @@ fn signal_levels(
             level_gate(lines, definitions, &mut marks, &mut path, signal as u32)?;
         }
     }
-    Ok(marks.iter().map(|mark| level_of(mark)).collect(alloc)?)
+    Ok(marked_levels(alloc, &marks)?)
 }
 
 /// The greatest of some levels, and 0 where there is none.
@@ -223,7 +231,14 @@ pub fn levels_of(
     alloc: Global,
     lines: &[Line],
     definitions: &[u32],
-) -> Result<Levels, LevelFault> {
+) -> Result<Levels, LevelFault>
+    requires few { length definitions.now < 2 ^ 31 }
+    requires graph { IsGraph lines.now definitions.now }
+    ensures levels { IfOk result (λ l. AreLevelsOf (gate_pins lines.now definitions.now) (length definitions.now) l.levels.items) }
+    ensures order { IfOk result (λ l. (starts : List ℕ) × AreRows l.levels.items (l.depth + 1) starts l.order.items) }
+    ensures depth { IfOk result (λ l. l.depth ≡ greatest l.levels.items) }
+    ensures fault { IfErr result (IsLevelFault (gate_pins lines.now definitions.now) (length definitions.now)) }
+{
     let levels = signal_levels(alloc, lines, definitions)?;
     let depth = greatest(&levels);
     let order = rows_of(alloc, &levels, depth as usize + 1)?.places;
