@@ -1,8 +1,8 @@
 //! The tables that are lists of a circuit's lines: inputs, outputs, cells, places in a test row, definitions.
 
-ghost use Rattle.std.specs.Prelude.{◌≡◌, ◌^◌, ◌<◌, length, IfOk};
+ghost use Rattle.std.specs.Prelude.{◌≡◌, ◌^◌, ◌++◌, ◌<◌, ℕ, map, length, slice_index, IfOk};
 ghost use Rattle.std.specs.List.{filter_map};
-ghost use Rattle.bench_net.specs.Tables.{input_number, output_number, cell_numbers, defined_number};
+ghost use Rattle.bench_net.specs.Tables.{input_number, output_number, cell_numbers, defined_number, AreDefinitions, ArePlaces};
 
 use crate::ScanCell;
 use crate::line::Line;
@@ -92,6 +92,7 @@ pub fn cells(alloc: Global, lines: &[Line]) -> Result<Vec<ScanCell>, AllocError>
 /// Of each signal the place, among all lines, of the line that defines it.
 pub fn definitions(alloc: Global, lines: &[Line]) -> Result<Vec<u32>, AllocError>
     requires { length lines.now < 2 ^ 32 }
+    ensures { IfOk result (λ places. AreDefinitions lines.now places.items) }
 {
     let mut places = Vec::new(alloc);
     for (place, line) in lines.iter().enumerate() {
@@ -107,7 +108,9 @@ pub fn sources(
     alloc: Global,
     inputs: &[u32],
     cells: &[ScanCell],
-) -> Result<Vec<u32>, AllocError> {
+) -> Result<Vec<u32>, AllocError>
+    ensures { IfOk result (λ sources. sources.items ≡ inputs.now ++ map (λ cell. cell.q) cells.now) }
+{
     inputs.iter().copied().chain(cells.iter().map(|cell| cell.q)).collect(alloc)
 }
 
@@ -116,7 +119,11 @@ pub fn source_places(
     alloc: Global,
     sources: &[u32],
     signals: usize,
-) -> Result<Vec<Option<u32>>, AllocError> {
+) -> Result<Vec<Option<u32>>, AllocError>
+    requires few { length sources.now < 2 ^ 32 }
+    requires below { (i : ℕ) → i < length sources.now → slice_index sources.now i < signals }
+    ensures { IfOk result (λ places. ArePlaces sources.now signals places.items) }
+{
     let mut places = vec![in alloc; None; signals]?;
     for (place, source) in sources.iter().enumerate() {
         places[*source as usize] = Some(place as u32);
