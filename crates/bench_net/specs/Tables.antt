@@ -1,6 +1,8 @@
 -- Tables of stored lines, by the numbers that the lines hold.
-use Rattle.std.specs.Prelude.{◌≡◌, ◌≢◌, ℕ, ◌+◌, ◌<◌, ◌≤◌, ◌^◌, ◌==◌, Bool, List, [], ◌∷◌, ◌++◌, map, filter, length, Contains, Option, Some, None, is_some, slice_get, slice_index, slice_range}
-use Rattle.std.specs.List.{enumerate_from}
+use Rattle.std.specs.Prelude.{◌≡◌, ◌≢◌, ℕ, ◌+◌, ◌<◌, ◌≤◌, ◌^◌, ◌==◌, Bool, List, [], ◌∷◌, ◌++◌, map, flat_map, filter, length, Contains, Option, Some, None, is_some, slice_get, slice_index, slice_range}
+use Rattle.std.specs.List.{enumerate_from, filter_map}
+use Rattle.bench_net.specs.declared.tables.Tables.{Tables}
+use Rattle.bench_net.specs.Stored.{defined_numbers, read_numbers}
 use Rattle.bench_net.specs.declared.line.Line.{Line}
 use Rattle.bench_net.specs.declared.line.Line.TheVariants as line
 use Rattle.bench_net.specs.declared.ScanCell.{ScanCell}
@@ -79,3 +81,20 @@ pub record AreSinkRows (readers : List Reader) (signals : ℕ) (starts : List �
 abbrev pub PinsFit : Line → Type 0
 PinsFit (line.Gate s gate) = length gate.pins.items < 2 ^ 32
 PinsFit _ = Unit {0}
+
+-- lines few enough to be numbered, whose numbers are all below a number of signals
+pub record AreTableLines (lines : List Line) (signals : ℕ) : Type 0 where
+  pub few_lines : length lines < 2 ^ 31
+  pub few_signals : signals < 2 ^ 31
+  pub few_reads : length (flat_map read_numbers lines) < 2 ^ 31
+  pub defined_below : (s : ℕ) → Contains (flat_map defined_numbers lines) s → s < signals
+  pub read_below : (s : ℕ) → Contains (flat_map read_numbers lines) s → s < signals
+
+-- the tables of lines over numbered signals
+pub record AreTables (lines : List Line) (signals : ℕ) (tables : Tables) : Type 0 where
+  pub inputs_are : tables.inputs.items ≡ filter_map input_number lines
+  pub cells_are : tables.cells.items ≡ filter_map cell_numbers lines
+  pub outputs_are : tables.outputs.items ≡ filter_map output_number lines
+  pub places_are : ArePlaces (filter_map input_number lines ++ map (λ cell. cell.q) (filter_map cell_numbers lines)) signals tables.source_places.items
+  pub definitions_are : AreDefinitions lines tables.definitions.items
+  pub sinks_are : AreSinkRows (all_readers lines (filter_map output_number lines)) signals tables.sinks.starts.items tables.sinks.sinks.items

@@ -2,7 +2,7 @@
 
 ghost use Rattle.std.specs.Prelude.{◌≡◌, ◌^◌, ◌++◌, ◌<◌, ℕ, map, length, slice_index, IfOk};
 ghost use Rattle.std.specs.List.{filter_map};
-ghost use Rattle.bench_net.specs.Tables.{input_number, output_number, cell_numbers, defined_number, AreDefinitions, ArePlaces};
+ghost use Rattle.bench_net.specs.Tables.{input_number, output_number, cell_numbers, defined_number, AreDefinitions, ArePlaces, AreTableLines, AreTables};
 
 use crate::ScanCell;
 use crate::line::Line;
@@ -132,7 +132,10 @@ pub fn source_places(
 }
 
 /// The tables of lines that number their signals below `signals`.
-pub fn tables_of(alloc: Global, lines: &[Line], signals: usize) -> Result<Tables, AllocError> {
+pub fn tables_of(alloc: Global, lines: &[Line], signals: usize) -> Result<Tables, AllocError>
+    requires { AreTableLines lines.now signals }
+    ensures { IfOk result (AreTables lines.now signals) }
+{
     let inputs = input_signals(alloc, lines)?;
     let cells = cells(alloc, lines)?;
     let outputs = output_signals(alloc, lines)?;
