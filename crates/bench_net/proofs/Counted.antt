@@ -128,7 +128,7 @@ lines_read cell (line.Gate s g ∷ lines) reader a = go (lines_read cell lines r
 lines_read cell (line.Dff q d ∷ lines) reader (inl e) = inl (ap (λ r. r.signal) e)
 lines_read cell (line.Dff q d ∷ lines) reader (inr a) = inr (lines_read (cell + 1) lines reader a)
 
-outputs_read : (lines : List Line) (s : ℕ) → Among s (filter_map output_number lines) → Among s (flat_map read_numbers lines)
+pub outputs_read : (lines : List Line) (s : ℕ) → Among s (filter_map output_number lines) → Among s (flat_map read_numbers lines)
 outputs_read [] s a = absurd a
 outputs_read (line.Input t ∷ lines) s a = outputs_read lines s a
 outputs_read (line.Output t ∷ lines) s (inl e) = inl e

@@ -136,7 +136,7 @@ definer_among (line.Output t ∷ lines) l s (inr a) d = definer_among lines l s 
 definer_among (line.Gate t g ∷ lines) l s (inr a) d = inr (definer_among lines l s a d)
 definer_among (line.Dff q d' ∷ lines) l s (inr a) d = inr (definer_among lines l s a d)
 
-index_of : {X : Type 0} (xs : List X) (x : X) → Among x xs → (i : ℕ) × (slice_get xs i ≡ Some x)
+pub index_of : {X : Type 0} (xs : List X) (x : X) → Among x xs → (i : ℕ) × (slice_get xs i ≡ Some x)
 index_of [] x a = absurd a
 index_of (y ∷ xs) x (inl e) = (0, ap Some e)
 index_of (y ∷ xs) x (inr a) = let i = index_of xs x a in (suc i.0, i.1)
