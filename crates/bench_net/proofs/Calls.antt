@@ -50,7 +50,7 @@ pub call_inputs : (ns : List Name) (lines : List Line) (tables : Tables) (levels
 call_inputs ns lines tables levels inside =
     inside.tables_are.inputs_are
     ∙ (sym (map_signal ns lines (filter_map input_number lines) (named ns lines tables levels inside)
-        (λ s a. source_in ns lines s inside.numbered (left_among (filter_map input_number lines) (map (λ cell. cell.q) (filter_map cell_numbers lines)) s a)))
+    (λ s a. source_in ns lines s inside.numbered (left_among (filter_map input_number lines) (map (λ cell. cell.q) (filter_map cell_numbers lines)) s a)))
     ∙ ap (map (signal (statements_of ns lines))) (sym (inputs_are ns lines)))
 
 pub call_outputs : (ns : List Name) (lines : List Line) (tables : Tables) (levels : Levels) → IsInside ns lines tables levels
@@ -103,8 +103,15 @@ call_cells ns lines tables levels inside =
 pub call_sources : (ns : List Name) (lines : List Line) (tables : Tables) (levels : Levels) → IsInside ns lines tables levels
     → length tables.inputs.items + length tables.cells.items ≡ length (sources (statements_of ns lines))
 call_sources ns lines tables levels inside =
-    omega (arith, ap length (sources_are ns lines), length-map (source_numbers lines) (name_at ns), length-append (filter_map input_number lines) (map (λ cell. cell.q) (filter_map cell_numbers lines)),
-    length-map (filter_map cell_numbers lines) (λ cell. cell.q), ap length inside.tables_are.inputs_are, ap length inside.tables_are.cells_are)
+    omega (
+      arith,
+      ap length (sources_are ns lines),
+      length-map (source_numbers lines) (name_at ns),
+      length-append (filter_map input_number lines) (map (λ cell. cell.q) (filter_map cell_numbers lines)),
+      length-map (filter_map cell_numbers lines) (λ cell. cell.q),
+      ap length inside.tables_are.inputs_are,
+      ap length inside.tables_are.cells_are,
+    )
 
 pub few_source : (ns : List Name) (lines : List Line) (tables : Tables) (levels : Levels) → IsInside ns lines tables levels → length tables.inputs.items + length tables.cells.items ≤ 1000000
 few_source ns lines tables levels inside =

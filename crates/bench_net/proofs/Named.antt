@@ -90,7 +90,7 @@ cells_are ns (line.Dff q d ∷ lines) = ap (λ xs. (name_at ns q, name_at ns d) 
 abbrev pub source_numbers : List Line → List ℕ
 source_numbers lines = filter_map input_number lines ++ map (λ cell. cell.q) (filter_map cell_numbers lines)
 
-q_names : (ns : List Name) (xs : List ScanCell) → map (λ cell. cell.0) (map (cell_names ns) xs) ≡ map (name_at ns) (map (λ cell. cell.q) xs)
+pub q_names : (ns : List Name) (xs : List ScanCell) → map (λ cell. cell.0) (map (cell_names ns) xs) ≡ map (name_at ns) (map (λ cell. cell.q) xs)
 q_names ns [] = refl
 q_names ns (x ∷ xs) = ap (λ ys. name_at ns x.q ∷ ys) (q_names ns xs)
 

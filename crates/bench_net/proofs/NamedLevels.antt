@@ -81,7 +81,7 @@ source_line lines s a = go (among_cases (filter_map input_number lines) (map (λ
     go (inr b) = cell lines b
 
 -- a name of a mapped list is that of a number
-named_among : (ns : List Name) (xs : List ℕ) (n : Name) → Among n (map (name_at ns) xs) → (s : ℕ) × Among s xs × (name_at ns s ≡ n)
+pub named_among : (ns : List Name) (xs : List ℕ) (n : Name) → Among n (map (name_at ns) xs) → (s : ℕ) × Among s xs × (name_at ns s ≡ n)
 named_among ns [] n a = absurd a
 named_among ns (x ∷ xs) n (inl e) = (x, inl refl, e)
 named_among ns (x ∷ xs) n (inr a) = let found = named_among ns xs n a in (found.0, inr found.1, found.2)

@@ -293,6 +293,8 @@ pub cycle : (pins : ℕ → Option (List ℕ)) (n : ℕ) (old marks : List Mark)
     → pins step.gate ≡ Some read → Contains read p → slice_get marks p ≡ Some Open → IsStuckAt pins root
 cycle pins n old marks path root step read p search is reads opened_at =
     let members : List ℕ = gates_of (path ++ step ∷ []) in
-    let all = λ (g : ℕ) (a : Among g (gates_of (path ++ step ∷ []))). contained (gates_of (path ++ step ∷ [])) g a in
-    (members, λ m c. stuck_gates pins marks path step members search.is_path all (read, p, is, reads, all p (search.opens p opened_at)) m (among members m c),
-     all root (root_in marks root path step search.starts))
+    let all = λ (g : ℕ) (a : Among g (gates_of (path ++ step ∷ []))). contained (gates_of (path ++ step ∷ [])) g a in (
+      members,
+      λ m c. stuck_gates pins marks path step members search.is_path all (read, p, is, reads, all p (search.opens p opened_at)) m (among members m c),
+      all root (root_in marks root path step search.starts),
+    )

@@ -64,7 +64,7 @@ impl Circuit {
     /// The flip-flop cells in order, under full scan: `q` is a source and `d` is observed.
     pub fn scan_cells(&self) -> &[ScanCell]
         ensures { map {B = ℕ × ℕ} (λ cell. (cell.q, cell.d)) result.now
-                    ≡ map (λ cell. (signal self.now cell.0, signal self.now cell.1)) (cells self.now) }
+            ≡ map (λ cell. (signal self.now cell.0, signal self.now cell.1)) (cells self.now) }
     {
         self.tables.cells.as_slice()
     }
@@ -152,7 +152,9 @@ pub fn circuit_of(alloc: Global, lines: Lines) -> Result<Circuit, BenchFault>
     if lines.is_empty() {
         return Err(BenchFault::Empty);
     }
-    let tables = tables_of(alloc, &lines, names.len()).map_err(|_| BenchFault::Memory)?;
+    let Ok(tables) = tables_of(alloc, &lines, names.len()) else {
+        return Err(BenchFault::Memory);
+    };
     match levels_of(alloc, &lines, &tables.definitions) {
         Ok(levels) => Ok(Circuit {
             names,

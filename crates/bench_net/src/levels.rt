@@ -85,7 +85,7 @@ fn first_without_level(marks: &[Mark], pins: &[u32], from: usize) -> Option<usiz
     ensures { MatchOption result
         ((i : ℕ) → from ≤ i → i < length pins.now → IsLevelled marks.now (slice_index pins.now i))
         (λ pin. (from ≤ pin) × (pin < length pins.now) × (¬ IsLevelled marks.now (slice_index pins.now pin))
-            × ((i : ℕ) → from ≤ i → i < pin → IsLevelled marks.now (slice_index pins.now i))) }
+        × ((i : ℕ) → from ≤ i → i < pin → IsLevelled marks.now (slice_index pins.now i))) }
 {
     for pin in from..pins.len() {
         match marks[pins[pin] as usize] {
@@ -168,11 +168,7 @@ fn first_mark(line: &Line) -> Mark
 }
 
 /// The marks before any gate is followed.
-fn first_marks(
-    alloc: Global,
-    lines: &[Line],
-    definitions: &[u32],
-) -> Result<Vec<Mark>, AllocError>
+fn first_marks(alloc: Global, lines: &[Line], definitions: &[u32]) -> Result<Vec<Mark>, AllocError>
     requires graph { IsGraph lines.now definitions.now }
     ensures marks { IfOk result (λ marks. AreMarks (gate_pins lines.now definitions.now) (length definitions.now) marks.items) }
     ensures closed { IfOk result (λ marks. NoneOpen marks.items) }
@@ -194,11 +190,7 @@ fn marked_levels(alloc: Global, marks: &[Mark]) -> Result<Vec<u32>, AllocError>
 /// The level of each signal: 0 for a source, and for a gate one more than the greatest of its pins'
 /// signals. The gates are followed in the order of their numbers, so the first that can't be given a
 /// level is the lowest.
-fn signal_levels(
-    alloc: Global,
-    lines: &[Line],
-    definitions: &[u32],
-) -> Result<Vec<u32>, LevelFault>
+fn signal_levels(alloc: Global, lines: &[Line], definitions: &[u32]) -> Result<Vec<u32>, LevelFault>
     requires few { length definitions.now < 2 ^ 31 }
     requires graph { IsGraph lines.now definitions.now }
     ensures levels { IfOk result (λ levels. AreLevelsOf (gate_pins lines.now definitions.now) (length definitions.now) levels.items) }
@@ -227,11 +219,7 @@ fn greatest(levels: &[u32]) -> u32
 }
 
 /// The levels of lines whose definitions stand at these places.
-pub fn levels_of(
-    alloc: Global,
-    lines: &[Line],
-    definitions: &[u32],
-) -> Result<Levels, LevelFault>
+pub fn levels_of(alloc: Global, lines: &[Line], definitions: &[u32]) -> Result<Levels, LevelFault>
     requires few { length definitions.now < 2 ^ 31 }
     requires graph { IsGraph lines.now definitions.now }
     ensures levels { IfOk result (λ l. AreLevelsOf (gate_pins lines.now definitions.now) (length definitions.now) l.levels.items) }

@@ -93,11 +93,7 @@ fn sinks_of(alloc: Global, readers: &[Reader], places: &[u32]) -> Result<Vec<Sin
 }
 
 /// The readers of all signals: gate pins and data pins by their lines, then the outputs.
-fn readers_of(
-    alloc: Global,
-    lines: &[Line],
-    outputs: &[u32],
-) -> Result<Vec<Reader>, AllocError>
+fn readers_of(alloc: Global, lines: &[Line], outputs: &[u32]) -> Result<Vec<Reader>, AllocError>
     requires few_lines { length lines.now < 2 ^ 32 }
     requires few_outputs { length outputs.now < 2 ^ 32 }
     requires pins { (l : Line) → Contains lines.now l → PinsFit l }

@@ -72,14 +72,20 @@ fn defined_by(line: &Line) -> Option<u32>
 pub fn input_signals(alloc: Global, lines: &[Line]) -> Result<Vec<u32>, AllocError>
     ensures { IfOk result (λ v. v.items ≡ filter_map input_number lines.now) }
 {
-    lines.iter().filter_map(|line| input_of(line)).collect(alloc)
+    lines
+        .iter()
+        .filter_map(|line| input_of(line))
+        .collect(alloc)
 }
 
 /// The signals of the OUTPUT lines, in order.
 pub fn output_signals(alloc: Global, lines: &[Line]) -> Result<Vec<u32>, AllocError>
     ensures { IfOk result (λ v. v.items ≡ filter_map output_number lines.now) }
 {
-    lines.iter().filter_map(|line| output_of(line)).collect(alloc)
+    lines
+        .iter()
+        .filter_map(|line| output_of(line))
+        .collect(alloc)
 }
 
 /// The flip-flop cells, in order.
@@ -104,14 +110,14 @@ pub fn definitions(alloc: Global, lines: &[Line]) -> Result<Vec<u32>, AllocError
 }
 
 /// The signals that take a bit of a test, in the order of a test row: the inputs, then the cells' q.
-pub fn sources(
-    alloc: Global,
-    inputs: &[u32],
-    cells: &[ScanCell],
-) -> Result<Vec<u32>, AllocError>
+pub fn sources(alloc: Global, inputs: &[u32], cells: &[ScanCell]) -> Result<Vec<u32>, AllocError>
     ensures { IfOk result (λ sources. sources.items ≡ inputs.now ++ map (λ cell. cell.q) cells.now) }
 {
-    inputs.iter().copied().chain(cells.iter().map(|cell| cell.q)).collect(alloc)
+    inputs
+        .iter()
+        .copied()
+        .chain(cells.iter().map(|cell| cell.q))
+        .collect(alloc)
 }
 
 /// Of each signal its place in a test row, if it is a source.

@@ -37,13 +37,13 @@ has_level_at marks s (Level k) lt e visited closed = (k, ap level_of_mark (slice
 pub loop-signal-preserved : goal.loop-signal-preserved
 loop-signal-preserved c =
     elim c.match-index.branch [
-    | in-Unvisited+in_ok-level_gate w ↦ rw (w.marks-is, w.path-is) (record {
+      | in-Unvisited+in_ok-level_gate w ↦ rw (w.marks-is, w.path-is) (record {
         marks_are = w.in_ok-level_gate.ensures.marks;
         closed = w.in_ok-level_gate.ensures.closed;
         path_is = w.in_ok-level_gate.ensures.path;
         levelled = one_more c.loop-signal.marks.items w.level_gate.new.marks.items c.loop-signal.signal w.in_ok-level_gate.ensures.keeps c.loop-signal.invariant.levelled w.in_ok-level_gate.ensures.root;
       })
-    | in_default w ↦ rw (w.marks-is, w.path-is) (record {
+      | in_default w ↦ rw (w.marks-is, w.path-is) (record {
         marks_are = c.loop-signal.invariant.marks_are;
         closed = c.loop-signal.invariant.closed;
         path_is = c.loop-signal.invariant.path_is;
