@@ -1,6 +1,18 @@
 //! A circuit: the statement list of a bench text, with its tables.
 
+ghost use Rattle.std.specs.Prelude.{◌≡◌, ◌≢◌, ◌<◌, ℕ, List, length, map, option_map, slice_get, string_bytes, IfOk, IfErr, IfSome, IfNone, ◌⊎◌};
+ghost use Rattle.bench_net.specs.declared.Kind.{Kind};
+ghost use Rattle.bench_net.specs.Scan.{names, signal, name_of, gate_of, inputs, outputs, cells, sources, sinks};
+ghost use Rattle.bench_net.specs.Circuit.{IsCircuit};
+ghost use Rattle.bench_net.specs.Level.{HasLevel, HasDepth, IsLevelOrder};
+ghost use Rattle.bench_net.specs.Stored.{statements_of, AreStatements, AreRefused};
+
+use crate::levels::{LevelFault, Levels, levels_of};
 use crate::line::Line;
+use crate::read::Lines;
+use crate::tables::{Tables, tables_of};
+use crate::{BenchFault, GateLine, ScanCell, Sink};
+use std::alloc::Global;
 use std::marker::Model;
 
 /// A circuit, seen by contracts as its statement list.
@@ -8,6 +20,8 @@ use std::marker::Model;
 pub struct Circuit {
     names: Vec<String>,
     lines: Vec<Line>,
+    tables: Tables,
+    levels: Levels,
 }
 
 impl Model for Circuit {
@@ -17,9 +31,175 @@ impl Model for Circuit {
     ghost Value = { List Statement };
 
     ghost use Rattle.bench_net.specs.Stored.{statements_of};
-    ghost use Rattle.bench_net.specs.Circuit.{IsCircuit};
+    ghost use Rattle.bench_net.specs.Inside.{IsInside};
 
     ghost view = { λ c. statements_of (map string_bytes c.names.items) c.lines.items };
 
-    ghost invariant = { λ c. IsCircuit (statements_of (map string_bytes c.names.items) c.lines.items) };
+    ghost invariant = { λ c. IsInside (map string_bytes c.names.items) c.lines.items c.tables c.levels };
+}
+
+impl Circuit {
+    /// The number of signals. Signals are numbered from 0 in the order of the lines that define them.
+    pub fn signals(&self) -> u32
+        ensures count { result ≡ length (names self.now) }
+        ensures circuit { IsCircuit self.now }
+    {
+        self.names.len() as u32
+    }
+
+    /// The width of a test row: one bit for each input, then one for each cell.
+    pub fn sources(&self) -> u32
+        ensures { result ≡ length (sources self.now) }
+    {
+        (self.tables.inputs.len() + self.tables.cells.len()) as u32
+    }
+
+    /// The signals of the INPUT lines, in order.
+    pub fn inputs(&self) -> &[u32]
+        ensures { result.now ≡ map (signal self.now) (inputs self.now) }
+    {
+        self.tables.inputs.as_slice()
+    }
+
+    /// The flip-flop cells in order, under full scan: `q` is a source and `d` is observed.
+    pub fn scan_cells(&self) -> &[ScanCell]
+        ensures { map {B = ℕ × ℕ} (λ cell. (cell.q, cell.d)) result.now
+            ≡ map (λ cell. (signal self.now cell.0, signal self.now cell.1)) (cells self.now) }
+    {
+        self.tables.cells.as_slice()
+    }
+
+    /// The signal of each OUTPUT line, in order.
+    pub fn outputs(&self) -> &[u32]
+        ensures { result.now ≡ map (signal self.now) (outputs self.now) }
+    {
+        self.tables.outputs.as_slice()
+    }
+
+    /// The place of a signal in a test row, from 0; `None` for the signal of a gate.
+    pub fn source_of(&self, signal: u32) -> Option<u32>
+        requires { signal < length (names self.now) }
+        ensures place { IfSome result (λ i. slice_get (sources self.now) i ≡ name_of self.now signal) }
+        ensures none { IfNone result ((i : ℕ) → slice_get (sources self.now) i ≢ name_of self.now signal) }
+    {
+        self.tables.source_places[signal as usize]
+    }
+
+    /// The name of a signal, as the text spells it.
+    pub fn name_of(&self, signal: u32) -> &str
+        requires { signal < length (names self.now) }
+        ensures { Some result.now ≡ name_of self.now signal }
+    {
+        self.names[signal as usize].as_str()
+    }
+
+    /// The gate that drives a signal; `None` for a source.
+    pub fn gate_of(&self, signal: u32) -> Option<&GateLine>
+        requires { signal < length (names self.now) }
+        ensures { option_map {U = Kind × List ℕ} (λ g. (g.now.kind, g.now.pins.items)) result ≡ gate_of self.now signal }
+    {
+        match &self.lines[self.tables.definitions[signal as usize] as usize] {
+            Line::Gate(_, gate) => Some(gate),
+            _ => None,
+        }
+    }
+
+    /// The readers of a signal: gate pins and data pins by the line of the reader and then by pin, and
+    /// after these the OUTPUT lines.
+    pub fn sinks_of(&self, signal: u32) -> &[Sink]
+        requires { signal < length (names self.now) }
+        ensures { (n : List ℕ) → name_of self.now signal ≡ Some n → result.now ≡ sinks self.now n }
+    {
+        let rows = &self.tables.sinks;
+        let start = rows.starts[signal as usize] as usize;
+        let end = rows.starts[signal as usize + 1] as usize;
+        &rows.sinks[start..end]
+    }
+
+    /// The level of a signal: 0 for a source, and for a gate one more than the greatest level of the
+    /// signals that its pins read (Bushnell and Agrawal, Essentials of Electronic Testing).
+    pub fn level_of(&self, signal: u32) -> u32
+        requires { signal < length (names self.now) }
+        ensures { HasLevel self.now signal result }
+    {
+        self.levels.levels[signal as usize]
+    }
+
+    /// All signals by level, and within a level by number.
+    pub fn in_level_order(&self) -> &[u32]
+        ensures { IsLevelOrder self.now result.now }
+    {
+        self.levels.order.as_slice()
+    }
+
+    /// The greatest level of a signal, and 0 where no signal is a gate's.
+    pub fn depth(&self) -> u32
+        ensures { HasDepth self.now result }
+    {
+        self.levels.depth
+    }
+}
+
+/// The circuit of numbered statements. Refused are lines with a gate on a cycle of gates or fed by one,
+/// with the number of the lowest such line, and no lines at all.
+pub fn circuit_of(alloc: Global, lines: Lines) -> Result<Circuit, BenchFault>
+    requires { AreStatements (map string_bytes lines.names.items) lines.lines.items lines.at.items }
+    ensures accepted { IfOk result (λ c. (c ≡ statements_of (map string_bytes lines.names.items) lines.lines.items) × IsCircuit c) }
+    ensures refused { IfErr result (λ fault. (fault ≡ BenchFault.Memory)
+        ⊎ AreRefused (map string_bytes lines.names.items) lines.lines.items lines.at.items fault) }
+{
+    let Lines { names, lines, at } = lines;
+    if lines.is_empty() {
+        return Err(BenchFault::Empty);
+    }
+    let Ok(tables) = tables_of(alloc, &lines, names.len()) else {
+        return Err(BenchFault::Memory);
+    };
+    match levels_of(alloc, &lines, &tables.definitions) {
+        Ok(levels) => Ok(Circuit {
+            names,
+            lines,
+            tables,
+            levels,
+        }),
+        Err(LevelFault::Memory) => Err(BenchFault::Memory),
+        Err(LevelFault::Cycle(signal)) => {
+            let place = tables.definitions[signal as usize];
+            Err(BenchFault::Cycle(at[place as usize]))
+        }
+    }
+}
+
+#[cfg(test)]
+mod tests {
+    use super::*;
+    use crate::Kind;
+    use smallvec::SmallVec;
+    use std::test::Fail;
+
+    /// A gate of these pins.
+    fn gate(alloc: Global, signal: u32, kind: Kind, pins: &[u32]) -> Result<Line, Fail> {
+        let pins = SmallVec::from_slice(alloc, pins)?;
+        Ok(Line::Gate(signal, GateLine { kind, pins }))
+    }
+
+    #[test]
+    fn chain_of_inverters(rt: HostRuntime) -> Result<(), Fail> {
+        let mut names = Vec::new(rt.alloc());
+        let mut lines = Vec::new(rt.alloc());
+        let mut at = Vec::new(rt.alloc());
+        for signal in 0..20_001u32 {
+            names.push(format!(in rt.alloc(); "n{signal}")?)?;
+            at.push(u64::from(signal) + 1)?;
+            if signal == 0 {
+                lines.push(Line::Input(0))?;
+            } else {
+                lines.push(gate(rt.alloc(), signal, Kind::Not, &[signal - 1])?)?;
+            }
+        }
+        let circuit = circuit_of(rt.alloc(), Lines { names, lines, at }).map_err(|_| "fault")?;
+        assert_eq!(rt; circuit.depth(), 20_000);
+        assert_eq!(rt; circuit.level_of(7), 7);
+        Ok(())
+    }
 }

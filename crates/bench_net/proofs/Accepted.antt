@@ -1,0 +1,76 @@
+-- Numbered statements with levels are a circuit, and what its tables need.
+use Rattle.std.proofs.Common.{◌≡◌, ◌≢◌, ◌<◌, ◌≤◌, ◌+◌, ◌^◌, ℕ, zero, suc, sym, ◌∙◌, ap, subst, refl, List, [], ◌∷◌, ◌++◌, map, length, get_or, arith, inl, inr, ◌⊎◌, length-append}
+use Rattle.std.specs.Prelude.{Option, Some, None, slice_get, slice_index, Contains, AllPairs, flat_map}
+use Rattle.std.proofs.lemmas.List.{length-map, map-append}
+use Rattle.std.proofs.lemmas.Option.{slice_get_within}
+use Rattle.bench_net.specs.declared.line.Line.{Line}
+use Rattle.bench_net.specs.declared.line.Line.TheVariants as line
+use Rattle.bench_net.specs.Statement.{Name, Statement, read}
+use Rattle.bench_net.specs.Scan.{names}
+use Rattle.bench_net.specs.Circuit.{IsCircuit, IsWellFormed, sink_count}
+use Rattle.bench_net.specs.Stored.{name_at, statement_of, statements_of, defined_numbers, read_numbers, AreNumbered, AreStatements}
+use Rattle.bench_net.specs.Tables.{AreTableLines, AreDefinitions}
+use Rattle.bench_net.specs.Marks.{gate_pins, IsGraph, AreLevelsOf}
+use Rattle.bench_net.proofs.Members.{Among, among, contained}
+use Rattle.bench_net.proofs.Counted.{few_lines, pins_read, pin_count}
+use Rattle.bench_net.proofs.Named.{AreNamed, line_at, gate_at, definition_count}
+use Rattle.bench_net.proofs.Calls.{defined_in}
+use Rattle.bench_net.proofs.NamedLevels.{level_by, levels_by, numbering_by, named_among}
+
+pub reads_are : (ns : List Name) (lines : List Line) → flat_map read (statements_of ns lines) ≡ map (name_at ns) (flat_map read_numbers lines)
+reads_are ns [] = refl
+reads_are ns (line.Input s ∷ lines) = reads_are ns lines
+reads_are ns (line.Output s ∷ lines) = ap (λ xs. name_at ns s ∷ xs) (reads_are ns lines)
+reads_are ns (line.Gate s g ∷ lines) = ap (λ xs. map (name_at ns) g.pins.items ++ xs) (reads_are ns lines) ∙ sym (map-append (name_at ns) g.pins.items (flat_map read_numbers lines))
+reads_are ns (line.Dff q d ∷ lines) = ap (λ xs. name_at ns d ∷ xs) (reads_are ns lines)
+
+pub read_count : (ns : List Name) (lines : List Line) → length (flat_map read_numbers lines) ≡ sink_count (statements_of ns lines)
+read_count ns lines = sym (ap length (reads_are ns lines) ∙ length-map (flat_map read_numbers lines) (name_at ns))
+
+pub table_lines : (ns : List Name) (lines : List Line) (at : List ℕ) → AreStatements ns lines at → AreTableLines lines (length ns)
+table_lines ns lines at are = record {
+  few_lines = omega (arith, few_lines lines, read_count ns lines, are.sinks, are.signals, are.numbered.count);
+  few_signals = omega (arith, are.signals);
+  few_reads = omega (arith, read_count ns lines, are.sinks);
+  defined_below = λ s c. defined_in ns lines s are.numbered (among (flat_map defined_numbers lines) s c);
+  read_below = are.numbered.in_range;
+}
+
+pub graph : (ns : List Name) (lines : List Line) (at places : List ℕ) → AreStatements ns lines at → AreDefinitions lines places → IsGraph lines places
+graph ns lines at places are defs = record {
+  has_line = λ s lt. let l = line_at ns lines places s are.numbered defs (omega (arith, lt, count)) in slice_get_within lines (slice_index places s) l.0 l.1;
+  few_pins = λ s pins lt is. let g = gate_at ns lines places s pins are.numbered defs (omega (arith, lt, count)) is in omega (arith, pin_count lines s g.0 g.1, ap length g.2, read_count ns lines, are.sinks);
+  pins_below = λ s p pins lt is c. let g = gate_at ns lines places s pins are.numbered defs (omega (arith, lt, count)) is in
+      omega (arith, count, are.numbered.in_range p (contained (flat_map read_numbers lines) p (pins_read lines s g.0 p g.1 (subst (Among p) (sym g.2) (among pins p c)))));
+}
+  where
+    count : length places ≡ length ns
+    count = definition_count ns lines places are.numbered defs
+
+name_in : (ns : List Name) (s : ℕ) → s < length ns → Among (name_at ns s) ns
+name_in [] s lt = absurd (omega (arith, lt))
+name_in (n ∷ ns) zero lt = inl refl
+name_in (n ∷ ns) (suc s) lt = inr (name_in ns s (omega (arith, lt)))
+
+pub circuit : (ns : List Name) (lines : List Line) (at places levels : List ℕ) → AreStatements ns lines at → AreDefinitions lines places → AreLevelsOf (gate_pins lines places) (length ns) levels → lines ≢ []
+    → IsCircuit (statements_of ns lines)
+circuit ns lines at places levels are defs level some = record {
+  well_formed = record {
+    some = λ e. some (none lines e);
+    once = subst (AllPairs (λ m n. m ≢ n)) (sym are.numbered.names_are) are.once;
+    all_defined = defined;
+    acyclic = (level_by ns lines levels, numbering_by (statements_of ns lines) (level_by ns lines levels) (levels_by ns lines places levels (record { numbered = are.numbered; once = are.once }) defs level));
+  };
+  signals = omega (arith, ap length are.numbered.names_are, are.signals);
+  sinks = are.sinks;
+}
+  where
+    none : (ls : List Line) → statements_of ns ls ≡ [] → ls ≡ []
+    none [] e = refl
+    none (l ∷ ls) e = let bad : statement_of ns l ∷ statements_of ns ls ≡ [] = e in cc
+
+    defined : (n : Name) → Contains (flat_map read (statements_of ns lines)) n → Contains (names (statements_of ns lines)) n
+    defined n c =
+        let found = named_among ns (flat_map read_numbers lines) n (subst (Among n) (reads_are ns lines) (among (flat_map read (statements_of ns lines)) n c)) in
+        let lt = are.numbered.in_range found.0 (contained (flat_map read_numbers lines) found.0 found.1) in
+        subst (λ xs. Contains xs n) (sym are.numbered.names_are) (contained ns n (subst (λ x. Among x ns) found.2 (name_in ns found.0 lt)))

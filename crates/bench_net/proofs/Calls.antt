@@ -1,0 +1,198 @@
+-- What the tables of a circuit say of its statements.
+use Rattle.std.proofs.Common.{◌≡◌, ◌≢◌, ◌<◌, ◌≤◌, ◌+◌, ℕ, zero, suc, sym, ◌∙◌, ap, subst, refl, List, [], ◌∷◌, ◌++◌, map, length, get_or, filter, arith, inl, inr, ◌⊎◌, length-append}
+use Rattle.std.specs.Prelude.{Option, Some, None, slice_get, slice_index, Contains, flat_map, option_map, IfSome, IfNone}
+use Rattle.std.specs.List.{filter_map}
+use Rattle.std.proofs.lemmas.List.{length-map, get_or_read}
+use Rattle.std.proofs.lemmas.Option.{slice_get-get_or, slice_get-map, slice_get_within, slice_get_read}
+use Rattle.bench_net.specs.declared.Kind.{Kind}
+use Rattle.bench_net.specs.declared.GateLine.{GateLine}
+use Rattle.bench_net.specs.declared.ScanCell.{ScanCell}
+use Rattle.bench_net.specs.declared.line.Line.{Line}
+use Rattle.bench_net.specs.declared.line.Line.TheVariants as line
+use Rattle.bench_net.specs.declared.tables.Tables.{Tables}
+use Rattle.bench_net.specs.declared.levels.Levels.{Levels}
+use Rattle.bench_net.specs.Statement.{Name, Statement, defines}
+use Rattle.bench_net.specs.Scan.{names, signal, name_of, definition, gate_line, gate_of, inputs, outputs, cells, sources}
+use Rattle.bench_net.specs.Stored.{name_at, statement_of, statements_of, defined_numbers, read_numbers, AreNumbered}
+use Rattle.bench_net.specs.Tables.{input_number, output_number, cell_numbers, defined_number, defines_number}
+use Rattle.bench_net.specs.Inside.{IsInside}
+use Rattle.bench_net.proofs.Members.{Among, among, contained}
+use Rattle.bench_net.proofs.Counted.{few_sources, source_defined, outputs_read, pins_read, among_cases}
+use Rattle.bench_net.proofs.Named.{AreNamed, name_of_at, signal_at, same_number, map_signal, inputs_are, outputs_are, cells_are, cell_names, sources_are, source_numbers, definers_are, line_at, index_of, definition_count}
+
+pub named : (ns : List Name) (lines : List Line) (tables : Tables) (levels : Levels) → IsInside ns lines tables levels → AreNamed ns lines
+named ns lines tables levels inside = record { numbered = inside.numbered; once = inside.once }
+
+pub name_count : (ns : List Name) (lines : List Line) (tables : Tables) (levels : Levels) → IsInside ns lines tables levels → length (names (statements_of ns lines)) ≡ length ns
+name_count ns lines tables levels inside = ap length inside.numbered.names_are
+
+-- the numbers that lines hold are below the number of names
+pub defined_in : (ns : List Name) (lines : List Line) (s : ℕ) → AreNumbered ns lines → Among s (flat_map defined_numbers lines) → s < length ns
+defined_in ns lines s numbered a =
+    let at = index_of (flat_map defined_numbers lines) s a in
+    omega (arith, numbered.in_order at.0 s at.1, slice_get_within (flat_map defined_numbers lines) at.0 s at.1, numbered.count)
+
+pub read_in : (ns : List Name) (lines : List Line) (s : ℕ) → AreNumbered ns lines → Among s (flat_map read_numbers lines) → s < length ns
+read_in ns lines s numbered a = numbered.in_range s (contained (flat_map read_numbers lines) s a)
+
+pub source_in : (ns : List Name) (lines : List Line) (s : ℕ) → AreNumbered ns lines → Among s (source_numbers lines) → s < length ns
+source_in ns lines s numbered a = defined_in ns lines s numbered (source_defined lines s a)
+
+left_among : {X : Type 0} (xs ys : List X) (x : X) → Among x xs → Among x (xs ++ ys)
+left_among [] ys x a = absurd a
+left_among (z ∷ xs) ys x (inl e) = inl e
+left_among (z ∷ xs) ys x (inr a) = inr (left_among xs ys x a)
+
+-- ---- lists of signals
+
+pub call_inputs : (ns : List Name) (lines : List Line) (tables : Tables) (levels : Levels) → IsInside ns lines tables levels
+    → tables.inputs.items ≡ map (signal (statements_of ns lines)) (inputs (statements_of ns lines))
+call_inputs ns lines tables levels inside =
+    inside.tables_are.inputs_are
+    ∙ (sym (map_signal ns lines (filter_map input_number lines) (named ns lines tables levels inside)
+    (λ s a. source_in ns lines s inside.numbered (left_among (filter_map input_number lines) (map (λ cell. cell.q) (filter_map cell_numbers lines)) s a)))
+    ∙ ap (map (signal (statements_of ns lines))) (sym (inputs_are ns lines)))
+
+pub call_outputs : (ns : List Name) (lines : List Line) (tables : Tables) (levels : Levels) → IsInside ns lines tables levels
+    → tables.outputs.items ≡ map (signal (statements_of ns lines)) (outputs (statements_of ns lines))
+call_outputs ns lines tables levels inside =
+    inside.tables_are.outputs_are
+    ∙ (sym (map_signal ns lines (filter_map output_number lines) (named ns lines tables levels inside) (λ s a. read_in ns lines s inside.numbered (outputs_read lines s a)))
+    ∙ ap (map (signal (statements_of ns lines))) (sym (outputs_are ns lines)))
+
+-- ---- cells
+
+cell_q : (lines : List Line) (cell : ScanCell) → Among cell (filter_map cell_numbers lines) → Among cell.q (flat_map defined_numbers lines)
+cell_q [] cell a = absurd a
+cell_q (line.Input s ∷ lines) cell a = inr (cell_q lines cell a)
+cell_q (line.Output s ∷ lines) cell a = cell_q lines cell a
+cell_q (line.Gate s g ∷ lines) cell a = inr (cell_q lines cell a)
+cell_q (line.Dff q d ∷ lines) cell (inl e) = inl (ap (λ x. x.q) e)
+cell_q (line.Dff q d ∷ lines) cell (inr a) = inr (cell_q lines cell a)
+
+right_among : {X : Type 0} (xs ys : List X) (x : X) → Among x ys → Among x (xs ++ ys)
+right_among [] ys x a = a
+right_among (z ∷ xs) ys x a = inr (right_among xs ys x a)
+
+cell_d : (lines : List Line) (cell : ScanCell) → Among cell (filter_map cell_numbers lines) → Among cell.d (flat_map read_numbers lines)
+cell_d [] cell a = absurd a
+cell_d (line.Input s ∷ lines) cell a = cell_d lines cell a
+cell_d (line.Output s ∷ lines) cell a = inr (cell_d lines cell a)
+cell_d (line.Gate s g ∷ lines) cell a = right_among g.pins.items (flat_map read_numbers lines) cell.d (cell_d lines cell a)
+cell_d (line.Dff q d ∷ lines) cell (inl e) = inl (ap (λ x. x.d) e)
+cell_d (line.Dff q d ∷ lines) cell (inr a) = inr (cell_d lines cell a)
+
+pub call_cells : (ns : List Name) (lines : List Line) (tables : Tables) (levels : Levels) → IsInside ns lines tables levels
+    → map {B = ℕ × ℕ} (λ cell. (cell.q, cell.d)) tables.cells.items ≡ map (λ cell. (signal (statements_of ns lines) cell.0, signal (statements_of ns lines) cell.1)) (cells (statements_of ns lines))
+call_cells ns lines tables levels inside =
+    ap (map (λ (cell : ScanCell). (cell.q, cell.d))) inside.tables_are.cells_are
+    ∙ (go (filter_map cell_numbers lines) (λ cell a. defined_in ns lines cell.q inside.numbered (cell_q lines cell a)) (λ cell a. read_in ns lines cell.d inside.numbered (cell_d lines cell a))
+    ∙ ap (map (λ cell. (signal (statements_of ns lines) cell.0, signal (statements_of ns lines) cell.1))) (sym (cells_are ns lines)))
+  where
+    go : (xs : List ScanCell) → ((cell : ScanCell) → Among cell xs → cell.q < length ns) → ((cell : ScanCell) → Among cell xs → cell.d < length ns)
+        → map {B = ℕ × ℕ} (λ cell. (cell.q, cell.d)) xs ≡ map (λ cell. (signal (statements_of ns lines) cell.0, signal (statements_of ns lines) cell.1)) (map (cell_names ns) xs)
+    go [] qs ds = refl
+    go (x ∷ xs) qs ds =
+        let q = signal_at ns lines x.q (named ns lines tables levels inside) (qs x (inl refl)) in
+        let d = signal_at ns lines x.d (named ns lines tables levels inside) (ds x (inl refl)) in
+        let rest = go xs (λ cell a. qs cell (inr a)) (λ cell a. ds cell (inr a)) in
+        cc
+
+-- ---- sources
+
+pub call_sources : (ns : List Name) (lines : List Line) (tables : Tables) (levels : Levels) → IsInside ns lines tables levels
+    → length tables.inputs.items + length tables.cells.items ≡ length (sources (statements_of ns lines))
+call_sources ns lines tables levels inside =
+    omega (
+      arith,
+      ap length (sources_are ns lines),
+      length-map (source_numbers lines) (name_at ns),
+      length-append (filter_map input_number lines) (map (λ cell. cell.q) (filter_map cell_numbers lines)),
+      length-map (filter_map cell_numbers lines) (λ cell. cell.q),
+      ap length inside.tables_are.inputs_are,
+      ap length inside.tables_are.cells_are,
+    )
+
+pub few_source : (ns : List Name) (lines : List Line) (tables : Tables) (levels : Levels) → IsInside ns lines tables levels → length tables.inputs.items + length tables.cells.items ≤ 1000000
+few_source ns lines tables levels inside =
+    omega (arith, ap length inside.tables_are.inputs_are, ap length inside.tables_are.cells_are, few_sources lines, inside.numbered.count, inside.circuit.signals, name_count ns lines tables levels inside)
+
+-- what stands at a place of a test row
+source_at : (ns : List Name) (lines : List Line) (i : ℕ) → slice_get (sources (statements_of ns lines)) i ≡ option_map (name_at ns) (slice_get (source_numbers lines) i)
+source_at ns lines i = ap (λ xs. slice_get xs i) (sources_are ns lines) ∙ slice_get-map (name_at ns) (source_numbers lines) i
+
+pub call_source_some : (ns : List Name) (lines : List Line) (tables : Tables) (levels : Levels) (s i : ℕ) → IsInside ns lines tables levels → s < length ns
+    → slice_get tables.source_places.items s ≡ Some (Some i) → slice_get (sources (statements_of ns lines)) i ≡ name_of (statements_of ns lines) s
+call_source_some ns lines tables levels s i inside lt at =
+    source_at ns lines i ∙ (ap (option_map (name_at ns)) (inside.tables_are.places_are.some s i at) ∙ sym (name_of_at ns lines s (named ns lines tables levels inside) lt))
+
+in_list : {X : Type 0} (xs : List X) (i : ℕ) (x : X) → slice_get xs i ≡ Some x → Among x xs
+in_list [] i x h = let bad : None ≡ Some x = h in cc
+in_list (y ∷ xs) zero x h = let both : Some y ≡ Some x = h in let same : y ≡ x = cc in inl same
+in_list (y ∷ xs) (suc i) x h = inr (in_list xs i x h)
+
+pub call_source_none : (ns : List Name) (lines : List Line) (tables : Tables) (levels : Levels) (s i : ℕ) → IsInside ns lines tables levels → s < length ns
+    → slice_get tables.source_places.items s ≡ Some None → slice_get (sources (statements_of ns lines)) i ≢ name_of (statements_of ns lines) s
+call_source_none ns lines tables levels s i inside lt at same =
+    go (slice_get (source_numbers lines) i) refl (sym (source_at ns lines i) ∙ (same ∙ name_of_at ns lines s (named ns lines tables levels inside) lt))
+  where
+    go : (o : Option ℕ) → slice_get (source_numbers lines) i ≡ o → option_map (name_at ns) o ≡ Some (name_at ns s) → ⊥
+    go None e h = let bad : None ≡ Some (name_at ns s) = h in cc
+    go (Some t) e h =
+        let both : Some (name_at ns t) ≡ Some (name_at ns s) = h in
+        let names_same : name_at ns t ≡ name_at ns s = cc in
+        let t_lt = source_in ns lines t inside.numbered (in_list (source_numbers lines) i t e) in
+        let is : t ≡ s = same_number ns lines t s (named ns lines tables levels inside) t_lt lt names_same in
+        inside.tables_are.places_are.none s i at (e ∙ ap Some is)
+
+-- ---- gates
+
+-- the kind and the pins of a gate line
+abbrev pub line_gate : Line → Option (Kind × List ℕ)
+line_gate (line.Gate s g) = Some (g.kind, g.pins.items)
+line_gate _ = None
+
+pub call_gate : (ns : List Name) (lines : List Line) (tables : Tables) (levels : Levels) (s : ℕ) (l : Line) → IsInside ns lines tables levels → s < length ns
+    → slice_get lines (slice_index tables.definitions.items s) ≡ Some l → gate_of (statements_of ns lines) s ≡ line_gate l
+call_gate ns lines tables levels s l inside lt at =
+    let c : List Statement = statements_of ns lines in
+    let found = line_at ns lines tables.definitions.items s inside.numbered inside.tables_are.definitions_are lt in
+    let both : Some found.0 ≡ Some l = sym found.1 ∙ at in
+    let same : found.0 ≡ l = cc in
+    let is : definition c s ≡ Some (statement_of ns l) = ap (λ xs. slice_get xs s) (definers_are ns lines) ∙ (slice_get-map (statement_of ns) (filter defines_number lines) s ∙ (ap (option_map (statement_of ns)) found.3 ∙ ap (λ x. Some (statement_of ns x)) same)) in
+    ap (gate_line c) is ∙ go l (in_list lines (slice_index tables.definitions.items s) l at)
+  where
+    go : (m : Line) → Among m lines → gate_line (statements_of ns lines) (Some (statement_of ns m)) ≡ line_gate m
+    go (line.Input t) a = refl
+    go (line.Output t) a = refl
+    go (line.Dff q d) a = refl
+    go (line.Gate t g) a = ap (λ pins. Some (g.kind, pins)) (map_signal ns lines g.pins.items (named ns lines tables levels inside) (λ p b. read_in ns lines p inside.numbered (pins_read lines t g p a b)))
+
+-- the place of a signal's definition is one of the lines'
+pub definition_below : (ns : List Name) (lines : List Line) (tables : Tables) (levels : Levels) (s : ℕ) → IsInside ns lines tables levels → s < length ns → slice_index tables.definitions.items s < length lines
+definition_below ns lines tables levels s inside lt =
+    let found = line_at ns lines tables.definitions.items s inside.numbered inside.tables_are.definitions_are lt in
+    slice_get_within lines (slice_index tables.definitions.items s) found.0 found.1
+
+-- ---- what the code reads
+
+pub read_gate : (ns : List Name) (lines : List Line) (tables : Tables) (levels : Levels) (s i : ℕ) (l : Line) → IsInside ns lines tables levels → s < length ns
+    → i ≡ get_or tables.definitions.items s i → l ≡ get_or lines i l → gate_of (statements_of ns lines) s ≡ line_gate l
+read_gate ns lines tables levels s i l inside lt place at =
+    let count = definition_count ns lines tables.definitions.items inside.numbered inside.tables_are.definitions_are in
+    let is : i ≡ slice_index tables.definitions.items s = get_or_read tables.definitions.items s i (omega (arith, lt, count)) place 0 in
+    let below : i < length lines = omega (arith, is, definition_below ns lines tables levels s inside lt) in
+    let read : slice_get lines i ≡ Some l = slice_get_read lines (length lines) i l refl below at in
+    call_gate ns lines tables levels s l inside lt (ap (slice_get lines) (sym is) ∙ read)
+
+pub read_place_some : (ns : List Name) (lines : List Line) (tables : Tables) (levels : Levels) (s : ℕ) (o : Option ℕ) → IsInside ns lines tables levels → s < length ns
+    → o ≡ get_or tables.source_places.items s o → IfSome o (λ i. slice_get (sources (statements_of ns lines)) i ≡ name_of (statements_of ns lines) s)
+read_place_some ns lines tables levels s None inside lt at = tt
+read_place_some ns lines tables levels s (Some i) inside lt at =
+    call_source_some ns lines tables levels s i inside lt (slice_get_read tables.source_places.items (length tables.source_places.items) s (Some i) refl (omega (arith, lt, inside.tables_are.places_are.count)) at)
+
+pub read_place_none : (ns : List Name) (lines : List Line) (tables : Tables) (levels : Levels) (s : ℕ) (o : Option ℕ) → IsInside ns lines tables levels → s < length ns
+    → o ≡ get_or tables.source_places.items s o → IfNone o ((i : ℕ) → slice_get (sources (statements_of ns lines)) i ≢ name_of (statements_of ns lines) s)
+read_place_none ns lines tables levels s (Some i) inside lt at = tt
+read_place_none ns lines tables levels s None inside lt at = λ i.
+    call_source_none ns lines tables levels s i inside lt (slice_get_read tables.source_places.items (length tables.source_places.items) s None refl (omega (arith, lt, inside.tables_are.places_are.count)) at)

@@ -1,0 +1,161 @@
+-- How many lines, sources and readers there are, and which signals they name.
+use Rattle.std.proofs.Common.{◌≡◌, ◌<◌, ◌≤◌, ◌+◌, ◌^◌, ℕ, zero, suc, sym, ◌∙◌, ap, subst, refl, List, [], ◌∷◌, ◌++◌, map, length, get_or, arith, inl, inr, ◌⊎◌, length-append}
+use Rattle.std.specs.Prelude.{Option, Some, None, slice_get, Contains, flat_map}
+use Rattle.std.specs.List.{enumerate_from, filter_map, cons_option}
+use Rattle.std.proofs.lemmas.List.{length-map}
+use Rattle.std.proofs.lemmas.List.FromFn.{length-enumerate_from}
+use Rattle.std.proofs.lemmas.List.Elements.{Contains-append_left, Contains-append_right}
+use Rattle.bench_net.specs.declared.line.Line.{Line}
+use Rattle.bench_net.specs.declared.line.Line.TheVariants as line
+use Rattle.bench_net.specs.declared.GateLine.{GateLine}
+use Rattle.bench_net.specs.declared.Sink.{Sink}
+use Rattle.bench_net.specs.declared.Sink.TheVariants.{Pin, Data, Out}
+use Rattle.bench_net.specs.declared.sinks.Reader.{Reader}
+use Rattle.bench_net.specs.Stored.{defined_numbers, read_numbers}
+use Rattle.bench_net.specs.Tables.{input_number, output_number, cell_numbers, pin_readers, output_readers, line_readers, all_readers, PinsFit}
+use Rattle.bench_net.proofs.Members.{Among, among, contained}
+
+among_left : {X : Type 0} (xs ys : List X) (x : X) → Among x xs → Among x (xs ++ ys)
+among_left [] ys x a = absurd a
+among_left (z ∷ xs) ys x (inl e) = inl e
+among_left (z ∷ xs) ys x (inr a) = inr (among_left xs ys x a)
+
+among_right : {X : Type 0} (xs ys : List X) (x : X) → Among x ys → Among x (xs ++ ys)
+among_right [] ys x a = a
+among_right (z ∷ xs) ys x a = inr (among_right xs ys x a)
+
+pub among_cases : {X : Type 0} (xs ys : List X) (x : X) → Among x (xs ++ ys) → Among x xs ⊎ Among x ys
+among_cases [] ys x a = inr a
+among_cases (z ∷ xs) ys x (inl e) = inl (inl e)
+among_cases (z ∷ xs) ys x (inr a) = go (among_cases xs ys x a)
+  where
+    go : Among x xs ⊎ Among x ys → Among x (z ∷ xs) ⊎ Among x ys
+    go (inl b) = inl (inr b)
+    go (inr b) = inr b
+
+-- ---- sources
+
+pub few_sources : (lines : List Line) → length (filter_map input_number lines) + length (filter_map cell_numbers lines) ≤ length (flat_map defined_numbers lines)
+few_sources [] = omega arith
+few_sources (line.Input s ∷ lines) = omega (arith, few_sources lines)
+few_sources (line.Output s ∷ lines) = few_sources lines
+few_sources (line.Gate s g ∷ lines) = omega (arith, few_sources lines)
+few_sources (line.Dff q d ∷ lines) = omega (arith, few_sources lines)
+
+pub few_inputs : (lines : List Line) → length (filter_map input_number lines) + length (filter_map cell_numbers lines) ≤ length lines
+few_inputs [] = omega arith
+few_inputs (line.Input s ∷ lines) = omega (arith, few_inputs lines)
+few_inputs (line.Output s ∷ lines) = omega (arith, few_inputs lines)
+few_inputs (line.Gate s g ∷ lines) = omega (arith, few_inputs lines)
+few_inputs (line.Dff q d ∷ lines) = omega (arith, few_inputs lines)
+
+pub few_outputs : (lines : List Line) → length (filter_map output_number lines) ≤ length lines
+few_outputs [] = omega arith
+few_outputs (line.Input s ∷ lines) = omega (arith, few_outputs lines)
+few_outputs (line.Output s ∷ lines) = omega (arith, few_outputs lines)
+few_outputs (line.Gate s g ∷ lines) = omega (arith, few_outputs lines)
+few_outputs (line.Dff q d ∷ lines) = omega (arith, few_outputs lines)
+
+-- each line defines or reads
+pub few_lines : (lines : List Line) → length lines ≤ length (flat_map defined_numbers lines) + length (flat_map read_numbers lines)
+few_lines [] = omega arith
+few_lines (line.Input s ∷ lines) = omega (arith, few_lines lines)
+few_lines (line.Output s ∷ lines) = omega (arith, few_lines lines)
+few_lines (line.Gate s g ∷ lines) = omega (arith, few_lines lines, length-append g.pins.items (flat_map read_numbers lines))
+few_lines (line.Dff q d ∷ lines) = omega (arith, few_lines lines)
+
+pub source_defined : (lines : List Line) (s : ℕ) → Among s (filter_map input_number lines ++ map (λ cell. cell.q) (filter_map cell_numbers lines)) → Among s (flat_map defined_numbers lines)
+source_defined lines s a = go (among_cases (filter_map input_number lines) (map (λ cell. cell.q) (filter_map cell_numbers lines)) s a)
+  where
+    input : (ls : List Line) → Among s (filter_map input_number ls) → Among s (flat_map defined_numbers ls)
+    input [] b = absurd b
+    input (line.Input t ∷ ls) (inl e) = inl e
+    input (line.Input t ∷ ls) (inr b) = inr (input ls b)
+    input (line.Output t ∷ ls) b = input ls b
+    input (line.Gate t g ∷ ls) b = inr (input ls b)
+    input (line.Dff q d ∷ ls) b = inr (input ls b)
+
+    cell : (ls : List Line) → Among s (map (λ cell. cell.q) (filter_map cell_numbers ls)) → Among s (flat_map defined_numbers ls)
+    cell [] b = absurd b
+    cell (line.Input t ∷ ls) b = inr (cell ls b)
+    cell (line.Output t ∷ ls) b = cell ls b
+    cell (line.Gate t g ∷ ls) b = inr (cell ls b)
+    cell (line.Dff q d ∷ ls) (inl e) = inl e
+    cell (line.Dff q d ∷ ls) (inr b) = inr (cell ls b)
+
+    go : Among s (filter_map input_number lines) ⊎ Among s (map (λ cell. cell.q) (filter_map cell_numbers lines)) → Among s (flat_map defined_numbers lines)
+    go (inl b) = input lines b
+    go (inr b) = cell lines b
+
+-- ---- readers
+
+length-pins : (gate : ℕ) (pins : List ℕ) → length (pin_readers gate pins) ≡ length pins
+length-pins gate pins = length-map (enumerate_from 0 pins) (λ at. record { signal = at.1; sink = Pin gate at.0 }) ∙ length-enumerate_from 0 pins
+
+length-outputs : (outputs : List ℕ) → length (output_readers outputs) ≡ length outputs
+length-outputs outputs = length-map (enumerate_from 0 outputs) (λ at. record { signal = at.1; sink = Out at.0 }) ∙ length-enumerate_from 0 outputs
+
+line_reads : (cell : ℕ) (lines : List Line) → length (line_readers cell lines) + length (filter_map output_number lines) ≡ length (flat_map read_numbers lines)
+line_reads cell [] = omega arith
+line_reads cell (line.Input s ∷ lines) = line_reads cell lines
+line_reads cell (line.Output s ∷ lines) = omega (arith, line_reads cell lines)
+line_reads cell (line.Gate s g ∷ lines) = omega (arith, line_reads cell lines, length-pins s g.pins.items, length-append (pin_readers s g.pins.items) (line_readers cell lines), length-append g.pins.items (flat_map read_numbers lines))
+line_reads cell (line.Dff q d ∷ lines) = omega (arith, line_reads (cell + 1) lines)
+
+pub reader_count : (lines : List Line) → length (all_readers lines (filter_map output_number lines)) ≡ length (flat_map read_numbers lines)
+reader_count lines = omega (arith, length-append (line_readers 0 lines) (output_readers (filter_map output_number lines)), length-outputs (filter_map output_number lines), line_reads 0 lines)
+
+pin_reads : (gate n : ℕ) (pins : List ℕ) (reader : Reader) → Among reader (map (λ at. record { signal = at.1; sink = Pin gate at.0 }) (enumerate_from n pins)) → Among reader.signal pins
+pin_reads gate n [] reader a = absurd a
+pin_reads gate n (p ∷ pins) reader (inl e) = inl (ap (λ r. r.signal) e)
+pin_reads gate n (p ∷ pins) reader (inr a) = inr (pin_reads gate (n + 1) pins reader a)
+
+output_reads : (n : ℕ) (outputs : List ℕ) (reader : Reader) → Among reader (map (λ at. record { signal = at.1; sink = Out at.0 }) (enumerate_from n outputs)) → Among reader.signal outputs
+output_reads n [] reader a = absurd a
+output_reads n (p ∷ outputs) reader (inl e) = inl (ap (λ r. r.signal) e)
+output_reads n (p ∷ outputs) reader (inr a) = inr (output_reads (n + 1) outputs reader a)
+
+lines_read : (cell : ℕ) (lines : List Line) (reader : Reader) → Among reader (line_readers cell lines) → Among reader.signal (flat_map read_numbers lines)
+lines_read cell [] reader a = absurd a
+lines_read cell (line.Input s ∷ lines) reader a = lines_read cell lines reader a
+lines_read cell (line.Output s ∷ lines) reader a = inr (lines_read cell lines reader a)
+lines_read cell (line.Gate s g ∷ lines) reader a = go (lines_read cell lines reader) (among_cases (pin_readers s g.pins.items) (line_readers cell lines) reader a)
+  where
+    go : (Among reader (line_readers cell lines) → Among reader.signal (flat_map read_numbers lines)) → Among reader (pin_readers s g.pins.items) ⊎ Among reader (line_readers cell lines)
+        → Among reader.signal (g.pins.items ++ flat_map read_numbers lines)
+    go later (inl b) = among_left g.pins.items (flat_map read_numbers lines) reader.signal (pin_reads s 0 g.pins.items reader b)
+    go later (inr b) = among_right g.pins.items (flat_map read_numbers lines) reader.signal (later b)
+lines_read cell (line.Dff q d ∷ lines) reader (inl e) = inl (ap (λ r. r.signal) e)
+lines_read cell (line.Dff q d ∷ lines) reader (inr a) = inr (lines_read (cell + 1) lines reader a)
+
+pub outputs_read : (lines : List Line) (s : ℕ) → Among s (filter_map output_number lines) → Among s (flat_map read_numbers lines)
+outputs_read [] s a = absurd a
+outputs_read (line.Input t ∷ lines) s a = outputs_read lines s a
+outputs_read (line.Output t ∷ lines) s (inl e) = inl e
+outputs_read (line.Output t ∷ lines) s (inr a) = inr (outputs_read lines s a)
+outputs_read (line.Gate t g ∷ lines) s a = among_right g.pins.items (flat_map read_numbers lines) s (outputs_read lines s a)
+outputs_read (line.Dff q d ∷ lines) s a = inr (outputs_read lines s a)
+
+pub reader_reads : (lines : List Line) (reader : Reader) → Among reader (all_readers lines (filter_map output_number lines)) → Among reader.signal (flat_map read_numbers lines)
+reader_reads lines reader a = go (among_cases (line_readers 0 lines) (output_readers (filter_map output_number lines)) reader a)
+  where
+    go : Among reader (line_readers 0 lines) ⊎ Among reader (output_readers (filter_map output_number lines)) → Among reader.signal (flat_map read_numbers lines)
+    go (inl b) = lines_read 0 lines reader b
+    go (inr b) = outputs_read lines reader.signal (output_reads 0 (filter_map output_number lines) reader b)
+
+-- the pins of a line are among what is read
+pub pins_read : (lines : List Line) (s : ℕ) (gate : GateLine) (p : ℕ) → Among (line.Gate s gate) lines → Among p gate.pins.items → Among p (flat_map read_numbers lines)
+pins_read [] s gate p a b = absurd a
+pins_read (l ∷ lines) s gate p (inl e) b = among_left (read_numbers l) (flat_map read_numbers lines) p (subst (λ x. Among p (read_numbers x)) (sym e) b)
+pins_read (l ∷ lines) s gate p (inr a) b = among_right (read_numbers l) (flat_map read_numbers lines) p (pins_read lines s gate p a b)
+
+pub pin_count : (lines : List Line) (s : ℕ) (gate : GateLine) → Among (line.Gate s gate) lines → length gate.pins.items ≤ length (flat_map read_numbers lines)
+pin_count [] s gate a = absurd a
+pin_count (l ∷ lines) s gate (inl e) = omega (arith, ap (λ x. length (read_numbers x)) e, length-append (read_numbers l) (flat_map read_numbers lines))
+pin_count (l ∷ lines) s gate (inr a) = omega (arith, pin_count lines s gate a, length-append (read_numbers l) (flat_map read_numbers lines))
+
+pub all_fit : (lines : List Line) (l : Line) → length (flat_map read_numbers lines) < 2 ^ 32 → Among l lines → PinsFit l
+all_fit lines (line.Input s) few a = tt
+all_fit lines (line.Output s) few a = tt
+all_fit lines (line.Gate s g) few a = omega (arith, pin_count lines s g a, few)
+all_fit lines (line.Dff q d) few a = tt

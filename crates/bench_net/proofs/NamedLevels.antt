@@ -1,0 +1,176 @@
+-- Levels by numbers are levels by names.
+use Rattle.std.proofs.Common.{◌≡◌, ◌≢◌, ◌<◌, ◌≤◌, ◌+◌, ℕ, zero, suc, sym, ◌∙◌, ap, subst, refl, List, [], ◌∷◌, ◌++◌, map, length, get_or, filter, arith, inl, inr, ◌⊎◌}
+use Rattle.std.specs.Prelude.{Option, Some, None, slice_get, slice_index, Contains, flat_map, AllPairs}
+use Rattle.std.specs.List.{filter_map}
+use Rattle.std.proofs.lemmas.Bool.{cases_order}
+use Rattle.std.proofs.lemmas.List.{length-map, same_lists, get_or-map, get_or_default}
+use Rattle.std.proofs.lemmas.List.Elements.{Contains-get_or}
+use Rattle.bench_net.specs.declared.Kind.{Kind}
+use Rattle.bench_net.specs.declared.GateLine.{GateLine}
+use Rattle.bench_net.specs.declared.ScanCell.{ScanCell}
+use Rattle.bench_net.specs.declared.line.Line.{Line}
+use Rattle.bench_net.specs.declared.line.Line.TheVariants as line
+use Rattle.bench_net.specs.Statement.{Name, Statement, Input, Output, Gate, Dff}
+use Rattle.bench_net.specs.Scan.{names, signal, name_of, sources}
+use Rattle.bench_net.specs.Circuit.{HasArgument, IsNumbering}
+use Rattle.bench_net.specs.Level.{greatest, AreLevels, HasLevel, GoesBefore, IsLevelOrder, HasDepth}
+use Rattle.bench_net.specs.Stored.{name_at, statement_of, statements_of, defined_numbers, read_numbers, AreNumbered}
+use Rattle.bench_net.specs.Tables.{input_number, cell_numbers, defined_number, AreDefinitions}
+use Rattle.bench_net.specs.Marks.{gate_pins, line_pins, level_from, AreLevelsOf}
+use Rattle.bench_net.specs.Rows.{rank, AreRows}
+use Rattle.bench_net.proofs.Members.{Among, among, contained}
+use Rattle.bench_net.proofs.Counted.{pins_read, among_cases}
+use Rattle.bench_net.proofs.Marking.{greatest-above, greatest-cons, map-same}
+use Rattle.bench_net.proofs.Ranks.{rank-equal, rank-less, rank-in}
+use Rattle.bench_net.proofs.Grouped.{has_rank}
+use Rattle.bench_net.proofs.Named.{AreNamed, name_of_at, signal_at, sources_are, source_numbers, pins_of_line, no_pins, defined_below}
+
+-- the level of a name by the table
+abbrev pub level_by : List Name → List Line → List ℕ → Name → ℕ
+level_by ns lines levels n = slice_index levels (signal (statements_of ns lines) n)
+
+pub level_at : (ns : List Name) (lines : List Line) (levels : List ℕ) (s : ℕ) → AreNamed ns lines → s < length ns → level_by ns lines levels (name_at ns s) ≡ slice_index levels s
+level_at ns lines levels s named lt = ap (slice_index levels) (signal_at ns lines s named lt)
+
+-- the levels of the arguments of a gate
+pub argument_levels : (ns : List Name) (lines : List Line) (levels pins : List ℕ) → AreNamed ns lines → ((p : ℕ) → Among p pins → p < length ns)
+    → map (level_by ns lines levels) (map (name_at ns) pins) ≡ map (slice_index levels) pins
+argument_levels ns lines levels [] named below = refl
+argument_levels ns lines levels (p ∷ pins) named below =
+    let first = level_at ns lines levels p named (below p (inl refl)) in
+    let rest = argument_levels ns lines levels pins named (λ q a. below q (inr a)) in
+    cc
+
+-- a gate statement is that of a gate line
+pub gate_statement : (ns : List Name) (lines : List Line) (n : Name) (kind : Kind) (args : List Name) → Among (Gate n kind args) (statements_of ns lines)
+    → (s : ℕ) × (gate : GateLine) × Among (line.Gate s gate) lines × (name_at ns s ≡ n) × (gate.kind ≡ kind) × (map (name_at ns) gate.pins.items ≡ args)
+gate_statement ns [] n kind args a = absurd a
+gate_statement ns (line.Gate s g ∷ lines) n kind args (inl e) =
+    let whole : Gate (name_at ns s) g.kind (map (name_at ns) g.pins.items) ≡ Gate n kind args = e in
+    let same_name : name_at ns s ≡ n = cc in
+    let same_kind : g.kind ≡ kind = cc in
+    let same_args : map (name_at ns) g.pins.items ≡ args = cc in
+    (s, g, inl refl, same_name, same_kind, same_args)
+gate_statement ns (line.Input s ∷ lines) n kind args (inl e) = let bad : Input (name_at ns s) ≡ Gate n kind args = e in cc
+gate_statement ns (line.Output s ∷ lines) n kind args (inl e) = let bad : Output (name_at ns s) ≡ Gate n kind args = e in cc
+gate_statement ns (line.Dff q d ∷ lines) n kind args (inl e) = let bad : Dff (name_at ns q) (name_at ns d) ≡ Gate n kind args = e in cc
+gate_statement ns (l ∷ lines) n kind args (inr a) = let found = gate_statement ns lines n kind args a in (found.0, found.1, inr found.2, found.3, found.4, found.5)
+
+-- a source is defined by a line that is no gate's
+source_line : (lines : List Line) (s : ℕ) → Among s (source_numbers lines) → (l : Line) × Among l lines × (defined_number l ≡ Some s) × (line_pins (Some l) ≡ None)
+source_line lines s a = go (among_cases (filter_map input_number lines) (map (λ cell. cell.q) (filter_map cell_numbers lines)) s a)
+  where
+    input : (ls : List Line) → Among s (filter_map input_number ls) → (l : Line) × Among l ls × (defined_number l ≡ Some s) × (line_pins (Some l) ≡ None)
+    input [] b = absurd b
+    input (line.Input t ∷ ls) (inl e) = (line.Input t, inl refl, ap Some e, refl)
+    input (line.Input t ∷ ls) (inr b) = let found = input ls b in (found.0, inr found.1, found.2, found.3)
+    input (line.Output t ∷ ls) b = let found = input ls b in (found.0, inr found.1, found.2, found.3)
+    input (line.Gate t g ∷ ls) b = let found = input ls b in (found.0, inr found.1, found.2, found.3)
+    input (line.Dff q d ∷ ls) b = let found = input ls b in (found.0, inr found.1, found.2, found.3)
+
+    cell : (ls : List Line) → Among s (map (λ cell. cell.q) (filter_map cell_numbers ls)) → (l : Line) × Among l ls × (defined_number l ≡ Some s) × (line_pins (Some l) ≡ None)
+    cell [] b = absurd b
+    cell (line.Dff q d ∷ ls) (inl e) = (line.Dff q d, inl refl, ap Some e, refl)
+    cell (line.Dff q d ∷ ls) (inr b) = let found = cell ls b in (found.0, inr found.1, found.2, found.3)
+    cell (line.Input t ∷ ls) b = let found = cell ls b in (found.0, inr found.1, found.2, found.3)
+    cell (line.Output t ∷ ls) b = let found = cell ls b in (found.0, inr found.1, found.2, found.3)
+    cell (line.Gate t g ∷ ls) b = let found = cell ls b in (found.0, inr found.1, found.2, found.3)
+
+    go : Among s (filter_map input_number lines) ⊎ Among s (map (λ cell. cell.q) (filter_map cell_numbers lines)) → (l : Line) × Among l lines × (defined_number l ≡ Some s) × (line_pins (Some l) ≡ None)
+    go (inl b) = input lines b
+    go (inr b) = cell lines b
+
+-- a name of a mapped list is that of a number
+pub named_among : (ns : List Name) (xs : List ℕ) (n : Name) → Among n (map (name_at ns) xs) → (s : ℕ) × Among s xs × (name_at ns s ≡ n)
+named_among ns [] n a = absurd a
+named_among ns (x ∷ xs) n (inl e) = (x, inl refl, e)
+named_among ns (x ∷ xs) n (inr a) = let found = named_among ns xs n a in (found.0, inr found.1, found.2)
+
+pub levels_by : (ns : List Name) (lines : List Line) (places levels : List ℕ) → AreNamed ns lines → AreDefinitions lines places → AreLevelsOf (gate_pins lines places) (length ns) levels
+    → AreLevels (statements_of ns lines) (level_by ns lines levels)
+levels_by ns lines places levels named are level = record { source = source; gate = gate }
+  where
+    source : (n : Name) → Contains (sources (statements_of ns lines)) n → level_by ns lines levels n ≡ 0
+    source n c =
+        let at = named_among ns (source_numbers lines) n (subst (Among n) (sources_are ns lines) (among (sources (statements_of ns lines)) n c)) in
+        let found = source_line lines at.0 at.1 in
+        let lt = defined_below ns lines found.0 at.0 named.numbered found.1 found.2 in
+        let none : gate_pins lines places at.0 ≡ None = no_pins ns lines places at.0 found.0 named.numbered are found.1 found.2 found.3 in
+        ap (level_by ns lines levels) (sym at.2) ∙ (level_at ns lines levels at.0 named lt ∙ (level.each at.0 lt ∙ ap (level_from (slice_index levels)) none))
+
+    gate : (n : Name) (kind : Kind) (args : List Name) → Contains (statements_of ns lines) (Gate n kind args) → level_by ns lines levels n ≡ 1 + greatest (map (level_by ns lines levels) args)
+    gate n kind args c =
+        let found = gate_statement ns lines n kind args (among (statements_of ns lines) (Gate n kind args) c) in
+        let s : ℕ = found.0 in
+        let pins : List ℕ = found.1.pins.items in
+        let lt = defined_below ns lines (line.Gate s found.1) s named.numbered found.2 refl in
+        let is : gate_pins lines places s ≡ Some pins = pins_of_line ns lines places s found.1 named.numbered are found.2 in
+        let args_are : map (level_by ns lines levels) args ≡ map (slice_index levels) pins = ap (map (level_by ns lines levels)) (sym found.5) ∙ argument_levels ns lines levels pins named (λ p a. named.numbered.in_range p (contained (flat_map read_numbers lines) p (pins_read lines s found.1 p found.2 a))) in
+        ap (level_by ns lines levels) (sym found.3) ∙ (level_at ns lines levels s named lt ∙ (level.each s lt ∙ (ap (level_from (slice_index levels)) is ∙ ap (λ ls. 1 + greatest ls) (sym args_are))))
+
+-- levels number the names along every gate
+above_names : (level : Name → ℕ) (args : List Name) (a : Name) → Among a args → level a ≤ greatest (map level args)
+above_names level [] a m = absurd m
+above_names level (b ∷ args) a (inl e) = omega (arith, greatest-cons (level b) (map level args), ap level e)
+above_names level (b ∷ args) a (inr m) = omega (arith, greatest-cons (level b) (map level args), above_names level args a m)
+
+pub numbering_by : (c : List Statement) (level : Name → ℕ) → AreLevels c level → IsNumbering c level
+numbering_by c level are n a h = omega (arith, are.gate n h.0 h.1 h.2, above_names level h.1 a (among h.1 a h.3))
+
+pub has_level : (ns : List Name) (lines : List Line) (places levels : List ℕ) (s : ℕ) → AreNamed ns lines → AreDefinitions lines places → AreLevelsOf (gate_pins lines places) (length ns) levels
+    → s < length ns → HasLevel (statements_of ns lines) s (slice_index levels s)
+has_level ns lines places levels s named are level lt =
+    (level_by ns lines levels, name_at ns s, levels_by ns lines places levels named are level, name_of_at ns lines s named lt, level_at ns lines levels s named lt)
+
+pub has_depth : (ns : List Name) (lines : List Line) (places levels : List ℕ) (depth : ℕ) → AreNamed ns lines → AreDefinitions lines places → AreLevelsOf (gate_pins lines places) (length ns) levels
+    → depth ≡ greatest levels → HasDepth (statements_of ns lines) depth
+has_depth ns lines places levels depth named are level is =
+    (level_by ns lines levels, levels_by ns lines places levels named are level, ap (λ xs. greatest (map (level_by ns lines levels) xs)) named.numbered.names_are ∙ (ap greatest same ∙ sym is))
+  where
+    same : map (level_by ns lines levels) ns ≡ levels
+    same = same_lists (map (level_by ns lines levels) ns) levels (length-map ns (level_by ns lines levels) ∙ sym level.count) (λ k d lt. one k d (omega (arith, lt, length-map ns (level_by ns lines levels))))
+      where
+        one : (k d : ℕ) → k < length ns → get_or (map (level_by ns lines levels) ns) k d ≡ get_or levels k d
+        one k d lt = get_or-map (level_by ns lines levels) ns k [] d lt ∙ (level_at ns lines levels k named lt ∙ get_or_default levels k 0 d (omega (arith, lt, level.count)))
+
+-- ---- the order by levels
+
+pub level_order : (ns : List Name) (lines : List Line) (places levels order starts : List ℕ) (count : ℕ) → AreNamed ns lines → AreDefinitions lines places → AreLevelsOf (gate_pins lines places) (length ns) levels
+    → AreRows levels count starts order → ((i : ℕ) → i < length levels → get_or levels i 0 < count) → IsLevelOrder (statements_of ns lines) order
+level_order ns lines places levels order starts count named are level rows below = record { all = all; count = counted; ordered = ordered }
+  where
+    names_count : length (names (statements_of ns lines)) ≡ length ns
+    names_count = ap length named.numbered.names_are
+
+    counted : length order ≡ length (names (statements_of ns lines))
+    counted = rows.places_count ∙ (level.count ∙ sym names_count)
+
+    at : (i : ℕ) → i < length levels → (d : ℕ) → get_or order (rank levels i) d ≡ i
+    at i lt d = get_or_default order (rank levels i) d 0 (omega (arith, rows.places_count, rank-in levels i lt)) ∙ rows.places_are i lt
+
+    all : (s : ℕ) → s < length (names (statements_of ns lines)) → Contains order s
+    all s lt =
+        let in_levels : s < length levels = omega (arith, lt, names_count, level.count) in
+        (rank levels s, omega (arith, rows.places_count, rank-in levels s in_levels), at s in_levels s)
+
+    before : (i j : ℕ) → i < length levels → j < length levels → rank levels i < rank levels j → GoesBefore (statements_of ns lines) i j
+    before i j i_lt j_lt less = (get_or levels i 0, get_or levels j 0, has_level ns lines places levels i named are level (omega (arith, i_lt, level.count)), has_level ns lines places levels j named are level (omega (arith, j_lt, level.count)), by_level (cases_order (get_or levels i 0) (get_or levels j 0)))
+      where
+        by_level : (get_or levels i 0 ≡ get_or levels j 0) ⊎ ((get_or levels i 0 < get_or levels j 0) ⊎ (get_or levels j 0 < get_or levels i 0))
+            → (get_or levels i 0 < get_or levels j 0) ⊎ ((get_or levels i 0 ≡ get_or levels j 0) × (i < j))
+        by_level (inl e) = inr (e, by_number (cases_order i j))
+          where
+            by_number : (i ≡ j) ⊎ ((i < j) ⊎ (j < i)) → i < j
+            by_number (inl same) = absurd (omega (arith, less, ap (rank levels) same))
+            by_number (inr (inl lt)) = lt
+            by_number (inr (inr gt)) = absurd (omega (arith, less, rank-equal levels j i gt i_lt (sym e)))
+        by_level (inr (inl lt)) = inl lt
+        by_level (inr (inr gt)) = absurd (omega (arith, less, rank-less levels j i j_lt gt))
+
+    ordered : AllPairs (GoesBefore (statements_of ns lines)) order
+    ordered a b d a_lt b_lt =
+        let i = has_rank levels a count below (omega (arith, a_lt, b_lt, rows.places_count)) in
+        let j = has_rank levels b count below (omega (arith, b_lt, rows.places_count)) in
+        let i_is : get_or order a d ≡ i.0 = ap (λ x. get_or order x d) (sym i.2) ∙ at i.0 i.1 d in
+        let j_is : get_or order b d ≡ j.0 = ap (λ x. get_or order x d) (sym j.2) ∙ at j.0 j.1 d in
+        subst (λ x. GoesBefore (statements_of ns lines) x (get_or order b d)) (sym i_is) (subst (GoesBefore (statements_of ns lines) i.0) (sym j_is) (before i.0 j.0 i.1 j.1 (omega (arith, a_lt, i.2, j.2))))
