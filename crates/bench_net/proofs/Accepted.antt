@@ -61,6 +61,7 @@ circuit ns lines at places levels are defs level some = record {
     all_defined = defined;
     acyclic = (level_by ns lines levels, numbering_by (statements_of ns lines) (level_by ns lines levels) (levels_by ns lines places levels (record { numbered = are.numbered; once = are.once }) defs level));
   };
+  arities = are.arities;
   signals = omega (arith, ap length are.numbered.names_are, are.signals);
   sinks = are.sinks;
 }

@@ -1,0 +1,85 @@
+#!/usr/bin/env python3
+"""Times `faultsim` against a C++ simulator of the same job, and checks that both write the same.
+
+    bench/compare.py [--rounds N] [--only WORD]
+
+It builds baseline.cpp with g++ and the program with `rt run`, makes circuits and tests with
+generate.py in a temporary folder, runs both in turn, and prints for each case the ratio of the
+least times. Ratios alone are printed: times depend on the machine.
+"""
+
+import argparse
+import pathlib
+import subprocess
+import sys
+import tempfile
+import time
+
+HERE = pathlib.Path(__file__).resolve().parent
+CRATE = HERE.parent / "crates" / "faultsim"
+PROGRAM = CRATE / "out" / "faultsim"
+
+# name, words for the circuit, number of tests (None: the listing), further words
+CASES = [
+    ("read and list a random circuit of 900,000 gates", "random --gates 900000 --inputs 500 --outputs 500 --ffs 60000 --depth 80 --short", None),
+    ("list a random circuit of 20,000 gates", "random --gates 20000 --inputs 200 --outputs 200 --ffs 800 --depth 50", None),
+    ("c17, 4,096 tests", "c17", 4096),
+    ("a 16 x 16 multiplier of 2,400 gates, 256 tests", "mult 16", 256),
+]
+
+
+def run(words, **options):
+    return subprocess.run(words, check=True, stdout=subprocess.PIPE, **options).stdout
+
+
+def build(folder):
+    baseline = folder / "baseline"
+    run(["g++", "-O3", "-march=x86-64-v2", "-std=c++17", "-pthread", str(HERE / "baseline.cpp"), "-o", str(baseline)])
+    if not PROGRAM.exists():
+        subprocess.run(["rt", "run", "--", "--help"], cwd=CRATE, stdout=subprocess.DEVNULL)
+    if not PROGRAM.exists():
+        sys.exit("no program: run `rt run -- --help` in crates/faultsim")
+    return baseline
+
+
+def generated(folder, name, words):
+    path = folder / name
+    path.write_bytes(run([sys.executable, str(HERE / "generate.py"), *words]))
+    return str(path)
+
+
+def timed(words):
+    begin = time.perf_counter()
+    out = run(words)
+    return time.perf_counter() - begin, out
+
+
+def main():
+    parser = argparse.ArgumentParser(description=__doc__, formatter_class=argparse.RawDescriptionHelpFormatter)
+    parser.add_argument("--rounds", type=int, default=5)
+    parser.add_argument("--only", default="")
+    options = parser.parse_args()
+    with tempfile.TemporaryDirectory() as name:
+        folder = pathlib.Path(name)
+        baseline = build(folder)
+        for title, circuit, tests in CASES:
+            if options.only not in title:
+                continue
+            bench = generated(folder, "bench", circuit.split())
+            words = ["faults", "--bench", bench]
+            if tests is not None:
+                rows = generated(folder, "tests", ["tests", "--bench", bench, "--count", str(tests)])
+                words = ["run", "--bench", bench, "--tests", rows, "--workers", "1", "--list"]
+            ours, theirs = [], []
+            for _ in range(options.rounds):
+                mine, out = timed([str(PROGRAM), *words])
+                other, expected = timed([str(baseline), *words])
+                if out != expected:
+                    sys.exit(f"{title}: the reports differ")
+                ours.append(mine)
+                theirs.append(other)
+            print(f"{title}: {min(ours) / min(theirs):.2f}", flush=True)
+
+
+if __name__ == "__main__":
+    main()
