@@ -1,9 +1,29 @@
 //! The lines of a bench text as numbered statements.
 
-ghost use Rattle.std.specs.Prelude.{map, string_bytes};
+ghost use Rattle.std.specs.Prelude.{◌≡◌, ◌⊎◌, ◌≤◌, length, map, string_bytes, IfOk, IfErr, IsTrue, ◌↔◌};
+ghost use Rattle.std.specs.Str.Lines.{strip_carriage_return};
+ghost use Rattle.bench_net.specs.Text.{lines};
+ghost use Rattle.bench_net.specs.Refusal.{IsRefused};
+ghost use Rattle.bench_net.specs.Entries.{entries_of, names_in, reads_in, HaveEntries};
+ghost use Rattle.bench_net.specs.Parsed.{stands_for};
+ghost use Rattle.bench_net.specs.Statement.{defines, read};
 ghost use Rattle.bench_net.specs.Stored.{AreLinesOf};
 
+use crate::fault::{no_memory, no_room};
 use crate::line::Line;
+use crate::number::{StatedLine, line_numbers, number_lines, number_names, own_names};
+use crate::statement::{Stated, read_line};
+use crate::{BenchFault, Limit};
+use std::alloc::Global;
+
+/// The greatest number of bytes of a text.
+pub const MAX_BYTES: usize = 16_777_216;
+
+/// The greatest number of signals, that is of lines that define a name.
+pub const MAX_SIGNALS: usize = 1_000_000;
+
+/// The greatest number of gate pins, data pins and outputs together.
+pub const MAX_SINKS: usize = 4_000_000;
 
 /// The statements of a text: the names in the order of their definitions, the lines over their numbers,
 /// and beside each line the number of its line in the text, from 1.
@@ -13,3 +33,112 @@ pub struct Lines {
     pub lines: Vec<Line>,
     pub at: Vec<u64>,
 }
+
+/// The line without the carriage return that may end it.
+fn without_return<'a>(line: &'a [u8]) -> &'a [u8]
+    ensures { result.now ≡ strip_carriage_return line.now }
+{
+    match line.split_last() {
+        Some((last, start)) if *last == b'\r' => start,
+        _ => line,
+    }
+}
+
+/// The statements of a text, each with the number of its line.
+fn read_statements<'a>(alloc: Global, text: &'a [u8]) -> Result<Vec<StatedLine<'a>>, BenchFault>
+    requires { length text.now ≤ 16777216 }
+    ensures ok { IfOk result (λ stated. HaveEntries (lines text.now) (entries_of stated.items)) }
+    ensures refused { IfErr result (λ fault. (fault ≡ BenchFault.Memory) ⊎ IsRefused text.now fault) }
+{
+    let mut stated = Vec::new(alloc);
+    let mut number = 0;
+    for line in text.split(|byte| *byte == b'\n') {
+        number += 1;
+        match read_line(alloc, without_return(line)) {
+            Ok(None) => {}
+            Ok(Some(statement)) => {
+                stated
+                    .push(StatedLine { number, statement })
+                    .map_err(no_room)?;
+            }
+            Err(fault) => return Err(fault.or_refusal(BenchFault::Syntax(number))),
+        }
+    }
+    Ok(stated)
+}
+
+/// Whether a statement defines a name.
+fn defines(statement: &Stated) -> bool
+    ensures { result ≡ defines (stands_for statement.now) }
+{
+    !matches!(statement, Stated::Output(_))
+}
+
+/// How many names a statement reads.
+fn read_count(statement: &Stated) -> usize
+    ensures { result ≡ length (read (stands_for statement.now)) }
+{
+    match statement {
+        Stated::Input(_) => 0,
+        Stated::Output(_) => 1,
+        Stated::Gate(_, _, arguments) => arguments.len(),
+        Stated::Dff(_, _) => 1,
+    }
+}
+
+/// Whether there are no more signals than the limit.
+fn signals_fit(stated: &[StatedLine]) -> bool
+    ensures { IsTrue result ↔ length (names_in stated.now) ≤ 1000000 }
+{
+    let mut count = 0;
+    for line in stated {
+        if defines(&line.statement) {
+            if count == MAX_SIGNALS {
+                return false;
+            }
+            count += 1;
+        }
+    }
+    true
+}
+
+/// Whether there are no more sinks than the limit.
+fn sinks_fit(stated: &[StatedLine]) -> bool
+    ensures { IsTrue result ↔ length (reads_in stated.now) ≤ 4000000 }
+{
+    let mut count = 0;
+    for line in stated {
+        let more = read_count(&line.statement);
+        if more > MAX_SINKS - count {
+            return false;
+        }
+        count += more;
+    }
+    true
+}
+
+/// The statements of a text over numbers.
+pub fn read_lines(alloc: Global, text: &[u8]) -> Result<Lines, BenchFault>
+    ensures lines { IfOk result (λ r. AreLinesOf text.now (map string_bytes r.names.items) r.lines.items r.at.items) }
+    ensures refused { IfErr result (λ fault. (fault ≡ BenchFault.Memory) ⊎ IsRefused text.now fault) }
+{
+    if text.len() > MAX_BYTES {
+        return Err(BenchFault::TooLarge(Limit::Bytes));
+    }
+    let read = read_statements(alloc, text)?;
+    let stated = read.as_slice();
+    if !signals_fit(stated) {
+        return Err(BenchFault::TooLarge(Limit::Signals));
+    }
+    if !sinks_fit(stated) {
+        return Err(BenchFault::TooLarge(Limit::Sinks));
+    }
+    let numbers = number_names(alloc, stated)?;
+    let lines = number_lines(alloc, stated, &numbers)?;
+    let at = line_numbers(alloc, stated).map_err(no_memory)?;
+    let names = own_names(alloc, &numbers)?;
+    Ok(Lines { names, lines, at })
+}
+
+#[cfg(test)]
+mod tests;

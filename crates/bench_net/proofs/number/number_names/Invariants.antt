@@ -1,0 +1,7 @@
+use Rattle.std.proofs.Common.{◌≡◌, take}
+use Rattle.bench_net.specs.Parsed.{names_of}
+use Rattle.bench_net.specs.Entries.{names_in, AreDistinct}
+use Rattle.bench_net.proofs.number.number_names.Given as goal
+
+abbrev pub invariant-loop-line : goal.invariant-loop-line
+invariant-loop-line l = (names_of l.names.keys ≡ names_in (take l.line-index l.stated)) × AreDistinct (names_in (take l.line-index l.stated))

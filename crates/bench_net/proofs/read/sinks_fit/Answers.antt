@@ -1,0 +1,9 @@
+use Rattle.std.proofs.Common.{arith}
+use Rattle.bench_net.specs.Entries.{read_of}
+use Rattle.bench_net.proofs.Passes.{names_fit}
+use Rattle.bench_net.proofs.read.sinks_fit.Goals as goal
+
+pub returns-then-more-count : goal.returns-then-more-count
+returns-then-more-count c =
+    let fit = names_fit read_of c.args.stated.now c.loop-line.line-index c.line-item.result (omega arith) c.line-item.is in
+    (λ e. cc, λ h. absurd (omega (arith, fit)))

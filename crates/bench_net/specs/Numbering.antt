@@ -1,0 +1,34 @@
+-- What the functions that number names answer.
+use Rattle.std.specs.Prelude.{◌≡◌, ◌<◌, ℕ, List, map, flat_map, length, Some, Contains, slice_get}
+use Rattle.std.specs.List.{All}
+use Rattle.bench_net.specs.declared.line.Line.{Line}
+use Rattle.bench_net.specs.declared.number.StatedLine.{StatedLine}
+use Rattle.bench_net.specs.Statement.{Name, Statement, defined}
+use Rattle.bench_net.specs.Parsed.{stands_for}
+use Rattle.bench_net.specs.Entries.{names_in}
+use Rattle.bench_net.specs.Stored.{name_at, statement_of, statements_of, defined_numbers, read_numbers}
+
+-- some of these names is not among the defined ones
+abbrev pub LacksOneOf : List Name → List Name → Type 0
+LacksOneOf ns wanted = (n : Name) × Contains wanted n × ¬ Contains ns n
+
+-- the number is that of the name that the statement defines, if it defines one
+abbrev pub IsNextFor : List Name → ℕ → Statement → Type 0
+IsNextFor ns next s = (n : Name) → Contains (defined s) n → name_at ns next ≡ n
+
+-- the stored line stands for the statement, whose own name has this number
+pub record IsNumberedLine (ns : List Name) (next : ℕ) (s : Statement) (line : Line) : Type 0 where
+  pub stands : statement_of ns line ≡ s
+  pub own : defined_numbers line ≡ map (λ n. next) (defined s)
+  pub in_range : All (λ number. number < length ns) (read_numbers line)
+
+-- the statements of lines
+abbrev pub statements_in : List StatedLine → List Statement
+statements_in stated = map (λ line. stands_for line.statement) stated
+
+-- the stored lines stand for the statements of these lines; own numbers go in order, and each number has a name
+pub record AreNumberedLines (ns : List Name) (stated : List StatedLine) (lines : List Line) : Type 0 where
+  pub stand : statements_of ns lines ≡ statements_in stated
+  pub in_order : (i number : ℕ) → slice_get (flat_map defined_numbers lines) i ≡ Some number → number ≡ i
+  pub own_count : length (flat_map defined_numbers lines) ≡ length (names_in stated)
+  pub in_range : All (λ number. number < length ns) (flat_map read_numbers lines)

@@ -1,0 +1,202 @@
+//! The names of statements as numbers.
+
+ghost use Rattle.std.specs.Prelude.{◌≡◌, ◌⊎◌, ◌<◌, ◌≤◌, ◌+◌, ℕ, length, map, IfOk, IfErr, option_map, Contains, string_bytes};
+ghost use Rattle.std.specs.List.{All};
+ghost use Rattle.std.specs.Str.{IsUtf8};
+ghost use Rattle.bench_net.specs.Stored.{name_at};
+ghost use Rattle.bench_net.specs.Numbering.{LacksOneOf, IsNextFor, IsNumberedLine, AreNumberedLines};
+ghost use Rattle.std.specs.Option.{option_to_list};
+ghost use Rattle.bench_net.specs.Statement.{defined, read};
+ghost use Rattle.bench_net.specs.Parsed.{stands_for, names_of};
+ghost use Rattle.bench_net.specs.Entries.{names_in, AreDistinct, IsAddition, IsFirstRedefinition, IsFirstUndefined};
+
+use crate::fault::{LineFault, no_memory, no_room};
+use crate::line::Line;
+use crate::statement::Stated;
+use crate::{BenchFault, GateLine};
+use indexmap::IndexSet;
+use smallvec::SmallVec;
+use std::alloc::{AllocError, Global};
+use std::str;
+
+/// A statement with the number of its line in the text, from 1.
+#[derive(Drop)]
+pub struct StatedLine<'a> {
+    pub number: u64,
+    pub statement: Stated<'a>,
+}
+
+/// The names in the order of their definitions; the number of a name is its place.
+pub type Names<'a> = IndexSet<&'a [u8]>;
+
+/// The name that a statement defines.
+fn defined<'a>(statement: &Stated<'a>) -> Option<&'a [u8]>
+    ensures { defined (stands_for statement.now) ≡ option_to_list (option_map (λ n. n.now) result) }
+{
+    match statement {
+        Stated::Input(name) => Some(*name),
+        Stated::Output(_) => None,
+        Stated::Gate(name, _, _) => Some(*name),
+        Stated::Dff(q, _) => Some(*q),
+    }
+}
+
+/// Adds a name behind the others, and says whether it is new.
+fn add_name<'a>(names: &mut Names<'a>, name: &'a [u8]) -> Result<bool, BenchFault>
+    ensures added { IfOk result (λ added. IsAddition (names_of names.old.keys) name.now added (names_of names.new.keys)) }
+    ensures refused { IfErr result (λ fault. fault ≡ BenchFault.Memory) }
+{
+    match names.insert_full(name) {
+        Ok((_, added)) => Ok(added),
+        Err(failed) => Err(no_room(failed)),
+    }
+}
+
+/// Numbers the defined names in the order of their lines.
+pub fn number_names<'a>(alloc: Global, stated: &[StatedLine<'a>]) -> Result<Names<'a>, BenchFault>
+    ensures numbered { IfOk result (λ names. names_of names.keys ≡ names_in stated.now) }
+    ensures distinct { IfOk result (λ names. AreDistinct (names_in stated.now)) }
+    ensures refused { IfErr result (λ fault. (fault ≡ BenchFault.Memory) ⊎ ((line : ℕ) × (fault ≡ BenchFault.Redefined line) × IsFirstRedefinition stated.now line)) }
+{
+    let mut names = IndexSet::new(alloc);
+    for line in stated {
+        let Some(name) = defined(&line.statement) else {
+            continue;
+        };
+        if !add_name(&mut names, name)? {
+            return Err(BenchFault::Redefined(line.number));
+        }
+    }
+    Ok(names)
+}
+
+/// The number of a defined name.
+fn number_of(names: &Names, name: &[u8]) -> Result<u32, LineFault>
+    requires { length names.now.keys ≤ 1000000 }
+    ensures within { IfOk result (λ number. number < length (names_of names.now.keys)) }
+    ensures named { IfOk result (λ number. name_at (names_of names.now.keys) number ≡ name.now) }
+    ensures refused { IfErr result (λ fault. ¬ Contains (names_of names.now.keys) name.now) }
+{
+    match names.get_index_of(name) {
+        Some(index) => Ok(index as u32),
+        None => Err(LineFault::Refused),
+    }
+}
+
+/// The numbers of the names of a gate's arguments.
+fn number_pins(
+    alloc: Global,
+    arguments: &[&[u8]],
+    names: &Names,
+) -> Result<SmallVec<u32, 4>, LineFault>
+    requires { length names.now.keys ≤ 1000000 }
+    ensures within { IfOk result (λ pins. All (λ number. number < length (names_of names.now.keys)) pins.items) }
+    ensures named { IfOk result (λ pins. map (name_at (names_of names.now.keys)) pins.items ≡ names_of arguments.now) }
+    ensures refused { IfErr result (λ fault. fault ≡ LineFault.Refused → LacksOneOf (names_of names.now.keys) (names_of arguments.now)) }
+{
+    let mut pins = SmallVec::new(alloc);
+    for argument in arguments {
+        let number = number_of(names, *argument)?;
+        pins.push(number)?;
+    }
+    Ok(pins)
+}
+
+/// The statement over numbers; `next` is the number of the name that it defines.
+fn number_line(
+    alloc: Global,
+    statement: &Stated,
+    next: u32,
+    names: &Names,
+) -> Result<Line, LineFault>
+    requires few { length names.now.keys ≤ 1000000 }
+    requires own { IsNextFor (names_of names.now.keys) next (stands_for statement.now) }
+    ensures numbered { IfOk result (IsNumberedLine (names_of names.now.keys) next (stands_for statement.now)) }
+    ensures refused { IfErr result (λ fault. fault ≡ LineFault.Refused → LacksOneOf (names_of names.now.keys) (read (stands_for statement.now))) }
+{
+    match statement {
+        Stated::Input(_) => Ok(Line::Input(next)),
+        Stated::Output(name) => {
+            let number = number_of(names, *name)?;
+            Ok(Line::Output(number))
+        }
+        Stated::Gate(_, kind, arguments) => {
+            let kind = *kind;
+            let pins = number_pins(alloc, arguments.as_slice(), names)?;
+            Ok(Line::Gate(next, GateLine { kind, pins }))
+        }
+        Stated::Dff(_, data) => {
+            let number = number_of(names, *data)?;
+            Ok(Line::Dff(next, number))
+        }
+    }
+}
+
+/// The number behind those of a statement's own names.
+fn number_behind(next: u32, statement: &Stated) -> u32
+    requires { next + length (defined (stands_for statement.now)) ≤ 1000000 }
+    ensures { result ≡ next + length (defined (stands_for statement.now)) }
+{
+    match statement {
+        Stated::Input(_) => next + 1,
+        Stated::Output(_) => next,
+        Stated::Gate(_, _, _) => next + 1,
+        Stated::Dff(_, _) => next + 1,
+    }
+}
+
+/// The statements over numbers.
+pub fn number_lines(
+    alloc: Global,
+    stated: &[StatedLine],
+    names: &Names,
+) -> Result<Vec<Line>, BenchFault>
+    requires few { length names.now.keys ≤ 1000000 }
+    requires own { names_of names.now.keys ≡ names_in stated.now }
+    ensures numbered { IfOk result (λ lines. AreNumberedLines (names_of names.now.keys) stated.now lines.items) }
+    ensures refused { IfErr result (λ fault. (fault ≡ BenchFault.Memory) ⊎ ((line : ℕ) × (fault ≡ BenchFault.Undefined line) × IsFirstUndefined (names_of names.now.keys) stated.now line)) }
+{
+    let mut lines = Vec::with_capacity(alloc, stated.len()).map_err(no_memory)?;
+    let mut next = 0;
+    for line in stated {
+        let numbered = match number_line(alloc, &line.statement, next, names) {
+            Ok(numbered) => numbered,
+            Err(fault) => return Err(fault.or_refusal(BenchFault::Undefined(line.number))),
+        };
+        lines.push(numbered).map_err(no_room)?;
+        next = number_behind(next, &line.statement);
+    }
+    Ok(lines)
+}
+
+/// The names as texts of their own.
+pub fn own_names(alloc: Global, names: &Names) -> Result<Vec<String>, BenchFault>
+    requires { All IsUtf8 (names_of names.now.keys) }
+    ensures named { IfOk result (λ owned. map string_bytes owned.items ≡ names_of names.now.keys) }
+    ensures refused { IfErr result (λ fault. fault ≡ BenchFault.Memory) }
+{
+    let mut owned = Vec::with_capacity(alloc, names.len()).map_err(no_memory)?;
+    for name in names.iter() {
+        let name = own_name(alloc, *name).map_err(no_memory)?;
+        owned.push(name).map_err(no_room)?;
+    }
+    Ok(owned)
+}
+
+/// A name as a text of its own.
+fn own_name(alloc: Global, name: &[u8]) -> Result<String, AllocError>
+    requires { IsUtf8 name.now }
+    ensures { IfOk result (λ owned. string_bytes owned ≡ name.now) }
+{
+    match str::from_utf8(name) {
+        Ok(text) => String::from_str(alloc, text),
+        Err(_) => unreachable!(),
+    }
+}
+
+/// The numbers of the statements' lines.
+pub fn line_numbers(alloc: Global, stated: &[StatedLine]) -> Result<Vec<u64>, AllocError>
+    ensures { IfOk result (λ numbers. numbers.items ≡ map (λ line. line.number) stated.now) }
+{
+    stated.iter().map(|line| line.number).collect(alloc)
+}

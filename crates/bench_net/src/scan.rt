@@ -1,0 +1,103 @@
+//! The tokens of a line, one after another from its front.
+
+ghost use Rattle.std.specs.Prelude.{◌≡◌, ◌<◌, ◌≤◌, length, take, drop};
+ghost use Rattle.std.specs.List.{prefix_len};
+ghost use Rattle.bench_net.specs.Text.{is_blank, is_word_byte};
+ghost use Rattle.bench_net.specs.Plain.{IsFront, IsPlainStart};
+
+/// A token of a line: a mark, or a word, which borrows the line.
+#[derive(Clone, Copy)]
+pub enum Token<'a> {
+    Open,
+    Close,
+    Comma,
+    Equals,
+    Word(&'a [u8]),
+}
+
+/// What stands at the front of a line, behind its blanks.
+#[derive(Clone, Copy)]
+pub enum Front<'a> {
+    /// A token, and the bytes behind it.
+    Token(Token<'a>, &'a [u8]),
+    /// No more token: the line ends here, or a comment begins.
+    End,
+    /// A byte that may stand in a comment only.
+    Bad,
+}
+
+/// Whether the byte is a space or a tab.
+fn is_blank(byte: u8) -> bool
+    ensures { result ≡ is_blank byte }
+{
+    byte == b' ' || byte == b'\t'
+}
+
+/// Whether the byte may stand in a word: the visible ASCII bytes but the marks and `#`.
+fn is_word_byte(byte: u8) -> bool
+    ensures { result ≡ is_word_byte byte }
+{
+    matches!(byte, 0x21..=0x7e) && !matches!(byte, b'(' | b')' | b',' | b'=' | b'#')
+}
+
+/// How many blanks the bytes begin with.
+fn blank_len(bytes: &[u8]) -> usize
+    ensures counted { result ≡ prefix_len is_blank bytes.now }
+    ensures within { result ≤ length bytes.now }
+{
+    let mut len = 0;
+    while len < bytes.len() && is_blank(bytes[len]) {
+        len += 1;
+    }
+    len
+}
+
+/// How many word bytes the bytes begin with.
+fn word_len(bytes: &[u8]) -> usize
+    ensures counted { result ≡ prefix_len is_word_byte bytes.now }
+    ensures within { result ≤ length bytes.now }
+{
+    let mut len = 0;
+    while len < bytes.len() && is_word_byte(bytes[len]) {
+        len += 1;
+    }
+    len
+}
+
+/// The token that bytes without a blank in front begin with.
+fn token_at<'a>(bytes: &'a [u8]) -> Front<'a>
+    requires { prefix_len is_blank bytes.now ≡ 0 }
+    ensures { IsFront bytes.now result }
+{
+    let Some((first, rest)) = bytes.split_first() else {
+        return Front::End;
+    };
+    match *first {
+        b'#' => Front::End,
+        b'(' => Front::Token(Token::Open, rest),
+        b')' => Front::Token(Token::Close, rest),
+        b',' => Front::Token(Token::Comma, rest),
+        b'=' => Front::Token(Token::Equals, rest),
+        _ => word_at(bytes),
+    }
+}
+
+/// The word that the bytes begin with, where they begin with a word byte.
+fn word_at<'a>(bytes: &'a [u8]) -> Front<'a>
+    requires { IsPlainStart bytes.now }
+    ensures { IsFront bytes.now result }
+{
+    let len = word_len(bytes);
+    if len == 0 {
+        return Front::Bad;
+    }
+    let (word, rest) = bytes.split_at(len);
+    Front::Token(Token::Word(word), rest)
+}
+
+/// What stands at the front of a line.
+pub fn next_token<'a>(line: &'a [u8]) -> Front<'a>
+    ensures { IsFront line.now result }
+{
+    token_at(&line[blank_len(line)..])
+}

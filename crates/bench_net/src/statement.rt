@@ -1,0 +1,230 @@
+//! The statement of one line.
+
+ghost use Rattle.std.specs.Prelude.{◌≡◌, ◌≢◌, ◌↔◌, ℕ, List, ◌∷◌, [], length, Some, None, option_map, option_and_then, IsTrue, IfSome, IfNone, IfOk, IfErr, MatchResult, ⊤};
+ghost use Rattle.std.specs.Str.{str_eq_ignore_ascii_case, str_to_ascii_lowercase};
+ghost use Rattle.bench_net.specs.Text.{Token as TextToken, Word};
+ghost use Rattle.bench_net.specs.Statement.{Name};
+ghost use Rattle.bench_net.specs.Plain.{tokens_of, kind_of_lower, has_arity, gate_with, cell_with, driven_by, read_tokens, stated_of, Leads};
+ghost use Rattle.bench_net.specs.Parsed.{names_of, stands_for, args_in, IsArgument, port_of, driven_tokens, IsReading, AreRead, IsLineReading};
+
+use crate::Kind;
+use crate::fault::LineFault;
+use crate::scan::{Front, Token, next_token};
+use smallvec::SmallVec;
+use std::alloc::Global;
+
+/// The names of a gate's arguments, in order.
+pub type Arguments<'a> = SmallVec<&'a [u8], 4>;
+
+/// A statement by its names, which borrow the text.
+#[derive(Drop)]
+pub enum Stated<'a> {
+    Input(&'a [u8]),
+    Output(&'a [u8]),
+    Gate(&'a [u8], Kind, Arguments<'a>),
+    Dff(&'a [u8], &'a [u8]),
+}
+
+/// An argument, and the bytes of the arguments behind it where there are more.
+#[derive(Clone, Copy)]
+struct Argument<'a> {
+    name: &'a [u8],
+    more: Option<&'a [u8]>,
+}
+
+/// Whether the word is the keyword, in any ASCII case.
+fn is_keyword(word: &[u8], keyword: &[u8]) -> bool
+    ensures { result ≡ str_eq_ignore_ascii_case word.now keyword.now }
+{
+    word.eq_ignore_ascii_case(keyword)
+}
+
+/// The kind that a word names, in any ASCII case.
+fn kind_named(word: &[u8]) -> Option<Kind>
+    ensures { result ≡ kind_of_lower (str_to_ascii_lowercase word.now) }
+{
+    if is_keyword(word, b"AND") {
+        Some(Kind::And)
+    } else if is_keyword(word, b"NAND") {
+        Some(Kind::Nand)
+    } else if is_keyword(word, b"OR") {
+        Some(Kind::Or)
+    } else if is_keyword(word, b"NOR") {
+        Some(Kind::Nor)
+    } else if is_keyword(word, b"XOR") {
+        Some(Kind::Xor)
+    } else if is_keyword(word, b"XNOR") {
+        Some(Kind::Xnor)
+    } else if is_keyword(word, b"NOT") {
+        Some(Kind::Not)
+    } else if is_keyword(word, b"BUFF") || is_keyword(word, b"BUF") {
+        Some(Kind::Buff)
+    } else {
+        None
+    }
+}
+
+/// Whether a gate of the kind may have so many arguments.
+fn takes(kind: Kind, count: usize) -> bool
+    ensures { (args : List Name) → length args ≡ count → result ≡ has_arity kind args }
+{
+    match kind {
+        Kind::Not | Kind::Buff => count == 1,
+        _ => 1 <= count,
+    }
+}
+
+/// Whether only blanks and a comment are left.
+fn is_end(rest: &[u8]) -> bool
+    ensures { IsTrue result ↔ (tokens_of rest.now ≡ Some []) }
+{
+    matches!(next_token(rest), Front::End)
+}
+
+/// The word at the front, and what stands behind it.
+fn leading_word<'a>(bytes: &'a [u8]) -> Option<(&'a [u8], &'a [u8])>
+    ensures found { IfSome result (λ p. Leads bytes.now (Word p.0.now) p.1.now) }
+    ensures none { IfNone result ((w : List ℕ) (ts : List TextToken) → tokens_of bytes.now ≢ Some (Word w ∷ ts)) }
+{
+    match next_token(bytes) {
+        Front::Token(Token::Word(word), rest) => Some((word, rest)),
+        _ => None,
+    }
+}
+
+/// The argument at the front: a word with a comma behind it, or one with the parenthesis that ends the line.
+fn leading_argument<'a>(bytes: &'a [u8]) -> Option<Argument<'a>>
+    ensures { IsArgument bytes.now result }
+{
+    let (name, rest) = leading_word(bytes)?;
+    match next_token(rest) {
+        Front::Token(Token::Comma, more) => Some(Argument {
+            name,
+            more: Some(more),
+        }),
+        Front::Token(Token::Close, rest) => {
+            if is_end(rest) {
+                Some(Argument { name, more: None })
+            } else {
+                None
+            }
+        }
+        _ => None,
+    }
+}
+
+/// The arguments up to the parenthesis that ends the line.
+fn read_arguments<'a>(alloc: Global, bytes: &'a [u8]) -> Result<Arguments<'a>, LineFault>
+    ensures ok { IfOk result (λ args. args_in bytes.now ≡ Some (names_of args.items)) }
+    ensures refused { IfErr result (λ fault. fault ≡ LineFault.Refused → args_in bytes.now ≡ None) }
+{
+    let mut arguments = SmallVec::new(alloc);
+    let mut rest = bytes;
+    loop {
+        let Some(argument) = leading_argument(rest) else {
+            return Err(LineFault::Refused);
+        };
+        arguments.push(argument.name)?;
+        match argument.more {
+            None => return Ok(arguments),
+            Some(more) => rest = more,
+        }
+    }
+}
+
+/// `INPUT ( n )` or `OUTPUT ( n )`, from the word before the parenthesis and the arguments.
+fn port<'a>(word: &[u8], arguments: Arguments<'a>) -> Option<Stated<'a>>
+    ensures { option_map stands_for result ≡ port_of word.now (names_of arguments.entry.items) }
+{
+    let [name] = arguments.as_slice() else {
+        return None;
+    };
+    let name = *name;
+    if is_keyword(word, b"INPUT") {
+        Some(Stated::Input(name))
+    } else if is_keyword(word, b"OUTPUT") {
+        Some(Stated::Output(name))
+    } else {
+        None
+    }
+}
+
+/// `n = KIND ( a , b , .. )`, from the name, the word and the arguments.
+fn gate<'a>(name: &'a [u8], word: &[u8], arguments: Arguments<'a>) -> Option<Stated<'a>>
+    ensures { option_map stands_for result ≡ gate_with name.now (names_of arguments.entry.items) (kind_of_lower (str_to_ascii_lowercase word.now)) }
+{
+    let kind = kind_named(word)?;
+    if takes(kind, arguments.len()) {
+        Some(Stated::Gate(name, kind, arguments))
+    } else {
+        None
+    }
+}
+
+/// `q = DFF ( d )`, from the name and the arguments.
+fn cell<'a>(name: &'a [u8], arguments: Arguments<'a>) -> Option<Stated<'a>>
+    ensures { option_map stands_for result ≡ cell_with name.now (names_of arguments.entry.items) }
+{
+    let [data] = arguments.as_slice() else {
+        return None;
+    };
+    Some(Stated::Dff(name, *data))
+}
+
+/// The statement that drives a name, from the word before the parenthesis and the arguments.
+fn driven<'a>(name: &'a [u8], word: &[u8], arguments: Arguments<'a>) -> Option<Stated<'a>>
+    ensures { option_map stands_for result ≡ driven_by name.now (str_to_ascii_lowercase word.now) (names_of arguments.entry.items) }
+{
+    if is_keyword(word, b"DFF") {
+        cell(name, arguments)
+    } else {
+        gate(name, word, arguments)
+    }
+}
+
+/// The statement of a line `name = ..`, from the bytes behind the equals sign.
+fn read_driven<'a>(alloc: Global, name: &'a [u8], bytes: &'a [u8]) -> Result<Stated<'a>, LineFault>
+    ensures { IsReading (option_and_then (driven_tokens name.now) (tokens_of bytes.now)) result }
+{
+    let Some((word, rest)) = leading_word(bytes) else {
+        return Err(LineFault::Refused);
+    };
+    let Front::Token(Token::Open, rest) = next_token(rest) else {
+        return Err(LineFault::Refused);
+    };
+    let arguments = read_arguments(alloc, rest)?;
+    driven(name, word, arguments).ok_or(LineFault::Refused)
+}
+
+/// The statement of a line `word ( .. )`, from the bytes behind the parenthesis.
+fn read_port<'a>(alloc: Global, word: &'a [u8], bytes: &'a [u8]) -> Result<Stated<'a>, LineFault>
+    ensures { IsReading (option_and_then (port_of word.now) (args_in bytes.now)) result }
+{
+    let arguments = read_arguments(alloc, bytes)?;
+    port(word, arguments).ok_or(LineFault::Refused)
+}
+
+/// The statement of a line that begins with this word, from the bytes behind it.
+fn read_behind<'a>(alloc: Global, word: &'a [u8], bytes: &'a [u8]) -> Result<Stated<'a>, LineFault>
+    ensures { IsReading (option_and_then (λ ts. read_tokens (Word word.now ∷ ts)) (tokens_of bytes.now)) result }
+{
+    match next_token(bytes) {
+        Front::Token(Token::Open, rest) => read_port(alloc, word, rest),
+        Front::Token(Token::Equals, rest) => read_driven(alloc, word, rest),
+        _ => Err(LineFault::Refused),
+    }
+}
+
+/// What a line states: nothing where it has no token, and else its statement.
+pub fn read_line<'a>(alloc: Global, line: &'a [u8]) -> Result<Option<Stated<'a>>, LineFault>
+    ensures { IsLineReading (stated_of line.now) result }
+{
+    match next_token(line) {
+        Front::End => Ok(None),
+        Front::Token(Token::Word(word), rest) => {
+            let statement = read_behind(alloc, word, rest)?;
+            Ok(Some(statement))
+        }
+        _ => Err(LineFault::Refused),
+    }
+}
