@@ -242,7 +242,7 @@ first_are pins n marks len at = record {
     small s k (Some read) e lt m = let bad : None ≡ Some k = e in cc
 
     gate : (s : ℕ) (o : Option (List ℕ)) → o ≡ o → level_of_mark (Some (mark_from o)) ≡ None → (read : List ℕ) × (o ≡ Some read)
-    gate s None r e = let bad : Some 0 ≡ None = e in cc
+    gate s None r e = let bad : ◌≡◌ {A = Option ℕ} (Some 0) None = e in cc
     gate s (Some read) r e = (read, refl)
 
 pub first_closed : (pins : ℕ → Option (List ℕ)) (n : ℕ) (marks : List Mark) → length marks ≡ n → ((s : ℕ) → s < n → slice_get marks s ≡ Some (mark_from (pins s))) → NoneOpen marks
