@@ -12,10 +12,11 @@ use Rattle.bench_net.specs.declared.line.Line.TheVariants as line
 use Rattle.bench_net.specs.Statement.{Name, Statement, Input, Output, Gate, Dff, defined}
 use Rattle.bench_net.specs.Reading.{statements}
 use Rattle.bench_net.specs.Scan.{names}
-use Rattle.bench_net.specs.Circuit.{IsCircuit, IsStuck, sink_count, max_signals, max_sinks}
+use Rattle.bench_net.specs.Circuit.{HaveArities, IsCircuit, IsStuck, sink_count, max_signals, max_sinks}
 use Rattle.bench_net.specs.Refusal.{at_line, IsLowest, Defines, IsRedefinition, NoLine, IsCyclic, IsAccepted, IsRefused}
 use Rattle.bench_net.specs.Stored.{name_at, statement_of, statements_of, AreLinesOf, AreStatements, IsCyclicLine, AreRefused}
 use Rattle.bench_net.proofs.Members.{Among, among, contained}
+use Rattle.bench_net.proofs.Arities.{arities_of_text}
 
 -- ---- where no line redefines a name, each name stands once
 
@@ -86,6 +87,7 @@ pub statements_are : (text : List ℕ) (ns : List Name) (lines : List Line) (at 
 statements_are text ns lines at of = record {
   numbered = of.numbered;
   once = subst (AllPairs (λ m n. m ≢ n)) names_same (distinct_names of.stated of.no_redefinition);
+  arities = subst HaveArities (sym of.same) (arities_of_text text of.stated of.within.each);
   signals = omega (arith, ap length names_same, of.within.signals);
   sinks = omega (arith, ap sink_count of.same, of.within.sinks);
   line_count = of.line_count;
