@@ -10,8 +10,9 @@ use Rattle.bench_net.proofs.SignalsLists.{joined_from, mapped_from, numbered_at,
 use Rattle.fault_model.specs.declared.Line.{Line}
 use Rattle.fault_model.specs.declared.Line.TheVariants as line
 use Rattle.fault_model.specs.Fault.{branch, branches}
-use Rattle.fault_model.specs.Lines.{lines_of, lines, AreStemsOf}
-use Rattle.fault_model.proofs.Lines.{branch_no_stem, lines_within}
+use Rattle.fault_model.specs.Lines.{AreStemsOf}
+use Rattle.fault_model.proofs.Lines.{lines_of, lines, branch_no_stem, lines_within}
+use Rattle.fault_model.proofs.Fronts.{at_front, at_end, below_or_at}
 
 -- the lines of the first signals
 abbrev pub lines_below : List Statement → ℕ → List Line
@@ -36,16 +37,6 @@ numbered_place (y ∷ xs) from (suc i) x e = let far : from + 1 + i ≡ from + s
 
 numbered_place_0 : {X : Type 0} (xs : List X) (i : ℕ) (x : X) → slice_get xs i ≡ Some x → slice_get (enumerate_from 0 xs) i ≡ Some (i, x)
 numbered_place_0 xs i x e = let zero_more : 0 + i ≡ i = omega arith in numbered_place xs 0 i x e ∙ ap (λ k. Some (k, x)) zero_more
-
--- what stands in a list stands there when more is put behind it
-at_front : {X : Type 0} (xs ys : List X) (i : ℕ) (x : X) → slice_get xs i ≡ Some x → slice_get (xs ++ ys) i ≡ Some x
-at_front [] ys i x e = let bad : None ≡ Some x = e in cc
-at_front (z ∷ xs) ys zero x e = e
-at_front (z ∷ xs) ys (suc i) x e = at_front xs ys i x e
-
-at_end : {X : Type 0} (xs ys : List X) (x : X) → slice_get (xs ++ x ∷ ys) (length xs) ≡ Some x
-at_end [] ys x = refl
-at_end (z ∷ xs) ys x = at_end xs ys x
 
 pub built_none : (c : List Statement) → Built c 0 [] []
 built_none c = record { lines_are = refl; stem_count = refl; each_stem = λ s lt. absurd (omega (arith, lt)) }
@@ -74,17 +65,8 @@ built_more c k n ls stems named b = record { lines_are = more; stem_count = coun
     older s (Some p) e h = rw (at_front stems (length ls ∷ []) s p e) (at_front ls (lines_of c (k, n)) p (line.Stem s) h)
 
     each : (s : ℕ) → s < k + 1 → option_and_then (slice_get ((ls ++ line.Stem k ∷ []) ++ map branch (branches c n))) (slice_get (stems ++ length ls ∷ []) s) ≡ Some (line.Stem s)
-    each s lt = rw together (go (nat_split s k lt))
+    each s lt = rw together (go (below_or_at s k lt))
       where
-        nat_split : (s k : ℕ) → s < k + 1 → (s < k) ⊎ (s ≡ k)
-        nat_split s zero lt = inr (omega (arith, lt))
-        nat_split zero (suc k) lt = inl (omega arith)
-        nat_split (suc s) (suc k) lt = go (nat_split s k (omega (arith, lt)))
-          where
-            go : (s < k) ⊎ (s ≡ k) → (suc s < suc k) ⊎ (suc s ≡ suc k)
-            go (inl h) = inl (omega (arith, h))
-            go (inr h) = inr (ap suc h)
-
         go : (s < k) ⊎ (s ≡ k) → option_and_then (slice_get (ls ++ lines_of c (k, n))) (slice_get (stems ++ length ls ∷ []) s) ≡ Some (line.Stem s)
         go (inl h) = older s (slice_get stems s) refl (b.each_stem s h)
         go (inr h) =

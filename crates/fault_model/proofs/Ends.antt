@@ -1,5 +1,5 @@
 -- Numbering the faults without a next, in the order of the list.
-use Rattle.std.proofs.Common.{◌≡◌, ◌<◌, ◌≤◌, ℕ, zero, suc, ◌+◌, refl, sym, ◌∙◌, ap, subst, Bool, true, false, List, [], ◌∷◌, ◌++◌, length, take, arith, inl, inr, ◌⊎◌, length-append}
+use Rattle.std.proofs.Common.{◌≡◌, ◌<◌, ◌≤◌, ℕ, ◌+◌, refl, sym, ◌∙◌, ap, subst, Bool, true, false, List, [], ◌∷◌, ◌++◌, length, take, arith, inl, inr, ◌⊎◌, length-append}
 use Rattle.std.specs.Prelude.{Option, Some, None, slice_get, map, filter, is_none, option_map, option_and_then, if◌then◌else◌}
 use Rattle.std.proofs.lemmas.List.{length-map, append-nil}
 use Rattle.bench_net.specs.Statement.{Statement}
@@ -8,6 +8,7 @@ use Rattle.bench_net.proofs.SignalsLists.{at_place, place_within}
 use Rattle.fault_model.specs.Fault.{Fault, faults}
 use Rattle.fault_model.specs.Collapse.{next, here, representatives, IsClassOf}
 use Rattle.fault_model.specs.Known.{HasEnds}
+use Rattle.fault_model.proofs.Fronts.{take_next, take_all, at_front, at_end, below_or_at}
 
 -- the representatives among the first faults
 abbrev pub ends_below : List Statement → ℕ → List Fault
@@ -19,14 +20,6 @@ pub record Numbered (c : List Statement) (k : ℕ) (class_of reps : List ℕ) : 
   pub reps_are : map (slice_get (faults c)) reps ≡ map Some (ends_below c k)
   pub each_end : (i : ℕ) (f : Fault) → i < k → slice_get (faults c) i ≡ Some f → next c f ≡ None
       → (n : ℕ) × (slice_get class_of i ≡ Some n) × (slice_get (ends_below c k) n ≡ Some f)
-
-take_next : {X : Type 0} (xs : List X) (k : ℕ) (x : X) → slice_get xs k ≡ Some x → take (k + 1) xs ≡ take k xs ++ x ∷ []
-take_next xs k x e = let one : suc k ≡ k + 1 = omega arith in ap (λ n. take n xs) (sym one) ∙ go xs k e
-  where
-    go : (ys : _) (j : ℕ) → slice_get ys j ≡ Some x → take (suc j) ys ≡ take j ys ++ x ∷ []
-    go [] j e = let bad : None ≡ Some x = e in cc
-    go (y ∷ ys) zero e = let same : y ≡ x = cc in ap (λ z. z ∷ []) same
-    go (y ∷ ys) (suc j) e = ap (λ zs. y ∷ zs) (go ys j e)
 
 filter_push : {X : Type 0} (test : X → Bool) (xs : List X) (x : X) → filter test (xs ++ x ∷ []) ≡ filter test xs ++ (if test x then x ∷ [] else [])
 filter_push test [] x = refl
@@ -40,24 +33,6 @@ filter_push test (y ∷ xs) x = go (test y) (filter_push test xs x)
 map_push : {X Y : Type 0} (f : X → Y) (xs : List X) (x : X) → map f (xs ++ x ∷ []) ≡ map f xs ++ f x ∷ []
 map_push f [] x = refl
 map_push f (y ∷ xs) x = ap (λ zs. f y ∷ zs) (map_push f xs x)
-
-pub at_front : {X : Type 0} (xs ys : List X) (i : ℕ) (x : X) → slice_get xs i ≡ Some x → slice_get (xs ++ ys) i ≡ Some x
-at_front [] ys i x e = let bad : None ≡ Some x = e in cc
-at_front (z ∷ xs) ys zero x e = e
-at_front (z ∷ xs) ys (suc i) x e = at_front xs ys i x e
-
-pub at_end : {X : Type 0} (xs ys : List X) (x : X) → slice_get (xs ++ x ∷ ys) (length xs) ≡ Some x
-at_end [] ys x = refl
-at_end (z ∷ xs) ys x = at_end xs ys x
-
-pub below_or_at : (s k : ℕ) → s < k + 1 → (s < k) ⊎ (s ≡ k)
-below_or_at s zero lt = inr (omega (arith, lt))
-below_or_at zero (suc k) lt = inl (omega arith)
-below_or_at (suc s) (suc k) lt = go (below_or_at s k (omega (arith, lt)))
-  where
-    go : (s < k) ⊎ (s ≡ k) → (suc s < suc k) ⊎ (suc s ≡ suc k)
-    go (inl h) = inl (omega (arith, h))
-    go (inr h) = inr (ap suc h)
 
 module _ (c : List Statement) (k : ℕ) (f : Fault) (class_of reps : List ℕ) (there : slice_get (faults c) k ≡ Some f) (b : Numbered c k class_of reps) where
   below_more : ends_below c (k + 1) ≡ ends_below c k ++ (if is_none (next c f) then f ∷ [] else [])
@@ -126,7 +101,7 @@ module _ (c : List Statement) (k : ℕ) (f : Fault) (class_of reps : List ℕ) (
               let same : f ≡ g = cc in
               let bad : Some h ≡ None = sym some ∙ (ap (next c) same ∙ ends) in cc
 
--- one more, whichever it is, from what the look-up of the next fault answered
+-- before the first fault nothing is numbered
 pub numbered_none : (c : List Statement) → Numbered c 0 [] []
 numbered_none c = record { counted = refl; few = omega arith; reps_are = refl; each_end = λ i f lt at e. absurd (omega (arith, lt)) }
 
@@ -152,10 +127,6 @@ pub answer_is_some : (c : List Statement) (k : ℕ) (f : Fault) (r : Option ℕ)
     → option_map (slice_get (faults c)) r ≡ option_map Some (option_and_then (next c) (slice_get (faults c) k)) → is_none r ≡ false → (g : Fault) × (next c f ≡ Some g)
 answer_is_some c k f None there e answer = let bad : true ≡ false = answer in cc
 answer_is_some c k f (Some j) there e answer = let p = answer_some c k j f there e in (p.0, p.1)
-
-take_all : {X : Type 0} (xs : List X) → take (length xs) xs ≡ xs
-take_all [] = refl
-take_all (x ∷ xs) = ap (λ zs. x ∷ zs) (take_all xs)
 
 pub all_ends : (c : List Statement) → ends_below c (length (faults c)) ≡ representatives c
 all_ends c = ap (filter (λ f. is_none (next c f))) (take_all (faults c))

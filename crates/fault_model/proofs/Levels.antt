@@ -7,11 +7,12 @@ use Rattle.bench_net.specs.Circuit.{IsWellFormed}
 use Rattle.bench_net.specs.Level.{greatest, AreLevels, HasLevel, GoesBefore, IsLevelOrder}
 use Rattle.bench_net.proofs.Members.{Among, among, contained}
 use Rattle.bench_net.proofs.Numbers.{name_of-signal}
-use Rattle.bench_net.proofs.SignalsLists.{at_place, place_within, within_place, among_left, among_right}
+use Rattle.bench_net.proofs.SignalsLists.{at_place, place_within, within_place, among_left, among_right, among_map}
 use Rattle.bench_net.proofs.SignalsDefined.{read_named, signal_apart}
 use Rattle.fault_model.specs.Fault.{Fault}
 use Rattle.fault_model.proofs.Unique.{Driven, driven}
 use Rattle.fault_model.proofs.Listed.{Step}
+use Rattle.fault_model.proofs.Shown.{map_agree}
 use Rattle.fault_model.proofs.Chains.{read_defined, gate_defined, read_below}
 
 -- the greatest of some numbers isn't below any of them
@@ -27,15 +28,6 @@ below_fold (m ∷ ns) a n (inr h) = below_fold ns (max a m) n h
 pub below_greatest : (ns : List ℕ) (n : ℕ) → Among n ns → n ≤ greatest ns
 below_greatest ns n h = below_fold ns 0 n h
 
-levels_map : (l k : Name → ℕ) (args : List Name) → ((a : Name) → Among a args → l a ≡ k a) → map l args ≡ map k args
-levels_map l k [] same = refl
-levels_map l k (a ∷ args) same = rw (same a (inl refl), levels_map l k args (λ b h. same b (inr h))) refl
-
-among_mapped : (f : Name → ℕ) (xs : List Name) (x : Name) → Among x xs → Among (f x) (map f xs)
-among_mapped f [] x a = absurd a
-among_mapped f (z ∷ xs) x (inl e) = inl (ap f e)
-among_mapped f (z ∷ xs) x (inr a) = inr (among_mapped f xs x a)
-
 module _ (c : List Statement) (well : IsWellFormed c) (l k : Name → ℕ) (p : AreLevels c l) (q : AreLevels c k) where
   below_same : (bound : ℕ) (n : Name) → well.acyclic.0 n < bound → Among n (names c) → l n ≡ k n
   below_same zero n lt a = absurd (omega (arith, lt))
@@ -49,7 +41,7 @@ module _ (c : List Statement) (well : IsWellFormed c) (l k : Name → ℕ) (p : 
       go ih (inr (inl h)) = by_source (among_right (inputs c) (map (λ cell. cell.0) (cells c)) n h)
       go ih (inr (inr h)) =
           let at : Contains c (Gate n h.0 h.1) = contained c (Gate n h.0 h.1) h.2 in
-          p.gate n h.0 h.1 at ∙ (ap (λ ns. 1 + greatest ns) (levels_map l k h.1 same) ∙ sym (q.gate n h.0 h.1 at))
+          p.gate n h.0 h.1 at ∙ (ap (λ ns. 1 + greatest ns) (map_agree l k h.1 same) ∙ sym (q.gate n h.0 h.1 at))
         where
           same : (a : Name) → Among a h.1 → l a ≡ k a
           same a b =
@@ -64,7 +56,7 @@ module _ (c : List Statement) (well : IsWellFormed c) (l k : Name → ℕ) (p : 
 step_rises : (c : List Statement) (f g : Fault) (s : Step c f g) (level : Name → ℕ) → AreLevels c level → level s.read < level s.name
 step_rises c f g s level p =
     let at : Contains c (Gate s.name s.kind s.args) = contained c (Gate s.name s.kind s.args) s.stands in
-    let most : level s.read ≤ greatest (map level s.args) = below_greatest (map level s.args) (level s.read) (among_mapped level s.args s.read (at_place s.args s.pin s.read s.reads)) in
+    let most : level s.read ≤ greatest (map level s.args) = below_greatest (map level s.args) (level s.read) (among_map level s.args s.read (at_place s.args s.pin s.read s.reads)) in
     let is : level s.name ≡ 1 + greatest (map level s.args) = p.gate s.name s.kind s.args at in
     omega (arith, most, is)
 

@@ -1,8 +1,9 @@
 -- The fault list is each line stuck at 0 and at 1, no line stands twice, and the lines are within the limits.
-use Rattle.std.proofs.Common.{◌≡◌, ◌≤◌, ℕ, zero, suc, ◌+◌, ◌*◌, refl, sym, ◌∙◌, ap, subst, Bool, true, false, List, [], ◌∷◌, ◌++◌, length, arith, inl, inr, length-append, append_assoc}
+use Rattle.std.proofs.Common.{◌≡◌, ◌≤◌, ℕ, zero, suc, ◌+◌, ◌*◌, refl, sym, ◌∙◌, ap, subst, Bool, true, false, List, [], ◌∷◌, ◌++◌, length, arith, inl, inr, length-append}
 use Rattle.std.specs.Prelude.{Some, slice_get, map, flat_map, filter, nat_le, option_map, if◌then◌else◌}
 use Rattle.std.specs.List.{enumerate_from}
 use Rattle.std.proofs.lemmas.List.{length-map}
+use Rattle.std.proofs.lemmas.List.Concat.{flat_map-append}
 use Rattle.bench_net.specs.declared.Sink.{Sink}
 use Rattle.bench_net.specs.declared.Sink.TheVariants as sink
 use Rattle.bench_net.specs.Statement.{Name, Statement}
@@ -15,16 +16,19 @@ use Rattle.bench_net.proofs.SignalsOnce.{distinct_append, distinct_map, sinks_on
 use Rattle.fault_model.specs.declared.Line.{Line}
 use Rattle.fault_model.specs.declared.Line.TheVariants as line
 use Rattle.fault_model.specs.Fault.{Fault, branch, branches, both, faults_of, faults}
-use Rattle.fault_model.specs.Lines.{lines_of, lines}
 use Rattle.fault_model.proofs.Listed.{branch_among}
+
+-- the lines of one signal: its stem, then its branches
+abbrev pub lines_of : List Statement → ℕ × Name → List Line
+lines_of c at = line.Stem at.0 ∷ map branch (branches c at.1)
+
+-- the lines of all signals, in the order of the fault list
+abbrev pub lines : List Statement → List Line
+lines c = flat_map (lines_of c) (enumerate_from 0 (names c))
 
 joined_map : {X Y Z : Type 0} (f : Y → List Z) (g : X → Y) (xs : List X) → flat_map f (map g xs) ≡ flat_map (λ x. f (g x)) xs
 joined_map f g [] = refl
 joined_map f g (x ∷ xs) = ap (λ zs. f (g x) ++ zs) (joined_map f g xs)
-
-joined-append : {X Y : Type 0} (f : X → List Y) (xs ys : List X) → flat_map f (xs ++ ys) ≡ flat_map f xs ++ flat_map f ys
-joined-append f [] ys = refl
-joined-append f (x ∷ xs) ys = ap (λ zs. f x ++ zs) (joined-append f xs ys) ∙ sym (append_assoc (f x) (flat_map f xs) (flat_map f ys))
 
 joined_same : {X Y : Type 0} (f g : X → List Y) (xs : List X) → ((x : X) → f x ≡ g x) → flat_map f xs ≡ flat_map g xs
 joined_same f g [] same = refl
@@ -32,7 +36,7 @@ joined_same f g (x ∷ xs) same = rw (same x, joined_same f g xs same) refl
 
 joined_twice : {X Y Z : Type 0} (f : Y → List Z) (g : X → List Y) (xs : List X) → flat_map f (flat_map g xs) ≡ flat_map (λ x. flat_map f (g x)) xs
 joined_twice f g [] = refl
-joined_twice f g (x ∷ xs) = joined-append f (g x) (flat_map g xs) ∙ ap (λ zs. flat_map f (g x) ++ zs) (joined_twice f g xs)
+joined_twice f g (x ∷ xs) = flat_map-append f (g x) (flat_map g xs) ∙ ap (λ zs. flat_map f (g x) ++ zs) (joined_twice f g xs)
 
 pub faults_are : (c : List Statement) → flat_map both (lines c) ≡ faults c
 faults_are c =

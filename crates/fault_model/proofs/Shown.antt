@@ -64,7 +64,7 @@ fixed Not a b args bits e arity len h = ap not (only_one bits a (len ∙ arity) 
 fixed Buff a b args bits e arity len h = only_one bits a (len ∙ arity) h ∙ ap (λ o. unwrap_or o b) e
 
 -- two functions that agree on the elements of a list map it alike
-map_agree : {X Y : Type 0} (f g : X → Y) (xs : List X) → ((x : X) → Among x xs → f x ≡ g x) → map f xs ≡ map g xs
+pub map_agree : {X Y : Type 0} (f g : X → Y) (xs : List X) → ((x : X) → Among x xs → f x ≡ g x) → map f xs ≡ map g xs
 map_agree f g [] same = refl
 map_agree f g (x ∷ xs) same = rw (same x (inl refl), map_agree f g xs (λ y a. same y (inr a))) refl
 

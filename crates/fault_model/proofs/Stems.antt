@@ -14,6 +14,7 @@ use Rattle.fault_model.specs.Fault.{Fault, faults}
 use Rattle.fault_model.specs.Known.{HasClassAt, HasEnds, HasNext, HasStems, KeepsClasses}
 use Rattle.fault_model.proofs.Listed.{Step, step_of, next_on_stem}
 use Rattle.fault_model.proofs.Chains.{gate_defined}
+use Rattle.fault_model.proofs.Fronts.{below_or_at}
 use Rattle.fault_model.proofs.Lines.{one_fault_place}
 use Rattle.fault_model.proofs.Next.{listed_in_circuit}
 use Rattle.fault_model.proofs.Levels.{later}
@@ -120,18 +121,9 @@ pub followed_more : (c : List Statement) (k : ℕ) (before after : List ℕ) →
 followed_more c k before after b kept own = record {
   ends = ends_kept c before after b.ends kept;
   stems = λ i s bit at. kept i (b.stems i s bit at);
-  known = λ i lt. go i (split i k lt);
+  known = λ i lt. go i (below_or_at i k lt);
 }
   where
-    split : (m n : ℕ) → m < n + 1 → (m < n) ⊎ (m ≡ n)
-    split m zero lt = inr (omega (arith, lt))
-    split zero (suc n) lt = inl (omega arith)
-    split (suc m) (suc n) lt = more (split m n (omega (arith, lt)))
-      where
-        more : (m < n) ⊎ (m ≡ n) → (suc m < suc n) ⊎ (suc m ≡ suc n)
-        more (inl h) = inl (omega (arith, h))
-        more (inr e) = inr (ap suc e)
-
     go : (i : ℕ) → (i < k) ⊎ (i ≡ k) → HasClassAt c after i
     go i (inl h) = kept i (b.known i h)
     go i (inr e) = subst (HasClassAt c after) (sym e) own

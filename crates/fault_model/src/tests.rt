@@ -148,3 +148,18 @@ fn controlling_values_of_an_and(rt: HostRuntime) -> Result<(), Fail> {
     assert_eq!(rt; representatives(&rt, rt.alloc(), text)?.as_str(), want);
     Ok(())
 }
+
+#[test]
+fn long_chain_of_inverters(rt: HostRuntime) -> Result<(), Fail> {
+    let mut text = String::from_str(rt.alloc(), "INPUT(n0)\nOUTPUT(n20000)\n")?;
+    for gate in 1..=20_000u32 {
+        let read = gate - 1;
+        text.push_str(format!(in rt.alloc(); "n{gate} = NOT(n{read})\n")?.as_str())?;
+    }
+    let circuit = read_bench(rt.alloc(), text.as_bytes())?;
+    let list = list_faults(rt.alloc(), &circuit)?;
+    let classes = collapse(rt.alloc(), &circuit, &list)?;
+    assert_eq!(rt; list.count(), 40_002);
+    assert_eq!(rt; classes.count(), 2);
+    Ok(())
+}
