@@ -15,40 +15,54 @@ pub fn least_of_none()
 /// The least test over a table is that of the least block that is hit, and there is none exactly
 /// where all blocks are clear.
 pub fn least_hit()
-    ensures hit { (table : Table) (blocks class t : ℕ) → (least table blocks class ≡ Some t) ↔ IsLeastHit table blocks class t }
-    ensures clear { (table : Table) (blocks class : ℕ) → (least table blocks class ≡ None) ↔ AreClear table blocks class }
+    ensures hit { (table : Table) (blocks class t : ℕ)
+        → (least table blocks class ≡ Some t) ↔ IsLeastHit table blocks class t }
+    ensures clear { (table : Table) (blocks class : ℕ)
+        → (least table blocks class ≡ None) ↔ AreClear table blocks class }
 {}
 
 /// Where the outcome of each block is the first of its tests that pass, the least test over the
 /// table is the first test that passes.
 pub fn least_is_first()
     ensures { (passes : ℕ → Bool) (table : Table) (tests class : ℕ)
-        → ((block : ℕ) → block < blocks tests → IsFirstOfBlock (λ t. passes t ≡ true) tests block (table class block))
+        → ((block : ℕ) → block < blocks tests
+        → IsFirstOfBlock (λ t. passes t ≡ true) tests block (table class block))
         → IsFirstTest (λ t. passes t ≡ true) tests (least table (blocks tests) class) }
 {}
 
 /// A test text has its tests or is refused, never both, and has one list of tests or one fault.
 pub fn one_answer_of_tests()
     ensures some { (text : List ℕ) (width : ℕ)
-        → ((t : TestList) × HasTests text width t) ⊎ ((fault : TestFault) × IsTestRefusal text width fault) }
-    ensures not_both { (text : List ℕ) (width : ℕ) (t : TestList) (fault : TestFault) → HasTests text width t → ¬ IsTestRefusal text width fault }
-    ensures one_list { (text : List ℕ) (width : ℕ) (s t : TestList) → HasTests text width s → HasTests text width t → s ≡ t }
-    ensures one_fault { (text : List ℕ) (width : ℕ) (f g : TestFault) → IsTestRefusal text width f → IsTestRefusal text width g → f ≡ g }
+        → ((t : TestList) × HasTests text width t)
+        ⊎ ((fault : TestFault) × IsTestRefusal text width fault) }
+    ensures not_both { (text : List ℕ) (width : ℕ) (t : TestList) (fault : TestFault)
+        → HasTests text width t → ¬ IsTestRefusal text width fault }
+    ensures one_list { (text : List ℕ) (width : ℕ) (s t : TestList)
+        → HasTests text width s → HasTests text width t → s ≡ t }
+    ensures one_fault { (text : List ℕ) (width : ℕ) (f g : TestFault)
+        → IsTestRefusal text width f → IsTestRefusal text width g → f ≡ g }
 {}
 
 /// An order text has its moves or is refused, never both, and has one list of moves or one fault.
 pub fn one_answer_of_order()
     ensures some { (text : List ℕ) (workers : ℕ)
-        → ((moves : List ℕ) × HasMoves text workers moves) ⊎ ((fault : OrderFault) × IsOrderRefusal text workers fault) }
-    ensures not_both { (text : List ℕ) (workers : ℕ) (moves : List ℕ) (fault : OrderFault) → HasMoves text workers moves → ¬ IsOrderRefusal text workers fault }
-    ensures one_list { (text : List ℕ) (workers : ℕ) (m n : List ℕ) → HasMoves text workers m → HasMoves text workers n → m ≡ n }
-    ensures one_fault { (text : List ℕ) (workers : ℕ) (f g : OrderFault) → IsOrderRefusal text workers f → IsOrderRefusal text workers g → f ≡ g }
+        → ((moves : List ℕ) × HasMoves text workers moves)
+        ⊎ ((fault : OrderFault) × IsOrderRefusal text workers fault) }
+    ensures not_both { (text : List ℕ) (workers : ℕ) (moves : List ℕ) (fault : OrderFault)
+        → HasMoves text workers moves → ¬ IsOrderRefusal text workers fault }
+    ensures one_list { (text : List ℕ) (workers : ℕ) (m n : List ℕ)
+        → HasMoves text workers m → HasMoves text workers n → m ≡ n }
+    ensures one_fault { (text : List ℕ) (workers : ℕ) (f g : OrderFault)
+        → IsOrderRefusal text workers f → IsOrderRefusal text workers g → f ≡ g }
 {}
 
 /// The tests of a text have their width and are within the limit, and the moves of an order name
 /// workers and are within the limit.
 pub fn accepted_in_range()
-    ensures tests { (text : List ℕ) (width : ℕ) (t : TestList) → HasTests text width t → IsTestList t }
-    ensures workers { (text : List ℕ) (workers : ℕ) (moves : List ℕ) → HasMoves text workers moves → All (λ worker. worker < workers) moves }
-    ensures moves { (text : List ℕ) (workers : ℕ) (moves : List ℕ) → HasMoves text workers moves → length moves ≤ max_moves }
+    ensures tests { (text : List ℕ) (width : ℕ) (t : TestList)
+        → HasTests text width t → IsTestList t }
+    ensures workers { (text : List ℕ) (workers : ℕ) (moves : List ℕ)
+        → HasMoves text workers moves → All (λ worker. worker < workers) moves }
+    ensures moves { (text : List ℕ) (workers : ℕ) (moves : List ℕ)
+        → HasMoves text workers moves → length moves ≤ max_moves }
 {}

@@ -21,7 +21,8 @@ const MAX_DIGITS: usize = 9;
 /// memory ran out.
 pub fn read_order(alloc: Global, text: &[u8], workers: u32) -> Result<Vec<u32>, OrderFault>
     ensures moves { IfOk result (λ moves. HasMoves text.now workers moves.items) }
-    ensures refused { IfErr result (λ fault. (fault ≡ OrderFault.Memory) ⊎ IsOrderRefusal text.now workers fault) }
+    ensures refused { IfErr result (λ fault.
+        (fault ≡ OrderFault.Memory) ⊎ IsOrderRefusal text.now workers fault) }
 {
     let mut moves = Vec::new(alloc);
     for row in Rows::new(text) {
@@ -34,8 +35,10 @@ pub fn read_order(alloc: Global, text: &[u8], workers: u32) -> Result<Vec<u32>, 
 /// The worker that a row names, given with the row's place among the rows.
 fn worker_of(place: usize, row: Row<'_>, workers: u32) -> Result<u32, OrderFault>
     ensures accepted { IfOk result (λ worker.
-        (order_fault workers (place, row_of row.entry) ≡ None) × (worker ≡ number row.entry.bytes.now)) }
-    ensures refused { IfErr result (λ fault. order_fault workers (place, row_of row.entry) ≡ Some fault) }
+        (order_fault workers (place, row_of row.entry) ≡ None)
+        × (worker ≡ number row.entry.bytes.now)) }
+    ensures refused { IfErr result (λ fault.
+        order_fault workers (place, row_of row.entry) ≡ Some fault) }
 {
     if place >= MAX_MOVES {
         return Err(OrderFault::TooMany);

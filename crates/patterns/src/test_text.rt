@@ -29,7 +29,10 @@ impl Model for Tests {
 
     ghost use Rattle.patterns.specs.Words.{tests_of, AreWords};
 
-    ghost view = { λ t. record { width = t.width; tests = tests_of t.width t.count (map (λ block. block.items) t.words.items) } };
+    ghost view = { λ t. record {
+      width = t.width;
+      tests = tests_of t.width t.count (map (λ block. block.items) t.words.items);
+    } };
 
     ghost invariant = { λ t. AreWords t.width t.count (map (λ block. block.items) t.words.items) };
 }
@@ -45,7 +48,8 @@ impl Model for Tests {
 pub fn read_tests(alloc: Global, text: &[u8], width: u32) -> Result<Tests, TestFault>
     requires { 1 ≤ width }
     ensures tests { IfOk result (λ t. HasTests text.now width t) }
-    ensures refused { IfErr result (λ fault. (fault ≡ TestFault.Memory) ⊎ IsTestRefusal text.now width fault) }
+    ensures refused { IfErr result (λ fault.
+        (fault ≡ TestFault.Memory) ⊎ IsTestRefusal text.now width fault) }
 {
     let mut tests = Tests::new(alloc, width);
     for row in Rows::new(text) {
@@ -60,7 +64,8 @@ fn check_row(place: u32, row: Row<'_>, width: u32) -> Result<(), TestFault>
     ensures accepted { OnOk result (test_fault width (place, row_of row.entry) ≡ None) }
     ensures room { OnOk result (place < max_tests) }
     ensures width { OnOk result (length row.entry.bytes.now ≡ width) }
-    ensures refused { IfErr result (λ fault. test_fault width (place, row_of row.entry) ≡ Some fault) }
+    ensures refused { IfErr result (λ fault.
+        test_fault width (place, row_of row.entry) ≡ Some fault) }
 {
     if place >= MAX_TESTS {
         return Err(TestFault::TooMany);
@@ -97,7 +102,10 @@ impl Tests {
     fn push(&mut self, alloc: Global, row: &[u8]) -> Result<(), AllocError>
         requires room { length self.old.tests < max_tests }
         requires width { length row.now ≡ self.old.width }
-        ensures { OnOk result (self.new ≡ record { width = self.old.width; tests = self.old.tests ++ map (λ b. b == 49) row.now ∷ [] }) }
+        ensures { OnOk result (self.new ≡ record {
+          width = self.old.width;
+          tests = self.old.tests ++ map (λ b. b == 49) row.now ∷ [];
+        }) }
     {
         let lane = self.count % BLOCK_SIZE;
         if lane == 0 {
@@ -165,8 +173,11 @@ fn set_lane(words: &mut [u64], row: &[u8], lane: u32)
     requires lane { lane < 64 }
     requires sources { length words.old ≡ length row.now }
     requires clear { (source : ℕ) → bit_at (slice_index words.old source) lane ≡ 0 }
-    ensures set { (source : ℕ) → source < length row.now → bit_at (slice_index words.new source) lane ≡ as_number (slice_index row.now source == 49) }
-    ensures others { (source k : ℕ) → k ≢ lane → bit_at (slice_index words.new source) k ≡ bit_at (slice_index words.old source) k }
+    ensures set { (source : ℕ) → source < length row.now
+        → bit_at (slice_index words.new source) lane
+        ≡ as_number (slice_index row.now source == 49) }
+    ensures others { (source k : ℕ) → k ≢ lane
+        → bit_at (slice_index words.new source) k ≡ bit_at (slice_index words.old source) k }
 {
     for (source, byte) in row.iter().enumerate() {
         if *byte == b'1' {
