@@ -171,35 +171,4 @@ pub fn circuit_of(alloc: Global, lines: Lines) -> Result<Circuit, BenchFault>
 }
 
 #[cfg(test)]
-mod tests {
-    use super::*;
-    use crate::Kind;
-    use smallvec::SmallVec;
-    use std::test::Fail;
-
-    /// A gate of these pins.
-    fn gate(alloc: Global, signal: u32, kind: Kind, pins: &[u32]) -> Result<Line, Fail> {
-        let pins = SmallVec::from_slice(alloc, pins)?;
-        Ok(Line::Gate(signal, GateLine { kind, pins }))
-    }
-
-    #[test]
-    fn chain_of_inverters(rt: HostRuntime) -> Result<(), Fail> {
-        let mut names = Vec::new(rt.alloc());
-        let mut lines = Vec::new(rt.alloc());
-        let mut at = Vec::new(rt.alloc());
-        for signal in 0..20_001u32 {
-            names.push(format!(in rt.alloc(); "n{signal}")?)?;
-            at.push(u64::from(signal) + 1)?;
-            if signal == 0 {
-                lines.push(Line::Input(0))?;
-            } else {
-                lines.push(gate(rt.alloc(), signal, Kind::Not, &[signal - 1])?)?;
-            }
-        }
-        let circuit = circuit_of(rt.alloc(), Lines { names, lines, at }).map_err(|_| "fault")?;
-        assert_eq!(rt; circuit.depth(), 20_000);
-        assert_eq!(rt; circuit.level_of(7), 7);
-        Ok(())
-    }
-}
+mod tests;
