@@ -1,8 +1,7 @@
 -- What the operations on words do in a lane.
-use Rattle.std.proofs.Common.{◌≡◌, ◌<◌, ◌≤◌, ◌^◌, ◌-◌, ◌%◌, ℕ, zero, suc, ◌+◌, refl, sym, ◌∙◌, ap, Bool, true, false, not, ◌&&◌, ◌||◌, arith, inl, inr, ◌⊎◌, min, max}
+use Rattle.std.proofs.Common.{◌≡◌, ◌<◌, ◌^◌, ◌-◌, ◌%◌, ℕ, zero, suc, ◌+◌, refl, Bool, true, false, not, ◌&&◌, ◌||◌, arith, inl, inr, ◌⊎◌, min, max}
 use Rattle.std.specs.Prelude.{◌==◌, bit_and, bit_or, bit_xor}
-use Rattle.std.specs.Int.{bit_at, bit_not, Width, w64}
-use Rattle.std.proofs.lemmas.Bool.Decides.{nat_tests}
+use Rattle.std.specs.Int.{bit_at, bit_not, w64}
 use Rattle.std.proofs.lemmas.Nat.Bits.{bit_at-lt, bit_at-zero, bit_at_and, bit_at_or, bit_at_xor, bit_at_ones, bit_at_not}
 use Rattle.block_sim.specs.Words.{lane}
 

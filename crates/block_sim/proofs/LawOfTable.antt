@@ -1,6 +1,6 @@
 -- The law of the table: over the true outcomes, the least test of a class is the first test of each of its faults.
-use Rattle.std.proofs.Common.{◌≡◌, ◌<◌, ◌≤◌, ℕ, zero, suc, ◌+◌, ◌*◌, ◌-◌, ◌/◌, min, refl, sym, ◌∙◌, ap, subst, Bool, true, List, [], ◌∷◌, length, arith, inl, inr, ◌⊎◌}
-use Rattle.std.specs.Prelude.{Contains, Option, Some, None, map, slice_get, unwrap_or, is_none}
+use Rattle.std.proofs.Common.{◌≡◌, ◌<◌, ◌≤◌, ℕ, zero, suc, ◌+◌, ◌*◌, ◌-◌, refl, sym, subst, true, List, ◌∷◌, length, arith, inl, inr, ◌⊎◌}
+use Rattle.std.specs.Prelude.{Option, Some, None, map, slice_get, is_none}
 use Rattle.std.proofs.lemmas.Bool.{cases_lt}
 use Rattle.bench_net.specs.Statement.{Statement}
 use Rattle.bench_net.specs.Circuit.{IsWellFormed}
@@ -8,13 +8,13 @@ use Rattle.bench_net.proofs.Members.{contained}
 use Rattle.bench_net.proofs.SignalsLists.{at_place, filtered_from, place_within}
 use Rattle.fault_model.specs.Fault.{Fault, faults}
 use Rattle.fault_model.specs.Solution.{Test}
-use Rattle.fault_model.specs.Collapse.{next, Reaches, here, Represents, representatives, IsClassOf, AreEquivalent}
+use Rattle.fault_model.specs.Collapse.{next, here, representatives, IsClassOf, AreEquivalent}
 use Rattle.fault_model.specs.Laws.{HaveArities}
 use Rattle.fault_model.proofs.ClassLaw.{classes_detect_same}
 use Rattle.patterns.specs.declared.Outcome.{Outcome}
 use Rattle.patterns.specs.declared.Outcome.TheVariants.{Clear, Hit}
 use Rattle.patterns.specs.Tests.{blocks, size_of}
-use Rattle.patterns.specs.Least.{Table, from_up, below, first_hit, least}
+use Rattle.patterns.specs.Least.{Table, from_up, first_hit, least}
 use Rattle.block_sim.specs.First.{DetectsAt, IsFirst, IsOutcome, IsTrueOutcome, IsTrueTable, LeastIsFirst}
 
 -- a representative's class is its own place

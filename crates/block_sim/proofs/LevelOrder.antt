@@ -1,6 +1,6 @@
 -- The signals in level order: each once, and the pins of a gate before it.
-use Rattle.std.proofs.Common.{◌≡◌, ◌≢◌, ◌<◌, ◌≤◌, ℕ, zero, suc, ◌+◌, ◌-◌, max, refl, sym, ◌∙◌, ap, subst, Bool, true, false, List, [], ◌∷◌, ◌++◌, length, arith, inl, inr, ◌⊎◌}
-use Rattle.std.specs.Prelude.{Contains, Option, Some, None, map, filter, fold, slice_get, slice_index_or, sum_by, cond, unwrap_or}
+use Rattle.std.proofs.Common.{◌≡◌, ◌<◌, ◌≤◌, ℕ, zero, suc, ◌+◌, max, refl, sym, ◌∙◌, ap, subst, List, [], ◌∷◌, ◌++◌, length, arith, inl, inr, ◌⊎◌}
+use Rattle.std.specs.Prelude.{Contains, Option, Some, None, map, filter, fold, slice_get, slice_index_or, sum_by, cond}
 use Rattle.std.specs.Option.{option_map_or}
 use Rattle.std.proofs.lemmas.List.{get_or_default}
 use Rattle.std.proofs.lemmas.List.Elements.{Contains-get_or}
@@ -8,7 +8,7 @@ use Rattle.std.proofs.lemmas.List.Sums.{sum_by-cons, sum_by-append}
 use Rattle.std.proofs.lemmas.Bool.{cases_order}
 use Rattle.bench_net.specs.declared.Kind.{Kind}
 use Rattle.bench_net.specs.Statement.{Name, Statement, Input, Output, Gate, Dff, defines}
-use Rattle.bench_net.specs.Scan.{names, signal, name_of, definition, gate_of, gate_line, sources, inputs, cells}
+use Rattle.bench_net.specs.Scan.{names, signal, definition, gate_line, sources, inputs, cells}
 use Rattle.bench_net.specs.Circuit.{IsWellFormed}
 use Rattle.bench_net.specs.Level.{AreLevels, HasLevel, IsLevelOrder, GoesBefore, greatest}
 use Rattle.bench_net.proofs.Members.{Among, among, contained}
@@ -16,7 +16,7 @@ use Rattle.bench_net.proofs.Numbers.{name_of-signal}
 use Rattle.bench_net.proofs.SignalsLists.{among_append, among_left, among_right, among_map, place_within}
 use Rattle.bench_net.proofs.SignalsDefined.{defined_among, read_named, signal_apart}
 use Rattle.fault_model.proofs.Unique.{Driven, driven}
-use Rattle.block_sim.specs.Parts.{is_gate, gate_count}
+use Rattle.block_sim.specs.Parts.{is_gate, gate_count, gate_weight}
 
 -- an element stands between two lists
 split_at : (xs : List ℕ) (x : ℕ) → Among x xs → (ys zs : List ℕ) × (xs ≡ ys ++ x ∷ zs)
@@ -91,10 +91,6 @@ order_spans c order h = record { count = h.count; each = λ s lt. among order s 
 pub order_within : (c : List Statement) (order : List ℕ) (i : ℕ) → IsLevelOrder c order → i < length order → slice_index_or order i 0 < length (names c)
 order_within c order i h lt = within_span (length (names c)) order (order_spans c order h) (slice_index_or order i 0) (among order (slice_index_or order i 0) (Contains-get_or order i 0 lt))
 
--- 1 where the signal is a gate's
-abbrev pub weight : List Statement → ℕ → ℕ
-weight c s = option_map_or (λ _. 1) (gate_of c s) 0
-
 -- the same for a statement
 statement_weight : Option Statement → ℕ
 statement_weight (Some (Gate n kind args)) = 1
@@ -139,11 +135,11 @@ gates_counted (Gate n kind args ∷ c) =
 gates_counted (Dff q d ∷ c) = gates_counted c
 
 -- the signals of gates are as many as the gates
-pub order_weighs : (c : List Statement) (order : List ℕ) → IsLevelOrder c order → sum_by (weight c) order ≡ gate_count c
+pub order_weighs : (c : List Statement) (order : List ℕ) → IsLevelOrder c order → sum_by (gate_weight c) order ≡ gate_count c
 order_weighs c order h =
-    sum_spanned (weight c) (length (names c)) order (order_spans c order h)
-    ∙ (ap (upto (weight c)) (sym (definitions_named c))
-    ∙ (upto_same (weight c) (λ s. statement_weight (definition c s)) (length (filter defines c)) (λ s. weight_of c (definition c s))
+    sum_spanned (gate_weight c) (length (names c)) order (order_spans c order h)
+    ∙ (ap (upto (gate_weight c)) (sym (definitions_named c))
+    ∙ (upto_same (gate_weight c) (λ s. statement_weight (definition c s)) (length (filter defines c)) (λ s. weight_of c (definition c s))
     ∙ (upto_listed (filter defines c) ∙ gates_counted c)))
 
 -- ---- pins before gates

@@ -1,9 +1,9 @@
 -- What the observers tell: a fault is detected in a lane exactly where some observer's words differ there.
-use Rattle.std.proofs.Common.{◌≡◌, ◌≢◌, ◌<◌, ◌≤◌, ℕ, zero, suc, ◌+◌, ◌*◌, ◌-◌, min, refl, sym, ◌∙◌, ap, subst, Bool, true, false, not, ◌&&◌, ◌||◌, List, [], ◌∷◌, length, arith, inl, inr, ◌⊎◌}
-use Rattle.std.specs.Prelude.{Contains, Option, Some, None, map, slice_get, slice_index_or, unwrap_or, nat_lt, bit_and}
+use Rattle.std.proofs.Common.{◌≡◌, ◌≢◌, ◌<◌, ℕ, zero, suc, ◌+◌, ◌*◌, ◌-◌, min, refl, sym, ◌∙◌, ap, subst, Bool, true, false, ◌||◌, List, [], ◌∷◌, length, arith, inl, inr, ◌⊎◌}
+use Rattle.std.specs.Prelude.{Contains, Option, Some, None, map, slice_get, slice_index_or, unwrap_or}
 use Rattle.std.specs.Bool.{Decides}
 use Rattle.std.specs.List.{enumerate_from}
-use Rattle.std.proofs.lemmas.Bool.{cases_eq, and_parts, false≢true, cases_Bool, ltb-true, lt-ltb, and_from}
+use Rattle.std.proofs.lemmas.Bool.{cases_eq, false≢true}
 use Rattle.bench_net.specs.declared.Sink.{Sink}
 use Rattle.bench_net.specs.declared.Sink.TheVariants as sink
 use Rattle.bench_net.specs.Statement.{Name, Statement}
@@ -14,7 +14,7 @@ use Rattle.bench_net.proofs.SignalsLists.{among_append, among_left, among_right,
 use Rattle.fault_model.specs.declared.Line.{Line}
 use Rattle.fault_model.specs.declared.Line.TheVariants as line
 use Rattle.fault_model.specs.Fault.{Fault}
-use Rattle.fault_model.specs.Solution.{Test, Solves, Detects, under, shows}
+use Rattle.fault_model.specs.Solution.{Test, Detects, under, shows}
 use Rattle.fault_model.proofs.ClassLaw.{detection_is_of_any_solution}
 use Rattle.patterns.specs.declared.Outcome.{Outcome}
 use Rattle.patterns.specs.declared.Outcome.TheVariants.{Clear, Hit}
