@@ -1,0 +1,165 @@
+-- The words that the code computes satisfy the equations of their signals.
+use Rattle.std.proofs.Common.{◌≡◌, ◌<◌, ◌≤◌, ℕ, ◌+◌, ◌*◌, refl, sym, ◌∙◌, ap, subst, Bool, true, false, List, [], ◌∷◌, length, arith, inl, inr}
+use Rattle.std.specs.Prelude.{All, Contains, Option, Some, None, map, flat_map, slice_get, slice_index_or, unwrap_or, ◌==◌, ◌++◌}
+use Rattle.std.proofs.lemmas.List.Elements.{Contains-get_or}
+use Rattle.std.specs.Int.{bit_at}
+use Rattle.std.proofs.lemmas.List.{length-append, length-map}
+use Rattle.bench_net.specs.declared.Kind.{Kind}
+use Rattle.bench_net.specs.Statement.{Name, Statement, Input, Output, Gate, Dff, read}
+use Rattle.bench_net.specs.Scan.{names, signal, name_of, definition, gate_of, gate_line, inputs, outputs, cells, sources}
+use Rattle.bench_net.specs.Circuit.{IsWellFormed, IsCircuit, max_sinks, sink_count}
+use Rattle.bench_net.proofs.Members.{Among, among, contained}
+use Rattle.bench_net.proofs.Numbers.{definition_defines, name_of-signal, signal-name_of}
+use Rattle.bench_net.proofs.SignalsLists.{at_place, placed, place_within, within_place, among_left, among_right}
+use Rattle.bench_net.proofs.SignalsDefined.{IsSource, definition-signal, source_definition, source_place, read_named}
+use Rattle.fault_model.specs.declared.Line.TheVariants as line
+use Rattle.fault_model.specs.Fault.{Fault}
+use Rattle.fault_model.specs.Solution.{Test, value, under}
+use Rattle.fault_model.proofs.Unique.{Driven, driven}
+use Rattle.patterns.specs.Tests.{IsWord, as_number, bit}
+use Rattle.block_sim.specs.Words.{lane, pin_bits, IsSignalWord}
+use Rattle.block_sim.proofs.Bridge.{pins_named}
+
+-- the gate whose signal has this number
+record GateAt (c : List Statement) (s : ℕ) (kind : Kind) (pins : List ℕ) : Type 0 where
+  name : Name
+  args : List Name
+  stands : Among (Gate name kind args) c
+  named : name_of c s ≡ Some name
+  reads : map (signal c) args ≡ pins
+
+gate_at : (c : List Statement) (s : ℕ) (kind : Kind) (pins : List ℕ) → gate_of c s ≡ Some (kind, pins) → GateAt c s kind pins
+gate_at c s kind pins e = go (definition c s) refl e
+  where
+    go : (o : Option Statement) → definition c s ≡ o → gate_line c o ≡ Some (kind, pins) → GateAt c s kind pins
+    go None d e = let bad : None ≡ Some (kind, pins) = e in cc
+    go (Some (Input n)) d e = let bad : None ≡ Some (kind, pins) = e in cc
+    go (Some (Output n)) d e = let bad : None ≡ Some (kind, pins) = e in cc
+    go (Some (Dff q x)) d e = let bad : None ≡ Some (kind, pins) = e in cc
+    go (Some (Gate n other args)) d e =
+        let p = definition_defines c s (Gate n other args) d in
+        let pair : (other, map (signal c) args) ≡ (kind, pins) = ap (λ o. unwrap_or o (kind, pins)) e in
+        let first : n ∷ [] ≡ p.0 ∷ [] = p.1 in
+        let same : p.0 ≡ n = cc in
+        record {
+          name = n;
+          args = args;
+          stands = subst (λ k. Among (Gate n k args) c) (ap (λ x. x.0) pair) p.3;
+          named = p.2 ∙ ap Some same;
+          reads = ap (λ x. x.1) pair;
+        }
+
+-- the pins of a gate read signals of the circuit
+pub among_signals : (c : List Statement) (args : List Name) (p : ℕ) → ((a : Name) → Among a args → Contains (names c) a) → Among p (map (signal c) args) → p < length (names c)
+among_signals c [] p each a = absurd a
+among_signals c (m ∷ args) p each (inl e) =
+    let lt : signal c m < length (names c) = place_within (names c) (signal c m) m (name_of-signal c m (each m (inl refl))) in omega (arith, lt, e)
+among_signals c (m ∷ args) p each (inr a) = among_signals c args p (λ b h. each b (inr h)) a
+
+pub pins_within : (c : List Statement) (s : ℕ) (kind : Kind) (pins : List ℕ) → IsWellFormed c → gate_of c s ≡ Some (kind, pins) → All (λ p. p < length (names c)) pins
+pins_within c s kind pins well e = go (gate_at c s kind pins e)
+  where
+    go : GateAt c s kind pins → All (λ p. p < length (names c)) pins
+    go g i d lt = among_signals c g.args (slice_index_or pins i d) (λ a h. read_named c (Gate g.name kind g.args) a well g.stands h)
+        (subst (Among (slice_index_or pins i d)) (sym g.reads) (among pins (slice_index_or pins i d) (Contains-get_or pins i d lt)))
+
+-- what one statement reads, and what all observe, is within the limit on sinks
+read_counted : (c : List Statement) (st : Statement) → Among st c → length (read st) ≤ sink_count c
+read_counted [] st a = absurd a
+read_counted (x ∷ c) st (inl e) =
+    let whole : length (flat_map read (x ∷ c)) ≡ length (read x) + length (flat_map read c) = length-append (read x) (flat_map read c) in
+    let same : length (read x) ≡ length (read st) = ap (λ y. length (read y)) e in
+    omega (arith, whole, same)
+read_counted (x ∷ c) st (inr a) =
+    let whole : length (flat_map read (x ∷ c)) ≡ length (read x) + length (flat_map read c) = length-append (read x) (flat_map read c) in
+    let h : length (read st) ≤ length (flat_map read c) = read_counted c st a in
+    omega (arith, whole, h)
+
+pub pins_few : (c : List Statement) (s : ℕ) (kind : Kind) (pins : List ℕ) → IsCircuit c → gate_of c s ≡ Some (kind, pins) → length pins ≤ max_sinks
+pins_few c s kind pins circuit e = go (gate_at c s kind pins e)
+  where
+    go : GateAt c s kind pins → length pins ≤ max_sinks
+    go g =
+        let h : length g.args ≤ sink_count c = read_counted c (Gate g.name kind g.args) g.stands in
+        let same : length pins ≡ length g.args = ap length (sym g.reads) ∙ length-map g.args (signal c) in
+        omega (arith, h, same, circuit.sinks)
+
+pub observed_counted : (c : List Statement) → length (outputs c) + length (cells c) ≤ sink_count c
+observed_counted [] = omega arith
+observed_counted (Input n ∷ c) = observed_counted c
+observed_counted (Output n ∷ c) = let h : length (outputs c) + length (cells c) ≤ length (flat_map read c) = observed_counted c in omega (arith, h)
+observed_counted (Gate n kind args ∷ c) =
+    let h : length (outputs c) + length (cells c) ≤ length (flat_map read c) = observed_counted c in
+    let whole : length (args ++ flat_map read c) ≡ length args + length (flat_map read c) = length-append args (flat_map read c) in
+    omega (arith, h, whole)
+observed_counted (Dff q d ∷ c) = let h : length (outputs c) + length (cells c) ≤ length (flat_map read c) = observed_counted c in omega (arith, h)
+
+module _ (c : List Statement) (s : ℕ) (well : IsWellFormed c) (within : s < length (names c)) where
+  -- a signal that is no gate's is a source, at one place
+  pub source_within : (i : ℕ) → slice_get (sources c) i ≡ name_of c s → i < length (sources c)
+  source_within i e = let at = within_place (names c) s within in place_within (sources c) i at.0 (e ∙ at.1)
+
+  pub one_source : (i j : ℕ) → slice_get (sources c) i ≡ name_of c s → slice_get (sources c) j ≡ name_of c s → i ≡ j
+  one_source i j p q =
+      let at = within_place (names c) s within in
+      sym (source_place c i at.0 well (p ∙ at.1)) ∙ source_place c j at.0 well (q ∙ at.1)
+
+  pub source_there : gate_of c s ≡ None → (i : ℕ) × (slice_get (sources c) i ≡ name_of c s)
+  source_there none = go (within_place (names c) s within)
+    where
+      go : (n : Name) × (slice_get (names c) s ≡ Some n) → (i : ℕ) × (slice_get (sources c) i ≡ name_of c s)
+      go at = by (driven c at.0 (at_place (names c) s at.0 at.1))
+        where
+          found : Among at.0 (sources c) → (i : ℕ) × (slice_get (sources c) i ≡ name_of c s)
+          found a = let p = placed (sources c) at.0 a in (p.0, p.1 ∙ sym at.1)
+
+          by : Driven c at.0 → (i : ℕ) × (slice_get (sources c) i ≡ name_of c s)
+          by (inl x) = found (among_left (inputs c) (map (λ cell. cell.0) (cells c)) at.0 x)
+          by (inr (inl x)) = found (among_right (inputs c) (map (λ cell. cell.0) (cells c)) at.0 x)
+          by (inr (inr x)) =
+              let number : signal c at.0 ≡ s = signal-name_of c s at.0 well.once at.1 (contained (names c) at.0 (at_place (names c) s at.0 at.1)) in
+              let defined : definition c (signal c at.0) ≡ Some (Gate at.0 x.0 x.1) = definition-signal c (Gate at.0 x.0 x.1) at.0 well (contained c (Gate at.0 x.0 x.1) x.2) refl in
+              let gate : gate_of c s ≡ Some (x.0, map (signal c) x.1) = ap (λ k. gate_of c k) (sym number) ∙ ap (gate_line c) defined in
+              let bad : None ≡ Some (x.0, map (signal c) x.1) = sym none ∙ gate in
+              cc
+
+lane_number : (word k : ℕ) (b : Bool) → bit_at word k ≡ as_number b → lane word k ≡ b
+lane_number word k true e = ap (λ x. x == 1) e
+lane_number word k false e = ap (λ x. x == 1) e
+
+module _ (c : List Statement) (tests : List Test) (block : ℕ) (f : Option Fault) (words : List ℕ) (s driven_word word : ℕ) (well : IsWellFormed c)
+    (shown : (k : ℕ) → k < 64 → lane word k ≡ under f (line.Stem s) (lane driven_word k)) where
+  -- the word of a source
+  pub source_equation : gate_of c s ≡ None → ((i : ℕ) → slice_get (sources c) i ≡ name_of c s → IsWord tests block i driven_word) → IsSignalWord c tests block f words s word
+  source_equation none taken = record {
+    source = λ i n k lt named at. shown k lt ∙ ap (under f (line.Stem s)) (lane_number driven_word k (bit tests (64 * block + k) i) (taken i (at ∙ sym named) k lt));
+    gate = λ n kind args k lt number at.
+        let defined : definition c (signal c n) ≡ Some (Gate n kind args) = definition-signal c (Gate n kind args) n well at refl in
+        let gate : gate_of c s ≡ Some (kind, map (signal c) args) = ap (λ k. gate_of c k) (sym number) ∙ ap (gate_line c) defined in
+        let bad : None ≡ Some (kind, map (signal c) args) = sym none ∙ gate in
+        cc;
+  }
+
+  -- the word of a gate's signal
+  pub gate_equation : (kind : Kind) (pins : List ℕ) → gate_of c s ≡ Some (kind, pins) → ((k : ℕ) → k < 64 → lane driven_word k ≡ value kind (pin_bits f s pins words k))
+      → IsSignalWord c tests block f words s word
+  gate_equation kind pins e valued = record {
+    source = λ i n k lt named at. absurd (no_source n named (source_definition c n well (at_place (sources c) i n at)));
+    gate = λ n other args k lt number at.
+        let defined : definition c (signal c n) ≡ Some (Gate n other args) = definition-signal c (Gate n other args) n well at refl in
+        let gate : gate_of c s ≡ Some (other, map (signal c) args) = ap (λ k. gate_of c k) (sym number) ∙ ap (gate_line c) defined in
+        let pair : (kind, pins) ≡ (other, map (signal c) args) = ap (λ o. unwrap_or o (kind, pins)) (sym e ∙ gate) in
+        shown k lt ∙ ap (under f (line.Stem s)) (valued k lt ∙ (ap (λ p. value p.0 (pin_bits f s p.1 words k)) pair ∙ ap (value other) (pins_named c f words s k args)));
+  }
+    where
+      no_source : (n : Name) → name_of c s ≡ Some n → IsSource (definition c (signal c n)) → ⊥
+      no_source n named source =
+          let number : signal c n ≡ s = signal-name_of c s n well.once named (contained (names c) n (at_place (names c) s n named)) in
+          go (definition c s) (subst (λ k. IsSource (definition c k)) number source) e
+        where
+          go : (o : Option Statement) → IsSource o → gate_line c o ≡ Some (kind, pins) → ⊥
+          go None h g = h
+          go (Some (Input m)) h g = let bad : None ≡ Some (kind, pins) = g in cc
+          go (Some (Output m)) h g = h
+          go (Some (Gate m k args)) h g = h
+          go (Some (Dff q d)) h g = let bad : None ≡ Some (kind, pins) = g in cc

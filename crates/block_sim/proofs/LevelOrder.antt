@@ -1,0 +1,243 @@
+-- The signals in level order: each once, and the pins of a gate before it.
+use Rattle.std.proofs.Common.{◌≡◌, ◌<◌, ◌≤◌, ℕ, zero, suc, ◌+◌, max, refl, sym, ◌∙◌, ap, subst, List, [], ◌∷◌, ◌++◌, length, arith, inl, inr, ◌⊎◌}
+use Rattle.std.specs.Prelude.{Contains, Option, Some, None, map, filter, fold, slice_get, slice_index_or, sum_by, cond}
+use Rattle.std.specs.Option.{option_map_or}
+use Rattle.std.proofs.lemmas.List.{get_or_default}
+use Rattle.std.proofs.lemmas.List.Elements.{Contains-get_or}
+use Rattle.std.proofs.lemmas.List.Sums.{sum_by-cons, sum_by-append}
+use Rattle.std.proofs.lemmas.Bool.{cases_order}
+use Rattle.bench_net.specs.declared.Kind.{Kind}
+use Rattle.bench_net.specs.Statement.{Name, Statement, Input, Output, Gate, Dff, defines}
+use Rattle.bench_net.specs.Scan.{names, signal, definition, gate_line, sources, inputs, cells}
+use Rattle.bench_net.specs.Circuit.{IsWellFormed}
+use Rattle.bench_net.specs.Level.{AreLevels, HasLevel, IsLevelOrder, GoesBefore, greatest}
+use Rattle.bench_net.proofs.Members.{Among, among, contained}
+use Rattle.bench_net.proofs.Numbers.{name_of-signal}
+use Rattle.bench_net.proofs.SignalsLists.{among_append, among_left, among_right, among_map, place_within}
+use Rattle.bench_net.proofs.SignalsDefined.{defined_among, read_named, signal_apart}
+use Rattle.fault_model.proofs.Unique.{Driven, driven}
+use Rattle.block_sim.specs.Parts.{is_gate, gate_count, gate_weight}
+
+-- an element stands between two lists
+split_at : (xs : List ℕ) (x : ℕ) → Among x xs → (ys zs : List ℕ) × (xs ≡ ys ++ x ∷ zs)
+split_at [] x a = absurd a
+split_at (y ∷ xs) x (inl e) = ([], xs, ap (λ z. z ∷ xs) e)
+split_at (y ∷ xs) x (inr a) = let p = split_at xs x a in (y ∷ p.0, p.1, ap (λ zs. y ∷ zs) p.2)
+
+length_split : (ys zs : List ℕ) (x : ℕ) → length (ys ++ x ∷ zs) ≡ suc (length (ys ++ zs))
+length_split [] zs x = refl
+length_split (y ∷ ys) zs x = ap suc (length_split ys zs x)
+
+-- the sum over the numbers below n
+upto : (ℕ → ℕ) → ℕ → ℕ
+upto g zero = 0
+upto g (suc n) = g n + upto g n
+
+upto_shifted : (g : ℕ → ℕ) (n : ℕ) → upto g (suc n) ≡ g 0 + upto (λ s. g (suc s)) n
+unfolding upto
+upto_shifted g zero = refl
+upto_shifted g (suc n) = let e : upto g (suc n) ≡ g 0 + upto (λ s. g (suc s)) n = upto_shifted g n in omega (arith, e)
+
+-- the list has each number below n, and no more elements than that
+record Spans (n : ℕ) (xs : List ℕ) : Type 0 where
+  count : length xs ≡ n
+  each : (s : ℕ) → s < n → Among s xs
+
+rest_spans : (n : ℕ) (ys zs : List ℕ) → Spans (suc n) (ys ++ n ∷ zs) → Spans n (ys ++ zs)
+rest_spans n ys zs h = record {
+  count = let e : suc (length (ys ++ zs)) ≡ suc n = sym (length_split ys zs n) ∙ h.count in omega (arith, e);
+  each = λ s lt. go s lt (among_append ys (n ∷ zs) s (h.each s (omega (arith, lt))));
+}
+  where
+    go : (s : ℕ) → s < n → Among s ys ⊎ Among s (n ∷ zs) → Among s (ys ++ zs)
+    go s lt (inl a) = among_left ys zs s a
+    go s lt (inr (inl e)) = absurd (omega (arith, lt, e))
+    go s lt (inr (inr a)) = among_right ys zs s a
+
+-- so a sum over it is that over the numbers below n, and it has no other number
+sum_spanned : (g : ℕ → ℕ) (n : ℕ) (xs : List ℕ) → Spans n xs → sum_by g xs ≡ upto g n
+unfolding upto
+sum_spanned g zero [] h = refl
+sum_spanned g zero (x ∷ xs) h = let e : suc (length xs) ≡ 0 = h.count in absurd (omega (arith, e))
+sum_spanned g (suc n) xs h = go (sum_spanned g n) (split_at xs n (h.each n (omega arith)))
+  where
+    go : ((rest : List ℕ) → Spans n rest → sum_by g rest ≡ upto g n) → (ys zs : List ℕ) × (xs ≡ ys ++ n ∷ zs) → sum_by g xs ≡ g n + upto g n
+    go ih p =
+        let later : sum_by g (p.0 ++ p.1) ≡ upto g n = ih (p.0 ++ p.1) (rest_spans n p.0 p.1 (subst (Spans (suc n)) p.2 h)) in
+        let whole : sum_by g (p.0 ++ n ∷ p.1) ≡ sum_by g p.0 + sum_by g (n ∷ p.1) = sum_by-append g p.0 (n ∷ p.1) in
+        let head : sum_by g (n ∷ p.1) ≡ g n + sum_by g p.1 = sum_by-cons g n p.1 in
+        let parts : sum_by g (p.0 ++ p.1) ≡ sum_by g p.0 + sum_by g p.1 = sum_by-append g p.0 p.1 in
+        ap (sum_by g) p.2 ∙ omega (arith, later, whole, head, parts)
+
+within_span : (n : ℕ) (xs : List ℕ) → Spans n xs → (x : ℕ) → Among x xs → x < n
+within_span zero [] h x a = absurd a
+within_span zero (y ∷ xs) h x a = let e : suc (length xs) ≡ 0 = h.count in absurd (omega (arith, e))
+within_span (suc n) xs h x a = go (within_span n) (split_at xs n (h.each n (omega arith)))
+  where
+    go : ((rest : List ℕ) → Spans n rest → (y : ℕ) → Among y rest → y < n) → (ys zs : List ℕ) × (xs ≡ ys ++ n ∷ zs) → x < suc n
+    go ih p = by_place (among_append p.0 (n ∷ p.1) x (subst (Among x) p.2 a))
+      where
+        later : Among x (p.0 ++ p.1) → x < n
+        later b = ih (p.0 ++ p.1) (rest_spans n p.0 p.1 (subst (Spans (suc n)) p.2 h)) x b
+
+        by_place : Among x p.0 ⊎ Among x (n ∷ p.1) → x < suc n
+        by_place (inl b) = let lt : x < n = later (among_left p.0 p.1 x b) in omega (arith, lt)
+        by_place (inr (inl e)) = omega (arith, e)
+        by_place (inr (inr b)) = let lt : x < n = later (among_right p.0 p.1 x b) in omega (arith, lt)
+
+order_spans : (c : List Statement) (order : List ℕ) → IsLevelOrder c order → Spans (length (names c)) order
+order_spans c order h = record { count = h.count; each = λ s lt. among order s (h.all s lt) }
+
+pub order_within : (c : List Statement) (order : List ℕ) (i : ℕ) → IsLevelOrder c order → i < length order → slice_index_or order i 0 < length (names c)
+order_within c order i h lt = within_span (length (names c)) order (order_spans c order h) (slice_index_or order i 0) (among order (slice_index_or order i 0) (Contains-get_or order i 0 lt))
+
+-- the same for a statement
+statement_weight : Option Statement → ℕ
+statement_weight (Some (Gate n kind args)) = 1
+statement_weight _ = 0
+
+weight_of : (c : List Statement) (o : Option Statement) → option_map_or (λ _. 1) (gate_line c o) 0 ≡ statement_weight o
+unfolding statement_weight
+weight_of c None = refl
+weight_of c (Some (Input n)) = refl
+weight_of c (Some (Output n)) = refl
+weight_of c (Some (Gate n kind args)) = refl
+weight_of c (Some (Dff q d)) = refl
+
+upto_same : (g h : ℕ → ℕ) (n : ℕ) → ((s : ℕ) → g s ≡ h s) → upto g n ≡ upto h n
+unfolding upto
+upto_same g h zero same = refl
+upto_same g h (suc n) same = rw (same n, upto_same g h n same) refl
+
+upto_listed : (statements : List Statement) → upto (λ s. statement_weight (slice_get statements s)) (length statements) ≡ sum_by (λ s. statement_weight (Some s)) statements
+unfolding upto
+upto_listed [] = refl
+upto_listed (st ∷ statements) =
+    upto_shifted (λ s. statement_weight (slice_get (st ∷ statements) s)) (length statements)
+    ∙ (ap (λ more. statement_weight (Some st) + more) (upto_listed statements)
+    ∙ sym (sum_by-cons (λ s. statement_weight (Some s)) st statements))
+
+definitions_named : (c : List Statement) → length (filter defines c) ≡ length (names c)
+definitions_named [] = refl
+definitions_named (Input n ∷ c) = ap suc (definitions_named c)
+definitions_named (Output n ∷ c) = definitions_named c
+definitions_named (Gate n kind args ∷ c) = ap suc (definitions_named c)
+definitions_named (Dff q d ∷ c) = ap suc (definitions_named c)
+
+gates_counted : (c : List Statement) → sum_by (λ s. statement_weight (Some s)) (filter defines c) ≡ gate_count c
+unfolding statement_weight
+gates_counted [] = refl
+gates_counted (Input n ∷ c) = gates_counted c
+gates_counted (Output n ∷ c) = gates_counted c
+gates_counted (Gate n kind args ∷ c) =
+    sum_by-cons (λ s. statement_weight (Some s)) (Gate n kind args) (filter defines c)
+    ∙ (ap (λ more. 1 + more) (gates_counted c) ∙ sym (sum_by-cons (λ s. cond (is_gate s) 1 0) (Gate n kind args) c))
+gates_counted (Dff q d ∷ c) = gates_counted c
+
+-- the signals of gates are as many as the gates
+pub order_weighs : (c : List Statement) (order : List ℕ) → IsLevelOrder c order → sum_by (gate_weight c) order ≡ gate_count c
+order_weighs c order h =
+    sum_spanned (gate_weight c) (length (names c)) order (order_spans c order h)
+    ∙ (ap (upto (gate_weight c)) (sym (definitions_named c))
+    ∙ (upto_same (gate_weight c) (λ s. statement_weight (definition c s)) (length (filter defines c)) (λ s. weight_of c (definition c s))
+    ∙ (upto_listed (filter defines c) ∙ gates_counted c)))
+
+-- ---- pins before gates
+above_start : (ns : List ℕ) (start : ℕ) → start ≤ fold max start ns
+above_start [] start = omega arith
+above_start (n ∷ ns) start = let h : max start n ≤ fold max (max start n) ns = above_start ns (max start n) in omega (arith, h)
+
+below_greatest : (ns : List ℕ) (start n : ℕ) → Among n ns → n ≤ fold max start ns
+below_greatest [] start n a = absurd a
+below_greatest (m ∷ ns) start n (inl e) = let h : max start m ≤ fold max (max start m) ns = above_start ns (max start m) in omega (arith, h, e)
+below_greatest (m ∷ ns) start n (inr a) = below_greatest ns (max start m) n a
+
+maps_agree : (f g : Name → ℕ) (ns : List Name) → ((n : Name) → Among n ns → f n ≡ g n) → map f ns ≡ map g ns
+maps_agree f g [] same = refl
+maps_agree f g (n ∷ ns) same = rw (same n (inl refl), maps_agree f g ns (λ m a. same m (inr a))) refl
+
+module _ (c : List Statement) (well : IsWellFormed c) where
+  -- a signal has one level
+  levels_below : (f g : Name → ℕ) → AreLevels c f → AreLevels c g → (bound : ℕ) (n : Name) → well.acyclic.0 n < bound → Among n (names c) → f n ≡ g n
+  levels_below f g p q zero n lt a = absurd (omega (arith, lt))
+  levels_below f g p q (suc bound) n lt a = go (levels_below f g p q bound) (driven c n a)
+    where
+      go : ((m : Name) → well.acyclic.0 m < bound → Among m (names c) → f m ≡ g m) → Driven c n → f n ≡ g n
+      go ih (inl x) =
+          let at : Contains (sources c) n = contained (sources c) n (among_left (inputs c) (map (λ cell. cell.0) (cells c)) n x) in
+          p.source n at ∙ sym (q.source n at)
+      go ih (inr (inl x)) =
+          let at : Contains (sources c) n = contained (sources c) n (among_right (inputs c) (map (λ cell. cell.0) (cells c)) n x) in
+          p.source n at ∙ sym (q.source n at)
+      go ih (inr (inr x)) =
+          let at : Contains c (Gate n x.0 x.1) = contained c (Gate n x.0 x.1) x.2 in
+          p.gate n x.0 x.1 at ∙ (ap (λ levels. 1 + greatest levels) (maps_agree f g x.1 same) ∙ sym (q.gate n x.0 x.1 at))
+        where
+          same : (m : Name) → Among m x.1 → f m ≡ g m
+          same m h =
+              let lower : well.acyclic.0 m < well.acyclic.0 n = well.acyclic.1 n m (x.0, x.1, contained c (Gate n x.0 x.1) x.2, contained x.1 m h) in
+              ih m (omega (arith, lt, lower)) (among (names c) m (read_named c (Gate n x.0 x.1) m well x.2 h))
+
+  pub one_level : (f g : Name → ℕ) (n : Name) → AreLevels c f → AreLevels c g → Among n (names c) → f n ≡ g n
+  one_level f g n p q a = levels_below f g p q (suc (well.acyclic.0 n)) n (omega arith) a
+
+  -- a signal goes before a gate that reads it, never behind
+  not_before : (n a : Name) (kind : Kind) (args : List Name) → Among (Gate n kind args) c → Among a args → GoesBefore c (signal c n) (signal c a) → ⊥
+  not_before n a kind args gate reads before = go before.0 before.1 before.2 before.3 before.4
+    where
+      gate_named : Contains (names c) n
+      gate_named = contained (names c) n (defined_among c (Gate n kind args) n gate refl)
+
+      pin_named : Contains (names c) a
+      pin_named = read_named c (Gate n kind args) a well gate reads
+
+      go : (j k : ℕ) → HasLevel c (signal c n) j → HasLevel c (signal c a) k → (j < k) ⊎ ((j ≡ k) × (signal c n < signal c a)) → ⊥
+      go j k high low order = by_order order
+        where
+          is_n : high.1 ≡ n
+          is_n = let e : Some high.1 ≡ Some n = sym high.3 ∙ name_of-signal c n gate_named in cc
+
+          is_a : low.1 ≡ a
+          is_a = let e : Some low.1 ≡ Some a = sym low.3 ∙ name_of-signal c a pin_named in cc
+
+          level_n : high.0 n ≡ j
+          level_n = ap high.0 (sym is_n) ∙ high.4
+
+          level_a : high.0 a ≡ k
+          level_a = one_level high.0 low.0 a high.2 low.2 (among (names c) a pin_named) ∙ (ap low.0 (sym is_a) ∙ low.4)
+
+          above : high.0 n ≡ 1 + greatest (map high.0 args)
+          above = high.2.gate n kind args (contained c (Gate n kind args) gate)
+
+          most : high.0 a ≤ greatest (map high.0 args)
+          most = below_greatest (map high.0 args) 0 (high.0 a) (among_map high.0 args a reads)
+
+          by_order : (j < k) ⊎ ((j ≡ k) × (signal c n < signal c a)) → ⊥
+          by_order (inl lt) = omega (arith, lt, level_n, level_a, above, most)
+          by_order (inr e) = let same : j ≡ k = e.0 in omega (arith, same, level_n, level_a, above, most)
+
+  -- in level order the signals that a gate reads stand before it
+  pub pins_before : (order : List ℕ) (i : ℕ) (n a : Name) (kind : Kind) (args : List Name) → IsLevelOrder c order → i < length order
+      → slice_index_or order i 0 ≡ signal c n → Among (Gate n kind args) c → Among a args → (j : ℕ) × (j < i) × (slice_index_or order j 0 ≡ signal c a)
+  pins_before order i n a kind args h lt at gate reads = go (cases_order place.0 i)
+    where
+      named : Contains (names c) a
+      named = read_named c (Gate n kind args) a well gate reads
+
+      place : Contains order (signal c a)
+      place = h.all (signal c a) (place_within (names c) (signal c a) a (name_of-signal c a named))
+
+      there : slice_index_or order place.0 0 ≡ signal c a
+      there = get_or_default order place.0 0 (signal c a) place.1 ∙ place.2
+
+      go : (place.0 ≡ i) ⊎ ((place.0 < i) ⊎ (i < place.0)) → (j : ℕ) × (j < i) × (slice_index_or order j 0 ≡ signal c a)
+      go (inr (inl before)) = (place.0, before, there)
+      go (inl e) =
+          let same : signal c n ≡ signal c a = sym at ∙ (ap (λ j. slice_index_or order j 0) (sym e) ∙ there) in
+          let one : n ≡ a = signal_apart c n a (contained (names c) n (defined_among c (Gate n kind args) n gate refl)) named same in
+          let lower : well.acyclic.0 a < well.acyclic.0 n = well.acyclic.1 n a (kind, args, contained c (Gate n kind args) gate, contained args a reads) in
+          let equal : well.acyclic.0 n ≡ well.acyclic.0 a = ap well.acyclic.0 one in
+          absurd (omega (arith, lower, equal))
+      go (inr (inr after)) =
+          let before : GoesBefore c (slice_index_or order i 0) (slice_index_or order place.0 0) = h.ordered i place.0 0 after place.1 in
+          absurd (not_before n a kind args gate reads (subst (GoesBefore c (signal c n)) there (subst (λ s. GoesBefore c s (slice_index_or order place.0 0)) at before)))

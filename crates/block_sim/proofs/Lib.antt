@@ -1,0 +1,11 @@
+pub mod Lanes
+pub mod Bridge
+pub mod LawOfTable
+pub mod GateLanes
+pub mod Equations
+pub mod LevelOrder
+pub mod Passed
+pub mod Rows
+pub mod Represented
+pub mod Masked
+pub mod ShownApart

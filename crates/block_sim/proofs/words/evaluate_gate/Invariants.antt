@@ -1,0 +1,6 @@
+use Rattle.block_sim.specs.Stuck.{fault_of}
+use Rattle.block_sim.proofs.GateLanes.{AreFolds}
+use Rattle.block_sim.proofs.words.evaluate_gate.Given as goal
+
+abbrev pub invariant-loop-place : goal.invariant-loop-place
+invariant-loop-place l = AreFolds (fault_of l.fault) l.gate l.pins l.words l.place l.all l.any l.odd

@@ -1,0 +1,54 @@
+-- Words of 64 lanes: a block's bits side by side, one word a signal.
+use Rattle.std.specs.Prelude.{◌≡◌, ◌≢◌, ℕ, ◌+◌, ◌*◌, ◌<◌, ◌==◌, Bool, true, false, List, [], map, Contains, Option, Some, slice_get, slice_index_or}
+use Rattle.std.specs.Int.{bit_at}
+use Rattle.std.specs.List.{enumerate_from}
+use Rattle.bench_net.specs.declared.Kind.{Kind}
+use Rattle.bench_net.specs.Statement.{Name, Statement, Gate}
+use Rattle.bench_net.specs.Scan.{signal, name_of, sources}
+use Rattle.fault_model.specs.declared.Line.{Line}
+use Rattle.fault_model.specs.declared.Line.TheVariants as line
+use Rattle.fault_model.specs.Fault.{Fault}
+use Rattle.fault_model.specs.Solution.{Test, Solves, under, value, pins_see}
+use Rattle.patterns.specs.declared.Outcome.{Outcome}
+use Rattle.patterns.specs.declared.Outcome.TheVariants.{Clear, Hit}
+use Rattle.patterns.specs.Tests.{bit}
+
+-- the bit of a word's lane
+abbrev pub lane : ℕ → ℕ → Bool
+lane word k = bit_at word k == 1
+
+-- the bit that words, one a signal, give a name in a lane
+abbrev pub lane_bits : List Statement → List ℕ → ℕ → Name → Bool
+lane_bits c words k n = lane (slice_index_or words (signal c n) 0) k
+
+-- the test of a lane: test 64 b + k, and one of bits 0 past the last
+abbrev pub test_of : List Test → ℕ → ℕ → Test
+test_of tests block k = slice_index_or tests (64 * block + k) []
+
+-- The words are those of a block under a fault, or under none: in each lane they solve the circuit
+-- under the lane's test.
+abbrev pub AreWords : List Statement → List Test → ℕ → Option Fault → List ℕ → Type 0
+AreWords c tests block f words = (k : ℕ) → k < 64 → Solves c (test_of tests block k) f (lane_bits c words k)
+
+-- The equation of one signal on words: in each lane a source has the bit of the lane's test and a gate's
+-- signal the bit that its kind gives for what its pins see in that lane, but for a fault on its stem.
+pub record IsSignalWord (c : List Statement) (tests : List Test) (block : ℕ) (f : Option Fault) (words : List ℕ) (s word : ℕ) : Type 0 where
+  pub source : (i : ℕ) (n : Name) (k : ℕ) → k < 64 → name_of c s ≡ Some n → slice_get (sources c) i ≡ Some n
+      → lane word k ≡ under f (line.Stem s) (bit tests (64 * block + k) i)
+  pub gate : (n : Name) (kind : Kind) (args : List Name) (k : ℕ) → k < 64 → signal c n ≡ s → Contains c (Gate n kind args)
+      → lane word k ≡ under f (line.Stem s) (value kind (pins_see f (lane_bits c words k) s args))
+
+-- what the pins of a gate, given by the signals that they read, see in a lane
+abbrev pub pin_bits : Option Fault → ℕ → List ℕ → List ℕ → ℕ → List Bool
+pin_bits f gate pins words k = map (λ at. under f (line.Pin gate at.0) (lane (slice_index_or words at.1 0) k)) (enumerate_from 0 pins)
+
+-- Among the first observers, as many as the count, one shows different bits in a lane: `own` gives the line
+-- of an observer by its place, `observed` the signals that they observe.
+abbrev pub Differs : (ℕ → Line) → Option Fault → List ℕ → List ℕ → List ℕ → ℕ → ℕ → Type 0
+Differs own f observed good faulty k count = (place : ℕ) × (place < count)
+    × (lane (slice_index_or good (slice_index_or observed place 0) 0) k ≢ under f (own place) (lane (slice_index_or faulty (slice_index_or observed place 0) 0) k))
+
+-- the outcome names the least lane of a word that is 1
+abbrev pub IsLeastLane : ℕ → Outcome → Type 0
+IsLeastLane word (Hit k) = (k < 64) × (lane word k ≡ true) × ((lower : ℕ) → lower < k → lane word lower ≡ false)
+IsLeastLane word Clear = (k : ℕ) → k < 64 → lane word k ≡ false

@@ -1,0 +1,167 @@
+//! A job: a circuit with its faults, its classes and its tests.
+
+ghost use Rattle.std.specs.Prelude.{◌≡◌, ◌↔◌, ◌<◌, ◌≤◌, List, ℕ, None, length, map, Err, IfOk, Some, slice_get};
+ghost use Rattle.bench_net.specs.Scan.{names, sources};
+ghost use Rattle.bench_net.specs.Circuit.{IsCircuit};
+ghost use Rattle.fault_model.specs.Collapse.{representatives};
+ghost use Rattle.patterns.specs.Tests.{blocks, max_pieces};
+ghost use Rattle.block_sim.specs.Job.{AreFaultFree};
+ghost use Rattle.block_sim.specs.Parts.{BelongTogether, piece_count};
+ghost use Rattle.block_sim.specs.Stuck.{stuck_fault};
+ghost use Rattle.block_sim.specs.Words.{AreWords};
+
+use crate::words::{Stuck, evaluate};
+use bench_net::Circuit;
+use fault_model::{Classes, Faults};
+use patterns::Tests;
+use std::alloc::{AllocError, Global};
+use std::marker::Model;
+use thiserror::Error;
+
+/// The most pieces, classes times blocks, that a job may have.
+pub const MAX_PIECES: u64 = 4_194_304;
+
+/// Why a job is refused.
+#[derive(Clone, Copy, Debug, PartialEq, Eq, Error)]
+pub enum JobFault {
+    #[error("more than 4194304 pieces")]
+    TooManyPieces,
+    #[error("out of memory")]
+    Memory,
+}
+
+/// A circuit, its faults and classes, and tests for it, with the fault-free words of every block.
+#[derive(Drop)]
+pub struct Job {
+    circuit: Circuit,
+    faults: Faults,
+    classes: Classes,
+    tests: Tests,
+    rows: Vec<Vec<u64>>,
+}
+
+impl Model for Job {
+    ghost use Rattle.std.specs.Prelude.{map};
+    ghost use Rattle.block_sim.specs.Parts.{Parts};
+    ghost use Rattle.block_sim.specs.Job.{IsJob};
+
+    ghost Value = { Parts };
+
+    ghost view = { λ j. record { circuit = j.circuit; list = j.faults; classes = j.classes; tests = j.tests } };
+
+    ghost invariant = { λ j. IsJob (record { circuit = j.circuit; list = j.faults; classes = j.classes; tests = j.tests }) (map (λ row. row.items) j.rows.items) };
+}
+
+impl Job {
+    /// A job of parts that belong together: the faults and the classes are those of the circuit, and the
+    /// tests have its width. It takes a word for each signal and block.
+    ///
+    /// Refused as `TooManyPieces` exactly where classes times blocks are more than [`MAX_PIECES`], before
+    /// memory is asked for, and as `Memory` where some was refused.
+    pub fn new(
+        alloc: Global,
+        circuit: Circuit,
+        faults: Faults,
+        classes: Classes,
+        tests: Tests,
+    ) -> Result<Job, JobFault>
+        requires { BelongTogether (record { circuit = circuit; list = faults; classes = classes; tests = tests }) }
+        ensures too_many { (result ≡ Err JobFault.TooManyPieces) ↔ (max_pieces < piece_count (record { circuit = circuit; list = faults; classes = classes; tests = tests })) }
+        ensures few { IfOk result (λ job. piece_count job ≤ max_pieces) }
+        ensures job { IfOk result (λ job. job ≡ record { circuit = circuit; list = faults; classes = classes; tests = tests }) }
+    {
+        let pieces = u64::from(classes.count()) * u64::from(tests.blocks());
+        if pieces > MAX_PIECES {
+            return Err(JobFault::TooManyPieces);
+        }
+        match fault_free_rows(alloc, &circuit, &tests) {
+            Ok(rows) => Ok(Job {
+                circuit,
+                faults,
+                classes,
+                tests,
+                rows,
+            }),
+            Err(AllocError) => Err(JobFault::Memory),
+        }
+    }
+
+    /// The circuit.
+    pub fn circuit(&self) -> &Circuit
+        ensures part { result.now ≡ self.now.circuit }
+        ensures together { BelongTogether self.now }
+        ensures few { piece_count self.now ≤ max_pieces }
+    {
+        &self.circuit
+    }
+
+    /// The fault list.
+    pub fn faults(&self) -> &Faults
+        ensures part { result.now ≡ self.now.list }
+        ensures together { BelongTogether self.now }
+        ensures few { piece_count self.now ≤ max_pieces }
+    {
+        &self.faults
+    }
+
+    /// The classes of the faults.
+    pub fn classes(&self) -> &Classes
+        ensures part { result.now ≡ self.now.classes }
+        ensures together { BelongTogether self.now }
+        ensures few { piece_count self.now ≤ max_pieces }
+    {
+        &self.classes
+    }
+
+    /// The tests.
+    pub fn tests(&self) -> &Tests
+        ensures part { result.now ≡ self.now.tests }
+        ensures together { BelongTogether self.now }
+        ensures few { piece_count self.now ≤ max_pieces }
+    {
+        &self.tests
+    }
+
+    /// The representative of a class.
+    pub(crate) fn representative(&self, class: u32) -> Stuck
+        requires { class < length self.now.classes.representative }
+        ensures { slice_get (representatives self.now.circuit) class ≡ Some (stuck_fault result) }
+    {
+        let fault = self.classes.representative(class);
+        Stuck {
+            line: self.faults.line_of(fault),
+            at_one: self.faults.stuck_of(fault),
+        }
+    }
+
+    /// The words of a block without a fault, one a signal.
+    pub(crate) fn fault_free(&self, block: u32) -> &[u64]
+        requires { block < blocks (length self.now.tests.tests) }
+        ensures count { length result.now ≡ length (names self.now.circuit) }
+        ensures words { AreWords self.now.circuit self.now.tests.tests block None result.now }
+    {
+        self.rows[block as usize].as_slice()
+    }
+}
+
+/// The words of every block without a fault, one row a block.
+fn fault_free_rows(
+    alloc: Global,
+    circuit: &Circuit,
+    tests: &Tests,
+) -> Result<Vec<Vec<u64>>, AllocError>
+    requires circuit { IsCircuit circuit.now }
+    requires width { tests.now.width ≡ length (sources circuit.now) }
+    ensures count { IfOk result (λ rows. length (map (λ row. row.items) rows.items) ≡ blocks (length tests.now.tests)) }
+    ensures rows { IfOk result (λ rows. AreFaultFree circuit.now tests.now.tests (map (λ row. row.items) rows.items)) }
+{
+    let signals = circuit.signals() as usize;
+    let mut evaluations = 0;
+    let mut rows = Vec::new(alloc);
+    for block in 0..tests.blocks() {
+        let mut row = vec![in alloc; 0u64; signals]?;
+        evaluate(circuit, tests, block, None, &mut row, &mut evaluations);
+        rows.push(row)?;
+    }
+    Ok(rows)
+}

@@ -1,0 +1,18 @@
+//! Laws of fault simulation by blocks, on every circuit and test list.
+//!
+//! A law is a function without a body. Its clause is the law, and a proof names the function to use it.
+
+ghost use Rattle.std.specs.Prelude.{List};
+ghost use Rattle.bench_net.specs.Statement.{Statement};
+ghost use Rattle.bench_net.specs.Circuit.{IsWellFormed};
+ghost use Rattle.fault_model.specs.Laws.{HaveArities};
+ghost use Rattle.fault_model.specs.Solution.{Test};
+ghost use Rattle.patterns.specs.Least.{Table};
+ghost use Rattle.block_sim.specs.First.{IsTrueTable, LeastIsFirst};
+
+/// The first test that detects a fault is found by blocks: over a table with the true outcome of each
+/// class and block, the test of a class's first Hit is the first test that detects each fault of the
+/// class, and where all blocks are Clear no test detects one.
+pub fn least_is_first()
+    ensures { (c : List Statement) (tests : List Test) (table : Table) → IsWellFormed c → HaveArities c → IsTrueTable c tests table → LeastIsFirst c tests table }
+{}

@@ -1,0 +1,160 @@
+//! The words of a circuit's signals: a block's 64 tests side by side, without a fault or under one.
+//!
+//! Bit `k` of a word is the bit of test `64 * block + k`. A gate is evaluated on a whole word at once
+//! (parallel-pattern simulation: Bushnell and Agrawal, Essentials of Electronic Testing).
+
+ghost use Rattle.std.specs.Prelude.{◌≡◌, ◌≢◌, ℕ, ◌+◌, ◌-◌, ◌^◌, ◌<◌, ◌≤◌, All, min, length, None, slice_get};
+ghost use Rattle.bench_net.specs.Scan.{names, sources, name_of, gate_of};
+ghost use Rattle.bench_net.specs.Circuit.{IsCircuit, max_sinks};
+ghost use Rattle.fault_model.specs.Solution.{value, under};
+ghost use Rattle.patterns.specs.Tests.{IsWord, blocks};
+ghost use Rattle.block_sim.specs.Words.{lane, pin_bits, AreWords, IsSignalWord};
+ghost use Rattle.block_sim.specs.Parts.{gate_count, gate_weight};
+ghost use Rattle.block_sim.specs.Stuck.{fault_of};
+
+use bench_net::{Circuit, Kind};
+use fault_model::Line;
+use patterns::Tests;
+
+/// A single stuck-at fault: its line is held at 0 or at 1 for all that read it.
+#[derive(Clone, Copy)]
+pub struct Stuck {
+    pub line: Line,
+    pub at_one: bool,
+}
+
+impl Stuck {
+    /// The stuck bit in every lane.
+    #[inline(always)]
+    fn word(self) -> u64
+        ensures { (k : ℕ) → k < 64 → lane result k ≡ self.at_one }
+    {
+        if self.at_one { !0 } else { 0 }
+    }
+}
+
+/// The word that the readers of a line get: the stuck bit in every lane where the fault is on this very
+/// line, else the word that drives it.
+#[inline(always)]
+pub fn seen(fault: Option<Stuck>, own: Line, word: u64) -> u64
+    ensures { (k : ℕ) → k < 64 → lane result k ≡ under (fault_of fault) own (lane word k) }
+{
+    match fault {
+        Some(stuck) if stuck.line == own => stuck.word(),
+        _ => word,
+    }
+}
+
+/// Evaluates a gate on a word, and counts it. No other function evaluates a gate.
+fn evaluate_gate(
+    kind: Kind,
+    pins: &[u32],
+    gate: u32,
+    fault: Option<Stuck>,
+    words: &[u64],
+    evaluations: &mut u64,
+) -> u64
+    requires pins_in { All (λ p. p < length words.now) pins.now }
+    requires few { length pins.now ≤ max_sinks }
+    ensures value { (k : ℕ) → k < 64 → lane result k ≡ value kind (pin_bits (fault_of fault) gate pins.now words.now k) }
+    ensures grown { evaluations.old ≤ evaluations.new }
+    ensures counted { evaluations.new ≡ min (evaluations.old + 1) (2 ^ 64 - 1) }
+{
+    *evaluations = evaluations.saturating_add(1);
+    let mut all = !0u64;
+    let mut any = 0u64;
+    let mut odd = 0u64;
+    for (place, signal) in pins.iter().enumerate() {
+        let own = Line::Pin {
+            gate,
+            pin: place as u32,
+        };
+        let word = seen(fault, own, words[*signal as usize]);
+        all &= word;
+        any |= word;
+        odd ^= word;
+    }
+    match kind {
+        Kind::And => all,
+        Kind::Nand => !all,
+        Kind::Or | Kind::Buff => any,
+        Kind::Nor | Kind::Not => !any,
+        Kind::Xor => odd,
+        Kind::Xnor => !odd,
+    }
+}
+
+/// The word that a block's tests give a source.
+fn source_word(circuit: &Circuit, tests: &Tests, block: u32, signal: u32) -> u64
+    requires circuit { IsCircuit circuit.now }
+    requires signal { signal < length (names circuit.now) }
+    requires source { gate_of circuit.now signal ≡ None }
+    requires width { tests.now.width ≡ length (sources circuit.now) }
+    requires block { block < blocks (length tests.now.tests) }
+    ensures { (i : ℕ) → slice_get (sources circuit.now) i ≡ name_of circuit.now signal → IsWord tests.now.tests block i result }
+{
+    match circuit.source_of(signal) {
+        Some(source) => tests.word(block, source),
+        None => unreachable!(),
+    }
+}
+
+/// The word of one signal, from the tests or from the words of the signals that its gate reads.
+fn signal_word(
+    circuit: &Circuit,
+    tests: &Tests,
+    block: u32,
+    fault: Option<Stuck>,
+    words: &[u64],
+    signal: u32,
+    evaluations: &mut u64,
+) -> u64
+    requires circuit { IsCircuit circuit.now }
+    requires signal { signal < length (names circuit.now) }
+    requires words { length (names circuit.now) ≤ length words.now }
+    requires width { tests.now.width ≡ length (sources circuit.now) }
+    requires block { block < blocks (length tests.now.tests) }
+    ensures equation { IsSignalWord circuit.now tests.now.tests block (fault_of fault) words.now signal result }
+    ensures grown { evaluations.old ≤ evaluations.new }
+    ensures counted { evaluations.new ≤ evaluations.old + gate_weight circuit.now signal }
+{
+    let word = match circuit.gate_of(signal) {
+        Some(gate) => evaluate_gate(
+            gate.kind,
+            gate.pins.as_slice(),
+            signal,
+            fault,
+            words,
+            evaluations,
+        ),
+        None => source_word(circuit, tests, block, signal),
+    };
+    seen(fault, Line::Stem(signal), word)
+}
+
+/// Writes the word of every signal on a block, at the signal's number, without a fault or under one. It
+/// goes in level order, so a gate comes after the signals that it reads.
+pub fn evaluate(
+    circuit: &Circuit,
+    tests: &Tests,
+    block: u32,
+    fault: Option<Stuck>,
+    words: &mut [u64],
+    evaluations: &mut u64,
+)
+    requires circuit { IsCircuit circuit.now }
+    requires words { length (names circuit.now) ≤ length words.old }
+    requires width { tests.now.width ≡ length (sources circuit.now) }
+    requires block { block < blocks (length tests.now.tests) }
+    ensures words { AreWords circuit.now tests.now.tests block (fault_of fault) words.new }
+    ensures room { length words.new ≡ length words.old }
+    ensures grown { evaluations.old ≤ evaluations.new }
+    ensures counted { evaluations.new ≤ evaluations.old + gate_count circuit.now }
+{
+    let order = circuit.in_level_order();
+    for signal in order {
+        let signal = *signal;
+        let word = signal_word(circuit, tests, block, fault, words, signal, evaluations);
+        words[signal as usize] = word;
+    }
+}
