@@ -9,7 +9,7 @@ use Rattle.bench_net.proofs.SignalsLists.{at_place, filtered_from, place_within}
 use Rattle.fault_model.specs.Fault.{Fault, faults}
 use Rattle.fault_model.specs.Solution.{Test}
 use Rattle.fault_model.specs.Collapse.{next, here, representatives, IsClassOf, AreEquivalent}
-use Rattle.fault_model.specs.Laws.{HaveArities}
+use Rattle.bench_net.specs.Circuit.{HaveArities}
 use Rattle.fault_model.proofs.ClassLaw.{classes_detect_same}
 use Rattle.patterns.specs.declared.Outcome.{Outcome}
 use Rattle.patterns.specs.declared.Outcome.TheVariants.{Clear, Hit}

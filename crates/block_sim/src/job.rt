@@ -13,19 +13,18 @@ ghost use Rattle.block_sim.specs.Words.{AreWords};
 use crate::words::{Stuck, evaluate};
 use bench_net::Circuit;
 use fault_model::{Classes, Faults};
-use patterns::Tests;
+use patterns::{MAX_PIECES, Tests};
 use std::alloc::{AllocError, Global};
 use std::marker::Model;
 use thiserror::Error;
 
-/// The most pieces, classes times blocks, that a job may have.
-pub const MAX_PIECES: u64 = 4_194_304;
-
 /// Why a job is refused.
 #[derive(Clone, Copy, Debug, PartialEq, Eq, Error)]
 pub enum JobFault {
+    /// Classes times blocks are more than [`patterns::MAX_PIECES`].
     #[error("more than 4194304 pieces")]
     TooManyPieces,
+    /// There is no memory for the job.
     #[error("out of memory")]
     Memory,
 }
@@ -56,7 +55,7 @@ impl Job {
     /// A job of parts that belong together: the faults and the classes are those of the circuit, and the
     /// tests have its width. It takes a word for each signal and block.
     ///
-    /// Refused as `TooManyPieces` exactly where classes times blocks are more than [`MAX_PIECES`], before
+    /// Refused as `TooManyPieces` exactly where classes times blocks are more than [`patterns::MAX_PIECES`], before
     /// memory is asked for, and as `Memory` where some was refused.
     pub fn new(
         alloc: Global,
@@ -71,7 +70,7 @@ impl Job {
         ensures job { IfOk result (λ job. job ≡ record { circuit = circuit; list = faults; classes = classes; tests = tests }) }
     {
         let pieces = u64::from(classes.count()) * u64::from(tests.blocks());
-        if pieces > MAX_PIECES {
+        if pieces > u64::from(MAX_PIECES) {
             return Err(JobFault::TooManyPieces);
         }
         match fault_free_rows(alloc, &circuit, &tests) {

@@ -4,3 +4,4 @@ pub mod Cells
 pub mod Texts
 pub mod Lines
 pub mod Firsts
+pub mod Accepted

@@ -9,10 +9,11 @@ use Rattle.bench_net.specs.Refusal.{IsAccepted, IsRefused}
 use Rattle.fault_model.specs.Collapse.{Collapsed, AreClassesOf}
 use Rattle.patterns.specs.declared.TestFault.TheVariants as test_fault
 use Rattle.patterns.specs.Tests.{TestList, HasTests, IsTestRefusal, max_pieces}
-use Rattle.block_sim.specs.declared.JobFault.TheVariants as job_fault
+use Rattle.block_sim.specs.declared.job.JobFault.TheVariants as job_fault
 use Rattle.block_sim.specs.Parts.{Parts, BelongTogether, piece_count}
 use Rattle.faultsim.specs.declared.text.SimFault.{SimFault}
 use Rattle.faultsim.specs.declared.text.SimFault.TheVariants as fault
+use Rattle.faultsim.specs.declared.text.RunFault.{RunFault}
 use Rattle.faultsim.specs.declared.text.RunFault.TheVariants.{NoWorkers, TooManyWorkers}
 use Rattle.faultsim.specs.Output.{Begins, HasFailed}
 use Rattle.faultsim.specs.Verdict.{AreFirsts}
@@ -54,9 +55,13 @@ IsJobFault bench text (fault.Job f) = (f ≡ job_fault.Memory) ⊎ ((job : Parts
 IsJobFault bench text fault.Memory = ⊤
 IsJobFault bench text _ = ⊥
 
+-- When a number of workers is refused: there are 1 to 64.
+abbrev pub IsWorkersFault : ℕ → RunFault → Type 0
+IsWorkersFault workers NoWorkers = workers ≡ 0
+IsWorkersFault workers TooManyWorkers = 64 < workers
+
 -- When each fault of the report comes: those of its job, and then a number of workers out of range.
 abbrev pub IsReportFault : List ℕ → List ℕ → ℕ → SimFault → Type 0
-IsReportFault bench text workers (fault.Run NoWorkers) = (job : Parts) × IsJobOf bench text job × (workers ≡ 0)
-IsReportFault bench text workers (fault.Run TooManyWorkers) = (job : Parts) × IsJobOf bench text job × (64 < workers)
+IsReportFault bench text workers (fault.Run f) = (job : Parts) × IsJobOf bench text job × IsWorkersFault workers f
 IsReportFault bench text workers (fault.Report f) = ⊤
 IsReportFault bench text workers f = IsJobFault bench text f

@@ -2,7 +2,7 @@
 
 ghost use Rattle.std.specs.Prelude.{◌≡◌, ◌<◌, IfOk, length, vec_len, slice_get, Some, ℕ, Option};
 ghost use Rattle.fault_model.specs.Fault.{Fault};
-ghost use Rattle.block_sim.specs.Parts.{Fits};
+ghost use Rattle.block_sim.specs.Parts.{HasRoom};
 ghost use Rattle.faultsim.specs.Verdict.{AreFirsts, IsFirstOfClass};
 
 use block_sim::{Job, Workspace, simulate};
@@ -11,10 +11,10 @@ use std::alloc::{AllocError, Global};
 
 /// The first test that detects the faults of a class, or none.
 fn first_of_class(job: &Job, workspace: &mut Workspace, class: u32) -> Option<u32>
-    requires fits { Fits workspace.old job.now }
+    requires fits { HasRoom workspace.old job.now }
     requires class { class < length job.now.classes.representative }
     ensures first { IsFirstOfClass job.now.circuit job.now.tests.tests class result }
-    ensures fits { Fits workspace.new job.now }
+    ensures fits { HasRoom workspace.new job.now }
 {
     for block in 0..job.tests().blocks() {
         match simulate(job, workspace, class, block) {

@@ -1,7 +1,7 @@
 //! From the bytes of texts to the bytes of the report or the listing.
 
-ghost use Rattle.std.specs.Prelude.{IfOk, IfErr};
-ghost use Rattle.faultsim.specs.EndToEnd.{WritesOneOf, IsReportOf, IsReportFault, IsListingOf, IsListingFault, IsJobOf, IsJobFault};
+ghost use Rattle.std.specs.Prelude.{◌<◌, ◌≤◌, IfOk, IfErr, OnOk};
+ghost use Rattle.faultsim.specs.EndToEnd.{WritesOneOf, IsReportOf, IsReportFault, IsListingOf, IsListingFault, IsJobOf, IsJobFault, IsWorkersFault};
 
 use crate::first::first_tests;
 use crate::output::Out;
@@ -117,7 +117,10 @@ impl From<AllocError> for SimFault {
 const MAX_WORKERS: u32 = 64;
 
 /// Refuses a number of workers out of range.
-fn check_workers(workers: u32) -> Result<(), RunFault> {
+fn check_workers(workers: u32) -> Result<(), RunFault>
+    ensures in_range { OnOk result ((0 < workers) × (workers ≤ 64)) }
+    ensures refused { IfErr result (IsWorkersFault workers) }
+{
     match workers {
         0 => Err(RunFault::NoWorkers),
         1..=MAX_WORKERS => Ok(()),
@@ -139,6 +142,7 @@ pub fn simulate_text<R, W: Out>(
 ) -> Result<(), SimFault>
     ensures written { WritesOneOf (IsReportOf bench.now tests.now list) result (W.bytes out.old) (W.bytes out.new) (W.fails out.old) (W.fails out.new) }
     ensures refused { IfErr result (IsReportFault bench.now tests.now workers) }
+    ensures workers { OnOk result ((0 < workers) × (workers ≤ 64)) }
 {
     let job = job_of(alloc, bench, tests)?;
     check_workers(workers)?;

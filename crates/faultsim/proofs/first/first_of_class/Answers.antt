@@ -12,7 +12,7 @@ returns-in-Hit-clause-first c = λ r e.
 
 pub loop-block-preserved : goal.loop-block-preserved
 loop-block-preserved c = record {
-  fits = c.in-Clear.ensures.fits;
+  fits = rw (c.in-Clear.ensures.room) c.loop-block.invariant.fits;
   below = λ r e.
       below_more (λ b. IsOutcome c.args.job.now.circuit c.args.job.now.tests.tests r b Clear) c.loop-block.block (c.loop-block.invariant.below r e)
       (outcome_of c.args.job.now.circuit c.args.job.now.tests.tests c.args.class c.loop-block.block r Clear e c.in-Clear.ensures.outcome);
