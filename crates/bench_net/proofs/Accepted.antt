@@ -1,19 +1,19 @@
 -- Numbered statements with levels are a circuit, and what its tables need.
-use Rattle.std.proofs.Common.{◌≡◌, ◌≢◌, ◌<◌, ◌≤◌, ◌+◌, ◌^◌, ℕ, zero, suc, sym, ◌∙◌, ap, subst, refl, List, [], ◌∷◌, ◌++◌, map, length, get_or, arith, inl, inr, ◌⊎◌, length-append}
-use Rattle.std.specs.Prelude.{Option, Some, None, slice_get, slice_index, Contains, AllPairs, flat_map}
+use Rattle.std.proofs.Common.{◌≡◌, ◌≢◌, ◌<◌, ℕ, zero, suc, sym, ◌∙◌, ap, subst, refl, List, [], ◌∷◌, ◌++◌, map, length, arith, inl, inr}
+use Rattle.std.specs.Prelude.{slice_index, Contains, AllPairs, flat_map}
 use Rattle.std.proofs.lemmas.List.{length-map, map-append}
 use Rattle.std.proofs.lemmas.Option.{slice_get_within}
 use Rattle.bench_net.specs.declared.line.Line.{Line}
 use Rattle.bench_net.specs.declared.line.Line.TheVariants as line
-use Rattle.bench_net.specs.Statement.{Name, Statement, read}
+use Rattle.bench_net.specs.Statement.{Name, read}
 use Rattle.bench_net.specs.Scan.{names}
-use Rattle.bench_net.specs.Circuit.{IsCircuit, IsWellFormed, sink_count}
-use Rattle.bench_net.specs.Stored.{name_at, statement_of, statements_of, defined_numbers, read_numbers, AreNumbered, AreStatements}
+use Rattle.bench_net.specs.Circuit.{IsCircuit, sink_count}
+use Rattle.bench_net.specs.Stored.{name_at, statement_of, statements_of, defined_numbers, read_numbers, AreStatements}
 use Rattle.bench_net.specs.Tables.{AreTableLines, AreDefinitions}
 use Rattle.bench_net.specs.Marks.{gate_pins, IsGraph, AreLevelsOf}
 use Rattle.bench_net.proofs.Members.{Among, among, contained}
 use Rattle.bench_net.proofs.Counted.{few_lines, pins_read, pin_count}
-use Rattle.bench_net.proofs.Named.{AreNamed, line_at, gate_at, definition_count}
+use Rattle.bench_net.proofs.Named.{line_at, gate_at, definition_count}
 use Rattle.bench_net.proofs.Calls.{defined_in}
 use Rattle.bench_net.proofs.NamedLevels.{level_by, levels_by, numbering_by, named_among}
 

@@ -1,22 +1,18 @@
 -- From the lines of a text to its acceptance or refusal.
-use Rattle.std.proofs.Common.{◌≡◌, ◌≢◌, ◌<◌, ◌≤◌, ◌+◌, ℕ, zero, suc, sym, ◌∙◌, ap, subst, refl, List, [], ◌∷◌, ◌++◌, map, length, get_or, arith, inl, inr, ◌⊎◌}
+use Rattle.std.proofs.Common.{◌≡◌, ◌≢◌, ◌<◌, ℕ, zero, suc, sym, ◌∙◌, ap, subst, refl, List, [], ◌∷◌, ◌++◌, map, length, arith, inl, inr, ◌⊎◌}
 use Rattle.std.specs.Prelude.{Option, Some, None, slice_get, slice_index_or, Contains, AllPairs}
-use Rattle.std.proofs.lemmas.Option.{slice_get-get_or, slice_get_within}
-use Rattle.bench_net.specs.declared.Kind.{Kind}
-use Rattle.bench_net.specs.declared.GateLine.{GateLine}
+use Rattle.std.proofs.lemmas.Option.{slice_get-get_or}
 use Rattle.bench_net.specs.declared.BenchFault.{BenchFault}
 use Rattle.bench_net.specs.declared.BenchFault.TheVariants as fault
-use Rattle.bench_net.specs.declared.Limit.{Limit}
 use Rattle.bench_net.specs.declared.line.Line.{Line}
 use Rattle.bench_net.specs.declared.line.Line.TheVariants as line
 use Rattle.bench_net.specs.Statement.{Name, Statement, Input, Output, Gate, Dff, defined}
 use Rattle.bench_net.specs.Reading.{statements}
 use Rattle.bench_net.specs.Scan.{names}
-use Rattle.bench_net.specs.Circuit.{HaveArities, IsCircuit, IsStuck, sink_count, max_signals, max_sinks}
-use Rattle.bench_net.specs.Refusal.{at_line, IsLowest, Defines, IsRedefinition, NoLine, IsCyclic, IsAccepted, IsRefused}
+use Rattle.bench_net.specs.Circuit.{HaveArities, IsCircuit, IsStuck, sink_count}
+use Rattle.bench_net.specs.Refusal.{Defines, IsRedefinition, NoLine, IsCyclic, IsAccepted, IsRefused}
 use Rattle.bench_net.specs.Stored.{name_at, statement_of, statements_of, AreLinesOf, AreStatements, IsCyclicLine, AreRefused}
-use Rattle.bench_net.proofs.Members.{Among, among, contained}
-use Rattle.bench_net.proofs.Arities.{arities_of_text}
+use Rattle.bench_net.proofs.Members.{Among, contained}
 
 -- ---- where no line redefines a name, each name stands once
 

@@ -1,23 +1,22 @@
 -- What the tables of a circuit say of its statements.
-use Rattle.std.proofs.Common.{◌≡◌, ◌≢◌, ◌<◌, ◌≤◌, ◌+◌, ℕ, zero, suc, sym, ◌∙◌, ap, subst, refl, List, [], ◌∷◌, ◌++◌, map, length, get_or, filter, arith, inl, inr, ◌⊎◌, length-append}
-use Rattle.std.specs.Prelude.{Option, Some, None, slice_get, slice_index, Contains, flat_map, option_map, IfSome, IfNone}
+use Rattle.std.proofs.Common.{◌≡◌, ◌≢◌, ◌<◌, ◌≤◌, ◌+◌, ℕ, zero, suc, sym, ◌∙◌, ap, refl, List, [], ◌∷◌, ◌++◌, map, length, get_or, filter, arith, inl, inr, length-append}
+use Rattle.std.specs.Prelude.{Option, Some, None, slice_get, slice_index, flat_map, option_map, IfSome, IfNone}
 use Rattle.std.specs.List.{filter_map}
 use Rattle.std.proofs.lemmas.List.{length-map, get_or_read}
-use Rattle.std.proofs.lemmas.Option.{slice_get-get_or, slice_get-map, slice_get_within, slice_get_read}
+use Rattle.std.proofs.lemmas.Option.{slice_get-map, slice_get_within, slice_get_read}
 use Rattle.bench_net.specs.declared.Kind.{Kind}
-use Rattle.bench_net.specs.declared.GateLine.{GateLine}
 use Rattle.bench_net.specs.declared.ScanCell.{ScanCell}
 use Rattle.bench_net.specs.declared.line.Line.{Line}
 use Rattle.bench_net.specs.declared.line.Line.TheVariants as line
 use Rattle.bench_net.specs.declared.tables.Tables.{Tables}
 use Rattle.bench_net.specs.declared.levels.Levels.{Levels}
-use Rattle.bench_net.specs.Statement.{Name, Statement, defines}
+use Rattle.bench_net.specs.Statement.{Name, Statement}
 use Rattle.bench_net.specs.Scan.{names, signal, name_of, definition, gate_line, gate_of, inputs, outputs, cells, sources}
 use Rattle.bench_net.specs.Stored.{name_at, statement_of, statements_of, defined_numbers, read_numbers, AreNumbered}
-use Rattle.bench_net.specs.Tables.{input_number, output_number, cell_numbers, defined_number, defines_number}
+use Rattle.bench_net.specs.Tables.{input_number, output_number, cell_numbers, defines_number}
 use Rattle.bench_net.specs.Inside.{IsInside}
-use Rattle.bench_net.proofs.Members.{Among, among, contained}
-use Rattle.bench_net.proofs.Counted.{few_sources, source_defined, outputs_read, pins_read, among_cases}
+use Rattle.bench_net.proofs.Members.{Among, contained}
+use Rattle.bench_net.proofs.Counted.{few_sources, source_defined, outputs_read, pins_read}
 use Rattle.bench_net.proofs.Named.{AreNamed, name_of_at, signal_at, same_number, map_signal, inputs_are, outputs_are, cells_are, cell_names, sources_are, source_numbers, definers_are, line_at, index_of, definition_count}
 
 pub named : (ns : List Name) (lines : List Line) (tables : Tables) (levels : Levels) → IsInside ns lines tables levels → AreNamed ns lines

@@ -1,15 +1,14 @@
 -- Signals with levels are not stuck, and the levels of all signals.
-use Rattle.std.proofs.Common.{◌≡◌, ◌<◌, ◌≤◌, ◌+◌, ℕ, zero, suc, sym, ◌∙◌, ap, subst, refl, List, [], ◌∷◌, map, length, get_or, arith, inl, inr, ◌⊎◌}
-use Rattle.std.specs.Prelude.{Option, Some, None, slice_get, slice_index, Contains, unwrap_or}
+use Rattle.std.proofs.Common.{◌≡◌, ◌<◌, ◌≤◌, ◌+◌, ℕ, zero, suc, sym, ◌∙◌, ap, subst, refl, List, [], ◌∷◌, map, length, get_or, arith}
+use Rattle.std.specs.Prelude.{Option, Some, None, slice_index, Contains, unwrap_or}
 use Rattle.std.proofs.lemmas.List.{length-map}
 use Rattle.bench_net.specs.declared.levels.Mark.{Mark}
-use Rattle.bench_net.specs.declared.levels.Mark.TheVariants.{Unvisited, Open, Level}
 use Rattle.bench_net.specs.declared.levels.LevelFault.{LevelFault}
 use Rattle.bench_net.specs.declared.levels.LevelFault.TheVariants.{Memory, Cycle}
 use Rattle.bench_net.specs.Level.{greatest}
 use Rattle.bench_net.specs.Marks.{marked_level, level_of_mark, level_from, level_or_zero, IsLevelled, PinsLevelled, AreMarks, AreLevelsOf, HasPinIn, IsStuckAt, IsLowestStuck, IsRootFault, IsLevelFault}
-use Rattle.bench_net.proofs.Members.{Among, among, contained}
-use Rattle.bench_net.proofs.Marking.{greatest-above, map-same, marked_within}
+use Rattle.bench_net.proofs.Members.{among}
+use Rattle.bench_net.proofs.Marking.{greatest-above, map-same}
 
 not_stuck_below : (pins : ℕ → Option (List ℕ)) (n : ℕ) (marks : List Mark) (members : List ℕ) → AreMarks pins n marks → ((m : ℕ) → Contains members m → HasPinIn pins members m)
     → (bound s k : ℕ) → marked_level marks s ≡ Some k → k < bound → Contains members s → ⊥

@@ -1,12 +1,12 @@
 -- Tables that are lists of lines: where each signal is defined, and its place among the sources.
-use Rattle.std.proofs.Common.{◌≡◌, ◌≢◌, ◌<◌, ◌≤◌, ◌+◌, ℕ, zero, suc, sym, ◌∙◌, ap, subst, refl, cond, Bool, true, false, List, [], ◌∷◌, ◌++◌, map, length, take, get_or, set, filter, arith, inl, inr, ◌⊎◌, replicate}
-use Rattle.std.specs.Prelude.{Option, Some, None, slice_get, slice_index, option_map}
-use Rattle.std.proofs.lemmas.Bool.{cases_eq, cases_lt}
-use Rattle.std.proofs.lemmas.List.{map_push, take_more, length-set, length-take-le, get_or_push, length-replicate, append-nil}
+use Rattle.std.proofs.Common.{◌≡◌, ◌≢◌, ◌<◌, ◌+◌, ℕ, zero, suc, sym, ◌∙◌, ap, subst, refl, cond, true, false, List, [], ◌∷◌, ◌++◌, map, length, take, get_or, set, filter, arith, inl, inr, ◌⊎◌, replicate}
+use Rattle.std.specs.Prelude.{Option, Some, None, slice_get}
+use Rattle.std.proofs.lemmas.Bool.{cases_eq}
+use Rattle.std.proofs.lemmas.List.{map_push, length-set, length-replicate, append-nil}
 use Rattle.std.proofs.lemmas.List.Elements.{filter_more}
-use Rattle.std.proofs.lemmas.Option.{slice_get-get_or, slice_get_within, get_or_from_slice_get}
+use Rattle.std.proofs.lemmas.Option.{slice_get-get_or}
 use Rattle.bench_net.specs.declared.line.Line.{Line}
-use Rattle.bench_net.specs.Tables.{defines_number, ArePlaces, AreDefinitions}
+use Rattle.bench_net.specs.Tables.{defines_number, ArePlaces}
 
 -- ---- definitions
 

@@ -1,26 +1,24 @@
 -- Levels by numbers are levels by names.
-use Rattle.std.proofs.Common.{◌≡◌, ◌≢◌, ◌<◌, ◌≤◌, ◌+◌, ℕ, zero, suc, sym, ◌∙◌, ap, subst, refl, List, [], ◌∷◌, ◌++◌, map, length, get_or, filter, arith, inl, inr, ◌⊎◌}
-use Rattle.std.specs.Prelude.{Option, Some, None, slice_get, slice_index, Contains, flat_map, AllPairs}
+use Rattle.std.proofs.Common.{◌≡◌, ◌<◌, ◌≤◌, ◌+◌, ℕ, sym, ◌∙◌, ap, subst, refl, List, [], ◌∷◌, map, length, get_or, arith, inl, inr, ◌⊎◌}
+use Rattle.std.specs.Prelude.{Some, None, slice_index, Contains, flat_map, AllPairs}
 use Rattle.std.specs.List.{filter_map}
 use Rattle.std.proofs.lemmas.Bool.{cases_order}
 use Rattle.std.proofs.lemmas.List.{length-map, same_lists, get_or-map, get_or_default}
-use Rattle.std.proofs.lemmas.List.Elements.{Contains-get_or}
 use Rattle.bench_net.specs.declared.Kind.{Kind}
 use Rattle.bench_net.specs.declared.GateLine.{GateLine}
-use Rattle.bench_net.specs.declared.ScanCell.{ScanCell}
 use Rattle.bench_net.specs.declared.line.Line.{Line}
 use Rattle.bench_net.specs.declared.line.Line.TheVariants as line
 use Rattle.bench_net.specs.Statement.{Name, Statement, Input, Output, Gate, Dff}
-use Rattle.bench_net.specs.Scan.{names, signal, name_of, sources}
-use Rattle.bench_net.specs.Circuit.{HasArgument, IsNumbering}
+use Rattle.bench_net.specs.Scan.{names, signal, sources}
+use Rattle.bench_net.specs.Circuit.{IsNumbering}
 use Rattle.bench_net.specs.Level.{greatest, AreLevels, HasLevel, GoesBefore, IsLevelOrder, HasDepth}
-use Rattle.bench_net.specs.Stored.{name_at, statement_of, statements_of, defined_numbers, read_numbers, AreNumbered}
+use Rattle.bench_net.specs.Stored.{name_at, statements_of, read_numbers}
 use Rattle.bench_net.specs.Tables.{input_number, cell_numbers, defined_number, AreDefinitions}
 use Rattle.bench_net.specs.Marks.{gate_pins, line_pins, level_from, AreLevelsOf}
 use Rattle.bench_net.specs.Rows.{rank, AreRows}
 use Rattle.bench_net.proofs.Members.{Among, among, contained}
 use Rattle.bench_net.proofs.Counted.{pins_read, among_cases}
-use Rattle.bench_net.proofs.Marking.{greatest-above, greatest-cons, map-same}
+use Rattle.bench_net.proofs.Marking.{greatest-cons}
 use Rattle.bench_net.proofs.Ranks.{rank-equal, rank-less, rank-in}
 use Rattle.bench_net.proofs.Grouped.{has_rank}
 use Rattle.bench_net.proofs.Named.{AreNamed, name_of_at, signal_at, sources_are, source_numbers, pins_of_line, no_pins, defined_below}

@@ -1,26 +1,25 @@
 -- Sinks by numbers are the sinks by names.
-use Rattle.std.proofs.Common.{◌≡◌, ◌≢◌, ◌<◌, ◌≤◌, ◌+◌, ◌==◌, ℕ, zero, suc, sym, ◌∙◌, ap, subst, refl, cond, Bool, true, false, not, List, [], ◌∷◌, ◌++◌, map, length, get_or, filter, arith, inl, inr, ◌⊎◌, length-append}
-use Rattle.std.specs.Prelude.{Option, Some, None, slice_get, slice_index, Contains, flat_map, bytes_eq}
-use Rattle.std.specs.List.{filter_map, enumerate_from, position_or_len, prefix_len}
+use Rattle.std.proofs.Common.{◌≡◌, ◌<◌, ◌+◌, ◌==◌, ℕ, suc, sym, ◌∙◌, ap, refl, Bool, true, false, List, [], ◌∷◌, ◌++◌, map, length, filter, arith, inl, inr, length-append}
+use Rattle.std.specs.Prelude.{Some, slice_get, flat_map, bytes_eq}
+use Rattle.std.specs.List.{filter_map, enumerate_from, position_or_len}
 use Rattle.std.proofs.Math.Numerals.{one-add}
 use Rattle.std.proofs.lemmas.Bool.{ne_eqb}
 use Rattle.std.proofs.lemmas.List.{map-append, append_assoc}
 use Rattle.std.proofs.lemmas.List.Elements.{filter-append}
-use Rattle.bench_net.specs.declared.GateLine.{GateLine}
 use Rattle.bench_net.specs.declared.Sink.{Sink}
 use Rattle.bench_net.specs.declared.Sink.TheVariants.{Pin, Data, Out}
 use Rattle.bench_net.specs.declared.sinks.Reader.{Reader}
 use Rattle.bench_net.specs.declared.line.Line.{Line}
 use Rattle.bench_net.specs.declared.line.Line.TheVariants as line
-use Rattle.bench_net.specs.Statement.{Name, Statement}
-use Rattle.bench_net.specs.Scan.{signal, cell, cells, outputs, places, pins_of, sinks}
-use Rattle.bench_net.specs.Stored.{name_at, statement_of, statements_of, defined_numbers, read_numbers, AreNumbered}
+use Rattle.bench_net.specs.Statement.{Name}
+use Rattle.bench_net.specs.Scan.{signal, cell, places, pins_of, sinks}
+use Rattle.bench_net.specs.Stored.{name_at, statements_of, defined_numbers, read_numbers}
 use Rattle.bench_net.specs.Tables.{output_number, cell_numbers, pin_readers, output_readers, line_readers, all_readers, sinks_at}
 use Rattle.std.proofs.lemmas.Option.{slice_get_within}
-use Rattle.bench_net.proofs.Members.{Among, among, contained}
+use Rattle.bench_net.proofs.Members.{Among, contained}
 use Rattle.bench_net.proofs.Checked.{bytes_refl}
 use Rattle.bench_net.proofs.Counted.{outputs_read}
-use Rattle.bench_net.proofs.Named.{AreNamed, signal_at, bytes_at, outputs_are, cells_are, cell_names, q_names, index_of}
+use Rattle.bench_net.proofs.Named.{AreNamed, signal_at, bytes_at, outputs_are, cells_are, q_names, index_of}
 
 -- the sinks of a signal among readers
 abbrev sinks_from : List Reader → ℕ → List Sink

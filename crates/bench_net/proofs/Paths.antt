@@ -1,16 +1,15 @@
 -- The path of a search for levels: gates each of which reads the next.
-use Rattle.std.proofs.Common.{◌≡◌, ◌≢◌, ◌<◌, ◌≤◌, ◌+◌, ℕ, zero, suc, sym, ◌∙◌, ap, subst, refl, List, [], ◌∷◌, ◌++◌, map, length, get_or, set, arith, inl, inr, ◌⊎◌}
+use Rattle.std.proofs.Common.{◌≡◌, ◌<◌, ◌≤◌, ◌+◌, ℕ, zero, suc, sym, ◌∙◌, ap, subst, refl, List, [], ◌∷◌, ◌++◌, map, length, get_or, set, arith, inl, inr, ◌⊎◌}
 use Rattle.std.specs.Prelude.{Option, Some, None, slice_get, Contains}
 use Rattle.std.proofs.lemmas.Bool.{cases_eq, cases_lt}
-use Rattle.std.proofs.lemmas.Option.{slice_get-get_or, slice_get_within}
-use Rattle.std.proofs.lemmas.List.{get_or-set_same, length-set}
+use Rattle.std.proofs.lemmas.Option.{slice_get_within}
 use Rattle.bench_net.specs.declared.levels.Mark.{Mark}
 use Rattle.bench_net.specs.declared.levels.Mark.TheVariants.{Unvisited, Open, Level}
 use Rattle.bench_net.specs.declared.levels.Step.{Step}
 use Rattle.bench_net.specs.Level.{greatest}
 use Rattle.bench_net.specs.Marks.{level_of_mark, marked_level, IsLevelled, level_or_zero, AreMarks, NoneOpen, KeepsLevels, HasPinIn, IsStuckAt}
 use Rattle.bench_net.proofs.Members.{Among, among, contained}
-use Rattle.bench_net.proofs.Marking.{opened, open_keeps, finished, marked_set, read_set, marked_within}
+use Rattle.bench_net.proofs.Marking.{opened, open_keeps, finished, marked_set, read_set}
 
 abbrev pub gates_of : List Step → List ℕ
 gates_of path = map (λ step. step.gate) path

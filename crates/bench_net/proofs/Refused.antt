@@ -1,16 +1,14 @@
 -- Stuck signals are stuck names, and the lowest stuck signal has the lowest line.
-use Rattle.std.proofs.Common.{◌≡◌, ◌≢◌, ◌<◌, ◌≤◌, ◌+◌, ℕ, zero, suc, sym, ◌∙◌, ap, subst, refl, cond, Bool, true, false, ◌&&◌, ◌||◌, List, [], ◌∷◌, ◌++◌, map, length, take, get_or, filter, arith, inl, inr, ◌⊎◌, length-append}
-use Rattle.std.specs.Prelude.{Option, Some, None, slice_get, slice_index, slice_index_or, Contains, AllPairs, flat_map, bytes_eq, IsTrue, nat_lt}
+use Rattle.std.proofs.Common.{◌≡◌, ◌<◌, ◌≤◌, ◌+◌, ℕ, zero, suc, sym, ◌∙◌, ap, subst, refl, Bool, true, false, ◌&&◌, ◌||◌, List, [], ◌∷◌, ◌++◌, map, length, take, get_or, filter, arith, inl, inr, ◌⊎◌, length-append}
+use Rattle.std.specs.Prelude.{Some, None, slice_get, slice_index, Contains, AllPairs, flat_map, bytes_eq, nat_lt}
 use Rattle.std.specs.List.{list_any, range_with_len}
-use Rattle.std.proofs.lemmas.Bool.{cases_eq, cases_order, cases_lt, lt-ltb, ltb-true, and_parts, and_from}
+use Rattle.std.proofs.lemmas.Bool.{cases_eq, cases_order, lt-ltb, ltb-true, and_parts, and_from}
 use Rattle.std.proofs.lemmas.Option.{slice_get_within, get_or_from_slice_get}
-use Rattle.bench_net.specs.declared.Kind.{Kind}
 use Rattle.bench_net.specs.declared.GateLine.{GateLine}
-use Rattle.bench_net.specs.declared.BenchFault.{BenchFault}
 use Rattle.bench_net.specs.declared.line.Line.{Line}
 use Rattle.bench_net.specs.declared.line.Line.TheVariants as line
-use Rattle.bench_net.specs.Statement.{Name, Statement, Gate}
-use Rattle.bench_net.specs.Circuit.{HasArgument, IsStuckSet, IsStuck}
+use Rattle.bench_net.specs.Statement.{Name, Gate}
+use Rattle.bench_net.specs.Circuit.{IsStuckSet, IsStuck}
 use Rattle.bench_net.specs.Refusal.{IsLowest}
 use Rattle.bench_net.specs.Stored.{name_at, statement_of, statements_of, defined_numbers, read_numbers, AreNumbered, IsCyclicLine}
 use Rattle.bench_net.specs.Tables.{defined_number, AreDefinitions}
@@ -18,7 +16,7 @@ use Rattle.bench_net.specs.Marks.{gate_pins, line_pins, HasPinIn, IsStuckAt, IsL
 use Rattle.bench_net.proofs.Members.{Among, among, contained, some_passes}
 use Rattle.bench_net.proofs.Checked.{same_bytes, bytes_refl}
 use Rattle.bench_net.proofs.Counted.{pins_read}
-use Rattle.bench_net.proofs.Named.{AreNamed, signal_at, same_number, line_at, gate_at, pins_of_line, defined_below, index_of}
+use Rattle.bench_net.proofs.Named.{AreNamed, same_number, line_at, gate_at, pins_of_line, defined_below}
 use Rattle.bench_net.proofs.NamedLevels.{gate_statement, named_among}
 
 -- ---- a stuck signal's name is stuck

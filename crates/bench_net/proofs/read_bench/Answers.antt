@@ -3,7 +3,7 @@ use Rattle.std.proofs.lemmas.Result.{IfErr-weaker}
 use Rattle.bench_net.specs.declared.BenchFault.TheVariants.{Memory}
 use Rattle.bench_net.specs.Refusal.{IsRefused}
 use Rattle.bench_net.specs.Stored.{AreRefused}
-use Rattle.bench_net.proofs.Bridged.{statements_are, accepted, fault_of}
+use Rattle.bench_net.proofs.Bridged.{statements_are, fault_of}
 use Rattle.bench_net.proofs.read_bench.Goals as goal
 
 pub circuit_of-requires : goal.circuit_of-requires

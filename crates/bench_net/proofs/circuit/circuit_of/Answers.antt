@@ -1,5 +1,5 @@
-use Rattle.std.proofs.Common.{◌≡◌, ◌≢◌, ◌<◌, ◌∙◌, ℕ, List, [], ◌∷◌, arith, ap, sym, refl, subst, length, map, string_bytes, get_or, inr}
-use Rattle.std.specs.Prelude.{slice_get, slice_index, Some, Bool, false, ◌==◌, vec_len}
+use Rattle.std.proofs.Common.{◌≡◌, ◌≢◌, ◌<◌, ◌∙◌, ℕ, List, [], arith, ap, sym, refl, subst, length, map, string_bytes, inr}
+use Rattle.std.specs.Prelude.{slice_get, slice_index, Some, false, ◌==◌, vec_len}
 use Rattle.std.proofs.lemmas.List.{length-map, get_or_read}
 use Rattle.std.proofs.lemmas.Bool.{false≢true, eq-eqb}
 use Rattle.std.proofs.lemmas.Option.{slice_get_read, slice_get_within}

@@ -1,5 +1,5 @@
 use Rattle.std.proofs.Common.{◌≡◌, ◌<◌, ℕ, get_or, arith, List, [], ◌∷◌, ◌++◌, length, map, take, ap, sym, refl, ◌∙◌}
-use Rattle.std.specs.Prelude.{Some, slice_get, Option, slice_index, option_map}
+use Rattle.std.specs.Prelude.{Some, slice_get, option_map}
 use Rattle.std.proofs.lemmas.List.{length-map, map_more, take_all}
 use Rattle.std.proofs.lemmas.Option.{slice_get-map, slice_get-get_or, slice_get_read}
 use Rattle.bench_net.specs.declared.line.Line.{Line}

@@ -1,12 +1,12 @@
-use Rattle.std.proofs.Common.{◌≤◌, ◌<◌, ◌≡◌, ◌+◌, ℕ, get_or, arith, take, map, max, ap, ◌∙◌, nat_cmp, List, length, sym}
-use Rattle.std.specs.Prelude.{Some, unwrap_or, fold}
+use Rattle.std.proofs.Common.{◌<◌, ◌≡◌, ◌+◌, ℕ, get_or, arith, take, map, max, ap, ◌∙◌, nat_cmp, List, length, sym}
+use Rattle.std.specs.Prelude.{unwrap_or}
 use Rattle.std.specs.Ordering.{ord_max}
 use Rattle.std.proofs.lemmas.List.{map_more, take_all}
 use Rattle.std.proofs.lemmas.List.Sums.{fold_push}
 use Rattle.std.proofs.lemmas.List.Elements.{Contains-get_or}
 use Rattle.std.proofs.lemmas.Bool.Decides.{nat_tests}
 use Rattle.bench_net.specs.Level.{greatest}
-use Rattle.bench_net.specs.Marks.{level_or_zero, level_of_mark}
+use Rattle.bench_net.specs.Marks.{level_or_zero}
 use Rattle.bench_net.proofs.Marking.{marked_is, greatest-least}
 use Rattle.bench_net.proofs.Members.{contained}
 use Rattle.bench_net.proofs.levels.level_above.Goals as goal

@@ -1,13 +1,12 @@
-use Rattle.std.proofs.Common.{◌≡◌, ◌<◌, ◌≤◌, ◌+◌, ℕ, ◌∙◌, ap, sym, refl, arith, subst, length, get_or, List, [], ◌∷◌, ◌++◌, set, map}
-use Rattle.std.specs.Prelude.{slice_get, Contains}
+use Rattle.std.proofs.Common.{◌≡◌, ◌<◌, ◌≤◌, ◌+◌, ℕ, ◌∙◌, ap, sym, refl, arith, subst, length, get_or, [], ◌∷◌, ◌++◌, set, map}
 use Rattle.std.proofs.lemmas.Option.{slice_get_within}
 use Rattle.std.proofs.lemmas.List.Elements.{Contains-get_or}
 use Rattle.bench_net.specs.Marks.{gate_pins, IsLevelled, level_or_zero}
-use Rattle.bench_net.specs.declared.levels.Mark.TheVariants.{Unvisited, Open, Level}
+use Rattle.bench_net.specs.declared.levels.Mark.TheVariants.{Unvisited, Open}
 use Rattle.bench_net.specs.Level.{greatest}
 use Rattle.bench_net.specs.declared.levels.Step.{Step}
 use Rattle.bench_net.proofs.Paths.{IsSearch, begun}
-use Rattle.bench_net.proofs.Turns.{step_below, step_reads, read_below, few_read, level_bound, unvisited_at, open_at, turn_done, turn_cycle, turn_followed, smaller_done, smaller_followed}
+use Rattle.bench_net.proofs.Turns.{step_below, read_below, few_read, level_bound, unvisited_at, open_at, turn_done, turn_cycle, turn_followed, smaller_followed}
 use Rattle.bench_net.proofs.levels.level_gate.Goals as goal
 
 pub index_mut-requires : goal.index_mut-requires

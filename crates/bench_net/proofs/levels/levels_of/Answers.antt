@@ -1,5 +1,4 @@
-use Rattle.std.proofs.Common.{◌≡◌, ◌<◌, ◌≤◌, ◌+◌, ℕ, arith, ap, sym, ◌∙◌, subst, length, get_or, List}
-use Rattle.std.proofs.lemmas.Result.{err_from_is_err_and}
+use Rattle.std.proofs.Common.{◌≡◌, arith, ap, ◌∙◌, length, get_or}
 use Rattle.bench_net.specs.Level.{greatest}
 use Rattle.bench_net.proofs.Marking.{greatest-at, greatest-within}
 use Rattle.bench_net.proofs.levels.levels_of.Goals as goal

@@ -1,14 +1,13 @@
-use Rattle.std.proofs.Common.{◌≡◌, ◌<◌, ◌≤◌, ◌+◌, ℕ, arith, ap, sym, refl, ◌∙◌, subst, length, get_or, inl, inr, ◌⊎◌, List, map}
-use Rattle.std.specs.Prelude.{Some, slice_get, slice_index, unwrap_or}
+use Rattle.std.proofs.Common.{◌≡◌, ◌<◌, ◌+◌, ℕ, arith, ap, sym, refl, ◌∙◌, subst, length, get_or, inl, inr, ◌⊎◌, List, map}
+use Rattle.std.specs.Prelude.{Some, slice_index}
 use Rattle.std.proofs.lemmas.Result.{err_from_is_err_and}
 use Rattle.std.proofs.lemmas.Bool.{cases_eq}
 use Rattle.std.proofs.lemmas.Option.{slice_get-get_or}
 use Rattle.bench_net.specs.declared.levels.Mark.{Mark}
 use Rattle.bench_net.specs.declared.levels.Mark.TheVariants.{Unvisited, Open, Level}
-use Rattle.bench_net.specs.Marks.{gate_pins, AreMarks, AreLevelsOf, IsLevelled, NoneOpen, marked_level, level_of_mark, level_or_zero, KeepsLevels}
+use Rattle.bench_net.specs.Marks.{gate_pins, IsLevelled, NoneOpen, level_of_mark, level_or_zero, KeepsLevels}
 use Rattle.bench_net.proofs.Levelled.{lowest_fault, all_levels, read_level, level_or}
 use Rattle.bench_net.proofs.Turns.{level_bound}
-use Rattle.bench_net.proofs.Marking.{marked_is}
 use Rattle.bench_net.proofs.levels.signal_levels.Goals as goal
 use Rattle.bench_net.proofs.levels.signal_levels.Goals.{in-Unvisited+in_ok-level_gate, in_default}
 

@@ -1,4 +1,4 @@
-use Rattle.std.proofs.Common.{◌≡◌, ◌<◌, ℕ, List, [], length}
+use Rattle.std.proofs.Common.{◌≡◌, ◌<◌, ℕ, [], length}
 use Rattle.bench_net.specs.Marks.{gate_pins, AreMarks, NoneOpen, IsLevelled}
 use Rattle.bench_net.proofs.levels.signal_levels.Given as goal
 

@@ -1,4 +1,4 @@
-use Rattle.std.proofs.Common.{◌≡◌, ◌<◌, ◌^◌, ◌∙◌, ap, sym, arith, refl, length, subst}
+use Rattle.std.proofs.Common.{ap, sym, arith, length, subst}
 use Rattle.bench_net.specs.Tables.{PinsFit}
 use Rattle.bench_net.proofs.sinks.add_lines.Goals as goal
 

@@ -1,4 +1,4 @@
-use Rattle.std.proofs.Common.{◌≡◌, ◌∙◌, ◌++◌, ◌∷◌, [], ap, arith, get_or}
+use Rattle.std.proofs.Common.{◌∙◌, ◌++◌, ◌∷◌, [], ap, arith, get_or}
 use Rattle.bench_net.specs.declared.Sink.TheVariants.{Out}
 use Rattle.bench_net.specs.declared.sinks.Reader.{Reader}
 use Rattle.bench_net.proofs.Grouped.{numbered_more}

@@ -1,10 +1,7 @@
-use Rattle.std.proofs.Common.{◌≡◌, ◌<◌, ◌∙◌, ap, sym, arith, refl, length, get_or, map, List, subst, ℕ}
-use Rattle.std.specs.Prelude.{Some, slice_get, option_map, Contains}
+use Rattle.std.proofs.Common.{◌≡◌, ◌∙◌, ap, arith, length, get_or, map}
+use Rattle.std.specs.Prelude.{Some}
 use Rattle.std.proofs.lemmas.List.{length-map}
-use Rattle.std.proofs.lemmas.Option.{slice_get-map, slice_get-get_or, get_or_from_slice_get}
-use Rattle.bench_net.specs.declared.sinks.Reader.{Reader}
 use Rattle.bench_net.specs.Tables.{all_readers}
-use Rattle.bench_net.specs.Rows.{AreRows}
 use Rattle.bench_net.proofs.Grouped.{sink_of, sink_rows_are, places_below, keys_within}
 use Rattle.bench_net.proofs.sinks.sink_rows.Goals as goal
 

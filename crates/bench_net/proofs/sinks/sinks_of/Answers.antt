@@ -1,5 +1,5 @@
-use Rattle.std.proofs.Common.{◌≡◌, ◌<◌, ◌∙◌, ap, sym, arith, refl, length, get_or, map, take, List, [], ◌∷◌, ◌++◌, ℕ, ◌+◌}
-use Rattle.std.specs.Prelude.{Some, slice_get, option_map}
+use Rattle.std.proofs.Common.{◌≡◌, ◌<◌, ◌∙◌, ap, sym, arith, length, get_or, map, take, List, [], ◌∷◌, ◌++◌, ℕ, ◌+◌}
+use Rattle.std.specs.Prelude.{Some, option_map}
 use Rattle.std.proofs.lemmas.List.{map_push, map_more}
 use Rattle.std.proofs.lemmas.Option.{slice_get-get_or}
 use Rattle.bench_net.specs.declared.Sink.{Sink}

@@ -1,6 +1,5 @@
-use Rattle.std.proofs.Common.{◌≡◌, ◌∙◌, ap, sym, arith}
+use Rattle.std.proofs.Common.{◌∙◌, ap, sym, arith}
 use Rattle.std.specs.Prelude.{is_some}
-use Rattle.bench_net.specs.Tables.{defines_number}
 use Rattle.bench_net.proofs.Listed.{defined_more, defined_same}
 use Rattle.bench_net.proofs.tables.definitions.Goals as goal
 use Rattle.bench_net.proofs.tables.definitions.Goals.{then-is_some+in_ok-push, else-is_some}

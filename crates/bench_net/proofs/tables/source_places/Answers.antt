@@ -1,6 +1,5 @@
-use Rattle.std.proofs.Common.{◌≡◌, ◌∙◌, ap, sym, arith, replicate, rules}
-use Rattle.std.proofs.lemmas.Grind.{common_steps}
-use Rattle.std.specs.Prelude.{Option, None}
+use Rattle.std.proofs.Common.{◌≡◌, arith, replicate, rules}
+use Rattle.std.specs.Prelude.{None}
 use Rattle.bench_net.proofs.Listed.{places_begin, places_more}
 use Rattle.bench_net.proofs.tables.source_places.Goals as goal
 

@@ -1,10 +1,8 @@
-use Rattle.std.proofs.Common.{◌≡◌, ◌<◌, ◌∙◌, ap, sym, arith, subst, map, length, get_or, ◌++◌, List, ℕ}
-use Rattle.std.specs.Prelude.{Contains, flat_map}
+use Rattle.std.proofs.Common.{◌≡◌, ◌∙◌, ap, arith, subst, map, length, get_or, ◌++◌, ℕ}
+use Rattle.std.specs.Prelude.{flat_map}
 use Rattle.std.specs.List.{filter_map}
 use Rattle.std.proofs.lemmas.List.{length-map, length-append}
 use Rattle.std.proofs.lemmas.List.Elements.{Contains-get_or}
-use Rattle.bench_net.specs.declared.line.Line.{Line}
-use Rattle.bench_net.specs.declared.sinks.Reader.{Reader}
 use Rattle.bench_net.specs.Stored.{defined_numbers, read_numbers}
 use Rattle.bench_net.specs.Tables.{input_number, cell_numbers, output_number, all_readers, ArePlaces, AreSinkRows}
 use Rattle.bench_net.proofs.Members.{Among, among, contained}

@@ -1,4 +1,4 @@
-use Rattle.std.proofs.Common.{◌≡◌, ◌<◌, ◌+◌, ◌∙◌, ℕ, arith, sym, subst, length, map, string_bytes, get_or}
+use Rattle.std.proofs.Common.{◌+◌, arith, sym, subst, map, string_bytes}
 use Rattle.bench_net.specs.Level.{IsLevelOrder}
 use Rattle.bench_net.proofs.Calls.{named}
 use Rattle.bench_net.proofs.Marking.{greatest-at}

@@ -1,4 +1,4 @@
-use Rattle.std.proofs.Common.{◌≡◌, ◌<◌, ◌∙◌, ℕ, arith, ap, sym, subst, length, map, string_bytes, get_or}
+use Rattle.std.proofs.Common.{◌≡◌, ◌<◌, arith, ap, sym, subst, length, map, string_bytes, get_or}
 use Rattle.std.proofs.lemmas.List.{get_or_read}
 use Rattle.bench_net.specs.Scan.{names}
 use Rattle.bench_net.specs.Level.{HasLevel}

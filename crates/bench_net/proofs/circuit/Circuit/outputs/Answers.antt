@@ -1,4 +1,4 @@
-use Rattle.std.proofs.Common.{◌≡◌, ◌∙◌, map, ap, subst, string_bytes}
+use Rattle.std.proofs.Common.{◌≡◌, ◌∙◌, map, subst, string_bytes}
 use Rattle.bench_net.specs.Scan.{signal, outputs}
 use Rattle.bench_net.proofs.Calls.{call_outputs}
 use Rattle.bench_net.proofs.circuit.Circuit.outputs.Goals as goal

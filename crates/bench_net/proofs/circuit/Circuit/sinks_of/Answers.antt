@@ -1,8 +1,8 @@
-use Rattle.std.proofs.Common.{◌≡◌, ◌<◌, ◌+◌, ◌∙◌, ℕ, List, arith, ap, sym, length, map, string_bytes, get_or}
+use Rattle.std.proofs.Common.{◌≡◌, ◌<◌, ◌+◌, ◌∙◌, ℕ, arith, ap, sym, length, map, string_bytes}
 use Rattle.std.specs.Prelude.{Some, slice_range, slice_index}
 use Rattle.std.proofs.lemmas.List.{get_or_read}
 use Rattle.bench_net.specs.Scan.{names, name_of, sinks}
-use Rattle.bench_net.specs.Stored.{name_at, statements_of}
+use Rattle.bench_net.specs.Stored.{name_at}
 use Rattle.bench_net.proofs.Calls.{named, name_count}
 use Rattle.bench_net.proofs.Named.{name_of_at}
 use Rattle.bench_net.proofs.NamedSinks.{sinks_named}

@@ -1,4 +1,4 @@
-use Rattle.std.proofs.Common.{◌≡◌, ◌≢◌, ◌<◌, ◌∙◌, ℕ, arith, ap, subst, length, map, string_bytes}
+use Rattle.std.proofs.Common.{◌≡◌, ◌≢◌, ◌<◌, ℕ, arith, ap, subst, length, map, string_bytes}
 use Rattle.std.specs.Prelude.{IfSome, IfNone, slice_get}
 use Rattle.bench_net.specs.Scan.{sources, name_of, names}
 use Rattle.bench_net.proofs.Calls.{read_place_some, read_place_none, name_count}

@@ -1,4 +1,4 @@
-use Rattle.std.proofs.Common.{◌≡◌, ◌∙◌, arith, ap, length, map, string_bytes}
+use Rattle.std.proofs.Common.{arith, ap, length, map, string_bytes}
 use Rattle.bench_net.specs.Scan.{sources}
 use Rattle.bench_net.proofs.Calls.{call_sources, few_source}
 use Rattle.bench_net.proofs.circuit.Circuit.sources.Goals as goal
