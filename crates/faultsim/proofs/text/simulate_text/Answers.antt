@@ -14,5 +14,5 @@ returns-in_err-write_report-clause-written g c =
     let job = c.in_ok-job.job in
     let read = c.in_ok-job.ensures.job in
     let firsts = c.in_ok-firsts.firsts.items in
-    let wrote = rw (c.circuit.ensures.part) at c.in_err-write_report.ensures in
+    let wrote = rw (c.circuit.ensures.part, c.deref.ensures.value) at c.in_err-write_report.ensures in
     rw (p.1, p.2) (report job.circuit firsts c.args.list, (job.circuit, job.tests, firsts, read.0, read.1, c.in_ok-firsts.ensures, refl), wrote.0, wrote.1)
