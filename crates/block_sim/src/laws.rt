@@ -4,8 +4,7 @@
 
 ghost use Rattle.std.specs.Prelude.{List};
 ghost use Rattle.bench_net.specs.Statement.{Statement};
-ghost use Rattle.bench_net.specs.Circuit.{IsWellFormed};
-ghost use Rattle.fault_model.specs.Laws.{HaveArities};
+ghost use Rattle.bench_net.specs.Circuit.{IsWellFormed, HaveArities};
 ghost use Rattle.fault_model.specs.Solution.{Test};
 ghost use Rattle.patterns.specs.Least.{Table};
 ghost use Rattle.block_sim.specs.First.{IsTrueTable, LeastIsFirst};
