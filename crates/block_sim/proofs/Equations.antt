@@ -20,6 +20,9 @@ use Rattle.patterns.specs.Tests.{IsWord, as_number, bit}
 use Rattle.block_sim.specs.Words.{lane, pin_bits, IsSignalWord}
 use Rattle.block_sim.proofs.Bridge.{pins_named}
 
+nothing : {X : Type 0} (x : X) → None ≡ Some x → ⊥
+nothing x e = cc
+
 -- the gate whose signal has this number
 record GateAt (c : List Statement) (s : ℕ) (kind : Kind) (pins : List ℕ) : Type 0 where
   name : Name
@@ -32,21 +35,21 @@ gate_at : (c : List Statement) (s : ℕ) (kind : Kind) (pins : List ℕ) → gat
 gate_at c s kind pins e = go (definition c s) refl e
   where
     go : (o : Option Statement) → definition c s ≡ o → gate_line c o ≡ Some (kind, pins) → GateAt c s kind pins
-    go None d e = let bad : None ≡ Some (kind, pins) = e in cc
-    go (Some (Input n)) d e = let bad : None ≡ Some (kind, pins) = e in cc
-    go (Some (Output n)) d e = let bad : None ≡ Some (kind, pins) = e in cc
-    go (Some (Dff q x)) d e = let bad : None ≡ Some (kind, pins) = e in cc
+    go None d e = absurd (nothing (kind, pins) e)
+    go (Some (Input n)) d e = absurd (nothing (kind, pins) e)
+    go (Some (Output n)) d e = absurd (nothing (kind, pins) e)
+    go (Some (Dff q x)) d e = absurd (nothing (kind, pins) e)
     go (Some (Gate n other args)) d e =
         let p = definition_defines c s (Gate n other args) d in
-        let pair : (other, map (signal c) args) ≡ (kind, pins) = ap (λ o. unwrap_or o (kind, pins)) e in
         let first : n ∷ [] ≡ p.0 ∷ [] = p.1 in
-        let same : p.0 ≡ n = cc in
+        let same : p.0 ≡ n = ap (λ l. slice_index_or l 0 n) (sym first) in
+        let one_kind : other ≡ kind = ap (λ (o : Option (Kind × List ℕ)). (unwrap_or o (kind, pins)).0) e in
         record {
           name = n;
           args = args;
-          stands = subst (λ k. Among (Gate n k args) c) (ap (λ x. x.0) pair) p.3;
+          stands = subst (λ k. Among (Gate n k args) c) one_kind p.3;
           named = p.2 ∙ ap Some same;
-          reads = ap (λ x. x.1) pair;
+          reads = ap (λ (o : Option (Kind × List ℕ)). (unwrap_or o (kind, pins)).1) e;
         }
 
 -- the pins of a gate read signals of the circuit
@@ -120,8 +123,7 @@ module _ (c : List Statement) (s : ℕ) (well : IsWellFormed c) (within : s < le
               let number : signal c at.0 ≡ s = signal-name_of c s at.0 well.once at.1 (contained (names c) at.0 (at_place (names c) s at.0 at.1)) in
               let defined : definition c (signal c at.0) ≡ Some (Gate at.0 x.0 x.1) = definition-signal c (Gate at.0 x.0 x.1) at.0 well (contained c (Gate at.0 x.0 x.1) x.2) refl in
               let gate : gate_of c s ≡ Some (x.0, map (signal c) x.1) = ap (λ k. gate_of c k) (sym number) ∙ ap (gate_line c) defined in
-              let bad : None ≡ Some (x.0, map (signal c) x.1) = sym none ∙ gate in
-              cc
+              absurd (nothing (x.0, map (signal c) x.1) (sym none ∙ gate))
 
 lane_number : (word k : ℕ) (b : Bool) → bit_at word k ≡ as_number b → lane word k ≡ b
 lane_number word k true e = ap (λ x. x == 1) e
@@ -136,8 +138,7 @@ module _ (c : List Statement) (tests : List Test) (block : ℕ) (f : Option Faul
     gate = λ n kind args k lt number at.
         let defined : definition c (signal c n) ≡ Some (Gate n kind args) = definition-signal c (Gate n kind args) n well at refl in
         let gate : gate_of c s ≡ Some (kind, map (signal c) args) = ap (λ k. gate_of c k) (sym number) ∙ ap (gate_line c) defined in
-        let bad : None ≡ Some (kind, map (signal c) args) = sym none ∙ gate in
-        cc;
+        absurd (nothing (kind, map (signal c) args) (sym none ∙ gate));
   }
 
   -- the word of a gate's signal
@@ -159,7 +160,7 @@ module _ (c : List Statement) (tests : List Test) (block : ℕ) (f : Option Faul
         where
           go : (o : Option Statement) → IsSource o → gate_line c o ≡ Some (kind, pins) → ⊥
           go None h g = h
-          go (Some (Input m)) h g = let bad : None ≡ Some (kind, pins) = g in cc
+          go (Some (Input m)) h g = nothing (kind, pins) g
           go (Some (Output m)) h g = h
           go (Some (Gate m k args)) h g = h
-          go (Some (Dff q d)) h g = let bad : None ≡ Some (kind, pins) = g in cc
+          go (Some (Dff q d)) h g = nothing (kind, pins) g

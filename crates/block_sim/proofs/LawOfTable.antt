@@ -3,13 +3,12 @@ use Rattle.std.proofs.Common.{◌≡◌, ◌<◌, ◌≤◌, ℕ, zero, suc, ◌
 use Rattle.std.specs.Prelude.{Option, Some, None, map, slice_get, is_none}
 use Rattle.std.proofs.lemmas.Bool.{cases_lt}
 use Rattle.bench_net.specs.Statement.{Statement}
-use Rattle.bench_net.specs.Circuit.{IsWellFormed}
+use Rattle.bench_net.specs.Circuit.{IsWellFormed, HaveArities}
 use Rattle.bench_net.proofs.Members.{contained}
 use Rattle.bench_net.proofs.SignalsLists.{at_place, filtered_from, place_within}
 use Rattle.fault_model.specs.Fault.{Fault, faults}
 use Rattle.fault_model.specs.Solution.{Test}
 use Rattle.fault_model.specs.Collapse.{next, here, representatives, IsClassOf, AreEquivalent}
-use Rattle.bench_net.specs.Circuit.{HaveArities}
 use Rattle.fault_model.proofs.ClassLaw.{classes_detect_same}
 use Rattle.patterns.specs.declared.Outcome.{Outcome}
 use Rattle.patterns.specs.declared.Outcome.TheVariants.{Clear, Hit}

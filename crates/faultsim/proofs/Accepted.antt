@@ -4,9 +4,9 @@ use Rattle.std.specs.Prelude.{Contains, Result, Err, ◌↔◌}
 use Rattle.bench_net.specs.declared.Kind.{Kind}
 use Rattle.bench_net.specs.declared.Kind.TheVariants.{And, Nand, Or, Nor, Xor, Xnor, Not, Buff}
 use Rattle.bench_net.specs.Statement.{Name, Statement, Input, Output, Gate, Dff}
-use Rattle.bench_net.specs.Reading.{HasArity, statements}
+use Rattle.bench_net.specs.Reading.{HasArity}
 use Rattle.bench_net.specs.Scan.{names, inputs, cells, sources}
-use Rattle.bench_net.specs.Circuit.{IsCircuit, IsWellFormed, HaveArities, max_signals, max_sinks, sink_count}
+use Rattle.bench_net.specs.Circuit.{IsCircuit, HaveArities, max_signals, max_sinks, sink_count}
 use Rattle.bench_net.specs.Refusal.{IsAccepted}
 use Rattle.bench_net.proofs.Members.{Among, among, contained}
 use Rattle.bench_net.proofs.Arities.{arities_of_text}
@@ -99,14 +99,17 @@ some_source c is = go (names c) refl (some_signal c is.well_formed)
 pub job_is : (bench text : List ℕ) (c : List Statement) (list : List Fault) (classes : Collapsed) (tests : TestList) (width : ℕ) → IsAccepted bench c
     → list ≡ faults c → AreClassesOf c classes → HasTests text width tests → width ≡ length (sources c)
     → IsJobOf bench text (record { circuit = c; list = list; classes = classes; tests = tests })
-job_is bench text c list classes tests width accepted listed are has same =
-    (accepted, subst (λ n. HasTests text n tests) same has, record {
-      circuit = accepted_circuit bench c accepted;
-      list = listed;
-      classes = are;
-      tests = IsTestList-has_tests text width tests has;
-      width = has.1 ∙ same;
-    })
+job_is bench text c list classes tests width accepted listed are has same = (
+  accepted,
+  subst (λ n. HasTests text n tests) same has,
+  record {
+    circuit = accepted_circuit bench c accepted;
+    list = listed;
+    classes = are;
+    tests = IsTestList-has_tests text width tests has;
+    width = has.1 ∙ same;
+  },
+)
 
 -- a job is refused for its pieces, or for want of memory
 pub job_refused : (J P : Type 0) (f : JobFault) → (◌≡◌ {A = Result J JobFault} (Err f) (Err job_fault.TooManyPieces) ↔ P) → (f ≡ job_fault.Memory) ⊎ P

@@ -2,16 +2,15 @@
 use Rattle.std.proofs.Common.{◌≡◌, ◌<◌, ◌≤◌, ◌+◌, ◌-◌, ◌*◌, ◌/◌, ◌%◌, ℕ, zero, suc, refl, sym, ap, ◌∙◌, subst, List, [], ◌∷◌, ◌++◌, length, get_or, arith, inl, inr, ◌⊎◌}
 use Rattle.std.proofs.lemmas.Bool.{cases_lt}
 use Rattle.std.proofs.lemmas.List.{length-map}
-use Rattle.std.specs.Prelude.{Contains, Option, Some, None, slice_get, filter, is_none, map, unwrap_or, min}
+use Rattle.std.specs.Prelude.{Option, Some, None, slice_get, is_none, unwrap_or}
 use Rattle.bench_net.specs.Statement.{Statement}
-use Rattle.bench_net.specs.Circuit.{IsWellFormed}
-use Rattle.bench_net.proofs.Members.{Among, among, contained}
+use Rattle.bench_net.proofs.Members.{contained}
 use Rattle.bench_net.proofs.SignalsLists.{place_within, within_place, at_place, filtered_from}
 use Rattle.fault_model.specs.Fault.{Fault, faults}
 use Rattle.fault_model.specs.Solution.{Test, Detects}
-use Rattle.fault_model.specs.Collapse.{next, representatives, Represents, Reaches, here, IsClassOf, AreEquivalent, Collapsed, AreClassesOf}
+use Rattle.fault_model.specs.Collapse.{next, representatives, Represents, here, IsClassOf, AreEquivalent, Collapsed, AreClassesOf}
 use Rattle.fault_model.specs.Laws.{ClassesDetectSame}
-use Rattle.patterns.specs.declared.Outcome.TheVariants.{Clear, Hit}
+use Rattle.patterns.specs.declared.Outcome.TheVariants.{Clear}
 use Rattle.patterns.specs.Tests.{blocks, size_of}
 use Rattle.block_sim.specs.First.{DetectsAt, IsFirst, IsOutcome, IsTrueOutcome}
 use Rattle.faultsim.specs.Verdict.{IsFirstOfClass}

@@ -1,5 +1,5 @@
 -- The lines of the faults of the list are lines of the circuit.
-use Rattle.std.proofs.Common.{◌≡◌, ◌<◌, ℕ, refl, sym, ◌∙◌, ap, subst, Bool, true, false, List, [], ◌∷◌, length, inl, inr, ◌⊎◌, arith}
+use Rattle.std.proofs.Common.{◌≡◌, ◌<◌, ℕ, refl, sym, subst, Bool, true, false, List, [], ◌∷◌, length, inl, inr, ◌⊎◌, arith}
 use Rattle.std.proofs.lemmas.List.{length-map}
 use Rattle.std.specs.Prelude.{Contains, Some, IfSome, slice_get, map, flat_map, bytes_eq}
 use Rattle.bench_net.specs.declared.Sink.{Sink}
@@ -10,12 +10,11 @@ use Rattle.std.specs.List.{enumerate_from}
 use Rattle.bench_net.specs.Scan.{names, signal, outputs, cell, cells, places, pins_of, sinks, name_of}
 use Rattle.bench_net.proofs.Members.{Among, contained}
 use Rattle.bench_net.proofs.Numbers.{name_of-signal, at_position}
-use Rattle.bench_net.proofs.SignalsLists.{among_append, among_map, joined_from, mapped_from, place_within, within_place, at_place}
+use Rattle.bench_net.proofs.SignalsLists.{among_append, joined_from, mapped_from, place_within, within_place, at_place}
 use Rattle.bench_net.proofs.SignalsDefined.{defined_among}
 use Rattle.bench_net.proofs.SignalsSinks.{pin_reads}
 use Rattle.fault_model.specs.declared.Line.{Line}
-use Rattle.fault_model.specs.declared.Line.TheVariants as line
-use Rattle.fault_model.specs.Fault.{Fault, branch, branches, faults, faults_of}
+use Rattle.fault_model.specs.Fault.{Fault, branch, faults, faults_of}
 use Rattle.fault_model.proofs.Listed.{listed_on, branch_among, IsOn}
 use Rattle.faultsim.specs.Report.{IsLineOf}
 

@@ -2,15 +2,14 @@
 
 mod cases;
 
+ghost use Rattle.std.specs.Prelude.{◌≤◌};
+
 use crate::command::run_words;
 use crate::output::{Out, OutFailed};
 use crate::source::{Source, SourceFault};
-use cases::{CASES, Case, Words};
+use cases::{CASES, Words};
 use std::alloc::Global;
 use std::test::Fail;
-
-const C17: &str =
-    "INPUT(G1)\nINPUT(G2)\nINPUT(G3)\nINPUT(G6)\nINPUT(G7)\nOUTPUT(G22)\nOUTPUT(G23)\nG10 = NAND(G1, G3)\nG11 = NAND(G3, G6)\nG16 = NAND(G2, G11)\nG19 = NAND(G11, G7)\nG22 = NAND(G10, G16)\nG23 = NAND(G16, G19)\n";
 
 /// The files `bench` and `tests`.
 #[derive(Drop)]
@@ -52,6 +51,16 @@ impl Screen {
         }
     }
 
+    fn cut(limit: usize, step: usize) -> Screen {
+        Screen {
+            bytes: [0; 4096],
+            len: 0,
+            limit: limit.min(4096),
+            step,
+            fails: 0,
+        }
+    }
+
     fn text(&self) -> &[u8] {
         &self.bytes[..self.len]
     }
@@ -74,38 +83,137 @@ impl Out for Screen {
                 Err(OutFailed)
             };
         }
-        for i in 0..taken {
-            self.bytes[self.len + i] = piece[i];
-        }
-        self.len += taken;
+        let end = self.len + taken;
+        self.bytes[self.len..end].copy_from_slice(&piece[..taken]);
+        self.len = end;
         Ok(taken)
     }
 }
 
+/// What a run answered.
+#[derive(Drop)]
+struct Answer {
+    status: u8,
+    out: Screen,
+    err: Screen,
+}
+
+/// Runs the program's words on two files.
+fn run_on(
+    alloc: Global,
+    words: &'static [&'static str],
+    bench: &str,
+    tests: &str,
+    mut out: Screen,
+) -> Answer {
+    let mut files = Texts { bench, tests };
+    let mut err = Screen::new();
+    let status = run_words(&(), alloc, words, &mut files, &mut out, &mut err);
+    Answer { status, out, err }
+}
+
+static RUN: [&str; 6] = ["faultsim", "run", "--bench", "bench", "--tests", "tests"];
+
+static LISTED_RUN: [&str; 7] = [
+    "faultsim", "run", "--bench", "bench", "--tests", "tests", "--list",
+];
+
+static LISTING: [&str; 4] = ["faultsim", "faults", "--bench", "bench"];
+
+static MISSING: [&str; 6] = ["faultsim", "run", "--bench", "bench", "--tests", "none"];
+
+static MISUSED: [&str; 8] = [
+    "faultsim",
+    "run",
+    "--bench",
+    "bench",
+    "--tests",
+    "tests",
+    "--workers",
+    "65",
+];
+
+static HELP: [&str; 3] = ["faultsim", "run", "--help"];
+
 fn words_of(words: Words) -> &'static [&'static str] {
     match words {
-        Words::Run => &["faultsim", "run", "--bench", "bench", "--tests", "tests"],
-        Words::ListedRun => &[
-            "faultsim", "run", "--bench", "bench", "--tests", "tests", "--list",
-        ],
-        Words::Listing => &["faultsim", "faults", "--bench", "bench"],
+        Words::Run => RUN.as_slice(),
+        Words::ListedRun => LISTED_RUN.as_slice(),
+        Words::Listing => LISTING.as_slice(),
     }
 }
 
 #[test]
 fn cases_come_out(rt: HostRuntime) -> Result<(), Fail> {
     for case in &CASES {
-        let mut files = Texts {
-            bench: case.bench,
-            tests: case.tests,
-        };
-        let mut out = Screen::new();
-        let mut err = Screen::new();
         let words = words_of(case.words);
-        let status = run_words(&rt, rt.alloc(), words, &mut files, &mut out, &mut err);
-        assert!(rt; out.text() == case.stdout.as_bytes(), "{}", case.name);
-        assert!(rt; err.text() == case.stderr.as_bytes(), "{}", case.name);
-        assert!(rt; status == case.status, "{}", case.name);
+        let told = run_on(rt.alloc(), words, case.bench, case.tests, Screen::new());
+        assert!(rt; told.out.text() == case.stdout.as_bytes(), "{}", case.name);
+        assert!(rt; told.err.text() == case.stderr.as_bytes(), "{}", case.name);
+        assert!(rt; told.status == case.status, "{}", case.name);
     }
+    Ok(())
+}
+
+#[test]
+fn missing_file_is_named(rt: HostRuntime) -> Result<(), Fail> {
+    let told = run_on(rt.alloc(), MISSING.as_slice(), "x", "", Screen::new());
+    assert!(rt; told.out.text() == b"".as_slice());
+    assert!(rt; told.err.text() == b"faultsim: cannot read none\n".as_slice());
+    assert!(rt; told.status == 3);
+    Ok(())
+}
+
+#[test]
+fn words_are_refused_or_helped(rt: HostRuntime) -> Result<(), Fail> {
+    let refused = run_on(rt.alloc(), MISUSED.as_slice(), "", "", Screen::new());
+    assert!(rt; refused.out.text() == b"".as_slice());
+    assert!(rt; refused.status == 2);
+    let helped = run_on(rt.alloc(), HELP.as_slice(), "", "", Screen::new());
+    assert!(rt; helped.err.text() == b"".as_slice());
+    assert!(rt; helped.status == 0);
+    Ok(())
+}
+
+#[test]
+fn failing_output_has_a_beginning(rt: HostRuntime) -> Result<(), Fail> {
+    let whole = b"2 of 4 (50.00%)\n".as_slice();
+    let bench = "INPUT(a)\nOUTPUT(z)\nz = BUFF(a)\n";
+    for limit in 0..17 {
+        let told = run_on(
+            rt.alloc(),
+            RUN.as_slice(),
+            bench,
+            "0\n",
+            Screen::cut(limit, 4096),
+        );
+        assert!(rt; told.out.text() == &whole[..limit.min(whole.len())]);
+        assert!(rt; told.status == if limit < 16 { 3 } else { 0 });
+    }
+    Ok(())
+}
+
+#[test]
+fn output_of_one_byte_a_call_takes_all(rt: HostRuntime) -> Result<(), Fail> {
+    let bench = "INPUT(a)\nOUTPUT(z)\nz = BUFF(a)\n";
+    let slow = run_on(
+        rt.alloc(),
+        RUN.as_slice(),
+        bench,
+        "0\n",
+        Screen::cut(4096, 1),
+    );
+    assert!(rt; slow.out.text() == b"2 of 4 (50.00%)\n".as_slice());
+    assert!(rt; slow.status == 0);
+    let stuck = run_on(
+        rt.alloc(),
+        RUN.as_slice(),
+        bench,
+        "0\n",
+        Screen::cut(4096, 0),
+    );
+    assert!(rt; stuck.out.text() == b"".as_slice());
+    assert!(rt; stuck.err.text() == b"faultsim: cannot write\n".as_slice());
+    assert!(rt; stuck.status == 3);
     Ok(())
 }

@@ -1,4 +1,4 @@
-use Rattle.std.proofs.Common.{◌≡◌, ◌≤◌, below_more, length}
+use Rattle.std.proofs.Common.{◌≡◌, below_more, length}
 use Rattle.patterns.specs.declared.Outcome.TheVariants.{Clear, Hit}
 use Rattle.patterns.specs.Tests.{blocks}
 use Rattle.block_sim.specs.First.{IsOutcome}

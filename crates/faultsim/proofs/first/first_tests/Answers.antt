@@ -1,6 +1,5 @@
-use Rattle.std.proofs.Common.{◌≡◌, ◌<◌, length, vec_len, arith, inl, inr, subst, ap, ◌+◌, ◌∙◌}
+use Rattle.std.proofs.Common.{◌≡◌, ◌<◌, length, vec_len, arith, inl, inr, ap, ◌+◌, ◌∙◌}
 use Rattle.std.specs.Prelude.{Some, slice_get}
-use Rattle.fault_model.specs.Fault.{faults}
 use Rattle.fault_model.proofs.ClassLaw.{classes_detect_same}
 use Rattle.faultsim.proofs.Firsts.{class_within, first_at, at_pushed, get_at}
 use Rattle.faultsim.proofs.first.first_tests.Goals as goal

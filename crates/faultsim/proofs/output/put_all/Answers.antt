@@ -1,5 +1,4 @@
-use Rattle.std.proofs.Common.{rules, ◌≡◌, ◌≤◌, length, take, drop, List, ℕ, ◌++◌, ◌<◌, ◌∙◌}
-use Rattle.std.specs.Io.KnownBytes.{Appends}
+use Rattle.std.proofs.Common.{take, List, ℕ, ◌++◌, ◌∙◌}
 use Rattle.faultsim.proofs.Outputs.{appends_more, rest_split, counts_none}
 use Rattle.faultsim.proofs.output.put_all.Goals as goal
 

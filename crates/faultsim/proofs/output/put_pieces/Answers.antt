@@ -1,5 +1,4 @@
-use Rattle.std.proofs.Common.{rules, ◌≡◌, ◌≤◌, length, List, ℕ, take, drop, [], ◌++◌, ◌∙◌}
-use Rattle.std.specs.List.{flat_map}
+use Rattle.std.proofs.Common.{◌∙◌}
 use Rattle.std.proofs.lemmas.Result.{err_from_is_err_and}
 use Rattle.faultsim.proofs.Outputs.{appends_more, stopped, flat_map_cut, flat_map_taken}
 use Rattle.faultsim.proofs.output.put_pieces.Goals as goal

@@ -1,5 +1,5 @@
-use Rattle.std.proofs.Common.{◌≡◌, sym, ap, ◌∙◌, []}
-use Rattle.std.specs.Prelude.{Some, unwrap_or}
+use Rattle.std.proofs.Common.{sym, ap, ◌∙◌, []}
+use Rattle.std.specs.Prelude.{unwrap_or}
 use Rattle.bench_net.specs.Scan.{cells, signal, name_of}
 use Rattle.faultsim.proofs.Cells.{cell_at, cell_signal}
 use Rattle.faultsim.proofs.report.cell_name.Goals as goal

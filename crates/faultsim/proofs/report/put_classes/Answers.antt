@@ -1,10 +1,9 @@
-use Rattle.std.proofs.Common.{ap, ◌∙◌, ◌≡◌, ◌<◌, ◌≤◌, length, arith}
+use Rattle.std.proofs.Common.{ap, ◌∙◌, ◌<◌, ◌≤◌, length, arith}
 use Rattle.std.specs.Prelude.{zip}
-use Rattle.std.specs.List.{flat_map}
 use Rattle.std.proofs.lemmas.Result.{err_from_is_err_and}
 use Rattle.bench_net.proofs.SignalsLists.{within_place}
 use Rattle.faultsim.specs.Report.{class_line}
-use Rattle.faultsim.proofs.Outputs.{appends_more, stopped, flat_map_cut, flat_map_taken, zipped_by, all_zipped, writes_same}
+use Rattle.faultsim.proofs.Outputs.{appends_more, stopped, flat_map_cut, flat_map_taken, zipped_by, all_zipped}
 use Rattle.faultsim.proofs.report.put_classes.Goals as goal
 
 pub returns-in_err-put_class_line : goal.returns-in_err-put_class_line

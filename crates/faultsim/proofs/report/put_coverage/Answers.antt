@@ -1,4 +1,3 @@
-use Rattle.std.proofs.Common.{◌≡◌}
 use Rattle.faultsim.proofs.Outputs.{writes_same}
 use Rattle.faultsim.proofs.Texts.{coverage_text}
 use Rattle.faultsim.proofs.report.put_coverage.Goals as goal

@@ -1,10 +1,9 @@
-use Rattle.std.proofs.Common.{ap, ◌∙◌, ◌≡◌, ◌<◌, ◌≤◌, length, arith}
+use Rattle.std.proofs.Common.{ap, ◌∙◌, ◌<◌, ◌≤◌, length, arith}
 use Rattle.std.specs.Prelude.{zip, None}
-use Rattle.std.specs.List.{flat_map}
 use Rattle.std.proofs.lemmas.Result.{err_from_is_err_and}
 use Rattle.bench_net.proofs.SignalsLists.{within_place}
-use Rattle.faultsim.specs.Report.{first_line, fault_lines}
-use Rattle.faultsim.proofs.Outputs.{appends_more, stopped, flat_map_cut, flat_map_taken, zipped_at, all_zipped, writes_same}
+use Rattle.faultsim.specs.Report.{first_line}
+use Rattle.faultsim.proofs.Outputs.{appends_more, stopped, flat_map_cut, flat_map_taken, zipped_at, all_zipped}
 use Rattle.faultsim.proofs.report.put_firsts.Goals as goal
 
 pub returns-in_err-put_first_line : goal.returns-in_err-put_first_line

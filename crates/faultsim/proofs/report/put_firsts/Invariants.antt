@@ -1,5 +1,5 @@
-use Rattle.std.proofs.Common.{◌≡◌, take, ◌++◌, ◌∷◌, []}
-use Rattle.std.specs.Prelude.{codes, zip}
+use Rattle.std.proofs.Common.{◌≡◌, take}
+use Rattle.std.specs.Prelude.{zip}
 use Rattle.std.specs.List.{flat_map}
 use Rattle.std.specs.Io.KnownBytes.{Appends}
 use Rattle.faultsim.specs.Report.{first_line}

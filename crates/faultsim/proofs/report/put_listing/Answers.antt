@@ -1,4 +1,3 @@
-use Rattle.std.proofs.Common.{ap}
 use Rattle.std.proofs.lemmas.Result.{err_from_is_err_and}
 use Rattle.faultsim.proofs.Outputs.{writes_then, stopped_before}
 use Rattle.faultsim.proofs.report.put_listing.Goals as goal

@@ -1,4 +1,4 @@
-use Rattle.std.proofs.Common.{◌≡◌, ◌<◌, inl, inr}
+use Rattle.std.proofs.Common.{◌<◌, inl, inr}
 use Rattle.std.proofs.lemmas.Result.{err_from_is_err_and}
 use Rattle.patterns.specs.Tests.{max_pieces}
 use Rattle.block_sim.specs.Parts.{Parts, piece_count}
@@ -24,5 +24,5 @@ returns-in_err-new-clause-refused c =
     let p = err_from_is_err_and c.from_residual-in_err-new.result c.from_residual-in_err-new.ensures.1 in
     let job : Parts = record { circuit = c.in_ok-circuit.circuit; list = c.in_ok-faults.faults; classes = c.in_ok-classes.classes; tests = c.in_ok-tests.tests } in
     let is = job_is c.args.bench.now c.args.tests.now c.in_ok-circuit.circuit c.in_ok-faults.faults c.in_ok-classes.classes c.in_ok-tests.tests c.sources.result
-      c.in_ok-circuit.ensures.accepted c.in_ok-faults.ensures c.in_ok-classes.ensures.classes c.in_ok-tests.ensures.tests c.sources.ensures in
+    c.in_ok-circuit.ensures.accepted c.in_ok-faults.ensures c.in_ok-classes.ensures.classes c.in_ok-tests.ensures.tests c.sources.ensures in
     rw (p.1, p.2) (elim (job_refused Parts (max_pieces < piece_count job) c.in_err-new.field-0.0 c.in_err-new.ensures.too_many) [ inl h ↦ inl h | inr h ↦ inr (job, is, h) ])
