@@ -3,13 +3,20 @@
 mod cases;
 
 ghost use Rattle.std.specs.Prelude.{◌≤◌};
+ghost use Rattle.block_sim.specs.Parts.{HasRoom};
 
 use crate::command::run_words;
 use crate::output::{Out, OutFailed};
 use crate::source::{Source, SourceFault};
+use crate::text::job_of;
+use block_sim::{Job, Workspace, simulate};
 use cases::{CASES, Words};
+use patterns::Outcome;
 use std::alloc::Global;
 use std::test::Fail;
+
+const C17: &str =
+    "INPUT(G1)\nINPUT(G2)\nINPUT(G3)\nINPUT(G6)\nINPUT(G7)\nOUTPUT(G22)\nOUTPUT(G23)\nG10 = NAND(G1, G3)\nG11 = NAND(G3, G6)\nG16 = NAND(G2, G11)\nG19 = NAND(G11, G7)\nG22 = NAND(G10, G16)\nG23 = NAND(G16, G19)\n";
 
 /// The files `bench` and `tests`.
 #[derive(Drop)]
@@ -215,5 +222,33 @@ fn output_of_one_byte_a_call_takes_all(rt: HostRuntime) -> Result<(), Fail> {
     assert!(rt; stuck.out.text() == b"".as_slice());
     assert!(rt; stuck.err.text() == b"faultsim: cannot write\n".as_slice());
     assert!(rt; stuck.status == 3);
+    Ok(())
+}
+
+/// How many classes have a hit on how many blocks, all in one workspace.
+fn hits_of(job: &Job, workspace: &mut Workspace) -> u32
+    requires { HasRoom workspace.old job.now }
+{
+    let mut hits = 0u32;
+    for class in 0..job.classes().count() {
+        for block in 0..job.tests().blocks() {
+            if simulate(job, workspace, class, block) != Outcome::Clear {
+                hits = hits.saturating_add(1);
+            }
+        }
+    }
+    hits
+}
+
+#[test]
+fn c17_with_4096_tests_is_evaluated_by_words(rt: HostRuntime) -> Result<(), Fail> {
+    let mut tests = Vec::new(rt.alloc());
+    for _ in 0..4096 {
+        tests.extend_from_slice(b"11111\n")?;
+    }
+    let job = job_of(rt.alloc(), C17.as_bytes(), &tests)?;
+    let mut workspace = Workspace::new(rt.alloc(), &job)?;
+    assert_eq!(rt; hits_of(&job, &mut workspace), 8 * 64);
+    assert!(rt; workspace.gate_evaluations() <= 8448);
     Ok(())
 }

@@ -152,7 +152,7 @@ pub fn simulate_text<R, W: Out>(
 }
 
 /// The job of a bench text and a test text.
-fn job_of(alloc: Global, bench: &[u8], tests: &[u8]) -> Result<Job, SimFault>
+pub(crate) fn job_of(alloc: Global, bench: &[u8], tests: &[u8]) -> Result<Job, SimFault>
     ensures job { IfOk result (IsJobOf bench.now tests.now) }
     ensures refused { IfErr result (IsJobFault bench.now tests.now) }
 {
