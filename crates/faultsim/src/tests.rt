@@ -184,39 +184,32 @@ fn words_are_refused_or_helped(rt: HostRuntime) -> Result<(), Fail> {
 
 #[test]
 fn failing_output_has_a_beginning(rt: HostRuntime) -> Result<(), Fail> {
-    let whole = b"2 of 4 (50.00%)\n".as_slice();
-    let bench = "INPUT(a)\nOUTPUT(z)\nz = BUFF(a)\n";
-    for limit in 0..17 {
-        let told = run_on(
-            rt.alloc(),
-            RUN.as_slice(),
-            bench,
-            "0\n",
-            Screen::cut(limit, 4096),
-        );
+    let whole = b"14 of 34 (41.17%)\n".as_slice();
+    for limit in 0..19 {
+        let out = Screen::cut(limit, 4096);
+        let told = run_on(rt.alloc(), RUN.as_slice(), C17, "11111\n", out);
         assert!(rt; told.out.text() == &whole[..limit.min(whole.len())]);
-        assert!(rt; told.status == if limit < 16 { 3 } else { 0 });
+        assert!(rt; told.status == if limit < 18 { 3 } else { 0 });
     }
     Ok(())
 }
 
 #[test]
 fn output_of_one_byte_a_call_takes_all(rt: HostRuntime) -> Result<(), Fail> {
-    let bench = "INPUT(a)\nOUTPUT(z)\nz = BUFF(a)\n";
     let slow = run_on(
         rt.alloc(),
         RUN.as_slice(),
-        bench,
-        "0\n",
+        C17,
+        "11111\n",
         Screen::cut(4096, 1),
     );
-    assert!(rt; slow.out.text() == b"2 of 4 (50.00%)\n".as_slice());
+    assert!(rt; slow.out.text() == b"14 of 34 (41.17%)\n".as_slice());
     assert!(rt; slow.status == 0);
     let stuck = run_on(
         rt.alloc(),
         RUN.as_slice(),
-        bench,
-        "0\n",
+        C17,
+        "11111\n",
         Screen::cut(4096, 0),
     );
     assert!(rt; stuck.out.text() == b"".as_slice());
