@@ -1,9 +1,9 @@
 -- Facts about histories: who holds a piece, and what becomes of it.
-use Rattle.std.proofs.Common.{◌≡◌, ◌≢◌, ℕ, ◌+◌, ◌<◌, ◌≤◌, Bool, true, false, cond, eqb, [], ◌∷◌, ◌++◌, Option, Some, None, refl, sym, ap, ◌∙◌, arith, ne_eqb, eqb-true, eq-eqb}
+use Rattle.std.proofs.Common.{◌≡◌, ◌≢◌, ℕ, ◌+◌, ◌<◌, ◌≤◌, Bool, true, false, cond, eqb, [], ◌∷◌, ◌++◌, Option, Some, None, refl, sym, ap, ◌∙◌, arith, ne_eqb, eqb-true, eq-eqb, append_assoc}
 use Rattle.std.specs.Option.{option_map_or}
 use Rattle.fault_ledger.specs.declared.Event.{Event}
 use Rattle.fault_ledger.specs.declared.PieceState.TheVariants as state
-use Rattle.fault_ledger.specs.History.{History, claims, held, holds, state_of, entry}
+use Rattle.fault_ledger.specs.History.{History, claims, held, holds, state_of, entry, NoneOf, ContinuesWithout}
 
 -- a piece that is held was claimed
 pub held_below : (w p : ℕ) (h : History) → held w h ≡ Some p → p < claims h
@@ -101,3 +101,35 @@ entry_past p (Event.Report w o ∷ d) h n =
 entry_past p (Event.Drop w ∷ d) h n =
     let i = entry_past p d h n in
     rw (holds-not w p (d ++ h) (λ e. n (sym i ∙ held_open w p (d ++ h) e))) i
+
+-- what others did does not change what a worker holds
+pub held_past : (w : ℕ) (d h : History) → NoneOf w d → held w (d ++ h) ≡ held w h
+held_past w [] h n = refl
+held_past w (Event.Claim v ∷ d) h n = rw (ne_eqb w v (λ e. n.0 (sym e))) (held_past w d h n.1)
+held_past w (Event.Report v o ∷ d) h n = rw (ne_eqb w v (λ e. n.0 (sym e))) (held_past w d h n.1)
+held_past w (Event.Drop v ∷ d) h n = rw (ne_eqb w v (λ e. n.0 (sym e))) (held_past w d h n.1)
+
+pub held_goes_on : (w : ℕ) (later earlier : History) → ContinuesWithout w later earlier → held w later ≡ held w earlier
+held_goes_on w later earlier c = ap (held w) c.1 ∙ held_past w c.0 earlier c.2
+
+pub claims_past : (d h : History) → claims h ≤ claims (d ++ h)
+claims_past [] h = omega arith
+claims_past (Event.Claim v ∷ d) h = let i = claims_past d h in omega arith
+claims_past (Event.Report v o ∷ d) h = claims_past d h
+claims_past (Event.Drop v ∷ d) h = claims_past d h
+
+none_append : (w : ℕ) (d e : History) → NoneOf w d → NoneOf w e → NoneOf w (d ++ e)
+none_append w [] e a b = b
+none_append w (x ∷ d) e a b = (a.0, none_append w d e a.1 b)
+
+-- to go on without a worker's events, twice
+pub goes_on_twice : (w : ℕ) (last later earlier : History) → ContinuesWithout w last later → ContinuesWithout w later earlier → ContinuesWithout w last earlier
+goes_on_twice w last later earlier a b =
+    (a.0 ++ b.0, a.1 ∙ ap (λ h. a.0 ++ h) b.1 ∙ sym (append_assoc a.0 b.0 earlier), none_append w a.0 b.0 a.2 b.2)
+
+pub goes_on_same : (w : ℕ) (h : History) → ContinuesWithout w h h
+goes_on_same w h = ([], refl, tt)
+
+-- what was made of a piece stays
+pub entry_goes_on : (w p : ℕ) (later earlier : History) → ContinuesWithout w later earlier → entry p earlier ≢ state.Open → entry p later ≡ entry p earlier
+entry_goes_on w p later earlier c n = ap (entry p) c.1 ∙ entry_past p c.0 earlier n

@@ -16,7 +16,7 @@ use Rattle.fault_ledger.specs.declared.Call.{Call}
 use Rattle.fault_ledger.specs.declared.Call.TheVariants as call
 use Rattle.fault_ledger.specs.declared.Reply.{Reply}
 use Rattle.fault_ledger.specs.declared.Reply.TheVariants.{Claimed, Done, Refused}
-use Rattle.fault_ledger.specs.History.{History, claims, held, holds, state_of, entry, piece_count, class_of, block_of, piece_at}
+use Rattle.fault_ledger.specs.History.{History, claims, held, holds, state_of, entry, piece_count, class_of, block_of, piece_at, ContinuesWithout}
 use Rattle.fault_ledger.specs.Answer.{fits_size, is_hit, has_earlier_hit, claim_reply, report_reply, drop_reply, answer, added, after, IsLegal, SkippedIsNeverFirst}
 use Rattle.fault_ledger.proofs.Histories.{held_below, holds-held, entry_past}
 use Rattle.fault_ledger.proofs.Pieces.{class_of-at, block_of-at}
@@ -72,6 +72,14 @@ legal_after s h c l = go c (answer s h c) refl
     go (call.Report w o) Done e = (ap (λ r. added (call.Report w o) r ++ h) e, l)
     go (call.Drop w) Done e = (ap (λ r. added (call.Drop w) r ++ h) e, l)
     go c r e = l
+
+-- what a legal history begins with is legal
+pub legal_before : (s : Shape) (d h : History) → IsLegal s (d ++ h) → IsLegal s h
+legal_before s [] h l = l
+legal_before s (e ∷ d) h l = legal_before s d h l.1
+
+pub legal_earlier : (s : Shape) (w : ℕ) (later earlier : History) → ContinuesWithout w later earlier → IsLegal s later → IsLegal s earlier
+legal_earlier s w later earlier c l = legal_before s c.0 earlier (subst (IsLegal s) c.1 l)
 
 -- no more pieces are claimed than there are
 pub legal_claims : (s : Shape) (h : History) → IsLegal s h → claims h ≤ piece_count s

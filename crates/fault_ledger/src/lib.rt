@@ -7,10 +7,14 @@
 #![tactic(auto)]
 
 mod calls;
+mod closed;
 pub mod laws;
 mod sequential;
+mod shared;
+mod states;
 #[cfg(test)]
 mod tests;
+mod words;
 
 ghost use Rattle.std.specs.Prelude.{◌≡◌, ◌<◌};
 ghost use Rattle.patterns.specs.Tests.{size_of};
@@ -18,8 +22,10 @@ ghost use Rattle.fault_ledger.specs.History.{block_count, piece_count, state_of}
 ghost use Rattle.fault_ledger.specs.Face.{shape_fault};
 
 pub use calls::replay;
+pub use closed::Closed;
 use patterns::Outcome;
 pub use sequential::Ledger;
+pub use shared::{Seat, SharedLedger};
 use std::alloc::{AllocError, AllocFailed};
 use thiserror::Error;
 

@@ -9,6 +9,7 @@ ghost use Rattle.fault_ledger.specs.declared.PieceState.{PieceState};
 ghost use Rattle.fault_ledger.specs.Answer.{fits_size, is_hit, claim_reply_of, done_reply_of};
 ghost use Rattle.fault_ledger.specs.Face.{face, shape_of, shape_fault, Answers, IsLedger};
 
+use crate::states::{finish_in, status_in};
 use crate::{Claim, Finish, LedgerFault, PieceState, Refusal, Shape, Status, state_after};
 use patterns::Outcome;
 use std::alloc::Global;
@@ -148,17 +149,7 @@ impl Ledger {
         requires { class < self.now.shape.classes }
         ensures { Answers self.now (Call.Status class) (Reply.Status result) self.now }
     {
-        for block in 0..self.shape.blocks() {
-            let piece = class + self.shape.classes * block;
-            match self.states[piece as usize] {
-                PieceState::Clear => {}
-                PieceState::Hit(test) => return Status::Settled(Some(64 * block + test)),
-                PieceState::Open => return Status::Waiting(block),
-                // A skipped piece stands behind a hit of its class.
-                PieceState::Skipped => unreachable!(),
-            }
-        }
-        Status::Settled(None)
+        status_in(self.shape, &self.states, class)
     }
 
     /// Whether all classes are settled, else the lowest class that isn't, with the block that it
@@ -166,12 +157,7 @@ impl Ledger {
     pub fn finished(&self) -> Finish
         ensures { Answers self.now Call.Finished (Reply.Finish result) self.now }
     {
-        for class in 0..self.shape.classes {
-            if let Status::Waiting(block) = self.status(class) {
-                return Finish::Waiting { class, block };
-            }
-        }
-        Finish::Finished
+        finish_in(self.shape, &self.states)
     }
 }
 
@@ -188,7 +174,7 @@ fn held_by(holding: &[Option<u32>], worker: u32) -> Result<u32, Refusal>
 }
 
 /// Whether a block of this size has the test that an outcome names.
-fn fits(size: u32, outcome: Outcome) -> bool
+pub(crate) fn fits(size: u32, outcome: Outcome) -> bool
     ensures { result ≡ fits_size size outcome }
 {
     match outcome {

@@ -1,0 +1,347 @@
+//! The ledger that threads share, without a lock.
+
+ghost use Rattle.std.specs.Prelude.{◌≡◌, ◌⊎◌, ◌<◌, ℕ, true, false, All, map, length, IfOk, IfErr, OnErr, Ok, Err, Some, None};
+ghost use Rattle.std.specs.Option.{option_map};
+ghost use Rattle.fault_ledger.specs.declared.Call.TheVariants as call;
+ghost use Rattle.fault_ledger.specs.declared.Event.{Event};
+ghost use Rattle.fault_ledger.specs.declared.Reply.TheVariants.{Done};
+ghost use Rattle.fault_ledger.specs.History.{History, ContinuesWithout, block_count, claims, entry, held, piece_at, piece_count};
+ghost use Rattle.fault_ledger.specs.Answer.{answer, claim_reply_of, done_reply_of, has_earlier_hit};
+ghost use Rattle.fault_ledger.specs.Settled.{status, finish};
+ghost use Rattle.fault_ledger.specs.Face.{shape_fault, shape_of};
+ghost use Rattle.fault_ledger.specs.Seats.{Closes, FindsNoHit, IsSitter, Makes, Meets, Sees, Stays, class_and_block, newcomer, newcomers};
+ghost use Rattle.fault_ledger.specs.Words.{newcomer_posts, post_of};
+
+use crate::sequential::fits;
+use crate::words::{Group, Token, Words};
+use crate::{Claim, Closed, Finish, LedgerFault, PieceState, Refusal, Shape, Status};
+use patterns::Outcome;
+use std::alloc::{AllocError, Global};
+use std::marker::Model;
+
+/// A ledger that threads share.
+///
+/// The n-th claim over all workers, counted from 0, is for the piece of class `n % classes` and block
+/// `n / classes`. Each worker calls with its [`Seat`], and each claim, report and drop that is accepted
+/// takes effect at one atomic step, so the calls of all workers stand in one legal history of the
+/// sequential fault list. No call takes a lock or tries a step again, and none but
+/// [`SharedLedger::new`] and [`SharedLedger::close`] takes memory.
+///
+/// Contracts see a seat as its ledger, its worker, the history that it has seen, and whether it was
+/// told [`Claim::Exhausted`]. Seats come from the ledger that they are used with.
+#[derive(Drop)]
+pub struct SharedLedger {
+    words: Words,
+    shape: Shape,
+}
+
+impl Model for SharedLedger {
+    ghost use Rattle.std.specs.Prelude.{◌≡◌};
+    ghost use Rattle.fault_ledger.specs.Seats.{Place};
+
+    ghost Value = { Place };
+
+    ghost view = { λ l. l.words };
+
+    ghost invariant = { λ l. l.words.shape ≡ l.shape };
+}
+
+/// A worker's seat at a [`SharedLedger`]. It moves into the worker's thread and comes back at the join.
+#[derive(Drop)]
+pub struct Seat {
+    token: Token,
+    worker: u32,
+    told: bool,
+    classes: u32,
+    piece: Option<u32>,
+}
+
+impl Model for Seat {
+    ghost use Rattle.fault_ledger.specs.Seats.{Sitter, IsSeated};
+
+    ghost Value = { Sitter };
+
+    ghost view = { λ s. s.token };
+
+    ghost invariant = { λ s. IsSeated s.token s.worker s.told s.classes s.piece };
+}
+
+impl Seat {
+    /// The number of the seat's worker, counted from 0.
+    pub fn worker(&self) -> u32
+        ensures worker { result ≡ self.now.worker }
+        ensures sitter { IsSitter self.now }
+    {
+        self.worker
+    }
+
+    /// The class and the block of the piece that the seat holds.
+    pub fn held(&self) -> Option<(u32, u32)>
+        ensures held { result ≡ option_map (class_and_block self.now.place.shape) (held self.now.worker self.now.seen) }
+        ensures sitter { IsSitter self.now }
+    {
+        let piece = self.piece?;
+        Some((piece % self.classes, piece / self.classes))
+    }
+}
+
+impl SharedLedger {
+    /// A ledger of these numbers of fault classes, tests and workers, of which nothing is claimed, and
+    /// a seat for each worker, worker w at place w.
+    ///
+    /// It is refused, in this order, with [`LedgerFault::NoWorkers`], with
+    /// [`LedgerFault::TooManyWorkers`] above 64 workers, with [`LedgerFault::TooManyPieces`] above
+    /// 4,194,304 pieces, and with [`LedgerFault::Memory`].
+    pub fn new(
+        alloc: Global,
+        classes: u32,
+        tests: u32,
+        workers: u32,
+    ) -> Result<(SharedLedger, Vec<Seat>), LedgerFault>
+        ensures ledger { IfOk result (λ made. made.0.shape ≡ shape_of classes tests workers) }
+        ensures seats { IfOk result (λ made. made.1.items ≡ newcomers made.0) }
+        ensures refused { (fault : LedgerFault) → shape_fault (shape_of classes tests workers) ≡ Some fault → result ≡ Err fault }
+        ensures memory { shape_fault (shape_of classes tests workers) ≡ None → IfErr result (λ fault. fault ≡ LedgerFault.Memory) }
+    {
+        let shape = Shape {
+            classes,
+            tests,
+            workers,
+        };
+        if let Some(fault) = shape.fault() {
+            return Err(fault);
+        }
+        let (words, group) = Words::new(alloc, shape)?;
+        let seats = seats_of(alloc, &words, group, shape)?;
+        Ok((SharedLedger { words, shape }, seats))
+    }
+
+    /// The next piece for a seat that holds none, or [`Claim::Exhausted`] where all are claimed. It is
+    /// one atomic step, but for a seat that was told so before and is told so again without a step.
+    ///
+    /// It is refused with [`Refusal::Holding`], without a step.
+    pub fn claim(&self, seat: &mut Seat) -> Result<Claim, Refusal>
+        requires { seat.old.place ≡ self.now }
+        ensures kept { (seat.new.place ≡ seat.old.place) × (seat.new.worker ≡ seat.old.worker) }
+        ensures piece { (class block : ℕ) → result ≡ Ok (Claim.Piece class block) → (seat.old.told ≡ false) × Makes seat.old (Event.Claim seat.old.worker) (claim_reply_of result) seat.new }
+        ensures exhausted { result ≡ Ok Claim.Exhausted → seat.old.told ≡ false → Sees seat.old true seat.new × (claim_reply_of result ≡ answer self.now.shape seat.new.seen (call.Claim seat.old.worker)) }
+        ensures again { seat.old.told ≡ true → (result ≡ Ok Claim.Exhausted) × Stays seat.old (call.Claim seat.old.worker) (claim_reply_of result) seat.new }
+        ensures refused { OnErr result (Stays seat.old (call.Claim seat.old.worker) (claim_reply_of result) seat.new) }
+    {
+        if seat.piece.is_some() {
+            return Err(Refusal::Holding);
+        }
+        if seat.told {
+            return Ok(Claim::Exhausted);
+        }
+        let piece = self.words.claim(&mut seat.token);
+        if piece >= self.shape.pieces() {
+            seat.told = true;
+            return Ok(Claim::Exhausted);
+        }
+        let piece = piece as u32;
+        seat.piece = Some(piece);
+        Ok(Claim::Piece {
+            class: piece % self.shape.classes,
+            block: piece / self.shape.classes,
+        })
+    }
+
+    /// Takes a seat's outcome of the piece that it holds, which it then no longer holds. It is one
+    /// atomic step.
+    ///
+    /// It is refused, without a step, with [`Refusal::NothingHeld`], else with [`Refusal::BadOutcome`]
+    /// where the outcome names a test that the piece's block hasn't; the seat then still holds the
+    /// piece.
+    pub fn report(&self, seat: &mut Seat, outcome: Outcome) -> Result<(), Refusal>
+        requires { seat.old.place ≡ self.now }
+        ensures kept { (seat.new.place ≡ seat.old.place) × (seat.new.worker ≡ seat.old.worker) × (seat.new.told ≡ seat.old.told) }
+        ensures accepted { IfOk result (λ _. Makes seat.old (Event.Report seat.old.worker outcome) Done seat.new) }
+        ensures refused { OnErr result (Stays seat.old (call.Report seat.old.worker outcome) (done_reply_of result) seat.new) }
+    {
+        let Some(piece) = seat.piece else {
+            return Err(Refusal::NothingHeld);
+        };
+        let size = self.shape.size_of(piece / self.shape.classes);
+        if !fits(size, outcome) {
+            return Err(Refusal::BadOutcome);
+        }
+        self.words.report(&mut seat.token, piece, outcome);
+        seat.piece = None;
+        Ok(())
+    }
+
+    /// Skips the piece that a seat holds, which it then no longer holds. It looks at the earlier blocks
+    /// of the piece's class, from block 0 up, until it sees a hit, and then drops the piece in one
+    /// atomic step.
+    ///
+    /// It is refused, without a step, with [`Refusal::NothingHeld`], else with
+    /// [`Refusal::NoEarlierHit`] where no earlier block of the class was a hit at the first look; the
+    /// seat then still holds the piece. A piece of block 0 is always refused.
+    pub fn drop_piece(&self, seat: &mut Seat) -> Result<(), Refusal>
+        requires { seat.old.place ≡ self.now }
+        ensures kept { (seat.new.place ≡ seat.old.place) × (seat.new.worker ≡ seat.old.worker) × (seat.new.told ≡ seat.old.told) }
+        ensures accepted { IfOk result (λ _. Makes seat.old (Event.Drop seat.old.worker) Done seat.new) }
+        ensures refused { IfErr result (λ refusal. (refusal ≡ Refusal.NothingHeld) ⊎ (refusal ≡ Refusal.NoEarlierHit)) }
+        ensures nothing_held { result ≡ Err Refusal.NothingHeld → Stays seat.old (call.Drop seat.old.worker) (done_reply_of result) seat.new }
+        ensures no_earlier_hit { result ≡ Err Refusal.NoEarlierHit → FindsNoHit seat.old seat.new }
+    {
+        let Some(piece) = seat.piece else {
+            return Err(Refusal::NothingHeld);
+        };
+        if !self.finds_earlier_hit(&mut seat.token, piece) {
+            return Err(Refusal::NoEarlierHit);
+        }
+        self.words.drop_piece(&mut seat.token, piece);
+        seat.piece = None;
+        Ok(())
+    }
+
+    /// Looks at the earlier blocks of a piece's class, from block 0 up, until it sees a hit.
+    fn finds_earlier_hit(&self, token: &mut Token, piece: u32) -> bool
+        requires place { token.old.place ≡ self.now }
+        requires sitter { IsSitter token.old }
+        requires piece { piece < piece_count self.now.shape }
+        ensures sees { Sees token.old token.old.told token.new }
+        ensures found { result ≡ true → has_earlier_hit self.now.shape token.new.seen piece ≡ true }
+        ensures missed { result ≡ false → (at : History) × ContinuesWithout token.old.worker at token.old.seen × ContinuesWithout token.old.worker token.new.seen at × (has_earlier_hit self.now.shape at piece ≡ false) }
+    {
+        let class = piece % self.shape.classes;
+        for block in 0..piece / self.shape.classes {
+            let earlier = class + self.shape.classes * block;
+            if let PieceState::Hit(_) = self.words.look(token, earlier) {
+                return true;
+            }
+        }
+        false
+    }
+
+    /// What the ledger has of a piece. It is one atomic step.
+    pub fn look(&self, seat: &mut Seat, class: u32, block: u32) -> PieceState
+        requires place { seat.old.place ≡ self.now }
+        requires range { (class < self.now.shape.classes) × (block < block_count self.now.shape) }
+        ensures seen { Sees seat.old seat.old.told seat.new }
+        ensures state { result ≡ entry (piece_at self.now.shape class block) seat.new.seen }
+    {
+        self.words
+            .look(&mut seat.token, class + self.shape.classes * block)
+    }
+
+    /// Whether a class is settled, and at which test, else the block that it waits for. It looks at the
+    /// blocks of the class, from block 0 up, to the first that isn't clear, and takes effect at its
+    /// last look.
+    pub fn status(&self, seat: &mut Seat, class: u32) -> Status
+        requires place { seat.old.place ≡ self.now }
+        requires range { class < self.now.shape.classes }
+        ensures seen { Sees seat.old seat.old.told seat.new }
+        ensures status { result ≡ status self.now.shape seat.new.seen class }
+    {
+        for block in 0..self.shape.blocks() {
+            match self.look(seat, class, block) {
+                PieceState::Clear => {}
+                PieceState::Hit(test) => return Status::Settled(Some(64 * block + test)),
+                PieceState::Open => return Status::Waiting(block),
+                // A skipped piece stands behind a hit of its class.
+                PieceState::Skipped => unreachable!(),
+            }
+        }
+        Status::Settled(None)
+    }
+
+    /// Whether all classes are settled, else the lowest class that isn't, with the block that it waits
+    /// for. It takes the looks of [`SharedLedger::status`] for that class and each lower one, and takes
+    /// effect at its last look.
+    pub fn finished(&self, seat: &mut Seat) -> Finish
+        requires { seat.old.place ≡ self.now }
+        ensures seen { Sees seat.old seat.old.told seat.new }
+        ensures finish { result ≡ finish self.now.shape seat.new.seen }
+    {
+        for class in 0..self.shape.classes {
+            if let Status::Waiting(block) = self.status(seat, class) {
+                return Finish::Waiting { class, block };
+            }
+        }
+        Finish::Finished
+    }
+
+    /// Puts together what two seats have seen: afterwards both have seen all that either had seen or
+    /// done. It takes three looks at the cursor.
+    pub fn meet(&self, first: &mut Seat, second: &mut Seat)
+        requires { (first.old.place ≡ self.now) × (second.old.place ≡ self.now) }
+        ensures { Meets first.old second.old first.new second.new }
+    {
+        self.words.meet(&mut first.token, &mut second.token);
+    }
+
+    /// What became of each piece, once all seats are back. Seats may also stay away: then it says
+    /// nothing of what they have done.
+    ///
+    /// It is refused only with [`LedgerFault::Memory`].
+    pub fn close(self, alloc: Global, seats: Vec<Seat>) -> Result<Closed, LedgerFault>
+        requires some { 0 < length seats.items }
+        requires places { All (λ seat. seat.place ≡ self) seats.items }
+        ensures closed { IfOk result (λ closed. Closes self.shape seats.items closed) }
+        ensures refused { IfErr result (λ fault. fault ≡ LedgerFault.Memory) }
+    {
+        let SharedLedger { words, shape } = self;
+        let group = group_of(&words, seats);
+        let states = words.close(alloc, group)?;
+        Ok(Closed::of(shape, states))
+    }
+}
+
+/// A seat for each worker of a group of newcomers.
+fn seats_of(
+    alloc: Global,
+    words: &Words,
+    mut group: Group,
+    shape: Shape,
+) -> Result<Vec<Seat>, AllocError>
+    requires shape { (words.now.shape ≡ shape) × (shape_fault shape ≡ None) }
+    requires group { (group.place ≡ words.now) × (group.posts ≡ newcomer_posts 0 shape.workers) }
+    ensures { IfOk result (λ seats. seats.items ≡ newcomers words.now) }
+{
+    let mut seats = Vec::new(alloc);
+    for worker in 0..shape.workers {
+        let (token, rest) = words.part(group);
+        group = rest;
+        seats.push(Seat {
+            token,
+            worker,
+            told: false,
+            classes: shape.classes,
+            piece: None,
+        })?;
+    }
+    Ok(seats)
+}
+
+/// The workers of all seats in one group.
+fn group_of(words: &Words, mut seats: Vec<Seat>) -> Group
+    requires some { 0 < length seats.items }
+    requires places { All (λ seat. seat.place ≡ words.now) seats.items }
+    ensures { (result.place ≡ words.now) × (result.posts ≡ map post_of seats.items) }
+{
+    let Some(last) = seats.pop() else {
+        unreachable!()
+    };
+    let mut group = Group::of(token_of(last));
+    while let Some(seat) = seats.pop() {
+        group = words.join(group, token_of(seat));
+    }
+    group
+}
+
+/// The token of a seat.
+fn token_of(seat: Seat) -> Token
+    ensures { result ≡ seat }
+{
+    let Seat {
+        token,
+        worker: _,
+        told: _,
+        classes: _,
+        piece: _,
+    } = seat;
+    token
+}

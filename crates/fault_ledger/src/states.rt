@@ -1,0 +1,44 @@
+//! What the states of all pieces say of the classes.
+
+ghost use Rattle.std.specs.Prelude.{◌≡◌, ◌<◌, None};
+ghost use Rattle.fault_ledger.specs.History.{History, states_of};
+ghost use Rattle.fault_ledger.specs.Answer.{IsLegal};
+ghost use Rattle.fault_ledger.specs.Settled.{status, finish};
+ghost use Rattle.fault_ledger.specs.Face.{shape_fault};
+ghost use Rattle.fault_ledger.specs.Seats.{AreStates};
+
+use crate::{Finish, PieceState, Shape, Status};
+
+/// Whether a class is settled, and at which test, else the block that it waits for.
+pub(crate) fn status_in(shape: Shape, states: &[PieceState], class: u32) -> Status
+    requires limits { shape_fault shape ≡ None }
+    requires states { AreStates shape states.now }
+    requires range { class < shape.classes }
+    ensures { (h : History) → IsLegal shape h → states.now ≡ states_of shape h → result ≡ status shape h class }
+{
+    for block in 0..shape.blocks() {
+        let piece = class + shape.classes * block;
+        match states[piece as usize] {
+            PieceState::Clear => {}
+            PieceState::Hit(test) => return Status::Settled(Some(64 * block + test)),
+            PieceState::Open => return Status::Waiting(block),
+            // A skipped piece stands behind a hit of its class.
+            PieceState::Skipped => unreachable!(),
+        }
+    }
+    Status::Settled(None)
+}
+
+/// Whether all classes are settled, else the lowest class that isn't, with the block that it waits for.
+pub(crate) fn finish_in(shape: Shape, states: &[PieceState]) -> Finish
+    requires limits { shape_fault shape ≡ None }
+    requires states { AreStates shape states.now }
+    ensures { (h : History) → IsLegal shape h → states.now ≡ states_of shape h → result ≡ finish shape h }
+{
+    for class in 0..shape.classes {
+        if let Status::Waiting(block) = status_in(shape, states, class) {
+            return Finish::Waiting { class, block };
+        }
+    }
+    Finish::Finished
+}

@@ -1,0 +1,350 @@
+//! The words of a shared ledger, and the tokens that step on them.
+//!
+//! Word 0 is the cursor, which counts the claims that were tried, and piece p, counted from 0, is word
+//! p + 1. Each step is one atomic operation on one word. Views and events are facts of the proof: no
+//! value of [`View`] or [`Post`] is made.
+
+ghost use Rattle.std.specs.Prelude.{◌≡◌, ◌<◌, ◌≤◌, ◌+◌, true, false, List, [], ◌∷◌, ◌++◌, map, slice_index, IfOk, Some, None};
+ghost use Rattle.patterns.specs.Tests.{size_of};
+ghost use Rattle.fault_ledger.specs.declared.Event.{Event};
+ghost use Rattle.fault_ledger.specs.declared.Claim.TheVariants as claim_is;
+ghost use Rattle.fault_ledger.specs.declared.Reply.TheVariants.{Claimed, Done};
+ghost use Rattle.fault_ledger.specs.History.{History, ContinuesWithout, block_of, claims, class_of, entry, held, piece_count, state_of, states_of};
+ghost use Rattle.fault_ledger.specs.Answer.{fits_size, has_earlier_hit, IsLegal};
+ghost use Rattle.fault_ledger.specs.Face.{shape_fault};
+ghost use Rattle.fault_ledger.specs.Seats.{Sees, Makes, Meets};
+ghost use Rattle.fault_ledger.specs.Words.{newcomer_posts, post_of, ForEach};
+ghost use Rattle.fault_ledger.specs.Words as rule;
+ghost use Rattle.patterns.specs.Least.{below};
+ghost use Rattle.std.specs.Mem.Slots.{slots_items, slots_len, IsFull};
+
+use crate::{Event, PieceState, Shape};
+use atomic_table::{Badge, Closed, Join, Play, Split, Table, TableRule};
+use patterns::Outcome;
+use std::alloc::{AllocError, Global};
+use std::collections::LinkedList;
+use std::marker::Model;
+use std::mem;
+
+/// The words of a piece that is open, clear or skipped. A hit at test k of its block is `HIT + k`.
+const OPEN: u64 = 0;
+
+const CLEAR: u64 = 1;
+
+const SKIPPED: u64 = 2;
+
+const HIT: u64 = 128;
+
+/// A worker that a token stands for, whether it was told that all pieces are claimed, and the history
+/// that it has seen, the newest event first.
+pub struct Post {
+    pub worker: u32,
+    pub told: bool,
+    pub seen: LinkedList<Event>,
+}
+
+/// What a token knows: the shape of its ledger, and the workers that it stands for.
+pub struct View {
+    pub shape: Shape,
+    pub posts: LinkedList<Post>,
+}
+
+/// The rule: there is one legal history of which the words are.
+struct OneHistory;
+
+impl TableRule<u8, View, Shape> for OneHistory {
+    ghost use Rattle.fault_ledger.specs.Words.{IsKept, everybody};
+
+    ghost holds = { λ shape. IsKept shape };
+
+    ghost first = { everybody };
+}
+
+struct Claiming;
+
+impl Play<u8, View> for Claiming {
+    ghost use Rattle.fault_ledger.specs.Words.{Claims};
+
+    ghost then = { Claims };
+}
+
+struct Reporting;
+
+impl Play<u8, View> for Reporting {
+    ghost use Rattle.fault_ledger.specs.Words.{Reports};
+
+    ghost then = { Reports };
+}
+
+struct Dropping;
+
+impl Play<u8, View> for Dropping {
+    ghost use Rattle.fault_ledger.specs.Words.{Drops};
+
+    ghost then = { Drops };
+}
+
+struct Looking;
+
+impl Play<u8, View> for Looking {
+    ghost use Rattle.fault_ledger.specs.Words.{Looks};
+
+    ghost then = { Looks };
+}
+
+/// The first worker, and the others.
+struct Apart;
+
+impl Split<View> for Apart {
+    ghost use Rattle.fault_ledger.specs.Words.{front_of, others_of};
+
+    ghost left = { front_of };
+
+    ghost right = { others_of };
+}
+
+/// The workers of both.
+struct Together;
+
+impl Join<View> for Together {
+    ghost use Rattle.fault_ledger.specs.Words.{both_of, nobody};
+
+    ghost both = { both_of };
+
+    ghost spent = { nobody };
+}
+
+/// The words of a ledger.
+#[derive(Drop)]
+pub(crate) struct Words {
+    table: Table<u8, View, Shape, OneHistory, Global>,
+}
+
+impl Model for Words {
+    ghost use Rattle.std.specs.Prelude.{◌≡◌, ◌+◌, None};
+    ghost use Rattle.fault_ledger.specs.History.{piece_count};
+    ghost use Rattle.fault_ledger.specs.Face.{shape_fault};
+    ghost use Rattle.fault_ledger.specs.Seats.{Place};
+    ghost use Rattle.fault_ledger.specs.Words.{place_of};
+
+    ghost Value = { Place };
+
+    ghost view = { λ w. place_of w.table.shared.table_id w.table.shared.key };
+
+    ghost invariant = { λ w. (w.table.shared.table_id.words ≡ piece_count w.table.shared.key + 1) × (w.table.shared.table_id.slots ≡ 0) × (shape_fault w.table.shared.key ≡ None) };
+}
+
+/// A token with which one worker steps. It has no bytes.
+#[derive(Drop)]
+pub(crate) struct Token {
+    badge: Badge<View>,
+}
+
+impl Model for Token {
+    ghost use Rattle.fault_ledger.specs.Seats.{Sitter};
+    ghost use Rattle.fault_ledger.specs.Words.{sitter, StandsAlone};
+
+    ghost Value = { Sitter };
+
+    ghost view = { λ t. sitter t.badge.table_id t.badge.views };
+
+    ghost invariant = { λ t. StandsAlone t.badge.views (sitter t.badge.table_id t.badge.views) };
+}
+
+/// A token that stands for several workers.
+#[derive(Drop)]
+pub(crate) struct Group {
+    seat: atomic_table::Seat<u8, View>,
+}
+
+impl Model for Group {
+    ghost use Rattle.std.specs.Prelude.{◌≡◌, []};
+    ghost use Rattle.fault_ledger.specs.Words.{Crowd, crowd};
+
+    ghost Value = { Crowd };
+
+    ghost view = { λ g. crowd g.seat.table_id g.seat.me.0 };
+
+    ghost invariant = { λ g. g.seat.me.1 ≡ [] };
+}
+
+impl Group {
+    /// A group of one.
+    pub(crate) fn of(token: Token) -> Group
+        ensures { (result.place ≡ token.place) × (result.posts ≡ post_of token ∷ []) }
+    {
+        let Token { badge } = token;
+        Group {
+            seat: badge.into_seat::<u8>(),
+        }
+    }
+}
+
+impl Words {
+    /// Words on which nothing is claimed, and a token for all workers.
+    pub(crate) fn new(alloc: Global, shape: Shape) -> Result<(Words, Group), AllocError>
+        requires { shape_fault shape ≡ None }
+        ensures words { IfOk result (λ made. made.0.shape ≡ shape) }
+        ensures group { IfOk result (λ made. (made.1.place ≡ made.0) × (made.1.posts ≡ newcomer_posts 0 shape.workers)) }
+    {
+        let zeros = vec![in alloc; OPEN; shape.pieces() as usize + 1]?;
+        let (table, seat) = Table::of_words(alloc, zeros.as_slice(), &shape)?;
+        Ok((Words { table }, Group { seat }))
+    }
+
+    /// One load: the first worker of a group, and the others.
+    pub(crate) fn part(&self, group: Group) -> (Token, Group)
+        requires place { group.place ≡ self.now }
+        requires worker { (first : _) × (rest : _) × (group.posts ≡ first ∷ rest) }
+        ensures place { (result.0.place ≡ self.now) × (result.1.place ≡ self.now) }
+        ensures posts { group.posts ≡ post_of result.0 ∷ result.1.posts }
+    {
+        let Group { mut seat } = group;
+        let others = self.table.shared.split_seat::<Apart>(&mut seat);
+        (
+            Token {
+                badge: seat.into_badge(),
+            },
+            Group { seat: others },
+        )
+    }
+
+    /// One load: a group with one more worker, who stands first.
+    pub(crate) fn join(&self, group: Group, token: Token) -> Group
+        requires { (group.place ≡ self.now) × (token.place ≡ self.now) }
+        ensures { (result.place ≡ self.now) × (result.posts ≡ post_of token ∷ group.posts) }
+    {
+        let Group { mut seat } = group;
+        let Token { badge } = token;
+        self.table
+            .shared
+            .join_seat::<Together>(&mut seat, badge.into_seat::<u8>());
+        Group { seat }
+    }
+
+    /// One atomic step: 1 is added to the cursor. The piece of the number that was found is the
+    /// worker's, where there is one, and else all are claimed.
+    pub(crate) fn claim(&self, token: &mut Token) -> u64
+        requires place { token.old.place ≡ self.now }
+        requires free { (token.old.told ≡ false) × (held token.old.worker token.old.seen ≡ None) }
+        ensures piece { result < piece_count self.now.shape → Makes token.old (Event.Claim token.old.worker) (Claimed (claim_is.Piece (class_of self.now.shape result) (block_of self.now.shape result))) token.new }
+        ensures held { result < piece_count self.now.shape → held token.old.worker token.new.seen ≡ Some result }
+        ensures none { piece_count self.now.shape ≤ result → Sees token.old true token.new × (claims token.new.seen ≡ piece_count self.now.shape) }
+    {
+        let mut seat = mem::replace(&mut token.badge, Badge::blank()).into_seat::<u8>();
+        let piece = self.table.shared.fetch_add::<Claiming>(&mut seat, 0, 1);
+        token.badge = seat.into_badge();
+        piece
+    }
+
+    /// One atomic step: the word of the worker's piece is stored.
+    pub(crate) fn report(&self, token: &mut Token, piece: u32, outcome: Outcome)
+        requires place { token.old.place ≡ self.now }
+        requires held { held token.old.worker token.old.seen ≡ Some piece }
+        requires fits { fits_size (size_of self.now.shape.tests (block_of self.now.shape piece)) outcome ≡ true }
+        ensures { Makes token.old (Event.Report token.old.worker outcome) Done token.new }
+    {
+        let mut seat = mem::replace(&mut token.badge, Badge::blank()).into_seat::<u8>();
+        self.table
+            .shared
+            .store::<Reporting>(&mut seat, piece as usize + 1, word_of(outcome));
+        token.badge = seat.into_badge();
+    }
+
+    /// One atomic step: the word of the worker's piece is stored. It has seen a hit of an earlier
+    /// block of the piece's class.
+    pub(crate) fn drop_piece(&self, token: &mut Token, piece: u32)
+        requires place { token.old.place ≡ self.now }
+        requires held { held token.old.worker token.old.seen ≡ Some piece }
+        requires hit { has_earlier_hit self.now.shape token.old.seen piece ≡ true }
+        ensures { Makes token.old (Event.Drop token.old.worker) Done token.new }
+    {
+        let mut seat = mem::replace(&mut token.badge, Badge::blank()).into_seat::<u8>();
+        self.table
+            .shared
+            .store::<Dropping>(&mut seat, piece as usize + 1, SKIPPED);
+        token.badge = seat.into_badge();
+    }
+
+    /// One atomic step: the word of a piece is loaded.
+    pub(crate) fn look(&self, token: &mut Token, piece: u32) -> PieceState
+        requires place { token.old.place ≡ self.now }
+        requires piece { piece < piece_count self.now.shape }
+        ensures seen { Sees token.old token.old.told token.new }
+        ensures state { result ≡ entry piece token.new.seen }
+    {
+        let mut seat = mem::replace(&mut token.badge, Badge::blank()).into_seat::<u8>();
+        let word = self
+            .table
+            .shared
+            .load::<Looking>(&mut seat, piece as usize + 1);
+        token.badge = seat.into_badge();
+        state_at(word)
+    }
+
+    /// Three loads of the cursor: both workers on one token, a look, and apart again.
+    pub(crate) fn meet(&self, first: &mut Token, second: &mut Token)
+        requires { (first.old.place ≡ self.now) × (second.old.place ≡ self.now) }
+        ensures { Meets first.old second.old first.new second.new }
+    {
+        let joining = mem::replace(&mut first.badge, Badge::blank()).into_seat::<u8>();
+        let mut both = mem::replace(&mut second.badge, Badge::blank()).into_seat::<u8>();
+        self.table.shared.join_seat::<Together>(&mut both, joining);
+        self.table.shared.load::<Looking>(&mut both, 0);
+        let parted = self.table.shared.split_seat::<Apart>(&mut both);
+        first.badge = both.into_badge();
+        second.badge = parted.into_badge();
+    }
+
+    /// What became of each piece.
+    pub(crate) fn close(self, alloc: Global, group: Group) -> Result<Vec<PieceState>, AllocError>
+        requires { group.place ≡ self }
+        ensures { IfOk result (λ states. (h : History) × IsLegal self.shape h × ForEach (λ p. ContinuesWithout p.worker h p.seen) group.posts × (states.items ≡ states_of self.shape h)) }
+    {
+        let Words { table } = self;
+        let Group { seat } = group;
+        let pieces = table.word_count() - 1;
+        let closed = table.close_with(seat);
+        let states = read_states(alloc, &closed, pieces);
+        closed.free();
+        states
+    }
+}
+
+/// The states of all pieces in the words of a closed table.
+fn read_states(
+    alloc: Global,
+    closed: &Closed<u8, Global>,
+    pieces: usize,
+) -> Result<Vec<PieceState>, AllocError>
+    requires { (slots_len closed.now.words ≡ pieces + 1) × IsFull closed.now.words }
+    ensures { IfOk result (λ states. states.items ≡ map (λ piece. rule.state_at (slice_index (slots_items closed.now.words) (piece + 1))) (below pieces)) }
+{
+    let mut states = Vec::with_capacity(alloc, pieces)?;
+    for piece in 0..pieces {
+        states.push(state_at(closed.word(piece + 1)))?;
+    }
+    Ok(states)
+}
+
+/// The word of a piece that was reported with this outcome.
+fn word_of(outcome: Outcome) -> u64
+    ensures { result ≡ rule.word_of (state_of outcome) }
+{
+    match outcome {
+        Outcome::Clear => CLEAR,
+        Outcome::Hit(test) => HIT + u64::from(test),
+    }
+}
+
+/// The state of a piece by its word.
+fn state_at(word: u64) -> PieceState
+    ensures { result ≡ rule.state_at word }
+{
+    match word {
+        OPEN => PieceState::Open,
+        CLEAR => PieceState::Clear,
+        SKIPPED => PieceState::Skipped,
+        _ => PieceState::Hit((word % 64) as u32),
+    }
+}
