@@ -7,3 +7,5 @@ pub mod Faces
 pub mod Statuses
 pub mod Finishes
 pub mod Replays
+pub mod Totals
+pub mod Tokens
