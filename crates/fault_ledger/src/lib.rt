@@ -23,7 +23,7 @@ ghost use Rattle.fault_ledger.specs.Face.{shape_fault};
 
 pub use calls::replay;
 pub use closed::Closed;
-use patterns::Outcome;
+use patterns::{MAX_PIECES, Outcome};
 pub use sequential::Ledger;
 pub use shared::{Seat, SharedLedger};
 use std::alloc::{AllocError, AllocFailed};
@@ -31,9 +31,6 @@ use thiserror::Error;
 
 /// The most workers that a ledger serves.
 const MAX_WORKERS: u32 = 64;
-
-/// The most pieces that a ledger holds.
-const MAX_PIECES: u64 = 4_194_304;
 
 /// The size of a ledger. Classes, tests and workers are numbered from 0.
 #[derive(Clone, Copy, Debug, PartialEq, Eq)]
@@ -223,7 +220,7 @@ impl Shape {
             Some(LedgerFault::NoWorkers)
         } else if self.workers > MAX_WORKERS {
             Some(LedgerFault::TooManyWorkers)
-        } else if self.pieces() > MAX_PIECES {
+        } else if self.pieces() > u64::from(MAX_PIECES) {
             Some(LedgerFault::TooManyPieces)
         } else {
             None
