@@ -9,3 +9,5 @@ pub mod Finishes
 pub mod Replays
 pub mod Totals
 pub mod Tokens
+pub mod Codes
+pub mod Meets
