@@ -11,3 +11,4 @@ pub mod Totals
 pub mod Tokens
 pub mod Codes
 pub mod Meets
+pub mod Groups
