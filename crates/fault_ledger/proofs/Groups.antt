@@ -1,39 +1,28 @@
--- What a group's or a token's place says of the table seat in it, and what a closed table's words say of the pieces.
+-- A group's place, the words of a new table, and what those of a closed table say of the pieces.
 use Rattle.std.proofs.Common.{◌≡◌, ℕ, zero, suc, ◌+◌, ◌<◌, ◌∷◌, [], ◌++◌, List, map, length, slice_index, replicate, refl, sym, ap, ◌∙◌, subst, arith, add-one}
 use mathlib.Core.Option.{some, some-injective, some-ne-none}
 use lib.ListN.{get_elem?}
 use Rattle.patterns.specs.Least.{from_up, below}
 use Rattle.atomic_table.specs.Seated.{TableId}
 use Rattle.patterns.specs.Tests.{size_of}
-use Rattle.atomic_table.specs.Table.{Me, Final, Seen}
+use Rattle.atomic_table.specs.Table.{Final, Seen}
 use Rattle.fault_ledger.specs.declared.Shape.{Shape}
 use Rattle.fault_ledger.specs.declared.PieceState.{PieceState}
 use Rattle.fault_ledger.specs.declared.words.View.{View}
 use Rattle.fault_ledger.specs.History.{History, ContinuesWithout, piece_count, block_of, entry, states_of}
 use Rattle.fault_ledger.specs.Answer.{IsLegal}
-use Rattle.fault_ledger.specs.Seats.{Place, Sitter}
-use Rattle.fault_ledger.specs.Words.{Crowd, crowd, place_of, sitter, one, StandsAlone, IsKept, Knows, ForEach, state_at}
+use Rattle.fault_ledger.specs.Seats.{Place}
+use Rattle.fault_ledger.specs.Words.{Crowd, crowd, place_of, IsKept, Knows, ForEach, state_at}
 use Rattle.fault_ledger.proofs.Tables.{same-below}
 use Rattle.fault_ledger.proofs.Totals.{for_all}
 use Rattle.fault_ledger.proofs.Legal.{legal_hit}
 use Rattle.fault_ledger.proofs.Codes.{decoded}
-use Rattle.fault_ledger.proofs.Tokens.{token_me}
 
 -- a group of the ledger stands at the ledger's table, and its view has the ledger's shape
 pub group_place : (t u : TableId) (s : Shape) (v : View) (g : Crowd) (p : Place) → crowd t v ≡ g → g.place ≡ p → place_of u s ≡ p → (t ≡ u) × (v.shape ≡ s)
 group_place t u s v g p is here place =
     let q : place_of t v.shape ≡ place_of u s = ap (λ (x : Crowd). x.place) is ∙ here ∙ sym place in
     (ap (λ (x : Place). x.table) q, ap (λ (x : Place). x.shape) q)
-
--- the same of a token that stands for one worker, and the table seat that it becomes
-pub token_place : (t u : TableId) (s : Shape) (views : List View) (me : Me ℕ View) (a : Sitter) (p : Place)
-    → sitter t views ≡ a → StandsAlone views (sitter t views) → views ≡ me.0 ∷ [] → me.1 ≡ [] → a.place ≡ p → place_of u s ≡ p
-    → (t ≡ u) × (me ≡ (one s a.worker a.told a.seen, []))
-token_place t u s views me a p is alone seat clean here place =
-    let q : a.place ≡ place_of u s = here ∙ sym place in (
-      ap (λ (x : Sitter). x.place.table) is ∙ ap (λ (x : Place). x.table) q,
-      token_me views a me (subst (StandsAlone views) is alone) seat clean ∙ ap (λ (x : Place). (one x.shape a.worker a.told a.seen, [])) q,
-    )
 
 pub zeros_at : (n i : ℕ) → slice_index (replicate n 0) i ≡ 0
 zeros_at zero i = refl

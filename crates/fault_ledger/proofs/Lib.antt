@@ -12,3 +12,6 @@ pub mod Tokens
 pub mod Codes
 pub mod Meets
 pub mod Groups
+pub mod Looks
+pub mod Takes
+pub mod Meetings
