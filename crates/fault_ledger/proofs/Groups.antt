@@ -38,9 +38,11 @@ from_up-last f a zero b e = let q : b ≡ a = omega arith in ap (λ k. f k ∷ [
 from_up-last f a (suc n) b e = ap (λ xs. f a ∷ xs) (from_up-last f (a + 1) n b (omega arith))
 
 -- one more place of a list that a function gives
-pub below-last : {X : Type 0} (f : ℕ → X) (n : ℕ) → map f (below n) ++ f n ∷ [] ≡ map f (below (n + 1))
-below-last f n = from_up-last f 0 n n (omega arith) ∙ ap (λ k. map f (below k)) (sym (add-one n))
+pub more_below : {X : Type 0} (f : ℕ → X) (n : ℕ) (xs now : List X) (x : X) → xs ≡ map f (below n) → x ≡ f n → now ≡ xs ++ x ∷ [] → now ≡ map f (below (n + 1))
+more_below f n xs now x all is pushed =
+    pushed ∙ (λ k. all k ++ is k ∷ []) ∙ from_up-last f 0 n n (omega arith) ∙ ap (λ k. map f (below k)) (sym (add-one n))
 
+-- a word of a closed table
 pub index_at : (l : List ℕ) (i a : ℕ) → get_elem? l i ≡ some a → slice_index l i ≡ a
 index_at [] i a e = absurd (some-ne-none a (sym e))
 index_at (x ∷ xs) zero a e = some-injective x a e
@@ -52,7 +54,6 @@ pub closes : (s : Shape) (id : ℕ) (v : View) (g : Crowd) (words slots : List �
     → states ≡ map (λ piece. state_at (slice_index words (piece + 1))) (below (piece_count s))
     → (h : History) × IsLegal s h × ForEach (λ p. ContinuesWithout p.worker h p.seen) g.posts × (states ≡ states_of s h)
 closes s id v g words slots states f same is =
-    let t = f.0 in
     let h = f.1.0.0 in
     let kept = f.1.0.1 in (
       h,

@@ -3,7 +3,7 @@ use Rattle.atomic_table.specs.Table.{Me}
 use Rattle.fault_ledger.specs.declared.words.View.{View}
 use Rattle.fault_ledger.proofs.Meets.{splits, joins}
 use Rattle.fault_ledger.proofs.Takes.{taken}
-use Rattle.fault_ledger.proofs.Meetings.{both_allowed, met}
+use Rattle.fault_ledger.proofs.Meetings.{both_allowed}
 use Rattle.fault_ledger.proofs.words.Words.meet.Goals as goal
 
 pub join_seat-requires : goal.join_seat-requires
