@@ -1,5 +1,5 @@
 -- What a word says of its piece is what was written.
-use Rattle.std.proofs.Common.{◌≡◌, ℕ, ◌+◌, ◌%◌, ◌<◌, Bool, false, cond, eqb, refl, ap, ◌∙◌, arith, ne_eqb}
+use Rattle.std.proofs.Common.{◌≡◌, ℕ, ◌+◌, ◌%◌, ◌<◌, false, cond, eqb, refl, ap, ◌∙◌, arith, ne_eqb}
 use Rattle.fault_ledger.specs.declared.PieceState.{PieceState}
 use Rattle.fault_ledger.specs.declared.PieceState.TheVariants as state
 use Rattle.fault_ledger.specs.Words.{word_of, state_at}

@@ -24,6 +24,7 @@ group_place t u s v g p is here place =
     let q : place_of t v.shape ≡ place_of u s = ap (λ (x : Crowd). x.place) is ∙ here ∙ sym place in
     (ap (λ (x : Place). x.table) q, ap (λ (x : Place). x.shape) q)
 
+-- the words of a new table
 pub zeros_at : (n i : ℕ) → slice_index (replicate n 0) i ≡ 0
 zeros_at zero i = refl
 zeros_at (suc n) zero = refl

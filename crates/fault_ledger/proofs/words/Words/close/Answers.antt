@@ -1,4 +1,4 @@
-use Rattle.std.proofs.Common.{◌≡◌, ℕ, ◌+◌, ◌-◌, map, slice_index, ap, ◌∙◌, subst, arith}
+use Rattle.std.proofs.Common.{◌≡◌, ◌+◌, ◌-◌, map, slice_index, ap, ◌∙◌, subst, arith}
 use Rattle.std.proofs.lemmas.Result.{IfOk-weaker}
 use Rattle.std.specs.Mem.Slots.{slots_items}
 use Rattle.patterns.specs.Least.{below}
@@ -19,6 +19,6 @@ returns c =
     let posts = ap (λ (g : Crowd). g.posts) c.group.view_is in
     IfOk-weaker c.read_states-states.result _ _
     (λ states is.
-        subst (λ (x : Shape). (h : History) × IsLegal x h × ForEach (λ p. ContinuesWithout p.worker h p.seen) c.args.group.posts × (states.items ≡ states_of x h)) same
-        (closes s _ _ c.args.group words _ states.items c.close_with-closed.ensures.values.2 posts (is ∙ ap (λ n. map (λ piece. state_at (slice_index words (piece + 1))) (below n)) count)))
+    subst (λ (x : Shape). (h : History) × IsLegal x h × ForEach (λ p. ContinuesWithout p.worker h p.seen) c.args.group.posts × (states.items ≡ states_of x h)) same
+    (closes s _ _ c.args.group words _ states.items c.close_with-closed.ensures.values.2 posts (is ∙ ap (λ n. map (λ piece. state_at (slice_index words (piece + 1))) (below n)) count)))
     c.read_states-states.ensures

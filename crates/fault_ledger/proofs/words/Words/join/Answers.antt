@@ -1,4 +1,4 @@
-use Rattle.std.proofs.Common.{◌≡◌, ◌+◌, ◌<◌, sym, ap, ◌∙◌, refl, ℕ, arith}
+use Rattle.std.proofs.Common.{sym, ap, ◌∙◌, refl, ℕ, arith}
 use Rattle.atomic_table.specs.Table.{Me}
 use Rattle.fault_ledger.specs.declared.words.View.{View}
 use Rattle.fault_ledger.proofs.Meets.{joins}

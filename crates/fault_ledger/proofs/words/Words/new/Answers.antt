@@ -1,5 +1,4 @@
 use Rattle.std.proofs.Common.{◌≡◌, ℕ, ◌+◌, List, length, slice_index, replicate, ap, ◌∙◌}
-use Rattle.fault_ledger.specs.History.{piece_count}
 use Rattle.fault_ledger.proofs.Meets.{opens}
 use Rattle.fault_ledger.proofs.Groups.{zeros_at, zeros_long}
 use Rattle.fault_ledger.proofs.words.Words.new.Goals as goal

@@ -1,4 +1,4 @@
-use Rattle.std.proofs.Common.{◌≡◌, ◌+◌, ◌<◌, arith}
+use Rattle.std.proofs.Common.{arith}
 use Rattle.fault_ledger.proofs.Meets.{splits}
 use Rattle.fault_ledger.proofs.Groups.{group_place}
 use Rattle.fault_ledger.proofs.words.Words.part.Goals as goal
