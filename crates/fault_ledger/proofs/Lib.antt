@@ -9,3 +9,9 @@ pub mod Finishes
 pub mod Replays
 pub mod Totals
 pub mod Tokens
+pub mod Codes
+pub mod Meets
+pub mod Groups
+pub mod Looks
+pub mod Takes
+pub mod Meetings

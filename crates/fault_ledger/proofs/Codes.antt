@@ -1,0 +1,21 @@
+-- What a word says of its piece is what was written.
+use Rattle.std.proofs.Common.{◌≡◌, ℕ, ◌+◌, ◌%◌, ◌<◌, false, cond, eqb, refl, ap, ◌∙◌, arith, ne_eqb}
+use Rattle.fault_ledger.specs.declared.PieceState.{PieceState}
+use Rattle.fault_ledger.specs.declared.PieceState.TheVariants as state
+use Rattle.fault_ledger.specs.Words.{word_of, state_at}
+
+-- a word is read back as the state that was written
+pub decoded : (st : PieceState) → ((k : ℕ) → st ≡ state.Hit k → k < 64) → state_at (word_of st) ≡ st
+decoded state.Open f = refl
+decoded state.Clear f = refl
+decoded state.Skipped f = refl
+decoded (state.Hit k) f =
+    let small = f k refl in
+    let a : eqb (128 + k) 0 ≡ false = ne_eqb (128 + k) 0 (λ e. absurd (omega arith)) in
+    let b : eqb (128 + k) 1 ≡ false = ne_eqb (128 + k) 1 (λ e. absurd (omega arith)) in
+    let c : eqb (128 + k) 2 ≡ false = ne_eqb (128 + k) 2 (λ e. absurd (omega arith)) in
+    let m : (128 + k) % 64 ≡ k = omega arith in
+    ap (λ x. cond x state.Open (cond (eqb (128 + k) 1) state.Clear (cond (eqb (128 + k) 2) state.Skipped (state.Hit ((128 + k) % 64))))) a
+    ∙ ap (λ x. cond x state.Clear (cond (eqb (128 + k) 2) state.Skipped (state.Hit ((128 + k) % 64)))) b
+    ∙ ap (λ x. cond x state.Skipped (state.Hit ((128 + k) % 64))) c
+    ∙ ap state.Hit m

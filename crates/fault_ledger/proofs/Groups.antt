@@ -1,0 +1,68 @@
+-- A group's place, the words of a new table, and what those of a closed table say of the pieces.
+use Rattle.std.proofs.Common.{◌≡◌, ℕ, zero, suc, ◌+◌, ◌<◌, ◌∷◌, [], ◌++◌, List, map, length, slice_index, replicate, refl, sym, ap, ◌∙◌, subst, arith, add-one}
+use mathlib.Core.Option.{some, some-injective, some-ne-none}
+use lib.ListN.{get_elem?}
+use Rattle.patterns.specs.Least.{from_up, below}
+use Rattle.atomic_table.specs.Seated.{TableId}
+use Rattle.patterns.specs.Tests.{size_of}
+use Rattle.atomic_table.specs.Table.{Final, Seen}
+use Rattle.fault_ledger.specs.declared.Shape.{Shape}
+use Rattle.fault_ledger.specs.declared.PieceState.{PieceState}
+use Rattle.fault_ledger.specs.declared.words.View.{View}
+use Rattle.fault_ledger.specs.History.{History, ContinuesWithout, piece_count, block_of, entry, states_of}
+use Rattle.fault_ledger.specs.Answer.{IsLegal}
+use Rattle.fault_ledger.specs.Seats.{Place}
+use Rattle.fault_ledger.specs.Words.{Crowd, crowd, place_of, IsKept, Knows, ForEach, state_at}
+use Rattle.fault_ledger.proofs.Tables.{same-below}
+use Rattle.fault_ledger.proofs.Totals.{for_all}
+use Rattle.fault_ledger.proofs.Legal.{legal_hit}
+use Rattle.fault_ledger.proofs.Codes.{decoded}
+
+-- a group of the ledger stands at the ledger's table, and its view has the ledger's shape
+pub group_place : (t u : TableId) (s : Shape) (v : View) (g : Crowd) (p : Place) → crowd t v ≡ g → g.place ≡ p → place_of u s ≡ p → (t ≡ u) × (v.shape ≡ s)
+group_place t u s v g p is here place =
+    let q : place_of t v.shape ≡ place_of u s = ap (λ (x : Crowd). x.place) is ∙ here ∙ sym place in
+    (ap (λ (x : Place). x.table) q, ap (λ (x : Place). x.shape) q)
+
+-- the words of a new table
+pub zeros_at : (n i : ℕ) → slice_index (replicate n 0) i ≡ 0
+zeros_at zero i = refl
+zeros_at (suc n) zero = refl
+zeros_at (suc n) (suc i) = zeros_at n i
+
+pub zeros_long : (n : ℕ) → length {A = ℕ} (replicate n 0) ≡ n
+zeros_long zero = refl
+zeros_long (suc n) = ap suc (zeros_long n)
+
+from_up-last : {X : Type 0} (f : ℕ → X) (a n b : ℕ) → a + n ≡ b → map f (from_up a n) ++ f b ∷ [] ≡ map f (from_up a (suc n))
+from_up-last f a zero b e = let q : b ≡ a = omega arith in ap (λ k. f k ∷ []) q
+from_up-last f a (suc n) b e = ap (λ xs. f a ∷ xs) (from_up-last f (a + 1) n b (omega arith))
+
+-- one more place of a list that a function gives
+pub more_below : {X : Type 0} (f : ℕ → X) (n : ℕ) (xs now : List X) (x : X) → xs ≡ map f (below n) → x ≡ f n → now ≡ xs ++ x ∷ [] → now ≡ map f (below (n + 1))
+more_below f n xs now x all is pushed =
+    pushed ∙ (λ k. all k ++ is k ∷ []) ∙ from_up-last f 0 n n (omega arith) ∙ ap (λ k. map f (below k)) (sym (add-one n))
+
+-- a word of a closed table
+pub index_at : (l : List ℕ) (i a : ℕ) → get_elem? l i ≡ some a → slice_index l i ≡ a
+index_at [] i a e = absurd (some-ne-none a (sym e))
+index_at (x ∷ xs) zero a e = some-injective x a e
+index_at (x ∷ xs) (suc i) a e = index_at xs i a e
+
+-- what the last state of the table says of the states that its words stand for, and of the posts of the last group
+pub closes : (s : Shape) (id : ℕ) (v : View) (g : Crowd) (words slots : List ℕ) (states : List PieceState)
+    → Final (Seen (IsKept {S = ℕ} s) id v) words slots → v.posts ≡ g.posts
+    → states ≡ map (λ piece. state_at (slice_index words (piece + 1))) (below (piece_count s))
+    → (h : History) × IsLegal s h × ForEach (λ p. ContinuesWithout p.worker h p.seen) g.posts × (states ≡ states_of s h)
+closes s id v g words slots states f same is =
+    let h = f.1.0.0 in
+    let kept = f.1.0.1 in (
+      h,
+      kept.legal,
+      subst (ForEach (λ p. ContinuesWithout p.worker h p.seen)) same (for_all (Knows s h v.shape) (λ p. ContinuesWithout p.worker h p.seen) v.posts (λ p k. k.newer) (kept.known id v f.1.1)),
+      is ∙ same-below (λ piece. state_at (slice_index words (piece + 1))) (λ piece. entry piece h) (piece_count s)
+          (λ p l. ap (λ ws. state_at (slice_index ws (p + 1))) (sym f.2) ∙ ap state_at (kept.marked p l) ∙ decoded (entry p h) (λ k e. below_64 k s.tests (block_of s p) (legal_hit s p k h kept.legal e))),
+    )
+  where
+    below_64 : (k tests block : ℕ) → k < size_of tests block → k < 64
+    below_64 k tests block l = omega arith

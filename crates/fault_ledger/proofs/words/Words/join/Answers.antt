@@ -1,0 +1,20 @@
+use Rattle.std.proofs.Common.{sym, ap, ◌∙◌, refl, ℕ, arith}
+use Rattle.atomic_table.specs.Table.{Me}
+use Rattle.fault_ledger.specs.declared.words.View.{View}
+use Rattle.fault_ledger.proofs.Meets.{joins}
+use Rattle.fault_ledger.proofs.Groups.{group_place}
+use Rattle.fault_ledger.proofs.Takes.{taken}
+use Rattle.fault_ledger.proofs.words.Words.join.Goals as goal
+
+pub join_seat-requires : goal.join_seat-requires
+join_seat-requires c =
+    let w = c.self.inside.table.shared in
+    let seat = c.into_seat.result in
+    let at = group_place _ _ _ _ _ _ c.group.view_is c.requires.0 c.self.view_is in
+    let t = taken w.key w.table_id c.args.self.now c.args.token c.token.inside.badge c.token.inside.badge seat.table_id seat.id seat.me c.token.view_is c.token.invariant c.requires.1 c.self.view_is refl c.into_seat.ensures in (
+      at.0,
+      t.table_is,
+      c.into_seat.ensures.3,
+      (let n = c.self.invariant.0 in omega arith),
+      joins w.key _ _ _ _ (at.1 ∙ sym (ap (λ (m : Me ℕ View). m.0.shape) t.me_is)),
+    )

@@ -1,0 +1,43 @@
+use Rattle.std.proofs.Common.{ℕ, sym, ap, ◌∙◌, arith}
+use Rattle.atomic_table.specs.Table.{Me}
+use Rattle.fault_ledger.specs.declared.words.View.{View}
+use Rattle.fault_ledger.proofs.Meets.{splits, joins}
+use Rattle.fault_ledger.proofs.Takes.{taken}
+use Rattle.fault_ledger.proofs.Meetings.{both_allowed}
+use Rattle.fault_ledger.proofs.words.Words.meet.Goals as goal
+
+pub join_seat-requires : goal.join_seat-requires
+join_seat-requires c =
+    let w = c.self.inside.table.shared in
+    let x = c.into_seat-joining.result in
+    let y = c.into_seat-both.result in
+    let first = taken w.key w.table_id c.args.self.now c.args.first.now c.first.inside.badge c.replace.result x.table_id x.id x.me c.first.view_is c.first.invariant c.requires.0 c.self.view_is c.replace.ensures.value c.into_seat-joining.ensures in
+    let second = taken w.key w.table_id c.args.self.now c.args.second.now c.second.inside.badge c.replace-2.result y.table_id y.id y.me c.second.view_is c.second.invariant c.requires.1 c.self.view_is c.replace-2.ensures.value c.into_seat-both.ensures in (
+      second.table_is,
+      first.table_is,
+      c.into_seat-joining.ensures.3,
+      (let n = c.self.invariant.0 in omega arith),
+      joins w.key _ _ _ _ (ap (λ (m : Me ℕ View). m.0.shape) second.me_is ∙ sym (ap (λ (m : Me ℕ View). m.0.shape) first.me_is)),
+    )
+
+pub load-requires : goal.load-requires
+load-requires c =
+    let w = c.self.inside.table.shared in
+    let x = c.into_seat-joining.result in
+    let y = c.into_seat-both.result in
+    let first = taken w.key w.table_id c.args.self.now c.args.first.now c.first.inside.badge c.replace.result x.table_id x.id x.me c.first.view_is c.first.invariant c.requires.0 c.self.view_is c.replace.ensures.value c.into_seat-joining.ensures in
+    let second = taken w.key w.table_id c.args.self.now c.args.second.now c.second.inside.badge c.replace-2.result y.table_id y.id y.me c.second.view_is c.second.invariant c.requires.1 c.self.view_is c.replace-2.ensures.value c.into_seat-both.ensures in (
+      c.join_seat.ensures.0 ∙ second.table_is,
+      (let n = c.self.invariant.0 in omega arith),
+      both_allowed w.key w.table_id c.args.first.now c.args.second.now x.table_id y.table_id x.me y.me c.join_seat.new.seat.me first second c.join_seat.ensures.2 w.table_id.slots c.join_seat.new.seat.id,
+    )
+
+pub split_seat-parted-requires : goal.split_seat-parted-requires
+split_seat-parted-requires c =
+    let w = c.self.inside.table.shared in
+    let y = c.into_seat-both.result in
+    let second = taken w.key w.table_id c.args.self.now c.args.second.now c.second.inside.badge c.replace-2.result y.table_id y.id y.me c.second.view_is c.second.invariant c.requires.1 c.self.view_is c.replace-2.ensures.value c.into_seat-both.ensures in (
+      c.load.ensures.0 ∙ c.join_seat.ensures.0 ∙ second.table_is,
+      (let n = c.self.invariant.0 in omega arith),
+      splits w.key _ _,
+    )
