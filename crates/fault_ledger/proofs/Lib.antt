@@ -9,3 +9,6 @@ pub mod Finishes
 pub mod Replays
 pub mod Totals
 pub mod Tokens
+pub mod Looks
+pub mod Takes
+pub mod Steps
