@@ -10,5 +10,7 @@ pub mod Replays
 pub mod Totals
 pub mod Tokens
 pub mod Looks
+pub mod Accepts
+pub mod Keeps
 pub mod Takes
 pub mod Steps

@@ -1,18 +1,12 @@
-use Rattle.std.proofs.Common.{rules, ◌≡◌, ◌<◌, ◌≤◌, ◌+◌, true, false, List, [], ◌∷◌, ◌++◌, map, slice_index, IfOk, Some, None, ℕ, ◌-◌, ◌*◌, length, ◌/◌, ◌%◌, Bool, nat_eq, nat_lt, slice_index_or, slice_set, bit_and, bit_or, Fits, w8, w32, w64, Bor, MutBor}
-use Rattle.patterns.specs.Tests.{size_of}
-use Rattle.fault_ledger.specs.declared.Event.{Event}
-use Rattle.fault_ledger.specs.declared.Claim.TheVariants as claim_is
-use Rattle.fault_ledger.specs.declared.Reply.TheVariants.{Claimed, Done}
-use Rattle.fault_ledger.specs.History.{History, ContinuesWithout, block_of, claims, class_of, entry, held, piece_count, state_of, states_of}
-use Rattle.fault_ledger.specs.Answer.{fits_size, has_earlier_hit, IsLegal}
-use Rattle.fault_ledger.specs.Face.{shape_fault}
-use Rattle.fault_ledger.specs.Seats.{Sees, Makes, Meets}
-use Rattle.fault_ledger.specs.Words.{newcomer_posts, post_of, ForEach}
-use Rattle.fault_ledger.specs.Words as rule
-use Rattle.patterns.specs.Least.{below}
-use Rattle.std.specs.Mem.Slots.{slots_items, slots_len, IsFull}
+use Rattle.std.proofs.Common.{◌≡◌, ◌<◌, arith}
+use Rattle.fault_ledger.proofs.Takes.{taken}
+use Rattle.fault_ledger.proofs.Steps.{claim_allowed}
 use Rattle.fault_ledger.proofs.words.Words.claim.Goals as goal
 
--- src/words.rt:235:13
 pub fetch_add-piece-requires : goal.fetch_add-piece-requires
-fetch_add-piece-requires c = ?
+fetch_add-piece-requires c =
+    let w = c.self.inside.table.shared in
+    let seat = c.into_seat-seat.result in
+    let t = taken w.key w.table_id c.args.self.now c.args.token.now c.token.inside.badge c.replace.result seat.table_id seat.id seat.me c.token.view_is c.token.invariant c.requires.place c.self.view_is c.replace.ensures.value c.into_seat-seat.ensures in
+    let words = c.self.invariant in
+    (t.table_is, omega arith, claim_allowed w.key w.table_id c.args.token.now seat.table_id seat.me t w.table_id.slots seat.id c.requires.free.0 c.requires.free.1)

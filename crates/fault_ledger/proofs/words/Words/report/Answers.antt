@@ -1,22 +1,26 @@
-use Rattle.std.proofs.Common.{rules, ◌≡◌, ◌<◌, ◌≤◌, ◌+◌, true, false, List, [], ◌∷◌, ◌++◌, map, slice_index, IfOk, Some, None, ℕ, ◌-◌, ◌*◌, length, ◌/◌, ◌%◌, Bool, nat_eq, nat_lt, slice_index_or, slice_set, bit_and, bit_or, Fits, w8, w32, w64, Bor, MutBor}
+use Rattle.std.proofs.Common.{◌≡◌, ◌+◌, ◌<◌, true, sym, subst, arith}
 use Rattle.patterns.specs.Tests.{size_of}
-use Rattle.fault_ledger.specs.declared.Event.{Event}
-use Rattle.fault_ledger.specs.declared.Claim.TheVariants as claim_is
-use Rattle.fault_ledger.specs.declared.Reply.TheVariants.{Claimed, Done}
-use Rattle.fault_ledger.specs.History.{History, ContinuesWithout, block_of, claims, class_of, entry, held, piece_count, state_of, states_of}
-use Rattle.fault_ledger.specs.Answer.{fits_size, has_earlier_hit, IsLegal}
-use Rattle.fault_ledger.specs.Face.{shape_fault}
-use Rattle.fault_ledger.specs.Seats.{Sees, Makes, Meets}
-use Rattle.fault_ledger.specs.Words.{newcomer_posts, post_of, ForEach}
-use Rattle.fault_ledger.specs.Words as rule
-use Rattle.patterns.specs.Least.{below}
-use Rattle.std.specs.Mem.Slots.{slots_items, slots_len, IsFull}
+use Rattle.fault_ledger.specs.History.{piece_count, block_of}
+use Rattle.fault_ledger.specs.Answer.{fits_size}
+use Rattle.fault_ledger.specs.Seats.{Place}
+use Rattle.fault_ledger.proofs.Takes.{taken}
+use Rattle.fault_ledger.proofs.Steps.{report_allowed, report_done}
 use Rattle.fault_ledger.proofs.words.Words.report.Goals as goal
 
--- src/words.rt:248:9
 pub store-requires : goal.store-requires
-store-requires c = ?
+store-requires c =
+    let w = c.self.inside.table.shared in
+    let seat = c.into_seat-seat.result in
+    let t = taken w.key w.table_id c.args.self.now c.args.token.now c.token.inside.badge c.replace.result seat.table_id seat.id seat.me c.token.view_is c.token.invariant c.requires.place c.self.view_is c.replace.ensures.value c.into_seat-seat.ensures in
+    let below : c.args.piece < piece_count w.key = subst (λ (p : Place). c.args.piece < piece_count p.shape) (sym c.self.view_is) c.requires.piece in
+    let fits = subst (λ (p : Place). fits_size (size_of p.shape.tests (block_of p.shape c.args.piece)) c.args.outcome ≡ true) (sym c.self.view_is) c.requires.fits in
+    let words = c.self.invariant in
+    (t.table_is, omega arith, report_allowed w.key w.table_id c.args.token.now seat.table_id seat.me t w.table_id.slots seat.id c.args.piece c.word_of.result c.args.outcome c.requires.held below fits c.word_of.ensures)
 
--- src/words.rt:241:5
 pub returns : goal.returns
-returns c = ?
+returns c =
+    let w = c.self.inside.table.shared in
+    let seat = c.into_seat-seat.result in
+    let t = taken w.key w.table_id c.args.self.now c.args.token.now c.token.inside.badge c.replace.result seat.table_id seat.id seat.me c.token.view_is c.token.invariant c.requires.place c.self.view_is c.replace.ensures.value c.into_seat-seat.ensures in
+    let now = c.store.new.seat in
+    (report_done w.key w.table_id c.args.token.now seat.table_id seat.me t w.table_id.slots c.args.piece c.word_of.result c.args.outcome now.table_id now.me c.into_badge.result c.word_of.ensures c.store.ensures.0 c.store.ensures.2 c.into_badge.ensures.0 c.into_badge.ensures.2).0
