@@ -10,7 +10,7 @@ use Rattle.fault_ledger.specs.declared.Call.TheVariants as call
 use Rattle.fault_ledger.specs.declared.Reply.TheVariants.{Claimed, Done, Refused}
 use Rattle.fault_ledger.specs.History.{History, claims, held, piece_count, class_of, block_of, ContinuesWithout}
 use Rattle.fault_ledger.specs.Answer.{fits_size, has_earlier_hit, claim_reply, report_reply, drop_reply, answer, added, after}
-use Rattle.fault_ledger.proofs.Legal.{claim_accepted, report_accepted, drop_accepted, hit_kept}
+use Rattle.fault_ledger.proofs.Legal.{report_accepted, drop_accepted, hit_kept}
 
 pub claim_answer : (s : Shape) (h : History) (w : ℕ) → w < s.workers → held w h ≡ None → claims h < piece_count s → answer s h (call.Claim w) ≡ Claimed (claim_is.Piece (class_of s (claims h)) (block_of s (claims h)))
 claim_answer s h w among free more =
@@ -31,9 +31,6 @@ drop_answer s h w p among here hit =
     ∙ ap (λ b. cond b Done (Refused NoEarlierHit)) hit
 
 -- what the calls of events that were accepted were answered
-pub claim_answered : (s : Shape) (h : History) (w : ℕ) → after s h (call.Claim w) ≡ Event.Claim w ∷ h → answer s h (call.Claim w) ≡ Claimed (claim_is.Piece (class_of s (claims h)) (block_of s (claims h)))
-claim_answered s h w e = let a = claim_accepted s h w e in claim_answer s h w a.0 a.1 a.2
-
 pub report_answered : (s : Shape) (h : History) (w : ℕ) (o : Outcome) → after s h (call.Report w o) ≡ Event.Report w o ∷ h → answer s h (call.Report w o) ≡ Done
 report_answered s h w o e = let a = report_accepted s h w o e in report_answer s h w a.0 o a.1 a.2 a.3
 

@@ -5,8 +5,7 @@ use Rattle.fault_ledger.proofs.words.Words.claim.Goals as goal
 
 pub fetch_add-piece-requires : goal.fetch_add-piece-requires
 fetch_add-piece-requires c =
-    let w = c.self.inside.table.shared in
     let seat = c.into_seat-seat.result in
-    let t = taken w.key w.table_id c.args.self.now c.args.token.now c.token.inside.badge c.replace.result seat.table_id seat.id seat.me c.token.view_is c.token.invariant c.requires.place c.self.view_is c.replace.ensures.value c.into_seat-seat.ensures in
+    let t = taken seat.me c.token.view_is c.token.invariant c.requires.place c.self.view_is c.replace.ensures.value c.into_seat-seat.ensures in
     let words = c.self.invariant in
-    (t.table_is, omega arith, claim_allowed w.key w.table_id c.args.token.now seat.table_id seat.me t w.table_id.slots seat.id c.requires.free.0 c.requires.free.1)
+    (t.table_is, omega arith, claim_allowed t c.self.inside.table.shared.table_id.slots seat.id c.requires.free.0 c.requires.free.1)
