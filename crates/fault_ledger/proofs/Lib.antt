@@ -15,3 +15,6 @@ pub mod Groups
 pub mod Looks
 pub mod Takes
 pub mod Meetings
+pub mod Accepts
+pub mod Keeps
+pub mod Steps

@@ -1,5 +1,5 @@
 -- What a token of a ledger becomes as a table seat, and what the seat becomes as a token again.
-use Rattle.std.proofs.Common.{◌≡◌, ℕ, Bool, List, [], ◌∷◌, sym, ap, ◌∙◌, subst}
+use Rattle.std.proofs.Common.{◌≡◌, ℕ, Bool, List, [], ◌∷◌, sym, ap, ◌∙◌}
 use Rattle.atomic_table.specs.Seated.{TableId}
 use Rattle.atomic_table.specs.Table.{Me}
 use Rattle.atomic_table.specs.declared.badge.Badge.{Badge}
@@ -10,34 +10,31 @@ use Rattle.fault_ledger.specs.Seats.{Place, Sitter, sitter_at}
 use Rattle.fault_ledger.specs.Words.{one, place_of, sitter, StandsAlone}
 use Rattle.fault_ledger.proofs.Tokens.{token_me}
 
--- the table seat of a token, and the words of its ledger
-pub record Taken (key : Shape) (table : TableId) (a : Sitter) (t : TableId) (me : Me ℕ View) : Type 0 where
+-- the table t and the view and slots of the table seat that a token became, which is of the ledger with this table and shape
+pub record Taken (shape : Shape) (table : TableId) (a : Sitter) (t : TableId) (me : Me ℕ View) : Type 0 where
   pub table_is : t ≡ table
-  pub me_is : me ≡ (one key a.worker a.told a.seen, [])
-  pub place_is : a.place ≡ place_of table key
+  pub me_is : me ≡ (one shape a.worker a.told a.seen, [])
+  pub place_is : a.place ≡ place_of table shape
 
-pub taken : (key : Shape) (table : TableId) (place : Place) (a : Sitter) (old out : Badge View) (t : TableId) (id : ℕ) (me : Me ℕ View)
-    → sitter old.table_id old.views ≡ a → StandsAlone old.views (sitter old.table_id old.views) → a.place ≡ place → place_of table key ≡ place
-    → out ≡ old → (t ≡ out.table_id) × (id ≡ out.id) × (out.views ≡ me.0 ∷ []) × (me.1 ≡ []) → Taken key table a t me
-taken key table place a old out t id me view_is alone at here same seat =
-    let there : a.place ≡ place_of table key = at ∙ sym here in
-    let is : sitter old.table_id old.views ≡ a = view_is in
-    let table_was : old.table_id ≡ a.place.table = ap (λ (x : Sitter). x.place.table) is in
+-- the token `old` of the sitter `a` is moved out and made a table seat
+pub taken : {shape : Shape} {table : TableId} {place : Place} {a : Sitter} {old out : Badge View} {t : TableId} {id : ℕ} (me : Me ℕ View)
+    → sitter old.table_id old.views ≡ a → StandsAlone old.views (sitter old.table_id old.views) → a.place ≡ place → place_of table shape ≡ place
+    → out ≡ old → (t ≡ out.table_id) × (id ≡ out.id) × (out.views ≡ me.0 ∷ []) × (me.1 ≡ []) → Taken shape table a t me
+taken {shape} {table} {place} {a} {old} {out} me is alone at here same seat =
+    let there : a.place ≡ place_of table shape = at ∙ sym here in
     let m = token_me old.views (sitter old.table_id old.views) me alone (sym (ap (λ (b : Badge View). b.views) same) ∙ seat.2) seat.3 in
     record {
-      table_is = seat.0 ∙ ap (λ (b : Badge View). b.table_id) same ∙ table_was ∙ ap (λ (p : Place). p.table) there;
+      table_is = seat.0 ∙ ap (λ (b : Badge View). b.table_id) same ∙ ap (λ (x : Sitter). x.place.table) is ∙ ap (λ (p : Place). p.table) there;
       me_is = m ∙ ap (λ (x : Sitter). (one x.place.shape x.worker x.told x.seen, [])) is ∙ ap (λ (p : Place). (one p.shape a.worker a.told a.seen, [])) there;
       place_is = there;
     }
 
--- the token of a table seat that stands for the worker of a token before
-pub put_back : (key : Shape) (table : TableId) (a : Sitter) (t : TableId) (me : Me ℕ View) → Taken key table a t me
-    → (told : Bool) (h : History) (now_t : TableId) (now : Me ℕ View) (b : Badge View) → now_t ≡ t → now.0 ≡ one key a.worker told h → b.table_id ≡ now_t → b.views ≡ now.0 ∷ []
-    → (sitter b.table_id b.views ≡ sitter_at a told h) × StandsAlone b.views (sitter b.table_id b.views)
-put_back key table a t me taken told h now_t now b same is table_of views_of =
+-- the token of the table seat after a step, which stands for the same worker
+pub put_back : {shape : Shape} {table : TableId} {a : Sitter} {t : TableId} {me : Me ℕ View} → Taken shape table a t me
+    → (told : Bool) (h : History) {now_t : TableId} (now : Me ℕ View) (b : Badge View) → now_t ≡ t → now.0 ≡ one shape a.worker told h → b.table_id ≡ now_t → b.views ≡ now.0 ∷ []
+    → sitter b.table_id b.views ≡ sitter_at a told h
+put_back {shape} {table} {a} taken told h now b same is table_of views_of =
     let x : b.table_id ≡ table = table_of ∙ same ∙ taken.table_is in
-    let y : b.views ≡ one key a.worker told h ∷ [] = views_of ∙ ap (λ (v : View). v ∷ []) is in
-    let s : sitter b.table_id b.views ≡ sitter table (one key a.worker told h ∷ []) = (λ k. sitter (x k) (y k)) in (
-      s ∙ ap (λ (p : Place). record { place = p; worker = a.worker; told = told; seen = h }) (sym taken.place_is),
-      subst (λ (z : Sitter). StandsAlone b.views z) (sym s) y,
-    )
+    let y : b.views ≡ one shape a.worker told h ∷ [] = views_of ∙ ap (λ (v : View). v ∷ []) is in
+    let s : sitter b.table_id b.views ≡ sitter table (one shape a.worker told h ∷ []) = (λ k. sitter (x k) (y k)) in
+    s ∙ ap (λ (p : Place). record { place = p; worker = a.worker; told = told; seen = h }) (sym taken.place_is)

@@ -84,8 +84,8 @@ OfPosts (p ∷ []) P = P p
 OfPosts (p ∷ q ∷ posts) P = Unit {0}
 
 -- after what was seen and events of others, the worker's event was legal, and is now the last that was seen
-abbrev pub Adds : Shape → ℕ → History → Event → View → Type 0
-Adds shape w seen e v = (before : History) × ContinuesWithout w before seen × IsLegal shape (e ∷ before) × (v ≡ one shape w false (e ∷ before))
+abbrev pub Adds : Shape → Post → Event → View → Type 0
+Adds shape p e v = (before : History) × ContinuesWithout p.worker before p.seen × IsLegal shape (e ∷ before) × (v ≡ one shape p.worker p.told (e ∷ before))
 
 -- a claim that found the number n: it is of piece n, or all pieces are claimed
 abbrev pub Claims : {S : Type 0} → Step S → Me S View → ℕ → Me S View → Type 0
@@ -96,11 +96,11 @@ Claims step me n me' = (me'.1 ≡ me.1) × OfPosts me.0.posts (λ p.
 
 -- a store of the word n reports the outcome with that word
 abbrev pub Reports : {S : Type 0} → Step S → Me S View → ℕ → Me S View → Type 0
-Reports step me n me' = (me'.1 ≡ me.1) × OfPosts me.0.posts (λ p. (o : Outcome) × (n ≡ word_of (state_of o)) × Adds me.0.shape p.worker p.seen (Event.Report p.worker o) me'.0)
+Reports step me n me' = (me'.1 ≡ me.1) × OfPosts me.0.posts (λ p. (o : Outcome) × (n ≡ word_of (state_of o)) × Adds me.0.shape p (Event.Report p.worker o) me'.0)
 
 -- a store that drops a piece
 abbrev pub Drops : {S : Type 0} → Step S → Me S View → ℕ → Me S View → Type 0
-Drops step me n me' = (me'.1 ≡ me.1) × OfPosts me.0.posts (λ p. Adds me.0.shape p.worker p.seen (Event.Drop p.worker) me'.0)
+Drops step me n me' = (me'.1 ≡ me.1) × OfPosts me.0.posts (λ p. Adds me.0.shape p (Event.Drop p.worker) me'.0)
 
 -- every worker of a view has seen this history
 abbrev pub see : History → List Post → List Post

@@ -1,0 +1,223 @@
+-- Claims, reports and drops keep the rule.
+use Rattle.std.proofs.Common.{◌≡◌, ◌≢◌, ℕ, zero, suc, ◌+◌, ◌*◌, ◌^◌, ◌%◌, ◌<◌, ◌≤◌, inl, inr, min, Bool, true, false, cond, eqb, nat_lt, List, [], ◌∷◌, ◌++◌, set, length, slice_index, Some, None, refl, sym, ap, ◌∙◌, subst, arith, ne_eqb, eq-eqb, length-set, get_or-set_other, get_or-set_same, mod-eq_of_lt}
+use Rattle.std.proofs.Math.Nat.{min-eq_left, min-eq_right, min-le_right}
+use borrow.Author.Tests.{ltb-false}
+use native.Mathlib.Decide.{dec_lt, ℕ_discrete}
+use mathlib.Core.Option.{some, none}
+use mathlib.Core.Logic.{dite}
+use lib.ListN.{get_elem?}
+use Rattle.atomic_table.specs.Table.{State, Me, step, Act, keeps, Valid, stepped, carried_after, Allows}
+use Rattle.patterns.specs.declared.Outcome.{Outcome}
+use Rattle.patterns.specs.Tests.{size_of, max_pieces}
+use Rattle.fault_ledger.specs.declared.LedgerFault.TheVariants.{NoWorkers, TooManyWorkers, TooManyPieces}
+use Rattle.fault_ledger.specs.declared.Shape.{Shape}
+use Rattle.fault_ledger.specs.declared.PieceState.{PieceState}
+use Rattle.fault_ledger.specs.declared.PieceState.TheVariants as state
+use Rattle.fault_ledger.specs.declared.Event.{Event}
+use Rattle.fault_ledger.specs.declared.Call.TheVariants as call
+use Rattle.fault_ledger.specs.declared.words.Post.{Post}
+use Rattle.fault_ledger.specs.declared.words.View.{View}
+use Rattle.fault_ledger.specs.History.{History, piece_count, block_of, worker_of, state_of, claims, held, holds, entry, ContinuesWithout}
+use Rattle.fault_ledger.specs.Answer.{fits_size, has_earlier_hit, added, after, call_of, IsLegal}
+use Rattle.fault_ledger.specs.Face.{shape_fault}
+use Rattle.fault_ledger.specs.Words.{word_of, total, times, told_of, ForEach, Knows, IsKeptBy, IsKept, one, post, Adds, Claims, Reports, Drops}
+use Rattle.fault_ledger.proofs.Histories.{held_below, held_goes_on, held-holds, holds-not, goes_on_same}
+use Rattle.fault_ledger.proofs.Totals.{total-two, total-mono, told-length, times-none, for_each, set_known}
+use Rattle.fault_ledger.proofs.Accepts.{claim_answer, report_answer, drop_answer, hit_goes_on}
+use Rattle.fault_ledger.proofs.Looks.{same_total, look_keeps}
+
+-- the limits of a shape
+pub shape_small : (s : Shape) → shape_fault s ≡ None → (piece_count s ≤ max_pieces) × (s.workers ≤ 64)
+shape_small s e = go (eqb s.workers 0) (nat_lt 64 s.workers) (nat_lt max_pieces (piece_count s)) refl refl e
+  where
+    go : (a b c : Bool) → nat_lt 64 s.workers ≡ b → nat_lt max_pieces (piece_count s) ≡ c → cond a (Some NoWorkers) (cond b (Some TooManyWorkers) (cond c (Some TooManyPieces) None)) ≡ None → (piece_count s ≤ max_pieces) × (s.workers ≤ 64)
+    go true b c x y e = absurd (cc)
+    go false true c x y e = absurd (cc)
+    go false false true x y e = absurd (cc)
+    go false false false x y e = (ltb-false max_pieces (piece_count s) y, ltb-false 64 s.workers x)
+
+-- what `Allows` asks at one state
+abbrev Goes : {S : Type 0} → Shape → State S View → ℕ → Me S View → ℕ → (ℕ → ℕ) → (ℕ → Me S View → Type 0) → Type 0
+Goes {S} s t id me i f then = (w : View) × (a : Act S) × Valid t.homes me.1 a × IsKept s (stepped t i (f (slice_index t.words i)) id me.1 w a) × then (slice_index t.words i) (w, carried_after me.1 a)
+
+-- the workers of another view are others
+others_apart : (s : Shape) (views : List View) (id j w : ℕ) (told : Bool) (seen : History) (u : View) → ((x : ℕ) → total (λ v. times x v.posts) views ≤ 1)
+    → get_elem? views id ≡ some (one s w told seen) → j ≢ id → get_elem? views j ≡ some u → ForEach (λ p. p.worker ≢ w) u.posts
+others_apart s views id j w told seen u apart at n there =
+    let two = total-two (λ v. times w v.posts) views id j (one s w told seen) u (λ e. n (sym e)) at there in
+    let here : eqb w w ≡ true = eq-eqb w w refl in
+    let once : times w (one s w told seen).posts ≡ 1 = ap (λ b. cond b 1 0 + 0) here in
+    let most = apart w in
+    times-none w u.posts (omega arith)
+
+-- an event of one worker is news to the others
+others_know : (s : Shape) (h : History) (e : Event) (u : View) → ForEach (λ p. p.worker ≢ worker_of e) u.posts → ForEach (Knows s h u.shape) u.posts → ForEach (Knows s (e ∷ h) u.shape) u.posts
+others_know s h e u = for_each (λ p. p.worker ≢ worker_of e) (Knows s h u.shape) (Knows s (e ∷ h) u.shape) u.posts
+    (λ p a k. record { same = k.same; among = k.among; newer = (e ∷ k.newer.0, ap (λ l. e ∷ l) k.newer.1, ((λ q. a (sym q)), k.newer.2)); done = k.done })
+
+told_total : (s : Shape) (h : History) (words : List ℕ) (views : List View) → IsKeptBy s h words views → total (λ v. told_of v.posts) views ≤ s.workers
+told_total s h words views kept =
+    let a = total-mono (λ v. told_of v.posts) (λ v. length v.posts) views (λ v. told-length v.posts) in
+    let b = kept.staffed in
+    omega arith
+
+off : (b : Bool) → b ≡ false → b ≡ true → ⊥
+off b x y = absurd (cc)
+
+-- at a state that keeps the rule, a view of one worker
+module _ (s : Shape) (h : History) (words : List ℕ) (views : List View) (kept : IsKeptBy s h words views) (id w : ℕ) (told : Bool) (seen : History) (at : get_elem? views id ≡ some (one s w told seen)) where
+  knows : Knows s h s (post w told seen)
+  knows = (kept.known id (one s w told seen) at).0
+
+  -- the rule after one event of the worker
+  event_keeps : told ≡ false → (e : Event) (now : List ℕ) → worker_of e ≡ w → after s h (call_of e) ≡ e ∷ h
+      → length now ≡ length words
+      → ((p : ℕ) → p < piece_count s → slice_index now (p + 1) ≡ word_of (entry p (e ∷ h)))
+      → claims (e ∷ h) ≡ min (slice_index now 0) (piece_count s)
+      → slice_index now 0 ≤ piece_count s + total (λ v. told_of v.posts) views
+      → IsKeptBy s (e ∷ h) now (set views id (one s w told (e ∷ h)))
+  event_keeps untold e now by accepts len marked counted bounded =
+      let v = one s w told seen in
+      let w' = one s w told (e ∷ h) in
+      record {
+        limits = kept.limits;
+        legal = (accepts, kept.legal);
+        sized = len ∙ kept.sized;
+        marked = marked;
+        counted = counted;
+        bounded = (let t = same_total (λ v. told_of v.posts) views id v w' at refl in omega arith);
+        staffed = (let t = same_total (λ v. length v.posts) views id v w' at refl in let k = kept.staffed in omega arith);
+        apart = (λ x. let t = same_total (λ v. times x v.posts) views id v w' at refl in let k = kept.apart x in omega arith);
+        known = set_known s (e ∷ h) views id w'
+            (λ j u n there. others_know s h e u (subst (λ x. ForEach (λ p. p.worker ≢ x) u.posts) (sym by) (others_apart s views id j w told seen u kept.apart at n there)) (kept.known j u there))
+            (record { same = refl; among = knows.among; newer = goes_on_same w (e ∷ h); done = λ t. absurd (off told untold t) }, tt);
+      }
+
+  held_still : held w h ≡ held w seen
+  held_still = held_goes_on w h seen knows.newer
+
+  -- who holds a piece was not told that all are claimed
+  holder_untold : (p : ℕ) → held w seen ≡ Some p → told ≡ false
+  holder_untold p holds = go told refl
+    where
+      go : (b : Bool) → told ≡ b → told ≡ false
+      go true t = let x = (knows.done t).0 in absurd (cc)
+      go false t = t
+
+next-small : (n : ℕ) → n ≤ 4194304 + 64 → (n + 1) % 2 ^ 64 ≡ n + 1
+next-small n l = mod-eq_of_lt (omega arith)
+
+-- a claim
+module _ {S : Type 0} (s : Shape) (slots id w : ℕ) (seen : History) (out : List (ℕ × S)) (free : held w seen ≡ None) where
+  abbrev me : Me S View
+  me = (one s w false seen, out)
+
+  claims_more : (t : State S View) (h : History) → IsKeptBy s h t.words t.views → get_elem? t.views id ≡ some me.0 → slice_index t.words 0 < piece_count s
+      → Goes s t id me 0 (λ n. (n + 1) % 2 ^ 64) (Claims (step slots 0 1 0 none) me)
+  claims_more t h kept at below =
+      let n = slice_index t.words 0 in
+      let small = shape_small s kept.limits in
+      let mine = knows s h t.words t.views kept id w false seen at in
+      let next : (n + 1) % 2 ^ 64 ≡ n + 1 = next-small n (omega arith) in
+      let e = Event.Claim w in
+      let counted : claims h ≡ n = kept.counted ∙ min-eq_left (omega arith) in
+      let accepts : after s h (call.Claim w) ≡ e ∷ h = ap (λ r. added (call.Claim w) r ++ h) (claim_answer s h w mine.among (held_still s h t.words t.views kept id w false seen at ∙ free) (omega arith)) in
+      let now = set t.words 0 ((n + 1) % 2 ^ 64) in
+      let sized = kept.sized in
+      let first : slice_index now 0 ≡ n + 1 = get_or-set_same t.words 0 ((n + 1) % 2 ^ 64) 0 (omega arith) ∙ next in (
+        one s w false (e ∷ h),
+        keeps,
+        tt,
+        (
+          e ∷ h,
+          event_keeps s h t.words t.views kept id w false seen at refl e now refl accepts
+              (length-set t.words 0 ((n + 1) % 2 ^ 64))
+              (λ p l. get_or-set_other t.words 0 (p + 1) ((n + 1) % 2 ^ 64) 0 (λ q. absurd (omega arith)) ∙ kept.marked p l)
+              (ap (λ k. k + 1) counted ∙ sym first ∙ sym (min-eq_left (omega arith)))
+              (omega arith),
+        ),
+        (refl, (h, mine.newer, inl (below, counted, (accepts, kept.legal), refl))),
+      )
+
+  claims_none : (t : State S View) (h : History) → IsKeptBy s h t.words t.views → get_elem? t.views id ≡ some me.0 → piece_count s ≤ slice_index t.words 0
+      → Goes s t id me 0 (λ n. (n + 1) % 2 ^ 64) (Claims (step slots 0 1 0 none) me)
+  claims_none t h kept at above =
+      let n = slice_index t.words 0 in
+      let small = shape_small s kept.limits in
+      let bounded = kept.bounded in
+      let told = told_total s h t.words t.views kept in
+      let mine = knows s h t.words t.views kept id w false seen at in
+      let next : (n + 1) % 2 ^ 64 ≡ n + 1 = next-small n (omega arith) in
+      let counted : claims h ≡ piece_count s = kept.counted ∙ min-eq_right (omega arith) in
+      let now = set t.words 0 ((n + 1) % 2 ^ 64) in
+      let sized = kept.sized in
+      let first : slice_index now 0 ≡ n + 1 = get_or-set_same t.words 0 ((n + 1) % 2 ^ 64) 0 (omega arith) ∙ next in (
+        one s w true h,
+        keeps,
+        tt,
+        (
+          h,
+          look_keeps s h t.words t.views kept id me.0 at (post w true h ∷ []) now
+              (length-set t.words 0 ((n + 1) % 2 ^ 64))
+              (λ p l. get_or-set_other t.words 0 (p + 1) ((n + 1) % 2 ^ 64) 0 (λ q. absurd (omega arith)) ∙ kept.marked p l)
+              (counted ∙ sym (min-eq_right (omega arith)))
+              (omega arith)
+              refl
+              (λ x. refl)
+              (record { same = refl; among = mine.among; newer = goes_on_same w h; done = λ _. (held_still s h t.words t.views kept id w false seen at ∙ free, counted) }, tt),
+        ),
+        (refl, (h, mine.newer, inr (above, counted, kept.legal, refl))),
+      )
+
+  pub claims_allowed : Allows (IsKept s) slots id me 0 (λ n. (n + 1) % 2 ^ 64) (Claims (step slots 0 1 0 none) me)
+  claims_allowed t kept homes at fits =
+      dite (dec_lt (slice_index t.words 0) (piece_count s)) (λ below. claims_more t kept.0 kept.1 at below)
+      (λ n. claims_none t kept.0 kept.1 at (omega arith))
+
+-- the words after the word of a held piece was stored
+made : (p q : ℕ) (h : History) (w : ℕ) (words : List ℕ) (x now : PieceState) → held w h ≡ Some p → p + 1 < length words
+    → slice_index words (q + 1) ≡ word_of (entry q h) → now ≡ cond (holds w q h) x (entry q h) → slice_index (set words (p + 1) (word_of x)) (q + 1) ≡ word_of now
+made p q h w words x now here long was is =
+    dite (ℕ_discrete p q)
+    (λ e. let same : now ≡ x = is ∙ ap (λ b. cond b x (entry q h)) (held-holds w q h (here ∙ ap Some e)) in
+    subst (λ n. slice_index (set words (p + 1) (word_of x)) (n + 1) ≡ word_of now) e (get_or-set_same words (p + 1) (word_of x) 0 long ∙ ap word_of (sym same)))
+    (λ n. let same : now ≡ entry q h = is ∙ ap (λ b. cond b x (entry q h)) (holds-not w q h (λ f. n (let r : Some p ≡ Some q = sym here ∙ f in cc))) in
+    get_or-set_other words (p + 1) (q + 1) (word_of x) 0 (λ e. n (omega arith)) ∙ was ∙ ap word_of (sym same))
+
+-- a report or a drop of the piece that a worker holds
+module _ {S : Type 0} (s : Shape) (slots id w p : ℕ) (told : Bool) (seen : History) (out : List (ℕ × S)) (holding : held w seen ≡ Some p) where
+  abbrev me' : Me S View
+  me' = (one s w told seen, out)
+
+  settles : (e : Event) (x : PieceState) (t : State S View) (h : History) (kept : IsKeptBy s h t.words t.views) → get_elem? t.views id ≡ some me'.0 → worker_of e ≡ w → after s h (call_of e) ≡ e ∷ h
+      → claims (e ∷ h) ≡ claims h → ((q : ℕ) → entry q (e ∷ h) ≡ cond (holds w q h) x (entry q h)) → p < piece_count s
+      → IsKeptBy s (e ∷ h) (set t.words (p + 1) (word_of x)) (set t.views id (one s w told (e ∷ h)))
+  settles e x t h kept at by accepts same entries below =
+      let now = set t.words (p + 1) (word_of x) in
+      let here : held w h ≡ Some p = held_still s h t.words t.views kept id w told seen at ∙ holding in
+      let sized = kept.sized in
+      let first : slice_index now 0 ≡ slice_index t.words 0 = get_or-set_other t.words (p + 1) 0 (word_of x) 0 (λ q. absurd (omega arith)) in
+      event_keeps s h t.words t.views kept id w told seen at (holder_untold s h t.words t.views kept id w told seen at p holding) e now by accepts
+      (length-set t.words (p + 1) (word_of x))
+      (λ q l. made p q h w t.words x (entry q (e ∷ h)) here (omega arith) (kept.marked q l) (entries q))
+      (same ∙ kept.counted ∙ ap (λ n. min n (piece_count s)) (sym first))
+      (let b = kept.bounded in omega arith)
+
+  pub reports_allowed : (o : Outcome) → p < piece_count s → fits_size (size_of s.tests (block_of s p)) o ≡ true
+      → Allows (IsKept s) slots id me' (p + 1) (λ _. word_of (state_of o)) (λ _. Reports (step slots (p + 1) (word_of (state_of o)) 0 none) me' (word_of (state_of o)))
+  reports_allowed o below fits t kept homes at lt =
+      let h = kept.0 in
+      let e = Event.Report w o in
+      let mine = knows s h t.words t.views kept.1 id w told seen at in
+      let here : held w h ≡ Some p = held_still s h t.words t.views kept.1 id w told seen at ∙ holding in
+      let accepts : after s h (call.Report w o) ≡ e ∷ h = ap (λ r. added (call.Report w o) r ++ h) (report_answer s h w p o mine.among here fits) in
+      (one s w told (e ∷ h), keeps, tt, (e ∷ h, settles e (state_of o) t h kept.1 at refl accepts refl (λ q. refl) below), (refl, (o, refl, (h, mine.newer, (accepts, kept.1.legal), refl))))
+
+  pub drops_allowed : p < piece_count s → has_earlier_hit s seen p ≡ true → Allows (IsKept s) slots id me' (p + 1) (λ _. 2) (λ _. Drops (step slots (p + 1) 2 0 none) me' 2)
+  drops_allowed below hit t kept homes at lt =
+      let h = kept.0 in
+      let e = Event.Drop w in
+      let mine = knows s h t.words t.views kept.1 id w told seen at in
+      let here : held w h ≡ Some p = held_still s h t.words t.views kept.1 id w told seen at ∙ holding in
+      let accepts : after s h (call.Drop w) ≡ e ∷ h = ap (λ r. added (call.Drop w) r ++ h) (drop_answer s h w p mine.among here (hit_goes_on s w p h seen mine.newer hit)) in
+      (one s w told (e ∷ h), keeps, tt, (e ∷ h, settles e state.Skipped t h kept.1 at refl accepts refl (λ q. refl) below), (refl, (h, mine.newer, (accepts, kept.1.legal), refl)))
