@@ -42,14 +42,18 @@ status-open g n b l clear e =
 pub status-none : (g : ℕ → PieceState) (n : ℕ) → ((j : ℕ) → j < n → g j ≡ state.Clear) → status_from 0 (map g (below n)) ≡ status_is.Settled None
 status-none g n clear = status-past g 0 n 0 n n (omega arith) (omega arith) (λ j _ o. clear j o)
 
--- the state that a list of states has of a class and a block
+-- what is found at the place of a class and a block
+pub found-entry : (s : Shape) (states : List PieceState) (h : History) (class block : ℕ) (d : PieceState) → states ≡ states_of s h → class < s.classes → block < block_count s → slice_index_or states (class + s.classes * block) d ≡ entry (piece_at s class block) h
+found-entry s states h class block d e l m =
+    ap (λ x. slice_index_or x (piece_at s class block) d) e
+    ∙ get-below (λ p. entry p h) (piece_count s) (piece_at s class block) d (piece_at-below s class block l m)
+
+-- the state that a list of states shows of a class and a block
 abbrev pub shown : Shape → List PieceState → ℕ → ℕ → PieceState
 shown s states class block = slice_index_or states (class + s.classes * block) state.Open
 
-pub shown-entry : (s : Shape) (states : List PieceState) (h : History) (class block : ℕ) → states ≡ states_of s h → class < s.classes → block < block_count s → shown s states class block ≡ entry (piece_at s class block) h
-shown-entry s states h class block e l m =
-    ap (λ x. slice_index_or x (piece_at s class block) state.Open) e
-    ∙ get-below (λ p. entry p h) (piece_count s) (piece_at s class block) state.Open (piece_at-below s class block l m)
+shown-entry : (s : Shape) (states : List PieceState) (h : History) (class block : ℕ) → states ≡ states_of s h → class < s.classes → block < block_count s → shown s states class block ≡ entry (piece_at s class block) h
+shown-entry s states h class block e l m = found-entry s states h class block state.Open e l m
 
 -- the status of the class in a history with these states
 pub shown-status : (s : Shape) (states : List PieceState) (h : History) (class : ℕ) (x : Status) → class < s.classes → states ≡ states_of s h → status_from 0 (map (shown s states class) (below (block_count s))) ≡ x → x ≡ status s h class

@@ -1,4 +1,4 @@
-use Rattle.std.proofs.Common.{◌≡◌, ℕ, ◌<◌, Option, sym, arith, below_more}
+use Rattle.std.proofs.Common.{◌≡◌, ℕ, Option, sym, arith, below_more}
 use Rattle.fault_ledger.specs.declared.Status.TheVariants.{Settled}
 use Rattle.fault_ledger.specs.Settled.{status}
 use Rattle.fault_ledger.proofs.Finishes.{finish-waits, finish-all}

@@ -21,13 +21,13 @@ pub returns-in-Hit : goal.returns-in-Hit
 returns-in-Hit c =
     let m : c.loop-block.block < block_count c.args.shape = (let a = c.blocks-block-end.ensures in let b = c.loop-block-test.true in omega arith) in
     λ h legal e. shown-status c.args.shape c.args.states.now h c.args.class (Settled (Some (64 * c.loop-block.block + c.in-Hit.test))) c.requires.range e
-        (status-hit (shown c.args.shape c.args.states.now c.args.class) (block_count c.args.shape) c.loop-block.block c.in-Hit.test m c.loop-block.invariant c.in-Hit.is)
+    (status-hit (shown c.args.shape c.args.states.now c.args.class) (block_count c.args.shape) c.loop-block.block c.in-Hit.test m c.loop-block.invariant c.in-Hit.is)
 
 pub returns-in-Open : goal.returns-in-Open
 returns-in-Open c =
     let m : c.loop-block.block < block_count c.args.shape = (let a = c.blocks-block-end.ensures in let b = c.loop-block-test.true in omega arith) in
     λ h legal e. shown-status c.args.shape c.args.states.now h c.args.class (Waiting c.loop-block.block) c.requires.range e
-        (status-open (shown c.args.shape c.args.states.now c.args.class) (block_count c.args.shape) c.loop-block.block m c.loop-block.invariant c.in-Open.is)
+    (status-open (shown c.args.shape c.args.states.now c.args.class) (block_count c.args.shape) c.loop-block.block m c.loop-block.invariant c.in-Open.is)
 
 pub unreachable-requires : goal.unreachable-requires
 unreachable-requires c =
