@@ -21,7 +21,7 @@ use Rattle.fault_ledger.specs.declared.Reply.{Reply}
 use Rattle.fault_ledger.specs.declared.Reply.TheVariants.{Claimed, Done, Refused}
 use Rattle.fault_ledger.specs.History.{History, claims, held, holds, state_of, entry, piece_count, class_of, block_of, piece_at}
 use Rattle.fault_ledger.specs.Answer.{fits_size, is_hit, has_earlier_hit, claim_reply, report_reply, drop_reply, answer, added, after, IsLegal}
-use Rattle.fault_ledger.specs.Face.{Face, face, IsLedger, Answers}
+use Rattle.fault_ledger.specs.Face.{Face, face, shape_fault, IsLedger, Answers}
 use Rattle.fault_ledger.proofs.Tables.{length-below, get-below, set-below, any-below}
 use Rattle.fault_ledger.proofs.Pieces.{some_class, piece_at-below, block_of-below}
 use Rattle.fault_ledger.proofs.Histories.{holds-not, held-holds}
@@ -71,14 +71,17 @@ ledger-holding f i = holding-length f i.history.0 i.history.2
 pub ledger-states : (f : Face) → IsLedger f → length f.states ≡ piece_count f.shape
 ledger-states f i = states-length f i.history.0 i.history.2
 
-pub ledger-few : (f : Face) → IsLedger f → piece_count f.shape ≤ max_pieces
-ledger-few f i = go (f.shape.workers == 0) (nat_lt 64 f.shape.workers) (nat_lt max_pieces (piece_count f.shape)) refl i.limits
+pub few_pieces : (s : Shape) → shape_fault s ≡ None → piece_count s ≤ max_pieces
+few_pieces s limits = go (s.workers == 0) (nat_lt 64 s.workers) (nat_lt max_pieces (piece_count s)) refl limits
   where
-    go : (a b c : Bool) → nat_lt max_pieces (piece_count f.shape) ≡ c → cond a (Some NoWorkers) (cond b (Some TooManyWorkers) (cond c (Some TooManyPieces) None)) ≡ None → piece_count f.shape ≤ max_pieces
+    go : (a b c : Bool) → nat_lt max_pieces (piece_count s) ≡ c → cond a (Some NoWorkers) (cond b (Some TooManyWorkers) (cond c (Some TooManyPieces) None)) ≡ None → piece_count s ≤ max_pieces
     go true b c x e = absurd (cc)
     go false true c x e = absurd (cc)
     go false false true x e = absurd (cc)
-    go false false false x e = ltb-false max_pieces (piece_count f.shape) x
+    go false false false x e = ltb-false max_pieces (piece_count s) x
+
+pub ledger-few : (f : Face) → IsLedger f → piece_count f.shape ≤ max_pieces
+ledger-few f i = few_pieces f.shape i.limits
 
 pub ledger-after : (f : Face) (n : ℕ) (holding : List (Option ℕ)) (states : List PieceState) (c : Call) (r : Reply) → IsLedger f → Answers f c r (faced f.shape n holding states) → IsLedger (faced f.shape n holding states)
 ledger-after f n holding states c r i a = record {

@@ -1,22 +1,20 @@
 -- The status of a class, read from the states of its pieces.
-use Rattle.std.proofs.Common.{◌≡◌, ℕ, zero, suc, ◌+◌, ◌-◌, ◌*◌, ◌<◌, ◌≤◌, cond, ◌∷◌, map, length, slice_index_or, Some, None, refl, sym, ap, ◌∙◌, arith, lt-ltb}
-use Rattle.std.proofs.lemmas.Option.{get_or_from_slice_get, slice_get_read}
+use Rattle.std.proofs.Common.{◌≡◌, ℕ, zero, suc, ◌+◌, ◌-◌, ◌*◌, ◌<◌, ◌≤◌, List, ◌∷◌, map, length, slice_index_or, Some, None, sym, ap, ◌∙◌, arith}
 use Rattle.patterns.specs.Tests.{max_pieces}
 use Rattle.patterns.specs.Least.{from_up, below}
+use Rattle.fault_ledger.specs.declared.Shape.{Shape}
 use Rattle.fault_ledger.specs.declared.PieceState.{PieceState}
 use Rattle.fault_ledger.specs.declared.PieceState.TheVariants as state
-use Rattle.fault_ledger.specs.declared.Refusal.TheVariants.{NoSuchClass}
 use Rattle.fault_ledger.specs.declared.Status.{Status}
 use Rattle.fault_ledger.specs.declared.Status.TheVariants as status_is
-use Rattle.fault_ledger.specs.declared.Call.TheVariants as call
-use Rattle.fault_ledger.specs.declared.Reply.TheVariants as reply
-use Rattle.fault_ledger.specs.History.{History, entry, block_count, piece_at}
+use Rattle.fault_ledger.specs.History.{History, entry, block_count, piece_count, piece_at, states_of}
 use Rattle.fault_ledger.specs.Settled.{status_from, status}
-use Rattle.fault_ledger.specs.Face.{Face, face, IsLedger, Answers}
-use Rattle.fault_ledger.proofs.Tables.{same-below}
+use Rattle.fault_ledger.specs.Face.{shape_fault}
+use Rattle.fault_ledger.specs.Seats.{AreStates}
+use Rattle.fault_ledger.proofs.Tables.{length-below, get-below, same-below}
 use Rattle.fault_ledger.proofs.Pieces.{piece_at-below}
 use Rattle.fault_ledger.proofs.Legal.{legal_hit, never_first}
-use Rattle.fault_ledger.proofs.Faces.{state-entry, answered, ledger-few, ledger-states}
+use Rattle.fault_ledger.proofs.Faces.{few_pieces}
 
 -- past blocks that are clear
 status-past : (g : ℕ → PieceState) (a m n all b : ℕ) → m + n ≡ all → a + m ≡ b → ((k : ℕ) → a ≤ k → k < b → g k ≡ state.Clear)
@@ -44,47 +42,47 @@ status-open g n b l clear e =
 pub status-none : (g : ℕ → PieceState) (n : ℕ) → ((j : ℕ) → j < n → g j ≡ state.Clear) → status_from 0 (map g (below n)) ≡ status_is.Settled None
 status-none g n clear = status-past g 0 n 0 n n (omega arith) (omega arith) (λ j _ o. clear j o)
 
--- the state that a face shows of a class and a block
-abbrev pub shown : Face → ℕ → ℕ → PieceState
-shown f class block = slice_index_or f.states (class + f.shape.classes * block) state.Open
+-- what is found at the place of a class and a block
+pub found-entry : (s : Shape) (states : List PieceState) (h : History) (class block : ℕ) (d : PieceState) → states ≡ states_of s h → class < s.classes → block < block_count s → slice_index_or states (class + s.classes * block) d ≡ entry (piece_at s class block) h
+found-entry s states h class block d e l m =
+    ap (λ x. slice_index_or x (piece_at s class block) d) e
+    ∙ get-below (λ p. entry p h) (piece_count s) (piece_at s class block) d (piece_at-below s class block l m)
 
-pub shown-entry : (f : Face) (h : History) (class block : ℕ) → f ≡ face f.shape h → class < f.shape.classes → block < block_count f.shape → shown f class block ≡ entry (piece_at f.shape class block) h
-shown-entry f h class block e l m = state-entry f h (piece_at f.shape class block) e (piece_at-below f.shape class block l m)
+-- the state that a list of states shows of a class and a block
+abbrev pub shown : Shape → List PieceState → ℕ → ℕ → PieceState
+shown s states class block = slice_index_or states (class + s.classes * block) state.Open
 
-pub status-answers : (f : Face) (class : ℕ) (x : Status) → class < f.shape.classes → status_from 0 (map (shown f class) (below (block_count f.shape))) ≡ x → Answers f (call.Status class) (reply.Status x) f
-status-answers f class x l e = answered f f (call.Status class) (reply.Status x) (λ h legal is. (
-  sym (ap (λ b. cond b (reply.Status (status f.shape h class)) (reply.Refused NoSuchClass)) (lt-ltb class f.shape.classes l)
-      ∙ ap (λ states. reply.Status (status_from 0 states)) (sym (same-below (shown f class) (λ block. entry (piece_at f.shape class block) h) (block_count f.shape) (λ k m. shown-entry f h class k is l m)))
-      ∙ ap (λ y. reply.Status y) e),
-  is,
-))
+shown-entry : (s : Shape) (states : List PieceState) (h : History) (class block : ℕ) → states ≡ states_of s h → class < s.classes → block < block_count s → shown s states class block ≡ entry (piece_at s class block) h
+shown-entry s states h class block e l m = found-entry s states h class block state.Open e l m
+
+-- the status of the class in a history with these states
+pub shown-status : (s : Shape) (states : List PieceState) (h : History) (class : ℕ) (x : Status) → class < s.classes → states ≡ states_of s h → status_from 0 (map (shown s states class) (below (block_count s))) ≡ x → x ≡ status s h class
+shown-status s states h class x l e is =
+    sym is
+    ∙ ap (status_from 0) (same-below (shown s states class) (λ block. entry (piece_at s class block) h) (block_count s) (λ k m. shown-entry s states h class k e l m))
 
 -- the test of a hit that is shown is below 64, and there are few blocks
-pub shown-hit : (f : Face) (class block k : ℕ) → IsLedger f → class < f.shape.classes → block < block_count f.shape → shown f class block ≡ state.Hit k → k < 64
-shown-hit f class block k i l m e =
-    let h = i.history.0 in
-    let a = legal_hit f.shape (piece_at f.shape class block) k h i.history.1 (sym (shown-entry f h class block i.history.2 l m) ∙ e) in
+pub shown-hit : (s : Shape) (states : List PieceState) (class block k : ℕ) → AreStates s states → class < s.classes → block < block_count s → shown s states class block ≡ state.Hit k → k < 64
+shown-hit s states class block k are l m e =
+    let a = legal_hit s (piece_at s class block) k are.0 are.1 (sym (shown-entry s states are.0 class block are.2 l m) ∙ e) in
     omega arith
 
-pub few-blocks : (f : Face) (class : ℕ) → IsLedger f → class < f.shape.classes → block_count f.shape ≤ max_pieces
-few-blocks f class i l = go f.shape.classes l (ledger-few f i)
+pub few-blocks : (s : Shape) (class : ℕ) → shape_fault s ≡ None → class < s.classes → block_count s ≤ max_pieces
+few-blocks s class limits l = go s.classes l (few_pieces s limits)
   where
-    go : (n : ℕ) → class < n → n * block_count f.shape ≤ max_pieces → block_count f.shape ≤ max_pieces
+    go : (n : ℕ) → class < n → n * block_count s ≤ max_pieces → block_count s ≤ max_pieces
     go zero l m = absurd (omega arith)
     go (suc n) l m = omega arith
 
 -- a skipped piece is never shown behind clear ones alone
-pub shown-skipped : (f : Face) (class block : ℕ) → IsLedger f → class < f.shape.classes → block < block_count f.shape → ((k : ℕ) → k < block → shown f class k ≡ state.Clear) → shown f class block ≡ state.Skipped → ⊥
-shown-skipped f class block i l m clear e =
-    let h = i.history.0 in
-    let r = never_first f.shape h i.history.1 class block l m (sym (shown-entry f h class block i.history.2 l m) ∙ e) in
-    r.2 (sym (shown-entry f h class r.0 i.history.2 l (let a = r.1 in omega arith)) ∙ clear r.0 r.1)
+pub shown-skipped : (s : Shape) (states : List PieceState) (class block : ℕ) → AreStates s states → class < s.classes → block < block_count s → ((k : ℕ) → k < block → shown s states class k ≡ state.Clear) → shown s states class block ≡ state.Skipped → ⊥
+shown-skipped s states class block are l m clear e =
+    let h = are.0 in
+    let r = never_first s h are.1 class block l m (sym (shown-entry s states h class block are.2 l m) ∙ e) in
+    r.2 (sym (shown-entry s states h class r.0 are.2 l (let a = r.1 in omega arith)) ∙ clear r.0 r.1)
 
-pub shown-within : (f : Face) (class block : ℕ) → IsLedger f → class < f.shape.classes → block < block_count f.shape → class + f.shape.classes * block < length f.states
-shown-within f class block i l m = let a = piece_at-below f.shape class block l m in let b = ledger-states f i in omega arith
-
--- what is found at the place of a class and a block is what is shown
-pub found-shown : (f : Face) (class block : ℕ) (x : PieceState) → IsLedger f → class < f.shape.classes → block < block_count f.shape → x ≡ slice_index_or f.states (class + f.shape.classes * block) x → shown f class block ≡ x
-found-shown f class block x i l m e =
-    get_or_from_slice_get f.states (class + f.shape.classes * block) x state.Open
-    (slice_get_read f.states (length f.states) (class + f.shape.classes * block) x refl (shown-within f class block i l m) e)
+pub shown-within : (s : Shape) (states : List PieceState) (class block : ℕ) → AreStates s states → class < s.classes → block < block_count s → class + s.classes * block < length states
+shown-within s states class block are l m =
+    let a = piece_at-below s class block l m in
+    let b : length states ≡ piece_count s = ap (λ (xs : List PieceState). length xs) are.2 ∙ length-below (λ p. entry p are.0) (piece_count s) in
+    omega arith

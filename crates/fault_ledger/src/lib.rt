@@ -11,6 +11,8 @@ mod closed;
 pub mod laws;
 mod sequential;
 mod shared;
+#[cfg(test)]
+mod shared_tests;
 mod states;
 #[cfg(test)]
 mod tests;

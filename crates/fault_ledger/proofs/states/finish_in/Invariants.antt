@@ -1,5 +1,5 @@
 use Rattle.fault_ledger.proofs.Finishes.{SettledBelow}
-use Rattle.fault_ledger.proofs.sequential.Ledger.finished.Given as goal
+use Rattle.fault_ledger.proofs.states.finish_in.Given as goal
 
 abbrev pub invariant-loop-class : goal.invariant-loop-class
-invariant-loop-class l = SettledBelow l.self l.class
+invariant-loop-class l = SettledBelow l.shape l.states l.class
