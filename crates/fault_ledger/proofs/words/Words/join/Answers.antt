@@ -11,7 +11,7 @@ join_seat-requires c =
     let w = c.self.inside.table.shared in
     let seat = c.into_seat.result in
     let at = group_place _ _ _ _ _ _ c.group.view_is c.requires.0 c.self.view_is in
-    let t = taken w.key w.table_id c.args.self.now c.args.token c.token.inside.badge c.token.inside.badge seat.table_id seat.id seat.me c.token.view_is c.token.invariant c.requires.1 c.self.view_is refl c.into_seat.ensures in (
+    let t = taken seat.me c.token.view_is c.token.invariant c.requires.1 c.self.view_is refl c.into_seat.ensures in (
       at.0,
       t.table_is,
       c.into_seat.ensures.3,

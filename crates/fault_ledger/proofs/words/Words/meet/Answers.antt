@@ -11,8 +11,8 @@ join_seat-requires c =
     let w = c.self.inside.table.shared in
     let x = c.into_seat-joining.result in
     let y = c.into_seat-both.result in
-    let first = taken w.key w.table_id c.args.self.now c.args.first.now c.first.inside.badge c.replace.result x.table_id x.id x.me c.first.view_is c.first.invariant c.requires.0 c.self.view_is c.replace.ensures.value c.into_seat-joining.ensures in
-    let second = taken w.key w.table_id c.args.self.now c.args.second.now c.second.inside.badge c.replace-2.result y.table_id y.id y.me c.second.view_is c.second.invariant c.requires.1 c.self.view_is c.replace-2.ensures.value c.into_seat-both.ensures in (
+    let first = taken x.me c.first.view_is c.first.invariant c.requires.0 c.self.view_is c.replace.ensures.value c.into_seat-joining.ensures in
+    let second = taken y.me c.second.view_is c.second.invariant c.requires.1 c.self.view_is c.replace-2.ensures.value c.into_seat-both.ensures in (
       second.table_is,
       first.table_is,
       c.into_seat-joining.ensures.3,
@@ -25,8 +25,8 @@ load-requires c =
     let w = c.self.inside.table.shared in
     let x = c.into_seat-joining.result in
     let y = c.into_seat-both.result in
-    let first = taken w.key w.table_id c.args.self.now c.args.first.now c.first.inside.badge c.replace.result x.table_id x.id x.me c.first.view_is c.first.invariant c.requires.0 c.self.view_is c.replace.ensures.value c.into_seat-joining.ensures in
-    let second = taken w.key w.table_id c.args.self.now c.args.second.now c.second.inside.badge c.replace-2.result y.table_id y.id y.me c.second.view_is c.second.invariant c.requires.1 c.self.view_is c.replace-2.ensures.value c.into_seat-both.ensures in (
+    let first = taken x.me c.first.view_is c.first.invariant c.requires.0 c.self.view_is c.replace.ensures.value c.into_seat-joining.ensures in
+    let second = taken y.me c.second.view_is c.second.invariant c.requires.1 c.self.view_is c.replace-2.ensures.value c.into_seat-both.ensures in (
       c.join_seat.ensures.0 ∙ second.table_is,
       (let n = c.self.invariant.0 in omega arith),
       both_allowed w.key w.table_id c.args.first.now c.args.second.now x.table_id y.table_id x.me y.me c.join_seat.new.seat.me first second c.join_seat.ensures.2 w.table_id.slots c.join_seat.new.seat.id,
@@ -36,7 +36,7 @@ pub split_seat-parted-requires : goal.split_seat-parted-requires
 split_seat-parted-requires c =
     let w = c.self.inside.table.shared in
     let y = c.into_seat-both.result in
-    let second = taken w.key w.table_id c.args.self.now c.args.second.now c.second.inside.badge c.replace-2.result y.table_id y.id y.me c.second.view_is c.second.invariant c.requires.1 c.self.view_is c.replace-2.ensures.value c.into_seat-both.ensures in (
+    let second = taken y.me c.second.view_is c.second.invariant c.requires.1 c.self.view_is c.replace-2.ensures.value c.into_seat-both.ensures in (
       c.load.ensures.0 ∙ c.join_seat.ensures.0 ∙ second.table_is,
       (let n = c.self.invariant.0 in omega arith),
       splits w.key _ _,
