@@ -1,5 +1,5 @@
 -- When a claim, a report or a drop is accepted, and what it is answered.
-use Rattle.std.proofs.Common.{◌≡◌, ℕ, ◌<◌, Bool, true, cond, ◌∷◌, [], ◌++◌, Some, None, sym, ap, ◌∙◌, subst, lt-ltb}
+use Rattle.std.proofs.Common.{◌≡◌, ℕ, ◌<◌, true, cond, ◌∷◌, [], ◌++◌, Some, None, sym, ap, ◌∙◌, subst, lt-ltb}
 use Rattle.patterns.specs.declared.Outcome.{Outcome}
 use Rattle.patterns.specs.Tests.{size_of}
 use Rattle.fault_ledger.specs.declared.Event.{Event}
@@ -9,7 +9,7 @@ use Rattle.fault_ledger.specs.declared.Claim.TheVariants as claim_is
 use Rattle.fault_ledger.specs.declared.Call.TheVariants as call
 use Rattle.fault_ledger.specs.declared.Reply.TheVariants.{Claimed, Done, Refused}
 use Rattle.fault_ledger.specs.History.{History, claims, held, piece_count, class_of, block_of, ContinuesWithout}
-use Rattle.fault_ledger.specs.Answer.{fits_size, has_earlier_hit, claim_reply, report_reply, drop_reply, answer, added, after}
+use Rattle.fault_ledger.specs.Answer.{fits_size, has_earlier_hit, claim_reply, report_reply, drop_reply, answer, after}
 use Rattle.fault_ledger.proofs.Legal.{report_accepted, drop_accepted, hit_kept}
 
 pub claim_answer : (s : Shape) (h : History) (w : ℕ) → w < s.workers → held w h ≡ None → claims h < piece_count s → answer s h (call.Claim w) ≡ Claimed (claim_is.Piece (class_of s (claims h)) (block_of s (claims h)))

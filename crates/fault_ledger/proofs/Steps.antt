@@ -1,5 +1,5 @@
 -- What each step of a token tells.
-use Rattle.std.proofs.Common.{◌≡◌, ℕ, ◌+◌, ◌-◌, ◌*◌, ◌^◌, ◌%◌, ◌<◌, ◌≤◌, Bool, true, false, cond, eqb, List, [], ◌∷◌, Some, None, refl, sym, ap, ◌∙◌, subst, arith, ne_eqb}
+use Rattle.std.proofs.Common.{◌≡◌, ℕ, ◌+◌, ◌-◌, ◌*◌, ◌^◌, ◌%◌, ◌<◌, true, false, cond, eqb, [], ◌∷◌, Some, None, refl, sym, ap, ◌∙◌, subst, arith, ne_eqb}
 use Rattle.std.proofs.Math.Nat.{min-le_left}
 use mathlib.Core.Option.{none}
 use Rattle.atomic_table.specs.Seated.{TableId}
@@ -14,7 +14,7 @@ use Rattle.fault_ledger.specs.declared.PieceState.TheVariants as state
 use Rattle.fault_ledger.specs.declared.Event.{Event}
 use Rattle.fault_ledger.specs.declared.Reply.TheVariants.{Done}
 use Rattle.fault_ledger.specs.declared.words.View.{View}
-use Rattle.fault_ledger.specs.History.{History, piece_count, block_of, state_of, held, entry, ContinuesWithout}
+use Rattle.fault_ledger.specs.History.{History, piece_count, block_of, state_of, held, entry}
 use Rattle.fault_ledger.specs.Answer.{fits_size, has_earlier_hit, answer, call_of, IsLegal}
 use Rattle.fault_ledger.specs.Seats.{Place, Sitter, sitter_at, Makes}
 use Rattle.fault_ledger.specs.Words.{word_of, state_at, one, post, IsKept, Adds, Claims, Reports, Drops, Looks, sitter}

@@ -1,4 +1,4 @@
-use Rattle.std.proofs.Common.{◌≡◌, ◌<◌, arith}
+use Rattle.std.proofs.Common.{arith}
 use Rattle.fault_ledger.proofs.Takes.{taken}
 use Rattle.fault_ledger.proofs.Steps.{claim_allowed}
 use Rattle.fault_ledger.proofs.words.Words.claim.Goals as goal

@@ -1,4 +1,4 @@
-use Rattle.std.proofs.Common.{◌≡◌, ◌+◌, ◌<◌, true, sym, subst, arith}
+use Rattle.std.proofs.Common.{◌≡◌, ◌<◌, true, sym, subst, arith}
 use Rattle.fault_ledger.specs.History.{piece_count}
 use Rattle.fault_ledger.specs.Answer.{has_earlier_hit}
 use Rattle.fault_ledger.specs.Seats.{Place}

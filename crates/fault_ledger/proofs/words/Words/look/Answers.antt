@@ -1,4 +1,4 @@
-use Rattle.std.proofs.Common.{◌≡◌, ◌+◌, ◌<◌, ◌∙◌, sym, subst, arith}
+use Rattle.std.proofs.Common.{◌+◌, ◌<◌, ◌∙◌, sym, subst, arith}
 use Rattle.fault_ledger.specs.History.{piece_count}
 use Rattle.fault_ledger.specs.Seats.{Place}
 use Rattle.fault_ledger.proofs.Takes.{taken}

@@ -1,4 +1,4 @@
-use Rattle.std.proofs.Common.{◌≡◌, ◌+◌, ◌<◌, true, sym, subst, arith}
+use Rattle.std.proofs.Common.{◌≡◌, ◌<◌, true, sym, subst, arith}
 use Rattle.patterns.specs.Tests.{size_of}
 use Rattle.fault_ledger.specs.History.{piece_count, block_of}
 use Rattle.fault_ledger.specs.Answer.{fits_size}
