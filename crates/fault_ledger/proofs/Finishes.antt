@@ -25,12 +25,12 @@ finish-past g a (suc m) n (suc all) b p q settled =
     ap (λ x. finish_from a (x ∷ map g (from_up (a + 1) all))) (settled a (omega arith) (omega arith)).1
     ∙ finish-past g (a + 1) m n all b (omega arith) (omega arith) (λ k l o. settled k (omega arith) o)
 
-finish-waits : (g : ℕ → Status) (n c b : ℕ) → c < n → ((k : ℕ) → k < c → (at : Option ℕ) × (g k ≡ status_is.Settled at)) → g c ≡ status_is.Waiting b → finish_from 0 (map g (below n)) ≡ finish_is.Waiting c b
+pub finish-waits : (g : ℕ → Status) (n c b : ℕ) → c < n → ((k : ℕ) → k < c → (at : Option ℕ) × (g k ≡ status_is.Settled at)) → g c ≡ status_is.Waiting b → finish_from 0 (map g (below n)) ≡ finish_is.Waiting c b
 finish-waits g n c b l settled e =
     finish-past g 0 c (suc (n - c - 1)) n c (omega arith) (omega arith) (λ k _ o. settled k o)
     ∙ ap (λ x. finish_from c (x ∷ map g (from_up (c + 1) (n - c - 1)))) e
 
-finish-all : (g : ℕ → Status) (n : ℕ) → ((k : ℕ) → k < n → (at : Option ℕ) × (g k ≡ status_is.Settled at)) → finish_from 0 (map g (below n)) ≡ finish_is.Finished
+pub finish-all : (g : ℕ → Status) (n : ℕ) → ((k : ℕ) → k < n → (at : Option ℕ) × (g k ≡ status_is.Settled at)) → finish_from 0 (map g (below n)) ≡ finish_is.Finished
 finish-all g n settled = finish-past g 0 n 0 n n (omega arith) (omega arith) (λ k _ o. settled k o)
 
 -- what the answer to a status call says

@@ -10,3 +10,4 @@ pub mod Replays
 pub mod Totals
 pub mod Tokens
 pub mod Sits
+pub mod Looks

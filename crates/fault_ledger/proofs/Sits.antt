@@ -148,3 +148,18 @@ exhausted_at a h i e all =
     let s = a.place.shape in
     let few : piece_count s ≤ claims h = omega arith in
     sym (claim_at a h None i e ∙ ap (λ b. cond b (Claimed (claim_is.Piece (class_of s (claims h)) (block_of s (claims h)))) (Claimed claim_is.Exhausted)) (le-ltb (claims h) (piece_count s) few))
+
+-- what a seat holds after it has seen more
+pub held_sees : (a b : Sitter) → Sees a a.told b → held b.worker b.seen ≡ held a.worker a.seen
+held_sees a b s = let h = b.seen in ap (λ (x : Sitter). held x.worker h) s.seat ∙ held_goes_on a.worker h a.seen s.newer
+
+-- a drop that finds no hit
+pub finds_nothing : (a b : Sitter) (p : ℕ) → IsSitter a → held a.worker a.seen ≡ Some p → Sees a a.told b
+    → (at : History) × ContinuesWithout a.worker at a.seen × ContinuesWithout a.worker b.seen at × (has_earlier_hit a.place.shape at p ≡ false) → FindsNoHit a b
+finds_nothing a b p i e s x = record {
+  sees = s;
+  at = x.0;
+  first = x.1;
+  later = x.2;
+  replied = sym (drop_at a x.0 (Some p) i (held_goes_on a.worker x.0 a.seen x.1 ∙ e) ∙ ap (λ c. cond c Done (Refused NoEarlierHit)) x.3);
+}

@@ -236,8 +236,20 @@ impl SharedLedger {
         ensures seen { Sees seat.old seat.old.told seat.new }
         ensures status { result ≡ status self.now.shape seat.new.seen class }
     {
+        self.status_of(&mut seat.token, class)
+    }
+
+    /// Looks at the blocks of a class, from block 0 up, to the first that isn't clear.
+    fn status_of(&self, token: &mut Token, class: u32) -> Status
+        requires place { token.old.place ≡ self.now }
+        requires sitter { IsSitter token.old }
+        requires range { class < self.now.shape.classes }
+        ensures seen { Sees token.old token.old.told token.new }
+        ensures status { result ≡ status self.now.shape token.new.seen class }
+    {
         for block in 0..self.shape.blocks() {
-            match self.look(seat, class, block) {
+            let piece = class + self.shape.classes * block;
+            match self.words.look(token, piece) {
                 PieceState::Clear => {}
                 PieceState::Hit(test) => return Status::Settled(Some(64 * block + test)),
                 PieceState::Open => return Status::Waiting(block),
@@ -257,7 +269,7 @@ impl SharedLedger {
         ensures finish { result ≡ finish self.now.shape seat.new.seen }
     {
         for class in 0..self.shape.classes {
-            if let Status::Waiting(block) = self.status(seat, class) {
+            if let Status::Waiting(block) = self.status_of(&mut seat.token, class) {
                 return Finish::Waiting { class, block };
             }
         }

@@ -5,6 +5,6 @@ use Rattle.fault_ledger.proofs.shared.SharedLedger.finished.Given as goal
 
 abbrev pub invariant-loop-class : goal.invariant-loop-class
 invariant-loop-class l = record {
-  sees : Sees l.fn.seat l.fn.seat.told l.seat;
-  settled : (k : ℕ) → k < l.class → (at : Option ℕ) × IsSettledAt l.self.shape l.seat.seen k at;
+  sees : Sees l.fn.seat l.fn.seat.told l.seat-inside.token;
+  settled : (k : ℕ) → k < l.class → (at : Option ℕ) × IsSettledAt l.self.shape l.seat-inside.token.seen k at;
 }
