@@ -11,3 +11,4 @@ pub mod Totals
 pub mod Tokens
 pub mod Sits
 pub mod Looks
+pub mod Deals

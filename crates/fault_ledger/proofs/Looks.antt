@@ -1,5 +1,5 @@
 -- What looks at the pieces of a class say of it.
-use Rattle.std.proofs.Common.{◌≡◌, ◌≢◌, ℕ, zero, suc, ◌+◌, ◌*◌, ◌<◌, ◌≤◌, Bool, true, false, true≢false, List, [], ◌∷◌, map, Option, None, refl, sym, ap, ◌∙◌, arith}
+use Rattle.std.proofs.Common.{◌≡◌, ◌≢◌, ℕ, zero, suc, ◌+◌, ◌*◌, ◌<◌, ◌≤◌, Bool, true, false, true≢false, List, [], ◌∷◌, map, Option, None, refl, sym, ap, ◌∙◌, subst, arith}
 use Rattle.patterns.specs.Least.{below}
 use Rattle.fault_ledger.specs.declared.Shape.{Shape}
 use Rattle.fault_ledger.specs.declared.PieceState.{PieceState}
@@ -9,9 +9,10 @@ use Rattle.fault_ledger.specs.History.{History, entry, block_count, piece_at, Co
 use Rattle.fault_ledger.specs.Answer.{is_hit, IsLegal}
 use Rattle.fault_ledger.specs.Settled.{status_from, IsSettledAt}
 use Rattle.fault_ledger.specs.Face.{shape_fault}
+use Rattle.fault_ledger.specs.Seats.{Sitter, Sees}
 use Rattle.fault_ledger.proofs.Histories.{entry_goes_on}
 use Rattle.fault_ledger.proofs.Legal.{never_first}
-use Rattle.fault_ledger.proofs.Sits.{few_pieces}
+use Rattle.fault_ledger.proofs.Sits.{few_pieces, sees_twice}
 
 pub not_hit : (x : PieceState) → ((k : ℕ) → x ≡ state.Hit k → ⊥) → is_hit x ≡ false
 not_hit state.Open n = refl
@@ -38,6 +39,22 @@ pub clear_stays : (s : Shape) (class n w : ℕ) (later earlier : History) → Co
 clear_stays s class n w later earlier c clear k l =
     let e = clear k l in
     entry_goes_on w (piece_at s class k) later earlier c (λ o. absurd (cc)) ∙ e
+
+-- what a look at the next block of a class shows, where the blocks before it were clear
+pub record LooksAt (s : Shape) (class n : ℕ) (a d : Sitter) (x : PieceState) : Type 0 where
+  pub within : n < block_count s
+  pub sees : Sees a a.told d
+  pub clear : ClearBelow s class n d.seen
+  pub found : entry (piece_at s class n) d.seen ≡ x
+
+pub looks_at : (own s : Shape) (class n count : ℕ) (a b d : Sitter) (x : PieceState) → own ≡ s → count ≡ block_count own → n < count → Sees a a.told b → ClearBelow s class n b.seen → Sees b b.told d
+    → x ≡ entry (class + own.classes * n) d.seen → LooksAt s class n a d x
+looks_at own s class n count a b d x is many l before clear sees e = record {
+  within = subst (λ (y : Shape). n < block_count y) is (omega arith);
+  sees = sees_twice a b d before sees;
+  clear = clear_stays s class n b.worker d.seen b.seen sees.newer clear;
+  found = sym (subst (λ (y : Shape). x ≡ entry (piece_at y class n) d.seen) is e);
+}
 
 -- behind clear pieces alone there is no skipped one
 pub skipped_not_first : (s : Shape) (class n : ℕ) (h : History) → IsLegal s h → class < s.classes → n < block_count s → ClearBelow s class n h → entry (piece_at s class n) h ≡ state.Skipped → ⊥
