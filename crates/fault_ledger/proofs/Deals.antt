@@ -1,11 +1,12 @@
 -- The seats of all workers, one by one.
-use Rattle.std.proofs.Common.{◌≡◌, ℕ, zero, suc, ◌+◌, ◌-◌, ◌<◌, false, true≢false, List, [], ◌∷◌, ◌++◌, map, None, refl, sym, ap, ◌∙◌, subst, arith, add-one}
+use Rattle.std.proofs.Common.{◌≡◌, ℕ, zero, suc, ◌+◌, ◌-◌, ◌<◌, false, true≢false, List, [], ◌∷◌, ◌++◌, map, All, None, refl, sym, ap, ◌∙◌, subst, arith, add-one}
+use Rattle.std.proofs.lemmas.List.Elements.{All-nil, All-cons}
 use Rattle.patterns.specs.Least.{from_up, below}
 use Rattle.fault_ledger.specs.declared.Shape.{Shape}
 use Rattle.fault_ledger.specs.declared.words.Post.{Post}
 use Rattle.fault_ledger.specs.Face.{shape_fault}
 use Rattle.fault_ledger.specs.Seats.{Place, Sitter, IsSeated, newcomer}
-use Rattle.fault_ledger.specs.Words.{post, post_of, newcomer_posts, first_post, others}
+use Rattle.fault_ledger.specs.Words.{post, post_of, newcomer_posts, first_post, others, ForEach}
 
 newcomers_first : (w n : ℕ) → w < n → newcomer_posts w (n - w) ≡ post w false [] ∷ newcomer_posts (w + 1) (n - (w + 1))
 newcomers_first w n l =
@@ -43,3 +44,8 @@ one_more f a (suc n) b e = ap (λ l. f a ∷ l) (one_more f (a + 1) n b (omega a
 pub deal_more : (p : Place) (w : ℕ) (seats now : List Sitter) (a : Sitter) → a ≡ newcomer p w → seats ≡ map (newcomer p) (below w) → now ≡ seats ++ a ∷ [] → now ≡ map (newcomer p) (below (w + 1))
 deal_more p w seats now a e all pushed =
     pushed ∙ (λ k. all k ++ e k ∷ []) ∙ one_more (newcomer p) 0 w w (omega arith) ∙ ap (λ n. map (newcomer p) (below n)) (sym (add-one w))
+
+-- what holds of each post holds of each seat
+pub of_each : (P : Post → Type 0) (seats : List Sitter) → ForEach P (map post_of seats) → All (λ a. P (post_of a)) seats
+of_each P [] f = All-nil (λ (a : Sitter). P (post_of a))
+of_each P (a ∷ seats) f = All-cons (λ (a : Sitter). P (post_of a)) a seats f.0 (of_each P seats f.1)
