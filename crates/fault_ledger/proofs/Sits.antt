@@ -1,23 +1,22 @@
 -- What a step of a seat's token means for the seat.
-use Rattle.std.proofs.Common.{◌≡◌, ℕ, ◌==◌, ◌+◌, ◌<◌, ◌≤◌, Bool, true, false, true≢false, cond, nat_lt, ◌∷◌, ◌++◌, Option, Some, None, is_some, refl, sym, ap, ◌∙◌, subst, arith, lt-ltb, le-ltb, eq-eqb}
+use Rattle.std.proofs.Common.{◌≡◌, ℕ, ◌==◌, ◌+◌, ◌<◌, ◌≤◌, Bool, true, false, true≢false, cond, nat_lt, ◌∷◌, ◌++◌, Option, Some, None, refl, sym, ap, ◌∙◌, subst, arith, lt-ltb, le-ltb, eq-eqb}
 use borrow.Author.Tests.{ltb-false}
 use Rattle.patterns.specs.declared.Outcome.{Outcome}
-use Rattle.patterns.specs.Tests.{size_of, max_pieces}
+use Rattle.patterns.specs.Tests.{max_pieces}
 use Rattle.fault_ledger.specs.declared.Shape.{Shape}
 use Rattle.fault_ledger.specs.declared.Event.{Event}
 use Rattle.fault_ledger.specs.declared.LedgerFault.TheVariants.{NoWorkers, TooManyWorkers, TooManyPieces}
-use Rattle.fault_ledger.specs.declared.Refusal.TheVariants.{NoSuchWorker, Holding, NothingHeld, BadOutcome, NoEarlierHit}
+use Rattle.fault_ledger.specs.declared.Refusal.TheVariants.{NoSuchWorker, NoEarlierHit}
 use Rattle.fault_ledger.specs.declared.Claim.TheVariants as claim_is
 use Rattle.fault_ledger.specs.declared.Call.TheVariants as call
 use Rattle.fault_ledger.specs.declared.Reply.{Reply}
 use Rattle.fault_ledger.specs.declared.Reply.TheVariants.{Claimed, Done, Refused}
 use Rattle.fault_ledger.specs.History.{History, claims, held, piece_count, class_of, block_of, ContinuesWithout}
-use Rattle.fault_ledger.specs.Answer.{answer, fits_size, has_earlier_hit, claim_reply, report_reply, drop_reply, call_of, IsLegal}
+use Rattle.fault_ledger.specs.Answer.{answer, has_earlier_hit, claim_reply, report_reply, drop_reply, call_of, IsLegal}
 use Rattle.fault_ledger.specs.Face.{shape_fault}
-use Rattle.fault_ledger.specs.Seats.{Sitter, IsSitter, IsSeated, Sees, Makes, Stays, FindsNoHit, sitter_at}
+use Rattle.fault_ledger.specs.Seats.{Sitter, IsSitter, IsSeated, Sees, Makes, FindsNoHit, sitter_at}
 use Rattle.fault_ledger.proofs.Histories.{claims_past, held_goes_on, goes_on_twice, goes_on_same}
 use Rattle.fault_ledger.proofs.Legal.{legal_claims, held_piece}
-use Rattle.fault_ledger.proofs.Pieces.{some_class}
 
 claims_go_on : (w : ℕ) (later earlier : History) → ContinuesWithout w later earlier → claims earlier ≤ claims later
 claims_go_on w later earlier c = subst (λ h. claims earlier ≤ claims h) (sym c.1) (claims_past c.0 earlier)
@@ -126,11 +125,6 @@ few_pieces s e = go (s.workers == 0) (nat_lt 64 s.workers) (nat_lt max_pieces (p
     go false true c x e = absurd (cc)
     go false false true x e = absurd (cc)
     go false false false x e = ltb-false max_pieces (piece_count s) x
-
--- what a place for a piece holds
-pub none_of : (o : Option ℕ) → is_some o ≡ false → o ≡ None
-none_of None e = refl
-none_of (Some p) e = absurd (cc)
 
 -- the replies after what a seat has seen
 pub claim_at : (a : Sitter) (h : History) (x : Option ℕ) → IsSitter a → held a.worker h ≡ x → answer a.place.shape h (call.Claim a.worker) ≡ claim_reply a.place.shape h x

@@ -7,7 +7,8 @@ use Rattle.fault_ledger.specs.History.{claims, held, piece_count}
 use Rattle.fault_ledger.specs.Answer.{answer}
 use Rattle.fault_ledger.specs.Seats.{Place, Sitter, Sees}
 use Rattle.fault_ledger.proofs.Histories.{held_goes_on}
-use Rattle.fault_ledger.proofs.Sits.{none_of, seated_ends, exhausted_at}
+use Rattle.fault_ledger.proofs.Faces.{none_of}
+use Rattle.fault_ledger.proofs.Sits.{seated_ends, exhausted_at}
 use Rattle.fault_ledger.proofs.shared.SharedLedger.claim.Goals as goal
 
 -- the step of a claim that finds no piece
@@ -37,5 +38,5 @@ returns-then-piece-pieces-clause-exhausted c = λ _ _.
     let free = held_goes_on i.token.worker now.seen i.token.seen e.1.newer ∙ sym c.seat.invariant.piece_is ∙ e.0 in (
       subst (λ (a : Sitter). Sees a true now) c.seat.view_is e.1,
       subst (λ (a : Sitter). Claimed claim_is.Exhausted ≡ answer a.place.shape now.seen (call.Claim a.worker)) c.seat.view_is (exhausted_at i.token now.seen c.seat.invariant.sitter free e.2)
-      ∙ ap (λ (p : Place). answer p.shape now.seen (call.Claim c.args.seat.now.worker)) c.requires,
+          ∙ ap (λ (p : Place). answer p.shape now.seen (call.Claim c.args.seat.now.worker)) c.requires,
     )
