@@ -18,3 +18,6 @@ pub mod Meetings
 pub mod Accepts
 pub mod Keeps
 pub mod Steps
+pub mod Sits
+pub mod Deals
+pub mod Searches

@@ -220,6 +220,7 @@ impl SharedLedger {
     pub fn look(&self, seat: &mut Seat, class: u32, block: u32) -> PieceState
         requires place { seat.old.place ≡ self.now }
         requires range { (class < self.now.shape.classes) × (block < block_count self.now.shape) }
+        ensures kept { (seat.new.place ≡ seat.old.place) × (seat.new.worker ≡ seat.old.worker) × (seat.new.told ≡ seat.old.told) }
         ensures seen { Sees seat.old seat.old.told seat.new }
         ensures state { result ≡ entry (piece_at self.now.shape class block) seat.new.seen }
     {
@@ -233,11 +234,24 @@ impl SharedLedger {
     pub fn status(&self, seat: &mut Seat, class: u32) -> Status
         requires place { seat.old.place ≡ self.now }
         requires range { class < self.now.shape.classes }
+        ensures kept { (seat.new.place ≡ seat.old.place) × (seat.new.worker ≡ seat.old.worker) × (seat.new.told ≡ seat.old.told) }
         ensures seen { Sees seat.old seat.old.told seat.new }
         ensures status { result ≡ status self.now.shape seat.new.seen class }
     {
+        self.status_of(&mut seat.token, class)
+    }
+
+    /// Looks at the blocks of a class, from block 0 up, to the first that isn't clear.
+    fn status_of(&self, token: &mut Token, class: u32) -> Status
+        requires place { token.old.place ≡ self.now }
+        requires sitter { IsSitter token.old }
+        requires range { class < self.now.shape.classes }
+        ensures seen { Sees token.old token.old.told token.new }
+        ensures status { result ≡ status self.now.shape token.new.seen class }
+    {
         for block in 0..self.shape.blocks() {
-            match self.look(seat, class, block) {
+            let piece = class + self.shape.classes * block;
+            match self.words.look(token, piece) {
                 PieceState::Clear => {}
                 PieceState::Hit(test) => return Status::Settled(Some(64 * block + test)),
                 PieceState::Open => return Status::Waiting(block),
@@ -253,11 +267,12 @@ impl SharedLedger {
     /// effect at its last look.
     pub fn finished(&self, seat: &mut Seat) -> Finish
         requires { seat.old.place ≡ self.now }
+        ensures kept { (seat.new.place ≡ seat.old.place) × (seat.new.worker ≡ seat.old.worker) × (seat.new.told ≡ seat.old.told) }
         ensures seen { Sees seat.old seat.old.told seat.new }
         ensures finish { result ≡ finish self.now.shape seat.new.seen }
     {
         for class in 0..self.shape.classes {
-            if let Status::Waiting(block) = self.status(seat, class) {
+            if let Status::Waiting(block) = self.status_of(&mut seat.token, class) {
                 return Finish::Waiting { class, block };
             }
         }
@@ -268,7 +283,9 @@ impl SharedLedger {
     /// done. It takes three looks at the cursor.
     pub fn meet(&self, first: &mut Seat, second: &mut Seat)
         requires { (first.old.place ≡ self.now) × (second.old.place ≡ self.now) }
-        ensures { Meets first.old second.old first.new second.new }
+        ensures first { (first.new.place ≡ first.old.place) × (first.new.worker ≡ first.old.worker) × (first.new.told ≡ first.old.told) }
+        ensures second { (second.new.place ≡ second.old.place) × (second.new.worker ≡ second.old.worker) × (second.new.told ≡ second.old.told) }
+        ensures met { Meets first.old second.old first.new second.new }
     {
         self.words.meet(&mut first.token, &mut second.token);
     }

@@ -1,0 +1,51 @@
+-- The seats of all workers, one by one.
+use Rattle.std.proofs.Common.{◌≡◌, ℕ, zero, suc, ◌+◌, ◌-◌, ◌<◌, false, true≢false, List, [], ◌∷◌, ◌++◌, map, All, None, refl, sym, ap, ◌∙◌, subst, arith, add-one}
+use Rattle.std.proofs.lemmas.List.Elements.{All-nil, All-cons}
+use Rattle.patterns.specs.Least.{from_up, below}
+use Rattle.fault_ledger.specs.declared.Shape.{Shape}
+use Rattle.fault_ledger.specs.declared.words.Post.{Post}
+use Rattle.fault_ledger.specs.Face.{shape_fault}
+use Rattle.fault_ledger.specs.Seats.{Place, Sitter, IsSeated, newcomer}
+use Rattle.fault_ledger.specs.Words.{post, post_of, newcomer_posts, first_post, others, ForEach}
+
+newcomers_first : (w n : ℕ) → w < n → newcomer_posts w (n - w) ≡ post w false [] ∷ newcomer_posts (w + 1) (n - (w + 1))
+newcomers_first w n l =
+    let e : n - w ≡ suc (n - (w + 1)) = omega arith in
+    ap (newcomer_posts w) e ∙ ap (λ k. post w false [] ∷ newcomer_posts k (n - (w + 1))) (sym (add-one w))
+
+-- the first of the workers from w on is a newcomer, and so are the others
+pub deal_first : (p : Place) (w n : ℕ) (posts rest : List Post) (a : Sitter) → w < n → posts ≡ newcomer_posts w (n - w) → posts ≡ post_of a ∷ rest → a.place ≡ p → a ≡ newcomer p w
+deal_first p w n posts rest a l is parts at =
+    let e : post_of a ≡ post w false [] = ap first_post (sym parts ∙ is ∙ newcomers_first w n l) in
+    λ k. record { place = at k; worker = (e k).worker; told = (e k).told; seen = (e k).seen }
+
+pub deal_others : (w n : ℕ) (posts rest : List Post) (a : Sitter) → w < n → posts ≡ newcomer_posts w (n - w) → posts ≡ post_of a ∷ rest → rest ≡ newcomer_posts (w + 1) (n - (w + 1))
+deal_others w n posts rest a l is parts = ap others (sym parts ∙ is ∙ newcomers_first w n l)
+
+-- what the seat of a newcomer keeps
+pub deal_seat : (p : Place) (s : Shape) (w : ℕ) (a : Sitter) → a ≡ newcomer p w → p.shape ≡ s → shape_fault s ≡ None → w < s.workers → IsSeated a w false s.classes None
+deal_seat p s w a e is limits l = subst (λ (x : Sitter). IsSeated x w false s.classes None) (sym e) (record {
+  sitter = record {
+    limits = subst (λ (x : Shape). shape_fault x ≡ None) (sym is) limits;
+    among = subst (λ (x : Shape). w < x.workers) (sym is) l;
+    legal = tt;
+    ended = λ t. absurd (true≢false (sym t));
+  };
+  worker_is = refl;
+  told_is = refl;
+  classes_is = ap (λ (x : Shape). x.classes) (sym is);
+  piece_is = refl;
+})
+
+one_more : {X : Type 0} (f : ℕ → X) (a n b : ℕ) → a + n ≡ b → map f (from_up a n) ++ f b ∷ [] ≡ map f (from_up a (suc n))
+one_more f a zero b e = ap (λ k. f k ∷ []) (let q : b ≡ a = omega arith in q)
+one_more f a (suc n) b e = ap (λ l. f a ∷ l) (one_more f (a + 1) n b (omega arith))
+
+pub deal_more : (p : Place) (w : ℕ) (seats now : List Sitter) (a : Sitter) → a ≡ newcomer p w → seats ≡ map (newcomer p) (below w) → now ≡ seats ++ a ∷ [] → now ≡ map (newcomer p) (below (w + 1))
+deal_more p w seats now a e all pushed =
+    pushed ∙ (λ k. all k ++ e k ∷ []) ∙ one_more (newcomer p) 0 w w (omega arith) ∙ ap (λ n. map (newcomer p) (below n)) (sym (add-one w))
+
+-- what holds of each post holds of each seat
+pub of_each : (P : Post → Type 0) (seats : List Sitter) → ForEach P (map post_of seats) → All (λ a. P (post_of a)) seats
+of_each P [] f = All-nil (λ (a : Sitter). P (post_of a))
+of_each P (a ∷ seats) f = All-cons (λ (a : Sitter). P (post_of a)) a seats f.0 (of_each P seats f.1)

@@ -1,0 +1,83 @@
+-- What looks at the pieces of a class say of it.
+use Rattle.std.proofs.Common.{◌≡◌, ◌≢◌, ℕ, zero, suc, ◌+◌, ◌*◌, ◌<◌, ◌≤◌, Bool, true, false, true≢false, List, [], ◌∷◌, map, Option, None, refl, sym, ap, ◌∙◌, subst, arith}
+use Rattle.patterns.specs.Least.{below}
+use Rattle.fault_ledger.specs.declared.Shape.{Shape}
+use Rattle.fault_ledger.specs.declared.PieceState.{PieceState}
+use Rattle.fault_ledger.specs.declared.PieceState.TheVariants as state
+use Rattle.fault_ledger.specs.declared.Status.TheVariants.{Settled}
+use Rattle.fault_ledger.specs.History.{History, entry, block_count, piece_at, ContinuesWithout}
+use Rattle.fault_ledger.specs.Answer.{is_hit, IsLegal}
+use Rattle.fault_ledger.specs.Settled.{status_from, IsSettledAt}
+use Rattle.fault_ledger.specs.Face.{shape_fault}
+use Rattle.fault_ledger.specs.Seats.{Sitter, Sees}
+use Rattle.fault_ledger.proofs.Histories.{entry_goes_on}
+use Rattle.fault_ledger.proofs.Legal.{never_first}
+use Rattle.fault_ledger.proofs.Sits.{few_pieces, sees_twice}
+
+pub not_hit : (x : PieceState) → ((k : ℕ) → x ≡ state.Hit k → ⊥) → is_hit x ≡ false
+not_hit state.Open n = refl
+not_hit state.Clear n = refl
+not_hit state.Skipped n = refl
+not_hit (state.Hit k) n = absurd (n k refl)
+
+-- a piece that is no hit was none before
+pub no_hit_before : (w p : ℕ) (later earlier : History) → ContinuesWithout w later earlier → is_hit (entry p later) ≡ false → is_hit (entry p earlier) ≡ false
+no_hit_before w p later earlier c e = go (is_hit (entry p earlier)) refl
+  where
+    go : (b : Bool) → is_hit (entry p earlier) ≡ b → is_hit (entry p earlier) ≡ false
+    go false x = x
+    go true x =
+        let same = entry_goes_on w p later earlier c (λ o. true≢false (sym x ∙ ap is_hit o)) in
+        absurd (true≢false (sym x ∙ ap is_hit (sym same) ∙ e))
+
+-- the first blocks of a class are clear
+abbrev pub ClearBelow : Shape → ℕ → ℕ → History → Type 0
+ClearBelow s class n h = (k : ℕ) → k < n → entry (piece_at s class k) h ≡ state.Clear
+
+-- what was clear stays clear
+pub clear_stays : (s : Shape) (class n w : ℕ) (later earlier : History) → ContinuesWithout w later earlier → ClearBelow s class n earlier → ClearBelow s class n later
+clear_stays s class n w later earlier c clear k l =
+    let e = clear k l in
+    entry_goes_on w (piece_at s class k) later earlier c (λ o. absurd (cc)) ∙ e
+
+-- what a look at the next block of a class shows, where the blocks before it were clear
+pub record LooksAt (s : Shape) (class n : ℕ) (a d : Sitter) (x : PieceState) : Type 0 where
+  pub within : n < block_count s
+  pub sees : Sees a a.told d
+  pub clear : ClearBelow s class n d.seen
+  pub found : entry (piece_at s class n) d.seen ≡ x
+
+pub looks_at : (own s : Shape) (class n count : ℕ) (a b d : Sitter) (x : PieceState) → own ≡ s → count ≡ block_count own → n < count → Sees a a.told b → ClearBelow s class n b.seen → Sees b b.told d
+    → x ≡ entry (class + own.classes * n) d.seen → LooksAt s class n a d x
+looks_at own s class n count a b d x is many l before clear sees e = record {
+  within = subst (λ (y : Shape). n < block_count y) is (omega arith);
+  sees = sees_twice a b d before sees;
+  clear = clear_stays s class n b.worker d.seen b.seen sees.newer clear;
+  found = sym (subst (λ (y : Shape). x ≡ entry (piece_at y class n) d.seen) is e);
+}
+
+-- behind clear pieces alone there is no skipped one
+pub skipped_not_first : (s : Shape) (class n : ℕ) (h : History) → IsLegal s h → class < s.classes → n < block_count s → ClearBelow s class n h → entry (piece_at s class n) h ≡ state.Skipped → ⊥
+skipped_not_first s class n h legal l m clear e = let r = never_first s h legal class n l m e in r.2 (clear r.0 r.1)
+
+pub few_blocks : (s : Shape) (class : ℕ) → shape_fault s ≡ None → class < s.classes → block_count s ≤ 4194304
+few_blocks s class e l = go s.classes l (few_pieces s e)
+  where
+    go : (n : ℕ) → class < n → n * block_count s ≤ 4194304 → block_count s ≤ 4194304
+    go zero l m = absurd (omega arith)
+    go (suc n) l m = omega arith
+
+settles : (f g : ℕ → PieceState) (b : ℕ) (xs : List ℕ) (at : Option ℕ) → ((k : ℕ) → f k ≢ state.Open → g k ≡ f k) → status_from b (map f xs) ≡ Settled at → status_from b (map g xs) ≡ Settled at
+settles f g b [] at same e = e
+settles f g b (x ∷ xs) at same e = go (f x) refl e (settles f g (b + 1) xs at same)
+  where
+    go : (y : PieceState) → f x ≡ y → status_from b (y ∷ map f xs) ≡ Settled at → (status_from (b + 1) (map f xs) ≡ Settled at → status_from (b + 1) (map g xs) ≡ Settled at) → status_from b (g x ∷ map g xs) ≡ Settled at
+    go state.Clear y e i = ap (λ z. status_from b (z ∷ map g xs)) (same x (λ o. absurd (cc)) ∙ y) ∙ i e
+    go (state.Hit k) y e i = ap (λ z. status_from b (z ∷ map g xs)) (same x (λ o. absurd (cc)) ∙ y) ∙ e
+    go state.Open y e i = absurd (cc)
+    go state.Skipped y e i = absurd (cc)
+
+-- a class that is settled stays settled at the same test
+pub settled_stays : (s : Shape) (class w : ℕ) (at : Option ℕ) (later earlier : History) → ContinuesWithout w later earlier → IsSettledAt s earlier class at → IsSettledAt s later class at
+settled_stays s class w at later earlier c e =
+    settles (λ b. entry (piece_at s class b) earlier) (λ b. entry (piece_at s class b) later) 0 (below (block_count s)) at (λ k n. entry_goes_on w (piece_at s class k) later earlier c n) e

@@ -1,0 +1,163 @@
+-- What a step of a seat's token means for the seat.
+use Rattle.std.proofs.Common.{◌≡◌, ℕ, ◌==◌, ◌+◌, ◌<◌, ◌≤◌, Bool, true, false, true≢false, cond, nat_lt, ◌∷◌, ◌++◌, Option, Some, None, refl, sym, ap, ◌∙◌, subst, arith, lt-ltb, le-ltb, eq-eqb}
+use borrow.Author.Tests.{ltb-false}
+use Rattle.patterns.specs.declared.Outcome.{Outcome}
+use Rattle.patterns.specs.Tests.{max_pieces}
+use Rattle.fault_ledger.specs.declared.Shape.{Shape}
+use Rattle.fault_ledger.specs.declared.Event.{Event}
+use Rattle.fault_ledger.specs.declared.LedgerFault.TheVariants.{NoWorkers, TooManyWorkers, TooManyPieces}
+use Rattle.fault_ledger.specs.declared.Refusal.TheVariants.{NoSuchWorker, NoEarlierHit}
+use Rattle.fault_ledger.specs.declared.Claim.TheVariants as claim_is
+use Rattle.fault_ledger.specs.declared.Call.TheVariants as call
+use Rattle.fault_ledger.specs.declared.Reply.{Reply}
+use Rattle.fault_ledger.specs.declared.Reply.TheVariants.{Claimed, Done, Refused}
+use Rattle.fault_ledger.specs.History.{History, claims, held, piece_count, class_of, block_of, ContinuesWithout}
+use Rattle.fault_ledger.specs.Answer.{answer, has_earlier_hit, claim_reply, report_reply, drop_reply, call_of, IsLegal}
+use Rattle.fault_ledger.specs.Face.{shape_fault}
+use Rattle.fault_ledger.specs.Seats.{Sitter, IsSitter, IsSeated, Sees, Makes, FindsNoHit, sitter_at}
+use Rattle.fault_ledger.proofs.Histories.{claims_past, held_goes_on, goes_on_twice, goes_on_same}
+use Rattle.fault_ledger.proofs.Legal.{legal_claims, held_piece}
+
+claims_go_on : (w : ℕ) (later earlier : History) → ContinuesWithout w later earlier → claims earlier ≤ claims later
+claims_go_on w later earlier c = subst (λ h. claims earlier ≤ claims h) (sym c.1) (claims_past c.0 earlier)
+
+-- where all pieces were claimed, they still are
+all_claimed : (s : Shape) (w : ℕ) (later earlier : History) → ContinuesWithout w later earlier → IsLegal s later → claims earlier ≡ piece_count s → claims later ≡ piece_count s
+all_claimed s w later earlier c l e = let a = legal_claims s later l in let b = claims_go_on w later earlier c in omega arith
+
+-- a seat that sees more
+pub sitter_sees : (a b : Sitter) → IsSitter a → Sees a a.told b → IsSitter b
+sitter_sees a b i s =
+    let h = b.seen in
+    subst IsSitter (sym s.seat) (record {
+      limits = i.limits;
+      among = i.among;
+      legal = s.legal;
+      ended = λ t. (held_goes_on a.worker h a.seen s.newer ∙ (i.ended t).0, all_claimed a.place.shape a.worker h a.seen s.newer s.legal (i.ended t).1);
+    })
+
+pub seated_sees : (a b : Sitter) (worker : ℕ) (told : Bool) (classes : ℕ) (piece : Option ℕ) → IsSeated a worker told classes piece → Sees a a.told b → IsSeated b worker told classes piece
+seated_sees a b worker told classes piece i s = record {
+  sitter = sitter_sees a b i.sitter s;
+  worker_is = i.worker_is ∙ ap (λ (x : Sitter). x.worker) (sym s.seat);
+  told_is = i.told_is ∙ ap (λ (x : Sitter). x.told) (sym s.seat);
+  classes_is = i.classes_is ∙ ap (λ (x : Sitter). x.place.shape.classes) (sym s.seat);
+  piece_is = i.piece_is ∙ sym (held_goes_on a.worker b.seen a.seen s.newer) ∙ ap (λ (x : Sitter). held x.worker b.seen) (sym s.seat);
+}
+
+-- a seat that is told that all pieces are claimed
+pub seated_ends : (a b : Sitter) (worker : ℕ) (told : Bool) (classes : ℕ) (piece : Option ℕ) → IsSeated a worker told classes piece → piece ≡ None → Sees a true b → claims b.seen ≡ piece_count a.place.shape
+    → IsSeated b worker true classes piece
+seated_ends a b worker told classes piece i none s all =
+    let h = b.seen in
+    let same = held_goes_on a.worker h a.seen s.newer in
+    subst (λ (x : Sitter). IsSeated x worker true classes piece) (sym s.seat) (record {
+      sitter = record { limits = i.sitter.limits; among = i.sitter.among; legal = s.legal; ended = λ t. (same ∙ sym i.piece_is ∙ none, all) };
+      worker_is = i.worker_is;
+      told_is = refl;
+      classes_is = i.classes_is;
+      piece_is = i.piece_is ∙ sym same;
+    })
+
+-- a seat with a new event, that was not told so
+pub seated_makes : (a b : Sitter) (e : Event) (r : Reply) (worker : ℕ) (told : Bool) (classes : ℕ) (was now : Option ℕ) → IsSeated a worker told classes was → Makes a e r b → told ≡ false → now ≡ held a.worker b.seen
+    → IsSeated b worker told classes now
+seated_makes a b e r worker told classes was now i m f is = subst (λ (x : Sitter). IsSeated x worker told classes now) (sym m.seat) (record {
+  sitter = record { limits = i.sitter.limits; among = i.sitter.among; legal = m.legal; ended = λ t. absurd (true≢false (sym t ∙ sym i.told_is ∙ f)) };
+  worker_is = i.worker_is;
+  told_is = i.told_is;
+  classes_is = i.classes_is;
+  piece_is = is ∙ ap (λ (x : Sitter). held a.worker x.seen) m.seat;
+})
+
+-- a seat that holds a piece was not told so
+pub holder_goes_on : (a : Sitter) (worker : ℕ) (told : Bool) (classes : ℕ) (piece : Option ℕ) (p : ℕ) → IsSeated a worker told classes piece → piece ≡ Some p → told ≡ false
+holder_goes_on a worker told classes piece p i e = go told refl
+  where
+    go : (b : Bool) → told ≡ b → told ≡ false
+    go false x = x
+    go true x = let n = (i.sitter.ended (sym i.told_is ∙ x)).0 in absurd (cc)
+
+-- a piece that a seat holds is one of the pieces
+pub seated_piece : (a : Sitter) (worker : ℕ) (told : Bool) (classes : ℕ) (piece : Option ℕ) (p : ℕ) → IsSeated a worker told classes piece → piece ≡ Some p → p < piece_count a.place.shape
+seated_piece a worker told classes piece p i e = held_piece a.place.shape a.worker p a.seen i.sitter.legal (sym i.piece_is ∙ e)
+
+-- the event takes the piece from its worker
+pub reported_none : (a b : Sitter) (o : Outcome) (r : Reply) → Makes a (Event.Report a.worker o) r b → None ≡ held a.worker b.seen
+reported_none a b o r m = sym (ap (λ (x : Sitter). held a.worker x.seen) m.seat ∙ ap (λ x. cond x None (held a.worker m.before)) (eq-eqb a.worker a.worker refl))
+
+pub dropped_none : (a b : Sitter) (r : Reply) → Makes a (Event.Drop a.worker) r b → None ≡ held a.worker b.seen
+dropped_none a b r m = sym (ap (λ (x : Sitter). held a.worker x.seen) m.seat ∙ ap (λ x. cond x None (held a.worker m.before)) (eq-eqb a.worker a.worker refl))
+
+-- looks, and then an event
+pub makes_after : (a b d : Sitter) (e : Event) (r : Reply) → Sees a a.told b → Makes b e r d → Makes a e r d
+makes_after a b d e r s m =
+    let h = b.seen in
+    let go = subst (λ (x : Sitter). Makes x e r d) s.seat m in
+    record {
+      before = go.before;
+      seat = go.seat;
+      newer = goes_on_twice a.worker go.before h a.seen go.newer s.newer;
+      legal = go.legal;
+      replied = go.replied;
+    }
+
+-- the same looks twice
+pub sees_twice : (a b d : Sitter) → Sees a a.told b → Sees b b.told d → Sees a a.told d
+sees_twice a b d s t =
+    let h = b.seen in
+    let go = subst (λ (x : Sitter). Sees x x.told d) s.seat t in
+    record {
+      seat = go.seat;
+      newer = goes_on_twice a.worker d.seen h a.seen go.newer s.newer;
+      legal = go.legal;
+    }
+
+pub sees_same : (a : Sitter) → IsSitter a → Sees a a.told a
+sees_same a i = record { seat = refl; newer = goes_on_same a.worker a.seen; legal = i.legal }
+
+-- there are few pieces and workers
+pub few_pieces : (s : Shape) → shape_fault s ≡ None → piece_count s ≤ 4194304
+few_pieces s e = go (s.workers == 0) (nat_lt 64 s.workers) (nat_lt max_pieces (piece_count s)) refl e
+  where
+    go : (a b c : Bool) → nat_lt max_pieces (piece_count s) ≡ c → cond a (Some NoWorkers) (cond b (Some TooManyWorkers) (cond c (Some TooManyPieces) None)) ≡ None → piece_count s ≤ max_pieces
+    go true b c x e = absurd (cc)
+    go false true c x e = absurd (cc)
+    go false false true x e = absurd (cc)
+    go false false false x e = ltb-false max_pieces (piece_count s) x
+
+-- the replies after what a seat has seen
+pub claim_at : (a : Sitter) (h : History) (x : Option ℕ) → IsSitter a → held a.worker h ≡ x → answer a.place.shape h (call.Claim a.worker) ≡ claim_reply a.place.shape h x
+claim_at a h x i e = ap (λ b. cond b (claim_reply a.place.shape h (held a.worker h)) (Refused NoSuchWorker)) (lt-ltb a.worker a.place.shape.workers i.among) ∙ ap (claim_reply a.place.shape h) e
+
+pub report_at : (a : Sitter) (o : Outcome) (h : History) (x : Option ℕ) → IsSitter a → held a.worker h ≡ x → answer a.place.shape h (call.Report a.worker o) ≡ report_reply a.place.shape o x
+report_at a o h x i e = ap (λ b. cond b (report_reply a.place.shape o (held a.worker h)) (Refused NoSuchWorker)) (lt-ltb a.worker a.place.shape.workers i.among) ∙ ap (report_reply a.place.shape o) e
+
+pub drop_at : (a : Sitter) (h : History) (x : Option ℕ) → IsSitter a → held a.worker h ≡ x → answer a.place.shape h (call.Drop a.worker) ≡ drop_reply a.place.shape h x
+drop_at a h x i e = ap (λ b. cond b (drop_reply a.place.shape h (held a.worker h)) (Refused NoSuchWorker)) (lt-ltb a.worker a.place.shape.workers i.among) ∙ ap (drop_reply a.place.shape h) e
+
+-- a claim where all pieces are claimed
+pub exhausted_at : (a : Sitter) (h : History) → IsSitter a → held a.worker h ≡ None → claims h ≡ piece_count a.place.shape → Claimed claim_is.Exhausted ≡ answer a.place.shape h (call.Claim a.worker)
+exhausted_at a h i e all =
+    let s = a.place.shape in
+    let few : piece_count s ≤ claims h = omega arith in
+    sym (claim_at a h None i e ∙ ap (λ b. cond b (Claimed (claim_is.Piece (class_of s (claims h)) (block_of s (claims h)))) (Claimed claim_is.Exhausted)) (le-ltb (claims h) (piece_count s) few))
+
+-- what a seat holds after it has seen more
+pub held_sees : (a b : Sitter) → Sees a a.told b → held b.worker b.seen ≡ held a.worker a.seen
+held_sees a b s = let h = b.seen in ap (λ (x : Sitter). held x.worker h) s.seat ∙ held_goes_on a.worker h a.seen s.newer
+
+-- a drop that finds no hit
+pub finds_nothing : (a b : Sitter) (p : ℕ) → IsSitter a → held a.worker a.seen ≡ Some p → Sees a a.told b
+    → (at : History) × ContinuesWithout a.worker at a.seen × ContinuesWithout a.worker b.seen at × (has_earlier_hit a.place.shape at p ≡ false) → FindsNoHit a b
+finds_nothing a b p i e s x = record {
+  sees = s;
+  at = x.0;
+  first = x.1;
+  later = x.2;
+  replied = sym (drop_at a x.0 (Some p) i (held_goes_on a.worker x.0 a.seen x.1 ∙ e) ∙ ap (λ c. cond c Done (Refused NoEarlierHit)) x.3);
+}
+
+-- where it sits stays
+pub sees_kept : (a b : Sitter) → Sees a a.told b → (b.place ≡ a.place) × (b.worker ≡ a.worker) × (b.told ≡ a.told)
+sees_kept a b sees = (ap (λ (x : Sitter). x.place) sees.seat, ap (λ (x : Sitter). x.worker) sees.seat, ap (λ (x : Sitter). x.told) sees.seat)

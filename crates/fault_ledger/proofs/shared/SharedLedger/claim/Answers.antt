@@ -1,0 +1,42 @@
+use Rattle.std.proofs.Common.{◌≡◌, ◌≤◌, true, None, ap, sym, ◌∙◌, subst, arith}
+use Rattle.fault_ledger.specs.declared.Shape.{Shape}
+use Rattle.fault_ledger.specs.declared.Claim.TheVariants as claim_is
+use Rattle.fault_ledger.specs.declared.Call.TheVariants as call
+use Rattle.fault_ledger.specs.declared.Reply.TheVariants.{Claimed}
+use Rattle.fault_ledger.specs.History.{claims, held, piece_count}
+use Rattle.fault_ledger.specs.Answer.{answer}
+use Rattle.fault_ledger.specs.Seats.{Place, Sitter, Sees}
+use Rattle.fault_ledger.proofs.Histories.{held_goes_on}
+use Rattle.fault_ledger.proofs.Faces.{none_of}
+use Rattle.fault_ledger.proofs.Sits.{seated_ends, exhausted_at}
+use Rattle.fault_ledger.proofs.shared.SharedLedger.claim.Goals as goal
+
+-- the step of a claim that finds no piece
+abbrev Ends : goal.After-seat-1 → Type 0
+Ends c = let i = c.seat.inside in let now = c.claim-piece.new.token in (i.piece ≡ None) × Sees i.token true now × (claims now.seen ≡ piece_count i.token.place.shape)
+
+ends : (c : goal.After-seat-1) → Ends c
+ends c =
+    let i = c.seat.inside in
+    let s = c.self.inside in
+    let at : i.token.place ≡ s.words = ap (λ (a : Sitter). a.place) c.seat.view_is ∙ c.requires ∙ sym c.self.view_is in
+    let many : piece_count s.shape ≤ c.claim-piece.result = (let a = c.pieces.ensures in let b = c.if-piece-pieces.true in omega arith) in
+    let e = c.claim-piece.ensures.none (subst (λ (x : Shape). piece_count x ≤ c.claim-piece.result) (sym c.self.invariant) many) in
+    (none_of i.piece (sym c.is_some.ensures ∙ c.if-is_some.false), e.0, e.1 ∙ ap (λ (p : Place). piece_count p.shape) (sym at))
+
+pub invariant_of-seat : goal.invariant_of-seat
+invariant_of-seat c =
+    let i = c.seat.inside in
+    let e = ends c in
+    seated_ends i.token c.claim-piece.new.token i.worker i.told i.classes i.piece c.seat.invariant e.0 e.1 e.2
+
+pub returns-then-piece-pieces-clause-exhausted : goal.returns-then-piece-pieces-clause-exhausted
+returns-then-piece-pieces-clause-exhausted c = λ _ _.
+    let i = c.seat.inside in
+    let now = c.claim-piece.new.token in
+    let e = ends c in
+    let free = held_goes_on i.token.worker now.seen i.token.seen e.1.newer ∙ sym c.seat.invariant.piece_is ∙ e.0 in (
+      subst (λ (a : Sitter). Sees a true now) c.seat.view_is e.1,
+      subst (λ (a : Sitter). Claimed claim_is.Exhausted ≡ answer a.place.shape now.seen (call.Claim a.worker)) c.seat.view_is (exhausted_at i.token now.seen c.seat.invariant.sitter free e.2)
+          ∙ ap (λ (p : Place). answer p.shape now.seen (call.Claim c.args.seat.now.worker)) c.requires,
+    )

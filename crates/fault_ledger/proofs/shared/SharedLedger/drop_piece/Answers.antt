@@ -1,0 +1,51 @@
+use Rattle.std.proofs.Common.{◌≡◌, ◌<◌, false, ap, sym, ◌∙◌, subst}
+use Rattle.fault_ledger.specs.declared.Shape.{Shape}
+use Rattle.fault_ledger.specs.declared.Event.{Event}
+use Rattle.fault_ledger.specs.declared.Reply.TheVariants.{Done}
+use Rattle.fault_ledger.specs.History.{History, ContinuesWithout, piece_count}
+use Rattle.fault_ledger.specs.Answer.{has_earlier_hit}
+use Rattle.fault_ledger.specs.Seats.{Place, Sitter, FindsNoHit, Makes}
+use Rattle.fault_ledger.proofs.Sits.{seated_piece, seated_sees, held_sees, finds_nothing, makes_after}
+use Rattle.fault_ledger.proofs.shared.SharedLedger.drop_piece.Goals as goal
+
+pub finds_earlier_hit-requires-clause-piece : goal.finds_earlier_hit-requires-clause-piece
+finds_earlier_hit-requires-clause-piece c =
+    let i = c.seat.inside in
+    let at : i.token.place ≡ c.args.self.now = ap (λ (a : Sitter). a.place) c.seat.view_is ∙ c.requires in
+    subst (λ (p : Place). c.in-Some.piece < piece_count p.shape) at (seated_piece i.token i.worker i.told i.classes i.piece c.in-Some.piece c.seat.invariant c.in-Some.is)
+
+pub invariant_of-seat : goal.invariant_of-seat
+invariant_of-seat c =
+    let i = c.seat.inside in
+    seated_sees i.token c.finds_earlier_hit.new.token i.worker i.told i.classes i.piece c.seat.invariant c.finds_earlier_hit.ensures.sees
+
+pub returns-then-not-finds_earlier_hit-clause-no_earlier_hit : goal.returns-then-not-finds_earlier_hit-clause-no_earlier_hit
+returns-then-not-finds_earlier_hit-clause-no_earlier_hit c = λ _.
+    let i = c.seat.inside in
+    let a = i.token in
+    let now = c.finds_earlier_hit.new.token in
+    let p = c.in-Some.piece in
+    let f = c.finds_earlier_hit.ensures in
+    let at : a.place ≡ c.args.self.now = ap (λ (x : Sitter). x.place) c.seat.view_is ∙ c.requires in
+    let none = subst (λ (x : Place). (h : History) × ContinuesWithout a.worker h a.seen × ContinuesWithout a.worker now.seen h × (has_earlier_hit x.shape h p ≡ false)) (sym at) (f.missed c.if-not-finds_earlier_hit.true) in
+    subst (λ (x : Sitter). FindsNoHit x now) c.seat.view_is (finds_nothing a now p c.seat.invariant.sitter (sym c.seat.invariant.piece_is ∙ c.in-Some.is) f.sees none)
+
+pub drop_piece-requires-clause-held : goal.drop_piece-requires-clause-held
+drop_piece-requires-clause-held c =
+    let a = c.seat.inside.token in
+    held_sees a c.finds_earlier_hit.new.token c.finds_earlier_hit.ensures.sees ∙ sym c.seat.invariant.piece_is ∙ c.in-Some.is
+
+pub returns-clause-accepted : goal.returns-clause-accepted
+returns-clause-accepted c =
+    let a = c.seat.inside.token in
+    let b = c.finds_earlier_hit.new.token in
+    let d = c.drop_piece.new.token in
+    let sees = c.finds_earlier_hit.ensures.sees in
+    let makes = subst (λ w. Makes b (Event.Drop w) Done d) (ap (λ (x : Sitter). x.worker) sees.seat) c.drop_piece.ensures in
+    subst (λ (x : Sitter). Makes x (Event.Drop x.worker) Done d) c.seat.view_is (makes_after a b d (Event.Drop a.worker) Done sees makes)
+
+pub drop_piece-requires-clause-piece : goal.drop_piece-requires-clause-piece
+drop_piece-requires-clause-piece c =
+    let i = c.seat.inside in
+    let at : i.token.place ≡ c.self.inside.words = ap (λ (a : Sitter). a.place) c.seat.view_is ∙ c.requires ∙ sym c.self.view_is in
+    subst (λ (p : Place). c.in-Some.piece < piece_count p.shape) at (seated_piece i.token i.worker i.told i.classes i.piece c.in-Some.piece c.seat.invariant c.in-Some.is)

@@ -1,0 +1,7 @@
+use Rattle.fault_ledger.proofs.Sits.{seated_sees}
+use Rattle.fault_ledger.proofs.shared.SharedLedger.status.Goals as goal
+
+pub invariant_of-seat : goal.invariant_of-seat
+invariant_of-seat c =
+    let i = c.seat.inside in
+    seated_sees i.token c.status_of.new.token i.worker i.told i.classes i.piece c.seat.invariant c.status_of.ensures.seen
