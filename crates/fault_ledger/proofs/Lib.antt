@@ -10,5 +10,5 @@ pub mod Replays
 pub mod Totals
 pub mod Tokens
 pub mod Sits
-pub mod Looks
+pub mod Classes
 pub mod Deals

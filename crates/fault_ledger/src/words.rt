@@ -240,6 +240,7 @@ impl Words {
     /// One atomic step: the word of the worker's piece is stored.
     pub(crate) fn report(&self, token: &mut Token, piece: u32, outcome: Outcome)
         requires place { token.old.place ≡ self.now }
+        requires piece { piece < piece_count self.now.shape }
         requires held { held token.old.worker token.old.seen ≡ Some piece }
         requires fits { fits_size (size_of self.now.shape.tests (block_of self.now.shape piece)) outcome ≡ true }
         ensures { Makes token.old (Event.Report token.old.worker outcome) Done token.new }
@@ -255,6 +256,7 @@ impl Words {
     /// block of the piece's class.
     pub(crate) fn drop_piece(&self, token: &mut Token, piece: u32)
         requires place { token.old.place ≡ self.now }
+        requires piece { piece < piece_count self.now.shape }
         requires held { held token.old.worker token.old.seen ≡ Some piece }
         requires hit { has_earlier_hit self.now.shape token.old.seen piece ≡ true }
         ensures { Makes token.old (Event.Drop token.old.worker) Done token.new }

@@ -43,3 +43,9 @@ returns-clause-accepted c =
     let sees = c.finds_earlier_hit.ensures.sees in
     let makes = subst (λ w. Makes b (Event.Drop w) Done d) (ap (λ (x : Sitter). x.worker) sees.seat) c.drop_piece.ensures in
     subst (λ (x : Sitter). Makes x (Event.Drop x.worker) Done d) c.seat.view_is (makes_after a b d (Event.Drop a.worker) Done sees makes)
+
+pub drop_piece-requires-clause-piece : goal.drop_piece-requires-clause-piece
+drop_piece-requires-clause-piece c =
+    let i = c.seat.inside in
+    let at : i.token.place ≡ c.self.inside.words = ap (λ (a : Sitter). a.place) c.seat.view_is ∙ c.requires ∙ sym c.self.view_is in
+    subst (λ (p : Place). c.in-Some.piece < piece_count p.shape) at (seated_piece i.token i.worker i.told i.classes i.piece c.in-Some.piece c.seat.invariant c.in-Some.is)

@@ -19,3 +19,9 @@ nonzero_div-piece c = some_class c.self.inside.shape c.in-Some.piece (in_range c
 
 pub size_of-size-requires : goal.size_of-size-requires
 size_of-size-requires c = block_of-below c.self.inside.shape c.in-Some.piece (in_range c)
+
+pub report-requires-clause-piece : goal.report-requires-clause-piece
+report-requires-clause-piece c =
+    let i = c.seat.inside in
+    let at : i.token.place ≡ c.self.inside.words = ap (λ (a : Sitter). a.place) c.seat.view_is ∙ c.requires ∙ sym c.self.view_is in
+    subst (λ (p : Place). c.in-Some.piece < piece_count p.shape) at (seated_piece i.token i.worker i.told i.classes i.piece c.in-Some.piece c.seat.invariant c.in-Some.is)
