@@ -1,5 +1,5 @@
 -- What a step of a seat's token means for the seat.
-use Rattle.std.proofs.Common.{◌≡◌, ℕ, ◌==◌, ◌+◌, ◌<◌, ◌≤◌, Bool, true, false, cond, nat_lt, ◌∷◌, ◌++◌, Option, Some, None, refl, sym, ap, ◌∙◌, subst, arith, lt-ltb, le-ltb}
+use Rattle.std.proofs.Common.{◌≡◌, ℕ, ◌==◌, ◌<◌, ◌≤◌, Bool, true, false, cond, nat_lt, Option, Some, None, refl, sym, ap, ◌∙◌, subst, arith, lt-ltb, le-ltb}
 use borrow.Author.Tests.{ltb-false}
 use Rattle.patterns.specs.Tests.{max_pieces}
 use Rattle.fault_ledger.specs.declared.Shape.{Shape}
@@ -13,7 +13,7 @@ use Rattle.fault_ledger.specs.declared.Reply.TheVariants.{Claimed, Done, Refused
 use Rattle.fault_ledger.specs.History.{History, claims, held, piece_count, class_of, block_of, ContinuesWithout}
 use Rattle.fault_ledger.specs.Answer.{answer, has_earlier_hit, claim_reply, drop_reply, IsLegal}
 use Rattle.fault_ledger.specs.Face.{shape_fault}
-use Rattle.fault_ledger.specs.Seats.{Sitter, IsSitter, IsSeated, Sees, Makes, FindsNoHit, sitter_at}
+use Rattle.fault_ledger.specs.Seats.{Sitter, IsSitter, IsSeated, Sees, Makes, FindsNoHit}
 use Rattle.fault_ledger.proofs.Histories.{claims_past, held_goes_on, goes_on_twice, goes_on_same}
 use Rattle.fault_ledger.proofs.Legal.{legal_claims, held_piece}
 

@@ -1,4 +1,4 @@
-use Rattle.std.proofs.Common.{◌≡◌, [], ◌∷◌, ◌++◌, ap, ◌∙◌, append_assoc}
+use Rattle.std.proofs.Common.{[], ◌∷◌, ◌++◌, ap, ◌∙◌, append_assoc}
 use Rattle.fault_ledger.specs.Seats.{Sitter}
 use Rattle.fault_ledger.proofs.Deals.{seat_place}
 use Rattle.fault_ledger.proofs.shared.group_of.Goals as goal

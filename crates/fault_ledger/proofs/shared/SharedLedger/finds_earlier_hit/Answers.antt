@@ -1,4 +1,4 @@
-use Rattle.std.proofs.Common.{◌≡◌, ℕ, ◌+◌, ◌*◌, ◌/◌, ◌%◌, ◌<◌, true, false, sym, ap, ◌∙◌, subst, arith, below_more}
+use Rattle.std.proofs.Common.{◌≡◌, ℕ, ◌/◌, ◌%◌, ◌<◌, true, false, sym, ap, ◌∙◌, subst, arith, below_more}
 use Rattle.fault_ledger.specs.declared.Shape.{Shape}
 use Rattle.fault_ledger.specs.History.{class_of, block_of, piece_at, entry}
 use Rattle.fault_ledger.specs.Answer.{is_hit, has_earlier_hit}
