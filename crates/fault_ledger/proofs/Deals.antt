@@ -1,14 +1,16 @@
 -- The seats of all workers, one by one.
-use Rattle.std.proofs.Common.{◌≡◌, ℕ, zero, suc, ◌+◌, ◌-◌, ◌<◌, false, true≢false, List, [], ◌∷◌, ◌++◌, map, All, None, refl, sym, ap, ◌∙◌, subst, arith, add-one}
-use Rattle.std.proofs.lemmas.List.Elements.{All-nil, All-cons}
+use Rattle.std.proofs.Common.{◌≡◌, ℕ, zero, suc, ◌+◌, ◌-◌, ◌<◌, false, true≢false, List, [], ◌∷◌, ◌++◌, map, length, get_or, All, None, refl, sym, ap, ◌∙◌, subst, arith, add-one, length-append}
+use Rattle.std.proofs.Math.Seq.{get_or-append_seam}
+use Rattle.std.proofs.lemmas.List.Elements.{All-nil, All-cons, All-map}
 use Rattle.patterns.specs.Least.{from_up, below}
 use Rattle.fault_ledger.specs.declared.Shape.{Shape}
 use Rattle.fault_ledger.specs.declared.words.Post.{Post}
 use Rattle.fault_ledger.specs.Face.{shape_fault}
-use Rattle.fault_ledger.specs.Seats.{Place, Sitter, IsSeated, newcomer}
+use Rattle.fault_ledger.specs.Seats.{Place, Sitter, IsSeated, newcomer, newcomers}
 use Rattle.fault_ledger.specs.Words.{post, post_of, newcomer_posts, first_post, others, ForEach}
 
-newcomers_first : (w n : ℕ) → w < n → newcomer_posts w (n - w) ≡ post w false [] ∷ newcomer_posts (w + 1) (n - (w + 1))
+-- the first of the workers from w on
+pub newcomers_first : (w n : ℕ) → w < n → newcomer_posts w (n - w) ≡ post w false [] ∷ newcomer_posts (w + 1) (n - (w + 1))
 newcomers_first w n l =
     let e : n - w ≡ suc (n - (w + 1)) = omega arith in
     ap (newcomer_posts w) e ∙ ap (λ k. post w false [] ∷ newcomer_posts k (n - (w + 1))) (sym (add-one w))
@@ -49,3 +51,14 @@ deal_more p w seats now a e all pushed =
 pub of_each : (P : Post → Type 0) (seats : List Sitter) → ForEach P (map post_of seats) → All (λ a. P (post_of a)) seats
 of_each P [] f = All-nil (λ (a : Sitter). P (post_of a))
 of_each P (a ∷ seats) f = All-cons (λ (a : Sitter). P (post_of a)) a seats f.0 (of_each P seats f.1)
+
+-- each of the seats came from this ledger
+pub seat_place : (p : Place) (seats before after : List Sitter) (a : Sitter) → All (λ s. s.place ≡ p) seats → seats ≡ before ++ a ∷ after → a.place ≡ p
+seat_place p seats before after a all e =
+    let within : length before < length seats = omega (arith, ap (λ (l : List Sitter). length l) e, length-append before (a ∷ after)) in
+    let at : get_or seats (length before) a ≡ a = ap (λ l. get_or l (length before) a) e ∙ get_or-append_seam before a after a in
+    ap (λ (s : Sitter). s.place) (sym at) ∙ all (length before) a within
+
+-- the seats of a new ledger are its own
+pub newcomers_placed : (p : Place) (seats : List Sitter) → seats ≡ newcomers p → All (λ seat. seat.place ≡ p) seats
+newcomers_placed p seats is = subst (All (λ seat. seat.place ≡ p)) (sym is) (All-map (λ seat. seat.place ≡ p) (newcomer p) (below p.shape.workers) (λ k d l. refl))

@@ -19,5 +19,5 @@ pub mod Accepts
 pub mod Keeps
 pub mod Steps
 pub mod Sits
+pub mod Classes
 pub mod Deals
-pub mod Searches

@@ -1,7 +1,6 @@
 -- What a step of a seat's token means for the seat.
-use Rattle.std.proofs.Common.{◌≡◌, ℕ, ◌==◌, ◌+◌, ◌<◌, ◌≤◌, Bool, true, false, true≢false, cond, nat_lt, ◌∷◌, ◌++◌, Option, Some, None, refl, sym, ap, ◌∙◌, subst, arith, lt-ltb, le-ltb, eq-eqb}
+use Rattle.std.proofs.Common.{◌≡◌, ℕ, ◌==◌, ◌<◌, ◌≤◌, Bool, true, false, cond, nat_lt, Option, Some, None, refl, sym, ap, ◌∙◌, subst, arith, lt-ltb, le-ltb}
 use borrow.Author.Tests.{ltb-false}
-use Rattle.patterns.specs.declared.Outcome.{Outcome}
 use Rattle.patterns.specs.Tests.{max_pieces}
 use Rattle.fault_ledger.specs.declared.Shape.{Shape}
 use Rattle.fault_ledger.specs.declared.Event.{Event}
@@ -12,9 +11,9 @@ use Rattle.fault_ledger.specs.declared.Call.TheVariants as call
 use Rattle.fault_ledger.specs.declared.Reply.{Reply}
 use Rattle.fault_ledger.specs.declared.Reply.TheVariants.{Claimed, Done, Refused}
 use Rattle.fault_ledger.specs.History.{History, claims, held, piece_count, class_of, block_of, ContinuesWithout}
-use Rattle.fault_ledger.specs.Answer.{answer, has_earlier_hit, claim_reply, report_reply, drop_reply, call_of, IsLegal}
+use Rattle.fault_ledger.specs.Answer.{answer, has_earlier_hit, claim_reply, drop_reply, IsLegal}
 use Rattle.fault_ledger.specs.Face.{shape_fault}
-use Rattle.fault_ledger.specs.Seats.{Sitter, IsSitter, IsSeated, Sees, Makes, FindsNoHit, sitter_at}
+use Rattle.fault_ledger.specs.Seats.{Sitter, IsSitter, IsSeated, Sees, Makes, FindsNoHit}
 use Rattle.fault_ledger.proofs.Histories.{claims_past, held_goes_on, goes_on_twice, goes_on_same}
 use Rattle.fault_ledger.proofs.Legal.{legal_claims, held_piece}
 
@@ -59,35 +58,9 @@ seated_ends a b worker told classes piece i none s all =
       piece_is = i.piece_is ∙ sym same;
     })
 
--- a seat with a new event, that was not told so
-pub seated_makes : (a b : Sitter) (e : Event) (r : Reply) (worker : ℕ) (told : Bool) (classes : ℕ) (was now : Option ℕ) → IsSeated a worker told classes was → Makes a e r b → told ≡ false → now ≡ held a.worker b.seen
-    → IsSeated b worker told classes now
-seated_makes a b e r worker told classes was now i m f is = subst (λ (x : Sitter). IsSeated x worker told classes now) (sym m.seat) (record {
-  sitter = record { limits = i.sitter.limits; among = i.sitter.among; legal = m.legal; ended = λ t. absurd (true≢false (sym t ∙ sym i.told_is ∙ f)) };
-  worker_is = i.worker_is;
-  told_is = i.told_is;
-  classes_is = i.classes_is;
-  piece_is = is ∙ ap (λ (x : Sitter). held a.worker x.seen) m.seat;
-})
-
--- a seat that holds a piece was not told so
-pub holder_goes_on : (a : Sitter) (worker : ℕ) (told : Bool) (classes : ℕ) (piece : Option ℕ) (p : ℕ) → IsSeated a worker told classes piece → piece ≡ Some p → told ≡ false
-holder_goes_on a worker told classes piece p i e = go told refl
-  where
-    go : (b : Bool) → told ≡ b → told ≡ false
-    go false x = x
-    go true x = let n = (i.sitter.ended (sym i.told_is ∙ x)).0 in absurd (cc)
-
 -- a piece that a seat holds is one of the pieces
 pub seated_piece : (a : Sitter) (worker : ℕ) (told : Bool) (classes : ℕ) (piece : Option ℕ) (p : ℕ) → IsSeated a worker told classes piece → piece ≡ Some p → p < piece_count a.place.shape
 seated_piece a worker told classes piece p i e = held_piece a.place.shape a.worker p a.seen i.sitter.legal (sym i.piece_is ∙ e)
-
--- the event takes the piece from its worker
-pub reported_none : (a b : Sitter) (o : Outcome) (r : Reply) → Makes a (Event.Report a.worker o) r b → None ≡ held a.worker b.seen
-reported_none a b o r m = sym (ap (λ (x : Sitter). held a.worker x.seen) m.seat ∙ ap (λ x. cond x None (held a.worker m.before)) (eq-eqb a.worker a.worker refl))
-
-pub dropped_none : (a b : Sitter) (r : Reply) → Makes a (Event.Drop a.worker) r b → None ≡ held a.worker b.seen
-dropped_none a b r m = sym (ap (λ (x : Sitter). held a.worker x.seen) m.seat ∙ ap (λ x. cond x None (held a.worker m.before)) (eq-eqb a.worker a.worker refl))
 
 -- looks, and then an event
 pub makes_after : (a b d : Sitter) (e : Event) (r : Reply) → Sees a a.told b → Makes b e r d → Makes a e r d
@@ -129,9 +102,6 @@ few_pieces s e = go (s.workers == 0) (nat_lt 64 s.workers) (nat_lt max_pieces (p
 -- the replies after what a seat has seen
 pub claim_at : (a : Sitter) (h : History) (x : Option ℕ) → IsSitter a → held a.worker h ≡ x → answer a.place.shape h (call.Claim a.worker) ≡ claim_reply a.place.shape h x
 claim_at a h x i e = ap (λ b. cond b (claim_reply a.place.shape h (held a.worker h)) (Refused NoSuchWorker)) (lt-ltb a.worker a.place.shape.workers i.among) ∙ ap (claim_reply a.place.shape h) e
-
-pub report_at : (a : Sitter) (o : Outcome) (h : History) (x : Option ℕ) → IsSitter a → held a.worker h ≡ x → answer a.place.shape h (call.Report a.worker o) ≡ report_reply a.place.shape o x
-report_at a o h x i e = ap (λ b. cond b (report_reply a.place.shape o (held a.worker h)) (Refused NoSuchWorker)) (lt-ltb a.worker a.place.shape.workers i.among) ∙ ap (report_reply a.place.shape o) e
 
 pub drop_at : (a : Sitter) (h : History) (x : Option ℕ) → IsSitter a → held a.worker h ≡ x → answer a.place.shape h (call.Drop a.worker) ≡ drop_reply a.place.shape h x
 drop_at a h x i e = ap (λ b. cond b (drop_reply a.place.shape h (held a.worker h)) (Refused NoSuchWorker)) (lt-ltb a.worker a.place.shape.workers i.among) ∙ ap (drop_reply a.place.shape h) e

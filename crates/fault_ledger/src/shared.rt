@@ -92,6 +92,7 @@ impl SharedLedger {
     /// It is refused, in this order, with [`LedgerFault::NoWorkers`], with
     /// [`LedgerFault::TooManyWorkers`] above 64 workers, with [`LedgerFault::TooManyPieces`] above
     /// 4,194,304 pieces, and with [`LedgerFault::Memory`].
+    #[tactic(auto, using(crate::proofs::Deals::newcomers_placed))]
     pub fn new(
         alloc: Global,
         classes: u32,
@@ -100,6 +101,7 @@ impl SharedLedger {
     ) -> Result<(SharedLedger, Vec<Seat>), LedgerFault>
         ensures ledger { IfOk result (λ made. made.0.shape ≡ shape_of classes tests workers) }
         ensures seats { IfOk result (λ made. made.1.items ≡ newcomers made.0) }
+        ensures places { IfOk result (λ made. All (λ seat. seat.place ≡ made.0) made.1.items) }
         ensures refused { (fault : LedgerFault) → shape_fault (shape_of classes tests workers) ≡ Some fault → result ≡ Err fault }
         ensures memory { shape_fault (shape_of classes tests workers) ≡ None → IfErr result (λ fault. fault ≡ LedgerFault.Memory) }
     {

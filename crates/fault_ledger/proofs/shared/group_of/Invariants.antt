@@ -1,4 +1,4 @@
-use Rattle.std.proofs.Common.{◌≡◌, ◌<◌, List, ◌++◌, map, length}
+use Rattle.std.proofs.Common.{◌≡◌, List, ◌++◌, map, length}
 use Rattle.fault_ledger.specs.Seats.{Sitter}
 use Rattle.fault_ledger.specs.Words.{post_of}
 use Rattle.fault_ledger.proofs.shared.group_of.Given as goal

@@ -1,7 +1,13 @@
-use Rattle.std.proofs.Common.{◌≡◌, ap, sym, ◌∙◌, subst}
-use Rattle.fault_ledger.specs.Seats.{Place, newcomer}
-use Rattle.fault_ledger.proofs.Deals.{deal_first, deal_others, deal_seat, deal_more}
+use Rattle.std.proofs.Common.{◌+◌, ◌-◌, false, [], ◌∙◌}
+use Rattle.fault_ledger.specs.Words.{post, newcomer_posts}
+use Rattle.fault_ledger.proofs.Deals.{newcomers_first, deal_first, deal_others, deal_seat, deal_more}
 use Rattle.fault_ledger.proofs.shared.seats_of.Goals as goal
+
+pub part-token-requires-clause-worker : goal.part-token-requires-clause-worker
+part-token-requires-clause-worker c =
+    let w = c.loop-worker.worker in
+    let n = c.args.shape.workers in
+    (post w false [], newcomer_posts (w + 1) (n - (w + 1)), c.loop-worker.invariant.posts ∙ newcomers_first w n c.loop-worker-test.true)
 
 pub invariant_of-push : goal.invariant_of-push
 invariant_of-push c =

@@ -1,4 +1,4 @@
-use Rattle.std.proofs.Common.{◌≡◌, ◌<◌, ap, sym, subst}
+use Rattle.std.proofs.Common.{◌<◌, sym, subst}
 use Rattle.fault_ledger.proofs.Pieces.{some_class}
 use Rattle.fault_ledger.proofs.Sits.{seated_piece}
 use Rattle.fault_ledger.proofs.shared.Seat.held.Goals as goal

@@ -3,7 +3,7 @@ use Rattle.fault_ledger.specs.declared.Shape.{Shape}
 use Rattle.fault_ledger.specs.declared.Claim.TheVariants as claim_is
 use Rattle.fault_ledger.specs.declared.Call.TheVariants as call
 use Rattle.fault_ledger.specs.declared.Reply.TheVariants.{Claimed}
-use Rattle.fault_ledger.specs.History.{claims, held, piece_count}
+use Rattle.fault_ledger.specs.History.{claims, piece_count}
 use Rattle.fault_ledger.specs.Answer.{answer}
 use Rattle.fault_ledger.specs.Seats.{Place, Sitter, Sees}
 use Rattle.fault_ledger.proofs.Histories.{held_goes_on}

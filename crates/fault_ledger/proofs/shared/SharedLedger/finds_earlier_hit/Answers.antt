@@ -1,4 +1,4 @@
-use Rattle.std.proofs.Common.{◌≡◌, ℕ, ◌+◌, ◌*◌, ◌/◌, ◌%◌, ◌<◌, true, false, sym, ap, ◌∙◌, subst, arith, below_more}
+use Rattle.std.proofs.Common.{◌≡◌, ℕ, ◌/◌, ◌%◌, ◌<◌, true, false, sym, ap, ◌∙◌, subst, arith, below_more}
 use Rattle.fault_ledger.specs.declared.Shape.{Shape}
 use Rattle.fault_ledger.specs.History.{class_of, block_of, piece_at, entry}
 use Rattle.fault_ledger.specs.Answer.{is_hit, has_earlier_hit}
@@ -6,7 +6,7 @@ use Rattle.fault_ledger.specs.Seats.{Place}
 use Rattle.fault_ledger.proofs.Tables.{any_at-below, any_none-below}
 use Rattle.fault_ledger.proofs.Histories.{goes_on_same}
 use Rattle.fault_ledger.proofs.Sits.{sees_twice}
-use Rattle.fault_ledger.proofs.Searches.{not_hit, no_hit_before}
+use Rattle.fault_ledger.proofs.Classes.{not_hit, no_hit_before}
 use Rattle.fault_ledger.proofs.shared.SharedLedger.finds_earlier_hit.Goals as goal
 
 pub returns-in-Hit-clause-sees : goal.returns-in-Hit-clause-sees

@@ -1,10 +1,10 @@
-use Rattle.std.proofs.Common.{◌≡◌, ℕ, ◌+◌, ◌<◌, ◌≤◌, Option, sym, ap, ◌∙◌, subst, arith, below_more}
+use Rattle.std.proofs.Common.{◌≡◌, ℕ, ◌<◌, ◌≤◌, Option, sym, ap, ◌∙◌, subst, arith, below_more}
 use Rattle.fault_ledger.specs.declared.Shape.{Shape}
 use Rattle.fault_ledger.specs.Settled.{status, IsSettledAt}
 use Rattle.fault_ledger.specs.Seats.{Place, Sitter, Sees}
 use Rattle.fault_ledger.proofs.Finishes.{finish-waits, finish-all}
-use Rattle.fault_ledger.proofs.Sits.{seated_sees, sees_kept, sees_same, sees_twice}
-use Rattle.fault_ledger.proofs.Searches.{settled_stays}
+use Rattle.fault_ledger.proofs.Sits.{seated_sees, sees_same, sees_twice, sees_kept}
+use Rattle.fault_ledger.proofs.Classes.{settled_stays}
 use Rattle.fault_ledger.proofs.shared.SharedLedger.finished.Goals as goal
 
 pub loop-class-init : goal.loop-class-init

@@ -1,4 +1,4 @@
-use Rattle.std.proofs.Common.{◌≡◌, ℕ, ◌<◌, Option}
+use Rattle.std.proofs.Common.{ℕ, ◌<◌, Option}
 use Rattle.fault_ledger.specs.Settled.{IsSettledAt}
 use Rattle.fault_ledger.specs.Seats.{Sees, IsSeated}
 use Rattle.fault_ledger.proofs.shared.SharedLedger.finished.Given as goal

@@ -1,5 +1,3 @@
-use Rattle.std.proofs.Common.{ap, sym, ◌∙◌, subst}
-use Rattle.fault_ledger.specs.Seats.{Sitter, Sees}
 use Rattle.fault_ledger.proofs.Sits.{seated_sees}
 use Rattle.fault_ledger.proofs.shared.SharedLedger.look.Goals as goal
 

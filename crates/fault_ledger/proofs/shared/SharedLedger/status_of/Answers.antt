@@ -1,4 +1,4 @@
-use Rattle.std.proofs.Common.{◌≡◌, ◌+◌, ◌*◌, ◌<◌, ◌≤◌, None, sym, ap, ◌∙◌, subst, arith, below_more}
+use Rattle.std.proofs.Common.{◌≡◌, ◌≤◌, None, sym, ap, ◌∙◌, subst, arith, below_more}
 use Rattle.fault_ledger.specs.declared.Shape.{Shape}
 use Rattle.fault_ledger.specs.declared.PieceState.TheVariants.{Open, Clear, Hit, Skipped}
 use Rattle.fault_ledger.specs.History.{entry, piece_at, block_count}
@@ -8,7 +8,7 @@ use Rattle.fault_ledger.specs.Seats.{Place}
 use Rattle.fault_ledger.proofs.Legal.{legal_hit}
 use Rattle.fault_ledger.proofs.Statuses.{status-hit, status-open, status-none}
 use Rattle.fault_ledger.proofs.Sits.{sees_same}
-use Rattle.fault_ledger.proofs.Searches.{looks_at, skipped_not_first, few_blocks}
+use Rattle.fault_ledger.proofs.Classes.{looks_at, skipped_not_first, few_blocks}
 use Rattle.fault_ledger.proofs.shared.SharedLedger.status_of.Goals as goal
 
 pub loop-block-init : goal.loop-block-init
