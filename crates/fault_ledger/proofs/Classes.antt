@@ -12,7 +12,7 @@ use Rattle.fault_ledger.specs.Face.{shape_fault}
 use Rattle.fault_ledger.specs.Seats.{Sitter, Sees}
 use Rattle.fault_ledger.proofs.Histories.{entry_goes_on}
 use Rattle.fault_ledger.proofs.Legal.{never_first}
-use Rattle.fault_ledger.proofs.Sits.{few_pieces, sees_twice}
+use Rattle.fault_ledger.proofs.Sits.{sees_twice}
 
 pub not_hit : (x : PieceState) → ((k : ℕ) → x ≡ state.Hit k → ⊥) → is_hit x ≡ false
 not_hit state.Open n = refl
@@ -59,13 +59,6 @@ looks_at own s class n count a b d x is many l before clear sees e = record {
 -- behind clear pieces alone there is no skipped one
 pub skipped_not_first : (s : Shape) (class n : ℕ) (h : History) → IsLegal s h → class < s.classes → n < block_count s → ClearBelow s class n h → entry (piece_at s class n) h ≡ state.Skipped → ⊥
 skipped_not_first s class n h legal l m clear e = let r = never_first s h legal class n l m e in r.2 (clear r.0 r.1)
-
-pub few_blocks : (s : Shape) (class : ℕ) → shape_fault s ≡ None → class < s.classes → block_count s ≤ 4194304
-few_blocks s class e l = go s.classes l (few_pieces s e)
-  where
-    go : (n : ℕ) → class < n → n * block_count s ≤ 4194304 → block_count s ≤ 4194304
-    go zero l m = absurd (omega arith)
-    go (suc n) l m = omega arith
 
 settles : (f g : ℕ → PieceState) (b : ℕ) (xs : List ℕ) (at : Option ℕ) → ((k : ℕ) → f k ≢ state.Open → g k ≡ f k) → status_from b (map f xs) ≡ Settled at → status_from b (map g xs) ≡ Settled at
 settles f g b [] at same e = e

@@ -8,6 +8,7 @@ use Rattle.fault_ledger.specs.declared.words.Post.{Post}
 use Rattle.fault_ledger.specs.Face.{shape_fault}
 use Rattle.fault_ledger.specs.Seats.{Place, Sitter, IsSeated, newcomer, newcomers}
 use Rattle.fault_ledger.specs.Words.{post, post_of, newcomer_posts, first_post, others, ForEach}
+use Rattle.fault_ledger.proofs.Tables.{more_below}
 
 -- the first of the workers from w on
 pub newcomers_first : (w n : ℕ) → w < n → newcomer_posts w (n - w) ≡ post w false [] ∷ newcomer_posts (w + 1) (n - (w + 1))
@@ -39,13 +40,9 @@ deal_seat p s w a e is limits l = subst (λ (x : Sitter). IsSeated x w false s.c
   piece_is = refl;
 })
 
-one_more : {X : Type 0} (f : ℕ → X) (a n b : ℕ) → a + n ≡ b → map f (from_up a n) ++ f b ∷ [] ≡ map f (from_up a (suc n))
-one_more f a zero b e = ap (λ k. f k ∷ []) (let q : b ≡ a = omega arith in q)
-one_more f a (suc n) b e = ap (λ l. f a ∷ l) (one_more f (a + 1) n b (omega arith))
-
 pub deal_more : (p : Place) (w : ℕ) (seats now : List Sitter) (a : Sitter) → a ≡ newcomer p w → seats ≡ map (newcomer p) (below w) → now ≡ seats ++ a ∷ [] → now ≡ map (newcomer p) (below (w + 1))
 deal_more p w seats now a e all pushed =
-    pushed ∙ (λ k. all k ++ e k ∷ []) ∙ one_more (newcomer p) 0 w w (omega arith) ∙ ap (λ n. map (newcomer p) (below n)) (sym (add-one w))
+    more_below (newcomer p) w seats now a all e pushed
 
 -- what holds of each post holds of each seat
 pub of_each : (P : Post → Type 0) (seats : List Sitter) → ForEach P (map post_of seats) → All (λ a. P (post_of a)) seats

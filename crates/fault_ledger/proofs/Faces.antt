@@ -26,6 +26,7 @@ use Rattle.fault_ledger.proofs.Tables.{length-below, get-below, set-below, any-b
 use Rattle.fault_ledger.proofs.Pieces.{some_class, piece_at-below, block_of-below}
 use Rattle.fault_ledger.proofs.Histories.{holds-not, held-holds}
 use Rattle.fault_ledger.proofs.Legal.{legal_after, held_piece}
+use Rattle.fault_ledger.proofs.Limits.{few_pieces}
 
 -- a face by its parts
 abbrev pub faced : Shape → ℕ → List (Option ℕ) → List PieceState → Face
@@ -70,15 +71,6 @@ ledger-holding f i = holding-length f i.history.0 i.history.2
 
 pub ledger-states : (f : Face) → IsLedger f → length f.states ≡ piece_count f.shape
 ledger-states f i = states-length f i.history.0 i.history.2
-
-pub few_pieces : (s : Shape) → shape_fault s ≡ None → piece_count s ≤ max_pieces
-few_pieces s limits = go (s.workers == 0) (nat_lt 64 s.workers) (nat_lt max_pieces (piece_count s)) refl limits
-  where
-    go : (a b c : Bool) → nat_lt max_pieces (piece_count s) ≡ c → cond a (Some NoWorkers) (cond b (Some TooManyWorkers) (cond c (Some TooManyPieces) None)) ≡ None → piece_count s ≤ max_pieces
-    go true b c x e = absurd (cc)
-    go false true c x e = absurd (cc)
-    go false false true x e = absurd (cc)
-    go false false false x e = ltb-false max_pieces (piece_count s) x
 
 pub ledger-few : (f : Face) → IsLedger f → piece_count f.shape ≤ max_pieces
 ledger-few f i = few_pieces f.shape i.limits

@@ -34,15 +34,6 @@ pub zeros_long : (n : ℕ) → length {A = ℕ} (replicate n 0) ≡ n
 zeros_long zero = refl
 zeros_long (suc n) = ap suc (zeros_long n)
 
-from_up-last : {X : Type 0} (f : ℕ → X) (a n b : ℕ) → a + n ≡ b → map f (from_up a n) ++ f b ∷ [] ≡ map f (from_up a (suc n))
-from_up-last f a zero b e = let q : b ≡ a = omega arith in ap (λ k. f k ∷ []) q
-from_up-last f a (suc n) b e = ap (λ xs. f a ∷ xs) (from_up-last f (a + 1) n b (omega arith))
-
--- one more place of a list that a function gives
-pub more_below : {X : Type 0} (f : ℕ → X) (n : ℕ) (xs now : List X) (x : X) → xs ≡ map f (below n) → x ≡ f n → now ≡ xs ++ x ∷ [] → now ≡ map f (below (n + 1))
-more_below f n xs now x all is pushed =
-    pushed ∙ (λ k. all k ++ is k ∷ []) ∙ from_up-last f 0 n n (omega arith) ∙ ap (λ k. map f (below k)) (sym (add-one n))
-
 -- a word of a closed table
 pub index_at : (l : List ℕ) (i a : ℕ) → get_elem? l i ≡ some a → slice_index l i ≡ a
 index_at [] i a e = absurd (some-ne-none a (sym e))

@@ -24,16 +24,7 @@ use Rattle.fault_ledger.proofs.Histories.{held_goes_on, held-holds, holds-not, g
 use Rattle.fault_ledger.proofs.Totals.{total-two, total-mono, told-length, times-none, for_each, set_known}
 use Rattle.fault_ledger.proofs.Accepts.{claim_answer, report_answer, drop_answer, hit_goes_on}
 use Rattle.fault_ledger.proofs.Looks.{same_total, look_keeps}
-
--- the limits of a shape
-pub shape_small : (s : Shape) → shape_fault s ≡ None → (piece_count s ≤ max_pieces) × (s.workers ≤ 64)
-shape_small s e = go (eqb s.workers 0) (nat_lt 64 s.workers) (nat_lt max_pieces (piece_count s)) refl refl e
-  where
-    go : (a b c : Bool) → nat_lt 64 s.workers ≡ b → nat_lt max_pieces (piece_count s) ≡ c → cond a (Some NoWorkers) (cond b (Some TooManyWorkers) (cond c (Some TooManyPieces) None)) ≡ None → (piece_count s ≤ max_pieces) × (s.workers ≤ 64)
-    go true b c x y e = absurd (cc)
-    go false true c x y e = absurd (cc)
-    go false false true x y e = absurd (cc)
-    go false false false x y e = (ltb-false max_pieces (piece_count s) y, ltb-false 64 s.workers x)
+use Rattle.fault_ledger.proofs.Limits.{shape_small}
 
 -- what `Allows` asks at one state
 abbrev Goes : {S : Type 0} → Shape → State S View → ℕ → Me S View → ℕ → (ℕ → ℕ) → (ℕ → Me S View → Type 0) → Type 0

@@ -1,5 +1,6 @@
 pub mod Tables
 pub mod Pieces
+pub mod Limits
 pub mod Histories
 pub mod Legal
 pub mod Settles

@@ -89,16 +89,6 @@ sees_twice a b d s t =
 pub sees_same : (a : Sitter) → IsSitter a → Sees a a.told a
 sees_same a i = record { seat = refl; newer = goes_on_same a.worker a.seen; legal = i.legal }
 
--- there are few pieces and workers
-pub few_pieces : (s : Shape) → shape_fault s ≡ None → piece_count s ≤ 4194304
-few_pieces s e = go (s.workers == 0) (nat_lt 64 s.workers) (nat_lt max_pieces (piece_count s)) refl e
-  where
-    go : (a b c : Bool) → nat_lt max_pieces (piece_count s) ≡ c → cond a (Some NoWorkers) (cond b (Some TooManyWorkers) (cond c (Some TooManyPieces) None)) ≡ None → piece_count s ≤ max_pieces
-    go true b c x e = absurd (cc)
-    go false true c x e = absurd (cc)
-    go false false true x e = absurd (cc)
-    go false false false x e = ltb-false max_pieces (piece_count s) x
-
 -- the replies after what a seat has seen
 pub claim_at : (a : Sitter) (h : History) (x : Option ℕ) → IsSitter a → held a.worker h ≡ x → answer a.place.shape h (call.Claim a.worker) ≡ claim_reply a.place.shape h x
 claim_at a h x i e = ap (λ b. cond b (claim_reply a.place.shape h (held a.worker h)) (Refused NoSuchWorker)) (lt-ltb a.worker a.place.shape.workers i.among) ∙ ap (claim_reply a.place.shape h) e

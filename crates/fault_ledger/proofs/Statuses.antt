@@ -14,7 +14,6 @@ use Rattle.fault_ledger.specs.Seats.{AreStates}
 use Rattle.fault_ledger.proofs.Tables.{length-below, get-below, same-below}
 use Rattle.fault_ledger.proofs.Pieces.{piece_at-below}
 use Rattle.fault_ledger.proofs.Legal.{legal_hit, never_first}
-use Rattle.fault_ledger.proofs.Faces.{few_pieces}
 
 -- past blocks that are clear
 status-past : (g : ℕ → PieceState) (a m n all b : ℕ) → m + n ≡ all → a + m ≡ b → ((k : ℕ) → a ≤ k → k < b → g k ≡ state.Clear)
@@ -66,13 +65,6 @@ pub shown-hit : (s : Shape) (states : List PieceState) (class block k : ℕ) →
 shown-hit s states class block k are l m e =
     let a = legal_hit s (piece_at s class block) k are.0 are.1 (sym (shown-entry s states are.0 class block are.2 l m) ∙ e) in
     omega arith
-
-pub few-blocks : (s : Shape) (class : ℕ) → shape_fault s ≡ None → class < s.classes → block_count s ≤ max_pieces
-few-blocks s class limits l = go s.classes l (few_pieces s limits)
-  where
-    go : (n : ℕ) → class < n → n * block_count s ≤ max_pieces → block_count s ≤ max_pieces
-    go zero l m = absurd (omega arith)
-    go (suc n) l m = omega arith
 
 -- a skipped piece is never shown behind clear ones alone
 pub shown-skipped : (s : Shape) (states : List PieceState) (class block : ℕ) → AreStates s states → class < s.classes → block < block_count s → ((k : ℕ) → k < block → shown s states class k ≡ state.Clear) → shown s states class block ≡ state.Skipped → ⊥

@@ -23,22 +23,7 @@ use Rattle.fault_ledger.proofs.Accepts.{report_answered, drop_answered}
 use Rattle.fault_ledger.proofs.Looks.{looks_allowed}
 use Rattle.fault_ledger.proofs.Keeps.{claims_allowed, reports_allowed, drops_allowed}
 use Rattle.fault_ledger.proofs.Takes.{Taken, put_back}
-
--- the state that was written is the state that is read
-pub decoded : (x : PieceState) → ((k : ℕ) → x ≡ state.Hit k → k < 64) → state_at (word_of x) ≡ x
-decoded state.Open f = refl
-decoded state.Clear f = refl
-decoded state.Skipped f = refl
-decoded (state.Hit k) f =
-    let small = f k refl in
-    let a : eqb (128 + k) 0 ≡ false = ne_eqb (128 + k) 0 (λ e. absurd (omega arith)) in
-    let b : eqb (128 + k) 1 ≡ false = ne_eqb (128 + k) 1 (λ e. absurd (omega arith)) in
-    let c : eqb (128 + k) 2 ≡ false = ne_eqb (128 + k) 2 (λ e. absurd (omega arith)) in
-    let m : (128 + k) % 64 ≡ k = omega arith in
-    ap (λ x. cond x state.Open (cond (eqb (128 + k) 1) state.Clear (cond (eqb (128 + k) 2) state.Skipped (state.Hit ((128 + k) % 64))))) a
-    ∙ ap (λ x. cond x state.Clear (cond (eqb (128 + k) 2) state.Skipped (state.Hit ((128 + k) % 64)))) b
-    ∙ ap (λ x. cond x state.Skipped (state.Hit ((128 + k) % 64))) c
-    ∙ ap state.Hit m
+use Rattle.fault_ledger.proofs.Codes.{decoded}
 
 -- in a legal history each state can be read back from its word
 pub legal_decoded : (s : Shape) (p : ℕ) (h : History) → IsLegal s h → state_at (word_of (entry p h)) ≡ entry p h

@@ -1,5 +1,5 @@
 -- Lists that a function of the place gives.
-use Rattle.std.proofs.Common.{◌≡◌, ◌≢◌, ℕ, zero, suc, ◌+◌, ◌<◌, ◌≤◌, Bool, true, false, ◌||◌, ◌∷◌, map, set, length, replicate, get_or, refl, sym, ap, ◌∙◌, arith}
+use Rattle.std.proofs.Common.{List, [], ◌++◌, add-one, ◌≡◌, ◌≢◌, ℕ, zero, suc, ◌+◌, ◌<◌, ◌≤◌, Bool, true, false, ◌||◌, ◌∷◌, map, set, length, replicate, get_or, refl, sym, ap, ◌∙◌, arith}
 use Rattle.std.specs.List.{list_any}
 use Rattle.patterns.specs.Least.{from_up, below}
 
@@ -74,3 +74,12 @@ any_at-from_up p a (suc n) k l m e = go (p a) refl (λ x. any_at-from_up p (a + 
 
 pub any_at-below : (p : ℕ → Bool) (n k : ℕ) → k < n → p k ≡ true → list_any p (below n) ≡ true
 any_at-below p n k l e = any_at-from_up p 0 n k (omega arith) (omega arith) e
+
+from_up-last : {X : Type 0} (f : ℕ → X) (a n b : ℕ) → a + n ≡ b → map f (from_up a n) ++ f b ∷ [] ≡ map f (from_up a (suc n))
+from_up-last f a zero b e = let q : b ≡ a = omega arith in ap (λ k. f k ∷ []) q
+from_up-last f a (suc n) b e = ap (λ xs. f a ∷ xs) (from_up-last f (a + 1) n b (omega arith))
+
+-- one more place of a list that a function gives
+pub more_below : {X : Type 0} (f : ℕ → X) (n : ℕ) (xs now : List X) (x : X) → xs ≡ map f (below n) → x ≡ f n → now ≡ xs ++ x ∷ [] → now ≡ map f (below (n + 1))
+more_below f n xs now x all is pushed =
+    pushed ∙ (λ k. all k ++ is k ∷ []) ∙ from_up-last f 0 n n (omega arith) ∙ ap (λ k. map f (below k)) (sym (add-one n))

@@ -2,8 +2,9 @@ use Rattle.std.proofs.Common.{◌≡◌, ℕ, ◌+◌, ◌*◌, ◌<◌, ◌≤�
 use Rattle.fault_ledger.specs.declared.PieceState.TheVariants.{Clear}
 use Rattle.fault_ledger.specs.declared.Status.TheVariants.{Settled, Waiting}
 use Rattle.fault_ledger.specs.History.{block_count}
-use Rattle.fault_ledger.proofs.Statuses.{shown, shown-within, shown-hit, shown-skipped, shown-status, few-blocks, status-hit, status-open, status-none}
+use Rattle.fault_ledger.proofs.Statuses.{shown, shown-within, shown-hit, shown-skipped, shown-status, status-hit, status-open, status-none}
 use Rattle.fault_ledger.proofs.states.status_in.Goals as goal
+use Rattle.fault_ledger.proofs.Limits.{few_blocks}
 
 pub bounds : goal.bounds
 bounds c =
@@ -14,7 +15,7 @@ pub overflow_add-result : goal.overflow_add-result
 overflow_add-result c =
     let m : c.loop-block.block < block_count c.args.shape = (let a = c.blocks-block-end.ensures in let b = c.loop-block-test.true in omega arith) in
     let small = shown-hit c.args.shape c.args.states.now c.args.class c.loop-block.block c.in-Hit.test c.requires.states c.requires.range m c.in-Hit.is in
-    let few : block_count c.args.shape ≤ 4194304 = few-blocks c.args.shape c.args.class c.requires.limits c.requires.range in
+    let few : block_count c.args.shape ≤ 4194304 = few_blocks c.args.shape c.args.class c.requires.limits c.requires.range in
     omega arith
 
 pub returns-in-Hit : goal.returns-in-Hit

@@ -1,8 +1,9 @@
 use Rattle.std.proofs.Common.{◌≡◌, ◌+◌, slice_index, sym, ap, ◌∙◌}
 use Rattle.std.specs.Mem.Slots.{slots_items}
 use Rattle.fault_ledger.specs.Words.{state_at}
-use Rattle.fault_ledger.proofs.Groups.{more_below, index_at}
+use Rattle.fault_ledger.proofs.Groups.{index_at}
 use Rattle.fault_ledger.proofs.words.read_states.Goals as goal
+use Rattle.fault_ledger.proofs.Tables.{more_below}
 
 pub loop-piece-preserved : goal.loop-piece-preserved
 loop-piece-preserved c =

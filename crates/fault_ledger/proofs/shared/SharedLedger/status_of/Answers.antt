@@ -8,8 +8,9 @@ use Rattle.fault_ledger.specs.Seats.{Place}
 use Rattle.fault_ledger.proofs.Legal.{legal_hit}
 use Rattle.fault_ledger.proofs.Statuses.{status-hit, status-open, status-none}
 use Rattle.fault_ledger.proofs.Sits.{sees_same}
-use Rattle.fault_ledger.proofs.Classes.{looks_at, skipped_not_first, few_blocks}
+use Rattle.fault_ledger.proofs.Classes.{looks_at, skipped_not_first}
 use Rattle.fault_ledger.proofs.shared.SharedLedger.status_of.Goals as goal
+use Rattle.fault_ledger.proofs.Limits.{few_blocks}
 
 pub loop-block-init : goal.loop-block-init
 loop-block-init c = record { sees = sees_same c.args.token.now c.requires.sitter; clear = λ k l. absurd (omega arith) }
