@@ -9,3 +9,4 @@ pub mod Finishes
 pub mod Replays
 pub mod Totals
 pub mod Tokens
+pub mod Newcomers
