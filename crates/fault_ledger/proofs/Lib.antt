@@ -22,3 +22,4 @@ pub mod Steps
 pub mod Sits
 pub mod Classes
 pub mod Deals
+pub mod Newcomers

@@ -1,4 +1,4 @@
-ghost use Rattle.std.specs.Prelude.{◌≡◌, ◌<◌, ◌*◌, ◌^◌, All, IfOk};
+ghost use Rattle.std.specs.Prelude.{◌≡◌, All, IfOk};
 ghost use Rattle.fault_ledger.specs.Face.{shape_of};
 
 use super::*;
@@ -10,32 +10,24 @@ use std::test::Fail;
 use std::thread;
 use std::thread::Threads;
 
-/// A shared ledger with the seats of all its workers, called as a [`Ledger`] is.
+/// A shared ledger of a shape with the seats of all its workers, called as a [`Ledger`] is.
 #[derive(Drop)]
-struct Staffed {
+struct Staffed<const CLASSES: u32, const TESTS: u32, const WORKERS: u32> {
     ledger: SharedLedger,
-    classes: u32,
     seats: Vec<Seat>,
-    ghost counted: { classes ≡ ledger.shape.classes },
+    ghost sized: { ledger.shape ≡ shape_of CLASSES TESTS WORKERS },
     ghost seated: { All (λ seat. seat.place ≡ ledger) seats.items },
 }
 
-impl Staffed {
-    fn new(alloc: Global, classes: u32, tests: u32, workers: u32) -> Result<Staffed, LedgerFault>
-        ensures { IfOk result (λ all. all.ledger.shape ≡ shape_of classes tests workers) }
-    {
-        let (ledger, seats) = SharedLedger::new(alloc, classes, tests, workers)?;
-        Ok(Staffed {
-            ledger,
-            classes,
-            seats,
-        })
+impl<const CLASSES: u32, const TESTS: u32, const WORKERS: u32> Staffed<CLASSES, TESTS, WORKERS> {
+    #[tactic(auto, using(crate::proofs::Newcomers::newcomers_placed))]
+    fn new(alloc: Global) -> Result<Staffed<CLASSES, TESTS, WORKERS>, LedgerFault> {
+        let (ledger, seats) = SharedLedger::new(alloc, CLASSES, TESTS, WORKERS)?;
+        Ok(Staffed { ledger, seats })
     }
 
     /// Makes one call, and gives its reply. Worker 0 looks at classes.
-    fn reply_to(&mut self, call: Call) -> Reply
-        ensures { self.new.ledger ≡ self.old.ledger }
-    {
+    fn reply_to(&mut self, call: Call) -> Reply {
         let worker = match call {
             Call::Claim(worker) | Call::Report(worker, _) | Call::Drop(worker) => worker,
             Call::Status(_) | Call::Finished => 0,
@@ -51,7 +43,7 @@ impl Staffed {
             Call::Report(_, outcome) => reply_of(self.ledger.report(seat, outcome)),
             Call::Drop(_) => reply_of(self.ledger.drop_piece(seat)),
             Call::Status(class) => {
-                if class < self.classes {
+                if class < CLASSES {
                     Reply::Status(self.ledger.status(seat, class))
                 } else {
                     Reply::Refused(Refusal::NoSuchClass)
@@ -62,13 +54,9 @@ impl Staffed {
     }
 
     fn close(self, alloc: Global) -> Result<Closed, LedgerFault>
-        ensures { IfOk result (λ closed. closed.shape ≡ self.ledger.shape) }
+        ensures { IfOk result (λ closed. closed.shape ≡ shape_of CLASSES TESTS WORKERS) }
     {
-        let Staffed {
-            ledger,
-            classes: _,
-            seats,
-        } = self;
+        let Staffed { ledger, seats } = self;
         if seats.is_empty() {
             return Err(LedgerFault::NoWorkers);
         }
@@ -113,7 +101,7 @@ fn a_seat_sees_a_hit_of_one_it_never_met(rt: HostRuntime) -> Result<(), Fail> {
 
 #[test]
 fn sixty_four_seats_on_one_piece(rt: HostRuntime) -> Result<(), Fail> {
-    let mut all = Staffed::new(rt.alloc(), 1, 1, 64)?;
+    let mut all = Staffed::<1, 1, 64>::new(rt.alloc())?;
     assert_eq!(rt; all.reply_to(Call::Claim(0)), piece(0, 0));
     for worker in 1..64 {
         assert_eq!(rt;
@@ -136,7 +124,7 @@ fn sixty_four_seats_on_one_piece(rt: HostRuntime) -> Result<(), Fail> {
 
 #[test]
 fn a_seat_with_notes_alone_would_miss_the_hit(rt: HostRuntime) -> Result<(), Fail> {
-    let mut all = Staffed::new(rt.alloc(), 1, 512, 8)?;
+    let mut all = Staffed::<1, 512, 8>::new(rt.alloc())?;
     for worker in 0..8 {
         assert_eq!(rt; all.reply_to(Call::Claim(worker)), piece(0, worker));
     }
@@ -199,7 +187,7 @@ fn one_seat_meets_every_refusal(rt: HostRuntime) -> Result<(), Fail> {
             None,
         ),
     ];
-    let mut all = Staffed::new(rt.alloc(), 1, 65, 1)?;
+    let mut all = Staffed::<1, 65, 1>::new(rt.alloc())?;
     let mut calls = Vec::new(rt.alloc());
     let mut replies = Vec::new(rt.alloc());
     for (call, reply, held) in steps {
@@ -268,20 +256,17 @@ fn work(
 
 /// A ledger that is closed after each worker has worked in a thread of its own. Each piece was claimed
 /// once.
-fn worked<R: Threads + Abort + Sync>(
+fn worked<R: Threads + Abort + Sync, const CLASSES: u32, const TESTS: u32, const WORKERS: u32>(
     rt: &R,
     alloc: Global,
-    classes: u32,
-    blocks: u32,
-    workers: u32,
     density: u64,
 ) -> Result<Closed, Fail>
-    requires { 64 * blocks < 2 ^ 32 }
-    ensures { IfOk result (λ closed. closed.shape ≡ shape_of classes (64 * blocks) workers) }
+    ensures { IfOk result (λ closed. closed.shape ≡ shape_of CLASSES TESTS WORKERS) }
 {
-    let (ledger, seats) = SharedLedger::new(alloc, classes, 64 * blocks, workers)?;
+    let Staffed { ledger, seats } = Staffed::<CLASSES, TESTS, WORKERS>::new(alloc)?;
+    let blocks = TESTS.div_ceil(64);
     let mut claimed = Vec::new(alloc);
-    for _ in 0..u64::from(classes) * u64::from(blocks) {
+    for _ in 0..u64::from(CLASSES) * u64::from(blocks) {
         claimed.push(AtomicU64::new(0))?;
     }
     let shared = &ledger;
@@ -303,7 +288,7 @@ fn worked<R: Threads + Abort + Sync>(
 
 #[test]
 fn four_threads_share_two_classes(rt: HostRuntime) -> Result<(), Fail> {
-    let closed = worked(&rt, rt.alloc(), 2, 2, 4, 0)?;
+    let closed = worked::<HostRuntime, 2, 128, 4>(&rt, rt.alloc(), 0)?;
     for class in 0..2 {
         for block in 0..2 {
             assert_eq!(rt; closed.entry(class, block), PieceState::Clear);
@@ -316,7 +301,7 @@ fn four_threads_share_two_classes(rt: HostRuntime) -> Result<(), Fail> {
 
 #[test]
 fn many_threads_agree_with_the_outcomes(rt: HostRuntime) -> Result<(), Fail> {
-    let closed = worked(&rt, rt.alloc(), 40, 100, 8, 3)?;
+    let closed = worked::<HostRuntime, 40, 6_400, 8>(&rt, rt.alloc(), 3)?;
     for class in 0..40 {
         let mut first = None;
         for block in 0..100 {
