@@ -22,4 +22,3 @@ pub mod Steps
 pub mod Sits
 pub mod Classes
 pub mod Deals
-pub mod Newcomers

@@ -20,7 +20,6 @@ struct Staffed<const CLASSES: u32, const TESTS: u32, const WORKERS: u32> {
 }
 
 impl<const CLASSES: u32, const TESTS: u32, const WORKERS: u32> Staffed<CLASSES, TESTS, WORKERS> {
-    #[tactic(auto, using(crate::proofs::Newcomers::newcomers_placed))]
     fn new(alloc: Global) -> Result<Staffed<CLASSES, TESTS, WORKERS>, LedgerFault> {
         let (ledger, seats) = SharedLedger::new(alloc, CLASSES, TESTS, WORKERS)?;
         Ok(Staffed { ledger, seats })
