@@ -4,3 +4,4 @@ pub mod Facts
 pub mod Laws
 pub mod Values
 pub mod Texts
+pub mod Ledgers
