@@ -3,7 +3,7 @@ ghost use Rattle.fault_ledger.specs.Face.{shape_of};
 
 use super::*;
 use patterns::Outcome::{Clear, Hit};
-use std::alloc::Global;
+use std::alloc::{AllocError, Global};
 use std::process::Abort;
 use std::sync::atomic::{AtomicU64, Ordering};
 use std::test::Fail;
@@ -253,8 +253,29 @@ fn work(
     seat
 }
 
-/// A ledger that is closed after each worker has worked in a thread of its own. Each piece was claimed
-/// once.
+/// Lets each worker work in a thread of its own, and gives the seats back.
+fn in_threads<R: Threads + Sync>(
+    rt: &R,
+    ledger: &SharedLedger,
+    blocks: u32,
+    density: u64,
+    claimed: &[AtomicU64],
+    seats: Vec<Seat>,
+) -> Result<Vec<Seat>, AllocError>
+    requires { All (λ seat. seat.place ≡ ledger.now) seats.items }
+    ensures { IfOk result (λ back. All (λ seat. seat.place ≡ ledger.now) back.items) }
+{
+    thread::map_vec(
+        rt,
+        seats,
+        &move |seat: Seat| -> Seat
+            requires { seat.place ≡ ledger.now }
+            ensures { result.place ≡ ledger.entry.now }
+        { work(ledger, blocks, density, claimed, seat) },
+    )
+}
+
+/// A ledger that is closed after all workers have worked. Each piece was claimed once.
 fn worked<R: Threads + Abort + Sync, const CLASSES: u32, const TESTS: u32, const WORKERS: u32>(
     rt: &R,
     alloc: Global,
@@ -268,21 +289,12 @@ fn worked<R: Threads + Abort + Sync, const CLASSES: u32, const TESTS: u32, const
     for _ in 0..u64::from(CLASSES) * u64::from(blocks) {
         claimed.push(AtomicU64::new(0))?;
     }
-    let shared = &ledger;
-    let counts = claimed.as_slice();
-    let seats = thread::map_vec(
-        rt,
-        seats,
-        &move |seat: Seat| -> Seat
-            requires { seat.place ≡ shared.now }
-            ensures { result.place ≡ shared.entry.now }
-        { work(shared, blocks, density, counts, seat) },
-    )?;
+    let seats = in_threads(rt, &ledger, blocks, density, &claimed, seats)?;
     for count in &claimed {
         assert_eq!(rt; count.load(Ordering::SeqCst), 1);
     }
-    assert!(rt; !seats.is_empty());
-    Ok(ledger.close(alloc, seats)?)
+    let all = Staffed::<CLASSES, TESTS, WORKERS> { ledger, seats };
+    Ok(all.close(alloc)?)
 }
 
 #[test]
