@@ -57,6 +57,10 @@ newcomer place w = record { place = place; worker = w; told = false; seen = [] }
 abbrev pub newcomers : Place → List Sitter
 newcomers place = map (newcomer place) (below place.shape.workers)
 
+-- the seat's ledger, its worker and what it was told are as before
+abbrev pub Keeps : Sitter → Sitter → Type 0
+Keeps old new = (new.place ≡ old.place) × (new.worker ≡ old.worker) × (new.told ≡ old.told)
+
 -- No event of the seat: what it has seen afterwards is legal, begins with what it had seen, and has no
 -- new event of its worker.
 pub record Sees (old : Sitter) (told : Bool) (new : Sitter) : Type 0 where
@@ -80,7 +84,8 @@ pub record Stays (old : Sitter) (c : Call) (reply : Reply) (new : Sitter) : Type
   pub replied : reply ≡ answer old.place.shape old.seen c
 
 -- A drop that finds no hit: a seat that sees more, and the refusal is the sequential fault list's after a
--- history that begins with what the seat had seen and that what it has seen afterwards begins with.
+-- history that begins with what the seat had seen, perhaps that itself, and with which what it has seen
+-- afterwards begins.
 pub record FindsNoHit (old : Sitter) (new : Sitter) : Type 0 where
   pub sees : Sees old old.told new
   pub at : History

@@ -1,5 +1,5 @@
 -- The rule of the shared words: what is true of the words and of all that the seats have seen, between any two steps.
-use Rattle.std.specs.Prelude.{◌≡◌, ◌≢◌, ℕ, zero, suc, ◌+◌, ◌%◌, ◌<◌, ◌≤◌, ◌⊎◌, Bool, true, false, cond, ◌==◌, if◌then◌else◌, min, List, [], ◌∷◌, ◌++◌, length, slice_index, None, Some}
+use Rattle.std.specs.Prelude.{◌≡◌, ℕ, zero, suc, ◌+◌, ◌%◌, ◌<◌, ◌≤◌, ◌⊎◌, Bool, true, false, cond, ◌==◌, if◌then◌else◌, min, List, [], ◌∷◌, ◌++◌, length, slice_index, None}
 use mathlib.Core.Option.{some}
 use lib.ListN.{get_elem?}
 use Rattle.patterns.specs.declared.Outcome.{Outcome}
@@ -11,7 +11,7 @@ use Rattle.fault_ledger.specs.declared.PieceState.TheVariants as state
 use Rattle.fault_ledger.specs.declared.Event.{Event}
 use Rattle.fault_ledger.specs.declared.words.Post.{Post}
 use Rattle.fault_ledger.specs.declared.words.View.{View}
-use Rattle.fault_ledger.specs.History.{History, piece_count, state_of, claims, held, entry, NoneOf, ContinuesWithout}
+use Rattle.fault_ledger.specs.History.{History, piece_count, state_of, claims, held, entry, ContinuesWithout}
 use Rattle.fault_ledger.specs.Answer.{IsLegal}
 use Rattle.fault_ledger.specs.Face.{shape_fault}
 use Rattle.fault_ledger.specs.Seats.{Place, Sitter}
@@ -46,7 +46,8 @@ abbrev pub ForEach : (Post → Type 0) → List Post → Type 0
 ForEach P [] = Unit {0}
 ForEach P (p ∷ posts) = P p × ForEach P posts
 
--- what a post has seen: the history begins with it, and has no further event of its worker
+-- what a post has seen: the history begins with it, and has no further event of its worker, who is one of
+-- the ledger's; where it was told that all pieces are claimed they were, and it holds none
 pub record Knows (shape : Shape) (h : History) (of : Shape) (p : Post) : Type 0 where
   pub same : of ≡ shape
   pub among : p.worker < shape.workers
@@ -54,7 +55,8 @@ pub record Knows (shape : Shape) (h : History) (of : Shape) (p : Post) : Type 0 
   pub done : p.told ≡ true → (held p.worker p.seen ≡ None) × (claims p.seen ≡ piece_count shape)
 
 -- The words and the views are those of this legal history. Word 0 is the cursor, which counts the claims
--- that were tried, and piece p is word p + 1. No worker stands at two posts.
+-- that were tried, and piece p is word p + 1. Past the pieces it counts those that were told, each once.
+-- There are at most as many posts as workers, and no worker stands at two.
 pub record IsKeptBy (shape : Shape) (h : History) (words : List ℕ) (views : List View) : Type 0 where
   pub limits : shape_fault shape ≡ None
   pub legal : IsLegal shape h
@@ -66,7 +68,7 @@ pub record IsKeptBy (shape : Shape) (h : History) (words : List ℕ) (views : Li
   pub apart : (w : ℕ) → total (λ v. times w v.posts) views ≤ 1
   pub known : (id : ℕ) (v : View) → get_elem? views id ≡ some v → ForEach (Knows shape h v.shape) v.posts
 
--- the rule: there is one legal history of which the words are, and with which all that was seen begins
+-- the rule: there is one legal history of which the words are, and which begins with all that was seen
 abbrev pub IsKept : {S : Type 0} → Shape → State S View → Type 0
 IsKept shape t = (h : History) × IsKeptBy shape h t.words t.views
 
@@ -77,7 +79,7 @@ post w told seen = record { worker = w; told = told; seen = seen }
 abbrev pub one : Shape → ℕ → Bool → History → View
 one shape w told seen = record { shape = shape; posts = post w told seen ∷ [] }
 
--- a fact on the one worker of a view
+-- a fact on the one worker of a view; it says nothing of a view of none or of several
 abbrev pub OfPosts : List Post → (Post → Type 0) → Type 0
 OfPosts [] P = Unit {0}
 OfPosts (p ∷ []) P = P p
@@ -152,7 +154,7 @@ both_of v w = record { shape = v.shape; posts = w.posts ++ v.posts }
 abbrev pub place_of : TableId → Shape → Place
 place_of table shape = record { table = table; shape = shape }
 
--- a token that stands for one worker, as a seat
+-- the first view of a token, and the first post of a view
 abbrev pub first_shape : List View → Shape
 first_shape [] = no_shape
 first_shape (v ∷ views) = v.shape
@@ -165,6 +167,7 @@ abbrev pub first_posts : List View → List Post
 first_posts [] = []
 first_posts (v ∷ views) = v.posts
 
+-- a token that stands for one worker, as a seat
 abbrev pub sitter : TableId → List View → Sitter
 sitter table views = record {
   place = place_of table (first_shape views);

@@ -42,7 +42,8 @@ impl Closed {
     /// What became of a piece.
     pub fn entry(&self, class: u32, block: u32) -> PieceState
         requires { (class < self.now.shape.classes) × (block < block_count self.now.shape) }
-        ensures { (h : History) → self.now ≡ closed_face self.now.shape h → result ≡ entry (piece_at self.now.shape class block) h }
+        ensures states { AreStates self.now.shape self.now.states }
+        ensures entry { (h : History) → self.now ≡ closed_face self.now.shape h → result ≡ entry (piece_at self.now.shape class block) h }
     {
         self.states[(class + self.shape.classes * block) as usize]
     }
@@ -51,7 +52,8 @@ impl Closed {
     /// most the time of a look at each block of the class.
     pub fn status(&self, class: u32) -> Status
         requires { class < self.now.shape.classes }
-        ensures { (h : History) → IsLegal self.now.shape h → self.now ≡ closed_face self.now.shape h → result ≡ status self.now.shape h class }
+        ensures states { AreStates self.now.shape self.now.states }
+        ensures status { (h : History) → IsLegal self.now.shape h → self.now ≡ closed_face self.now.shape h → result ≡ status self.now.shape h class }
     {
         status_in(self.shape, &self.states, class)
     }
@@ -59,7 +61,8 @@ impl Closed {
     /// Whether all classes are settled, else the lowest class that isn't, with the block that it
     /// waits for. It takes at most the time of [`Closed::status`] for that class and each lower one.
     pub fn finished(&self) -> Finish
-        ensures { (h : History) → IsLegal self.now.shape h → self.now ≡ closed_face self.now.shape h → result ≡ finish self.now.shape h }
+        ensures states { AreStates self.now.shape self.now.states }
+        ensures finish { (h : History) → IsLegal self.now.shape h → self.now ≡ closed_face self.now.shape h → result ≡ finish self.now.shape h }
     {
         finish_in(self.shape, &self.states)
     }

@@ -5,11 +5,11 @@ ghost use Rattle.std.specs.Option.{option_map};
 ghost use Rattle.fault_ledger.specs.declared.Call.TheVariants as call;
 ghost use Rattle.fault_ledger.specs.declared.Event.{Event};
 ghost use Rattle.fault_ledger.specs.declared.Reply.TheVariants.{Done};
-ghost use Rattle.fault_ledger.specs.History.{History, ContinuesWithout, block_count, claims, entry, held, piece_at, piece_count};
+ghost use Rattle.fault_ledger.specs.History.{History, ContinuesWithout, block_count, entry, held, piece_at, piece_count};
 ghost use Rattle.fault_ledger.specs.Answer.{answer, claim_reply_of, done_reply_of, has_earlier_hit};
 ghost use Rattle.fault_ledger.specs.Settled.{status, finish};
 ghost use Rattle.fault_ledger.specs.Face.{shape_fault, shape_of};
-ghost use Rattle.fault_ledger.specs.Seats.{Closes, FindsNoHit, IsSitter, Makes, Meets, Sees, Stays, class_and_block, newcomer, newcomers};
+ghost use Rattle.fault_ledger.specs.Seats.{Closes, FindsNoHit, IsSitter, Keeps, Makes, Meets, Sees, Stays, class_and_block, newcomers};
 ghost use Rattle.fault_ledger.specs.Words.{newcomer_posts, post_of};
 
 use crate::sequential::fits;
@@ -47,6 +47,7 @@ impl Model for SharedLedger {
 }
 
 /// A worker's seat at a [`SharedLedger`]. It moves into the worker's thread and comes back at the join.
+/// The piece that a seat holds when it is dropped stays open.
 #[derive(Drop)]
 pub struct Seat {
     token: Token,
@@ -127,8 +128,10 @@ impl SharedLedger {
         ensures kept { (seat.new.place ≡ seat.old.place) × (seat.new.worker ≡ seat.old.worker) }
         ensures piece { (class block : ℕ) → result ≡ Ok (Claim.Piece class block) → (seat.old.told ≡ false) × Makes seat.old (Event.Claim seat.old.worker) (claim_reply_of result) seat.new }
         ensures exhausted { result ≡ Ok Claim.Exhausted → seat.old.told ≡ false → Sees seat.old true seat.new × (claim_reply_of result ≡ answer self.now.shape seat.new.seen (call.Claim seat.old.worker)) }
+        ensures told { result ≡ Ok Claim.Exhausted → seat.new.told ≡ true }
         ensures again { seat.old.told ≡ true → (result ≡ Ok Claim.Exhausted) × Stays seat.old (call.Claim seat.old.worker) (claim_reply_of result) seat.new }
         ensures refused { OnErr result (Stays seat.old (call.Claim seat.old.worker) (claim_reply_of result) seat.new) }
+        ensures refusal { IfErr result (λ refusal. refusal ≡ Refusal.Holding) }
     {
         if seat.piece.is_some() {
             return Err(Refusal::Holding);
@@ -157,9 +160,10 @@ impl SharedLedger {
     /// piece.
     pub fn report(&self, seat: &mut Seat, outcome: Outcome) -> Result<(), Refusal>
         requires { seat.old.place ≡ self.now }
-        ensures kept { (seat.new.place ≡ seat.old.place) × (seat.new.worker ≡ seat.old.worker) × (seat.new.told ≡ seat.old.told) }
+        ensures kept { Keeps seat.old seat.new }
         ensures accepted { IfOk result (λ _. Makes seat.old (Event.Report seat.old.worker outcome) Done seat.new) }
         ensures refused { OnErr result (Stays seat.old (call.Report seat.old.worker outcome) (done_reply_of result) seat.new) }
+        ensures refusal { IfErr result (λ refusal. (refusal ≡ Refusal.NothingHeld) ⊎ (refusal ≡ Refusal.BadOutcome)) }
     {
         let Some(piece) = seat.piece else {
             return Err(Refusal::NothingHeld);
@@ -177,14 +181,14 @@ impl SharedLedger {
     /// of the piece's class, from block 0 up, until it sees a hit, and then drops the piece in one
     /// atomic step.
     ///
-    /// It is refused, without a step, with [`Refusal::NothingHeld`], else with
-    /// [`Refusal::NoEarlierHit`] where no earlier block of the class was a hit at the first look; the
-    /// seat then still holds the piece. A piece of block 0 is always refused.
+    /// It is refused with [`Refusal::NothingHeld`], without a step, else, after the looks, with
+    /// [`Refusal::NoEarlierHit`] where no earlier block of the class was a hit at the first of them; the
+    /// seat then still holds the piece. A piece of block 0 is always refused, without a look.
     pub fn drop_piece(&self, seat: &mut Seat) -> Result<(), Refusal>
         requires { seat.old.place ≡ self.now }
-        ensures kept { (seat.new.place ≡ seat.old.place) × (seat.new.worker ≡ seat.old.worker) × (seat.new.told ≡ seat.old.told) }
+        ensures kept { Keeps seat.old seat.new }
         ensures accepted { IfOk result (λ _. Makes seat.old (Event.Drop seat.old.worker) Done seat.new) }
-        ensures refused { IfErr result (λ refusal. (refusal ≡ Refusal.NothingHeld) ⊎ (refusal ≡ Refusal.NoEarlierHit)) }
+        ensures refusal { IfErr result (λ refusal. (refusal ≡ Refusal.NothingHeld) ⊎ (refusal ≡ Refusal.NoEarlierHit)) }
         ensures nothing_held { result ≡ Err Refusal.NothingHeld → Stays seat.old (call.Drop seat.old.worker) (done_reply_of result) seat.new }
         ensures no_earlier_hit { result ≡ Err Refusal.NoEarlierHit → FindsNoHit seat.old seat.new }
     {
@@ -222,7 +226,7 @@ impl SharedLedger {
     pub fn look(&self, seat: &mut Seat, class: u32, block: u32) -> PieceState
         requires place { seat.old.place ≡ self.now }
         requires range { (class < self.now.shape.classes) × (block < block_count self.now.shape) }
-        ensures kept { (seat.new.place ≡ seat.old.place) × (seat.new.worker ≡ seat.old.worker) × (seat.new.told ≡ seat.old.told) }
+        ensures kept { Keeps seat.old seat.new }
         ensures seen { Sees seat.old seat.old.told seat.new }
         ensures state { result ≡ entry (piece_at self.now.shape class block) seat.new.seen }
     {
@@ -236,7 +240,7 @@ impl SharedLedger {
     pub fn status(&self, seat: &mut Seat, class: u32) -> Status
         requires place { seat.old.place ≡ self.now }
         requires range { class < self.now.shape.classes }
-        ensures kept { (seat.new.place ≡ seat.old.place) × (seat.new.worker ≡ seat.old.worker) × (seat.new.told ≡ seat.old.told) }
+        ensures kept { Keeps seat.old seat.new }
         ensures seen { Sees seat.old seat.old.told seat.new }
         ensures status { result ≡ status self.now.shape seat.new.seen class }
     {
@@ -269,7 +273,7 @@ impl SharedLedger {
     /// effect at its last look.
     pub fn finished(&self, seat: &mut Seat) -> Finish
         requires { seat.old.place ≡ self.now }
-        ensures kept { (seat.new.place ≡ seat.old.place) × (seat.new.worker ≡ seat.old.worker) × (seat.new.told ≡ seat.old.told) }
+        ensures kept { Keeps seat.old seat.new }
         ensures seen { Sees seat.old seat.old.told seat.new }
         ensures finish { result ≡ finish self.now.shape seat.new.seen }
     {
@@ -285,17 +289,17 @@ impl SharedLedger {
     /// done. It takes three looks at the cursor.
     pub fn meet(&self, first: &mut Seat, second: &mut Seat)
         requires { (first.old.place ≡ self.now) × (second.old.place ≡ self.now) }
-        ensures first { (first.new.place ≡ first.old.place) × (first.new.worker ≡ first.old.worker) × (first.new.told ≡ first.old.told) }
-        ensures second { (second.new.place ≡ second.old.place) × (second.new.worker ≡ second.old.worker) × (second.new.told ≡ second.old.told) }
+        ensures first { Keeps first.old first.new }
+        ensures second { Keeps second.old second.new }
         ensures met { Meets first.old second.old first.new second.new }
     {
         self.words.meet(&mut first.token, &mut second.token);
     }
 
-    /// What became of each piece, once all seats are back. Seats may also stay away: then it says
-    /// nothing of what they have done.
+    /// What became of each piece, once all seats are back. Seats may also stay away: the states then
+    /// hold what these did too, but the contract ties them only to what the seats given have seen.
     ///
-    /// It is refused only with [`LedgerFault::Memory`].
+    /// It is refused only with [`LedgerFault::Memory`]; the ledger and the seats are gone then too.
     pub fn close(self, alloc: Global, seats: Vec<Seat>) -> Result<Closed, LedgerFault>
         requires some { 0 < length seats.items }
         requires places { All (λ seat. seat.place ≡ self) seats.items }

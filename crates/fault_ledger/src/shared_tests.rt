@@ -1,4 +1,5 @@
-ghost use Rattle.std.specs.Prelude.{◌≡◌, All, IfOk};
+ghost use Rattle.std.specs.Prelude.{◌≡◌, ◌≤◌, All, IfOk};
+ghost use Rattle.fault_ledger.specs.History.{block_count};
 ghost use Rattle.fault_ledger.specs.Face.{shape_of};
 
 use super::*;
@@ -99,6 +100,26 @@ fn a_seat_sees_a_hit_of_one_it_never_met(rt: HostRuntime) -> Result<(), Fail> {
 }
 
 #[test]
+fn seats_ask_of_a_hit_of_one_they_never_met(rt: HostRuntime) -> Result<(), Fail> {
+    let (ledger, mut seats) = SharedLedger::new(rt.alloc(), 1, 65, 3)?;
+    let (Some(mut third), Some(mut second), Some(mut first)) = (
+        seats.pop(),
+        seats.pop(),
+        seats.pop(),
+    ) else {
+        panic!(rt; "three seats")
+    };
+    assert_eq!(rt;
+        ledger.claim(&mut first),
+        Ok(Claim::Piece { class: 0, block: 0 })
+    );
+    assert_eq!(rt; ledger.report(&mut first, Hit(5)), Ok(()));
+    assert_eq!(rt; ledger.status(&mut second, 0), Status::Settled(Some(5)));
+    assert_eq!(rt; ledger.finished(&mut third), Finish::Finished);
+    Ok(())
+}
+
+#[test]
 fn sixty_four_seats_on_one_piece(rt: HostRuntime) -> Result<(), Fail> {
     let mut all = Staffed::<1, 1, 64>::new(rt.alloc())?;
     assert_eq!(rt; all.reply_to(Call::Claim(0)), piece(0, 0));
@@ -109,6 +130,11 @@ fn sixty_four_seats_on_one_piece(rt: HostRuntime) -> Result<(), Fail> {
         );
     }
     assert_eq!(rt; all.seats.len(), 64);
+    Ok(())
+}
+
+#[test]
+fn no_workers_and_too_many_are_refused(rt: HostRuntime) -> Result<(), Fail> {
     for (workers, fault) in [
         (0, LedgerFault::NoWorkers),
         (65, LedgerFault::TooManyWorkers),
@@ -122,7 +148,7 @@ fn sixty_four_seats_on_one_piece(rt: HostRuntime) -> Result<(), Fail> {
 }
 
 #[test]
-fn a_seat_with_notes_alone_would_miss_the_hit(rt: HostRuntime) -> Result<(), Fail> {
+fn a_seat_drops_on_a_hit_of_one_it_never_met(rt: HostRuntime) -> Result<(), Fail> {
     let mut all = Staffed::<1, 512, 8>::new(rt.alloc())?;
     for worker in 0..8 {
         assert_eq!(rt; all.reply_to(Call::Claim(worker)), piece(0, worker));
@@ -156,7 +182,7 @@ fn a_seat_with_notes_alone_would_miss_the_hit(rt: HostRuntime) -> Result<(), Fai
 }
 
 #[test]
-fn one_seat_meets_every_refusal(rt: HostRuntime) -> Result<(), Fail> {
+fn one_seat_gets_every_refusal(rt: HostRuntime) -> Result<(), Fail> {
     let none_held = Reply::Refused(Refusal::NothingHeld);
     let bad = Reply::Refused(Refusal::BadOutcome);
     let no_hit = Reply::Refused(Refusal::NoEarlierHit);
@@ -204,47 +230,99 @@ fn one_seat_meets_every_refusal(rt: HostRuntime) -> Result<(), Fail> {
         tests: 65,
         workers: 1,
     };
-    let (_ledger, told) = replay(rt.alloc(), shape, &calls)?;
-    assert_eq!(rt; told.as_slice(), replies.as_slice());
+    let (_ledger, replayed) = replay(rt.alloc(), shape, &calls)?;
+    assert_eq!(rt; replayed.as_slice(), replies.as_slice());
     Ok(())
 }
 
-/// The outcome of a piece: `density` of 16 are hits.
-fn outcome_of(density: u64, class: u32, block: u32) -> Outcome {
-    let number = 7 * u64::from(class) + 11 * u64::from(block);
-    if number % 16 < density {
-        Hit((number % 64) as u32)
-    } else {
-        Clear
+/// What the workers of a run note of a piece: how often it was claimed, and how often dropped.
+#[derive(Drop)]
+struct Note {
+    claimed: AtomicU64,
+    dropped: AtomicU64,
+}
+
+/// What the workers of a run share beside the ledger.
+#[derive(Drop)]
+struct Run {
+    blocks: u32,
+    density: u64,
+    workers: u64,
+    arrived: AtomicU64,
+    notes: Vec<Note>,
+}
+
+impl Run {
+    /// A run of this many workers on these numbers of classes and blocks, whose pieces are hits in
+    /// `density` of 16 cases.
+    fn new(
+        alloc: Global,
+        classes: u32,
+        blocks: u32,
+        workers: u32,
+        density: u64,
+    ) -> Result<Run, AllocError>
+        ensures { IfOk result (λ run. run.blocks ≡ blocks) }
+    {
+        let mut notes = Vec::new(alloc);
+        for _ in 0..u64::from(classes) * u64::from(blocks) {
+            notes.push(Note {
+                claimed: AtomicU64::new(0),
+                dropped: AtomicU64::new(0),
+            })?;
+        }
+        Ok(Run {
+            blocks,
+            density,
+            workers: u64::from(workers),
+            arrived: AtomicU64::new(0),
+            notes,
+        })
+    }
+
+    /// Stays a while, until all workers are there.
+    fn gather(&self) {
+        self.arrived.fetch_add(1, Ordering::SeqCst);
+        for _ in 0..1_000_000 {
+            if self.arrived.load(Ordering::SeqCst) >= self.workers {
+                return;
+            }
+        }
+    }
+
+    fn note_of(&self, class: u32, block: u32) -> Option<&Note> {
+        let place = u64::from(class) * u64::from(self.blocks) + u64::from(block);
+        self.notes.get(place as usize)
+    }
+
+    fn outcome_of(&self, class: u32, block: u32) -> Outcome {
+        let number = 7 * u64::from(class) + 11 * u64::from(block);
+        if number % 16 < self.density {
+            Hit((number % 64) as u32)
+        } else {
+            Clear
+        }
     }
 }
 
 /// Claims and reports until all pieces are claimed. Workers of an odd number drop where they can.
-fn work(
-    ledger: &SharedLedger,
-    blocks: u32,
-    density: u64,
-    claimed: &[AtomicU64],
-    mut seat: Seat,
-) -> Seat
+fn work(ledger: &SharedLedger, run: &Run, mut seat: Seat) -> Seat
     requires { seat.place ≡ ledger.now }
     ensures { result.place ≡ ledger.now }
 {
-    for _ in 0..=claimed.len() {
+    run.gather();
+    for _ in 0..=run.notes.len() {
         let Ok(Claim::Piece { class, block }) = ledger.claim(&mut seat) else {
             break;
         };
-        if block < blocks {
-            let place = u64::from(class) * u64::from(blocks) + u64::from(block);
-            if let Some(count) = claimed.get(place as usize) {
-                count.fetch_add(1, Ordering::SeqCst);
-            }
-        }
+        let Some(note) = run.note_of(class, block) else {
+            break;
+        };
+        note.claimed.fetch_add(1, Ordering::SeqCst);
         if seat.worker() % 2 == 1 && ledger.drop_piece(&mut seat).is_ok() {
-            continue;
-        }
-        if ledger
-            .report(&mut seat, outcome_of(density, class, block))
+            note.dropped.fetch_add(1, Ordering::SeqCst);
+        } else if ledger
+            .report(&mut seat, run.outcome_of(class, block))
             .is_err()
         {
             break;
@@ -253,13 +331,11 @@ fn work(
     seat
 }
 
-/// Lets each worker work in a thread of its own, and gives the seats back.
+/// Lets each worker work in a thread of its own, where one can be started, and gives the seats back.
 fn in_threads<R: Threads + Sync>(
     rt: &R,
     ledger: &SharedLedger,
-    blocks: u32,
-    density: u64,
-    claimed: &[AtomicU64],
+    run: &Run,
     seats: Vec<Seat>,
 ) -> Result<Vec<Seat>, AllocError>
     requires { All (λ seat. seat.place ≡ ledger.now) seats.items }
@@ -271,30 +347,57 @@ fn in_threads<R: Threads + Sync>(
         &move |seat: Seat| -> Seat
             requires { seat.place ≡ ledger.now }
             ensures { result.place ≡ ledger.entry.now }
-        { work(ledger, blocks, density, claimed, seat) },
+        { work(ledger, run, seat) },
     )
 }
 
-/// A ledger that is closed after all workers have worked. Each piece was claimed once.
+/// Checks a closed ledger against the notes of its run: each piece was claimed once, and is as it was
+/// reported or dropped; a class is settled at its first hit.
+fn check<R: Abort>(rt: &R, run: &Run, closed: &Closed, classes: u32) -> Result<(), Fail>
+    requires { (closed.now.shape.classes ≡ classes) × (block_count closed.now.shape ≡ run.now.blocks) × (run.now.blocks ≤ 64) }
+{
+    for class in 0..classes {
+        let mut first = None;
+        for block in 0..run.blocks {
+            let Some(note) = run.note_of(class, block) else {
+                panic!(rt; "a piece without a note")
+            };
+            assert_eq!(rt; note.claimed.load(Ordering::SeqCst), 1);
+            let state = closed.entry(class, block);
+            if note.dropped.load(Ordering::SeqCst) == 1 {
+                assert_eq!(rt; state, PieceState::Skipped);
+                assert!(rt; first.is_some());
+                continue;
+            }
+            match run.outcome_of(class, block) {
+                Clear => assert_eq!(rt; state, PieceState::Clear),
+                Hit(test) => {
+                    assert_eq!(rt; state, PieceState::Hit(test));
+                    first = first.or(Some(test.wrapping_add(64 * block)));
+                }
+            }
+        }
+        assert_eq!(rt; closed.status(class), Status::Settled(first));
+    }
+    assert_eq!(rt; closed.finished(), Finish::Finished);
+    Ok(())
+}
+
+/// A ledger on which all workers have worked, closed and checked.
 fn worked<R: Threads + Abort + Sync, const CLASSES: u32, const TESTS: u32, const WORKERS: u32>(
     rt: &R,
     alloc: Global,
     density: u64,
 ) -> Result<Closed, Fail>
+    requires { TESTS ≤ 4096 }
     ensures { IfOk result (λ closed. closed.shape ≡ shape_of CLASSES TESTS WORKERS) }
 {
     let Staffed { ledger, seats } = Staffed::<CLASSES, TESTS, WORKERS>::new(alloc)?;
-    let blocks = TESTS.div_ceil(64);
-    let mut claimed = Vec::new(alloc);
-    for _ in 0..u64::from(CLASSES) * u64::from(blocks) {
-        claimed.push(AtomicU64::new(0))?;
-    }
-    let seats = in_threads(rt, &ledger, blocks, density, &claimed, seats)?;
-    for count in &claimed {
-        assert_eq!(rt; count.load(Ordering::SeqCst), 1);
-    }
-    let all = Staffed::<CLASSES, TESTS, WORKERS> { ledger, seats };
-    Ok(all.close(alloc)?)
+    let run = Run::new(alloc, CLASSES, TESTS.div_ceil(64), WORKERS, density)?;
+    let seats = in_threads(rt, &ledger, &run, seats)?;
+    let closed = Staffed::<CLASSES, TESTS, WORKERS> { ledger, seats }.close(alloc)?;
+    check(rt, &run, &closed, CLASSES)?;
+    Ok(closed)
 }
 
 #[test]
@@ -312,22 +415,7 @@ fn four_threads_share_two_classes(rt: HostRuntime) -> Result<(), Fail> {
 
 #[test]
 fn many_threads_agree_with_the_outcomes(rt: HostRuntime) -> Result<(), Fail> {
-    let closed = worked::<HostRuntime, 40, 6_400, 8>(&rt, rt.alloc(), 3)?;
-    for class in 0..40 {
-        let mut first = None;
-        for block in 0..100 {
-            let state = closed.entry(class, block);
-            match outcome_of(3, class, block) {
-                _ if state == PieceState::Skipped => assert!(rt; first.is_some()),
-                Clear => assert_eq!(rt; state, PieceState::Clear),
-                Hit(test) => {
-                    assert_eq!(rt; state, PieceState::Hit(test));
-                    first = first.or(Some(test.wrapping_add(64 * block)));
-                }
-            }
-        }
-        assert_eq!(rt; closed.status(class), Status::Settled(first));
-    }
+    let closed = worked::<HostRuntime, 400, 4_096, 8>(&rt, rt.alloc(), 3)?;
     assert_eq!(rt; closed.finished(), Finish::Finished);
     Ok(())
 }

@@ -4,7 +4,7 @@
 //! p + 1. Each step is one atomic operation on one word. Views and events are facts of the proof: no
 //! value of [`View`] or [`Post`] is made.
 
-ghost use Rattle.std.specs.Prelude.{◌≡◌, ◌<◌, ◌≤◌, ◌+◌, true, false, List, [], ◌∷◌, ◌++◌, map, slice_index, IfOk, Some, None};
+ghost use Rattle.std.specs.Prelude.{◌≡◌, ◌<◌, ◌≤◌, ◌+◌, true, false, [], ◌∷◌, map, slice_index, IfOk, Some, None};
 ghost use Rattle.patterns.specs.Tests.{size_of};
 ghost use Rattle.fault_ledger.specs.declared.Event.{Event};
 ghost use Rattle.fault_ledger.specs.declared.Claim.TheVariants as claim_is;
@@ -19,7 +19,7 @@ ghost use Rattle.patterns.specs.Least.{below};
 ghost use Rattle.std.specs.Mem.Slots.{slots_items, slots_len, IsFull};
 
 use crate::{Event, PieceState, Shape};
-use atomic_table::{Badge, Closed, Join, Play, Split, Table, TableRule};
+use atomic_table::{Badge, Closed as ClosedTable, Join, Play, Split, Table, TableRule};
 use patterns::Outcome;
 use std::alloc::{AllocError, Global};
 use std::collections::LinkedList;
@@ -37,16 +37,16 @@ const HIT: u64 = 128;
 
 /// A worker that a token stands for, whether it was told that all pieces are claimed, and the history
 /// that it has seen, the newest event first.
-pub struct Post {
-    pub worker: u32,
-    pub told: bool,
-    pub seen: LinkedList<Event>,
+pub(crate) struct Post {
+    pub(crate) worker: u32,
+    pub(crate) told: bool,
+    pub(crate) seen: LinkedList<Event>,
 }
 
 /// What a token knows: the shape of its ledger, and the workers that it stands for.
-pub struct View {
-    pub shape: Shape,
-    pub posts: LinkedList<Post>,
+pub(crate) struct View {
+    pub(crate) shape: Shape,
+    pub(crate) posts: LinkedList<Post>,
 }
 
 /// The rule: there is one legal history of which the words are.
@@ -60,6 +60,7 @@ impl TableRule<u8, View, Shape> for OneHistory {
     ghost first = { everybody };
 }
 
+/// The step of a claim: the piece of the number found is the worker's, or all are claimed.
 struct Claiming;
 
 impl Play<u8, View> for Claiming {
@@ -68,6 +69,7 @@ impl Play<u8, View> for Claiming {
     ghost then = { Claims };
 }
 
+/// The step of a report: the outcome with the word stored is the worker's last event.
 struct Reporting;
 
 impl Play<u8, View> for Reporting {
@@ -76,6 +78,7 @@ impl Play<u8, View> for Reporting {
     ghost then = { Reports };
 }
 
+/// The step of a drop, which is the worker's last event.
 struct Dropping;
 
 impl Play<u8, View> for Dropping {
@@ -84,6 +87,7 @@ impl Play<u8, View> for Dropping {
     ghost then = { Drops };
 }
 
+/// A look: what the word found says is so in a legal history, which all workers of the token have seen.
 struct Looking;
 
 impl Play<u8, View> for Looking {
@@ -316,7 +320,7 @@ impl Words {
 /// The states of all pieces in the words of a closed table.
 fn read_states(
     alloc: Global,
-    closed: &Closed<u8, Global>,
+    closed: &ClosedTable<u8, Global>,
     pieces: usize,
 ) -> Result<Vec<PieceState>, AllocError>
     requires { (slots_len closed.now.words ≡ pieces + 1) × IsFull closed.now.words }
@@ -347,6 +351,7 @@ fn state_at(word: u64) -> PieceState
         OPEN => PieceState::Open,
         CLEAR => PieceState::Clear,
         SKIPPED => PieceState::Skipped,
+        // HIT is a multiple of 64, and a test of a block is below 64.
         _ => PieceState::Hit((word % 64) as u32),
     }
 }

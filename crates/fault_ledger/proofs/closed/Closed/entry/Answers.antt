@@ -13,8 +13,8 @@ index-requires c =
     let b = s.states.ok in
     omega arith
 
-pub returns : goal.returns
-returns c =
+pub returns-clause-entry : goal.returns-clause-entry
+returns-clause-entry c =
     let f = c.args.self.now in
     let x = c.index.result.now in
     let is = subst (λ (g : ClosedFace). x ≡ slice_index_or g.states (c.args.class + g.shape.classes * c.args.block) x) c.self.view_is c.index.ensures in
