@@ -4,6 +4,9 @@
 //! report what they found, or drop a piece where an earlier block of its class is known to detect.
 //! Outcomes come in any order; a class is settled at its earliest detecting test. A drop is the fault
 //! dropping of Bushnell and Agrawal, Essentials of Electronic Testing, by blocks of tests.
+//!
+//! [`Ledger`] has one owner, who calls for all workers; [`SharedLedger`] is for workers in threads of
+//! their own, each with its [`Seat`]. Both answer alike.
 #![tactic(auto)]
 
 mod calls;
