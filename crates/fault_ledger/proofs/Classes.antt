@@ -1,5 +1,5 @@
 -- What looks at the pieces of a class say of the class.
-use Rattle.std.proofs.Common.{◌≡◌, ◌≢◌, ℕ, zero, suc, ◌+◌, ◌*◌, ◌<◌, ◌≤◌, Bool, true, false, true≢false, List, [], ◌∷◌, map, Option, None, refl, sym, ap, ◌∙◌, subst, arith}
+use Rattle.std.proofs.Common.{◌≡◌, ◌≢◌, ℕ, ◌+◌, ◌*◌, ◌<◌, Bool, true, false, true≢false, List, [], ◌∷◌, map, Option, refl, sym, ap, ◌∙◌, subst, arith}
 use Rattle.patterns.specs.Least.{below}
 use Rattle.fault_ledger.specs.declared.Shape.{Shape}
 use Rattle.fault_ledger.specs.declared.PieceState.{PieceState}
@@ -8,7 +8,6 @@ use Rattle.fault_ledger.specs.declared.Status.TheVariants.{Settled}
 use Rattle.fault_ledger.specs.History.{History, entry, block_count, piece_at, ContinuesWithout}
 use Rattle.fault_ledger.specs.Answer.{is_hit, IsLegal}
 use Rattle.fault_ledger.specs.Settled.{status_from, IsSettledAt}
-use Rattle.fault_ledger.specs.Face.{shape_fault}
 use Rattle.fault_ledger.specs.Seats.{Sitter, Sees}
 use Rattle.fault_ledger.proofs.Histories.{entry_goes_on}
 use Rattle.fault_ledger.proofs.Legal.{never_first}

@@ -1,8 +1,8 @@
 -- The seats of all workers, one by one.
-use Rattle.std.proofs.Common.{◌≡◌, ℕ, zero, suc, ◌+◌, ◌-◌, ◌<◌, false, true≢false, List, [], ◌∷◌, ◌++◌, map, length, get_or, All, None, refl, sym, ap, ◌∙◌, subst, arith, add-one, length-append}
+use Rattle.std.proofs.Common.{◌≡◌, ℕ, suc, ◌+◌, ◌-◌, ◌<◌, false, true≢false, List, [], ◌∷◌, ◌++◌, map, length, get_or, All, None, refl, sym, ap, ◌∙◌, subst, arith, add-one, length-append}
 use Rattle.std.proofs.Math.Seq.{get_or-append_seam}
 use Rattle.std.proofs.lemmas.List.Elements.{All-nil, All-cons, All-map}
-use Rattle.patterns.specs.Least.{from_up, below}
+use Rattle.patterns.specs.Least.{below}
 use Rattle.fault_ledger.specs.declared.Shape.{Shape}
 use Rattle.fault_ledger.specs.declared.words.Post.{Post}
 use Rattle.fault_ledger.specs.Face.{shape_fault}

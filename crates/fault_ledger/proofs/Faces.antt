@@ -1,8 +1,7 @@
 -- What each call answers, over the parts of a face.
-use Rattle.std.proofs.Common.{◌≡◌, ℕ, ◌+◌, ◌*◌, ◌%◌, ◌/◌, ◌<◌, ◌≤◌, Bool, true, false, cond, ◌⊎◌, inl, inr, nat_lt, ◌==◌, is_some, eqb, List, ◌∷◌, ◌++◌, map, set, length, slice_get, slice_index_or, Option, Some, None, refl, sym, ap, ◌∙◌, subst, arith, lt-ltb, le-ltb, ne_eqb, eq-eqb}
+use Rattle.std.proofs.Common.{◌≡◌, ℕ, ◌+◌, ◌*◌, ◌%◌, ◌/◌, ◌<◌, ◌≤◌, Bool, true, false, cond, ◌⊎◌, inl, inr, is_some, eqb, List, ◌∷◌, ◌++◌, map, set, length, slice_get, slice_index_or, Option, Some, None, refl, sym, ap, ◌∙◌, subst, arith, lt-ltb, le-ltb, ne_eqb, eq-eqb}
 use Rattle.std.specs.List.{list_any}
 use Rattle.std.proofs.Math.Nat.{mod-lt}
-use borrow.Author.Tests.{ltb-false}
 use Rattle.std.proofs.lemmas.Option.{get_or_from_slice_get, slice_get_within}
 use Rattle.patterns.specs.declared.Outcome.{Outcome}
 use Rattle.patterns.specs.Tests.{size_of, max_pieces}
@@ -11,7 +10,6 @@ use Rattle.fault_ledger.specs.declared.Event.{Event}
 use Rattle.fault_ledger.specs.declared.Shape.{Shape}
 use Rattle.fault_ledger.specs.declared.PieceState.{PieceState}
 use Rattle.fault_ledger.specs.declared.PieceState.TheVariants as state
-use Rattle.fault_ledger.specs.declared.LedgerFault.TheVariants.{NoWorkers, TooManyWorkers, TooManyPieces}
 use Rattle.fault_ledger.specs.declared.Refusal.{Refusal}
 use Rattle.fault_ledger.specs.declared.Refusal.TheVariants.{NoSuchWorker, Holding, NothingHeld, BadOutcome, NoEarlierHit}
 use Rattle.fault_ledger.specs.declared.Claim.TheVariants as claim_is
@@ -21,7 +19,7 @@ use Rattle.fault_ledger.specs.declared.Reply.{Reply}
 use Rattle.fault_ledger.specs.declared.Reply.TheVariants.{Claimed, Done, Refused}
 use Rattle.fault_ledger.specs.History.{History, claims, held, holds, state_of, entry, piece_count, class_of, block_of, piece_at}
 use Rattle.fault_ledger.specs.Answer.{fits_size, is_hit, has_earlier_hit, claim_reply, report_reply, drop_reply, answer, added, after, IsLegal}
-use Rattle.fault_ledger.specs.Face.{Face, face, shape_fault, IsLedger, Answers}
+use Rattle.fault_ledger.specs.Face.{Face, face, IsLedger, Answers}
 use Rattle.fault_ledger.proofs.Tables.{length-below, get-below, set-below, any-below}
 use Rattle.fault_ledger.proofs.Pieces.{some_class, piece_at-below, block_of-below}
 use Rattle.fault_ledger.proofs.Histories.{holds-not, held-holds}

@@ -1,8 +1,8 @@
 -- A group's place, the words of a new table, and what those of a closed table say of the pieces.
-use Rattle.std.proofs.Common.{◌≡◌, ℕ, zero, suc, ◌+◌, ◌<◌, ◌∷◌, [], ◌++◌, List, map, length, slice_index, replicate, refl, sym, ap, ◌∙◌, subst, arith, add-one}
+use Rattle.std.proofs.Common.{◌≡◌, ℕ, zero, suc, ◌+◌, ◌<◌, ◌∷◌, [], List, map, length, slice_index, replicate, refl, sym, ap, ◌∙◌, subst, arith}
 use mathlib.Core.Option.{some, some-injective, some-ne-none}
 use lib.ListN.{get_elem?}
-use Rattle.patterns.specs.Least.{from_up, below}
+use Rattle.patterns.specs.Least.{below}
 use Rattle.atomic_table.specs.Seated.{TableId}
 use Rattle.patterns.specs.Tests.{size_of}
 use Rattle.atomic_table.specs.Table.{Final, Seen}

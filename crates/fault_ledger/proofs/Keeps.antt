@@ -1,15 +1,13 @@
 -- Claims, reports and drops keep the rule.
-use Rattle.std.proofs.Common.{◌≡◌, ◌≢◌, ℕ, ◌+◌, ◌^◌, ◌%◌, ◌<◌, ◌≤◌, inl, inr, min, Bool, true, false, cond, eqb, nat_lt, List, [], ◌∷◌, ◌++◌, set, length, slice_index, Some, None, refl, sym, ap, ◌∙◌, subst, arith, eq-eqb, length-set, get_or-set_other, get_or-set_same, mod-eq_of_lt}
+use Rattle.std.proofs.Common.{◌≡◌, ◌≢◌, ℕ, ◌+◌, ◌^◌, ◌%◌, ◌<◌, ◌≤◌, inl, inr, min, Bool, true, false, cond, eqb, List, [], ◌∷◌, ◌++◌, set, length, slice_index, Some, None, refl, sym, ap, ◌∙◌, subst, arith, eq-eqb, length-set, get_or-set_other, get_or-set_same, mod-eq_of_lt}
 use Rattle.std.proofs.Math.Nat.{min-eq_left, min-eq_right}
-use borrow.Author.Tests.{ltb-false}
 use native.Mathlib.Decide.{dec_lt, ℕ_discrete}
 use mathlib.Core.Option.{some, none}
 use mathlib.Core.Logic.{dite}
 use lib.ListN.{get_elem?}
 use Rattle.atomic_table.specs.Table.{State, Me, step, Act, keeps, Valid, stepped, carried_after, Allows}
 use Rattle.patterns.specs.declared.Outcome.{Outcome}
-use Rattle.patterns.specs.Tests.{size_of, max_pieces}
-use Rattle.fault_ledger.specs.declared.LedgerFault.TheVariants.{NoWorkers, TooManyWorkers, TooManyPieces}
+use Rattle.patterns.specs.Tests.{size_of}
 use Rattle.fault_ledger.specs.declared.Shape.{Shape}
 use Rattle.fault_ledger.specs.declared.PieceState.{PieceState}
 use Rattle.fault_ledger.specs.declared.PieceState.TheVariants as state
@@ -18,7 +16,6 @@ use Rattle.fault_ledger.specs.declared.Call.TheVariants as call
 use Rattle.fault_ledger.specs.declared.words.View.{View}
 use Rattle.fault_ledger.specs.History.{History, piece_count, block_of, worker_of, state_of, claims, held, holds, entry}
 use Rattle.fault_ledger.specs.Answer.{fits_size, has_earlier_hit, added, after, call_of}
-use Rattle.fault_ledger.specs.Face.{shape_fault}
 use Rattle.fault_ledger.specs.Words.{word_of, total, times, told_of, ForEach, Knows, IsKeptBy, IsKept, one, post, Claims, Reports, Drops}
 use Rattle.fault_ledger.proofs.Histories.{held_goes_on, held-holds, holds-not, goes_on_same}
 use Rattle.fault_ledger.proofs.Totals.{total-two, total-mono, told-length, times-none, for_each, set_known}

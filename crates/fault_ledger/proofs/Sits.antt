@@ -1,10 +1,7 @@
 -- What a step of a seat's token means for the seat.
-use Rattle.std.proofs.Common.{◌≡◌, ℕ, ◌==◌, ◌<◌, ◌≤◌, Bool, true, false, cond, nat_lt, Option, Some, None, refl, sym, ap, ◌∙◌, subst, arith, lt-ltb, le-ltb}
-use borrow.Author.Tests.{ltb-false}
-use Rattle.patterns.specs.Tests.{max_pieces}
+use Rattle.std.proofs.Common.{◌≡◌, ℕ, ◌<◌, ◌≤◌, Bool, true, false, cond, Option, Some, None, refl, sym, ap, ◌∙◌, subst, arith, lt-ltb, le-ltb}
 use Rattle.fault_ledger.specs.declared.Shape.{Shape}
 use Rattle.fault_ledger.specs.declared.Event.{Event}
-use Rattle.fault_ledger.specs.declared.LedgerFault.TheVariants.{NoWorkers, TooManyWorkers, TooManyPieces}
 use Rattle.fault_ledger.specs.declared.Refusal.TheVariants.{NoSuchWorker, NoEarlierHit}
 use Rattle.fault_ledger.specs.declared.Claim.TheVariants as claim_is
 use Rattle.fault_ledger.specs.declared.Call.TheVariants as call
@@ -12,7 +9,6 @@ use Rattle.fault_ledger.specs.declared.Reply.{Reply}
 use Rattle.fault_ledger.specs.declared.Reply.TheVariants.{Claimed, Done, Refused}
 use Rattle.fault_ledger.specs.History.{History, claims, held, piece_count, class_of, block_of, ContinuesWithout}
 use Rattle.fault_ledger.specs.Answer.{answer, has_earlier_hit, claim_reply, drop_reply, IsLegal}
-use Rattle.fault_ledger.specs.Face.{shape_fault}
 use Rattle.fault_ledger.specs.Seats.{Sitter, IsSitter, IsSeated, Sees, Makes, FindsNoHit}
 use Rattle.fault_ledger.proofs.Histories.{claims_past, held_goes_on, goes_on_twice, goes_on_same}
 use Rattle.fault_ledger.proofs.Legal.{legal_claims, held_piece}

@@ -1,6 +1,5 @@
 -- The status of a class, read from the states of its pieces.
 use Rattle.std.proofs.Common.{◌≡◌, ℕ, zero, suc, ◌+◌, ◌-◌, ◌*◌, ◌<◌, ◌≤◌, List, ◌∷◌, map, length, slice_index_or, Some, None, sym, ap, ◌∙◌, arith}
-use Rattle.patterns.specs.Tests.{max_pieces}
 use Rattle.patterns.specs.Least.{from_up, below}
 use Rattle.fault_ledger.specs.declared.Shape.{Shape}
 use Rattle.fault_ledger.specs.declared.PieceState.{PieceState}
@@ -9,7 +8,6 @@ use Rattle.fault_ledger.specs.declared.Status.{Status}
 use Rattle.fault_ledger.specs.declared.Status.TheVariants as status_is
 use Rattle.fault_ledger.specs.History.{History, entry, block_count, piece_count, piece_at, states_of}
 use Rattle.fault_ledger.specs.Settled.{status_from, status}
-use Rattle.fault_ledger.specs.Face.{shape_fault}
 use Rattle.fault_ledger.specs.Seats.{AreStates}
 use Rattle.fault_ledger.proofs.Tables.{length-below, get-below, same-below}
 use Rattle.fault_ledger.proofs.Pieces.{piece_at-below}
