@@ -28,7 +28,7 @@ ghost use Rattle.fault_ledger.specs.Face.{shape_fault};
 
 pub use calls::replay;
 pub use closed::Closed;
-use patterns::{MAX_PIECES, Outcome};
+use patterns::{BLOCK_SIZE, MAX_PIECES, Outcome};
 pub use sequential::Ledger;
 pub use shared::{Seat, SharedLedger};
 use std::alloc::{AllocError, AllocFailed};
@@ -199,7 +199,7 @@ impl Shape {
     pub(crate) fn blocks(self) -> u32
         ensures { result ≡ block_count self }
     {
-        self.tests.div_ceil(64)
+        self.tests.div_ceil(BLOCK_SIZE)
     }
 
     /// The number of pieces: classes times blocks.
@@ -214,7 +214,7 @@ impl Shape {
         requires { block < block_count self }
         ensures { result ≡ size_of self.tests block }
     {
-        (self.tests - 64 * block).min(64)
+        (self.tests - BLOCK_SIZE * block).min(BLOCK_SIZE)
     }
 
     /// Why there is no ledger of this shape, but for want of memory.

@@ -15,7 +15,7 @@ ghost use Rattle.fault_ledger.specs.Words.{newcomer_posts, post_of};
 use crate::sequential::fits;
 use crate::words::{Group, Token, Words};
 use crate::{Claim, Closed, Finish, LedgerFault, PieceState, Refusal, Shape, Status};
-use patterns::Outcome;
+use patterns::{BLOCK_SIZE, Outcome};
 use std::alloc::{AllocError, Global};
 use std::marker::Model;
 
@@ -259,7 +259,7 @@ impl SharedLedger {
             let piece = class + self.shape.classes * block;
             match self.words.look(token, piece) {
                 PieceState::Clear => {}
-                PieceState::Hit(test) => return Status::Settled(Some(64 * block + test)),
+                PieceState::Hit(test) => return Status::Settled(Some(BLOCK_SIZE * block + test)),
                 PieceState::Open => return Status::Waiting(block),
                 // A skipped piece stands behind a hit of its class.
                 PieceState::Skipped => unreachable!(),

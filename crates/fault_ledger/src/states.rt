@@ -8,6 +8,7 @@ ghost use Rattle.fault_ledger.specs.Face.{shape_fault};
 ghost use Rattle.fault_ledger.specs.Seats.{AreStates};
 
 use crate::{Finish, PieceState, Shape, Status};
+use patterns::BLOCK_SIZE;
 
 /// Whether a class is settled, and at which test, else the block that it waits for.
 pub(crate) fn status_in(shape: Shape, states: &[PieceState], class: u32) -> Status
@@ -20,7 +21,7 @@ pub(crate) fn status_in(shape: Shape, states: &[PieceState], class: u32) -> Stat
         let piece = class + shape.classes * block;
         match states[piece as usize] {
             PieceState::Clear => {}
-            PieceState::Hit(test) => return Status::Settled(Some(64 * block + test)),
+            PieceState::Hit(test) => return Status::Settled(Some(BLOCK_SIZE * block + test)),
             PieceState::Open => return Status::Waiting(block),
             // A skipped piece stands behind a hit of its class.
             PieceState::Skipped => unreachable!(),

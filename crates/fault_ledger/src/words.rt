@@ -26,13 +26,16 @@ use std::collections::LinkedList;
 use std::marker::Model;
 use std::mem;
 
-/// The words of a piece that is open, clear or skipped. A hit at test k of its block is `HIT + k`.
+/// The word of an open piece, and the cursor before any claim.
 const OPEN: u64 = 0;
 
+/// The word of a clear piece.
 const CLEAR: u64 = 1;
 
+/// The word of a skipped piece.
 const SKIPPED: u64 = 2;
 
+/// The word of a hit at test 0 of its block; that of a hit at test k is `HIT + k`.
 const HIT: u64 = 128;
 
 /// A worker that a token stands for, whether it was told that all pieces are claimed, and the history
