@@ -19,12 +19,13 @@ HERE = pathlib.Path(__file__).resolve().parent
 CRATE = HERE.parent / "crates" / "faultsim"
 PROGRAM = CRATE / "out" / "faultsim"
 
-# name, words for the circuit, number of tests (None: the listing), further words
+# name, words for the circuit, number of tests (None: the listing), a line to add
 CASES = [
-    ("read and list a random circuit of 900,000 gates", "random --gates 900000 --inputs 500 --outputs 500 --ffs 60000 --depth 80 --short", None),
-    ("list a random circuit of 20,000 gates", "random --gates 20000 --inputs 200 --outputs 200 --ffs 800 --depth 50", None),
-    ("c17, 4,096 tests", "c17", 4096),
-    ("a 16 x 16 multiplier of 2,400 gates, 256 tests", "mult 16", 256),
+    ("read a random circuit of 900,000 gates, and refuse its cycle", "random --gates 900000 --inputs 500 --outputs 500 --ffs 60000 --depth 80 --short", None, "~ = NOT(~)\n"),
+    ("read and list a random circuit of 900,000 gates", "random --gates 900000 --inputs 500 --outputs 500 --ffs 60000 --depth 80 --short", None, ""),
+    ("list a random circuit of 20,000 gates", "random --gates 20000 --inputs 200 --outputs 200 --ffs 800 --depth 50", None, ""),
+    ("c17, 4,096 tests", "c17", 4096, ""),
+    ("a 16 x 16 multiplier of 2,352 gates, 256 tests", "mult 16", 256, ""),
 ]
 
 
@@ -35,23 +36,20 @@ def run(words, **options):
 def build(folder):
     baseline = folder / "baseline"
     run(["g++", "-O3", "-march=x86-64-v2", "-std=c++17", "-pthread", str(HERE / "baseline.cpp"), "-o", str(baseline)])
-    if not PROGRAM.exists():
-        subprocess.run(["rt", "run", "--", "--help"], cwd=CRATE, stdout=subprocess.DEVNULL)
-    if not PROGRAM.exists():
-        sys.exit("no program: run `rt run -- --help` in crates/faultsim")
+    subprocess.run(["rt", "run", "--", "--help"], cwd=CRATE, stdout=subprocess.DEVNULL, check=True)
     return baseline
 
 
-def generated(folder, name, words):
+def generated(folder, name, words, more=""):
     path = folder / name
-    path.write_bytes(run([sys.executable, str(HERE / "generate.py"), *words]))
+    path.write_bytes(run([sys.executable, str(HERE / "generate.py"), *words]) + more.encode())
     return str(path)
 
 
 def timed(words):
     begin = time.perf_counter()
-    out = run(words)
-    return time.perf_counter() - begin, out
+    done = subprocess.run(words, stdout=subprocess.PIPE, stderr=subprocess.PIPE)
+    return time.perf_counter() - begin, (done.returncode, done.stdout, done.stderr)
 
 
 def main():
@@ -62,18 +60,21 @@ def main():
     with tempfile.TemporaryDirectory() as name:
         folder = pathlib.Path(name)
         baseline = build(folder)
-        for title, circuit, tests in CASES:
+        for title, circuit, tests, line in CASES:
             if options.only not in title:
                 continue
-            bench = generated(folder, "bench", circuit.split())
+            bench = generated(folder, "bench", circuit.split(), line)
             words = ["faults", "--bench", bench]
+            whole = []
             if tests is not None:
                 rows = generated(folder, "tests", ["tests", "--bench", bench, "--count", str(tests)])
                 words = ["run", "--bench", bench, "--tests", rows, "--workers", "1", "--list"]
+                # The baseline looks at whole blocks too.
+                whole = ["--no-trim"]
             ours, theirs = [], []
             for _ in range(options.rounds):
                 mine, out = timed([str(PROGRAM), *words])
-                other, expected = timed([str(baseline), *words])
+                other, expected = timed([str(baseline), *words, *whole])
                 if out != expected:
                     sys.exit(f"{title}: the reports differ")
                 ours.append(mine)

@@ -5,6 +5,7 @@ use crate::report::ReportFault;
 use crate::source::{Source, SourceFault};
 use crate::text::{SimFault, faults_text, simulate_text};
 use bench_net::BenchFault;
+use block_sim::JobFault;
 use clap::error::ErrorKind;
 use clap::{Arg, ArgAction, ArgMatches, Command, Error, value_parser};
 use patterns::TestFault;
@@ -28,7 +29,7 @@ const WORKERS: u32 = 4;
 
 /// Why a command was not done.
 #[derive(Clone, Copy)]
-enum Fault<'a> {
+pub(crate) enum Fault<'a> {
     /// The file at a path is refused.
     Unreadable(&'a str),
     /// A text is refused, or the work on it, or the output.
@@ -121,12 +122,12 @@ fn do_faults<'a, S: Source, W: Out>(
 }
 
 /// The status of a fault.
-fn status_of(fault: &Fault<'_>) -> u8 {
+pub(crate) fn status_of(fault: &Fault<'_>) -> u8 {
     match fault {
         Fault::Unreadable(_) => FAILED,
         Fault::Sim(fault) => match fault {
             SimFault::Bench(BenchFault::Memory) | SimFault::Tests(TestFault::Memory) => FAILED,
-            SimFault::Report(_) | SimFault::Memory => FAILED,
+            SimFault::Job(JobFault::Memory) | SimFault::Report(_) | SimFault::Memory => FAILED,
             _ => REFUSED,
         },
     }

@@ -6,7 +6,7 @@ ghost use Rattle.block_sim.specs.Parts.{HasRoom};
 ghost use Rattle.faultsim.specs.Verdict.{AreFirsts, IsFirstOfClass};
 
 use block_sim::{Job, Workspace, simulate};
-use patterns::Outcome;
+use patterns::{BLOCK_SIZE, Outcome};
 use std::alloc::{AllocError, Global};
 
 /// The first test that detects the faults of a class, or none.
@@ -18,7 +18,7 @@ fn first_of_class(job: &Job, workspace: &mut Workspace, class: u32) -> Option<u3
 {
     for block in 0..job.tests().blocks() {
         match simulate(job, workspace, class, block) {
-            Outcome::Hit(test) => return Some(64 * block + test),
+            Outcome::Hit(test) => return Some(BLOCK_SIZE * block + test),
             Outcome::Clear => {}
         }
     }

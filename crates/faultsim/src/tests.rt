@@ -5,13 +5,14 @@ mod cases;
 ghost use Rattle.std.specs.Prelude.{◌≤◌};
 ghost use Rattle.block_sim.specs.Parts.{HasRoom};
 
-use crate::command::run_words;
+use crate::command::{Fault, run_words, status_of};
 use crate::output::{Out, OutFailed};
 use crate::source::{Source, SourceFault};
-use crate::text::job_of;
-use block_sim::{Job, Workspace, simulate};
+use crate::text::{SimFault, job_of};
+use bench_net::BenchFault;
+use block_sim::{Job, JobFault, Workspace, simulate};
 use cases::{CASES, Words};
-use patterns::Outcome;
+use patterns::{Outcome, TestFault};
 use std::alloc::Global;
 use std::test::Fail;
 
@@ -242,6 +243,27 @@ fn c17_with_4096_tests_is_evaluated_by_words(rt: HostRuntime) -> Result<(), Fail
     let job = job_of(rt.alloc(), C17.as_bytes(), &tests)?;
     let mut workspace = Workspace::new(rt.alloc(), &job)?;
     assert_eq!(rt; hits_of(&job, &mut workspace), 8 * 64);
+    assert!(rt; workspace.gate_evaluations() > 0);
     assert!(rt; workspace.gate_evaluations() <= 8448);
+    assert!(rt; workspace.fits(&job));
+    Ok(())
+}
+
+#[test]
+fn want_of_memory_has_its_status_and_words(rt: HostRuntime) -> Result<(), Fail> {
+    for fault in [
+        SimFault::Bench(BenchFault::Memory),
+        SimFault::Tests(TestFault::Memory),
+        SimFault::Job(JobFault::Memory),
+        SimFault::Memory,
+    ] {
+        assert_eq!(rt; status_of(&Fault::Sim(fault)), 3);
+        let said = format!(in rt.alloc(); "{fault}")?;
+        assert_eq!(rt; said.as_str(), "out of memory");
+    }
+    let too_many = SimFault::Job(JobFault::TooManyPieces);
+    assert_eq!(rt; status_of(&Fault::Sim(too_many)), 1);
+    let said = format!(in rt.alloc(); "{too_many}")?;
+    assert_eq!(rt; said.as_str(), "more than 4194304 pieces");
     Ok(())
 }

@@ -126,8 +126,16 @@ fn cycles_through_gates_alone_are_refused(rt: HostRuntime) {
         Some(BenchFault::Cycle(2))
     );
     assert_eq!(rt; refusal(alloc, b"q = DFF(d)\nd = NOT(q)\n"), None);
-    assert_eq!(rt; refusal(alloc, b"z = DFF(z)\n"), None);
     assert_eq!(rt; refusal(alloc, b"# nothing\n"), Some(BenchFault::Empty));
+}
+
+#[test]
+fn a_cell_of_itself_is_a_source(rt: HostRuntime) -> Result<(), Fail> {
+    let circuit = read_bench(rt.alloc(), b"z = DFF(z)\n")?;
+    assert_eq!(rt; circuit.sources(), 1);
+    assert_eq!(rt; levels(rt.alloc(), &circuit)?.as_slice(), [0].as_slice());
+    assert_eq!(rt; circuit.depth(), 0);
+    Ok(())
 }
 
 #[test]

@@ -6,7 +6,7 @@ const C17: &[u8] =
 
 /// The refusal of a text, or none where it is read.
 fn refusal(alloc: Global, text: &[u8]) -> Option<BenchFault> {
-    match read_lines(alloc, text) {
+    match crate::read_bench(alloc, text) {
         Ok(_) => None,
         Err(fault) => Some(fault),
     }
@@ -78,7 +78,7 @@ fn faulty_texts_are_refused_by_name(rt: HostRuntime) -> Result<(), Fail> {
     for (text, line) in syntax {
         assert_eq!(rt; refusal(rt.alloc(), text), Some(BenchFault::Syntax(line)));
     }
-    let others: [(&[u8], BenchFault); 9] = [
+    let others: [(&[u8], BenchFault); 10] = [
         (b"INPUT(a)\nINPUT(a)\n", BenchFault::Redefined(2)),
         (b"OUTPUT(x)\nINPUT(a)\nINPUT(a)\n", BenchFault::Redefined(3)),
         (
@@ -94,6 +94,7 @@ fn faulty_texts_are_refused_by_name(rt: HostRuntime) -> Result<(), Fail> {
         ),
         (b"INPUT(a)\n# b\n\nq = DFF(b)\n", BenchFault::Undefined(4)),
         (b"OUTPUT(z)\n)\n", BenchFault::Syntax(2)),
+        (b"a = NOT(a)\nOUTPUT(x)\n", BenchFault::Undefined(2)),
     ];
     for (text, fault) in others {
         assert_eq!(rt; refusal(rt.alloc(), text), Some(fault));
@@ -103,53 +104,67 @@ fn faulty_texts_are_refused_by_name(rt: HostRuntime) -> Result<(), Fail> {
 
 #[test]
 fn odd_texts_are_read(rt: HostRuntime) -> Result<(), Fail> {
-    let texts: [(&[u8], (usize, usize)); 12] = [
-        (b"", (0, 0)),
-        (b"# x\n", (0, 0)),
-        (b"\r\n \t\n\r", (0, 0)),
-        (b"input( a )\r\nOutput(z)\r\n\r\nz=buf(a) # x", (2, 3)),
-        (b"INPUT(INPUT)\nOUTPUT(INPUT)\n", (1, 2)),
-        (b"INPUT(a) # \x00\r\xff\n", (1, 1)),
-        (b"\tInput\t(a)\nz = nOt ( a)\n", (2, 2)),
-        (b"z = DFF(z)\n", (1, 1)),
+    let texts: [(&[u8], (usize, usize), Option<BenchFault>); 12] = [
+        (b"", (0, 0), Some(BenchFault::Empty)),
+        (b"# x\n", (0, 0), Some(BenchFault::Empty)),
+        (b"\r\n \t\n\r", (0, 0), Some(BenchFault::Empty)),
+        (b"input( a )\r\nOutput(z)\r\n\r\nz=buf(a) # x", (2, 3), None),
+        (b"INPUT(INPUT)\nOUTPUT(INPUT)\n", (1, 2), None),
+        (b"INPUT(a) # \x00\r\xff\n", (1, 1), None),
+        (b"\tInput\t(a)\nz = nOt ( a)\n", (2, 2), None),
+        (b"z = DFF(z)\n", (1, 1), None),
         (
             b"DFF = dff(AND)\nAND = and(NOT,NOT , DFF)\nNOT = Xnor(DFF)\n",
             (3, 3),
+            None,
         ),
-        (b"INPUT(a)\nOUTPUT(a)\nOUTPUT(a)\nz = XOR(a, a)\n", (2, 4)),
-        (b"!\"$%&'*+-./:;<>?@[]^_`{|}~ = OR(a1)\nINPUT(a1)", (2, 2)),
-        (b"a = NOT(b)\nb = NOT(a)\n", (2, 2)),
+        (
+            b"INPUT(a)\nOUTPUT(a)\nOUTPUT(a)\nz = XOR(a, a)\n",
+            (2, 4),
+            None,
+        ),
+        (
+            b"!\"$%&'*+-./:;<>?@[]^_`{|}~ = OR(a1)\nINPUT(a1)",
+            (2, 2),
+            None,
+        ),
+        (
+            b"a = NOT(b)\nb = NOT(a)\n",
+            (2, 2),
+            Some(BenchFault::Cycle(1)),
+        ),
     ];
-    for (text, size) in texts {
+    for (text, size, fault) in texts {
         assert_eq!(rt; sizes(rt.alloc(), text), Some(size));
+        assert_eq!(rt; refusal(rt.alloc(), text), fault);
     }
     Ok(())
+}
+
+/// What a beginning of c17 is refused with: each of its 13 lines ends with its one `)`.
+fn refusal_of_beginning(text: &[u8]) -> Option<BenchFault> {
+    let whole = text.iter().filter(|byte| **byte == b')').count() as u64;
+    match text.last() {
+        None => Some(BenchFault::Empty),
+        Some(b')') | Some(b'\n') => match whole {
+            1..=5 | 13 => None,
+            6..=11 => Some(BenchFault::Undefined(6)),
+            _ => Some(BenchFault::Undefined(7)),
+        },
+        Some(_) => Some(BenchFault::Syntax(whole + 1)),
+    }
 }
 
 #[test]
 fn c17_cut_short_is_read_or_refused_by_name(rt: HostRuntime) -> Result<(), Fail> {
     for end in 0..=C17.len() {
-        let fault = refusal(rt.alloc(), &C17[..end]);
-        assert!(rt;
-            fault != Some(BenchFault::Memory),
-            "no memory for {end} bytes"
+        let text = &C17[..end];
+        assert_eq!(rt;
+            refusal(rt.alloc(), text),
+            refusal_of_beginning(text),
+            "the first {end} bytes"
         );
     }
-    assert_eq!(rt; refusal(rt.alloc(), &C17[..8]), Some(BenchFault::Syntax(1)));
-    assert_eq!(rt; sizes(rt.alloc(), &C17[..9]), Some((1, 1)));
-    assert_eq!(rt; sizes(rt.alloc(), &C17[..10]), Some((1, 1)));
-    assert_eq!(rt;
-        refusal(rt.alloc(), &C17[..62]),
-        Some(BenchFault::Undefined(6))
-    );
-    assert_eq!(rt;
-        refusal(rt.alloc(), &C17[..93]),
-        Some(BenchFault::Undefined(6))
-    );
-    assert_eq!(rt;
-        refusal(rt.alloc(), &C17[..173]),
-        Some(BenchFault::Undefined(7))
-    );
     Ok(())
 }
 
@@ -178,5 +193,36 @@ fn limits_go_before_what_the_lines_say(rt: HostRuntime) -> Result<(), Fail> {
         refusal(rt.alloc(), &sinks),
         Some(BenchFault::TooLarge(Limit::Sinks))
     );
+    Ok(())
+}
+
+#[test]
+fn words_of_faults(rt: HostRuntime) -> Result<(), Fail> {
+    for (fault, words) in [
+        (
+            BenchFault::TooLarge(Limit::Bytes),
+            "bench: more than 16777216 bytes",
+        ),
+        (
+            BenchFault::TooLarge(Limit::Signals),
+            "bench: more than 1000000 signals",
+        ),
+        (
+            BenchFault::TooLarge(Limit::Sinks),
+            "bench: more than 4000000 sinks",
+        ),
+        (BenchFault::Syntax(3), "bench line 3: syntax"),
+        (
+            BenchFault::Redefined(4),
+            "bench line 4: name defined before",
+        ),
+        (BenchFault::Undefined(5), "bench line 5: name not defined"),
+        (BenchFault::Cycle(6), "bench line 6: cycle"),
+        (BenchFault::Empty, "bench: no signal"),
+        (BenchFault::Memory, "out of memory"),
+    ] {
+        let said = format!(in rt.alloc(); "{fault}")?;
+        assert_eq!(rt; said.as_str(), words);
+    }
     Ok(())
 }
