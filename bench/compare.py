@@ -21,7 +21,7 @@ PROGRAM = CRATE / "out" / "faultsim"
 
 # name, words for the circuit, number of tests (None: the listing), a line to add
 CASES = [
-    ("read a random circuit of 900,000 gates, and refuse its cycle", "random --gates 900000 --inputs 500 --outputs 500 --ffs 60000 --depth 80 --short", None, "~ = NOT(~)\n"),
+    ("read a random circuit of 900,000 gates, and refuse its cycle", "random --gates 900000 --inputs 500 --outputs 500 --ffs 60000 --depth 80 --short", None, "cyclic = NOT(cyclic)\n"),
     ("read and list a random circuit of 900,000 gates", "random --gates 900000 --inputs 500 --outputs 500 --ffs 60000 --depth 80 --short", None, ""),
     ("list a random circuit of 20,000 gates", "random --gates 20000 --inputs 200 --outputs 200 --ffs 800 --depth 50", None, ""),
     ("c17, 4,096 tests", "c17", 4096, ""),
