@@ -26,6 +26,11 @@ CASES = [
     ("list a random circuit of 20,000 gates", "random --gates 20000 --inputs 200 --outputs 200 --ffs 800 --depth 50", None, ""),
     ("c17, 4,096 tests", "c17", 4096, ""),
     ("a 16 x 16 multiplier of 2,352 gates, 256 tests", "mult 16", 256, ""),
+    ("a 16 x 16 multiplier of 2,352 gates, 4,096 tests", "mult 16", 4096, ""),
+    ("a random circuit of 22,000 gates, 512 tests", "random --gates 22000 --inputs 200 --outputs 200 --ffs 1500 --depth 50", 512, ""),
+    ("a 32-bit error corrector, 512 tests", "ecc 32", 512, ""),
+    ("a ripple adder of 64 bits, 512 tests", "ripple 64", 512, ""),
+    ("a random circuit of 100,000 gates, 128 tests", "random --gates 100000 --inputs 500 --outputs 500 --ffs 5000 --depth 60", 128, ""),
 ]
 
 

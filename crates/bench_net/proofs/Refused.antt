@@ -21,7 +21,7 @@ use Rattle.bench_net.proofs.NamedLevels.{gate_statement, named_among}
 
 -- ---- a stuck signal's name is stuck
 
-any_true : {X : Type 0} (p : X → Bool) (xs : List X) (x : X) → Among x xs → p x ≡ true → list_any p xs ≡ true
+pub any_true : {X : Type 0} (p : X → Bool) (xs : List X) (x : X) → Among x xs → p x ≡ true → list_any p xs ≡ true
 any_true p [] x a e = absurd a
 any_true p (y ∷ xs) x (inl same) e = rw (ap p same ∙ e) refl
 any_true p (y ∷ xs) x (inr a) e = go (p y) (any_true p xs x a e)

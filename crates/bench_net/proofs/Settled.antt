@@ -8,6 +8,7 @@ use Rattle.bench_net.specs.declared.Kind.{Kind}
 use Rattle.bench_net.specs.Statement.{Name, Statement, Input, Output, Gate, Dff}
 use Rattle.bench_net.specs.Circuit.{HasArgument, IsNumbering, IsStuckSet}
 use Rattle.bench_net.proofs.Members.{Among, among, contained}
+use Rattle.bench_net.proofs.Answer.{gate_settled, settled, arguments_of}
 use Rattle.bench_net.proofs.Checked.{same_bytes, bytes_refl}
 
 -- ---- from a numbering to no stuck set
@@ -22,15 +23,7 @@ descend c number members numbered stuck (suc bound) n lt inside =
 pub none_stuck : (c : List Statement) (number : Name → ℕ) → IsNumbering c number → (members : Name → Bool) → IsStuckSet c members → (n : Name) → ¬ IsTrue (members n)
 none_stuck c number numbered members stuck n inside = descend c number members numbered stuck (number n + 1) n (omega arith) inside
 
--- ---- names that are settled in so many rounds: each argument of each of their gates was settled before
-
-abbrev gate_settled : (Name → Bool) → Name → Statement → Bool
-gate_settled has n (Gate m kind args) = not (bytes_eq n m) || list_all has args
-gate_settled has n _ = true
-
-abbrev settled : List Statement → ℕ → Name → Bool
-settled c zero n = false
-settled c (suc k) n = list_all (gate_settled (settled c k) n) c
+-- ---- names that are settled in so many rounds
 
 -- what all pass, each passes, and the other way round
 all_at : {X : Type 0} (p : X → Bool) (xs : List X) (x : X) → list_all p xs ≡ true → Among x xs → p x ≡ true
@@ -42,7 +35,7 @@ all_from : {X : Type 0} (p : X → Bool) (xs : List X) → ((x : X) → Among x 
 all_from p [] h = refl
 all_from p (y ∷ xs) h = and_from (p y) (list_all p xs) (h y (inl refl)) (all_from p xs (λ x a. h x (inr a)))
 
-some_not : {X : Type 0} (p : X → Bool) (xs : List X) → list_all p xs ≡ false → (x : X) × Among x xs × (p x ≡ false)
+pub some_not : {X : Type 0} (p : X → Bool) (xs : List X) → list_all p xs ≡ false → (x : X) × Among x xs × (p x ≡ false)
 some_not p [] e = let bad : true ≡ false = e in cc
 some_not p (y ∷ xs) e = go (p y) refl (some_not p xs)
   where
@@ -51,7 +44,7 @@ some_not p (y ∷ xs) e = go (p y) refl (some_not p xs)
     go false h later = (y, inl refl, h)
 
 -- a settled gate name has settled arguments
-settled_argument : (c : List Statement) (k : ℕ) (n a : Name) → HasArgument c n a → settled c (suc k) n ≡ true → settled c k a ≡ true
+pub settled_argument : (c : List Statement) (k : ℕ) (n a : Name) → HasArgument c n a → settled c (suc k) n ≡ true → settled c k a ≡ true
 settled_argument c k n a h e =
     let here = all_at (gate_settled (settled c k) n) c (Gate n h.0 h.1) e (among c (Gate n h.0 h.1) h.2) in
     let same : bytes_eq n n ≡ true = bytes_refl n in
@@ -59,7 +52,7 @@ settled_argument c k n a h e =
     all_at (settled c k) h.1 a args (among h.1 a h.3)
 
 -- what is settled stays settled
-settled_later : (c : List Statement) (k : ℕ) (n : Name) → settled c k n ≡ true → settled c (suc k) n ≡ true
+pub settled_later : (c : List Statement) (k : ℕ) (n : Name) → settled c k n ≡ true → settled c (suc k) n ≡ true
 settled_later c zero n e = let bad : false ≡ true = e in cc
 settled_later c (suc k) n e = all_from (gate_settled (settled c (suc k)) n) c (λ s a. one s (all_at (gate_settled (settled c k) n) c s e a) (settled_later c k))
   where
@@ -75,11 +68,7 @@ settled_later c (suc k) n e = all_from (gate_settled (settled c (suc k)) n) c (�
 
 -- ---- after some round no argument becomes settled any more
 
-abbrev arguments_of : Statement → List Name
-arguments_of (Gate n kind args) = args
-arguments_of _ = []
-
-abbrev round_count : List Statement → ℕ → ℕ
+abbrev pub round_count : List Statement → ℕ → ℕ
 round_count c k = count_by (settled c k) (flat_map arguments_of c)
 
 abbrev unit_if : Bool → ℕ
@@ -116,14 +105,16 @@ count_same p q (y ∷ xs) h e x a =
     go (inl same) head later = subst (λ z. p z ≡ q z) same (unit_same (p y) (q y) head)
     go (inr b) head later = later b
 
-last_round : (c : List Statement) (fuel k : ℕ) → length (flat_map arguments_of c) < round_count c k + fuel → (K : ℕ) × (round_count c K ≡ round_count c (suc K))
+pub last_round : (c : List Statement) (fuel k : ℕ) → length (flat_map arguments_of c) < round_count c k + fuel → (K : ℕ) × (K < k + fuel) × (round_count c K ≡ round_count c (suc K))
 last_round c zero k lt = absurd (omega (arith, lt, count_by-le-length (settled c k) (flat_map arguments_of c)))
 last_round c (suc fuel) k lt = go (last_round c fuel (suc k)) (cases_eq (round_count c k) (round_count c (suc k)))
   where
-    go : (length (flat_map arguments_of c) < round_count c (suc k) + fuel → (K : ℕ) × (round_count c K ≡ round_count c (suc K)))
-        → (round_count c k ≡ round_count c (suc k)) ⊎ (round_count c k ≡ round_count c (suc k) → ⊥) → (K : ℕ) × (round_count c K ≡ round_count c (suc K))
-    go later (inl e) = (k, e)
-    go later (inr ne) = later (omega (arith, lt, ne, count_mono (settled c k) (settled c (suc k)) (flat_map arguments_of c) (settled_later c k)))
+    go : (length (flat_map arguments_of c) < round_count c (suc k) + fuel → (K : ℕ) × (K < suc k + fuel) × (round_count c K ≡ round_count c (suc K)))
+        → (round_count c k ≡ round_count c (suc k)) ⊎ (round_count c k ≡ round_count c (suc k) → ⊥) → (K : ℕ) × (K < k + suc fuel) × (round_count c K ≡ round_count c (suc K))
+    go later (inl e) = (k, omega arith, e)
+    go later (inr ne) =
+        let found = later (omega (arith, lt, ne, count_mono (settled c k) (settled c (suc k)) (flat_map arguments_of c) (settled_later c k))) in
+        (found.0, omega (arith, found.1), found.2)
 
 argument_among : (c : List Statement) (n : Name) (kind : Kind) (args : List Name) (a : Name) → Among (Gate n kind args) c → Among a args → Among a (flat_map arguments_of c)
 argument_among [] n kind args a s b = absurd s
@@ -141,7 +132,7 @@ argument_among (x ∷ c) n kind args a (inr s) b = right (arguments_of x) (flat_
 
 -- ---- what isn't settled after the last round is stuck
 
-unsettled_stuck : (c : List Statement) (K : ℕ) → round_count c K ≡ round_count c (suc K) → IsStuckSet c (λ n. not (settled c (suc K) n))
+pub unsettled_stuck : (c : List Statement) (K : ℕ) → round_count c K ≡ round_count c (suc K) → IsStuckSet c (λ n. not (settled c (suc K) n))
 unsettled_stuck c K same n inside =
     let off : settled c (suc K) n ≡ false = not_true (settled c (suc K) n) inside in
     let found = some_not (gate_settled (settled c K) n) c off in
@@ -185,7 +176,7 @@ rounds_above c n a h (suc k) =
 pub numbering : (c : List Statement) → ((members : Name → Bool) → IsStuckSet c members → (n : Name) → ¬ IsTrue (members n)) → (number : Name → ℕ) × IsNumbering c number
 numbering c free = (rounds c (suc last.0), rises)
   where
-    last : (k : ℕ) × (round_count c k ≡ round_count c (suc k))
+    last : (k : ℕ) × (k < 0 + (length (flat_map arguments_of c) + 1)) × (round_count c k ≡ round_count c (suc k))
     last = last_round c (length (flat_map arguments_of c) + 1) 0 (omega arith)
 
     all_settled : (n : Name) → settled c (suc last.0) n ≡ true
@@ -193,7 +184,7 @@ numbering c free = (rounds c (suc last.0), rises)
       where
         go : (b : Bool) → settled c (suc last.0) n ≡ b → settled c (suc last.0) n ≡ true
         go true e = e
-        go false e = absurd (free (λ m. not (settled c (suc last.0) m)) (unsettled_stuck c last.0 last.1) n (ap not e))
+        go false e = absurd (free (λ m. not (settled c (suc last.0) m)) (unsettled_stuck c last.0 last.2) n (ap not e))
 
     rises : IsNumbering c (rounds c (suc last.0))
     rises n a h =

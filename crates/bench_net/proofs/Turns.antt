@@ -1,5 +1,5 @@
 -- One turn of the search for levels: what it reads, what it leaves, and that it ends.
-use Rattle.std.proofs.Common.{◌≡◌, ◌<◌, ◌≤◌, ◌+◌, ◌*◌, ◌^◌, ℕ, sym, ◌∙◌, ap, subst, refl, true, List, [], ◌∷◌, ◌++◌, map, length, get_or, set, arith, length-append}
+use Rattle.std.proofs.Common.{◌≡◌, ◌<◌, ◌≤◌, ◌+◌, ◌*◌, ◌^◌, ℕ, sym, ◌∙◌, ap, subst, refl, Bool, true, false, List, [], ◌∷◌, ◌++◌, map, length, get_or, set, arith, length-append}
 use Rattle.std.specs.Prelude.{Option, Some, None, slice_get, Contains, unwrap_or, count_by}
 use Rattle.std.proofs.lemmas.Option.{slice_get-get_or}
 use Rattle.std.proofs.lemmas.List.{get_or_read}
@@ -10,9 +10,14 @@ use Rattle.bench_net.specs.declared.levels.Mark.{Mark}
 use Rattle.bench_net.specs.declared.levels.Mark.TheVariants.{Unvisited, Open, Level}
 use Rattle.bench_net.specs.declared.levels.Step.{Step}
 use Rattle.bench_net.specs.Level.{greatest}
-use Rattle.bench_net.specs.Marks.{gate_pins, IsGraph, marked_level, level_of_mark, IsLevelled, level_or_zero, AreMarks, IsStuckAt, has_level, is_unvisited}
+use Rattle.bench_net.specs.Marks.{gate_pins, IsGraph, marked_level, level_of_mark, IsLevelled, level_or_zero, AreMarks, IsStuckAt, has_level}
 use Rattle.bench_net.proofs.Marking.{count_set, one_if, marked_is}
 use Rattle.bench_net.proofs.Paths.{IsSearch, IsStep, path_last, gate_last, done, followed, cycle}
+
+-- the marks of the gates that are still to be followed, by which a search ends
+abbrev pub is_unvisited : Mark → Bool
+is_unvisited Unvisited = true
+is_unvisited _ = false
 
 abbrev pub GateSearch : List Line → List ℕ → List Mark → List Mark → List Step → ℕ → Type 0
 GateSearch lines definitions old marks path root = IsSearch (gate_pins lines definitions) (length definitions) old marks path root

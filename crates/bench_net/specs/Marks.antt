@@ -72,10 +72,6 @@ abbrev pub has_level : Mark → Bool
 has_level (Level k) = true
 has_level _ = false
 
-abbrev pub is_unvisited : Mark → Bool
-is_unvisited Unvisited = true
-is_unvisited _ = false
-
 abbrev pub IsLevelled : List Mark → ℕ → Type 0
 IsLevelled marks s = (k : ℕ) × (marked_level marks s ≡ Some k)
 

@@ -53,12 +53,6 @@ IsReading found (Ok s) = found ≡ Some (stands_for s)
 IsReading found (Err fault.Refused) = found ≡ None
 IsReading found (Err fault.Memory) = ⊤
 
--- the same of the arguments
-abbrev pub AreRead : Option (List Name) → Result (List (Bor Name)) LineFault → Type 0
-AreRead found (Ok args) = found ≡ Some (names_of args)
-AreRead found (Err fault.Refused) = found ≡ None
-AreRead found (Err fault.Memory) = ⊤
-
 -- the same of a line, which may state nothing
 abbrev pub IsLineReading : Option (Option Statement) → Result (Option Stated) LineFault → Type 0
 IsLineReading found (Ok s) = found ≡ Some (option_map stands_for s)

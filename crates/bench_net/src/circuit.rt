@@ -1,6 +1,6 @@
 //! A circuit: the statement list of a bench text, with its tables.
 
-ghost use Rattle.std.specs.Prelude.{◌≡◌, ◌≢◌, ◌<◌, ℕ, List, length, map, option_map, slice_get, string_bytes, IfOk, IfErr, IfSome, IfNone, ◌⊎◌};
+ghost use Rattle.std.specs.Prelude.{◌≡◌, ◌≢◌, ◌<◌, ◌≤◌, ℕ, List, length, map, option_map, slice_get, string_bytes, IfOk, IfErr, IfSome, IfNone, ◌⊎◌};
 ghost use Rattle.bench_net.specs.declared.Kind.{Kind};
 ghost use Rattle.bench_net.specs.Scan.{names, signal, name_of, gate_of, inputs, outputs, cells, sources, sinks};
 ghost use Rattle.bench_net.specs.Circuit.{IsCircuit};
@@ -47,9 +47,11 @@ impl Circuit {
         self.names.len() as u32
     }
 
-    /// The width of a test row: one bit for each input, then one for each cell.
+    /// The width of a test row: one bit for each input, then one for each cell. It is at least 1, since a
+    /// circuit without cycles has a source.
     pub fn sources(&self) -> u32
-        ensures { result ≡ length (sources self.now) }
+        ensures count { result ≡ length (sources self.now) }
+        ensures some { 1 ≤ result }
     {
         (self.tables.inputs.len() + self.tables.cells.len()) as u32
     }
@@ -152,9 +154,7 @@ pub fn circuit_of(alloc: Global, lines: Lines) -> Result<Circuit, BenchFault>
     if lines.is_empty() {
         return Err(BenchFault::Empty);
     }
-    let Ok(tables) = tables_of(alloc, &lines, names.len()) else {
-        return Err(BenchFault::Memory);
-    };
+    let tables = tables_of(alloc, &lines, names.len())?;
     match levels_of(alloc, &lines, &tables.definitions) {
         Ok(levels) => Ok(Circuit {
             names,
@@ -169,6 +169,3 @@ pub fn circuit_of(alloc: Global, lines: Lines) -> Result<Circuit, BenchFault>
         }
     }
 }
-
-#[cfg(test)]
-mod tests;

@@ -4,7 +4,7 @@ ghost use Rattle.std.specs.Prelude.{◌≡◌};
 ghost use Rattle.bench_net.specs.Parsed.{or_refusal};
 
 use crate::BenchFault;
-use std::alloc::{AllocError, AllocFailed};
+use std::alloc::AllocFailed;
 
 /// Why the work on one line stops: the line has the fault that is looked for, or memory is wanting.
 #[derive(Clone, Copy)]
@@ -23,20 +23,6 @@ impl LineFault {
             LineFault::Memory => BenchFault::Memory,
         }
     }
-}
-
-/// The refusal where an element found no room.
-pub fn no_room<T: Drop>(_failed: AllocFailed<T>) -> BenchFault
-    ensures { result ≡ BenchFault.Memory }
-{
-    BenchFault::Memory
-}
-
-/// The refusal where memory is wanting.
-pub fn no_memory(_failed: AllocError) -> BenchFault
-    ensures { result ≡ BenchFault.Memory }
-{
-    BenchFault::Memory
 }
 
 impl<T: Drop> From<AllocFailed<T>> for LineFault {

@@ -11,7 +11,7 @@ ghost use Rattle.bench_net.specs.Statement.{defined, read};
 ghost use Rattle.bench_net.specs.Parsed.{stands_for, names_of};
 ghost use Rattle.bench_net.specs.Entries.{names_in, AreDistinct, IsAddition, IsFirstRedefinition, IsFirstUndefined};
 
-use crate::fault::{LineFault, no_memory, no_room};
+use crate::fault::LineFault;
 use crate::line::Line;
 use crate::statement::Stated;
 use crate::{BenchFault, GateLine};
@@ -47,10 +47,8 @@ fn add_name<'a>(names: &mut Names<'a>, name: &'a [u8]) -> Result<bool, BenchFaul
     ensures added { IfOk result (λ added. IsAddition (names_of names.old.keys) name.now added (names_of names.new.keys)) }
     ensures refused { IfErr result (λ fault. fault ≡ BenchFault.Memory) }
 {
-    match names.insert_full(name) {
-        Ok((_, added)) => Ok(added),
-        Err(failed) => Err(no_room(failed)),
-    }
+    let (_, added) = names.insert_full(name)?;
+    Ok(added)
 }
 
 /// Numbers the defined names in the order of their lines.
@@ -76,7 +74,8 @@ fn number_of(names: &Names, name: &[u8]) -> Result<u32, LineFault>
     requires { length names.now.keys ≤ max_signals }
     ensures within { IfOk result (λ number. number < length (names_of names.now.keys)) }
     ensures named { IfOk result (λ number. name_at (names_of names.now.keys) number ≡ name.now) }
-    ensures refused { IfErr result (λ fault. ¬ Contains (names_of names.now.keys) name.now) }
+    ensures refused { IfErr result (λ fault. fault ≡ LineFault.Refused) }
+    ensures missing { IfErr result (λ fault. ¬ Contains (names_of names.now.keys) name.now) }
 {
     match names.get_index_of(name) {
         Some(index) => Ok(index as u32),
@@ -157,14 +156,14 @@ pub fn number_lines(
     ensures numbered { IfOk result (λ lines. AreNumberedLines (names_of names.now.keys) stated.now lines.items) }
     ensures refused { IfErr result (λ fault. (fault ≡ BenchFault.Memory) ⊎ ((line : ℕ) × (fault ≡ BenchFault.Undefined line) × IsFirstUndefined (names_of names.now.keys) stated.now line)) }
 {
-    let mut lines = Vec::with_capacity(alloc, stated.len()).map_err(no_memory)?;
+    let mut lines = Vec::with_capacity(alloc, stated.len())?;
     let mut next = 0;
     for line in stated {
         let numbered = match number_line(alloc, &line.statement, next, names) {
             Ok(numbered) => numbered,
             Err(fault) => return Err(fault.or_refusal(BenchFault::Undefined(line.number))),
         };
-        lines.push(numbered).map_err(no_room)?;
+        lines.push(numbered)?;
         next = number_behind(next, &line.statement);
     }
     Ok(lines)
@@ -187,10 +186,10 @@ pub fn own_names(alloc: Global, names: &Names) -> Result<Vec<String>, BenchFault
     ensures named { IfOk result (λ owned. map string_bytes owned.items ≡ names_of names.now.keys) }
     ensures refused { IfErr result (λ fault. fault ≡ BenchFault.Memory) }
 {
-    let mut owned = Vec::with_capacity(alloc, names.len()).map_err(no_memory)?;
+    let mut owned = Vec::with_capacity(alloc, names.len())?;
     for name in names.iter() {
-        let name = own_name(alloc, *name).map_err(no_memory)?;
-        owned.push(name).map_err(no_room)?;
+        let name = own_name(alloc, *name)?;
+        owned.push(name)?;
     }
     Ok(owned)
 }

@@ -15,7 +15,6 @@ ghost use Rattle.bench_net.specs.Parsed.{stands_for};
 ghost use Rattle.bench_net.specs.Statement.{defines, read};
 ghost use Rattle.bench_net.specs.Stored.{AreLinesOf};
 
-use crate::fault::{no_memory, no_room};
 use crate::line::Line;
 use crate::number::{StatedLine, line_numbers, number_lines, number_names, own_names};
 use crate::statement::{Stated, read_line};
@@ -63,9 +62,7 @@ fn read_statements<'a>(alloc: Global, text: &'a [u8]) -> Result<Vec<StatedLine<'
         match read_line(alloc, without_return(line)) {
             Ok(None) => {}
             Ok(Some(statement)) => {
-                stated
-                    .push(StatedLine { number, statement })
-                    .map_err(no_room)?;
+                stated.push(StatedLine { number, statement })?;
             }
             Err(fault) => return Err(fault.or_refusal(BenchFault::Syntax(number))),
         }
@@ -142,10 +139,7 @@ pub fn read_lines(alloc: Global, text: &[u8]) -> Result<Lines, BenchFault>
     }
     let numbers = number_names(alloc, stated)?;
     let lines = number_lines(alloc, stated, &numbers)?;
-    let at = line_numbers(alloc, stated).map_err(no_memory)?;
+    let at = line_numbers(alloc, stated)?;
     let names = own_names(alloc, &numbers)?;
     Ok(Lines { names, lines, at })
 }
-
-#[cfg(test)]
-mod tests;

@@ -5,7 +5,7 @@ ghost use Rattle.std.specs.Str.{str_eq_ignore_ascii_case, str_to_ascii_lowercase
 ghost use Rattle.bench_net.specs.Text.{Token as TextToken, Word};
 ghost use Rattle.bench_net.specs.Statement.{Name};
 ghost use Rattle.bench_net.specs.Plain.{tokens_of, kind_of_lower, has_arity, gate_with, cell_with, driven_by, read_tokens, stated_of, Leads};
-ghost use Rattle.bench_net.specs.Parsed.{names_of, stands_for, args_in, IsArgument, port_of, driven_tokens, IsReading, AreRead, IsLineReading};
+ghost use Rattle.bench_net.specs.Parsed.{names_of, stands_for, args_in, IsArgument, port_of, driven_tokens, IsReading, IsLineReading};
 
 use crate::Kind;
 use crate::fault::LineFault;

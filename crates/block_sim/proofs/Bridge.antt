@@ -1,6 +1,6 @@
 -- From words to solutions: words that satisfy the equation of each signal are, in each lane, a solution.
-use Rattle.std.proofs.Common.{◌≡◌, ◌≢◌, ◌<◌, ℕ, ◌+◌, refl, sym, ◌∙◌, ap, subst, Bool, List, [], ◌∷◌, length, inl, inr, ◌⊎◌}
-use Rattle.std.specs.Prelude.{Option, Some, map, set, slice_index_or}
+use Rattle.std.proofs.Common.{◌≡◌, ◌≢◌, ◌<◌, ℕ, ◌+◌, refl, sym, ◌∙◌, ap, subst, Bool, true, false, List, [], ◌∷◌, length, inl, inr, ◌⊎◌}
+use Rattle.std.specs.Prelude.{Option, Some, map, set, slice_index_or, bit_xor}
 use Rattle.std.specs.List.{enumerate_from}
 use Rattle.std.proofs.lemmas.List.{get_or-set_same, get_or-set_other}
 use Rattle.std.proofs.lemmas.Bool.{cases_eq}
@@ -17,19 +17,28 @@ use Rattle.fault_model.specs.Fault.{Fault}
 use Rattle.fault_model.specs.Solution.{Test, Solves, value, under, sees, pins_see}
 use Rattle.fault_model.proofs.Unique.{Driven, driven, pins_agree}
 use Rattle.fault_model.proofs.Existence.{solution, solution_solves}
-use Rattle.block_sim.specs.Words.{lane, lane_bits, test_of, AreWords, IsSignalWord, pin_bits}
+use Rattle.block_sim.specs.Words.{lane, lane_bits, overlaid, test_of, AreWords, IsSignalWord, pin_bits}
+use Rattle.block_sim.proofs.Lanes.{lane_xor, lane_zero, unlike}
+
+-- where the words do not differ, an overlaid word is the word
+pub lane_same : (word k d : ℕ) → d ≡ 0 → lane (bit_xor word d) k ≡ lane word k
+lane_same word k d e = ap (λ x. lane (bit_xor word x) k) e ∙ (lane_xor word 0 k ∙ (ap (unlike (lane word k)) (lane_zero k) ∙ turned (lane word k)))
+  where
+    turned : (b : Bool) → unlike b false ≡ b
+    turned true = refl
+    turned false = refl
 
 -- what pins see, by the signals that they read and by names
-pins_from : (c : List Statement) (f : Option Fault) (words : List ℕ) (gate k from : ℕ) (args : List Name)
-    → map (λ at. under f (line.Pin gate at.0) (lane (slice_index_or words at.1 0) k)) (enumerate_from from (map (signal c) args))
+pins_from : (c : List Statement) (f : Option Fault) (words delta : List ℕ) (gate k from : ℕ) (args : List Name) → ((s : ℕ) → slice_index_or delta s 0 ≡ 0)
+    → map (λ at. under f (line.Pin gate at.0) (lane (overlaid words delta at.1) k)) (enumerate_from from (map (signal c) args))
     ≡ map (λ at. sees f (lane_bits c words k) (line.Pin gate at.0) at.1) (enumerate_from from args)
-pins_from c f words gate k from [] = refl
-pins_from c f words gate k from (a ∷ args) =
-    ap (λ more. under f (line.Pin gate from) (lane_bits c words k a) ∷ more) (pins_from c f words gate k (from + 1) args)
+pins_from c f words delta gate k from [] clear = refl
+pins_from c f words delta gate k from (a ∷ args) clear =
+    rw (lane_same (slice_index_or words (signal c a) 0) k (slice_index_or delta (signal c a) 0) (clear (signal c a)), pins_from c f words delta gate k (from + 1) args clear) refl
 
-pub pins_named : (c : List Statement) (f : Option Fault) (words : List ℕ) (gate k : ℕ) (args : List Name)
-    → pin_bits f gate (map (signal c) args) words k ≡ pins_see f (lane_bits c words k) gate args
-pins_named c f words gate k args = pins_from c f words gate k 0 args
+pub pins_named : (c : List Statement) (f : Option Fault) (words delta : List ℕ) (gate k : ℕ) (args : List Name) → ((s : ℕ) → slice_index_or delta s 0 ≡ 0)
+    → pin_bits f gate (map (signal c) args) words delta k ≡ pins_see f (lane_bits c words k) gate args
+pins_named c f words delta gate k args clear = pins_from c f words delta gate k 0 args clear
 
 -- what agrees with a solution on every signal is one
 pub solves_like : (c : List Statement) (t : Test) (f : Option Fault) (v w : Name → Bool) → IsWellFormed c → ((n : Name) → Among n (names c) → v n ≡ w n)
@@ -44,18 +53,6 @@ solves_like c t f v w well same known = record {
 }
 
 module _ (c : List Statement) (tests : List Test) (block : ℕ) (f : Option Fault) where
-  -- the bridge: where each signal's word satisfies its equation, each lane solves the circuit under its test
-  pub solves_in_lanes : (words : List ℕ) → IsWellFormed c → ((s : ℕ) → s < length (names c) → IsSignalWord c tests block f words s (slice_index_or words s 0))
-      → AreWords c tests block f words
-  solves_in_lanes words well each k lt = record {
-    source = λ i n at. (each (signal c n) (within n (source_named c n (at_place (sources c) i n at)))).source i n k lt
-        (name_of-signal c n (contained (names c) n (source_named c n (at_place (sources c) i n at)))) at;
-    gate = λ n kind args at. (each (signal c n) (within n (defined_among c (Gate n kind args) n (among c (Gate n kind args) at) refl))).gate n kind args k lt refl at;
-  }
-    where
-      within : (n : Name) → Among n (names c) → signal c n < length (names c)
-      within n a = place_within (names c) (signal c n) n (name_of-signal c n (contained (names c) n a))
-
   -- a signal's word is right where in each lane it has the bit that every solution gives the signal
   abbrev pub IsRight : ℕ → ℕ → Type 0
   IsRight s word = (n : Name) (k : ℕ) (v : Name → Bool) → name_of c s ≡ Some n → k < 64 → Solves c (test_of tests block k) f v → lane word k ≡ v n

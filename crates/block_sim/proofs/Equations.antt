@@ -87,21 +87,8 @@ pins_few c s kind pins circuit e = go (gate_at c s kind pins e)
         let same : length pins ≡ length g.args = ap length (sym g.reads) ∙ length-map g.args (signal c) in
         omega (arith, h, same, circuit.sinks)
 
-pub observed_counted : (c : List Statement) → length (outputs c) + length (cells c) ≤ sink_count c
-observed_counted [] = omega arith
-observed_counted (Input n ∷ c) = observed_counted c
-observed_counted (Output n ∷ c) = let h : length (outputs c) + length (cells c) ≤ length (flat_map read c) = observed_counted c in omega (arith, h)
-observed_counted (Gate n kind args ∷ c) =
-    let h : length (outputs c) + length (cells c) ≤ length (flat_map read c) = observed_counted c in
-    let whole : length (args ++ flat_map read c) ≡ length args + length (flat_map read c) = length-append args (flat_map read c) in
-    omega (arith, h, whole)
-observed_counted (Dff q d ∷ c) = let h : length (outputs c) + length (cells c) ≤ length (flat_map read c) = observed_counted c in omega (arith, h)
-
 module _ (c : List Statement) (s : ℕ) (well : IsWellFormed c) (within : s < length (names c)) where
   -- a signal that is no gate's is a source, at one place
-  pub source_within : (i : ℕ) → slice_get (sources c) i ≡ name_of c s → i < length (sources c)
-  source_within i e = let at = within_place (names c) s within in place_within (sources c) i at.0 (e ∙ at.1)
-
   pub one_source : (i j : ℕ) → slice_get (sources c) i ≡ name_of c s → slice_get (sources c) j ≡ name_of c s → i ≡ j
   one_source i j p q =
       let at = within_place (names c) s within in
@@ -142,15 +129,16 @@ module _ (c : List Statement) (tests : List Test) (block : ℕ) (f : Option Faul
   }
 
   -- the word of a gate's signal
-  pub gate_equation : (kind : Kind) (pins : List ℕ) → gate_of c s ≡ Some (kind, pins) → ((k : ℕ) → k < 64 → lane driven_word k ≡ value kind (pin_bits f s pins words k))
+  pub gate_equation : (kind : Kind) (pins delta : List ℕ) → ((t : ℕ) → slice_index_or delta t 0 ≡ 0) → gate_of c s ≡ Some (kind, pins)
+      → ((k : ℕ) → k < 64 → lane driven_word k ≡ value kind (pin_bits f s pins words delta k))
       → IsSignalWord c tests block f words s word
-  gate_equation kind pins e valued = record {
+  gate_equation kind pins delta clear e valued = record {
     source = λ i n k lt named at. absurd (no_source n named (source_definition c n well (at_place (sources c) i n at)));
     gate = λ n other args k lt number at.
         let defined : definition c (signal c n) ≡ Some (Gate n other args) = definition-signal c (Gate n other args) n well at refl in
         let gate : gate_of c s ≡ Some (other, map (signal c) args) = ap (λ k. gate_of c k) (sym number) ∙ ap (gate_line c) defined in
         let pair : (kind, pins) ≡ (other, map (signal c) args) = ap (λ o. unwrap_or o (kind, pins)) (sym e ∙ gate) in
-        shown k lt ∙ ap (under f (line.Stem s)) (valued k lt ∙ (ap (λ p. value p.0 (pin_bits f s p.1 words k)) pair ∙ ap (value other) (pins_named c f words s k args)));
+        shown k lt ∙ ap (under f (line.Stem s)) (valued k lt ∙ (ap (λ p. value p.0 (pin_bits f s p.1 words delta k)) pair ∙ ap (value other) (pins_named c f words delta s k args clear)));
   }
     where
       no_source : (n : Name) → name_of c s ≡ Some n → IsSource (definition c (signal c n)) → ⊥

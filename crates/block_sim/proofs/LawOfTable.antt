@@ -6,21 +6,23 @@ use Rattle.bench_net.specs.Statement.{Statement}
 use Rattle.bench_net.specs.Circuit.{IsWellFormed, HaveArities}
 use Rattle.bench_net.proofs.Members.{contained}
 use Rattle.bench_net.proofs.SignalsLists.{at_place, filtered_from, place_within}
+use Rattle.fault_model.specs.declared.Model.{Model}
 use Rattle.fault_model.specs.Fault.{Fault, faults}
 use Rattle.fault_model.specs.Solution.{Test}
 use Rattle.fault_model.specs.Collapse.{next, here, representatives, IsClassOf, AreEquivalent}
-use Rattle.fault_model.proofs.ClassLaw.{classes_detect_same}
+use Rattle.fault_model.specs.Detection.{DetectsAt}
+use Rattle.fault_model.proofs.LookBack.{classes_detected_same}
 use Rattle.patterns.specs.declared.Outcome.{Outcome}
 use Rattle.patterns.specs.declared.Outcome.TheVariants.{Clear, Hit}
 use Rattle.patterns.specs.Tests.{blocks, size_of}
 use Rattle.patterns.specs.Least.{Table, from_up, first_hit, least}
-use Rattle.block_sim.specs.First.{DetectsAt, IsFirst, IsOutcome, IsTrueOutcome, IsTrueTable, LeastIsFirst}
+use Rattle.block_sim.specs.First.{IsFirst, IsOutcome, IsTrueOutcome, IsTrueTable, LeastIsFirst}
 
 -- a representative's class is its own place
-representative_class : (c : List Statement) (r : Fault) (class : ℕ) → slice_get (representatives c) class ≡ Some r → IsClassOf c r class
-representative_class c r class at =
-    let p = filtered_from (λ f. is_none (next c f)) (faults c) r (at_place (representatives c) class r at) in
-    (r, contained (faults c) r p.0, (here, none (next c r) p.1), at)
+representative_class : (m : Model) (c : List Statement) (r : Fault) (class : ℕ) → slice_get (representatives m c) class ≡ Some r → IsClassOf m c r class
+representative_class m c r class at =
+    let p = filtered_from (λ f. is_none (next c f)) (faults m c) r (at_place (representatives m c) class r at) in
+    (r, contained (faults m c) r p.0, (here, none (next c r) p.1), at)
   where
     none : (o : Option Fault) → is_none o ≡ true → o ≡ None
     none None e = refl
@@ -32,14 +34,14 @@ outcome_too : (c : List Statement) (tests : List Test) (f r : Fault) (block : �
 outcome_too c tests f r block Clear to from h = λ k lt d. h k lt (to (64 * block + k) d)
 outcome_too c tests f r block (Hit k) to from h = (h.0, from (64 * block + k) h.1, λ lower lt d. h.2 lower lt (to (64 * block + lower) d))
 
-pub true_of_class : (c : List Statement) (tests : List Test) (f : Fault) (class block : ℕ) (o : Outcome) → IsWellFormed c → HaveArities c → IsClassOf c f class
-    → IsTrueOutcome c tests class block o → IsOutcome c tests f block o
-true_of_class c tests f class block o well arities of h =
-    outcome_too c tests f h.0 block o (λ t d. (d.0, d.1, (classes_detect_same c well arities f h.0 d.0 both).0 d.2))
-    (λ t d. (d.0, d.1, (classes_detect_same c well arities f h.0 d.0 both).1 d.2)) h.2
+pub true_of_class : (m : Model) (c : List Statement) (tests : List Test) (f : Fault) (class block : ℕ) (o : Outcome) → IsWellFormed c → HaveArities c → IsClassOf m c f class
+    → IsTrueOutcome m c tests class block o → IsOutcome c tests f block o
+true_of_class m c tests f class block o well arities of h =
+    outcome_too c tests f h.0 block o (λ t. (classes_detected_same c well arities f h.0 tests t both).0)
+    (λ t. (classes_detected_same c well arities f h.0 tests t both).1) h.2
   where
     both : AreEquivalent c f h.0
-    both = (class, of, representative_class c h.0 class h.1)
+    both = (m, class, of, representative_class m c h.0 class h.1)
 
 -- the first test from a block on that detects a fault
 abbrev IsFirstFrom : List Statement → List Test → Fault → ℕ → Option ℕ → Type 0
@@ -76,10 +78,10 @@ one_more c tests f block Clear outcomes h later = go (first_hit (block + 1) outc
     go None none = λ t after d. none t (in_block c tests f block t after d h) d
     go (Some t) first = (first.0, λ earlier after lt d. first.1 earlier (in_block c tests f block earlier after d h) lt d)
 
-module _ (c : List Statement) (tests : List Test) (table : Table) (well : IsWellFormed c) (arities : HaveArities c) (each : IsTrueTable c tests table)
-    (f : Fault) (class : ℕ) (of : IsClassOf c f class) where
+module _ (m : Model) (c : List Statement) (tests : List Test) (table : Table) (well : IsWellFormed c) (arities : HaveArities c) (each : IsTrueTable m c tests table)
+    (f : Fault) (class : ℕ) (of : IsClassOf m c f class) where
   outcome_of : (block : ℕ) → block < blocks (length tests) → IsOutcome c tests f block (table class block)
-  outcome_of block lt = true_of_class c tests f class block (table class block) well arities of (each class block (place_within (representatives c) class of.0 of.3) lt)
+  outcome_of block lt = true_of_class m c tests f class block (table class block) well arities of (each class block (place_within (representatives m c) class of.0 of.3) lt)
 
   from_block : (count block : ℕ) → block + count ≡ blocks (length tests) → IsFirstFrom c tests f block (first_hit block (map (table class) (from_up block count)))
   from_block zero block e = λ t after d. let lt : t < length tests = detects_within c tests f t d in omega (arith, e, after, lt)
@@ -93,5 +95,5 @@ module _ (c : List Statement) (tests : List Test) (table : Table) (well : IsWell
       go None none = λ t d. none t (omega arith) d
       go (Some t) first = (first.0, λ earlier lt d. first.1 earlier (omega arith) lt d)
 
-pub least_is_first : (c : List Statement) (tests : List Test) (table : Table) → IsWellFormed c → HaveArities c → IsTrueTable c tests table → LeastIsFirst c tests table
-least_is_first c tests table well arities each f class of = least_first c tests table well arities each f class of
+pub least_is_first : (m : Model) (c : List Statement) (tests : List Test) (table : Table) → IsWellFormed c → HaveArities c → IsTrueTable m c tests table → LeastIsFirst m c tests table
+least_is_first m c tests table well arities each f class of = least_first m c tests table well arities each f class of

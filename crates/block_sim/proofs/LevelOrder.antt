@@ -1,14 +1,12 @@
 -- The signals in level order: each once, and the pins of a gate before it.
 use Rattle.std.proofs.Common.{◌≡◌, ◌<◌, ◌≤◌, ℕ, zero, suc, ◌+◌, max, refl, sym, ◌∙◌, ap, subst, List, [], ◌∷◌, ◌++◌, length, arith, inl, inr, ◌⊎◌}
-use Rattle.std.specs.Prelude.{Contains, Option, Some, None, map, filter, fold, slice_get, slice_index_or, sum_by, cond}
-use Rattle.std.specs.Option.{option_map_or}
+use Rattle.std.specs.Prelude.{Contains, Some, map, fold, slice_index_or}
 use Rattle.std.proofs.lemmas.List.{get_or_default}
 use Rattle.std.proofs.lemmas.List.Elements.{Contains-get_or}
-use Rattle.std.proofs.lemmas.List.Sums.{sum_by-cons, sum_by-append}
 use Rattle.std.proofs.lemmas.Bool.{cases_order}
 use Rattle.bench_net.specs.declared.Kind.{Kind}
-use Rattle.bench_net.specs.Statement.{Name, Statement, Input, Output, Gate, Dff, defines}
-use Rattle.bench_net.specs.Scan.{names, signal, definition, gate_line, sources, inputs, cells}
+use Rattle.bench_net.specs.Statement.{Name, Statement, Gate}
+use Rattle.bench_net.specs.Scan.{names, signal, sources, inputs, cells}
 use Rattle.bench_net.specs.Circuit.{IsWellFormed}
 use Rattle.bench_net.specs.Level.{AreLevels, HasLevel, IsLevelOrder, GoesBefore, greatest}
 use Rattle.bench_net.proofs.Members.{Among, among, contained}
@@ -16,7 +14,6 @@ use Rattle.bench_net.proofs.Numbers.{name_of-signal}
 use Rattle.bench_net.proofs.SignalsLists.{among_append, among_left, among_right, among_map, place_within}
 use Rattle.bench_net.proofs.SignalsDefined.{defined_among, read_named, signal_apart}
 use Rattle.fault_model.proofs.Unique.{Driven, driven}
-use Rattle.block_sim.specs.Parts.{is_gate, gate_count, gate_weight}
 
 -- an element stands between two lists
 split_at : (xs : List ℕ) (x : ℕ) → Among x xs → (ys zs : List ℕ) × (xs ≡ ys ++ x ∷ zs)
@@ -27,16 +24,6 @@ split_at (y ∷ xs) x (inr a) = let p = split_at xs x a in (y ∷ p.0, p.1, ap (
 length_split : (ys zs : List ℕ) (x : ℕ) → length (ys ++ x ∷ zs) ≡ suc (length (ys ++ zs))
 length_split [] zs x = refl
 length_split (y ∷ ys) zs x = ap suc (length_split ys zs x)
-
--- the sum over the numbers below n
-upto : (ℕ → ℕ) → ℕ → ℕ
-upto g zero = 0
-upto g (suc n) = g n + upto g n
-
-upto_shifted : (g : ℕ → ℕ) (n : ℕ) → upto g (suc n) ≡ g 0 + upto (λ s. g (suc s)) n
-unfolding upto
-upto_shifted g zero = refl
-upto_shifted g (suc n) = let e : upto g (suc n) ≡ g 0 + upto (λ s. g (suc s)) n = upto_shifted g n in omega (arith, e)
 
 -- the list has each number below n, and no more elements than that
 record Spans (n : ℕ) (xs : List ℕ) : Type 0 where
@@ -54,21 +41,7 @@ rest_spans n ys zs h = record {
     go s lt (inr (inl e)) = absurd (omega (arith, lt, e))
     go s lt (inr (inr a)) = among_right ys zs s a
 
--- so a sum over it is that over the numbers below n, and it has no other number
-sum_spanned : (g : ℕ → ℕ) (n : ℕ) (xs : List ℕ) → Spans n xs → sum_by g xs ≡ upto g n
-unfolding upto
-sum_spanned g zero [] h = refl
-sum_spanned g zero (x ∷ xs) h = let e : suc (length xs) ≡ 0 = h.count in absurd (omega (arith, e))
-sum_spanned g (suc n) xs h = go (sum_spanned g n) (split_at xs n (h.each n (omega arith)))
-  where
-    go : ((rest : List ℕ) → Spans n rest → sum_by g rest ≡ upto g n) → (ys zs : List ℕ) × (xs ≡ ys ++ n ∷ zs) → sum_by g xs ≡ g n + upto g n
-    go ih p =
-        let later : sum_by g (p.0 ++ p.1) ≡ upto g n = ih (p.0 ++ p.1) (rest_spans n p.0 p.1 (subst (Spans (suc n)) p.2 h)) in
-        let whole : sum_by g (p.0 ++ n ∷ p.1) ≡ sum_by g p.0 + sum_by g (n ∷ p.1) = sum_by-append g p.0 (n ∷ p.1) in
-        let head : sum_by g (n ∷ p.1) ≡ g n + sum_by g p.1 = sum_by-cons g n p.1 in
-        let parts : sum_by g (p.0 ++ p.1) ≡ sum_by g p.0 + sum_by g p.1 = sum_by-append g p.0 p.1 in
-        ap (sum_by g) p.2 ∙ omega (arith, later, whole, head, parts)
-
+-- so it has no other number
 within_span : (n : ℕ) (xs : List ℕ) → Spans n xs → (x : ℕ) → Among x xs → x < n
 within_span zero [] h x a = absurd a
 within_span zero (y ∷ xs) h x a = let e : suc (length xs) ≡ 0 = h.count in absurd (omega (arith, e))
@@ -90,57 +63,6 @@ order_spans c order h = record { count = h.count; each = λ s lt. among order s 
 
 pub order_within : (c : List Statement) (order : List ℕ) (i : ℕ) → IsLevelOrder c order → i < length order → slice_index_or order i 0 < length (names c)
 order_within c order i h lt = within_span (length (names c)) order (order_spans c order h) (slice_index_or order i 0) (among order (slice_index_or order i 0) (Contains-get_or order i 0 lt))
-
--- the same for a statement
-statement_weight : Option Statement → ℕ
-statement_weight (Some (Gate n kind args)) = 1
-statement_weight _ = 0
-
-weight_of : (c : List Statement) (o : Option Statement) → option_map_or (λ _. 1) (gate_line c o) 0 ≡ statement_weight o
-unfolding statement_weight
-weight_of c None = refl
-weight_of c (Some (Input n)) = refl
-weight_of c (Some (Output n)) = refl
-weight_of c (Some (Gate n kind args)) = refl
-weight_of c (Some (Dff q d)) = refl
-
-upto_same : (g h : ℕ → ℕ) (n : ℕ) → ((s : ℕ) → g s ≡ h s) → upto g n ≡ upto h n
-unfolding upto
-upto_same g h zero same = refl
-upto_same g h (suc n) same = rw (same n, upto_same g h n same) refl
-
-upto_listed : (statements : List Statement) → upto (λ s. statement_weight (slice_get statements s)) (length statements) ≡ sum_by (λ s. statement_weight (Some s)) statements
-unfolding upto
-upto_listed [] = refl
-upto_listed (st ∷ statements) =
-    upto_shifted (λ s. statement_weight (slice_get (st ∷ statements) s)) (length statements)
-    ∙ (ap (λ more. statement_weight (Some st) + more) (upto_listed statements)
-    ∙ sym (sum_by-cons (λ s. statement_weight (Some s)) st statements))
-
-definitions_named : (c : List Statement) → length (filter defines c) ≡ length (names c)
-definitions_named [] = refl
-definitions_named (Input n ∷ c) = ap suc (definitions_named c)
-definitions_named (Output n ∷ c) = definitions_named c
-definitions_named (Gate n kind args ∷ c) = ap suc (definitions_named c)
-definitions_named (Dff q d ∷ c) = ap suc (definitions_named c)
-
-gates_counted : (c : List Statement) → sum_by (λ s. statement_weight (Some s)) (filter defines c) ≡ gate_count c
-unfolding statement_weight
-gates_counted [] = refl
-gates_counted (Input n ∷ c) = gates_counted c
-gates_counted (Output n ∷ c) = gates_counted c
-gates_counted (Gate n kind args ∷ c) =
-    sum_by-cons (λ s. statement_weight (Some s)) (Gate n kind args) (filter defines c)
-    ∙ (ap (λ more. 1 + more) (gates_counted c) ∙ sym (sum_by-cons (λ s. cond (is_gate s) 1 0) (Gate n kind args) c))
-gates_counted (Dff q d ∷ c) = gates_counted c
-
--- the signals of gates are as many as the gates
-pub order_weighs : (c : List Statement) (order : List ℕ) → IsLevelOrder c order → sum_by (gate_weight c) order ≡ gate_count c
-order_weighs c order h =
-    sum_spanned (gate_weight c) (length (names c)) order (order_spans c order h)
-    ∙ (ap (upto (gate_weight c)) (sym (definitions_named c))
-    ∙ (upto_same (gate_weight c) (λ s. statement_weight (definition c s)) (length (filter defines c)) (λ s. weight_of c (definition c s))
-    ∙ (upto_listed (filter defines c) ∙ gates_counted c)))
 
 -- ---- pins before gates
 above_start : (ns : List ℕ) (start : ℕ) → start ≤ fold max start ns

@@ -4,7 +4,7 @@ use Rattle.fault_model.specs.Fault.{Fault}
 use Rattle.block_sim.specs.declared.words.Stuck.{Stuck}
 
 abbrev pub stuck_fault : Stuck → Fault
-stuck_fault s = record { line = s.line; stuck = s.at_one }
+stuck_fault s = record { model = s.model; line = s.line; stuck = s.at_one }
 
 abbrev pub fault_of : Option Stuck → Option Fault
 fault_of stuck = option_map stuck_fault stuck

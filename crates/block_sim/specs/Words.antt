@@ -1,11 +1,10 @@
 -- Words of 64 lanes: a block's bits side by side, one word a signal.
-use Rattle.std.specs.Prelude.{◌≡◌, ◌≢◌, ℕ, ◌+◌, ◌*◌, ◌<◌, ◌==◌, Bool, true, false, List, [], map, Contains, Option, Some, slice_get, slice_index_or}
+use Rattle.std.specs.Prelude.{◌≡◌, ℕ, ◌+◌, ◌*◌, ◌<◌, ◌==◌, Bool, true, false, List, [], map, Contains, Option, Some, slice_get, slice_index_or, bit_xor}
 use Rattle.std.specs.Int.{bit_at}
 use Rattle.std.specs.List.{enumerate_from}
 use Rattle.bench_net.specs.declared.Kind.{Kind}
 use Rattle.bench_net.specs.Statement.{Name, Statement, Gate}
 use Rattle.bench_net.specs.Scan.{signal, name_of, sources}
-use Rattle.fault_model.specs.declared.Line.{Line}
 use Rattle.fault_model.specs.declared.Line.TheVariants as line
 use Rattle.fault_model.specs.Fault.{Fault}
 use Rattle.fault_model.specs.Solution.{Test, Solves, under, value, pins_see}
@@ -38,15 +37,13 @@ pub record IsSignalWord (c : List Statement) (tests : List Test) (block : ℕ) (
   pub gate : (n : Name) (kind : Kind) (args : List Name) (k : ℕ) → k < 64 → signal c n ≡ s → Contains c (Gate n kind args)
       → lane word k ≡ under f (line.Stem s) (value kind (pins_see f (lane_bits c words k) s args))
 
--- what the pins of a gate, given by the signals that they read, see in a lane
-abbrev pub pin_bits : Option Fault → ℕ → List ℕ → List ℕ → ℕ → List Bool
-pin_bits f gate pins words k = map (λ at. under f (line.Pin gate at.0) (lane (slice_index_or words at.1 0) k)) (enumerate_from 0 pins)
+-- the word of a signal: the one that is known, turned in the lanes in which it differs
+abbrev pub overlaid : List ℕ → List ℕ → ℕ → ℕ
+overlaid words delta s = bit_xor (slice_index_or words s 0) (slice_index_or delta s 0)
 
--- Among the first observers, as many as the count, one shows different bits in a lane: `own` gives the line
--- of an observer by its place, `observed` the signals that they observe.
-abbrev pub Differs : (ℕ → Line) → Option Fault → List ℕ → List ℕ → List ℕ → ℕ → ℕ → Type 0
-Differs own f observed good faulty k count = (place : ℕ) × (place < count)
-    × (lane (slice_index_or good (slice_index_or observed place 0) 0) k ≢ under f (own place) (lane (slice_index_or faulty (slice_index_or observed place 0) 0) k))
+-- what the pins of a gate, given by the signals that they read, see in a lane
+abbrev pub pin_bits : Option Fault → ℕ → List ℕ → List ℕ → List ℕ → ℕ → List Bool
+pin_bits f gate pins words delta k = map (λ at. under f (line.Pin gate at.0) (lane (overlaid words delta at.1) k)) (enumerate_from 0 pins)
 
 -- the outcome names the least lane of a word that is 1
 abbrev pub IsLeastLane : ℕ → Outcome → Type 0

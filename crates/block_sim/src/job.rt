@@ -1,8 +1,9 @@
 //! A job: a circuit with its faults, its classes and its tests.
 
-ghost use Rattle.std.specs.Prelude.{◌≡◌, ◌↔◌, ◌<◌, ◌≤◌, List, ℕ, None, length, map, Err, IfOk, Some, slice_get};
+ghost use Rattle.std.specs.Prelude.{◌≡◌, ◌↔◌, ◌<◌, ◌≤◌, Contains, List, ℕ, None, length, map, Err, IfOk, Some, slice_get};
 ghost use Rattle.bench_net.specs.Scan.{names, sources};
 ghost use Rattle.bench_net.specs.Circuit.{IsCircuit};
+ghost use Rattle.fault_model.specs.Fault.{faults};
 ghost use Rattle.fault_model.specs.Collapse.{representatives};
 ghost use Rattle.patterns.specs.Tests.{blocks, max_pieces};
 ghost use Rattle.block_sim.specs.Job.{AreFaultFree};
@@ -22,7 +23,7 @@ use thiserror::Error;
 #[derive(Clone, Copy, Debug, PartialEq, Eq, Error)]
 pub enum JobFault {
     /// Classes times blocks are more than [`patterns::MAX_PIECES`].
-    #[error("more than 4194304 pieces")]
+    #[error("more than 16777216 pieces")]
     TooManyPieces,
     /// There is no memory for the job.
     #[error("out of memory")]
@@ -124,10 +125,12 @@ impl Job {
     /// The representative of a class.
     pub(crate) fn representative(&self, class: u32) -> Stuck
         requires { class < length self.now.classes.representative }
-        ensures { slice_get (representatives self.now.circuit) class ≡ Some (stuck_fault result) }
+        ensures representative { slice_get (representatives self.now.list.model self.now.circuit) class ≡ Some (stuck_fault result) }
+        ensures listed { Contains (faults result.model self.now.circuit) (stuck_fault result) }
     {
         let fault = self.classes.representative(class);
         Stuck {
+            model: self.faults.model(),
             line: self.faults.line_of(fault),
             at_one: self.faults.stuck_of(fault),
         }
@@ -155,11 +158,12 @@ fn fault_free_rows(
     ensures rows { IfOk result (λ rows. AreFaultFree circuit.now tests.now.tests (map (λ row. row.items) rows.items)) }
 {
     let signals = circuit.signals() as usize;
+    let same = vec![in alloc; 0u64; signals]?;
     let mut evaluations = 0;
     let mut rows = Vec::new(alloc);
     for block in 0..tests.blocks() {
         let mut row = vec![in alloc; 0u64; signals]?;
-        evaluate(circuit, tests, block, None, &mut row, &mut evaluations);
+        evaluate(circuit, tests, block, &mut row, &same, &mut evaluations);
         rows.push(row)?;
     }
     Ok(rows)

@@ -2,16 +2,28 @@
 //!
 //! A law is a function without a body. Its clause is the law, and a proof names the function to use it.
 
-ghost use Rattle.std.specs.Prelude.{List};
+ghost use Rattle.std.specs.Prelude.{◌≡◌, ℕ, List};
 ghost use Rattle.bench_net.specs.Statement.{Statement};
 ghost use Rattle.bench_net.specs.Circuit.{IsWellFormed, HaveArities};
+ghost use Rattle.fault_model.specs.declared.Model.{Model};
 ghost use Rattle.fault_model.specs.Solution.{Test};
+ghost use Rattle.patterns.specs.declared.Outcome.{Outcome};
 ghost use Rattle.patterns.specs.Least.{Table};
-ghost use Rattle.block_sim.specs.First.{IsTrueTable, LeastIsFirst};
+ghost use Rattle.block_sim.specs.First.{IsTrueOutcome, IsTrueTable, LeastIsFirst};
 
 /// The first test that detects a fault is found by blocks: over a table with the true outcome of each
 /// class and block, the test of a class's first Hit is the first test that detects each fault of the
 /// class, and where all blocks are Clear no test detects one.
 pub fn least_is_first()
-    ensures { (c : List Statement) (tests : List Test) (table : Table) → IsWellFormed c → HaveArities c → IsTrueTable c tests table → LeastIsFirst c tests table }
+    ensures { (m : Model) (c : List Statement) (tests : List Test) (table : Table) → IsWellFormed c → HaveArities c → IsTrueTable m c tests table → LeastIsFirst m c tests table }
+{}
+
+/// There is a table with the true outcome of each class and block, under either model.
+pub fn true_table()
+    ensures { (m : Model) (c : List Statement) (tests : List Test) → IsWellFormed c → (table : Table) × IsTrueTable m c tests table }
+{}
+
+/// A class has one true outcome on a block.
+pub fn one_outcome()
+    ensures { (m : Model) (c : List Statement) (tests : List Test) (class block : ℕ) (first second : Outcome) → IsTrueOutcome m c tests class block first → IsTrueOutcome m c tests class block second → first ≡ second }
 {}

@@ -3,22 +3,23 @@
 //! Bit `k` of a word is the bit of test `64 * block + k`. A gate is evaluated on a whole word at once
 //! (parallel-pattern simulation: Bushnell and Agrawal, Essentials of Electronic Testing).
 
-ghost use Rattle.std.specs.Prelude.{◌≡◌, ◌≢◌, ℕ, ◌+◌, ◌-◌, ◌^◌, ◌<◌, ◌≤◌, All, min, length, None, slice_get};
+ghost use Rattle.std.specs.Prelude.{◌≡◌, ℕ, ◌+◌, ◌-◌, ◌^◌, ◌<◌, ◌≤◌, All, min, length, None, slice_get};
 ghost use Rattle.bench_net.specs.Scan.{names, sources, name_of, gate_of};
 ghost use Rattle.bench_net.specs.Circuit.{IsCircuit, max_sinks};
 ghost use Rattle.fault_model.specs.Solution.{value, under};
 ghost use Rattle.patterns.specs.Tests.{IsWord, blocks};
 ghost use Rattle.block_sim.specs.Words.{lane, pin_bits, AreWords, IsSignalWord};
-ghost use Rattle.block_sim.specs.Parts.{gate_count, gate_weight};
 ghost use Rattle.block_sim.specs.Stuck.{fault_of};
 
 use bench_net::{Circuit, Kind};
 use fault_model::Line;
 use patterns::Tests;
 
-/// A single stuck-at fault: its line is held at 0 or at 1 for all that read it.
+/// The stuck-at fault that is propagated for a fault of either model: its line is held at 0 or at 1 for
+/// all that read it. A transition fault is detected where this one is and the test before fits.
 #[derive(Clone, Copy)]
 pub struct Stuck {
+    pub model: fault_model::Model,
     pub line: Line,
     pub at_one: bool,
 }
@@ -26,7 +27,7 @@ pub struct Stuck {
 impl Stuck {
     /// The stuck bit in every lane.
     #[inline(always)]
-    fn word(self) -> u64
+    pub fn word(self) -> u64
         ensures { (k : ℕ) → k < 64 → lane result k ≡ self.at_one }
     {
         if self.at_one { !0 } else { 0 }
@@ -36,7 +37,7 @@ impl Stuck {
 /// The word that the readers of a line get: the stuck bit in every lane where the fault is on this very
 /// line, else the word that drives it.
 #[inline(always)]
-pub fn seen(fault: Option<Stuck>, own: Line, word: u64) -> u64
+fn seen(fault: Option<Stuck>, own: Line, word: u64) -> u64
     ensures { (k : ℕ) → k < 64 → lane result k ≡ under (fault_of fault) own (lane word k) }
 {
     match fault {
@@ -45,18 +46,23 @@ pub fn seen(fault: Option<Stuck>, own: Line, word: u64) -> u64
     }
 }
 
-/// Evaluates a gate on a word, and counts it. No other function evaluates a gate.
-fn evaluate_gate(
+/// Evaluates a gate on a word, and counts it. A pin reads the word of its signal turned in the lanes in
+/// which that differs, or the stuck bit where the fault is on the pin. No other function evaluates a gate.
+#[inline(always)]
+pub fn evaluate_gate(
     kind: Kind,
     pins: &[u32],
     gate: u32,
     fault: Option<Stuck>,
     words: &[u64],
+    delta: &[u64],
     evaluations: &mut u64,
 ) -> u64
     requires pins_in { All (λ p. p < length words.now) pins.now }
+    requires same { length words.now ≤ length delta.now }
     requires few { length pins.now ≤ max_sinks }
-    ensures value { (k : ℕ) → k < 64 → lane result k ≡ value kind (pin_bits (fault_of fault) gate pins.now words.now k) }
+    ensures value { (k : ℕ) → k < 64
+        → lane result k ≡ value kind (pin_bits (fault_of fault) gate pins.now words.now delta.now k) }
     ensures grown { evaluations.old ≤ evaluations.new }
     ensures counted { evaluations.new ≡ min (evaluations.old + 1) (2 ^ 64 - 1) }
 {
@@ -69,7 +75,8 @@ fn evaluate_gate(
             gate,
             pin: place as u32,
         };
-        let word = seen(fault, own, words[*signal as usize]);
+        let signal = *signal as usize;
+        let word = seen(fault, own, words[signal] ^ delta[signal]);
         all &= word;
         any |= word;
         odd ^= word;
@@ -99,62 +106,63 @@ fn source_word(circuit: &Circuit, tests: &Tests, block: u32, signal: u32) -> u64
     }
 }
 
-/// The word of one signal, from the tests or from the words of the signals that its gate reads.
+/// The fault-free word of one signal, from the tests or from the words of the signals that its gate reads.
+/// No word differs from itself: `same` is all 0.
 fn signal_word(
     circuit: &Circuit,
     tests: &Tests,
     block: u32,
-    fault: Option<Stuck>,
     words: &[u64],
+    same: &[u64],
     signal: u32,
     evaluations: &mut u64,
 ) -> u64
     requires circuit { IsCircuit circuit.now }
     requires signal { signal < length (names circuit.now) }
     requires words { length (names circuit.now) ≤ length words.now }
+    requires room { length words.now ≤ length same.now }
+    requires same { All (λ word. word ≡ 0) same.now }
     requires width { tests.now.width ≡ length (sources circuit.now) }
     requires block { block < blocks (length tests.now.tests) }
-    ensures equation { IsSignalWord circuit.now tests.now.tests block (fault_of fault) words.now signal result }
-    ensures grown { evaluations.old ≤ evaluations.new }
-    ensures counted { evaluations.new ≤ evaluations.old + gate_weight circuit.now signal }
+    ensures { IsSignalWord circuit.now tests.now.tests block None words.now signal result }
 {
-    let word = match circuit.gate_of(signal) {
+    match circuit.gate_of(signal) {
         Some(gate) => evaluate_gate(
             gate.kind,
             gate.pins.as_slice(),
             signal,
-            fault,
+            None,
             words,
+            same,
             evaluations,
         ),
         None => source_word(circuit, tests, block, signal),
-    };
-    seen(fault, Line::Stem(signal), word)
+    }
 }
 
-/// Writes the word of every signal on a block, at the signal's number, without a fault or under one. It
-/// goes in level order, so a gate comes after the signals that it reads.
+/// Writes the fault-free word of every signal on a block, at the signal's number. It goes in level order,
+/// so a gate comes after the signals that it reads.
 pub fn evaluate(
     circuit: &Circuit,
     tests: &Tests,
     block: u32,
-    fault: Option<Stuck>,
     words: &mut [u64],
+    same: &[u64],
     evaluations: &mut u64,
 )
     requires circuit { IsCircuit circuit.now }
     requires words { length (names circuit.now) ≤ length words.old }
+    requires room { length words.old ≤ length same.now }
+    requires same { All (λ word. word ≡ 0) same.now }
     requires width { tests.now.width ≡ length (sources circuit.now) }
     requires block { block < blocks (length tests.now.tests) }
-    ensures words { AreWords circuit.now tests.now.tests block (fault_of fault) words.new }
+    ensures words { AreWords circuit.now tests.now.tests block None words.new }
     ensures room { length words.new ≡ length words.old }
-    ensures grown { evaluations.old ≤ evaluations.new }
-    ensures counted { evaluations.new ≤ evaluations.old + gate_count circuit.now }
 {
     let order = circuit.in_level_order();
     for signal in order {
         let signal = *signal;
-        let word = signal_word(circuit, tests, block, fault, words, signal, evaluations);
+        let word = signal_word(circuit, tests, block, words, same, signal, evaluations);
         words[signal as usize] = word;
     }
 }

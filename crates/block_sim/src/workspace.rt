@@ -1,45 +1,56 @@
 //! Simulation of one fault class on one block of tests, and the workspace that it needs.
 
-ghost use Rattle.std.specs.Prelude.{◌≡◌, ◌↔◌, ◌+◌, ◌<◌, ◌≤◌, IfOk, IsTrue, Some, length};
-ghost use Rattle.bench_net.specs.Scan.{names};
+ghost use Rattle.std.specs.Prelude.{◌≡◌, ◌↔◌, ◌+◌, ◌<◌, ◌≤◌, IfOk, IsTrue, List, ℕ, Some, length, slice_get};
+ghost use Rattle.fault_model.specs.Collapse.{representatives};
+ghost use Rattle.fault_model.specs.Fault.{Fault};
 ghost use Rattle.patterns.specs.Tests.{blocks};
-ghost use Rattle.block_sim.specs.First.{IsOutcome, IsTrueOutcome};
-ghost use Rattle.block_sim.specs.Parts.{HasRoom, gate_count};
-ghost use Rattle.block_sim.specs.Stuck.{stuck_fault};
-ghost use Rattle.block_sim.specs.Words.{AreWords};
+ghost use Rattle.block_sim.specs.First.{IsTrueOutcome};
+ghost use Rattle.block_sim.specs.Parts.{HasRoom};
+ghost use Rattle.block_sim.specs.Stirred.{HasStirred};
 
+use crate::block_lanes::{lanes_below, least_lane};
+use crate::effect::effect;
 use crate::job::Job;
-use crate::observers::{cells_apart, lanes_below, least_lane, outputs_apart};
-use crate::words::{Stuck, evaluate};
+use crate::look_back::lanes_that_fit;
+use crate::spread::Extent;
+use event_queue::{Buckets, Overlay};
 use patterns::Outcome;
 use std::alloc::{AllocError, Global};
 use std::marker::Model;
 
-/// Room for the words of a circuit under one fault, which `simulate` uses again and again.
+/// Room for what a fault changes on a block: words that differ, and gates that wait. It is used again and
+/// again, and for any job with at most as many signals.
 #[derive(Drop)]
 pub struct Workspace {
-    words: Vec<u64>,
+    overlay: Overlay,
+    buckets: Buckets,
     evaluations: u64,
 }
 
 impl Model for Workspace {
-    ghost use Rattle.std.specs.Prelude.{vec_len};
+    ghost use Rattle.std.specs.Prelude.{length};
     ghost use Rattle.block_sim.specs.Parts.{Room};
+    ghost use Rattle.block_sim.specs.Job.{IsAtRest};
 
     ghost Value = { Room };
 
-    ghost view = { λ w. record { signals = vec_len w.words; evaluations = w.evaluations } };
+    ghost view = { λ w. record { signals = length w.overlay; evaluations = w.evaluations } };
+
+    ghost invariant = { λ w. IsAtRest w.overlay w.buckets };
 }
 
 impl Workspace {
-    /// A workspace that fits the job. It takes a word for each signal.
+    /// A workspace that fits the job. It takes a word and a few numbers for each signal.
     pub fn new(alloc: Global, job: &Job) -> Result<Workspace, AllocError>
         ensures fits { IfOk result (λ workspace. HasRoom workspace job.now) }
         ensures fresh { IfOk result (λ workspace. workspace.evaluations ≡ 0) }
     {
-        let words = vec![in alloc; 0u64; job.circuit().signals() as usize]?;
+        let signals = job.circuit().signals();
+        let overlay = Overlay::new(alloc, signals)?;
+        let buckets = Buckets::new(alloc, signals, signals + 1)?;
         Ok(Workspace {
-            words,
+            overlay,
+            buckets,
             evaluations: 0,
         })
     }
@@ -48,7 +59,7 @@ impl Workspace {
     pub fn fits(&self, job: &Job) -> bool
         ensures { IsTrue result ↔ HasRoom self.now job.now }
     {
-        job.circuit().signals() as usize <= self.words.len()
+        job.circuit().signals() as usize <= self.overlay.words().len()
     }
 
     /// How often a gate was evaluated on a word since the workspace was made. It stays at the greatest u64.
@@ -62,41 +73,71 @@ impl Workspace {
 /// The outcome of a class on a block: `Hit(k)` with the least `k` below the block's size for which test
 /// `64 * block + k` detects the representative of the class, else `Clear`. It takes no memory.
 ///
-/// The faulty circuit is evaluated on all tests of the block at once, in level order, and its observers
-/// are compared with the fault-free ones (parallel-pattern single-fault simulation: Bushnell and
-/// Agrawal, Essentials of Electronic Testing). It evaluates each gate at most once.
+/// All tests of the block are simulated at once, from the fault's line on and only where words change
+/// (parallel-pattern single-fault propagation: Waicukauski, Eichelberger, Forlenza, Lindbloom and McCarthy,
+/// Fault Simulation for Structured VLSI). At most those gates are evaluated, each once, that the fault
+/// stirs: gates with a pin that sees under some test of the block another bit with the fault than without it.
+/// Where the fault turns its line under no test of the block, none is. A transition fault stirs what its
+/// line stuck at the fault's bit stirs.
+///
+/// Each test is followed to the end; [`first_hit`] has the same outcome and is faster where there are hits.
 pub fn simulate(job: &Job, workspace: &mut Workspace, class: u32, block: u32) -> Outcome
     requires class { class < length job.now.classes.representative }
     requires block { block < blocks (length job.now.tests.tests) }
     requires fits { HasRoom workspace.old job.now }
-    ensures outcome { IsTrueOutcome job.now.circuit job.now.tests.tests class block result }
+    ensures outcome { IsTrueOutcome job.now.list.model job.now.circuit job.now.tests.tests class block result }
     ensures room { workspace.new.signals ≡ workspace.old.signals }
     ensures grown { workspace.old.evaluations ≤ workspace.new.evaluations }
-    ensures counted { workspace.new.evaluations ≤ workspace.old.evaluations + gate_count job.now.circuit }
+    ensures counted { (r : Fault) (gates : List ℕ)
+        → slice_get (representatives job.now.list.model job.now.circuit) class ≡ Some r
+        → HasStirred job.now.circuit job.now.tests.tests block r gates
+        → workspace.new.evaluations ≤ workspace.old.evaluations + length gates }
 {
-    let fault = job.representative(class);
-    evaluate(
-        job.circuit(),
-        job.tests(),
-        block,
-        Some(fault),
-        &mut workspace.words,
-        &mut workspace.evaluations,
-    );
-    outcome(job, block, fault, &workspace.words)
+    outcome(job, workspace, class, block, Extent::WholeBlock)
 }
 
-/// The outcome of a fault on a block whose faulty words are known.
-fn outcome(job: &Job, block: u32, fault: Stuck, faulty: &[u64]) -> Outcome
+/// The outcome of a class on a block, as [`simulate`] gives it and within the same bound. Only the tests below
+/// the least that is known to detect the fault are followed on, so that it ends early. It is the call for
+/// lists of tests; [`simulate`] is the one whose counts do not depend on what is detected when.
+pub fn first_hit(job: &Job, workspace: &mut Workspace, class: u32, block: u32) -> Outcome
+    requires class { class < length job.now.classes.representative }
     requires block { block < blocks (length job.now.tests.tests) }
-    requires room { length (names job.now.circuit) ≤ length faulty.now }
-    requires faulty { AreWords job.now.circuit job.now.tests.tests block (Some (stuck_fault fault)) faulty.now }
-    ensures { IsOutcome job.now.circuit job.now.tests.tests (stuck_fault fault) block result }
+    requires fits { HasRoom workspace.old job.now }
+    ensures outcome { IsTrueOutcome job.now.list.model job.now.circuit job.now.tests.tests class block result }
+    ensures room { workspace.new.signals ≡ workspace.old.signals }
+    ensures grown { workspace.old.evaluations ≤ workspace.new.evaluations }
+    ensures counted { (r : Fault) (gates : List ℕ)
+        → slice_get (representatives job.now.list.model job.now.circuit) class ≡ Some r
+        → HasStirred job.now.circuit job.now.tests.tests block r gates
+        → workspace.new.evaluations ≤ workspace.old.evaluations + length gates }
 {
-    let circuit = job.circuit();
-    let good = job.fault_free(block);
-    let outputs = outputs_apart(circuit.outputs(), Some(fault), good, faulty);
-    let cells = cells_apart(circuit.scan_cells(), Some(fault), good, faulty);
-    let lanes = lanes_below(job.tests().size_of(block));
-    least_lane((outputs | cells) & lanes)
+    outcome(job, workspace, class, block, Extent::FirstHit)
+}
+
+/// The outcome of a class on a block, by following its lanes so far.
+fn outcome(job: &Job, workspace: &mut Workspace, class: u32, block: u32, extent: Extent) -> Outcome
+    requires class { class < length job.now.classes.representative }
+    requires block { block < blocks (length job.now.tests.tests) }
+    requires fits { HasRoom workspace.old job.now }
+    ensures outcome { IsTrueOutcome job.now.list.model job.now.circuit job.now.tests.tests class block result }
+    ensures room { workspace.new.signals ≡ workspace.old.signals }
+    ensures grown { workspace.old.evaluations ≤ workspace.new.evaluations }
+    ensures counted { (r : Fault) (gates : List ℕ)
+        → slice_get (representatives job.now.list.model job.now.circuit) class ≡ Some r
+        → HasStirred job.now.circuit job.now.tests.tests block r gates
+        → workspace.new.evaluations ≤ workspace.old.evaluations + length gates }
+{
+    let fault = job.representative(class);
+    let lanes = lanes_below(job.tests().size_of(block)) & lanes_that_fit(job, block, fault);
+    let seen = effect(
+        job.circuit(),
+        job.fault_free(block),
+        fault,
+        extent,
+        lanes,
+        &mut workspace.overlay,
+        &mut workspace.buckets,
+        &mut workspace.evaluations,
+    );
+    least_lane(seen)
 }

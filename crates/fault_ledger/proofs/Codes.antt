@@ -1,11 +1,11 @@
--- What a word says of its piece is what was written.
+-- What a field says of its piece is what was written.
 use Rattle.std.proofs.Common.{◌≡◌, ℕ, ◌+◌, ◌%◌, ◌<◌, false, cond, eqb, refl, ap, ◌∙◌, arith, ne_eqb}
 use Rattle.fault_ledger.specs.declared.PieceState.{PieceState}
 use Rattle.fault_ledger.specs.declared.PieceState.TheVariants as state
-use Rattle.fault_ledger.specs.Words.{word_of, state_at}
+use Rattle.fault_ledger.specs.Words.{code_of, state_at}
 
--- a word is read back as the state that was written
-pub decoded : (st : PieceState) → ((k : ℕ) → st ≡ state.Hit k → k < 64) → state_at (word_of st) ≡ st
+-- a field is read back as the state that was written
+pub decoded : (st : PieceState) → ((k : ℕ) → st ≡ state.Hit k → k < 64) → state_at (code_of st) ≡ st
 decoded state.Open f = refl
 decoded state.Clear f = refl
 decoded state.Skipped f = refl

@@ -1,5 +1,5 @@
 -- A group's place, the words of a new table, and what those of a closed table say of the pieces.
-use Rattle.std.proofs.Common.{◌≡◌, ℕ, zero, suc, ◌+◌, ◌<◌, ◌∷◌, [], List, map, length, slice_index, replicate, refl, sym, ap, ◌∙◌, subst, arith}
+use Rattle.std.proofs.Common.{◌≡◌, ℕ, zero, suc, ◌<◌, ◌∷◌, [], List, map, length, slice_index, replicate, refl, sym, ap, ◌∙◌, subst, arith}
 use mathlib.Core.Option.{some, some-injective, some-ne-none}
 use lib.ListN.{get_elem?}
 use Rattle.patterns.specs.Least.{below}
@@ -12,7 +12,7 @@ use Rattle.fault_ledger.specs.declared.words.View.{View}
 use Rattle.fault_ledger.specs.History.{History, ContinuesWithout, piece_count, block_of, entry, states_of}
 use Rattle.fault_ledger.specs.Answer.{IsLegal}
 use Rattle.fault_ledger.specs.Seats.{Place}
-use Rattle.fault_ledger.specs.Words.{Crowd, crowd, place_of, IsKept, Knows, ForEach, state_at}
+use Rattle.fault_ledger.specs.Words.{Crowd, crowd, place_of, IsKept, Knows, ForEach, field_in, state_at}
 use Rattle.fault_ledger.proofs.Tables.{same-below}
 use Rattle.fault_ledger.proofs.Totals.{for_all}
 use Rattle.fault_ledger.proofs.Legal.{legal_hit}
@@ -43,7 +43,7 @@ index_at (x ∷ xs) (suc i) a e = index_at xs i a e
 -- what the last state of the table says of the states that its words stand for, and of the posts of the last group
 pub closes : (s : Shape) (id : ℕ) (v : View) (g : Crowd) (words slots : List ℕ) (states : List PieceState)
     → Final (Seen (IsKept {S = ℕ} s) id v) words slots → v.posts ≡ g.posts
-    → states ≡ map (λ piece. state_at (slice_index words (piece + 1))) (below (piece_count s))
+    → states ≡ map (λ piece. state_at (field_in words piece)) (below (piece_count s))
     → (h : History) × IsLegal s h × ForEach (λ p. ContinuesWithout p.worker h p.seen) g.posts × (states ≡ states_of s h)
 closes s id v g words slots states f same is =
     let h = f.1.0.0 in
@@ -51,8 +51,8 @@ closes s id v g words slots states f same is =
       h,
       kept.legal,
       subst (ForEach (λ p. ContinuesWithout p.worker h p.seen)) same (for_all (Knows s h v.shape) (λ p. ContinuesWithout p.worker h p.seen) v.posts (λ p k. k.newer) (kept.known id v f.1.1)),
-      is ∙ same-below (λ piece. state_at (slice_index words (piece + 1))) (λ piece. entry piece h) (piece_count s)
-          (λ p l. ap (λ ws. state_at (slice_index ws (p + 1))) (sym f.2) ∙ ap state_at (kept.marked p l) ∙ decoded (entry p h) (λ k e. below_64 k s.tests (block_of s p) (legal_hit s p k h kept.legal e))),
+      is ∙ same-below (λ piece. state_at (field_in words piece)) (λ piece. entry piece h) (piece_count s)
+          (λ p l. ap (λ ws. state_at (field_in ws p)) (sym f.2) ∙ ap state_at (kept.marked p l) ∙ decoded (entry p h) (λ k e. below_64 k s.tests (block_of s p) (legal_hit s p k h kept.legal e))),
     )
   where
     below_64 : (k tests block : ℕ) → k < size_of tests block → k < 64

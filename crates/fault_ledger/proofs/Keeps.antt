@@ -1,13 +1,15 @@
 -- Claims, reports and drops keep the rule.
-use Rattle.std.proofs.Common.{◌≡◌, ◌≢◌, ℕ, ◌+◌, ◌^◌, ◌%◌, ◌<◌, ◌≤◌, inl, inr, min, Bool, true, false, cond, eqb, List, [], ◌∷◌, ◌++◌, set, length, slice_index, Some, None, refl, sym, ap, ◌∙◌, subst, arith, eq-eqb, length-set, get_or-set_other, get_or-set_same, mod-eq_of_lt}
+use Rattle.std.proofs.Common.{◌≡◌, ◌≢◌, ℕ, ◌+◌, ◌^◌, ◌%◌, ◌<◌, ◌≤◌, inl, inr, min, Bool, true, false, cond, eqb, List, [], ◌∷◌, ◌++◌, set, length, slice_index, bit_or, Some, None, refl, sym, ap, ◌∙◌, subst, arith, eq-eqb, length-set, get_or-set_other, get_or-set_same, mod-eq_of_lt}
 use Rattle.std.proofs.Math.Nat.{min-eq_left, min-eq_right}
 use native.Mathlib.Decide.{dec_lt, ℕ_discrete}
 use mathlib.Core.Option.{some, none}
 use mathlib.Core.Logic.{dite}
+use Rattle.std.proofs.lemmas.Bool.{ltb-true}
 use lib.ListN.{get_elem?}
 use Rattle.atomic_table.specs.Table.{State, Me, step, Act, keeps, Valid, stepped, carried_after, Allows}
 use Rattle.patterns.specs.declared.Outcome.{Outcome}
-use Rattle.patterns.specs.Tests.{size_of}
+use Rattle.patterns.specs.declared.Outcome.TheVariants as outcome
+use Rattle.patterns.specs.Tests.{size_of, max_pieces}
 use Rattle.fault_ledger.specs.declared.Shape.{Shape}
 use Rattle.fault_ledger.specs.declared.PieceState.{PieceState}
 use Rattle.fault_ledger.specs.declared.PieceState.TheVariants as state
@@ -16,12 +18,13 @@ use Rattle.fault_ledger.specs.declared.Call.TheVariants as call
 use Rattle.fault_ledger.specs.declared.words.View.{View}
 use Rattle.fault_ledger.specs.History.{History, piece_count, block_of, worker_of, state_of, claims, held, holds, entry}
 use Rattle.fault_ledger.specs.Answer.{fits_size, has_earlier_hit, added, after, call_of}
-use Rattle.fault_ledger.specs.Words.{word_of, total, times, told_of, ForEach, Knows, IsKeptBy, IsKept, one, post, Claims, Reports, Drops}
-use Rattle.fault_ledger.proofs.Histories.{held_goes_on, held-holds, holds-not, goes_on_same}
+use Rattle.fault_ledger.specs.Words.{code_of, field, field_in, in_field, word_with, total, times, told_of, ForEach, Knows, IsKeptBy, IsKept, one, post, Claims, Reports, Drops}
+use Rattle.fault_ledger.proofs.Histories.{held_goes_on, held-holds, held_open, holds-not, goes_on_same}
 use Rattle.fault_ledger.proofs.Totals.{total-two, total-mono, told-length, times-none, for_each, set_known}
 use Rattle.fault_ledger.proofs.Accepts.{claim_answer, report_answer, drop_answer, hit_goes_on}
 use Rattle.fault_ledger.proofs.Looks.{same_total, look_keeps}
 use Rattle.fault_ledger.proofs.Limits.{shape_small}
+use Rattle.fault_ledger.proofs.Fields.{marked_words, marked_here, marked_else, marked_cursor}
 
 -- what `Allows` asks at one state
 abbrev Goes : {S : Type 0} → Shape → State S View → ℕ → Me S View → ℕ → (ℕ → ℕ) → (ℕ → Me S View → Type 0) → Type 0
@@ -59,7 +62,7 @@ module _ (s : Shape) (h : History) (words : List ℕ) (views : List View) (kept 
   -- the rule after one event of the worker
   event_keeps : told ≡ false → (e : Event) (now : List ℕ) → worker_of e ≡ w → after s h (call_of e) ≡ e ∷ h
       → length now ≡ length words
-      → ((p : ℕ) → p < piece_count s → slice_index now (p + 1) ≡ word_of (entry p (e ∷ h)))
+      → ((p : ℕ) → p < piece_count s → field_in now p ≡ code_of (entry p (e ∷ h)))
       → claims (e ∷ h) ≡ min (slice_index now 0) (piece_count s)
       → slice_index now 0 ≤ piece_count s + total (λ v. told_of v.posts) views
       → IsKeptBy s (e ∷ h) now (set views id (one s w told (e ∷ h)))
@@ -91,7 +94,7 @@ module _ (s : Shape) (h : History) (words : List ℕ) (views : List View) (kept 
       go true t = let x = (knows.done t).0 in absurd (cc)
       go false t = t
 
-next-small : (n : ℕ) → n ≤ 4194304 + 64 → (n + 1) % 2 ^ 64 ≡ n + 1
+next-small : (n : ℕ) → n ≤ max_pieces + 64 → (n + 1) % 2 ^ 64 ≡ n + 1
 next-small n l = mod-eq_of_lt (omega arith)
 
 -- a claim
@@ -119,7 +122,7 @@ module _ {S : Type 0} (s : Shape) (slots id w : ℕ) (seen : History) (out : Lis
           e ∷ h,
           event_keeps s h t.words t.views kept id w false seen at refl e now refl accepts
               (length-set t.words 0 ((n + 1) % 2 ^ 64))
-              (λ p l. get_or-set_other t.words 0 (p + 1) ((n + 1) % 2 ^ 64) 0 (λ q. absurd (omega arith)) ∙ kept.marked p l)
+              (λ p l. ap (λ x. field x (p % 8)) (get_or-set_other t.words 0 (word_with p) ((n + 1) % 2 ^ 64) 0 (λ q. absurd (omega arith))) ∙ kept.marked p l)
               (ap (λ k. k + 1) counted ∙ sym first ∙ sym (min-eq_left (omega arith)))
               (omega arith),
         ),
@@ -146,7 +149,7 @@ module _ {S : Type 0} (s : Shape) (slots id w : ℕ) (seen : History) (out : Lis
           h,
           look_keeps s h t.words t.views kept id me.0 at (post w true h ∷ []) now
               (length-set t.words 0 ((n + 1) % 2 ^ 64))
-              (λ p l. get_or-set_other t.words 0 (p + 1) ((n + 1) % 2 ^ 64) 0 (λ q. absurd (omega arith)) ∙ kept.marked p l)
+              (λ p l. ap (λ x. field x (p % 8)) (get_or-set_other t.words 0 (word_with p) ((n + 1) % 2 ^ 64) 0 (λ q. absurd (omega arith))) ∙ kept.marked p l)
               (counted ∙ sym (min-eq_right (omega arith)))
               (omega arith)
               refl
@@ -161,15 +164,21 @@ module _ {S : Type 0} (s : Shape) (slots id w : ℕ) (seen : History) (out : Lis
       dite (dec_lt (slice_index t.words 0) (piece_count s)) (λ below. claims_more t kept.0 kept.1 at below)
       (λ n. claims_none t kept.0 kept.1 at (omega arith))
 
--- the words after the word of a held piece was stored
-made : (p q : ℕ) (h : History) (w : ℕ) (words : List ℕ) (x now : PieceState) → held w h ≡ Some p → p + 1 < length words
-    → slice_index words (q + 1) ≡ word_of (entry q h) → now ≡ cond (holds w q h) x (entry q h) → slice_index (set words (p + 1) (word_of x)) (q + 1) ≡ word_of now
-made p q h w words x now here long was is =
+-- the words after the field of a held piece, which was 0, was set by an `or`
+made : (p q : ℕ) (h : History) (w : ℕ) (words : List ℕ) (x now : PieceState) → held w h ≡ Some p → word_with p < length words → code_of x < 256
+    → field_in words p ≡ code_of (entry p h) → field_in words q ≡ code_of (entry q h) → now ≡ cond (holds w q h) x (entry q h)
+    → field_in (marked_words words p (code_of x)) q ≡ code_of now
+made p q h w words x now here long small mine was is =
     dite (ℕ_discrete p q)
     (λ e. let same : now ≡ x = is ∙ ap (λ b. cond b x (entry q h)) (held-holds w q h (here ∙ ap Some e)) in
-    subst (λ n. slice_index (set words (p + 1) (word_of x)) (n + 1) ≡ word_of now) e (get_or-set_same words (p + 1) (word_of x) 0 long ∙ ap word_of (sym same)))
+    subst (λ n. field_in (marked_words words p (code_of x)) n ≡ code_of now) e (marked_here words p (code_of x) long small (mine ∙ ap code_of (held_open w p h here)) ∙ ap code_of (sym same)))
     (λ n. let same : now ≡ entry q h = is ∙ ap (λ b. cond b x (entry q h)) (holds-not w q h (λ f. n (let r : Some p ≡ Some q = sym here ∙ f in cc))) in
-    get_or-set_other words (p + 1) (q + 1) (word_of x) 0 (λ e. n (omega arith)) ∙ was ∙ ap word_of (sym same))
+    marked_else words p q (code_of x) long small n ∙ was ∙ ap code_of (sym same))
+
+-- the field of an outcome of a block has eight bits
+fits_small : (o : Outcome) (size : ℕ) → fits_size size o ≡ true → size ≤ 64 → code_of (state_of o) < 256
+fits_small outcome.Clear size fits l = omega arith
+fits_small (outcome.Hit k) size fits l = let a = ltb-true k size fits in omega arith
 
 -- a report or a drop of the piece that a worker holds
 module _ {S : Type 0} (s : Shape) (slots id w p : ℕ) (told : Bool) (seen : History) (out : List (ℕ × S)) (holding : held w seen ≡ Some p) where
@@ -177,34 +186,34 @@ module _ {S : Type 0} (s : Shape) (slots id w p : ℕ) (told : Bool) (seen : His
   me' = (one s w told seen, out)
 
   settles : (e : Event) (x : PieceState) (t : State S View) (h : History) (kept : IsKeptBy s h t.words t.views) → get_elem? t.views id ≡ some me'.0 → worker_of e ≡ w → after s h (call_of e) ≡ e ∷ h
-      → claims (e ∷ h) ≡ claims h → ((q : ℕ) → entry q (e ∷ h) ≡ cond (holds w q h) x (entry q h)) → p < piece_count s
-      → IsKeptBy s (e ∷ h) (set t.words (p + 1) (word_of x)) (set t.views id (one s w told (e ∷ h)))
-  settles e x t h kept at by accepts same entries below =
-      let now = set t.words (p + 1) (word_of x) in
+      → claims (e ∷ h) ≡ claims h → ((q : ℕ) → entry q (e ∷ h) ≡ cond (holds w q h) x (entry q h)) → p < piece_count s → code_of x < 256
+      → IsKeptBy s (e ∷ h) (marked_words t.words p (code_of x)) (set t.views id (one s w told (e ∷ h)))
+  settles e x t h kept at by accepts same entries below small =
+      let now = marked_words t.words p (code_of x) in
       let here : held w h ≡ Some p = held_still s h t.words t.views kept id w told seen at ∙ holding in
       let sized = kept.sized in
-      let first : slice_index now 0 ≡ slice_index t.words 0 = get_or-set_other t.words (p + 1) 0 (word_of x) 0 (λ q. absurd (omega arith)) in
+      let first : slice_index now 0 ≡ slice_index t.words 0 = marked_cursor t.words p (code_of x) in
       event_keeps s h t.words t.views kept id w told seen at (holder_untold s h t.words t.views kept id w told seen at p holding) e now by accepts
-      (length-set t.words (p + 1) (word_of x))
-      (λ q l. made p q h w t.words x (entry q (e ∷ h)) here (omega arith) (kept.marked q l) (entries q))
+      (length-set t.words (word_with p) (bit_or (slice_index t.words (word_with p)) (in_field p (code_of x))))
+      (λ q l. made p q h w t.words x (entry q (e ∷ h)) here (omega arith) small (kept.marked p below) (kept.marked q l) (entries q))
       (same ∙ kept.counted ∙ ap (λ n. min n (piece_count s)) (sym first))
       (let b = kept.bounded in omega arith)
 
   pub reports_allowed : (o : Outcome) → p < piece_count s → fits_size (size_of s.tests (block_of s p)) o ≡ true
-      → Allows (IsKept s) slots id me' (p + 1) (λ _. word_of (state_of o)) (λ _. Reports (step slots (p + 1) (word_of (state_of o)) 0 none) me' (word_of (state_of o)))
+      → Allows (IsKept s) slots id me' (word_with p) (λ n. bit_or n (in_field p (code_of (state_of o)))) (Reports (step slots (word_with p) (in_field p (code_of (state_of o))) 0 none) me')
   reports_allowed o below fits t kept homes at lt =
       let h = kept.0 in
       let e = Event.Report w o in
       let mine = knows s h t.words t.views kept.1 id w told seen at in
       let here : held w h ≡ Some p = held_still s h t.words t.views kept.1 id w told seen at ∙ holding in
       let accepts : after s h (call.Report w o) ≡ e ∷ h = ap (λ r. added (call.Report w o) r ++ h) (report_answer s h w p o mine.among here fits) in
-      (one s w told (e ∷ h), keeps, tt, (e ∷ h, settles e (state_of o) t h kept.1 at refl accepts refl (λ q. refl) below), (refl, (o, refl, (h, mine.newer, (accepts, kept.1.legal), refl))))
+      (one s w told (e ∷ h), keeps, tt, (e ∷ h, settles e (state_of o) t h kept.1 at refl accepts refl (λ q. refl) below (fits_small o (size_of s.tests (block_of s p)) fits (omega arith))), (refl, (o, (λ q e. ap (λ j. in_field j (code_of (state_of o))) (let r : Some p ≡ Some q = sym holding ∙ e in cc)), (h, mine.newer, (accepts, kept.1.legal), refl))))
 
-  pub drops_allowed : p < piece_count s → has_earlier_hit s seen p ≡ true → Allows (IsKept s) slots id me' (p + 1) (λ _. 2) (λ _. Drops (step slots (p + 1) 2 0 none) me' 2)
+  pub drops_allowed : p < piece_count s → has_earlier_hit s seen p ≡ true → Allows (IsKept s) slots id me' (word_with p) (λ n. bit_or n (in_field p 2)) (Drops (step slots (word_with p) (in_field p 2) 0 none) me')
   drops_allowed below hit t kept homes at lt =
       let h = kept.0 in
       let e = Event.Drop w in
       let mine = knows s h t.words t.views kept.1 id w told seen at in
       let here : held w h ≡ Some p = held_still s h t.words t.views kept.1 id w told seen at ∙ holding in
       let accepts : after s h (call.Drop w) ≡ e ∷ h = ap (λ r. added (call.Drop w) r ++ h) (drop_answer s h w p mine.among here (hit_goes_on s w p h seen mine.newer hit)) in
-      (one s w told (e ∷ h), keeps, tt, (e ∷ h, settles e state.Skipped t h kept.1 at refl accepts refl (λ q. refl) below), (refl, (h, mine.newer, (accepts, kept.1.legal), refl)))
+      (one s w told (e ∷ h), keeps, tt, (e ∷ h, settles e state.Skipped t h kept.1 at refl accepts refl (λ q. refl) below (omega arith)), (refl, (h, mine.newer, (accepts, kept.1.legal), refl)))

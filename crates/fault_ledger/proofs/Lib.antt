@@ -10,6 +10,7 @@ pub mod Finishes
 pub mod Replays
 pub mod Totals
 pub mod Tokens
+pub mod Fields
 pub mod Codes
 pub mod Meets
 pub mod Groups
@@ -22,3 +23,4 @@ pub mod Steps
 pub mod Sits
 pub mod Classes
 pub mod Deals
+pub mod FirstHits

@@ -1,5 +1,5 @@
 -- A load keeps the rule, and shows a seat the whole history.
-use Rattle.std.proofs.Common.{◌≡◌, ℕ, zero, suc, ◌+◌, ◌<◌, ◌≤◌, min, cond, eqb, List, [], ◌∷◌, ◌++◌, set, length, slice_index, refl, sym, ap, ◌∙◌, subst, arith}
+use Rattle.std.proofs.Common.{◌≡◌, ℕ, zero, suc, ◌+◌, ◌%◌, ◌<◌, ◌≤◌, min, cond, eqb, List, [], ◌∷◌, ◌++◌, set, length, slice_index, refl, sym, ap, ◌∙◌, subst, arith}
 use Rattle.std.proofs.Math.Nat.{min-le_right}
 use mathlib.Core.Option.{some, none}
 use lib.ListN.{get_elem?}
@@ -9,7 +9,7 @@ use Rattle.fault_ledger.specs.declared.words.Post.{Post}
 use Rattle.fault_ledger.specs.declared.words.View.{View}
 use Rattle.fault_ledger.specs.History.{History, piece_count, claims, entry, ContinuesWithout}
 use Rattle.fault_ledger.specs.Answer.{IsLegal}
-use Rattle.fault_ledger.specs.Words.{word_of, total, times, told_of, ForEach, Knows, IsKeptBy, IsKept, see, Looks}
+use Rattle.fault_ledger.specs.Words.{code_of, field_in, field, total, times, told_of, ForEach, Knows, IsKeptBy, IsKept, see, Looks}
 use Rattle.fault_ledger.proofs.Histories.{held_goes_on, claims_past, goes_on_same}
 use Rattle.fault_ledger.proofs.Totals.{total-set, for_all, set_known}
 
@@ -21,7 +21,7 @@ same_total f views id v w at e = let t = total-set f views id v w at in omega ar
 pub look_keeps : (s : Shape) (h : History) (words : List ℕ) (views : List View) (kept : IsKeptBy s h words views) (id : ℕ) (v : View) (at : get_elem? views id ≡ some v)
     → (ps : List Post) (now : List ℕ)
     → length now ≡ length words
-    → ((p : ℕ) → p < piece_count s → slice_index now (p + 1) ≡ word_of (entry p h))
+    → ((p : ℕ) → p < piece_count s → field_in now p ≡ code_of (entry p h))
     → claims h ≡ min (slice_index now 0) (piece_count s)
     → slice_index now 0 + told_of v.posts ≤ piece_count s + total (λ v. told_of v.posts) views + told_of ps
     → length ps ≡ length v.posts → ((x : ℕ) → times x ps ≡ times x v.posts)
@@ -87,7 +87,7 @@ looks_allowed s slots id i shape p ps out t kept homes at lt =
         refl,
         (
           h,
-          (λ q e l. ap (slice_index t.words) e ∙ k.marked q (subst (λ x. q < piece_count x) mine.0.same l)),
+          (λ q e l. ap (λ j. field (slice_index t.words j) (q % 8)) e ∙ k.marked q (subst (λ x. q < piece_count x) mine.0.same l)),
           subst (λ x. IsLegal x h) (sym mine.0.same) k.legal,
           for_all (Knows s h shape) (λ p. ContinuesWithout p.worker h p.seen) (p ∷ ps) (λ p k. k.newer) mine,
           refl,

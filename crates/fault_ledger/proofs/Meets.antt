@@ -1,6 +1,6 @@
 -- The rule of the shared words at the start, and where a token is parted in two or two are joined.
-use Rattle.std.proofs.Common.{◌≡◌, ℕ, zero, suc, ◌+◌, ◌<◌, ◌≤◌, ⊎_elim, min, Bool, true, false, true≢false, cond, eqb, List, [], ◌∷◌, ◌++◌, set, length, slice_index, None, refl, sym, ap, ◌∙◌, subst, arith, ne_eqb, length-append}
-use Rattle.std.proofs.Math.Nat.{min-eq_left}
+use Rattle.std.proofs.Common.{◌≡◌, ℕ, zero, suc, ◌+◌, ◌*◌, ◌%◌, ◌^◌, ◌<◌, ◌≤◌, ⊎_elim, min, Bool, true, false, true≢false, cond, eqb, List, [], ◌∷◌, ◌++◌, set, length, slice_index, None, refl, sym, ap, ◌∙◌, subst, arith, ne_eqb, length-append}
+use Rattle.std.proofs.Math.Nat.{min-eq_left, zero-div}
 use mathlib.Core.Option.{some, some-injective, some-ne-none}
 use mathlib.Core.Logic.{dite}
 use native.Mathlib.Decide.{ℕ_discrete}
@@ -12,7 +12,7 @@ use Rattle.fault_ledger.specs.declared.words.Post.{Post}
 use Rattle.fault_ledger.specs.declared.words.View.{View}
 use Rattle.fault_ledger.specs.History.{piece_count}
 use Rattle.fault_ledger.specs.Face.{shape_fault}
-use Rattle.fault_ledger.specs.Words.{total, times, told_of, ForEach, Knows, IsKept, newcomer_posts, everybody, front, others, front_of, others_of, both_of, nobody}
+use Rattle.fault_ledger.specs.Words.{field, word_with, word_count, total, times, told_of, ForEach, Knows, IsKept, newcomer_posts, everybody, front, others, front_of, others_of, both_of, nobody}
 use Rattle.fault_ledger.proofs.Totals.{total-set, for_append, set_known}
 
 off : false ≡ true → ⊥
@@ -48,15 +48,19 @@ knows-newcomers : (s : Shape) (w n : ℕ) → w + n ≤ s.workers → ForEach (K
 knows-newcomers s w zero l = tt
 knows-newcomers s w (suc n) l = (record { same = refl; among = (omega arith); newer = ([], refl, tt); done = λ e. absurd (off e) }, knows-newcomers s (suc w) n (omega arith))
 
+-- each field of 0 is 0
+zero_field : (j : ℕ) → field 0 j ≡ 0
+zero_field j = ap (λ n. n % 2 ^ 8) (zero-div (2 ^ (8 * j)))
+
 -- the rule holds at the start
-pub opens : (s : Shape) (ws : List ℕ) → shape_fault s ≡ None → length ws ≡ piece_count s + 1 → ((i : ℕ) → slice_index ws i ≡ 0) → IsKept s (opening {S = ℕ} ws [] (everybody s))
+pub opens : (s : Shape) (ws : List ℕ) → shape_fault s ≡ None → length ws ≡ word_count s → ((i : ℕ) → slice_index ws i ≡ 0) → IsKept s (opening {S = ℕ} ws [] (everybody s))
 opens s ws limits len zeros = (
   [],
   record {
     limits = limits;
     legal = tt;
     sized = len;
-    marked = λ p l. zeros (p + 1);
+    marked = λ p l. ap (λ n. field n (p % 8)) (zeros (word_with p)) ∙ zero_field (p % 8);
     counted = sym (ap (λ n. min n (piece_count s)) (zeros 0) ∙ min-eq_left (omega arith));
     bounded = (let z = zeros 0 in omega arith);
     staffed = (let l = length-newcomers 0 s.workers in omega arith);

@@ -58,6 +58,14 @@ seated_ends a b worker told classes piece i none s all =
 pub seated_piece : (a : Sitter) (worker : ℕ) (told : Bool) (classes : ℕ) (piece : Option ℕ) (p : ℕ) → IsSeated a worker told classes piece → piece ≡ Some p → p < piece_count a.place.shape
 seated_piece a worker told classes piece p i e = held_piece a.place.shape a.worker p a.seen i.sitter.legal (sym i.piece_is ∙ e)
 
+-- the piece that a seat holds is one
+pub seated_same : (a b : Sitter) (worker : ℕ) (told : Bool) (classes : ℕ) (piece : Option ℕ)
+    (p q : ℕ) → IsSeated a worker told classes piece → a ≡ b → piece ≡ Some p → held b.worker b.seen ≡ Some q → q ≡ p
+seated_same a b worker told classes piece p q i view is holds =
+    let e : Some q ≡ Some p =
+    sym holds ∙ ap (λ (x : Sitter). held x.worker x.seen) (sym view) ∙ sym i.piece_is ∙ is in
+    cc
+
 -- looks, and then an event
 pub makes_after : (a b d : Sitter) (e : Event) (r : Reply) → Sees a a.told b → Makes b e r d → Makes a e r d
 makes_after a b d e r s m =

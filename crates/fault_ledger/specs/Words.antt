@@ -1,5 +1,5 @@
 -- The rule of the shared words: what is true of the words and of all that the seats have seen, between any two steps.
-use Rattle.std.specs.Prelude.{◌≡◌, ℕ, zero, suc, ◌+◌, ◌%◌, ◌<◌, ◌≤◌, ◌⊎◌, Bool, true, false, cond, ◌==◌, if◌then◌else◌, min, List, [], ◌∷◌, ◌++◌, length, slice_index, None}
+use Rattle.std.specs.Prelude.{◌≡◌, ℕ, zero, suc, ◌+◌, ◌*◌, ◌/◌, ◌%◌, ◌^◌, ◌<◌, ◌≤◌, ◌⊎◌, Bool, true, false, cond, ◌==◌, if◌then◌else◌, min, List, [], ◌∷◌, ◌++◌, length, slice_index, Some, None}
 use mathlib.Core.Option.{some}
 use lib.ListN.{get_elem?}
 use Rattle.patterns.specs.declared.Outcome.{Outcome}
@@ -16,14 +16,35 @@ use Rattle.fault_ledger.specs.Answer.{IsLegal}
 use Rattle.fault_ledger.specs.Face.{shape_fault}
 use Rattle.fault_ledger.specs.Seats.{Place, Sitter}
 
--- the word of a piece
-abbrev pub word_of : PieceState → ℕ
-word_of state.Open = 0
-word_of state.Clear = 1
-word_of state.Skipped = 2
-word_of (state.Hit k) = 128 + k
+-- a word has eight fields of eight bits, the first its lowest bits: what stands in one
+abbrev pub field : ℕ → ℕ → ℕ
+field n j = n / 2 ^ (8 * j) % 2 ^ 8
 
--- the state that a word stands for
+-- the number of the word in which a piece stands; word 0 is the cursor, and then come eight pieces to
+-- a word
+abbrev pub word_with : ℕ → ℕ
+word_with piece = piece / 8 + 1
+
+-- the number of words
+abbrev pub word_count : Shape → ℕ
+word_count shape = (piece_count shape + 7) / 8 + 1
+
+-- a word with this code in the field of a piece, and 0 in the others
+abbrev pub in_field : ℕ → ℕ → ℕ
+in_field piece code = code * 2 ^ (8 * (piece % 8))
+
+-- what stands in the field of a piece
+abbrev pub field_in : List ℕ → ℕ → ℕ
+field_in words piece = field (slice_index words (word_with piece)) (piece % 8)
+
+-- the code of a piece, which stands in its field
+abbrev pub code_of : PieceState → ℕ
+code_of state.Open = 0
+code_of state.Clear = 1
+code_of state.Skipped = 2
+code_of (state.Hit k) = 128 + k
+
+-- the state that a code stands for
 abbrev pub state_at : ℕ → PieceState
 state_at n = if n == 0 then state.Open else if n == 1 then state.Clear else if n == 2 then state.Skipped else state.Hit (n % 64)
 
@@ -54,14 +75,15 @@ pub record Knows (shape : Shape) (h : History) (of : Shape) (p : Post) : Type 0 
   pub newer : ContinuesWithout p.worker h p.seen
   pub done : p.told ≡ true → (held p.worker p.seen ≡ None) × (claims p.seen ≡ piece_count shape)
 
--- The words and the views are those of this legal history. Word 0 is the cursor, which counts the claims
--- that were tried, and piece p is word p + 1. Past the pieces it counts those that were told, each once.
--- There are at most as many posts as workers, and no worker stands at two.
+-- The words and the views are those of this legal history. Word 0 is the cursor, which counts the
+-- claims that were tried, and field p % 8 of word p / 8 + 1 has the code of piece p. Past the pieces the
+-- cursor counts those that were told, each once. There are at most as many posts as workers, and no
+-- worker stands at two.
 pub record IsKeptBy (shape : Shape) (h : History) (words : List ℕ) (views : List View) : Type 0 where
   pub limits : shape_fault shape ≡ None
   pub legal : IsLegal shape h
-  pub sized : length words ≡ piece_count shape + 1
-  pub marked : (p : ℕ) → p < piece_count shape → slice_index words (p + 1) ≡ word_of (entry p h)
+  pub sized : length words ≡ word_count shape
+  pub marked : (p : ℕ) → p < piece_count shape → field_in words p ≡ code_of (entry p h)
   pub counted : claims h ≡ min (slice_index words 0) (piece_count shape)
   pub bounded : slice_index words 0 ≤ piece_count shape + total (λ v. told_of v.posts) views
   pub staffed : total (λ v. length v.posts) views ≤ shape.workers
@@ -96,11 +118,14 @@ Claims step me n me' = (me'.1 ≡ me.1) × OfPosts me.0.posts (λ p.
     × (((n < piece_count me.0.shape) × (claims h ≡ n) × IsLegal me.0.shape (Event.Claim p.worker ∷ h) × (me'.0 ≡ one me.0.shape p.worker false (Event.Claim p.worker ∷ h)))
     ⊎ ((piece_count me.0.shape ≤ n) × (claims h ≡ piece_count me.0.shape) × IsLegal me.0.shape h × (me'.0 ≡ one me.0.shape p.worker true h))))
 
--- a store of the word n reports the outcome with that word
+-- a fetch_or that sets an outcome's code in the field of the piece held reports that outcome
 abbrev pub Reports : {S : Type 0} → Step S → Me S View → ℕ → Me S View → Type 0
-Reports step me n me' = (me'.1 ≡ me.1) × OfPosts me.0.posts (λ p. (o : Outcome) × (n ≡ word_of (state_of o)) × Adds me.0.shape p (Event.Report p.worker o) me'.0)
+Reports step me n me' = (me'.1 ≡ me.1) × OfPosts me.0.posts (λ p.
+    (o : Outcome)
+    × ((piece : ℕ) → held p.worker p.seen ≡ Some piece → step.first ≡ in_field piece (code_of (state_of o)))
+    × Adds me.0.shape p (Event.Report p.worker o) me'.0)
 
--- a store that drops a piece
+-- a fetch_or that drops a piece
 abbrev pub Drops : {S : Type 0} → Step S → Me S View → ℕ → Me S View → Type 0
 Drops step me n me' = (me'.1 ≡ me.1) × OfPosts me.0.posts (λ p. Adds me.0.shape p (Event.Drop p.worker) me'.0)
 
@@ -109,10 +134,11 @@ abbrev pub see : History → List Post → List Post
 see h [] = []
 see h (p ∷ posts) = post p.worker p.told h ∷ see h posts
 
--- a load that found n: its piece has the state with that word, in a legal history which begins with all that was seen
+-- a load that found n: each piece of that word has the state with the code in its field, in a legal
+-- history which begins with all that was seen
 abbrev pub Looks : {S : Type 0} → Step S → Me S View → ℕ → Me S View → Type 0
 Looks step me n me' = (me'.1 ≡ me.1) × ((h : History)
-    × ((p : ℕ) → step.word ≡ p + 1 → p < piece_count me.0.shape → n ≡ word_of (entry p h))
+    × ((p : ℕ) → step.word ≡ word_with p → p < piece_count me.0.shape → field n (p % 8) ≡ code_of (entry p h))
     × IsLegal me.0.shape h
     × ForEach (λ p. ContinuesWithout p.worker h p.seen) me.0.posts
     × (me'.0 ≡ record { shape = me.0.shape; posts = see h me.0.posts }))

@@ -1,16 +1,24 @@
 //! Laws of all legal histories of a ledger.
 
-ghost use Rattle.std.specs.Prelude.{◌≡◌, ◌≢◌, ℕ, Some};
+ghost use Rattle.std.specs.Prelude.{◌≡◌, ◌≢◌, ◌↔◌, ℕ, Option, Some};
 ghost use Rattle.patterns.specs.Least.{Table};
 ghost use Rattle.fault_ledger.specs.declared.Shape.{Shape};
 ghost use Rattle.fault_ledger.specs.declared.PieceState.{PieceState};
 ghost use Rattle.fault_ledger.specs.History.{History, Continues, held, entry};
 ghost use Rattle.fault_ledger.specs.Answer.{IsLegal, IsTrueTo, SettlesAtLeast, SkippedIsNeverFirst};
+ghost use Rattle.fault_ledger.specs.Settled.{IsFirstHit, IsSettledAt};
 
 /// A settled class is settled at the least test of every table of outcomes to which the reports are
 /// true, whatever the order of the reports and the drops.
 pub fn settles_at_the_least_test()
     ensures { (shape : Shape) (table : Table) (h : History) → IsTrueTo shape table h → SettlesAtLeast shape table h }
+{}
+
+/// A class is settled at a test exactly where that is the test of the first of its blocks that isn't
+/// clear, which is a hit; and at none exactly where all its blocks are clear.
+pub fn settled_at_the_first_hit()
+    ensures { (shape : Shape) (h : History) (class : ℕ) (at : Option ℕ)
+        → IsSettledAt shape h class at ↔ IsFirstHit shape h class at }
 {}
 
 /// A skipped piece is never the first piece of its class that isn't clear.

@@ -14,11 +14,7 @@ mod closed;
 pub mod laws;
 mod sequential;
 mod shared;
-#[cfg(test)]
-mod shared_tests;
 mod states;
-#[cfg(test)]
-mod tests;
 mod words;
 
 ghost use Rattle.std.specs.Prelude.{◌≡◌, ◌<◌};
@@ -92,7 +88,7 @@ pub enum Refusal {
     #[error("the worker holds no piece")]
     NothingHeld,
     /// A report of a hit at a test that the block hasn't.
-    #[error("no such test in the block")]
+    #[error("the block has fewer tests")]
     BadOutcome,
     /// A drop where no earlier block of the class is a hit.
     #[error("no earlier block is a hit")]
@@ -164,8 +160,8 @@ pub enum LedgerFault {
     /// The number of workers is above 64.
     #[error("more than 64 workers")]
     TooManyWorkers,
-    /// Classes times blocks is above 4,194,304.
-    #[error("more than 4194304 pieces")]
+    /// Classes times blocks is above 16,777,216.
+    #[error("more than 16777216 pieces")]
     TooManyPieces,
     /// An allocation was refused.
     #[error("out of memory")]

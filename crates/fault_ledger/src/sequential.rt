@@ -1,12 +1,15 @@
 //! The ledger of one owner.
 
-ghost use Rattle.std.specs.Prelude.{◌≡◌, ◌⊎◌, ◌<◌, ◌≤◌, ◌+◌, ◌*◌, ◌/◌, ◌%◌, [], length, slice_get, slice_index_or, IfOk, IfErr, OnErr, Some, None};
+ghost use Rattle.std.specs.Prelude.{ℕ, ◌≡◌, ◌⊎◌, ◌<◌, ◌≤◌, ◌+◌, ◌*◌, ◌/◌, ◌%◌, [], length, slice_get, slice_index_or, IfOk, IfErr, OnErr, Some, None};
 ghost use Rattle.std.specs.List.{list_any};
+ghost use Rattle.std.specs.Option.{option_map};
 ghost use Rattle.patterns.specs.Least.{below};
 ghost use Rattle.fault_ledger.specs.declared.Call.{Call};
 ghost use Rattle.fault_ledger.specs.declared.Reply.{Reply};
 ghost use Rattle.fault_ledger.specs.declared.PieceState.{PieceState};
 ghost use Rattle.fault_ledger.specs.Answer.{fits_size, is_hit, claim_reply_of, done_reply_of};
+ghost use Rattle.fault_ledger.specs.History.{History, held};
+ghost use Rattle.fault_ledger.specs.Seats.{class_and_block};
 ghost use Rattle.fault_ledger.specs.Face.{face, shape_of, shape_fault, Answers, IsLedger};
 
 use crate::states::{finish_in, status_in};
@@ -42,7 +45,7 @@ impl Ledger {
     ///
     /// It is refused, in this order, with [`LedgerFault::NoWorkers`], with
     /// [`LedgerFault::TooManyWorkers`] above 64 workers, with [`LedgerFault::TooManyPieces`] above
-    /// 4,194,304 pieces, and with [`LedgerFault::Memory`].
+    /// 16,777,216 pieces, and with [`LedgerFault::Memory`].
     pub fn new(alloc: Global, classes: u32, tests: u32, workers: u32) -> Result<Ledger, LedgerFault>
         ensures face { IfOk result (λ ledger. ledger ≡ face (shape_of classes tests workers) []) }
         ensures refused { (fault : LedgerFault) → shape_fault (shape_of classes tests workers) ≡ Some fault → result ≡ Err fault }
@@ -72,6 +75,18 @@ impl Ledger {
         ensures ledger { IsLedger self.now }
     {
         self.shape
+    }
+
+    /// The class and the block of the piece that a worker holds.
+    pub fn held(&self, worker: u32) -> Option<(u32, u32)>
+        requires { worker < self.now.shape.workers }
+        ensures held { (h : History) → self.now ≡ face self.now.shape h → result ≡ option_map {U = ℕ × ℕ} (class_and_block self.now.shape) (held worker h) }
+        ensures ledger { IsLedger self.now }
+    {
+        match self.holding[worker as usize] {
+            Some(piece) => Some((piece % self.shape.classes, piece / self.shape.classes)),
+            None => None,
+        }
     }
 
     /// The next piece for a worker that holds none, or [`Claim::Exhausted`] where all are claimed.

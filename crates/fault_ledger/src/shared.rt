@@ -5,7 +5,7 @@ ghost use Rattle.std.specs.Option.{option_map};
 ghost use Rattle.fault_ledger.specs.declared.Call.TheVariants as call;
 ghost use Rattle.fault_ledger.specs.declared.Event.{Event};
 ghost use Rattle.fault_ledger.specs.declared.Reply.TheVariants.{Done};
-ghost use Rattle.fault_ledger.specs.History.{History, ContinuesWithout, block_count, entry, held, piece_at, piece_count};
+ghost use Rattle.fault_ledger.specs.History.{History, ContinuesWithout, block_count, block_of, entry, held, piece_at, piece_count};
 ghost use Rattle.fault_ledger.specs.Answer.{answer, claim_reply_of, done_reply_of, has_earlier_hit};
 ghost use Rattle.fault_ledger.specs.Settled.{status, finish};
 ghost use Rattle.fault_ledger.specs.Face.{shape_fault, shape_of};
@@ -92,7 +92,7 @@ impl SharedLedger {
     ///
     /// It is refused, in this order, with [`LedgerFault::NoWorkers`], with
     /// [`LedgerFault::TooManyWorkers`] above 64 workers, with [`LedgerFault::TooManyPieces`] above
-    /// 4,194,304 pieces, and with [`LedgerFault::Memory`].
+    /// 16,777,216 pieces, and with [`LedgerFault::Memory`].
     #[tactic(auto, using(crate::proofs::Deals::newcomers_placed))]
     pub fn new(
         alloc: Global,
@@ -191,6 +191,9 @@ impl SharedLedger {
         ensures refusal { IfErr result (λ refusal. (refusal ≡ Refusal.NothingHeld) ⊎ (refusal ≡ Refusal.NoEarlierHit)) }
         ensures nothing_held { result ≡ Err Refusal.NothingHeld → Stays seat.old (call.Drop seat.old.worker) (done_reply_of result) seat.new }
         ensures no_earlier_hit { result ≡ Err Refusal.NoEarlierHit → FindsNoHit seat.old seat.new }
+        ensures block_zero { (piece : ℕ) → held seat.old.worker seat.old.seen ≡ Some piece
+            → block_of self.now.shape piece ≡ 0
+            → (result ≡ Err Refusal.NoEarlierHit) × (seat.new ≡ seat.old) }
     {
         let Some(piece) = seat.piece else {
             return Err(Refusal::NothingHeld);
@@ -209,6 +212,8 @@ impl SharedLedger {
         requires sitter { IsSitter token.old }
         requires piece { piece < piece_count self.now.shape }
         ensures sees { Sees token.old token.old.told token.new }
+        ensures block_zero { block_of self.now.shape piece ≡ 0
+            → (result ≡ false) × (token.new ≡ token.old) }
         ensures found { result ≡ true → has_earlier_hit self.now.shape token.new.seen piece ≡ true }
         ensures missed { result ≡ false → (at : History) × ContinuesWithout token.old.worker at token.old.seen × ContinuesWithout token.old.worker token.new.seen at × (has_earlier_hit self.now.shape at piece ≡ false) }
     {
@@ -308,7 +313,7 @@ impl SharedLedger {
     {
         let SharedLedger { words, shape } = self;
         let group = group_of(&words, seats);
-        let states = words.close(alloc, group)?;
+        let states = words.close(alloc, group, shape.pieces() as usize)?;
         Ok(Closed::of(shape, states))
     }
 }

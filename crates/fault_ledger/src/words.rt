@@ -1,10 +1,11 @@
 //! The words of a shared ledger, and the tokens that step on them.
 //!
-//! Word 0 is the cursor, which counts the claims that were tried, and piece p, counted from 0, is word
-//! p + 1. Each step is one atomic operation on one word. Views and events are facts of the proof: no
-//! value of [`View`] or [`Post`] is made.
+//! Word 0 is the cursor, which counts the claims that were tried. Behind it stand the pieces, eight
+//! to a word: piece p, counted from 0, has the field of eight bits from bit 8 * (p % 8) on of word
+//! p / 8 + 1. Each step is one atomic operation on one word. Views and events are facts of the proof:
+//! no value of [`View`] or [`Post`] is made.
 
-ghost use Rattle.std.specs.Prelude.{◌≡◌, ◌<◌, ◌≤◌, ◌+◌, true, false, [], ◌∷◌, map, slice_index, IfOk, Some, None};
+ghost use Rattle.std.specs.Prelude.{◌≡◌, ◌<◌, ◌≤◌, ◌+◌, ◌*◌, ◌/◌, ◌%◌, true, false, [], ◌∷◌, map, IfOk, Some, None};
 ghost use Rattle.patterns.specs.Tests.{size_of};
 ghost use Rattle.fault_ledger.specs.declared.Event.{Event};
 ghost use Rattle.fault_ledger.specs.declared.Claim.TheVariants as claim_is;
@@ -26,16 +27,22 @@ use std::collections::LinkedList;
 use std::marker::Model;
 use std::mem;
 
-/// The word of an open piece, and the cursor before any claim.
+/// How many pieces stand in a word, each with the code of its state in a field of its own.
+const PIECES_PER_WORD: usize = 8;
+
+/// The number of bits of a field.
+const FIELD_BITS: u32 = 8;
+
+/// The code of an open piece, and the cursor before any claim.
 const OPEN: u64 = 0;
 
-/// The word of a clear piece.
+/// The code of a clear piece.
 const CLEAR: u64 = 1;
 
-/// The word of a skipped piece.
+/// The code of a skipped piece.
 const SKIPPED: u64 = 2;
 
-/// The word of a hit at test 0 of its block; that of a hit at test k is `HIT + k`.
+/// The code of a hit at test 0 of its block; that of a hit at test k is `HIT + k`.
 const HIT: u64 = 128;
 
 /// A worker that a token stands for, whether it was told that all pieces are claimed, and the history
@@ -72,7 +79,7 @@ impl Play<u8, View> for Claiming {
     ghost then = { Claims };
 }
 
-/// The step of a report: the outcome with the word stored is the worker's last event.
+/// The step of a report: the outcome with the code that was set is the worker's last event.
 struct Reporting;
 
 impl Play<u8, View> for Reporting {
@@ -90,7 +97,8 @@ impl Play<u8, View> for Dropping {
     ghost then = { Drops };
 }
 
-/// A look: what the word found says is so in a legal history, which all workers of the token have seen.
+/// A look: what the fields of the word found say is so in a legal history, which all workers of the
+/// token have seen.
 struct Looking;
 
 impl Play<u8, View> for Looking {
@@ -128,17 +136,16 @@ pub(crate) struct Words {
 }
 
 impl Model for Words {
-    ghost use Rattle.std.specs.Prelude.{◌≡◌, ◌+◌, None};
-    ghost use Rattle.fault_ledger.specs.History.{piece_count};
+    ghost use Rattle.std.specs.Prelude.{◌≡◌, None};
     ghost use Rattle.fault_ledger.specs.Face.{shape_fault};
     ghost use Rattle.fault_ledger.specs.Seats.{Place};
-    ghost use Rattle.fault_ledger.specs.Words.{place_of};
+    ghost use Rattle.fault_ledger.specs.Words.{place_of, word_count};
 
     ghost Value = { Place };
 
     ghost view = { λ w. place_of w.table.shared.table_id w.table.shared.key };
 
-    ghost invariant = { λ w. (w.table.shared.table_id.words ≡ piece_count w.table.shared.key + 1) × (w.table.shared.table_id.slots ≡ 0) × (shape_fault w.table.shared.key ≡ None) };
+    ghost invariant = { λ w. (w.table.shared.table_id.words ≡ word_count w.table.shared.key) × (w.table.shared.table_id.slots ≡ 0) × (shape_fault w.table.shared.key ≡ None) };
 }
 
 /// A token with which one worker steps. It has no bytes.
@@ -194,7 +201,8 @@ impl Words {
         ensures words { IfOk result (λ made. made.0.shape ≡ shape) }
         ensures group { IfOk result (λ made. (made.1.place ≡ made.0) × (made.1.posts ≡ newcomer_posts 0 shape.workers)) }
     {
-        let zeros = vec![in alloc; OPEN; shape.pieces() as usize + 1]?;
+        let pieces = shape.pieces() as usize;
+        let zeros = vec![in alloc; OPEN; pieces.div_ceil(PIECES_PER_WORD) + 1]?;
         let (table, seat) = Table::of_words(alloc, zeros.as_slice(), &shape)?;
         Ok((Words { table }, Group { seat }))
     }
@@ -244,7 +252,8 @@ impl Words {
         piece
     }
 
-    /// One atomic step: the word of the worker's piece is stored.
+    /// One atomic step: the outcome's code is set in the field of the worker's piece, which was 0. The
+    /// other seven pieces of the word stay.
     pub(crate) fn report(&self, token: &mut Token, piece: u32, outcome: Outcome)
         requires place { token.old.place ≡ self.now }
         requires piece { piece < piece_count self.now.shape }
@@ -253,14 +262,17 @@ impl Words {
         ensures { Makes token.old (Event.Report token.old.worker outcome) Done token.new }
     {
         let mut seat = mem::replace(&mut token.badge, Badge::blank()).into_seat::<u8>();
-        self.table
-            .shared
-            .store::<Reporting>(&mut seat, piece as usize + 1, word_of(outcome));
+        self.table.shared.fetch_or::<Reporting>(
+            &mut seat,
+            word_with(piece as usize),
+            in_field(piece as usize, code_of(outcome)),
+        );
         token.badge = seat.into_badge();
     }
 
-    /// One atomic step: the word of the worker's piece is stored. It has seen a hit of an earlier
-    /// block of the piece's class.
+    /// One atomic step: the code of a skipped piece is set in the field of the worker's piece, which
+    /// was 0. The other seven pieces of the word stay. The worker has seen a hit of an earlier block of
+    /// the piece's class.
     pub(crate) fn drop_piece(&self, token: &mut Token, piece: u32)
         requires place { token.old.place ≡ self.now }
         requires piece { piece < piece_count self.now.shape }
@@ -269,13 +281,15 @@ impl Words {
         ensures { Makes token.old (Event.Drop token.old.worker) Done token.new }
     {
         let mut seat = mem::replace(&mut token.badge, Badge::blank()).into_seat::<u8>();
-        self.table
-            .shared
-            .store::<Dropping>(&mut seat, piece as usize + 1, SKIPPED);
+        self.table.shared.fetch_or::<Dropping>(
+            &mut seat,
+            word_with(piece as usize),
+            in_field(piece as usize, SKIPPED),
+        );
         token.badge = seat.into_badge();
     }
 
-    /// One atomic step: the word of a piece is loaded.
+    /// One atomic step: the word in which a piece stands is loaded.
     pub(crate) fn look(&self, token: &mut Token, piece: u32) -> PieceState
         requires place { token.old.place ≡ self.now }
         requires piece { piece < piece_count self.now.shape }
@@ -286,9 +300,9 @@ impl Words {
         let word = self
             .table
             .shared
-            .load::<Looking>(&mut seat, piece as usize + 1);
+            .load::<Looking>(&mut seat, word_with(piece as usize));
         token.badge = seat.into_badge();
-        state_at(word)
+        state_at(field_of(piece as usize, word))
     }
 
     /// Three loads of the cursor: both workers on one token, a look, and apart again.
@@ -306,13 +320,18 @@ impl Words {
     }
 
     /// What became of each piece.
-    pub(crate) fn close(self, alloc: Global, group: Group) -> Result<Vec<PieceState>, AllocError>
-        requires { group.place ≡ self }
+    pub(crate) fn close(
+        self,
+        alloc: Global,
+        group: Group,
+        pieces: usize,
+    ) -> Result<Vec<PieceState>, AllocError>
+        requires place { group.place ≡ self }
+        requires pieces { pieces ≡ piece_count self.shape }
         ensures { IfOk result (λ states. (h : History) × IsLegal self.shape h × ForEach (λ p. ContinuesWithout p.worker h p.seen) group.posts × (states.items ≡ states_of self.shape h)) }
     {
         let Words { table } = self;
         let Group { seat } = group;
-        let pieces = table.word_count() - 1;
         let closed = table.close_with(seat);
         let states = read_states(alloc, &closed, pieces);
         closed.free();
@@ -326,19 +345,48 @@ fn read_states(
     closed: &ClosedTable<u8, Global>,
     pieces: usize,
 ) -> Result<Vec<PieceState>, AllocError>
-    requires { (slots_len closed.now.words ≡ pieces + 1) × IsFull closed.now.words }
-    ensures { IfOk result (λ states. states.items ≡ map (λ piece. rule.state_at (slice_index (slots_items closed.now.words) (piece + 1))) (below pieces)) }
+    requires { (slots_len closed.now.words ≡ (pieces + 7) / 8 + 1) × IsFull closed.now.words }
+    ensures { IfOk result (λ states. states.items ≡ map (λ piece. rule.state_at (rule.field_in (slots_items closed.now.words) piece)) (below pieces)) }
 {
     let mut states = Vec::with_capacity(alloc, pieces)?;
     for piece in 0..pieces {
-        states.push(state_at(closed.word(piece + 1)))?;
+        states.push(state_at(field_of(piece, closed.word(word_with(piece)))))?;
     }
     Ok(states)
 }
 
-/// The word of a piece that was reported with this outcome.
-fn word_of(outcome: Outcome) -> u64
-    ensures { result ≡ rule.word_of (state_of outcome) }
+/// The number of the word in which a piece stands.
+fn word_with(piece: usize) -> usize
+    ensures { result ≡ rule.word_with piece }
+{
+    piece / PIECES_PER_WORD + 1
+}
+
+/// The lowest bit of the field of a piece.
+fn lowest_bit(piece: usize) -> u32
+    ensures { result ≡ 8 * (piece % 8) }
+{
+    FIELD_BITS * (piece % PIECES_PER_WORD) as u32
+}
+
+/// A word with this code in the field of a piece, and 0 in the others.
+fn in_field(piece: usize, code: u64) -> u64
+    requires { code < 256 }
+    ensures { result ≡ rule.in_field piece code }
+{
+    code << lowest_bit(piece)
+}
+
+/// What stands in the field of a piece.
+fn field_of(piece: usize, word: u64) -> u64
+    ensures { result ≡ rule.field word (piece % 8) }
+{
+    (word >> lowest_bit(piece)) % (1 << FIELD_BITS)
+}
+
+/// The code of a piece that was reported with this outcome.
+fn code_of(outcome: Outcome) -> u64
+    ensures { result ≡ rule.code_of (state_of outcome) }
 {
     match outcome {
         Outcome::Clear => CLEAR,
@@ -346,15 +394,15 @@ fn word_of(outcome: Outcome) -> u64
     }
 }
 
-/// The state of a piece by its word.
-fn state_at(word: u64) -> PieceState
-    ensures { result ≡ rule.state_at word }
+/// The state of a piece by its code.
+fn state_at(code: u64) -> PieceState
+    ensures { result ≡ rule.state_at code }
 {
-    match word {
+    match code {
         OPEN => PieceState::Open,
         CLEAR => PieceState::Clear,
         SKIPPED => PieceState::Skipped,
         // HIT is a multiple of 64, and a test of a block is below 64.
-        _ => PieceState::Hit((word % 64) as u32),
+        _ => PieceState::Hit((code % 64) as u32),
     }
 }

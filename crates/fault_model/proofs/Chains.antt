@@ -12,6 +12,7 @@ use Rattle.bench_net.proofs.SignalsLists.{at_place, placed, among_filter, one_pl
 use Rattle.bench_net.proofs.SignalsDefined.{defined_among, read_named}
 use Rattle.fault_model.specs.declared.Line.{Line}
 use Rattle.fault_model.specs.declared.Line.TheVariants as line
+use Rattle.fault_model.specs.declared.Model.{Model}
 use Rattle.fault_model.specs.Fault.{Fault, faults}
 use Rattle.fault_model.specs.Collapse.{next, Reaches, here, onward, Represents, representatives, IsClassOf}
 use Rattle.fault_model.specs.Laws.{HasRepresentatives, HasClasses}
@@ -58,8 +59,8 @@ module _ (c : List Statement) (well : IsWellFormed c) where
   pub gate_defined : (f g : Fault) (s : Step c f g) → Among s.name (names c)
   gate_defined f g s = defined_among c (Gate s.name s.kind s.args) s.name s.stands refl
 
-  rises : (f g : Fault) → Contains (faults c) f → next c f ≡ Some g → Rises f g
-  rises f g at e = go (step_of c f g well at e)
+  rises : (m : Model) (f g : Fault) → Contains (faults m c) f → next c f ≡ Some g → Rises f g
+  rises m f g at e = go (step_of m c f g well at e)
     where
       go : (s : Step c f g) → Rises f g
       go s = record {
@@ -79,21 +80,21 @@ module _ (c : List Statement) (well : IsWellFormed c) where
               let from : height c well.acyclic.0 f.line ≡ 2 * well.acyclic.0 s.name = ap (height c well.acyclic.0) on ∙ pin_height s.name s.pin (gate_defined f g s) in
               omega (arith, from, to)
 
-  ends : (fuel : ℕ) (f : Fault) → Contains (faults c) f → 2 * total well.acyclic.0 (names c) + 1 < height c well.acyclic.0 f.line + fuel
-      → (r : Fault) × Contains (faults c) r × Represents c f r
-  ends zero f at lt = go (next c f) refl
+  ends : (m : Model) (fuel : ℕ) (f : Fault) → Contains (faults m c) f → 2 * total well.acyclic.0 (names c) + 1 < height c well.acyclic.0 f.line + fuel
+      → (r : Fault) × Contains (faults m c) r × Represents c f r
+  ends m zero f at lt = go (next c f) refl
     where
-      go : (o : Option Fault) → next c f ≡ o → (r : Fault) × Contains (faults c) r × Represents c f r
+      go : (o : Option Fault) → next c f ≡ o → (r : Fault) × Contains (faults m c) r × Represents c f r
       go None e = (f, at, (here, e))
-      go (Some g) e = let r = rises f g at e in absurd (omega (arith, lt, r.higher, r.bounded))
-  ends (suc fuel) f at lt = go (ends fuel) (next c f) refl
+      go (Some g) e = let r = rises m f g at e in absurd (omega (arith, lt, r.higher, r.bounded))
+  ends m (suc fuel) f at lt = go (ends m fuel) (next c f) refl
     where
-      go : ((g : Fault) → Contains (faults c) g → 2 * total well.acyclic.0 (names c) + 1 < height c well.acyclic.0 g.line + fuel
-          → (r : Fault) × Contains (faults c) r × Represents c g r) → (o : Option Fault) → next c f ≡ o → (r : Fault) × Contains (faults c) r × Represents c f r
+      go : ((g : Fault) → Contains (faults m c) g → 2 * total well.acyclic.0 (names c) + 1 < height c well.acyclic.0 g.line + fuel
+          → (r : Fault) × Contains (faults m c) r × Represents c g r) → (o : Option Fault) → next c f ≡ o → (r : Fault) × Contains (faults m c) r × Represents c f r
       go later None e = (f, at, (here, e))
       go later (Some g) e =
-          let r = rises f g at e in
-          let p = later g (next_listed c f g well at e) (omega (arith, lt, r.higher)) in
+          let r = rises m f g at e in
+          let p = later g (next_listed m c f g well at e) (omega (arith, lt, r.higher)) in
           (p.0, p.1, (onward e p.2.0, p.2.1))
 
 -- two faults without a next that are reached from one fault are one
@@ -105,28 +106,28 @@ one_end {c} {s = s} (onward {g = g} e p) end (onward {g = h} d q) last =
     let same : Some h ≡ Some g = sym d ∙ e in
     one_end p end (subst (λ x. Reaches c x s) (ap (λ o. unwrap_or o g) same) q) last
 
-pub representative_of : (c : List Statement) (f : Fault) → IsWellFormed c → Contains (faults c) f → (r : Fault) × Contains (faults c) r × Represents c f r
-representative_of c f well at = ends c well (suc (2 * total well.acyclic.0 (names c) + 1)) f at (omega arith)
+pub representative_of : (m : Model) (c : List Statement) (f : Fault) → IsWellFormed c → Contains (faults m c) f → (r : Fault) × Contains (faults m c) r × Represents c f r
+representative_of m c f well at = ends c well m (suc (2 * total well.acyclic.0 (names c) + 1)) f at (omega arith)
 
 pub one_representative : (c : List Statement) (f r s : Fault) → Represents c f r → Represents c f s → s ≡ r
 one_representative c f r s p q = one_end p.0 p.1 q.0 q.1
 
 pub has_representatives : (c : List Statement) → IsWellFormed c → HasRepresentatives c
-has_representatives c well f at = let p = representative_of c f well at in (p.0, p.1, p.2, λ s q. one_representative c f p.0 s p.2 q)
+has_representatives c well m f at = let p = representative_of m c f well at in (p.0, p.1, p.2, λ s q. one_representative c f p.0 s p.2 q)
 
 -- a fault of the list without a next is among the representatives
-pub among_representatives : (c : List Statement) (r : Fault) → Contains (faults c) r → next c r ≡ None → Among r (representatives c)
-among_representatives c r at e = among_filter (λ f. is_none (next c f)) (faults c) r (among (faults c) r at) (ap is_none e)
+pub among_representatives : (m : Model) (c : List Statement) (r : Fault) → Contains (faults m c) r → next c r ≡ None → Among r (representatives m c)
+among_representatives m c r at e = among_filter (λ f. is_none (next c f)) (faults m c) r (among (faults m c) r at) (ap is_none e)
 
 -- two classes of one fault are one
-pub one_class : (c : List Statement) (f : Fault) (j k : ℕ) → IsWellFormed c → IsClassOf c f j → IsClassOf c f k → j ≡ k
-one_class c f j k well p q =
+pub one_class : (m : Model) (c : List Statement) (f : Fault) (j k : ℕ) → IsWellFormed c → IsClassOf m c f j → IsClassOf m c f k → j ≡ k
+one_class m c f j k well p q =
     let same : p.0 ≡ q.0 = one_representative c f q.0 p.0 q.2 p.2 in
-    one_place_of (representatives c) j k q.0 (distinct_filter (λ r. is_none (next c r)) (faults c) (distinct_faults c well)) (p.3 ∙ ap Some same) q.3
+    one_place_of (representatives m c) j k q.0 (distinct_filter (λ r. is_none (next c r)) (faults m c) (distinct_faults m c well)) (p.3 ∙ ap Some same) q.3
 
 pub has_classes : (c : List Statement) → IsWellFormed c → HasClasses c
-has_classes c well f at =
-    let p = representative_of c f well at in
-    let k = placed (representatives c) p.0 (among_representatives c p.0 p.1 p.2.1) in
-    let is : IsClassOf c f k.0 = (p.0, at, p.2, k.1) in
-    (k.0, is, λ j other. one_class c f j k.0 well other is)
+has_classes c well m f at =
+    let p = representative_of m c f well at in
+    let k = placed (representatives m c) p.0 (among_representatives m c p.0 p.1 p.2.1) in
+    let is : IsClassOf m c f k.0 = (p.0, at, p.2, k.1) in
+    (k.0, is, λ j other. one_class m c f j k.0 well other is)

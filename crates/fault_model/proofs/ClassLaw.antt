@@ -7,6 +7,7 @@ use Rattle.bench_net.specs.Scan.{observers}
 use Rattle.bench_net.specs.Circuit.{IsWellFormed}
 use Rattle.bench_net.proofs.Members.{contained}
 use Rattle.bench_net.proofs.SignalsLists.{at_place, filtered_from}
+use Rattle.fault_model.specs.declared.Model.{Model}
 use Rattle.fault_model.specs.Fault.{Fault, faults, branch}
 use Rattle.fault_model.specs.Solution.{Test, Solves, Detects, under, shows, ShowSame}
 use Rattle.fault_model.specs.Collapse.{next, Reaches, here, onward, representatives, IsClassOf, ClassesShowSame}
@@ -40,22 +41,22 @@ same_through c f g h well first then t v w o p q at =
     first t v u.0 o p u.1 at ∙ then t u.0 w o u.1 q at
 
 -- a fault shows the same as each fault that is reached from it
-along : {c : List Statement} {f r : Fault} → IsWellFormed c → HaveArities c → Contains (faults c) f → Reaches c f r → ShowSame c f r
-along {c} {f} well arities at here = same_itself c f well
-along {c} {f} {r} well arities at (onward {g = g} e p) =
-    same_through c f g r well (step_shows_same c f g well arities at e) (along well arities (next_listed c f g well at e) p)
+pub along : (m : Model) {c : List Statement} {f r : Fault} → IsWellFormed c → HaveArities c → Contains (faults m c) f → Reaches c f r → ShowSame c f r
+along m {c} {f} well arities at here = same_itself c f well
+along m {c} {f} {r} well arities at (onward {g = g} e p) =
+    same_through c f g r well (step_shows_same m c f g well arities at e) (along m well arities (next_listed m c f g well at e) p)
 
 pub classes_show_same : (c : List Statement) → IsWellFormed c → HaveArities c → ClassesShowSame c
 classes_show_same c well arities f g both =
-    let p : IsClassOf c f both.0 = both.1 in
-    let q : IsClassOf c g both.0 = both.2 in
+    let p : IsClassOf both.0 c f both.1 = both.2 in
+    let q : IsClassOf both.0 c g both.1 = both.3 in
     let same : Some p.0 ≡ Some q.0 = sym p.3 ∙ q.3 in
     let one : p.0 ≡ q.0 = ap (λ o. unwrap_or o q.0) same in
-    let from : ShowSame c f q.0 = subst (ShowSame c f) one (along well arities p.1 p.2.0) in
-    same_through c f q.0 g well from (same_turned c g q.0 (along well arities q.1 q.2.0))
+    let from : ShowSame c f q.0 = subst (ShowSame c f) one (along both.0 well arities p.1 p.2.0) in
+    same_through c f q.0 g well from (same_turned c g q.0 (along both.0 well arities q.1 q.2.0))
 
 -- what shows the same is detected by the same tests
-detects_too : (c : List Statement) (f g : Fault) (t : Test) → IsWellFormed c → ShowSame c f g → Detects c t f → Detects c t g
+pub detects_too : (c : List Statement) (f g : Fault) (t : Test) → IsWellFormed c → ShowSame c f g → Detects c t f → Detects c t g
 detects_too c f g t well same d =
     let u = has_solutions c well t (Some g) in
     (d.0, u.0, d.2, d.3, u.1, d.5, λ e. d.6 (e ∙ sym (same t d.1 u.0 d.2 d.4 u.1 d.5)))
@@ -72,14 +73,14 @@ detection_is_of_any_solution c well f t v w p q = (
 )
 
 -- a representative is of its own class
-pub own_class : (c : List Statement) (r : Fault) (class : ℕ) → slice_get (representatives c) class ≡ Some r → IsClassOf c r class
-own_class c r class at =
-    let p = filtered_from (λ f. is_none (next c f)) (faults c) r (at_place (representatives c) class r at) in
-    (r, contained (faults c) r p.0, (here, none_is (next c r) p.1), at)
+pub own_class : (m : Model) (c : List Statement) (r : Fault) (class : ℕ) → slice_get (representatives m c) class ≡ Some r → IsClassOf m c r class
+own_class m c r class at =
+    let p = filtered_from (λ f. is_none (next c f)) (faults m c) r (at_place (representatives m c) class r at) in
+    (r, contained (faults m c) r p.0, (here, none_is (next c r) p.1), at)
   where
     none_is : (o : Option Fault) → is_none o ≡ true → o ≡ None
     none_is None e = refl
     none_is (Some f) e = let bad : false ≡ true = e in cc
 
 pub representatives_detect_same : (c : List Statement) → IsWellFormed c → HaveArities c → RepresentativesDetectSame c
-representatives_detect_same c well arities f r class t is at = classes_detect_same c well arities f r t (class, is, own_class c r class at)
+representatives_detect_same c well arities m f r class t is at = classes_detect_same c well arities f r t (m, class, is, own_class m c r class at)

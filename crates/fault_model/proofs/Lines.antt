@@ -15,6 +15,7 @@ use Rattle.bench_net.proofs.SignalsCount.{sum_over, sinks_counted}
 use Rattle.bench_net.proofs.SignalsOnce.{distinct_append, distinct_map, sinks_once, one_read}
 use Rattle.fault_model.specs.declared.Line.{Line}
 use Rattle.fault_model.specs.declared.Line.TheVariants as line
+use Rattle.fault_model.specs.declared.Model.{Model}
 use Rattle.fault_model.specs.Fault.{Fault, branch, branches, both, faults_of, faults}
 use Rattle.fault_model.proofs.Listed.{branch_among}
 
@@ -38,27 +39,27 @@ joined_twice : {X Y Z : Type 0} (f : Y → List Z) (g : X → List Y) (xs : List
 joined_twice f g [] = refl
 joined_twice f g (x ∷ xs) = flat_map-append f (g x) (flat_map g xs) ∙ ap (λ zs. flat_map f (g x) ++ zs) (joined_twice f g xs)
 
-pub faults_are : (c : List Statement) → flat_map both (lines c) ≡ faults c
-faults_are c =
-    joined_twice both (lines_of c) (enumerate_from 0 (names c))
-    ∙ joined_same (λ at. flat_map both (lines_of c at)) (faults_of c) (enumerate_from 0 (names c))
-    (λ at. ap (λ zs. both (line.Stem at.0) ++ zs) (joined_map both branch (branches c at.1)))
+pub faults_are : (m : Model) (c : List Statement) → flat_map (both m) (lines c) ≡ faults m c
+faults_are m c =
+    joined_twice (both m) (lines_of c) (enumerate_from 0 (names c))
+    ∙ joined_same (λ at. flat_map (both m) (lines_of c at)) (faults_of m c) (enumerate_from 0 (names c))
+    (λ at. ap (λ zs. both m (line.Stem at.0) ++ zs) (joined_map (both m) branch (branches c at.1)))
 
 -- the fault list is twice as long as the lines
-pub length_both : (ls : List Line) → length (flat_map both ls) ≡ 2 * length ls
-length_both [] = refl
-length_both (l ∷ ls) = let h : length (flat_map both ls) ≡ 2 * length ls = length_both ls in omega (arith, h)
+pub length_both : (m : Model) (ls : List Line) → length (flat_map (both m) ls) ≡ 2 * length ls
+length_both m [] = refl
+length_both m (l ∷ ls) = let h : length (flat_map (both m) ls) ≡ 2 * length ls = length_both m ls in omega (arith, h)
 
 -- what stands at an even place, and at an odd one
-pub at_even : (ls : List Line) (i : ℕ) → slice_get (flat_map both ls) (i + i) ≡ option_map (λ l. record { line = l; stuck = false }) (slice_get ls i)
-at_even [] i = refl
-at_even (l ∷ ls) zero = refl
-at_even (l ∷ ls) (suc i) = let two : suc i + suc i ≡ suc (suc (i + i)) = omega arith in rw two (at_even ls i)
+pub at_even : (m : Model) (ls : List Line) (i : ℕ) → slice_get (flat_map (both m) ls) (i + i) ≡ option_map (λ l. record { model = m; line = l; stuck = false }) (slice_get ls i)
+at_even m [] i = refl
+at_even m (l ∷ ls) zero = refl
+at_even m (l ∷ ls) (suc i) = let two : suc i + suc i ≡ suc (suc (i + i)) = omega arith in rw two (at_even m ls i)
 
-pub at_odd : (ls : List Line) (i : ℕ) → slice_get (flat_map both ls) (suc (i + i)) ≡ option_map (λ l. record { line = l; stuck = true }) (slice_get ls i)
-at_odd [] i = refl
-at_odd (l ∷ ls) zero = refl
-at_odd (l ∷ ls) (suc i) = let two : suc i + suc i ≡ suc (suc (i + i)) = omega arith in rw two (at_odd ls i)
+pub at_odd : (m : Model) (ls : List Line) (i : ℕ) → slice_get (flat_map (both m) ls) (suc (i + i)) ≡ option_map (λ l. record { model = m; line = l; stuck = true }) (slice_get ls i)
+at_odd m [] i = refl
+at_odd m (l ∷ ls) zero = refl
+at_odd m (l ∷ ls) (suc i) = let two : suc i + suc i ≡ suc (suc (i + i)) = omega arith in rw two (at_odd m ls i)
 
 -- no branch is a stem
 pub branch_no_stem : (k : Sink) (s : ℕ) → branch k ≡ line.Stem s → ⊥
@@ -111,31 +112,31 @@ module _ (c : List Statement) (well : IsWellFormed c) where
   distinct_lines = lines_once 0 (names c) (distinct_from_pairs (names c) well.once)
 
 -- so no fault stands twice in the list
-on_line : (l : Line) (f : Fault) → Among f (both l) → f.line ≡ l
-on_line l f (inl e) = sym (ap (λ x. x.line) e)
-on_line l f (inr (inl e)) = sym (ap (λ x. x.line) e)
-on_line l f (inr (inr bad)) = absurd bad
+on_line : (m : Model) (l : Line) (f : Fault) → Among f (both m l) → f.line ≡ l
+on_line m l f (inl e) = sym (ap (λ x. x.line) e)
+on_line m l f (inr (inl e)) = sym (ap (λ x. x.line) e)
+on_line m l f (inr (inr bad)) = absurd bad
 
-distinct_both : (ls : List Line) → Distinct ls → Distinct (flat_map both ls)
-distinct_both [] d = tt
-distinct_both (l ∷ ls) d = distinct_append (both l) (flat_map both ls) own (distinct_both ls d.1) apart
+distinct_both : (m : Model) (ls : List Line) → Distinct ls → Distinct (flat_map (both m) ls)
+distinct_both m [] d = tt
+distinct_both m (l ∷ ls) d = distinct_append (both m l) (flat_map (both m) ls) own (distinct_both m ls d.1) apart
   where
-    own : Distinct (both l)
+    own : Distinct (both m l)
     own = (other, ((λ a. a), tt))
       where
-        other : Among {X = Fault} (record { line = l; stuck = false }) (record { line = l; stuck = true } ∷ []) → ⊥
+        other : Among {X = Fault} (record { model = m; line = l; stuck = false }) (record { model = m; line = l; stuck = true } ∷ []) → ⊥
         other (inl e) = let bits : true ≡ false = ap (λ x. x.stuck) e in cc
         other (inr bad) = bad
 
-    apart : (f : Fault) → Among f (both l) → Among f (flat_map both ls) → ⊥
-    apart f a b = let p = joined_from both ls f b in d.0 (subst (λ k. Among k ls) (sym (on_line p.0 f p.2) ∙ on_line l f a) p.1)
+    apart : (f : Fault) → Among f (both m l) → Among f (flat_map (both m) ls) → ⊥
+    apart f a b = let p = joined_from (both m) ls f b in d.0 (subst (λ k. Among k ls) (sym (on_line m p.0 f p.2) ∙ on_line m l f a) p.1)
 
-pub distinct_faults : (c : List Statement) → IsWellFormed c → Distinct (faults c)
-distinct_faults c well = subst Distinct (faults_are c) (distinct_both (lines c) (distinct_lines c well))
+pub distinct_faults : (m : Model) (c : List Statement) → IsWellFormed c → Distinct (faults m c)
+distinct_faults m c well = subst Distinct (faults_are m c) (distinct_both m (lines c) (distinct_lines c well))
 
 -- two places of the list with one fault are one place
-pub one_fault_place : (c : List Statement) (f : Fault) (i j : ℕ) → IsWellFormed c → slice_get (faults c) i ≡ Some f → slice_get (faults c) j ≡ Some f → i ≡ j
-one_fault_place c f i j well e g = one_place_of (faults c) i j f (distinct_faults c well) e g
+pub one_fault_place : (m : Model) (c : List Statement) (f : Fault) (i j : ℕ) → IsWellFormed c → slice_get (faults m c) i ≡ Some f → slice_get (faults m c) j ≡ Some f → i ≡ j
+one_fault_place m c f i j well e g = one_place_of (faults m c) i j f (distinct_faults m c well) e g
 
 pub distinct_filter : {X : Type 0} (test : X → Bool) (xs : List X) → Distinct xs → Distinct (filter test xs)
 distinct_filter test [] d = tt
@@ -170,9 +171,9 @@ lines_within c is =
     omega (arith, all, read, is.signals, is.sinks)
 
 -- and so how many faults
-pub faults_within : (c : List Statement) → IsCircuit c → length (faults c) ≤ 2 * (max_signals + max_sinks)
-faults_within c is =
-    let same : length (flat_map both (lines c)) ≡ length (faults c) = ap length (faults_are c) in
-    let twice : length (flat_map both (lines c)) ≡ 2 * length (lines c) = length_both (lines c) in
+pub faults_within : (m : Model) (c : List Statement) → IsCircuit c → length (faults m c) ≤ 2 * (max_signals + max_sinks)
+faults_within m c is =
+    let same : length (flat_map (both m) (lines c)) ≡ length (faults m c) = ap length (faults_are m c) in
+    let twice : length (flat_map (both m) (lines c)) ≡ 2 * length (lines c) = length_both m (lines c) in
     let few : length (lines c) ≤ max_signals + max_sinks = lines_within c is in
     omega (arith, same, twice, few)

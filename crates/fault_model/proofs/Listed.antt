@@ -17,6 +17,7 @@ use Rattle.bench_net.proofs.SignalsDefined.{definition-signal, defined_among}
 use Rattle.bench_net.proofs.SignalsSinks.{PinReads, pin_reads}
 use Rattle.fault_model.specs.declared.Line.{Line}
 use Rattle.fault_model.specs.declared.Line.TheVariants as line
+use Rattle.fault_model.specs.declared.Model.{Model}
 use Rattle.fault_model.specs.Fault.{Fault, branch, branches, both, faults, faults_of, same_line}
 use Rattle.fault_model.specs.Solution.{under}
 use Rattle.fault_model.specs.Collapse.{next, next_over, next_stuck, readers, kind_of}
@@ -61,19 +62,34 @@ under_own f l bit own = let e : same_line f.line l ≡ true = rw own (same_itsel
 abbrev pub IsOn : List Statement → ℕ → Name → Line → Type 0
 IsOn c s n l = (l ≡ line.Stem s) ⊎ ((k : Sink) × Among k (branches c n) × (l ≡ branch k))
 
-on_both : (l : Line) (f : Fault) → Among f (both l) → f.line ≡ l
-on_both l f (inl e) = sym (ap (λ x. x.line) e)
-on_both l f (inr (inl e)) = sym (ap (λ x. x.line) e)
-on_both l f (inr (inr bad)) = absurd bad
+on_both : (m : Model) (l : Line) (f : Fault) → Among f (both m l) → f.line ≡ l
+on_both m l f (inl e) = sym (ap (λ x. x.line) e)
+on_both m l f (inr (inl e)) = sym (ap (λ x. x.line) e)
+on_both m l f (inr (inr bad)) = absurd bad
 
-pub listed_on : (c : List Statement) (f : Fault) → Contains (faults c) f → (s : ℕ) × (n : Name) × (name_of c s ≡ Some n) × IsOn c s n f.line
-listed_on c f at =
-    let p = joined_from (faults_of c) (enumerate_from 0 (names c)) f (among (faults c) f at) in
-    (p.0.0, p.0.1, numbered_at (names c) p.0 p.1, go p.0 (among_append (both (line.Stem p.0.0)) (flat_map (λ k. both (branch k)) (branches c p.0.1)) f p.2))
+pub listed_on : (m : Model) (c : List Statement) (f : Fault) → Contains (faults m c) f → (s : ℕ) × (n : Name) × (name_of c s ≡ Some n) × IsOn c s n f.line
+listed_on m c f at =
+    let p = joined_from (faults_of m c) (enumerate_from 0 (names c)) f (among (faults m c) f at) in
+    (p.0.0, p.0.1, numbered_at (names c) p.0 p.1, go p.0 (among_append (both m (line.Stem p.0.0)) (flat_map (λ k. both m (branch k)) (branches c p.0.1)) f p.2))
   where
-    go : (at : ℕ × Name) → Among f (both (line.Stem at.0)) ⊎ Among f (flat_map (λ k. both (branch k)) (branches c at.1)) → IsOn c at.0 at.1 f.line
-    go at (inl h) = inl (on_both (line.Stem at.0) f h)
-    go at (inr h) = let q = joined_from (λ k. both (branch k)) (branches c at.1) f h in inr (q.0, q.1, on_both (branch q.0) f q.2)
+    go : (at : ℕ × Name) → Among f (both m (line.Stem at.0)) ⊎ Among f (flat_map (λ k. both m (branch k)) (branches c at.1)) → IsOn c at.0 at.1 f.line
+    go at (inl h) = inl (on_both m (line.Stem at.0) f h)
+    go at (inr h) = let q = joined_from (λ k. both m (branch k)) (branches c at.1) f h in inr (q.0, q.1, on_both m (branch q.0) f q.2)
+
+-- and is of the list's model
+of_both : (m : Model) (l : Line) (f : Fault) → Among f (both m l) → f.model ≡ m
+of_both m l f (inl e) = sym (ap (λ x. x.model) e)
+of_both m l f (inr (inl e)) = sym (ap (λ x. x.model) e)
+of_both m l f (inr (inr bad)) = absurd bad
+
+pub listed_model : (m : Model) (c : List Statement) (f : Fault) → Contains (faults m c) f → f.model ≡ m
+listed_model m c f at =
+    let p = joined_from (faults_of m c) (enumerate_from 0 (names c)) f (among (faults m c) f at) in
+    go p.0 (among_append (both m (line.Stem p.0.0)) (flat_map (λ k. both m (branch k)) (branches c p.0.1)) f p.2)
+  where
+    go : (at : ℕ × Name) → Among f (both m (line.Stem at.0)) ⊎ Among f (flat_map (λ k. both m (branch k)) (branches c at.1)) → f.model ≡ m
+    go at (inl h) = of_both m (line.Stem at.0) f h
+    go at (inr h) = let q = joined_from (λ k. both m (branch k)) (branches c at.1) f h in of_both m (branch q.0) f q.2
 
 -- a branch is one of the sinks
 pub branch_among : (c : List Statement) (n : Name) (k : Sink) → Among k (branches c n) → Among k (sinks c n)
@@ -84,15 +100,15 @@ branch_among c n k a = go (nat_le 2 (length (sinks c n))) refl
     go false e = let none : ⊥ = rw e at a in absurd none
 
 -- each stem fault is in the list
-stem_both : (l : Line) (b : Bool) → Among (record { line = l; stuck = b }) (both l)
-stem_both l false = inl refl
-stem_both l true = inr (inl refl)
+stem_both : (m : Model) (l : Line) (b : Bool) → Among (record { model = m; line = l; stuck = b }) (both m l)
+stem_both m l false = inl refl
+stem_both m l true = inr (inl refl)
 
-pub stem_listed : (c : List Statement) (s : ℕ) (n : Name) (b : Bool) → name_of c s ≡ Some n → Contains (faults c) (record { line = line.Stem s; stuck = b })
-stem_listed c s n b e =
-    contained (faults c) (record { line = line.Stem s; stuck = b })
-    (among_joined (faults_of c) (enumerate_from 0 (names c)) (s, n) (record { line = line.Stem s; stuck = b }) (among_numbered (names c) s n e)
-    (among_left (both (line.Stem s)) (flat_map (λ k. both (branch k)) (branches c n)) (record { line = line.Stem s; stuck = b }) (stem_both (line.Stem s) b)))
+pub stem_listed : (m : Model) (c : List Statement) (s : ℕ) (n : Name) (b : Bool) → name_of c s ≡ Some n → Contains (faults m c) (record { model = m; line = line.Stem s; stuck = b })
+stem_listed m c s n b e =
+    contained (faults m c) (record { model = m; line = line.Stem s; stuck = b })
+    (among_joined (faults_of m c) (enumerate_from 0 (names c)) (s, n) (record { model = m; line = line.Stem s; stuck = b }) (among_numbered (names c) s n e)
+    (among_left (both m (line.Stem s)) (flat_map (λ k. both m (branch k)) (branches c n)) (record { model = m; line = line.Stem s; stuck = b }) (stem_both m (line.Stem s) b)))
 
 -- what a fault with a next fault is made of
 record NextParts (c : List Statement) (f g : Fault) : Type 0 where
@@ -102,13 +118,13 @@ record NextParts (c : List Statement) (f g : Fault) : Type 0 where
   bit : Bool
   read_by : readers c f.line ≡ sink.Pin gate pin ∷ []
   has_kind : kind_of c gate ≡ Some kind
-  fixes : next_stuck kind f.stuck ≡ Some bit
-  gives : record { line = line.Stem gate; stuck = bit } ≡ g
+  fixes : next_stuck f.model kind f.stuck ≡ Some bit
+  gives : record { model = f.model; line = line.Stem gate; stuck = bit } ≡ g
 
 next_parts : (c : List Statement) (f g : Fault) → next c f ≡ Some g → NextParts c f g
 next_parts c f g e = go (readers c f.line) refl e
   where
-    go : (rs : List Sink) → readers c f.line ≡ rs → next_over c f.stuck rs ≡ Some g → NextParts c f g
+    go : (rs : List Sink) → readers c f.line ≡ rs → next_over c f.model f.stuck rs ≡ Some g → NextParts c f g
     go [] at e = let bad : None ≡ Some g = e in cc
     go (sink.Data i ∷ rs) at e = let bad : None ≡ Some g = e in cc
     go (sink.Out i ∷ rs) at e = let bad : None ≡ Some g = e in cc
@@ -116,11 +132,11 @@ next_parts c f g e = go (readers c f.line) refl e
     go (sink.Pin gate pin ∷ []) at e = by_kind (kind_of c gate) refl e
       where
         by_kind : (k : Option Kind) → kind_of c gate ≡ k
-            → option_map (λ b. record { line = line.Stem gate; stuck = b }) (option_and_then (λ kind. next_stuck kind f.stuck) k) ≡ Some g → NextParts c f g
+            → option_map (λ b. record { model = f.model; line = line.Stem gate; stuck = b }) (option_and_then (λ kind. next_stuck f.model kind f.stuck) k) ≡ Some g → NextParts c f g
         by_kind None has e = let bad : None ≡ Some g = e in cc
-        by_kind (Some kind) has e = by_bit (next_stuck kind f.stuck) refl e
+        by_kind (Some kind) has e = by_bit (next_stuck f.model kind f.stuck) refl e
           where
-            by_bit : (b : Option Bool) → next_stuck kind f.stuck ≡ b → option_map (λ b. record { line = line.Stem gate; stuck = b }) b ≡ Some g → NextParts c f g
+            by_bit : (b : Option Bool) → next_stuck f.model kind f.stuck ≡ b → option_map (λ b. record { model = f.model; line = line.Stem gate; stuck = b }) b ≡ Some g → NextParts c f g
             by_bit None is e = let bad : None ≡ Some g = e in cc
             by_bit (Some bit) is e = record {
               gate = gate;
@@ -134,7 +150,7 @@ next_parts c f g e = go (readers c f.line) refl e
             }
 
 -- a next fault is on a stem
-pub next_on_stem : (c : List Statement) (f g : Fault) → next c f ≡ Some g → (s : ℕ) × (b : Bool) × (record { line = line.Stem s; stuck = b } ≡ g)
+pub next_on_stem : (c : List Statement) (f g : Fault) → next c f ≡ Some g → (s : ℕ) × (b : Bool) × (record { model = f.model; line = line.Stem s; stuck = b } ≡ g)
 next_on_stem c f g e = let p = next_parts c f g e in (p.gate, p.bit, p.gives)
 
 -- One step from a fault of the list to its next fault: a pin of a gate reads a name, and that pin is
@@ -148,8 +164,8 @@ pub record Step (c : List Statement) (f g : Fault) : Type 0 where
   pub bit : Bool
   pub stands : Among (Gate name kind args) c
   pub reads : slice_get args pin ≡ Some read
-  pub fixes : next_stuck kind f.stuck ≡ Some bit
-  pub gives : record { line = line.Stem (signal c name); stuck = bit } ≡ g
+  pub fixes : next_stuck f.model kind f.stuck ≡ Some bit
+  pub gives : record { model = f.model; line = line.Stem (signal c name); stuck = bit } ≡ g
   pub on : ((f.line ≡ line.Stem (signal c read)) × (sinks c read ≡ sink.Pin (signal c name) pin ∷ [])) ⊎ (f.line ≡ line.Pin (signal c name) pin)
 
 -- the kind of a gate that stands in the list
@@ -167,8 +183,8 @@ step_with c f g n well p r on = record {
   bit = p.bit;
   stands = r.stands;
   reads = r.reads;
-  fixes = subst (λ k. next_stuck k f.stuck ≡ Some p.bit) kinds p.fixes;
-  gives = subst (λ s. record { line = line.Stem s; stuck = p.bit } ≡ g) (sym r.number) p.gives;
+  fixes = subst (λ k. next_stuck f.model k f.stuck ≡ Some p.bit) kinds p.fixes;
+  gives = subst (λ s. record { model = f.model; line = line.Stem s; stuck = p.bit } ≡ g) (sym r.number) p.gives;
   on = subst (λ s. ((f.line ≡ line.Stem (signal c n)) × (sinks c n ≡ sink.Pin s p.pin ∷ [])) ⊎ (f.line ≡ line.Pin s p.pin)) (sym r.number) on;
 }
   where
@@ -183,8 +199,8 @@ branch_read c (sink.Pin g p) gate pin e = let h : sink.Pin g p ∷ [] ≡ sink.P
 branch_read c (sink.Data i) gate pin e = let h : sink.Data i ∷ [] ≡ sink.Pin gate pin ∷ [] = e in cc
 branch_read c (sink.Out i) gate pin e = let h : sink.Out i ∷ [] ≡ sink.Pin gate pin ∷ [] = e in cc
 
-pub step_of : (c : List Statement) (f g : Fault) → IsWellFormed c → Contains (faults c) f → next c f ≡ Some g → Step c f g
-step_of c f g well at e = let q = listed_on c f at in go q.0 q.1 q.2 q.3 (next_parts c f g e)
+pub step_of : (m : Model) (c : List Statement) (f g : Fault) → IsWellFormed c → Contains (faults m c) f → next c f ≡ Some g → Step c f g
+step_of m c f g well at e = let q = listed_on m c f at in go q.0 q.1 q.2 q.3 (next_parts c f g e)
   where
     go : (s : ℕ) (n : Name) → name_of c s ≡ Some n → IsOn c s n f.line → NextParts c f g → Step c f g
     go s n named (inl on) p =
@@ -199,10 +215,11 @@ step_of c f g well at e = let q = listed_on c f at in go q.0 q.1 q.2 q.3 (next_p
         step_with c f g n well p (pin_reads c n p.gate p.pin there) (inr (b.2 ∙ ap branch own))
 
 -- so the next fault is in the list
-pub next_listed : (c : List Statement) (f g : Fault) → IsWellFormed c → Contains (faults c) f → next c f ≡ Some g → Contains (faults c) g
-next_listed c f g well at e =
-    let s = step_of c f g well at e in
-    subst (Contains (faults c)) s.gives (stem_listed c (signal c s.name) s.name s.bit (name_of-signal c s.name (gate_defined s)))
+pub next_listed : (m : Model) (c : List Statement) (f g : Fault) → IsWellFormed c → Contains (faults m c) f → next c f ≡ Some g → Contains (faults m c) g
+next_listed m c f g well at e =
+    let s = step_of m c f g well at e in
+    subst (λ x. Contains (faults x c) g) (listed_model m c f at)
+    (subst (Contains (faults f.model c)) s.gives (stem_listed f.model c (signal c s.name) s.name s.bit (name_of-signal c s.name (gate_defined s))))
   where
     gate_defined : (s : Step c f g) → Contains (names c) s.name
     gate_defined s = contained (names c) s.name (defined_among c (Gate s.name s.kind s.args) s.name s.stands refl)

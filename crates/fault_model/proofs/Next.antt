@@ -14,34 +14,35 @@ use Rattle.bench_net.proofs.SignalsDefined.{defined_among}
 use Rattle.bench_net.proofs.SignalsSinks.{PinReads, pin_reads}
 use Rattle.fault_model.specs.declared.Line.{Line}
 use Rattle.fault_model.specs.declared.Line.TheVariants as line
+use Rattle.fault_model.specs.declared.Model.{Model}
 use Rattle.fault_model.specs.Fault.{Fault, branch, faults}
 use Rattle.fault_model.specs.Collapse.{next, next_over, next_stuck, readers, kind_of}
 use Rattle.fault_model.specs.Known.{only_gate, IsInCircuit}
-use Rattle.fault_model.proofs.Listed.{IsOn, listed_on, branch_among, branch_read}
+use Rattle.fault_model.proofs.Listed.{IsOn, listed_on, listed_model, branch_among, branch_read}
 
 -- the fault on the stem of a gate that the table gives for this kind and bit
-abbrev pub by_table : ℕ → Bool → Option Kind → Option Fault
-by_table gate stuck kind = option_map (λ b. record { line = line.Stem gate; stuck = b }) (option_and_then (λ k. next_stuck k stuck) kind)
+abbrev pub by_table : Model → ℕ → Bool → Option Kind → Option Fault
+by_table m gate stuck kind = option_map (λ b. record { model = m; line = line.Stem gate; stuck = b }) (option_and_then (λ k. next_stuck m k stuck) kind)
 
-next_over_is : (c : List Statement) (stuck : Bool) (rs : List Sink) → next_over c stuck rs ≡ option_and_then (λ gate. by_table gate stuck (kind_of c gate)) (only_gate rs)
-next_over_is c stuck [] = refl
-next_over_is c stuck (sink.Data i ∷ rs) = refl
-next_over_is c stuck (sink.Out i ∷ rs) = refl
-next_over_is c stuck (sink.Pin gate pin ∷ r ∷ rs) = refl
-next_over_is c stuck (sink.Pin gate pin ∷ []) = refl
+next_over_is : (c : List Statement) (m : Model) (stuck : Bool) (rs : List Sink) → next_over c m stuck rs ≡ option_and_then (λ gate. by_table m gate stuck (kind_of c gate)) (only_gate rs)
+next_over_is c m stuck [] = refl
+next_over_is c m stuck (sink.Data i ∷ rs) = refl
+next_over_is c m stuck (sink.Out i ∷ rs) = refl
+next_over_is c m stuck (sink.Pin gate pin ∷ r ∷ rs) = refl
+next_over_is c m stuck (sink.Pin gate pin ∷ []) = refl
 
-pub next_is : (c : List Statement) (f : Fault) → next c f ≡ option_and_then (λ gate. by_table gate f.stuck (kind_of c gate)) (only_gate (readers c f.line))
-next_is c f = next_over_is c f.stuck (readers c f.line)
+pub next_is : (c : List Statement) (f : Fault) → next c f ≡ option_and_then (λ gate. by_table f.model gate f.stuck (kind_of c gate)) (only_gate (readers c f.line))
+next_is c f = next_over_is c f.model f.stuck (readers c f.line)
 
 pub next_without_gate : (c : List Statement) (f : Fault) → only_gate (readers c f.line) ≡ None → next c f ≡ None
-next_without_gate c f e = next_is c f ∙ ap (option_and_then (λ gate. by_table gate f.stuck (kind_of c gate))) e
+next_without_gate c f e = next_is c f ∙ ap (option_and_then (λ gate. by_table f.model gate f.stuck (kind_of c gate))) e
 
-pub next_at_gate : (c : List Statement) (f : Fault) (gate : ℕ) → only_gate (readers c f.line) ≡ Some gate → next c f ≡ by_table gate f.stuck (kind_of c gate)
-next_at_gate c f gate e = next_is c f ∙ ap (option_and_then (λ g. by_table g f.stuck (kind_of c g))) e
+pub next_at_gate : (c : List Statement) (f : Fault) (gate : ℕ) → only_gate (readers c f.line) ≡ Some gate → next c f ≡ by_table f.model gate f.stuck (kind_of c gate)
+next_at_gate c f gate e = next_is c f ∙ ap (option_and_then (λ g. by_table f.model g f.stuck (kind_of c g))) e
 
 -- a line of the list is one of the circuit
-pub listed_in_circuit : (c : List Statement) (f : Fault) → Contains (faults c) f → IsInCircuit c f.line
-listed_in_circuit c f at = let p = listed_on c f at in go p.0 p.1 p.2 p.3
+pub listed_in_circuit : (m : Model) (c : List Statement) (f : Fault) → Contains (faults m c) f → IsInCircuit c f.line
+listed_in_circuit m c f at = let p = listed_on m c f at in go p.0 p.1 p.2 p.3
   where
     of_branch : (k : Sink) → IsInCircuit c (branch k)
     of_branch (sink.Pin g p) = tt
@@ -60,8 +61,8 @@ one_reader (sink.Pin g pin ∷ r ∷ rs) gate e = let bad : None ≡ Some gate =
 one_reader (sink.Pin g pin ∷ []) gate e = let it : Some g ≡ Some gate = e in let same : g ≡ gate = cc in (pin, ap (λ x. sink.Pin x pin ∷ []) same)
 
 -- the gate that alone reads a line of the list is a signal
-pub gate_is_signal : (c : List Statement) (f : Fault) (gate : ℕ) → Contains (faults c) f → only_gate (readers c f.line) ≡ Some gate → (n : Name) × (name_of c gate ≡ Some n)
-gate_is_signal c f gate at e = let p = listed_on c f at in let r = one_reader (readers c f.line) gate e in go p.0 p.1 p.2 p.3 r.0 r.1
+pub gate_is_signal : (m : Model) (c : List Statement) (f : Fault) (gate : ℕ) → Contains (faults m c) f → only_gate (readers c f.line) ≡ Some gate → (n : Name) × (name_of c gate ≡ Some n)
+gate_is_signal m c f gate at e = let p = listed_on m c f at in let r = one_reader (readers c f.line) gate e in go p.0 p.1 p.2 p.3 r.0 r.1
   where
     read : (n : Name) (pin : ℕ) → PinReads c n gate pin → (m : Name) × (name_of c gate ≡ Some m)
     read n pin r =
@@ -80,21 +81,23 @@ gate_is_signal c f gate at e = let p = listed_on c f at in let r = one_reader (r
         read n pin (pin_reads c n gate pin there)
 
 -- the fault at a place of the list, with what was read of it
-pub record FaultAt (c : List Statement) (i : ℕ) (l : Line) (b : Bool) : Type 0 where
-  pub there : slice_get (faults c) i ≡ Some (record { line = l; stuck = b })
-  pub listed : Contains (faults c) (record { line = l; stuck = b })
+pub record FaultAt (m : Model) (c : List Statement) (i : ℕ) (l : Line) (b : Bool) : Type 0 where
+  pub there : slice_get (faults m c) i ≡ Some (record { model = m; line = l; stuck = b })
+  pub listed : Contains (faults m c) (record { model = m; line = l; stuck = b })
 
-pub line_at : (c : List Statement) (i : ℕ) (l : Line) → i < length (faults c) → IfSome (slice_get (faults c) i) (λ f. l ≡ f.line) → (b : Bool) × FaultAt c i l b
-line_at c i l lt e =
-    let p = within_place (faults c) i lt in
+pub line_at : (m : Model) (c : List Statement) (i : ℕ) (l : Line) → i < length (faults m c) → IfSome (slice_get (faults m c) i) (λ f. l ≡ f.line) → (b : Bool) × FaultAt m c i l b
+line_at m c i l lt e =
+    let p = within_place (faults m c) i lt in
     let same : l ≡ p.0.line = rw p.1 at e in
-    let it : p.0 ≡ record { line = l; stuck = p.0.stuck } = ap (λ x. record { line = x; stuck = p.0.stuck }) (sym same) in
-    (p.0.stuck, record { there = p.1 ∙ ap Some it; listed = contained (faults c) (record { line = l; stuck = p.0.stuck }) (at_place (faults c) i (record { line = l; stuck = p.0.stuck }) (p.1 ∙ ap Some it)) })
+    let of : p.0.model ≡ m = listed_model m c p.0 (contained (faults m c) p.0 (at_place (faults m c) i p.0 p.1)) in
+    let it : p.0 ≡ record { model = m; line = l; stuck = p.0.stuck } = ap (λ x. record { model = x; line = p.0.line; stuck = p.0.stuck }) of ∙ ap (λ x. record { model = m; line = x; stuck = p.0.stuck }) (sym same) in
+    (p.0.stuck, record { there = p.1 ∙ ap Some it; listed = contained (faults m c) (record { model = m; line = l; stuck = p.0.stuck }) (at_place (faults m c) i (record { model = m; line = l; stuck = p.0.stuck }) (p.1 ∙ ap Some it)) })
 
-pub fault_at : (c : List Statement) (i : ℕ) (l : Line) (b : Bool) → i < length (faults c) → IfSome (slice_get (faults c) i) (λ f. l ≡ f.line) → IfSome (slice_get (faults c) i) (λ f. b ≡ f.stuck) → FaultAt c i l b
-fault_at c i l b lt e g =
-    let p = within_place (faults c) i lt in
+pub fault_at : (m : Model) (c : List Statement) (i : ℕ) (l : Line) (b : Bool) → i < length (faults m c) → IfSome (slice_get (faults m c) i) (λ f. l ≡ f.line) → IfSome (slice_get (faults m c) i) (λ f. b ≡ f.stuck) → FaultAt m c i l b
+fault_at m c i l b lt e g =
+    let p = within_place (faults m c) i lt in
     let same : l ≡ p.0.line = rw p.1 at e in
     let bits : b ≡ p.0.stuck = rw p.1 at g in
-    let it : p.0 ≡ record { line = l; stuck = b } = ap (λ x. record { line = x; stuck = p.0.stuck }) (sym same) ∙ ap (λ x. record { line = l; stuck = x }) (sym bits) in
-    record { there = p.1 ∙ ap Some it; listed = contained (faults c) (record { line = l; stuck = b }) (at_place (faults c) i (record { line = l; stuck = b }) (p.1 ∙ ap Some it)) }
+    let of : p.0.model ≡ m = listed_model m c p.0 (contained (faults m c) p.0 (at_place (faults m c) i p.0 p.1)) in
+    let it : p.0 ≡ record { model = m; line = l; stuck = b } = ap (λ x. record { model = x; line = p.0.line; stuck = p.0.stuck }) of ∙ ap (λ x. record { model = m; line = x; stuck = p.0.stuck }) (sym same) ∙ ap (λ x. record { model = m; line = l; stuck = x }) (sym bits) in
+    record { there = p.1 ∙ ap Some it; listed = contained (faults m c) (record { model = m; line = l; stuck = b }) (at_place (faults m c) i (record { model = m; line = l; stuck = b }) (p.1 ∙ ap Some it)) }

@@ -16,6 +16,8 @@ use Rattle.bench_net.proofs.SignalsLists.{placed, at_place, among_left, among_ri
 use Rattle.bench_net.proofs.SignalsDefined.{signal_apart, source_definition, IsSource, definition-signal, defined_among, read_named, output_in, cell_in}
 use Rattle.bench_net.proofs.SignalsSinks.{pin_among, out_among, data_among}
 use Rattle.fault_model.specs.declared.Line.TheVariants as line
+use Rattle.fault_model.specs.declared.Model.{Model}
+use Rattle.fault_model.specs.declared.Model.TheVariants.{StuckAt, Transition}
 use Rattle.fault_model.specs.Fault.{Fault, faults, branch}
 use Rattle.fault_model.specs.Solution.{Test, Solves, value, sees, pins_see, shows, ShowSame}
 use Rattle.fault_model.specs.Collapse.{next, next_stuck}
@@ -37,7 +39,7 @@ any_with_true (b ∷ bits) (inl e) = rw e refl
 any_with_true (true ∷ bits) (inr a) = refl
 any_with_true (false ∷ bits) (inr a) = any_with_true bits a
 
-only_one : (bits : List Bool) (a : Bool) → length bits ≡ 1 → Among a bits → list_any (λ b. b) bits ≡ a
+pub only_one : (bits : List Bool) (a : Bool) → length bits ≡ 1 → Among a bits → list_any (λ b. b) bits ≡ a
 only_one [] a one h = absurd h
 only_one (b ∷ []) a one (inl e) = go b e
   where
@@ -48,27 +50,31 @@ only_one (b ∷ []) a one (inr h) = absurd h
 only_one (b ∷ d ∷ bits) a one h = absurd (omega (arith, one))
 
 -- a pin at this bit fixes the output, as the table says
-pub fixed : (kind : Kind) (a b : Bool) (args : List Name) (bits : List Bool) → next_stuck kind a ≡ Some b → HasArity kind args → length bits ≡ length args → Among a bits
+pub fixed : (m : Model) (kind : Kind) (a b : Bool) (args : List Name) (bits : List Bool) → next_stuck m kind a ≡ Some b → HasArity kind args → length bits ≡ length args → Among a bits
     → value kind bits ≡ b
-fixed And false b args bits e arity len h = all_with_false bits h ∙ ap (λ o. unwrap_or o b) e
-fixed And true b args bits e arity len h = let bad : None ≡ Some b = e in cc
-fixed Nand false b args bits e arity len h = ap not (all_with_false bits h) ∙ ap (λ o. unwrap_or o b) e
-fixed Nand true b args bits e arity len h = let bad : None ≡ Some b = e in cc
-fixed Or true b args bits e arity len h = any_with_true bits h ∙ ap (λ o. unwrap_or o b) e
-fixed Or false b args bits e arity len h = let bad : None ≡ Some b = e in cc
-fixed Nor true b args bits e arity len h = ap not (any_with_true bits h) ∙ ap (λ o. unwrap_or o b) e
-fixed Nor false b args bits e arity len h = let bad : None ≡ Some b = e in cc
-fixed Xor a b args bits e arity len h = let bad : None ≡ Some b = e in cc
-fixed Xnor a b args bits e arity len h = let bad : None ≡ Some b = e in cc
-fixed Not a b args bits e arity len h = ap not (only_one bits a (len ∙ arity) h) ∙ ap (λ o. unwrap_or o b) e
-fixed Buff a b args bits e arity len h = only_one bits a (len ∙ arity) h ∙ ap (λ o. unwrap_or o b) e
+fixed StuckAt And false b args bits e arity len h = all_with_false bits h ∙ ap (λ o. unwrap_or o b) e
+fixed StuckAt And true b args bits e arity len h = let bad : None ≡ Some b = e in cc
+fixed StuckAt Nand false b args bits e arity len h = ap not (all_with_false bits h) ∙ ap (λ o. unwrap_or o b) e
+fixed StuckAt Nand true b args bits e arity len h = let bad : None ≡ Some b = e in cc
+fixed StuckAt Or true b args bits e arity len h = any_with_true bits h ∙ ap (λ o. unwrap_or o b) e
+fixed StuckAt Or false b args bits e arity len h = let bad : None ≡ Some b = e in cc
+fixed StuckAt Nor true b args bits e arity len h = ap not (any_with_true bits h) ∙ ap (λ o. unwrap_or o b) e
+fixed StuckAt Nor false b args bits e arity len h = let bad : None ≡ Some b = e in cc
+fixed Transition And a b args bits e arity len h = let bad : None ≡ Some b = e in cc
+fixed Transition Nand a b args bits e arity len h = let bad : None ≡ Some b = e in cc
+fixed Transition Or a b args bits e arity len h = let bad : None ≡ Some b = e in cc
+fixed Transition Nor a b args bits e arity len h = let bad : None ≡ Some b = e in cc
+fixed m Xor a b args bits e arity len h = let bad : None ≡ Some b = e in cc
+fixed m Xnor a b args bits e arity len h = let bad : None ≡ Some b = e in cc
+fixed m Not a b args bits e arity len h = ap not (only_one bits a (len ∙ arity) h) ∙ ap (λ o. unwrap_or o b) e
+fixed m Buff a b args bits e arity len h = only_one bits a (len ∙ arity) h ∙ ap (λ o. unwrap_or o b) e
 
 -- two functions that agree on the elements of a list map it alike
 pub map_agree : {X Y : Type 0} (f g : X → Y) (xs : List X) → ((x : X) → Among x xs → f x ≡ g x) → map f xs ≡ map g xs
 map_agree f g [] same = refl
 map_agree f g (x ∷ xs) same = rw (same x (inl refl), map_agree f g xs (λ y a. same y (inr a))) refl
 
-length_pins : (f : Option Fault) (v : Name → Bool) (gate from : ℕ) (args : List Name) → length (map (λ at. sees f v (line.Pin gate at.0) at.1) (enumerate_from from args)) ≡ length args
+pub length_pins : (f : Option Fault) (v : Name → Bool) (gate from : ℕ) (args : List Name) → length (map (λ at. sees f v (line.Pin gate at.0) at.1) (enumerate_from from args)) ≡ length args
 length_pins f v gate from [] = refl
 length_pins f v gate from (a ∷ args) = ap suc (length_pins f v gate (from + 1) args)
 
@@ -172,7 +178,7 @@ module _ (c : List Statement) (t : Test) (f g : Fault) (v w : Name → Bool) (we
       (among_map (λ at. sees (Some f) v (line.Pin (signal c s.name) at.0) at.1) (enumerate_from 0 s.args) (s.pin, s.read) (among_numbered s.args s.pin s.read s.reads)) in
       p.gate s.name s.kind s.args stands
       ∙ (under_other f (line.Stem (signal c s.name)) _ gate_free
-      ∙ (fixed s.kind f.stuck s.bit s.args bits s.fixes (arities s.name s.kind s.args stands) (length_pins (Some f) v (signal c s.name) 0 s.args) seen
+      ∙ (fixed f.model s.kind f.stuck s.bit s.args bits s.fixes (arities s.name s.kind s.args stands) (length_pins (Some f) v (signal c s.name) 0 s.args) seen
       ∙ sym (stem_stuck c t g w s.name q (gate_defined c well f g s) to_line ∙ to_stuck)))
 
   -- a name that another gate's pin reads isn't the one whose stem the fault is on
@@ -291,5 +297,5 @@ module _ (c : List Statement) (t : Test) (f g : Fault) (v w : Name → Bool) (we
       ∙ sym (under_other g (branch o.0) (w o.1) (λ e. h.no_stem (signal c s.name) (sym to_line ∙ e))))
 
 -- a fault of the list and its next fault show the same
-pub step_shows_same : (c : List Statement) (f g : Fault) → IsWellFormed c → HaveArities c → Contains (faults c) f → next c f ≡ Some g → ShowSame c f g
-step_shows_same c f g well arities at e t v w o p q seen = step_shows c t f g v w well arities (step_of c f g well at e) p q o seen
+pub step_shows_same : (m : Model) (c : List Statement) (f g : Fault) → IsWellFormed c → HaveArities c → Contains (faults m c) f → next c f ≡ Some g → ShowSame c f g
+step_shows_same m c f g well arities at e t v w o p q seen = step_shows c t f g v w well arities (step_of m c f g well at e) p q o seen

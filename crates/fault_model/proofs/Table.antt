@@ -6,31 +6,32 @@ use Rattle.bench_net.proofs.Members.{Among, among, contained}
 use Rattle.bench_net.proofs.SignalsLists.{joined_from, place_within, within_place}
 use Rattle.fault_model.specs.declared.Line.{Line}
 use Rattle.fault_model.specs.declared.Line.TheVariants as line
+use Rattle.fault_model.specs.declared.Model.{Model}
 use Rattle.fault_model.specs.Fault.{both}
 use Rattle.fault_model.specs.Lines.{AreStemsOf}
 use Rattle.fault_model.proofs.Lines.{length_both, at_even, at_odd}
 
-pub half_within : (ls : List Line) (k : ℕ) → k < length (flat_map both ls) → k / 2 < length ls
-half_within ls k h = let twice : length (flat_map both ls) ≡ 2 * length ls = length_both ls in omega (arith, h, twice)
+pub half_within : (m : Model) (ls : List Line) (k : ℕ) → k < length (flat_map (both m) ls) → k / 2 < length ls
+half_within m ls k h = let twice : length (flat_map (both m) ls) ≡ 2 * length ls = length_both m ls in omega (arith, h, twice)
 
 -- the fault at a place is on the line at half the place, stuck at 1 where the place is odd
-pub at_half : (ls : List Line) (k : ℕ) (l : Line) → slice_get ls (k / 2) ≡ Some l → slice_get (flat_map both ls) k ≡ Some (record { line = l; stuck = nat_eq (k % 2) 1 })
-at_half ls k l e = go (k % 2) refl
+pub at_half : (m : Model) (ls : List Line) (k : ℕ) (l : Line) → slice_get ls (k / 2) ≡ Some l → slice_get (flat_map (both m) ls) k ≡ Some (record { model = m; line = l; stuck = nat_eq (k % 2) 1 })
+at_half m ls k l e = go (k % 2) refl
   where
-    go : (r : ℕ) → k % 2 ≡ r → slice_get (flat_map both ls) k ≡ Some (record { line = l; stuck = nat_eq (k % 2) 1 })
+    go : (r : ℕ) → k % 2 ≡ r → slice_get (flat_map (both m) ls) k ≡ Some (record { model = m; line = l; stuck = nat_eq (k % 2) 1 })
     go zero is =
         let twice : k / 2 + k / 2 ≡ k = omega (arith, is) in
-        rw is (subst (λ i. slice_get (flat_map both ls) i ≡ Some (record { line = l; stuck = false })) twice (at_even ls (k / 2) ∙ ap (option_map (λ x. record { line = x; stuck = false })) e))
+        rw is (subst (λ i. slice_get (flat_map (both m) ls) i ≡ Some (record { model = m; line = l; stuck = false })) twice (at_even m ls (k / 2) ∙ ap (option_map (λ x. record { model = m; line = x; stuck = false })) e))
     go (suc zero) is =
         let twice : suc (k / 2 + k / 2) ≡ k = omega (arith, is) in
-        rw is (subst (λ i. slice_get (flat_map both ls) i ≡ Some (record { line = l; stuck = true })) twice (at_odd ls (k / 2) ∙ ap (option_map (λ x. record { line = x; stuck = true })) e))
+        rw is (subst (λ i. slice_get (flat_map (both m) ls) i ≡ Some (record { model = m; line = l; stuck = true })) twice (at_odd m ls (k / 2) ∙ ap (option_map (λ x. record { model = m; line = x; stuck = true })) e))
     go (suc (suc r)) is = absurd (omega (arith, is))
 
-pub line_read : (ls : List Line) (k : ℕ) (r : Line) → k < length (flat_map both ls) → r ≡ get_or ls (k / 2) r → IfSome (slice_get (flat_map both ls) k) (λ f. r ≡ f.line)
-line_read ls k r h e = rw (at_half ls k r (slice_get-get_or ls (k / 2) r (half_within ls k h) ∙ ap Some (sym e))) refl
+pub line_read : (m : Model) (ls : List Line) (k : ℕ) (r : Line) → k < length (flat_map (both m) ls) → r ≡ get_or ls (k / 2) r → IfSome (slice_get (flat_map (both m) ls) k) (λ f. r ≡ f.line)
+line_read m ls k r h e = rw (at_half m ls k r (slice_get-get_or ls (k / 2) r (half_within m ls k h) ∙ ap Some (sym e))) refl
 
-pub stuck_read : (ls : List Line) (k : ℕ) → k < length (flat_map both ls) → IfSome (slice_get (flat_map both ls) k) (λ f. nat_eq (k % 2) 1 ≡ f.stuck)
-stuck_read ls k h = let p = within_place ls (k / 2) (half_within ls k h) in rw (at_half ls k p.0 p.1) refl
+pub stuck_read : (m : Model) (ls : List Line) (k : ℕ) → k < length (flat_map (both m) ls) → IfSome (slice_get (flat_map (both m) ls) k) (λ f. nat_eq (k % 2) 1 ≡ f.stuck)
+stuck_read m ls k h = let p = within_place ls (k / 2) (half_within m ls k h) in rw (at_half m ls k p.0 p.1) refl
 
 -- the place of a stem whose fault is in the list
 pub record StemAt (ls : List Line) (stems : List ℕ) (s : ℕ) : Type 0 where
@@ -38,12 +39,12 @@ pub record StemAt (ls : List Line) (stems : List ℕ) (s : ℕ) : Type 0 where
   pub kept : slice_get stems s ≡ Some place
   pub there : slice_get ls place ≡ Some (line.Stem s)
 
-pub stem_at : (ls : List Line) (stems : List ℕ) (s : ℕ) (b : Bool) → AreStemsOf ls stems → Contains (flat_map both ls) (record { line = line.Stem s; stuck = b }) → StemAt ls stems s
-stem_at ls stems s b are at =
-    let p = joined_from both ls (record { line = line.Stem s; stuck = b }) (among (flat_map both ls) (record { line = line.Stem s; stuck = b }) at) in
+pub stem_at : (m : Model) (ls : List Line) (stems : List ℕ) (s : ℕ) (b : Bool) → AreStemsOf ls stems → Contains (flat_map (both m) ls) (record { model = m; line = line.Stem s; stuck = b }) → StemAt ls stems s
+stem_at m ls stems s b are at =
+    let p = joined_from (both m) ls (record { model = m; line = line.Stem s; stuck = b }) (among (flat_map (both m) ls) (record { model = m; line = line.Stem s; stuck = b }) at) in
     go (slice_get stems s) refl (are.each s (contained ls (line.Stem s) (subst (λ l. Among l ls) (on p.0 p.2) p.1)))
   where
-    on : (l : Line) → Among (record { line = line.Stem s; stuck = b }) (both l) → l ≡ line.Stem s
+    on : (l : Line) → Among (record { model = m; line = line.Stem s; stuck = b }) (both m l) → l ≡ line.Stem s
     on l (inl e) = ap (λ f. f.line) e
     on l (inr (inl e)) = ap (λ f. f.line) e
     on l (inr (inr bad)) = absurd bad
@@ -65,14 +66,14 @@ stem_read ls stems s r at e =
 pub stem_place_within : (ls : List Line) (s r : ℕ) → slice_get ls r ≡ Some (line.Stem s) → r < length ls
 stem_place_within ls s r e = place_within ls r (line.Stem s) e
 
-pub stem_at_zero : (ls : List Line) (s r : ℕ) → slice_get ls r ≡ Some (line.Stem s) → slice_get (flat_map both ls) (2 * r) ≡ Some (record { line = line.Stem s; stuck = false })
-stem_at_zero ls s r e =
+pub stem_at_zero : (m : Model) (ls : List Line) (s r : ℕ) → slice_get ls r ≡ Some (line.Stem s) → slice_get (flat_map (both m) ls) (2 * r) ≡ Some (record { model = m; line = line.Stem s; stuck = false })
+stem_at_zero m ls s r e =
     let twice : r + r ≡ 2 * r = omega arith in
-    subst (λ i. slice_get (flat_map both ls) i ≡ Some (record { line = line.Stem s; stuck = false })) twice
-    (at_even ls r ∙ ap (option_map (λ x. record { line = x; stuck = false })) e)
+    subst (λ i. slice_get (flat_map (both m) ls) i ≡ Some (record { model = m; line = line.Stem s; stuck = false })) twice
+    (at_even m ls r ∙ ap (option_map (λ x. record { model = m; line = x; stuck = false })) e)
 
-pub stem_at_one : (ls : List Line) (s r : ℕ) → slice_get ls r ≡ Some (line.Stem s) → slice_get (flat_map both ls) (2 * r + 1) ≡ Some (record { line = line.Stem s; stuck = true })
-stem_at_one ls s r e =
+pub stem_at_one : (m : Model) (ls : List Line) (s r : ℕ) → slice_get ls r ≡ Some (line.Stem s) → slice_get (flat_map (both m) ls) (2 * r + 1) ≡ Some (record { model = m; line = line.Stem s; stuck = true })
+stem_at_one m ls s r e =
     let twice : suc (r + r) ≡ 2 * r + 1 = omega arith in
-    subst (λ i. slice_get (flat_map both ls) i ≡ Some (record { line = line.Stem s; stuck = true })) twice
-    (at_odd ls r ∙ ap (option_map (λ x. record { line = x; stuck = true })) e)
+    subst (λ i. slice_get (flat_map (both m) ls) i ≡ Some (record { model = m; line = line.Stem s; stuck = true })) twice
+    (at_odd m ls r ∙ ap (option_map (λ x. record { model = m; line = x; stuck = true })) e)

@@ -6,6 +6,7 @@ use Rattle.bench_net.specs.Statement.{Statement}
 use Rattle.bench_net.specs.Scan.{names}
 use Rattle.fault_model.specs.declared.Line.{Line}
 use Rattle.fault_model.specs.declared.Line.TheVariants as line
+use Rattle.fault_model.specs.declared.Model.{Model}
 use Rattle.fault_model.specs.Fault.{Fault, faults}
 use Rattle.fault_model.specs.Collapse.{next, IsClassOf}
 
@@ -20,21 +21,21 @@ IsInCircuit c (line.Stem s) = s < length (names c)
 IsInCircuit c _ = Unit {0}
 
 -- a table of classes has the class of the fault at this place
-abbrev pub HasClassAt : List Statement → List ℕ → ℕ → Type 0
-HasClassAt c class_of i = (f : Fault) → slice_get (faults c) i ≡ Some f → (k : ℕ) × (slice_get class_of i ≡ Some k) × IsClassOf c f k
+abbrev pub HasClassAt : Model → List Statement → List ℕ → ℕ → Type 0
+HasClassAt m c class_of i = (f : Fault) → slice_get (faults m c) i ≡ Some f → (k : ℕ) × (slice_get class_of i ≡ Some k) × IsClassOf m c f k
 
 -- it has the class of each fault without a next
-abbrev pub HasEnds : List Statement → List ℕ → Type 0
-HasEnds c class_of = (i : ℕ) (f : Fault) → slice_get (faults c) i ≡ Some f → next c f ≡ None → HasClassAt c class_of i
+abbrev pub HasEnds : Model → List Statement → List ℕ → Type 0
+HasEnds m c class_of = (i : ℕ) (f : Fault) → slice_get (faults m c) i ≡ Some f → next c f ≡ None → HasClassAt m c class_of i
 
 -- it has the class of the next fault of the fault at this place
-abbrev pub HasNext : List Statement → List ℕ → ℕ → Type 0
-HasNext c class_of i = (j : ℕ) (f g : Fault) → slice_get (faults c) i ≡ Some f → next c f ≡ Some g → slice_get (faults c) j ≡ Some g → HasClassAt c class_of j
+abbrev pub HasNext : Model → List Statement → List ℕ → ℕ → Type 0
+HasNext m c class_of i = (j : ℕ) (f g : Fault) → slice_get (faults m c) i ≡ Some f → next c f ≡ Some g → slice_get (faults m c) j ≡ Some g → HasClassAt m c class_of j
 
 -- it has the class of each fault on a stem
-abbrev pub HasStems : List Statement → List ℕ → Type 0
-HasStems c class_of = (i s : ℕ) (b : Bool) → slice_get (faults c) i ≡ Some (record { line = line.Stem s; stuck = b }) → HasClassAt c class_of i
+abbrev pub HasStems : Model → List Statement → List ℕ → Type 0
+HasStems m c class_of = (i s : ℕ) (b : Bool) → slice_get (faults m c) i ≡ Some (record { model = m; line = line.Stem s; stuck = b }) → HasClassAt m c class_of i
 
 -- what is known of one table is known of the other
-abbrev pub KeepsClasses : List Statement → List ℕ → List ℕ → Type 0
-KeepsClasses c before after = (i : ℕ) → HasClassAt c before i → HasClassAt c after i
+abbrev pub KeepsClasses : Model → List Statement → List ℕ → List ℕ → Type 0
+KeepsClasses m c before after = (i : ℕ) → HasClassAt m c before i → HasClassAt m c after i

@@ -3,6 +3,7 @@ use Rattle.std.specs.Prelude.{◌≡◌, ◌↔◌, ◌≢◌, ℕ, Bool, List, 
 use Rattle.bench_net.specs.declared.Sink.{Sink}
 use Rattle.bench_net.specs.Statement.{Name, Statement}
 use Rattle.bench_net.specs.Scan.{names, observers}
+use Rattle.fault_model.specs.declared.Model.{Model}
 use Rattle.fault_model.specs.Fault.{Fault, faults}
 use Rattle.fault_model.specs.Solution.{Test, Solves, Detects, shows}
 use Rattle.fault_model.specs.Collapse.{Represents, representatives, IsClassOf, AreEquivalent}
@@ -17,12 +18,12 @@ HasOneSolution c = (t : Test) (f : Option Fault) (v w : Name → Bool) (n : Name
 
 -- each fault of the list has a representative, which is a fault of the list, and no second one
 abbrev pub HasRepresentatives : List Statement → Type 0
-HasRepresentatives c = (f : Fault) → Contains (faults c) f
-    → (r : Fault) × Contains (faults c) r × Represents c f r × ((s : Fault) → Represents c f s → s ≡ r)
+HasRepresentatives c = (m : Model) (f : Fault) → Contains (faults m c) f
+    → (r : Fault) × Contains (faults m c) r × Represents c f r × ((s : Fault) → Represents c f s → s ≡ r)
 
 -- each fault of the list has a class, and no second one
 abbrev pub HasClasses : List Statement → Type 0
-HasClasses c = (f : Fault) → Contains (faults c) f → (k : ℕ) × IsClassOf c f k × ((j : ℕ) → IsClassOf c f j → j ≡ k)
+HasClasses c = (m : Model) (f : Fault) → Contains (faults m c) f → (k : ℕ) × IsClassOf m c f k × ((j : ℕ) → IsClassOf m c f j → j ≡ k)
 
 -- two faults of one class are detected by the same tests
 abbrev pub ClassesDetectSame : List Statement → Type 0
@@ -30,7 +31,7 @@ ClassesDetectSame c = (f g : Fault) (t : Test) → AreEquivalent c f g → Detec
 
 -- a test detects a fault exactly where it detects the representative of the fault's class
 abbrev pub RepresentativesDetectSame : List Statement → Type 0
-RepresentativesDetectSame c = (f r : Fault) (class : ℕ) (t : Test) → IsClassOf c f class → slice_get (representatives c) class ≡ Some r → Detects c t f ↔ Detects c t r
+RepresentativesDetectSame c = (m : Model) (f r : Fault) (class : ℕ) (t : Test) → IsClassOf m c f class → slice_get (representatives m c) class ≡ Some r → Detects c t f ↔ Detects c t r
 
 -- whichever valuations solve, a fault is detected exactly where these two show different bits to some observer
 abbrev pub DetectionIsOfAnySolution : List Statement → Type 0

@@ -61,15 +61,20 @@ impl Classes {
 
 /// The bit at which the output of a gate is stuck where a pin of it that is stuck at a bit fixes it: a
 /// controlling value fixes an AND, NAND, OR or NOR, and either value the one input of a NOT or BUFF. No
-/// value of one input fixes an XOR or XNOR.
-fn next_stuck(kind: Kind, stuck: bool) -> Option<bool>
-    ensures { result ≡ next_stuck kind stuck }
+/// value of one input fixes an XOR or XNOR. Of transition faults the rows of NOT and BUFF alone hold: of a
+/// gate with more inputs the bit of one of them under the test before doesn't follow from the output's.
+fn next_stuck(model: crate::Model, kind: Kind, stuck: bool) -> Option<bool>
+    ensures { result ≡ next_stuck model kind stuck }
 {
-    match (kind, stuck) {
-        (Kind::And, false) | (Kind::Nor, true) => Some(false),
-        (Kind::Nand, false) | (Kind::Or, true) => Some(true),
-        (Kind::Buff, _) => Some(stuck),
-        (Kind::Not, _) => Some(!stuck),
+    match (model, kind, stuck) {
+        (_, Kind::Buff, _) => Some(stuck),
+        (_, Kind::Not, _) => Some(!stuck),
+        (crate::Model::StuckAt, Kind::And, false) | (crate::Model::StuckAt, Kind::Nor, true) => {
+            Some(false)
+        }
+        (crate::Model::StuckAt, Kind::Nand, false) | (crate::Model::StuckAt, Kind::Or, true) => {
+            Some(true)
+        }
         _ => None,
     }
 }
@@ -99,13 +104,13 @@ fn reading_gate(circuit: &Circuit, line: Line) -> Option<u32>
 /// The number of a fault's next fault, which no test tells apart from it, if it has one: where a gate's
 /// pin is all that reads the fault's line, the fault on the gate's stem that the table gives.
 fn next_fault(circuit: &Circuit, list: &Faults, fault: u32) -> Option<u32>
-    requires same { list.now ≡ faults circuit.now }
-    requires in_range { fault < length list.now }
-    ensures { option_map (slice_get list.now) result ≡ option_map Some (option_and_then (next circuit.now) (slice_get list.now fault)) }
+    requires same { list.now.list ≡ faults list.now.model circuit.now }
+    requires in_range { fault < length list.now.list }
+    ensures { option_map (slice_get list.now.list) result ≡ option_map Some (option_and_then (next circuit.now) (slice_get list.now.list fault)) }
 {
     let gate = reading_gate(circuit, list.line_of(fault))?;
     let kind = circuit.gate_of(gate)?.kind;
-    let stuck = next_stuck(kind, list.stuck_of(fault))?;
+    let stuck = next_stuck(list.model(), kind, list.stuck_of(fault))?;
     Some(list.stem_fault(gate, stuck))
 }
 
@@ -119,11 +124,11 @@ struct Ends {
 
 /// The classes of the faults that have no next, in the order of the list.
 fn number_ends(alloc: Global, circuit: &Circuit, list: &Faults) -> Result<Ends, AllocError>
-    requires { list.now ≡ faults circuit.now }
-    ensures count { IfOk result (λ ends. length ends.class_of.items ≡ length list.now) }
-    ensures few { IfOk result (λ ends. length ends.representative.items ≤ length list.now) }
-    ensures classes { IfOk result (λ ends. HasEnds circuit.now ends.class_of.items) }
-    ensures representatives { IfOk result (λ ends. map (slice_get list.now) ends.representative.items ≡ map Some (representatives circuit.now)) }
+    requires { list.now.list ≡ faults list.now.model circuit.now }
+    ensures count { IfOk result (λ ends. length ends.class_of.items ≡ length list.now.list) }
+    ensures few { IfOk result (λ ends. length ends.representative.items ≤ length list.now.list) }
+    ensures classes { IfOk result (λ ends. HasEnds list.now.model circuit.now ends.class_of.items) }
+    ensures representatives { IfOk result (λ ends. map (slice_get list.now.list) ends.representative.items ≡ map Some (representatives list.now.model circuit.now)) }
 {
     let mut class_of = Vec::new(alloc);
     let mut representative = Vec::new(alloc);
@@ -141,13 +146,13 @@ fn number_ends(alloc: Global, circuit: &Circuit, list: &Faults) -> Result<Ends, 
 
 /// A fault's class is that of its next fault.
 fn follow(circuit: &Circuit, list: &Faults, class_of: &mut [u32], fault: u32)
-    requires same { list.now ≡ faults circuit.now }
-    requires count { length class_of.old ≡ length list.now }
-    requires in_range { fault < length list.now }
-    requires ends { HasEnds circuit.now class_of.old }
-    requires next { HasNext circuit.now class_of.old fault }
-    ensures known { HasClassAt circuit.now class_of.new fault }
-    ensures kept { KeepsClasses circuit.now class_of.old class_of.new }
+    requires same { list.now.list ≡ faults list.now.model circuit.now }
+    requires count { length class_of.old ≡ length list.now.list }
+    requires in_range { fault < length list.now.list }
+    requires ends { HasEnds list.now.model circuit.now class_of.old }
+    requires next { HasNext list.now.model circuit.now class_of.old fault }
+    ensures known { HasClassAt list.now.model circuit.now class_of.new fault }
+    ensures kept { KeepsClasses list.now.model circuit.now class_of.old class_of.new }
 {
     if let Some(next) = next_fault(circuit, list, fault) {
         class_of[fault as usize] = class_of[next as usize];
@@ -157,11 +162,11 @@ fn follow(circuit: &Circuit, list: &Faults, class_of: &mut [u32], fault: u32)
 /// The classes of the faults on stems. Signals go from the highest level down, since a next fault is on
 /// the stem of a signal of a higher level.
 fn follow_stems(circuit: &Circuit, list: &Faults, class_of: &mut [u32])
-    requires same { list.now ≡ faults circuit.now }
-    requires count { length class_of.old ≡ length list.now }
-    requires ends { HasEnds circuit.now class_of.old }
-    ensures stems { HasStems circuit.now class_of.new }
-    ensures kept { KeepsClasses circuit.now class_of.old class_of.new }
+    requires same { list.now.list ≡ faults list.now.model circuit.now }
+    requires count { length class_of.old ≡ length list.now.list }
+    requires ends { HasEnds list.now.model circuit.now class_of.old }
+    ensures stems { HasStems list.now.model circuit.now class_of.new }
+    ensures kept { KeepsClasses list.now.model circuit.now class_of.old class_of.new }
     ensures circuit { IsCircuit circuit.now }
 {
     let order = circuit.in_level_order();
@@ -174,11 +179,11 @@ fn follow_stems(circuit: &Circuit, list: &Faults, class_of: &mut [u32])
 
 /// The classes of all faults, from those on stems, since a next fault is on a stem.
 fn follow_all(circuit: &Circuit, list: &Faults, class_of: &mut [u32])
-    requires same { list.now ≡ faults circuit.now }
-    requires count { length class_of.old ≡ length list.now }
-    requires ends { HasEnds circuit.now class_of.old }
-    requires stems { HasStems circuit.now class_of.old }
-    ensures { (i : ℕ) → i < length list.now → HasClassAt circuit.now class_of.new i }
+    requires same { list.now.list ≡ faults list.now.model circuit.now }
+    requires count { length class_of.old ≡ length list.now.list }
+    requires ends { HasEnds list.now.model circuit.now class_of.old }
+    requires stems { HasStems list.now.model circuit.now class_of.old }
+    ensures { (i : ℕ) → i < length list.now.list → HasClassAt list.now.model circuit.now class_of.new i }
 {
     for fault in 0..list.count() {
         follow(circuit, list, class_of, fault);
@@ -187,10 +192,10 @@ fn follow_all(circuit: &Circuit, list: &Faults, class_of: &mut [u32])
 
 /// The classes of all faults, from those that have no next.
 fn follow_chains(circuit: &Circuit, list: &Faults, class_of: &mut [u32])
-    requires same { list.now ≡ faults circuit.now }
-    requires count { length class_of.old ≡ length list.now }
-    requires ends { HasEnds circuit.now class_of.old }
-    ensures known { (i : ℕ) → i < length list.now → HasClassAt circuit.now class_of.new i }
+    requires same { list.now.list ≡ faults list.now.model circuit.now }
+    requires count { length class_of.old ≡ length list.now.list }
+    requires ends { HasEnds list.now.model circuit.now class_of.old }
+    ensures known { (i : ℕ) → i < length list.now.list → HasClassAt list.now.model circuit.now class_of.new i }
     ensures circuit { IsCircuit circuit.now }
 {
     follow_stems(circuit, list, class_of);
@@ -207,8 +212,8 @@ fn follow_chains(circuit: &Circuit, list: &Faults, class_of: &mut [u32])
 ///
 /// `AllocError` where there is no memory for the classes.
 pub fn collapse(alloc: Global, circuit: &Circuit, list: &Faults) -> Result<Classes, AllocError>
-    requires { list.now ≡ faults circuit.now }
-    ensures classes { IfOk result (λ classes. AreClassesOf circuit.now classes) }
+    requires { list.now.list ≡ faults list.now.model circuit.now }
+    ensures classes { IfOk result (λ classes. AreClassesOf list.now.model circuit.now classes) }
     ensures same { IfOk result (λ _. ClassesShowSame circuit.now) }
 {
     let Ends {

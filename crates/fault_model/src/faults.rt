@@ -2,7 +2,8 @@
 
 ghost use Rattle.std.specs.Prelude.{◌≡◌, ◌++◌, ◌<◌, List, map, length, Contains, IfOk, IfSome, OnOk, Some, slice_get, nat_le, if◌then◌else◌, []};
 ghost use Rattle.fault_model.specs.declared.Line.TheVariants as line;
-ghost use Rattle.fault_model.specs.Fault.{Fault, branch, faults};
+ghost use Rattle.fault_model.specs.declared.Model.TheVariants as model;
+ghost use Rattle.fault_model.specs.Fault.{Fault, branch, faults, fault_list};
 
 use crate::Line;
 use bench_net::{Circuit, Sink};
@@ -16,6 +17,7 @@ use std::marker::Model;
 /// No call takes memory or more time than a look-up.
 #[derive(Drop)]
 pub struct Faults {
+    model: crate::Model,
     /// The lines in the order of their faults: line `i` has the faults `2 * i` and `2 * i + 1`.
     lines: Vec<Line>,
     /// The place in `lines` of the stem of each signal.
@@ -24,38 +26,47 @@ pub struct Faults {
 
 impl Model for Faults {
     ghost use Rattle.std.specs.Prelude.{List, flat_map};
-    ghost use Rattle.fault_model.specs.Fault.{Fault, both};
+    ghost use Rattle.fault_model.specs.Fault.{FaultList, both};
     ghost use Rattle.fault_model.specs.Lines.{AreStemsOf, IsWithinLimits};
 
-    ghost Value = { List Fault };
+    ghost Value = { FaultList };
 
-    ghost view = { λ a. flat_map both a.lines.items };
+    ghost view = { λ a. record { model = a.model; list = flat_map (both a.model) a.lines.items } };
 
     ghost invariant = { λ a. AreStemsOf a.lines.items a.stems.items × IsWithinLimits a.lines.items };
 }
 
 impl Faults {
+    /// The model of the faults.
+    pub fn model(&self) -> crate::Model
+        ensures { result ≡ self.now.model }
+    {
+        self.model
+    }
+
     /// The number of faults.
     pub fn count(&self) -> u32
-        ensures { result ≡ length self.now }
+        ensures { result ≡ length self.now.list }
     {
         (2 * self.lines.len()) as u32
     }
 
     /// The line of a fault, whose number is below [`Faults::count`].
     pub fn line_of(&self, fault: u32) -> Line
-        requires { fault < length self.now }
-        ensures { IfSome (slice_get self.now fault) (λ f. result ≡ f.line) }
+        requires { fault < length self.now.list }
+        ensures { IfSome (slice_get self.now.list fault) (λ f. result ≡ f.line) }
     {
         self.lines[(fault / 2) as usize]
     }
 
-    /// Whether a fault, whose number is below [`Faults::count`], is stuck at 1.
+    /// Whether a fault, whose number is below [`Faults::count`], is stuck at 1, or slow to fall: the second
+    /// of its line.
     pub fn stuck_of(&self, fault: u32) -> bool
-        requires { fault < length self.now }
-        ensures { IfSome (slice_get self.now fault) (λ f. result ≡ f.stuck) }
+        requires { fault < length self.now.list }
+        ensures { IfSome (slice_get self.now.list fault) (λ f. result ≡ f.stuck) }
     {
-        // Each line is stuck at 0 first.
+        // The fault of bit 0 goes first. The number alone decides; the borrow lets the proof see of which
+        // lines the list is made.
         let _lines = &self.lines;
         fault % 2 == 1
     }
@@ -63,21 +74,37 @@ impl Faults {
     /// The number of the fault on the stem of a signal, whose number is below that of the circuit's
     /// signals.
     pub fn stem_fault(&self, signal: u32, stuck: bool) -> u32
-        requires { Contains self.now (record { line = line.Stem signal; stuck = stuck }) }
-        ensures { slice_get self.now result ≡ Some (record { line = line.Stem signal; stuck = stuck }) }
+        requires { Contains self.now.list (record { model = self.now.model; line = line.Stem signal; stuck = stuck }) }
+        ensures { slice_get self.now.list result ≡ Some (record { model = self.now.model; line = line.Stem signal; stuck = stuck }) }
     {
         let at_zero = 2 * self.stems[signal as usize];
         if stuck { at_zero + 1 } else { at_zero }
     }
 }
 
-/// The faults of a circuit.
+/// The stuck-at faults of a circuit: [`list_faults_in`] with [`crate::Model::StuckAt`].
 ///
 /// # Errors
 ///
 /// `AllocError` where there is no memory for the list.
 pub fn list_faults(alloc: Global, circuit: &Circuit) -> Result<Faults, AllocError>
-    ensures { IfOk result (λ list. list ≡ faults circuit.now) }
+    ensures { IfOk result (λ list. list ≡ fault_list model.StuckAt circuit.now) }
+{
+    list_faults_in(alloc, circuit, crate::Model::StuckAt)
+}
+
+/// The faults of a circuit under a model: signals in their order, of each the stem and then its branches in
+/// the order of the sinks, and of each line the fault of bit 0 and then that of bit 1.
+///
+/// # Errors
+///
+/// `AllocError` where there is no memory for the list.
+pub fn list_faults_in(
+    alloc: Global,
+    circuit: &Circuit,
+    model: crate::Model,
+) -> Result<Faults, AllocError>
+    ensures { IfOk result (λ list. list ≡ fault_list model circuit.now) }
 {
     let mut lines = Vec::new(alloc);
     let mut stems = Vec::new(alloc);
@@ -86,7 +113,11 @@ pub fn list_faults(alloc: Global, circuit: &Circuit) -> Result<Faults, AllocErro
         lines.push(Line::Stem(signal))?;
         push_branches(&mut lines, circuit.sinks_of(signal))?;
     }
-    Ok(Faults { lines, stems })
+    Ok(Faults {
+        model,
+        lines,
+        stems,
+    })
 }
 
 /// The branches of a stem that these sinks read: none where there is one sink or no sink.

@@ -6,6 +6,7 @@ ghost use Rattle.std.specs.Prelude.{List};
 ghost use Rattle.bench_net.specs.Statement.{Statement};
 ghost use Rattle.bench_net.specs.Circuit.{IsWellFormed, HaveArities};
 ghost use Rattle.fault_model.specs.Collapse.{ClassesShowSame};
+ghost use Rattle.fault_model.specs.Detection.{ClassesDetectedSame, DetectedAsRepresentative};
 ghost use Rattle.fault_model.specs.Laws.{HasSolutions, HasOneSolution, HasRepresentatives, HasClasses, ClassesDetectSame, RepresentativesDetectSame, DetectionIsOfAnySolution};
 
 /// A circuit without cycles has exactly one solution under each test, without a fault and under each
@@ -27,6 +28,8 @@ pub fn collapsing()
 pub fn equivalence()
     ensures show_same { (c : List Statement) → IsWellFormed c → HaveArities c → ClassesShowSame c }
     ensures detected_by_same { (c : List Statement) → IsWellFormed c → HaveArities c → ClassesDetectSame c }
+    ensures detected_at_same { (c : List Statement) → IsWellFormed c → HaveArities c → ClassesDetectedSame c }
+    ensures detected_as_representative { (c : List Statement) → IsWellFormed c → HaveArities c → DetectedAsRepresentative c }
     ensures as_representative { (c : List Statement) → IsWellFormed c → HaveArities c → RepresentativesDetectSame c }
 {}
 

@@ -1,22 +1,20 @@
-//! `faultsim` tells which test of a list first finds each stuck-at fault of a bench circuit, and what
-//! the fault coverage is.
+//! `faultsim` tells which test of a list first finds each fault of a bench circuit, and what the fault
+//! coverage is.
 #![tactic(auto)]
 
 mod command;
-mod first;
-mod output;
-mod report;
 mod source;
-mod text;
 
 use command::{FAILED, MISUSED, run_words};
-use output::{Formatted, Out, Plain};
+use report::{Formatted, Out, Plain};
 use source::Files;
 use std::alloc::AllocError;
 use std::fmt::Write as _;
 use std::io::{BufWriter, ErrorKind, Write};
 use std::process::ExitCode;
 use std::rt::{Env, Files as HasFiles};
+use std::sync::Wait;
+use std::thread::Threads;
 use std::{env, io};
 
 /// Does what the command line asks for, and ends with its status.
@@ -33,7 +31,7 @@ fn main(rt: HostRuntime) -> ExitCode {
 }
 
 /// Runs the words of the command line, and flushes the output where they were done.
-fn start<R: Env + HasFiles + AllocGlobal, W: Write + Drop, E: Out>(
+fn start<R: Env + HasFiles + AllocGlobal + Threads + Wait, W: Write + Drop, E: Out>(
     rt: &R,
     out: W,
     err: &mut E,

@@ -13,6 +13,7 @@ use Rattle.bench_net.specs.Refusal.{IsAccepted, IsRefused, IsSyntaxFault}
 use Rattle.bench_net.proofs.Reader.{complete_states}
 use Rattle.bench_net.proofs.Answer.{is_in}
 use Rattle.bench_net.proofs.Checked.{well_formed, stuck, accepted}
+use Rattle.fault_model.specs.declared.Model.TheVariants.{StuckAt}
 use Rattle.fault_model.specs.declared.Line.TheVariants as line
 use Rattle.fault_model.specs.Solution.{Solves, Detects}
 use Rattle.fault_model.specs.Collapse.{Represents}
@@ -72,22 +73,22 @@ c17_solution : Solves c17 (true ∷ true ∷ true ∷ true ∷ true ∷ []) None
 c17_solution = solves _ _ _ _ refl
 
 -- a stem of a source, a branch, a cell's stem, a data pin, an output's branch, and a pin of an exclusive or
-c17_stem : Detects c17 (true ∷ true ∷ true ∷ true ∷ true ∷ []) (record { line = line.Stem 0; stuck = false })
+c17_stem : Detects c17 (true ∷ true ∷ true ∷ true ∷ true ∷ []) (record { model = StuckAt; line = line.Stem 0; stuck = false })
 c17_stem = detects 4 _ _ _ refl refl refl
 
-c17_branch : Detects c17 (true ∷ true ∷ true ∷ true ∷ true ∷ []) (record { line = line.Pin 7 1; stuck = true })
+c17_branch : Detects c17 (true ∷ true ∷ true ∷ true ∷ true ∷ []) (record { model = StuckAt; line = line.Pin 7 1; stuck = true })
 c17_branch = detects 4 _ _ _ refl refl refl
 
-cell_stem : Detects inverter_loop (false ∷ []) (record { line = line.Stem 0; stuck = true })
+cell_stem : Detects inverter_loop (false ∷ []) (record { model = StuckAt; line = line.Stem 0; stuck = true })
 cell_stem = detects 4 _ _ _ refl refl refl
 
-data_pin : Detects scan_cell (true ∷ true ∷ []) (record { line = line.Data 0; stuck = false })
+data_pin : Detects scan_cell (true ∷ true ∷ []) (record { model = StuckAt; line = line.Data 0; stuck = false })
 data_pin = detects 4 _ _ _ refl refl refl
 
-output_branch : Detects output_and_inverter (false ∷ []) (record { line = line.Out 0; stuck = true })
+output_branch : Detects output_and_inverter (false ∷ []) (record { model = StuckAt; line = line.Out 0; stuck = true })
 output_branch = detects 4 _ _ _ refl refl refl
 
-xor_pin : Detects xor_of_one (false ∷ []) (record { line = line.Pin 1 1; stuck = true })
+xor_pin : Detects xor_of_one (false ∷ []) (record { model = StuckAt; line = line.Pin 1 1; stuck = true })
 xor_pin = detects 4 _ _ _ refl refl refl
 
 -- the sinks of a name that an output and a gate pin read: the pin goes first though its line comes later
@@ -102,5 +103,5 @@ scan_cell_sinks : sinks scan_cell (codes "y") ≡ sink.Data 0 ∷ sink.Out 0 ∷
 scan_cell_sinks = refl
 
 -- the chain of `stem G6 sa0` in c17 ends at `stem G11 sa1`
-c17_chain : Represents c17 (record { line = line.Stem 3; stuck = false }) (record { line = line.Stem 6; stuck = true })
-c17_chain = rep_represents 13 c17 (record { line = line.Stem 3; stuck = false }) refl
+c17_chain : Represents c17 (record { model = StuckAt; line = line.Stem 3; stuck = false }) (record { model = StuckAt; line = line.Stem 6; stuck = true })
+c17_chain = rep_represents 13 c17 (record { model = StuckAt; line = line.Stem 3; stuck = false }) refl

@@ -3,6 +3,7 @@ use Rattle.std.specs.Prelude.{◌≡◌, ℕ, zero, suc, Bool, true, false, ◌&
 use Rattle.std.specs.List.{list_all}
 use Rattle.bench_net.specs.Statement.{Statement}
 use Rattle.bench_net.specs.Scan.{observers, sources}
+use Rattle.fault_model.specs.declared.Model.TheVariants.{StuckAt}
 use Rattle.fault_model.specs.Fault.{Fault, faults}
 use Rattle.fault_model.specs.Solution.{Test, shows}
 use Rattle.fault_model.proofs.Plain.{rep, bit_within}
@@ -25,7 +26,7 @@ all_same _ _ = false
 
 -- under these tests each fault shows what its representative shows, and the valuation used solves
 abbrev shows_as_rep : List Statement → List Test → Bool
-shows_as_rep c ts = list_all (λ f. list_all (λ t. is_solved c t (Some f) (bit_within 5 c t (Some f)) && all_same (shown c t f) (shown c t (rep c f))) ts) (faults c)
+shows_as_rep c ts = list_all (λ f. list_all (λ t. is_solved c t (Some f) (bit_within 5 c t (Some f)) && all_same (shown c t f) (shown c t (rep c f))) ts) (faults StuckAt c)
 
 small : map (λ c. shows_as_rep c (all_tests (length (sources c)))) (and_of_two ∷ inverter_loop ∷ buffer ∷ nor_of_two ∷ output_and_inverter ∷ xor_of_one ∷ scan_cell ∷ cell_of_itself ∷ []) ≡ true ∷ true ∷ true ∷ true ∷ true ∷ true ∷ true ∷ true ∷ []
 small = refl

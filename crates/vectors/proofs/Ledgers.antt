@@ -60,8 +60,9 @@ short_block : replies (shape_of 1 65 1) []
     ∷ Refused BadOutcome ∷ Refused NoEarlierHit ∷ Done ∷ Claimed Exhausted ∷ Claimed Exhausted ∷ Refused NothingHeld ∷ Status (Settled (Some 64)) ∷ []
 short_block = refl
 
-shapes : map shape_fault (shape_of 65536 4096 1 ∷ shape_of 65537 4096 1 ∷ shape_of 65537 4096 0 ∷ shape_of 1 1 65 ∷ shape_of 1 1 64 ∷ [])
-    ≡ None ∷ Some TooManyPieces ∷ Some NoWorkers ∷ Some TooManyWorkers ∷ None ∷ []
+shapes : map shape_fault (shape_of 16384 65536 1 ∷ shape_of 65537 4096 1 ∷ shape_of 16385 65536 1
+    ∷ shape_of 16385 65536 0 ∷ shape_of 1 1 65 ∷ shape_of 1 1 64 ∷ [])
+    ≡ None ∷ None ∷ Some TooManyPieces ∷ Some NoWorkers ∷ Some TooManyWorkers ∷ None ∷ []
 shapes = refl
 
 -- no classes, no pieces: finished at once
@@ -71,7 +72,7 @@ no_classes = refl
 block_sizes : map (size_of 65) (0 ∷ 1 ∷ []) ≡ 64 ∷ 1 ∷ []
 block_sizes = refl
 
-block_counts : map blocks (0 ∷ 1 ∷ 64 ∷ 65 ∷ 4096 ∷ []) ≡ 0 ∷ 1 ∷ 1 ∷ 2 ∷ 64 ∷ []
+block_counts : map blocks (0 ∷ 1 ∷ 64 ∷ 65 ∷ 65536 ∷ []) ≡ 0 ∷ 1 ∷ 1 ∷ 2 ∷ 1024 ∷ []
 block_counts = refl
 
 -- a legal history, event by event

@@ -5,3 +5,5 @@ pub mod Laws
 pub mod Values
 pub mod Texts
 pub mod Ledgers
+pub mod Transition
+pub mod Listings

@@ -36,8 +36,12 @@ no_rows = (refl, refl, refl)
 only_comments : HasTests (text (codes "# a" ∷ codes "" ∷ codes " # b" ∷ [])) 5 (record { width = 5; tests = [] })
 only_comments = (refl, refl, refl)
 
--- the row past the limit is TooMany whatever its bytes, and the first row at fault decides
-too_many : test_faults (text (replicate 4096 (codes "00") ++ codes "2" ∷ [])) 2 ≡ fault.TooMany ∷ []
+-- the first row at fault decides, also past block 63
+late_byte : test_faults (text (replicate 4096 (codes "00") ++ codes "2" ∷ [])) 2 ≡ fault.BadByte 4097 ∷ []
+late_byte = refl
+
+-- the row past the limit is TooMany whatever its bytes
+too_many : test_faults (text (replicate 65536 (codes "00") ++ codes "2" ∷ [])) 2 ≡ fault.TooMany ∷ []
 too_many = refl
 
 orders : map (λ l. order_faults (text (l ∷ [])) 4) (codes "000000003" ∷ codes "0000000003" ∷ codes "0 1" ∷ codes "-1" ∷ codes "4" ∷ codes "3 # x" ∷ [])

@@ -5,6 +5,7 @@ use Rattle.bench_net.specs.declared.Kind.{Kind}
 use Rattle.bench_net.specs.Statement.{Name, Statement, Gate}
 use Rattle.bench_net.specs.Level.{AreLevels, IsLevelOrder, GoesBefore, greatest}
 use Rattle.bench_net.proofs.Members.{Among, among, contained}
+use Rattle.fault_model.specs.declared.Model.TheVariants.{StuckAt}
 use Rattle.fault_model.specs.declared.Line.TheVariants as line
 use Rattle.fault_model.specs.Fault.{Fault, faults}
 use Rattle.fault_model.specs.Collapse.{IsClassOf, AreClassesOf, Represents, representatives}
@@ -15,19 +16,19 @@ use Rattle.std.specs.Int.{bit_at}
 use Rattle.vectors.proofs.Circuits.{buffer}
 
 abbrev stem : ℕ → Bool → Fault
-stem s b = record { line = line.Stem s; stuck = b }
+stem s b = record { model = StuckAt; line = line.Stem s; stuck = b }
 
 -- the buffer: a and z stuck at one bit are of one class
-buffer_classes : AreClassesOf buffer (record { class_of = 0 ∷ 1 ∷ 0 ∷ 1 ∷ []; representative = 2 ∷ 3 ∷ [] })
+buffer_classes : AreClassesOf StuckAt buffer (record { class_of = 0 ∷ 1 ∷ 0 ∷ 1 ∷ []; representative = 2 ∷ 3 ∷ [] })
 buffer_classes = record { count = refl; class = each; representative = refl }
   where
-    at : (f : Fault) (class : ℕ) → Among f (faults buffer) → slice_get (representatives buffer) class ≡ Some (stem 1 f.stuck) → Represents buffer f (stem 1 f.stuck) → IsClassOf buffer f class
-    at f class a place r = (stem 1 f.stuck, contained (faults buffer) f a, r, place)
+    at : (f : Fault) (class : ℕ) → Among f (faults StuckAt buffer) → slice_get (representatives StuckAt buffer) class ≡ Some (stem 1 f.stuck) → Represents buffer f (stem 1 f.stuck) → IsClassOf StuckAt buffer f class
+    at f class a place r = (stem 1 f.stuck, contained (faults StuckAt buffer) f a, r, place)
 
-    as_is : (f g : Fault) (k j : ℕ) → Some f ≡ Some g → Some k ≡ Some j → IsClassOf buffer f k → IsClassOf buffer g j
-    as_is f g k j e h p = subst (λ x. IsClassOf buffer g x) (ap (λ o. unwrap_or o k) h) (subst (λ x. IsClassOf buffer x k) (ap (λ o. unwrap_or o f) e) p)
+    as_is : (f g : Fault) (k j : ℕ) → Some f ≡ Some g → Some k ≡ Some j → IsClassOf StuckAt buffer f k → IsClassOf StuckAt buffer g j
+    as_is f g k j e h p = subst (λ x. IsClassOf StuckAt buffer g x) (ap (λ o. unwrap_or o k) h) (subst (λ x. IsClassOf StuckAt buffer x k) (ap (λ o. unwrap_or o f) e) p)
 
-    each : (i : ℕ) (f : Fault) (k : ℕ) → slice_get (faults buffer) i ≡ Some f → slice_get (0 ∷ 1 ∷ 0 ∷ 1 ∷ []) i ≡ Some k → IsClassOf buffer f k
+    each : (i : ℕ) (f : Fault) (k : ℕ) → slice_get (faults StuckAt buffer) i ≡ Some f → slice_get (0 ∷ 1 ∷ 0 ∷ 1 ∷ []) i ≡ Some k → IsClassOf StuckAt buffer f k
     each zero f k e h = as_is (stem 0 false) f 0 k e h (at (stem 0 false) 0 (inl refl) refl (rep_represents 3 buffer (stem 0 false) refl))
     each (suc zero) f k e h = as_is (stem 0 true) f 1 k e h (at (stem 0 true) 1 (inr (inl refl)) refl (rep_represents 3 buffer (stem 0 true) refl))
     each (suc (suc zero)) f k e h = as_is (stem 1 false) f 0 k e h (at (stem 1 false) 0 (inr (inr (inl refl))) refl (rep_represents 3 buffer (stem 1 false) refl))

@@ -23,9 +23,9 @@ levels_of-requires-clause-few c =
     let ns = map string_bytes c.args.lines.names.items in
     let lines = c.args.lines.lines.items in
     let at = c.args.lines.at.items in
-    let places = c.in-Ok.tables.definitions.items in
+    let places = c.in_ok-tables.tables.definitions.items in
     let count : length ns ≡ c.len.result = omega (arith, length-map c.args.lines.names.items string_bytes, c.len.ensures) in
-    let tables = subst (λ ls. AreTables ls (length ns) c.in-Ok.tables) c.deref.ensures.value (subst (λ n. AreTables c.deref.result.now n c.in-Ok.tables) (sym count) c.in-Ok.ensures) in
+    let tables = subst (λ ls. AreTables ls (length ns) c.in_ok-tables.tables) c.deref.ensures.value (subst (λ n. AreTables c.deref.result.now n c.in_ok-tables.tables) (sym count) c.in_ok-tables.ensures) in
     let place_count : length places ≡ length ns = definition_count ns lines places c.requires.numbered tables.definitions_are in
     omega (arith, place_count, ap length c.deref-3.ensures.value, c.requires.signals)
 
@@ -34,9 +34,9 @@ levels_of-requires-clause-graph c =
     let ns = map string_bytes c.args.lines.names.items in
     let lines = c.args.lines.lines.items in
     let at = c.args.lines.at.items in
-    let places = c.in-Ok.tables.definitions.items in
+    let places = c.in_ok-tables.tables.definitions.items in
     let count : length ns ≡ c.len.result = omega (arith, length-map c.args.lines.names.items string_bytes, c.len.ensures) in
-    let tables = subst (λ ls. AreTables ls (length ns) c.in-Ok.tables) c.deref.ensures.value (subst (λ n. AreTables c.deref.result.now n c.in-Ok.tables) (sym count) c.in-Ok.ensures) in
+    let tables = subst (λ ls. AreTables ls (length ns) c.in_ok-tables.tables) c.deref.ensures.value (subst (λ n. AreTables c.deref.result.now n c.in_ok-tables.tables) (sym count) c.in_ok-tables.ensures) in
     let place_count : length places ≡ length ns = definition_count ns lines places c.requires.numbered tables.definitions_are in
     subst (IsGraph c.deref-2.result.now) (sym c.deref-3.ensures.value) (subst (λ ls. IsGraph ls places) (sym c.deref-2.ensures.value) (graph ns lines at places c.requires tables.definitions_are))
 
@@ -49,13 +49,13 @@ invariant_of-result c =
     let ns = map string_bytes c.args.lines.names.items in
     let lines = c.args.lines.lines.items in
     let at = c.args.lines.at.items in
-    let places = c.in-Ok.tables.definitions.items in
+    let places = c.in_ok-tables.tables.definitions.items in
     let count : length ns ≡ c.len.result = omega (arith, length-map c.args.lines.names.items string_bytes, c.len.ensures) in
-    let tables = subst (λ ls. AreTables ls (length ns) c.in-Ok.tables) c.deref.ensures.value (subst (λ n. AreTables c.deref.result.now n c.in-Ok.tables) (sym count) c.in-Ok.ensures) in
+    let tables = subst (λ ls. AreTables ls (length ns) c.in_ok-tables.tables) c.deref.ensures.value (subst (λ n. AreTables c.deref.result.now n c.in_ok-tables.tables) (sym count) c.in_ok-tables.ensures) in
     let place_count : length places ≡ length ns = definition_count ns lines places c.requires.numbered tables.definitions_are in
-    let levels = subst (λ n. AreLevelsOf (gate_pins lines places) n c.in-Ok-levels_of.levels.levels.items) place_count (subst (λ ps. AreLevelsOf (gate_pins lines ps) (length ps) c.in-Ok-levels_of.levels.levels.items) c.deref-3.ensures.value (subst (λ ls. AreLevelsOf (gate_pins ls c.deref-3.result.now) (length c.deref-3.result.now) c.in-Ok-levels_of.levels.levels.items) c.deref-2.ensures.value c.in-Ok-levels_of.ensures.levels)) in
+    let levels = subst (λ n. AreLevelsOf (gate_pins lines places) n c.in-Ok.levels.levels.items) place_count (subst (λ ps. AreLevelsOf (gate_pins lines ps) (length ps) c.in-Ok.levels.levels.items) c.deref-3.ensures.value (subst (λ ls. AreLevelsOf (gate_pins ls c.deref-3.result.now) (length c.deref-3.result.now) c.in-Ok.levels.levels.items) c.deref-2.ensures.value c.in-Ok.ensures.levels)) in
     let some = not_empty lines (vec_len c.args.lines.lines) (omega arith) c.if-is_empty.ensures in
-    let is = circuit ns lines at places c.in-Ok-levels_of.levels.levels.items c.requires tables.definitions_are levels some in
+    let is = circuit ns lines at places c.in-Ok.levels.levels.items c.requires tables.definitions_are levels some in
     record {
       numbered = c.requires.numbered;
       once = c.requires.once;
@@ -63,24 +63,24 @@ invariant_of-result c =
       tables_are = tables;
       level_tables = record {
         levels_are = levels;
-        starts = c.in-Ok-levels_of.ensures.order.0;
-        order_is = c.in-Ok-levels_of.ensures.order.1;
-        depth_is = c.in-Ok-levels_of.ensures.depth;
+        starts = c.in-Ok.ensures.order.0;
+        order_is = c.in-Ok.ensures.order.1;
+        depth_is = c.in-Ok.ensures.depth;
       };
     }
 
-pub returns-in-Ok-levels_of-clause-accepted : goal.returns-in-Ok-levels_of-clause-accepted
-returns-in-Ok-levels_of-clause-accepted c =
+pub returns-in-Ok-clause-accepted : goal.returns-in-Ok-clause-accepted
+returns-in-Ok-clause-accepted c =
     let ns = map string_bytes c.args.lines.names.items in
     let lines = c.args.lines.lines.items in
     let at = c.args.lines.at.items in
-    let places = c.in-Ok.tables.definitions.items in
+    let places = c.in_ok-tables.tables.definitions.items in
     let count : length ns ≡ c.len.result = omega (arith, length-map c.args.lines.names.items string_bytes, c.len.ensures) in
-    let tables = subst (λ ls. AreTables ls (length ns) c.in-Ok.tables) c.deref.ensures.value (subst (λ n. AreTables c.deref.result.now n c.in-Ok.tables) (sym count) c.in-Ok.ensures) in
+    let tables = subst (λ ls. AreTables ls (length ns) c.in_ok-tables.tables) c.deref.ensures.value (subst (λ n. AreTables c.deref.result.now n c.in_ok-tables.tables) (sym count) c.in_ok-tables.ensures) in
     let place_count : length places ≡ length ns = definition_count ns lines places c.requires.numbered tables.definitions_are in
-    let levels = subst (λ n. AreLevelsOf (gate_pins lines places) n c.in-Ok-levels_of.levels.levels.items) place_count (subst (λ ps. AreLevelsOf (gate_pins lines ps) (length ps) c.in-Ok-levels_of.levels.levels.items) c.deref-3.ensures.value (subst (λ ls. AreLevelsOf (gate_pins ls c.deref-3.result.now) (length c.deref-3.result.now) c.in-Ok-levels_of.levels.levels.items) c.deref-2.ensures.value c.in-Ok-levels_of.ensures.levels)) in
+    let levels = subst (λ n. AreLevelsOf (gate_pins lines places) n c.in-Ok.levels.levels.items) place_count (subst (λ ps. AreLevelsOf (gate_pins lines ps) (length ps) c.in-Ok.levels.levels.items) c.deref-3.ensures.value (subst (λ ls. AreLevelsOf (gate_pins ls c.deref-3.result.now) (length c.deref-3.result.now) c.in-Ok.levels.levels.items) c.deref-2.ensures.value c.in-Ok.ensures.levels)) in
     let some = not_empty lines (vec_len c.args.lines.lines) (omega arith) c.if-is_empty.ensures in
-    let is = circuit ns lines at places c.in-Ok-levels_of.levels.levels.items c.requires tables.definitions_are levels some in
+    let is = circuit ns lines at places c.in-Ok.levels.levels.items c.requires tables.definitions_are levels some in
     (refl, is)
 
 pub index-requires : goal.index-requires
@@ -88,9 +88,9 @@ index-requires c =
     let ns = map string_bytes c.args.lines.names.items in
     let lines = c.args.lines.lines.items in
     let at = c.args.lines.at.items in
-    let places = c.in-Ok.tables.definitions.items in
+    let places = c.in_ok-tables.tables.definitions.items in
     let count : length ns ≡ c.len.result = omega (arith, length-map c.args.lines.names.items string_bytes, c.len.ensures) in
-    let tables = subst (λ ls. AreTables ls (length ns) c.in-Ok.tables) c.deref.ensures.value (subst (λ n. AreTables c.deref.result.now n c.in-Ok.tables) (sym count) c.in-Ok.ensures) in
+    let tables = subst (λ ls. AreTables ls (length ns) c.in_ok-tables.tables) c.deref.ensures.value (subst (λ n. AreTables c.deref.result.now n c.in_ok-tables.tables) (sym count) c.in_ok-tables.ensures) in
     let place_count : length places ≡ length ns = definition_count ns lines places c.requires.numbered tables.definitions_are in
     let fault : IsLevelFault (gate_pins lines places) (length ns) (Cycle c.in-Err-Cycle.signal) = subst (λ n. IsLevelFault (gate_pins lines places) n (Cycle c.in-Err-Cycle.signal)) place_count (subst (λ ps. IsLevelFault (gate_pins lines ps) (length ps) (Cycle c.in-Err-Cycle.signal)) c.deref-3.ensures.value (subst (λ ls. IsLevelFault (gate_pins ls c.deref-3.result.now) (length c.deref-3.result.now) (Cycle c.in-Err-Cycle.signal)) c.deref-2.ensures.value (rw c.in-Err-Cycle.field-0-is at c.in-Err-Cycle.ensures.fault))) in
     let s : ℕ = c.in-Err-Cycle.signal in
@@ -104,9 +104,9 @@ returns-clause-refused c =
     let ns = map string_bytes c.args.lines.names.items in
     let lines = c.args.lines.lines.items in
     let at = c.args.lines.at.items in
-    let places = c.in-Ok.tables.definitions.items in
+    let places = c.in_ok-tables.tables.definitions.items in
     let count : length ns ≡ c.len.result = omega (arith, length-map c.args.lines.names.items string_bytes, c.len.ensures) in
-    let tables = subst (λ ls. AreTables ls (length ns) c.in-Ok.tables) c.deref.ensures.value (subst (λ n. AreTables c.deref.result.now n c.in-Ok.tables) (sym count) c.in-Ok.ensures) in
+    let tables = subst (λ ls. AreTables ls (length ns) c.in_ok-tables.tables) c.deref.ensures.value (subst (λ n. AreTables c.deref.result.now n c.in_ok-tables.tables) (sym count) c.in_ok-tables.ensures) in
     let place_count : length places ≡ length ns = definition_count ns lines places c.requires.numbered tables.definitions_are in
     let fault : IsLevelFault (gate_pins lines places) (length ns) (Cycle c.in-Err-Cycle.signal) = subst (λ n. IsLevelFault (gate_pins lines places) n (Cycle c.in-Err-Cycle.signal)) place_count (subst (λ ps. IsLevelFault (gate_pins lines ps) (length ps) (Cycle c.in-Err-Cycle.signal)) c.deref-3.ensures.value (subst (λ ls. IsLevelFault (gate_pins ls c.deref-3.result.now) (length c.deref-3.result.now) (Cycle c.in-Err-Cycle.signal)) c.deref-2.ensures.value (rw c.in-Err-Cycle.field-0-is at c.in-Err-Cycle.ensures.fault))) in
     let s : ℕ = c.in-Err-Cycle.signal in

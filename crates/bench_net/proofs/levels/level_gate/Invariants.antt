@@ -1,6 +1,7 @@
 use Rattle.std.proofs.Common.{◌+◌, ◌*◌, length}
 use Rattle.std.specs.Prelude.{count_by}
-use Rattle.bench_net.specs.Marks.{gate_pins, is_unvisited}
+use Rattle.bench_net.specs.Marks.{gate_pins}
+use Rattle.bench_net.proofs.Turns.{is_unvisited}
 use Rattle.bench_net.proofs.Paths.{IsSearch}
 use Rattle.bench_net.proofs.levels.level_gate.Given as goal
 

@@ -8,12 +8,12 @@ pub returns-in_err-number-in-Output-clause-refused :
     goal.returns-in_err-number-in-Output-clause-refused
 returns-in_err-number-in-Output-clause-refused c =
     if_err c.from_residual.result _
-    (λ fault e. lacks_one (names_of c.args.names.now.keys) (stands_for c.args.statement.now) c.in-Output.name.now (ap (λ s. read (stands_for s)) c.in-Output.is) c.in_err-number-in-Output.ensures.refused)
+    (λ fault e. lacks_one (names_of c.args.names.now.keys) (stands_for c.args.statement.now) c.in-Output.name.now (ap (λ s. read (stands_for s)) c.in-Output.is) c.in_err-number-in-Output.ensures.missing)
 
 pub returns-in_err-number-in-Dff-clause-refused : goal.returns-in_err-number-in-Dff-clause-refused
 returns-in_err-number-in-Dff-clause-refused c =
     if_err c.from_residual-in_err-number-in-Dff.result _
-    (λ fault e. lacks_one (names_of c.args.names.now.keys) (stands_for c.args.statement.now) c.in-Dff.data.now (ap (λ s. read (stands_for s)) c.in-Dff.is) c.in_err-number-in-Dff.ensures.refused)
+    (λ fault e. lacks_one (names_of c.args.names.now.keys) (stands_for c.args.statement.now) c.in-Dff.data.now (ap (λ s. read (stands_for s)) c.in-Dff.is) c.in_err-number-in-Dff.ensures.missing)
 
 pub returns-in-Input-clause-numbered : goal.returns-in-Input-clause-numbered
 returns-in-Input-clause-numbered c =

@@ -1,4 +1,4 @@
-use Rattle.std.proofs.Common.{◌≡◌, ◌≤◌, ◌+◌, length, true, is_ok, arith, ap, sym, ◌∙◌, subst, take}
+use Rattle.std.proofs.Common.{◌≡◌, ◌≤◌, ◌+◌, length, arith, ap, sym, ◌∙◌, subst, take}
 use Rattle.std.proofs.lemmas.List.{length-map}
 use Rattle.bench_net.specs.Statement.{defined}
 use Rattle.bench_net.specs.Parsed.{names_of, stands_for}
@@ -27,10 +27,8 @@ number_behind-next-requires c =
 pub loop-line-preserved : goal.loop-line-preserved
 loop-line-preserved c =
     let i = c.loop-line.line-index in
-    let ns = names_of c.args.names.now.keys in
-    let ok : is_ok c.push.result ≡ true = sym c.map_err-in-loop-line.ensures.variant ∙ ap is_ok c.in_ok-map_err.was in
-    let items = rw ok at c.push.ensures.items in (
-      subst (AreNumberedLines ns (take (i + 1) c.args.stated.now)) (sym items)
+    let ns = names_of c.args.names.now.keys in (
+      subst (AreNumberedLines ns (take (i + 1) c.args.stated.now)) (sym c.in_ok-push.ensures.items)
           (numbered_more ns c.args.stated.now c.loop-line.lines.items i c.line-item.result c.in-Ok.numbered c.loop-line.next (omega arith) c.line-item.is c.loop-line.invariant.0 c.loop-line.invariant.1
           c.in-Ok.ensures.numbered),
       c.number_behind-next.ensures ∙ ap (λ k. k + length (defined (stands_for c.line-item.result.statement))) c.loop-line.invariant.1 ∙ sym (next_count c.args.stated.now i c.line-item.result (omega arith) c.line-item.is),

@@ -1,11 +1,10 @@
-use Rattle.std.proofs.Common.{◌≡◌, ℕ, List, sym, subst, ◌∙◌, inr, true, false, arith, map, string_bytes, Ok, Err, Result}
+use Rattle.std.proofs.Common.{◌≡◌, ℕ, List, sym, subst, ◌∙◌, inr, true, false, arith, map, string_bytes}
 use Rattle.std.proofs.lemmas.Result.{err_from_is_err_and}
 use Rattle.bench_net.specs.declared.number.StatedLine.{StatedLine}
 use Rattle.bench_net.specs.Text.{lines}
 use Rattle.bench_net.specs.Parsed.{names_of}
 use Rattle.bench_net.specs.Entries.{entries_of, HaveEntries}
 use Rattle.bench_net.specs.Numbering.{AreNumberedLines}
-use Rattle.std.specs.Result.{IfOk, MatchResult, IsErrAnd}
 use Rattle.bench_net.proofs.Assembled.{too_many_signals, too_many_sinks, redefined, undefined, all_utf8, assembled}
 use Rattle.bench_net.proofs.read.read_lines.Goals as goal
 
@@ -44,16 +43,10 @@ own_names-requires c =
     let read = shown c.args.text.now c.in_ok-read.read.items c.as_slice-stated.result.now c.as_slice-stated.ensures.value c.in_ok-read.ensures.ok in
     all_utf8 c.args.text.now c.as_slice-stated.result.now read (names_of c.in_ok-numbers.numbers.keys) c.in_ok-numbers.ensures.numbered
 
--- what an `Ok` says is kept where only the error changes
-kept : {T E F : Type 0} (P : T → Type 0) (Q : E → F → Type 0) (r : Result T E) (q : Result T F) (x : T) → IfOk r P → MatchResult r (λ y. q ≡ Ok y) (λ e. IsErrAnd q (Q e)) → q ≡ Ok x → P x
-kept P Q (Ok y) q x h same e = let p : y ≡ x = cc in subst P p h
-kept P Q (Err f) q x h same e = absurd (subst (λ z. IsErrAnd z (Q f)) e same)
-
 pub returns-clause-lines : goal.returns-clause-lines
 returns-clause-lines c =
     let stated = c.as_slice-stated.result.now in
     let read = shown c.args.text.now c.in_ok-read.read.items stated c.as_slice-stated.ensures.value c.in_ok-read.ensures.ok in
-    let at = kept (λ v. v.items ≡ map (λ line. line.number) stated) _ c.line_numbers.result c.map_err.result c.in_ok-at.at c.line_numbers.ensures c.map_err.ensures.cases c.in_ok-at.was in
     assembled c.args.text.now stated read (omega arith) (c.signals_fit.ensures.0 c.if-not-signals_fit.false) (c.sinks_fit.ensures.0 c.if-not-sinks_fit.false) c.in_ok-numbers.ensures.distinct
     (map string_bytes c.in_ok-names.names.items) (c.in_ok-names.ensures.named ∙ c.in_ok-numbers.ensures.numbered) c.in_ok-lines.lines.items c.in_ok-at.at.items
-    (subst (λ ns. AreNumberedLines ns stated c.in_ok-lines.lines.items) (sym c.in_ok-names.ensures.named) c.in_ok-lines.ensures.numbered) at
+    (subst (λ ns. AreNumberedLines ns stated c.in_ok-lines.lines.items) (sym c.in_ok-names.ensures.named) c.in_ok-lines.ensures.numbered) c.in_ok-at.ensures

@@ -1,4 +1,4 @@
-use Rattle.std.proofs.Common.{◌≡◌, ◌+◌, ◌==◌, map, rules, arith, ap, sym, ◌∙◌, subst, [], ◌∷◌, ◌++◌, true, is_ok}
+use Rattle.std.proofs.Common.{◌+◌, ◌==◌, map, rules, arith, ap, sym, subst, [], ◌∷◌, ◌++◌}
 use Rattle.std.proofs.lemmas.List.{length_push}
 use Rattle.std.proofs.lemmas.Iterator.Splits.{YieldsList-from_slice_split}
 use Rattle.std.proofs.lemmas.Iterator.Consumers.{YieldsList-turn, YieldsList-end, YieldsList-so_far}
@@ -18,11 +18,9 @@ loop-line-preserved-in-Ok-None c =
 pub loop-line-preserved : goal.loop-line-preserved
 loop-line-preserved c =
     let n = length_push c.loop-line.yielded c.in-Some.line in
-    let read = rw c.in-Ok-Some.field-0-is at c.in-Ok-Some.ensures in
-    let ok : is_ok c.push.result ≡ true = sym c.map_err.ensures.variant ∙ ap is_ok c.in_ok-map_err-in-Ok-Some.was in
-    let items = rw ok at c.push.ensures.items in (
+    let read = rw c.in-Ok-Some.field-0-is at c.in-Ok-Some.ensures in (
       omega arith,
-      subst (λ stated. HaveEntries (given (c.loop-line.yielded ++ c.in-Some.line ∷ [])) (entries_of stated)) (sym items)
+      subst (λ stated. HaveEntries (given (c.loop-line.yielded ++ c.in-Some.line ∷ [])) (entries_of stated)) (sym c.in_ok-push-in-Ok-Some.ensures.items)
           (given_one c.loop-line.yielded c.in-Some.line c.without_return.result.now c.loop-line.stated.items (c.loop-line.number + 1) c.in-Ok-Some.statement c.without_return.ensures c.loop-line.invariant.1 read (omega arith)),
     )
 

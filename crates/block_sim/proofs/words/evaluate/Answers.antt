@@ -1,11 +1,8 @@
-use Rattle.std.proofs.Common.{◌<◌, ◌≤◌, ◌∙◌, ap, arith, length}
-use Rattle.std.specs.Prelude.{sum_by, slice_index_or}
-use Rattle.std.proofs.lemmas.List.{length-set, take_all}
-use Rattle.std.proofs.lemmas.List.Sums.{sum_by_more}
+use Rattle.std.proofs.Common.{◌<◌, ◌≤◌, ◌∙◌, arith, length}
+use Rattle.std.specs.Prelude.{None, slice_index_or}
+use Rattle.std.proofs.lemmas.List.{length-set}
 use Rattle.bench_net.specs.Scan.{names}
-use Rattle.block_sim.specs.Parts.{gate_weight}
-use Rattle.block_sim.specs.Stuck.{fault_of}
-use Rattle.block_sim.proofs.LevelOrder.{order_within, order_weighs}
+use Rattle.block_sim.proofs.LevelOrder.{order_within}
 use Rattle.block_sim.proofs.Passed.{passed_more, passed_all}
 use Rattle.block_sim.proofs.words.evaluate.Goals as goal
 
@@ -24,23 +21,13 @@ loop-signal-preserved c =
     let order = c.in_level_order-order.result.now in
     let i = c.loop-signal.signal-index in
     let enough : length (names c.args.circuit.now) ≤ length c.loop-signal.words = omega (arith, c.loop-signal.invariant.room, c.requires.words) in
-    let more = sum_by_more (gate_weight c.args.circuit.now) order i 0 c.loop-signal-test.true in
     record {
-      passed = passed_more c.args.circuit.now c.args.tests.now.tests c.args.block (fault_of c.args.fault) order c.requires.circuit.well_formed c.in_level_order-order.ensures
-          c.loop-signal.words i c.signal_word-word.result enough c.loop-signal-test.true c.loop-signal.invariant.passed c.signal_word-word.ensures.equation;
+      passed = passed_more c.args.circuit.now c.args.tests.now.tests c.args.block None order c.requires.circuit.well_formed c.in_level_order-order.ensures
+          c.loop-signal.words i c.signal_word-word.result enough c.loop-signal-test.true c.loop-signal.invariant.passed c.signal_word-word.ensures;
       room = length-set c.loop-signal.words (slice_index_or order i 0) c.signal_word-word.result ∙ c.loop-signal.invariant.room;
-      grown = omega (arith, c.loop-signal.invariant.grown, c.signal_word-word.ensures.grown);
-      counted = omega (arith, more, c.loop-signal.invariant.counted, c.signal_word-word.ensures.counted);
     }
 
 pub returns-clause-words : goal.returns-clause-words
 returns-clause-words c =
-    passed_all c.args.circuit.now c.args.tests.now.tests c.args.block (fault_of c.args.fault) c.in_level_order-order.result.now c.requires.circuit.well_formed c.in_level_order-order.ensures
+    passed_all c.args.circuit.now c.args.tests.now.tests c.args.block None c.in_level_order-order.result.now c.requires.circuit.well_formed c.in_level_order-order.ensures
     c.loop-signal.words c.loop-signal.signal-index c.loop-signal-test.false c.loop-signal.invariant.passed
-
-pub returns-clause-counted : goal.returns-clause-counted
-returns-clause-counted c =
-    let order = c.in_level_order-order.result.now in
-    let whole = ap (sum_by (gate_weight c.args.circuit.now)) (take_all c.loop-signal.signal-index order c.loop-signal-test.false) in
-    let all = order_weighs c.args.circuit.now order c.in_level_order-order.ensures in
-    omega (arith, whole, all, c.loop-signal.invariant.counted)

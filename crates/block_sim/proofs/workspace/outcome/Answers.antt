@@ -1,69 +1,62 @@
-use Rattle.std.proofs.Common.{◌≡◌, ◌<◌, ◌≤◌, ℕ, ◌∙◌, ap, subst, sym, arith, length}
-use Rattle.std.specs.Prelude.{Some, map, slice_index_or, bit_and, bit_or, nat_lt}
+use Rattle.std.proofs.Common.{◌≡◌, ◌<◌, ℕ, ◌+◌, ◌*◌, sym, ◌∙◌, ap, subst, length, arith}
+use Rattle.std.specs.Prelude.{None, Option, bit_and, nat_lt, unwrap_or}
 use Rattle.std.specs.Bool.{Decides}
-use Rattle.std.proofs.lemmas.List.{length-map, get_or-map}
-use Rattle.bench_net.specs.declared.ScanCell.{ScanCell}
-use Rattle.bench_net.specs.Scan.{signal, outputs, cells}
-use Rattle.bench_net.specs.Circuit.{max_sinks}
-use Rattle.fault_model.specs.declared.Line.TheVariants as line
+use Rattle.bench_net.specs.Level.{HasLevel}
+use Rattle.fault_model.specs.Detection.{LooksBack}
+use Rattle.fault_model.specs.Fault.{Fault}
 use Rattle.patterns.specs.Tests.{size_of}
+use Rattle.block_sim.specs.Spreading.{AreShown}
+use Rattle.block_sim.specs.Stirred.{HasStirred}
 use Rattle.block_sim.specs.Stuck.{stuck_fault}
-use Rattle.block_sim.specs.Words.{lane, Differs}
-use Rattle.block_sim.proofs.Masked.{outputs_within, cells_within, outputs_few, cells_few, data_signals, masked_decide}
-use Rattle.block_sim.proofs.ShownApart.{outcome_of_lanes}
+use Rattle.block_sim.specs.Words.{lane, AreWords}
+use Rattle.block_sim.proofs.Deep.{level_within}
+use Rattle.block_sim.proofs.Finish.{outcome_of_shown}
+use Rattle.block_sim.proofs.Steps.{lanes_decide}
 use Rattle.block_sim.proofs.workspace.outcome.Goals as goal
 
-pub outputs_apart-outputs-requires-clause-outputs_in : goal.outputs_apart-outputs-requires-clause-outputs_in
-outputs_apart-outputs-requires-clause-outputs_in c =
-    let job = c.args.job.now in
-    let outs : c.outputs.result.now ≡ map (signal job.circuit) (outputs job.circuit) = c.outputs.ensures ∙ ap (λ x. map (signal x) (outputs x)) c.circuit-circuit.ensures.part in
-    subst (λ xs. (k d : ℕ) → k < length xs → slice_index_or xs k d < length c.fault_free-good.result.now) (sym outs)
-    (λ k d lt. let within = outputs_within job.circuit k d c.circuit-circuit.ensures.together.circuit.well_formed lt in omega (arith, within, c.fault_free-good.ensures.count))
+pub effect-seen-requires-clause-words : goal.effect-seen-requires-clause-words
+effect-seen-requires-clause-words c =
+    let tests = c.args.job.now.tests.tests in
+    (tests, c.args.block, subst (λ x. AreWords x tests c.args.block None c.fault_free.result.now) (sym c.circuit.ensures.part) c.fault_free.ensures.words)
 
-pub outputs_apart-outputs-requires-clause-few : goal.outputs_apart-outputs-requires-clause-few
-outputs_apart-outputs-requires-clause-few c =
-    let job = c.args.job.now in
-    let outs : c.outputs.result.now ≡ map (signal job.circuit) (outputs job.circuit) = c.outputs.ensures ∙ ap (λ x. map (signal x) (outputs x)) c.circuit-circuit.ensures.part in
-    subst (λ xs. length xs ≤ max_sinks) (sym outs) (outputs_few job.circuit c.circuit-circuit.ensures.together.circuit)
+pub effect-seen-requires-clause-levels : goal.effect-seen-requires-clause-levels
+effect-seen-requires-clause-levels c = λ g k h.
+    let circuit = c.args.job.now.circuit in
+    let le = level_within circuit g k c.circuit.ensures.together.circuit.well_formed (subst (λ x. HasLevel x g k) c.circuit.ensures.part h) in
+    let room : length c.workspace.inside.overlay ≡ c.args.workspace.now.signals = ap (λ r. r.signals) c.workspace.view_is in
+    omega (arith, le, room, c.requires.fits, c.workspace.invariant.levels)
 
-pub cells_apart-cells-requires-clause-cells_in : goal.cells_apart-cells-requires-clause-cells_in
-cells_apart-cells-requires-clause-cells_in c = λ k d lt.
+pub returns-clause-outcome : goal.returns-clause-outcome
+returns-clause-outcome c =
     let job = c.args.job.now in
-    let observed : map (λ (cell : ScanCell). cell.d) c.scan_cells.result.now ≡ map (λ cell. signal job.circuit cell.1) (cells job.circuit) =
-    data_signals c.circuit-circuit.result.now c.scan_cells.result.now c.scan_cells.ensures ∙ ap (λ x. map (λ cell. signal x cell.1) (cells x)) c.circuit-circuit.ensures.part in
-    let long = ap length observed in
-    let counted = length-map c.scan_cells.result.now (λ (cell : ScanCell). cell.d) in
-    let within = cells_within job.circuit k 0 c.circuit-circuit.ensures.together.circuit.well_formed (omega (arith, lt, long, counted)) in
-    let here = get_or-map (λ (cell : ScanCell). cell.d) c.scan_cells.result.now k d 0 lt in
-    let same = ap (λ xs. slice_index_or xs k 0) observed in
-    omega (arith, within, here, same, c.fault_free-good.ensures.count)
+    let well = c.circuit.ensures.together.circuit.well_formed in
+    let tests = job.tests.tests in
+    let block = c.args.block in
+    let fault = stuck_fault c.representative-fault.result in
+    let good = c.fault_free.result.now in
+    let lanes = bit_and c.lanes_below.result c.lanes_that_fit.result in
+    let size : c.size_of.result ≡ size_of (length tests) block = c.size_of.ensures ∙ ap (λ t. size_of (length t.tests) block) c.tests.ensures.part in
+    let decides : (k : ℕ) → k < 64 → Decides (lane lanes k) ((k < size_of (length tests) block) × LooksBack job.circuit tests fault.model fault.line fault.stuck (64 * block + k)) =
+    λ k lt. lanes_decide c.lanes_below.result c.lanes_that_fit.result (size_of (length tests) block) k (c.lanes_below.ensures k lt ∙ ap (nat_lt k) size) (c.lanes_that_fit.ensures k) in
+    let words : AreWords c.circuit.result.now tests block None good = subst (λ x. AreWords x tests block None good) (sym c.circuit.ensures.part) c.fault_free.ensures.words in
+    let shown : AreShown job.circuit tests block fault good lanes c.effect-seen.result = subst (λ x. AreShown x tests block fault good lanes c.effect-seen.result) c.circuit.ensures.part (c.effect-seen.ensures.shown tests block words) in
+    (fault, c.representative-fault.ensures.representative, outcome_of_shown job.circuit tests block fault good lanes c.effect-seen.result well c.fault_free.ensures.words decides shown c.least_lane.result c.least_lane.ensures)
 
-pub cells_apart-cells-requires-clause-few : goal.cells_apart-cells-requires-clause-few
-cells_apart-cells-requires-clause-few c =
+pub returns-clause-counted : goal.returns-clause-counted
+returns-clause-counted c = λ r gates at all.
     let job = c.args.job.now in
-    let observed : map (λ (cell : ScanCell). cell.d) c.scan_cells.result.now ≡ map (λ cell. signal job.circuit cell.1) (cells job.circuit) =
-    data_signals c.circuit-circuit.result.now c.scan_cells.result.now c.scan_cells.ensures ∙ ap (λ x. map (λ cell. signal x cell.1) (cells x)) c.circuit-circuit.ensures.part in
-    let long = ap length observed in
-    let counted = length-map c.scan_cells.result.now (λ (cell : ScanCell). cell.d) in
-    let few = cells_few job.circuit c.circuit-circuit.ensures.together.circuit in
-    omega (arith, long, counted, few)
-
-pub returns : goal.returns
-returns c =
-    let job = c.args.job.now in
-    let outs : c.outputs.result.now ≡ map (signal job.circuit) (outputs job.circuit) = c.outputs.ensures ∙ ap (λ x. map (signal x) (outputs x)) c.circuit-circuit.ensures.part in
-    let observed : map (λ (cell : ScanCell). cell.d) c.scan_cells.result.now ≡ map (λ cell. signal job.circuit cell.1) (cells job.circuit) =
-    data_signals c.circuit-circuit.result.now c.scan_cells.result.now c.scan_cells.ensures ∙ ap (λ x. map (λ cell. signal x cell.1) (cells x)) c.circuit-circuit.ensures.part in
-    let size : c.size_of.result ≡ size_of (length job.tests.tests) c.args.block = c.size_of.ensures ∙ ap (λ t. size_of (length t.tests) c.args.block) c.tests.ensures.part in
-    let good = c.fault_free-good.result.now in
-    let faulty = c.args.faulty.now in
-    let fault = Some (stuck_fault c.args.fault) in
-    let seen = bit_and (bit_or c.outputs_apart-outputs.result c.cells_apart-cells.result) c.lanes_below-lanes.result in
-    outcome_of_lanes job.circuit job.tests.tests c.args.block (stuck_fault c.args.fault) good faulty seen c.circuit-circuit.ensures.together.circuit.well_formed
-    c.fault_free-good.ensures.words c.requires.faulty
-    (λ k lt. masked_decide job.circuit fault good faulty k (size_of (length job.tests.tests) c.args.block) c.outputs.result.now (map (λ (cell : ScanCell). cell.d) c.scan_cells.result.now)
-    c.outputs_apart-outputs.result c.cells_apart-cells.result c.lanes_below-lanes.result outs observed (c.outputs_apart-outputs.ensures k lt)
-    (subst (λ n. Decides (lane c.cells_apart-cells.result k) (Differs line.Data fault (map (λ (cell : ScanCell). cell.d) c.scan_cells.result.now) good faulty k n))
-    (sym (length-map c.scan_cells.result.now (λ (cell : ScanCell). cell.d))) (c.cells_apart-cells.ensures k lt))
-    (c.lanes_below-lanes.ensures k lt ∙ ap (nat_lt k) size))
-    c.least_lane.result c.least_lane.ensures
+    let well = c.circuit.ensures.together.circuit.well_formed in
+    let tests = job.tests.tests in
+    let block = c.args.block in
+    let fault = stuck_fault c.representative-fault.result in
+    let good = c.fault_free.result.now in
+    let lanes = bit_and c.lanes_below.result c.lanes_that_fit.result in
+    let size : c.size_of.result ≡ size_of (length tests) block = c.size_of.ensures ∙ ap (λ t. size_of (length t.tests) block) c.tests.ensures.part in
+    let decides : (k : ℕ) → k < 64 → Decides (lane lanes k) ((k < size_of (length tests) block) × LooksBack job.circuit tests fault.model fault.line fault.stuck (64 * block + k)) =
+    λ k lt. lanes_decide c.lanes_below.result c.lanes_that_fit.result (size_of (length tests) block) k (c.lanes_below.ensures k lt ∙ ap (nat_lt k) size) (c.lanes_that_fit.ensures k) in
+    let words : AreWords c.circuit.result.now tests block None good = subst (λ x. AreWords x tests block None good) (sym c.circuit.ensures.part) c.fault_free.ensures.words in
+    let same : r ≡ fault = ap (λ (o : Option Fault). unwrap_or o r) (sym at ∙ c.representative-fault.ensures.representative) in
+    let stirred : HasStirred c.circuit.result.now tests block fault gates = subst (λ x. HasStirred x tests block fault gates) (sym c.circuit.ensures.part) (subst (λ x. HasStirred job.circuit tests block x gates) same all) in
+    let le = c.effect-seen.ensures.counted tests block gates words (λ k lt e. ((decides k lt).0 e).0) stirred in
+    let before : c.workspace.inside.evaluations ≡ c.args.workspace.now.evaluations = ap (λ x. x.evaluations) c.workspace.view_is in
+    omega (arith, le, before)

@@ -1,4 +1,5 @@
 use Rattle.std.proofs.Common.{◌≡◌, ℕ, ◌+◌, ◌*◌, ◌<◌, ◌≤◌, Some, None, arith, below_more}
+use Rattle.patterns.specs.Tests.{max_pieces}
 use Rattle.fault_ledger.specs.declared.PieceState.TheVariants.{Clear}
 use Rattle.fault_ledger.specs.declared.Status.TheVariants.{Settled, Waiting}
 use Rattle.fault_ledger.specs.History.{block_count}
@@ -15,7 +16,7 @@ pub overflow_add-result : goal.overflow_add-result
 overflow_add-result c =
     let m : c.loop-block.block < block_count c.args.shape = (let a = c.blocks-block-end.ensures in let b = c.loop-block-test.true in omega arith) in
     let small = shown-hit c.args.shape c.args.states.now c.args.class c.loop-block.block c.in-Hit.test c.requires.states c.requires.range m c.in-Hit.is in
-    let few : block_count c.args.shape ≤ 4194304 = few_blocks c.args.shape c.args.class c.requires.limits c.requires.range in
+    let few : block_count c.args.shape ≤ max_pieces = few_blocks c.args.shape c.args.class c.requires.limits c.requires.range in
     omega arith
 
 pub returns-in-Hit : goal.returns-in-Hit

@@ -5,6 +5,7 @@ use Rattle.bench_net.specs.Statement.{Statement}
 use Rattle.bench_net.specs.Level.{IsLevelOrder}
 use Rattle.bench_net.proofs.SignalsLists.{place_within}
 use Rattle.fault_model.specs.declared.Line.TheVariants as line
+use Rattle.fault_model.specs.declared.Model.{Model}
 use Rattle.fault_model.specs.Fault.{Fault, faults}
 use Rattle.fault_model.proofs.Listed.{stem_listed}
 use Rattle.fault_model.proofs.Levels.{in_order_named}
@@ -16,73 +17,77 @@ signal_at : (order : List ℕ) (place : ℕ) → 0 < place → place < length or
 signal_at order place some within = slice_get-get_or order (place - 1) 0 (omega (arith, some, within))
 
 -- the list has the faults on the stem of that signal
-stem_there : (c : List Statement) (order : List ℕ) (list : List Fault) (place : ℕ) (b : Bool) → IsLevelOrder c order → list ≡ faults c → 0 < place → place < length order + 1
-    → Contains list (record { line = line.Stem (get_or order (place - 1) 0); stuck = b })
-stem_there c order list place b is same some within =
+stem_there : (m : Model) (c : List Statement) (order : List ℕ) (list : List Fault) (place : ℕ) (b : Bool) → IsLevelOrder c order → list ≡ faults m c → 0 < place → place < length order + 1
+    → Contains list (record { model = m; line = line.Stem (get_or order (place - 1) 0); stuck = b })
+stem_there m c order list place b is same some within =
     let n = in_order_named c order (place - 1) (get_or order (place - 1) 0) is (signal_at order place some within) in
-    rw same (stem_listed c (get_or order (place - 1) 0) n.0 b n.1)
+    rw same (stem_listed m c (get_or order (place - 1) 0) n.0 b n.1)
 
 -- what is known from a place on is known from the place after the one before it on
-turned : (c : List Statement) (order before after : List ℕ) (place : ℕ) → 0 < place → StemsFrom c order place before after → StemsFrom c order (place - 1 + 1) before after
-turned c order before after place some from = let same : place ≡ place - 1 + 1 = omega (arith, some) in subst (λ k. StemsFrom c order k before after) same from
+turned : (m : Model) (c : List Statement) (order before after : List ℕ) (place : ℕ) → 0 < place → StemsFrom m c order place before after → StemsFrom m c order (place - 1 + 1) before after
+turned m c order before after place some from = let same : place ≡ place - 1 + 1 = omega (arith, some) in subst (λ k. StemsFrom m c order k before after) same from
 
 pub stem_fault-requires : goal.stem_fault-requires
 stem_fault-requires c =
-    stem_there c.args.circuit.now c.in_level_order-order.result.now c.args.list.now c.loop-place.place false c.in_level_order-order.ensures c.requires.same
+    stem_there c.args.list.now.model c.args.circuit.now c.in_level_order-order.result.now c.args.list.now.list c.loop-place.place false c.in_level_order-order.ensures c.requires.same
     (omega arith) (omega (arith, c.loop-place.auto.place, c.in_level_order-order.ensures.count, c.signals-place.ensures.count))
 
 pub follow-requires-clause-in_range : goal.follow-requires-clause-in_range
-follow-requires-clause-in_range c = place_within c.args.list.now c.stem_fault.result _ c.stem_fault.ensures
+follow-requires-clause-in_range c = place_within c.args.list.now.list c.stem_fault.result _ c.stem_fault.ensures
 
 pub follow-requires-clause-next : goal.follow-requires-clause-next
 follow-requires-clause-next c =
     let circuit = c.args.circuit.now in
+    let m = c.args.list.now.model in
     let order = c.in_level_order-order.result.now in
     let place = c.loop-place.place in
-    stem_next circuit order (place - 1) c.args.class_of.now c.loop-place.class_of (get_or order (place - 1) 0) c.stem_fault.result false c.signals-place.ensures.circuit.well_formed
-    c.in_level_order-order.ensures (turned circuit order c.args.class_of.now c.loop-place.class_of place (omega arith) c.loop-place.invariant)
+    stem_next m circuit order (place - 1) c.args.class_of.now c.loop-place.class_of (get_or order (place - 1) 0) c.stem_fault.result false c.signals-place.ensures.circuit.well_formed
+    c.in_level_order-order.ensures (turned m circuit order c.args.class_of.now c.loop-place.class_of place (omega arith) c.loop-place.invariant)
     (signal_at order place (omega arith) (omega (arith, c.loop-place.auto.place, c.in_level_order-order.ensures.count, c.signals-place.ensures.count)))
-    (subst (λ list. slice_get list c.stem_fault.result ≡ Some (record { line = line.Stem (get_or order (place - 1) 0); stuck = false })) c.requires.same c.stem_fault.ensures)
+    (subst (λ list. slice_get list c.stem_fault.result ≡ Some (record { model = m; line = line.Stem (get_or order (place - 1) 0); stuck = false })) c.requires.same c.stem_fault.ensures)
 
 pub stem_fault-requires-in-loop-place : goal.stem_fault-requires-in-loop-place
 stem_fault-requires-in-loop-place c =
-    stem_there c.args.circuit.now c.in_level_order-order.result.now c.args.list.now c.loop-place.place true c.in_level_order-order.ensures c.requires.same
+    stem_there c.args.list.now.model c.args.circuit.now c.in_level_order-order.result.now c.args.list.now.list c.loop-place.place true c.in_level_order-order.ensures c.requires.same
     (omega arith) (omega (arith, c.loop-place.auto.place, c.in_level_order-order.ensures.count, c.signals-place.ensures.count))
 
 pub follow-requires-in-loop-place-clause-in_range : goal.follow-requires-in-loop-place-clause-in_range
-follow-requires-in-loop-place-clause-in_range c = place_within c.args.list.now c.stem_fault-in-loop-place.result _ c.stem_fault-in-loop-place.ensures
+follow-requires-in-loop-place-clause-in_range c = place_within c.args.list.now.list c.stem_fault-in-loop-place.result _ c.stem_fault-in-loop-place.ensures
 
 pub follow-requires-in-loop-place-clause-next : goal.follow-requires-in-loop-place-clause-next
 follow-requires-in-loop-place-clause-next c =
     let circuit = c.args.circuit.now in
+    let m = c.args.list.now.model in
     let order = c.in_level_order-order.result.now in
     let place = c.loop-place.place in
-    stem_next circuit order (place - 1) c.args.class_of.now c.follow.new.class_of (get_or order (place - 1) 0) c.stem_fault-in-loop-place.result true c.signals-place.ensures.circuit.well_formed
+    stem_next m circuit order (place - 1) c.args.class_of.now c.follow.new.class_of (get_or order (place - 1) 0) c.stem_fault-in-loop-place.result true c.signals-place.ensures.circuit.well_formed
     c.in_level_order-order.ensures
-    (turned circuit order c.args.class_of.now c.follow.new.class_of place (omega arith)
-    (stems_kept circuit order place c.args.class_of.now c.loop-place.class_of c.follow.new.class_of c.loop-place.invariant c.follow.ensures.kept))
+    (turned m circuit order c.args.class_of.now c.follow.new.class_of place (omega arith)
+    (stems_kept m circuit order place c.args.class_of.now c.loop-place.class_of c.follow.new.class_of c.loop-place.invariant c.follow.ensures.kept))
     (signal_at order place (omega arith) (omega (arith, c.loop-place.auto.place, c.in_level_order-order.ensures.count, c.signals-place.ensures.count)))
-    (subst (λ list. slice_get list c.stem_fault-in-loop-place.result ≡ Some (record { line = line.Stem (get_or order (place - 1) 0); stuck = true })) c.requires.same c.stem_fault-in-loop-place.ensures)
+    (subst (λ list. slice_get list c.stem_fault-in-loop-place.result ≡ Some (record { model = m; line = line.Stem (get_or order (place - 1) 0); stuck = true })) c.requires.same c.stem_fault-in-loop-place.ensures)
 
 pub loop-place-preserved : goal.loop-place-preserved
 loop-place-preserved c =
     let circuit = c.args.circuit.now in
+    let m = c.args.list.now.model in
     let order = c.in_level_order-order.result.now in
     let place = c.loop-place.place in
     let last = c.follow-in-loop-place.new.class_of in
-    let first = stems_kept circuit order place c.args.class_of.now c.loop-place.class_of c.follow.new.class_of c.loop-place.invariant c.follow.ensures.kept in
-    let both = stems_kept circuit order place c.args.class_of.now c.follow.new.class_of last first c.follow-in-loop-place.ensures.kept in
-    stems_more circuit order (place - 1) c.args.class_of.now last (get_or order (place - 1) 0) c.stem_fault.result c.stem_fault-in-loop-place.result c.signals-place.ensures.circuit.well_formed
-    (turned circuit order c.args.class_of.now last place (omega arith) both)
+    let first = stems_kept m circuit order place c.args.class_of.now c.loop-place.class_of c.follow.new.class_of c.loop-place.invariant c.follow.ensures.kept in
+    let both = stems_kept m circuit order place c.args.class_of.now c.follow.new.class_of last first c.follow-in-loop-place.ensures.kept in
+    stems_more m circuit order (place - 1) c.args.class_of.now last (get_or order (place - 1) 0) c.stem_fault.result c.stem_fault-in-loop-place.result c.signals-place.ensures.circuit.well_formed
+    (turned m circuit order c.args.class_of.now last place (omega arith) both)
     (signal_at order place (omega arith) (omega (arith, c.loop-place.auto.place, c.in_level_order-order.ensures.count, c.signals-place.ensures.count)))
-    (subst (λ list. slice_get list c.stem_fault.result ≡ Some (record { line = line.Stem (get_or order (place - 1) 0); stuck = false })) c.requires.same c.stem_fault.ensures)
-    (subst (λ list. slice_get list c.stem_fault-in-loop-place.result ≡ Some (record { line = line.Stem (get_or order (place - 1) 0); stuck = true })) c.requires.same c.stem_fault-in-loop-place.ensures)
+    (subst (λ list. slice_get list c.stem_fault.result ≡ Some (record { model = m; line = line.Stem (get_or order (place - 1) 0); stuck = false })) c.requires.same c.stem_fault.ensures)
+    (subst (λ list. slice_get list c.stem_fault-in-loop-place.result ≡ Some (record { model = m; line = line.Stem (get_or order (place - 1) 0); stuck = true })) c.requires.same c.stem_fault-in-loop-place.ensures)
     (c.follow-in-loop-place.ensures.kept c.stem_fault.result c.follow.ensures.known) c.follow-in-loop-place.ensures.known
 
 pub returns-clause-stems : goal.returns-clause-stems
 returns-clause-stems c =
     let circuit = c.args.circuit.now in
+    let m = c.args.list.now.model in
     let order = c.in_level_order-order.result.now in
     let none : c.loop-place.place ≡ 0 = omega (arith, c.loop-place-test.false) in
-    stems_all circuit order c.args.class_of.now c.loop-place.class_of c.in_level_order-order.ensures
-    (subst (λ k. StemsFrom circuit order k c.args.class_of.now c.loop-place.class_of) none c.loop-place.invariant)
+    stems_all m circuit order c.args.class_of.now c.loop-place.class_of c.in_level_order-order.ensures
+    (subst (λ k. StemsFrom m circuit order k c.args.class_of.now c.loop-place.class_of) none c.loop-place.invariant)

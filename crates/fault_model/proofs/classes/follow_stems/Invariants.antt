@@ -2,4 +2,4 @@ use Rattle.fault_model.proofs.Stems.{StemsFrom}
 use Rattle.fault_model.proofs.classes.follow_stems.Given as goal
 
 abbrev pub invariant-loop-place : goal.invariant-loop-place
-invariant-loop-place l = StemsFrom l.circuit l.order l.place l.fn.class_of l.class_of
+invariant-loop-place l = StemsFrom l.list.model l.circuit l.order l.place l.fn.class_of l.class_of

@@ -1,5 +1,6 @@
 use Rattle.std.proofs.Common.{◌+◌, ◌%◌, ◌/◌, ◌<◌, ◌≤◌, Some, set, length, sym, ◌∙◌, subst, ap, arith}
 use Rattle.std.proofs.lemmas.Option.{slice_get_read}
+use Rattle.patterns.specs.Tests.{max_pieces}
 use Rattle.fault_ledger.specs.declared.Refusal.TheVariants.{Holding}
 use Rattle.fault_ledger.specs.declared.Claim.TheVariants as claim_is
 use Rattle.fault_ledger.specs.declared.Call.TheVariants as call
@@ -51,7 +52,7 @@ overflow_add-self c =
     let s = c.self.inside in
     let f = faced s.shape s.claimed s.holding.items s.states.items in
     let a = ledger-states f c.self.invariant in
-    let few : piece_count s.shape ≤ 4194304 = ledger-few f c.self.invariant in
+    let few : piece_count s.shape ≤ max_pieces = ledger-few f c.self.invariant in
     let b = c.len.ensures in
     let d = s.states.ok in
     let e = c.if-piece-len.false in

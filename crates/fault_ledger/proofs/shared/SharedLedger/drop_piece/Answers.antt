@@ -1,10 +1,10 @@
-use Rattle.std.proofs.Common.{◌≡◌, ◌<◌, false, ap, sym, ◌∙◌, subst}
+use Rattle.std.proofs.Common.{◌≡◌, ◌<◌, false, true≢false, refl, ap, sym, ◌∙◌, subst}
 use Rattle.fault_ledger.specs.declared.Event.{Event}
 use Rattle.fault_ledger.specs.declared.Reply.TheVariants.{Done}
-use Rattle.fault_ledger.specs.History.{History, ContinuesWithout, piece_count}
+use Rattle.fault_ledger.specs.History.{History, ContinuesWithout, block_of, piece_count}
 use Rattle.fault_ledger.specs.Answer.{has_earlier_hit}
 use Rattle.fault_ledger.specs.Seats.{Place, Sitter, FindsNoHit, Makes}
-use Rattle.fault_ledger.proofs.Sits.{seated_piece, seated_sees, held_sees, finds_nothing, makes_after}
+use Rattle.fault_ledger.proofs.Sits.{seated_piece, seated_same, seated_sees, held_sees, finds_nothing, makes_after}
 use Rattle.fault_ledger.proofs.shared.SharedLedger.drop_piece.Goals as goal
 
 pub finds_earlier_hit-requires-clause-piece : goal.finds_earlier_hit-requires-clause-piece
@@ -48,3 +48,18 @@ drop_piece-requires-clause-piece c =
     let i = c.seat.inside in
     let at : i.token.place ≡ c.self.inside.words = ap (λ (a : Sitter). a.place) c.seat.view_is ∙ c.requires ∙ sym c.self.view_is in
     subst (λ (p : Place). c.in-Some.piece < piece_count p.shape) at (seated_piece i.token i.worker i.told i.classes i.piece c.in-Some.piece c.seat.invariant c.in-Some.is)
+
+-- a seat that holds a piece of block 0 finds no hit, and stays
+pub returns-then-not-finds_earlier_hit-clause-block_zero : goal.returns-then-not-finds_earlier_hit-clause-block_zero
+returns-then-not-finds_earlier_hit-clause-block_zero c = λ piece holds first.
+    let i = c.seat.inside in
+    let same = seated_same i.token c.args.seat.now i.worker i.told i.classes i.piece c.in-Some.piece piece c.seat.invariant c.seat.view_is c.in-Some.is holds in
+    let none = c.finds_earlier_hit.ensures.block_zero (subst (λ p. block_of c.args.self.now.shape p ≡ 0) same first) in
+    (refl, none.1 ∙ c.seat.view_is)
+
+pub returns-clause-block_zero : goal.returns-clause-block_zero
+returns-clause-block_zero c = λ piece holds first.
+    let i = c.seat.inside in
+    let same = seated_same i.token c.args.seat.now i.worker i.told i.classes i.piece c.in-Some.piece piece c.seat.invariant c.seat.view_is c.in-Some.is holds in
+    let none = c.finds_earlier_hit.ensures.block_zero (subst (λ p. block_of c.args.self.now.shape p ≡ 0) same first) in
+    absurd (true≢false (sym c.if-not-finds_earlier_hit.false ∙ none.0))

@@ -1,4 +1,4 @@
-use Rattle.std.proofs.Common.{◌≡◌, ℕ, ◌/◌, ◌%◌, ◌<◌, true, false, sym, ap, ◌∙◌, subst, arith, below_more}
+use Rattle.std.proofs.Common.{◌≡◌, ℕ, ◌/◌, ◌%◌, ◌<◌, true, false, refl, sym, ap, ◌∙◌, subst, arith, below_more}
 use Rattle.fault_ledger.specs.declared.Shape.{Shape}
 use Rattle.fault_ledger.specs.History.{class_of, block_of, piece_at, entry}
 use Rattle.fault_ledger.specs.Answer.{is_hit, has_earlier_hit}
@@ -32,9 +32,25 @@ loop-block-preserved c =
     let none = subst (λ (x : Shape). is_hit (entry (piece_at x class n) d.seen) ≡ false) is (ap is_hit (sym c.look.ensures.state) ∙ not_hit c.look.result c.in_default.not-Hit) in
     record {
       sees = sees;
+      unmoved = λ e. absurd (omega arith);
       missed = below_more (λ k. is_hit (entry (piece_at c.args.self.now.shape class k) a.seen) ≡ false) n c.loop-block.invariant.missed
           (no_hit_before a.worker (piece_at c.args.self.now.shape class n) d.seen a.seen sees.newer none);
     }
+
+-- a piece of block 0 has no earlier block
+pub returns-in-Hit-clause-block_zero : goal.returns-in-Hit-clause-block_zero
+returns-in-Hit-clause-block_zero c = λ zero_block.
+    let is : c.self.inside.shape ≡ c.args.self.now.shape = sym c.self.invariant ∙ ap (λ (x : Place). x.shape) c.self.view_is in
+    let none = subst (λ (x : Shape). block_of x c.args.piece ≡ 0) (sym is) zero_block in
+    let l = c.loop-block-test.true in
+    absurd (omega arith)
+
+pub returns-clause-block_zero : goal.returns-clause-block_zero
+returns-clause-block_zero c = λ zero_block.
+    let is : c.self.inside.shape ≡ c.args.self.now.shape = sym c.self.invariant ∙ ap (λ (x : Place). x.shape) c.self.view_is in
+    let none = subst (λ (x : Shape). block_of x c.args.piece ≡ 0) (sym is) zero_block in
+    let l = c.loop-block.auto.block-end in
+    (refl, c.loop-block.invariant.unmoved (omega arith))
 
 pub returns-clause-missed : goal.returns-clause-missed
 returns-clause-missed c = λ _.

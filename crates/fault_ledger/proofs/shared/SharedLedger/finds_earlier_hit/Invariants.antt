@@ -7,5 +7,6 @@ use Rattle.fault_ledger.proofs.shared.SharedLedger.finds_earlier_hit.Given as go
 abbrev pub invariant-loop-block : goal.invariant-loop-block
 invariant-loop-block l = record {
   sees : Sees l.fn.token l.fn.token.told l.token;
+  unmoved : l.block ≡ 0 → l.token ≡ l.fn.token;
   missed : (k : ℕ) → k < l.block → is_hit (entry (piece_at l.self.shape l.class k) l.fn.token.seen) ≡ false;
 }

@@ -1,4 +1,5 @@
 use Rattle.std.proofs.Common.{◌≡◌, ◌≤◌, None, sym, ap, ◌∙◌, subst, arith, below_more}
+use Rattle.patterns.specs.Tests.{max_pieces}
 use Rattle.fault_ledger.specs.declared.Shape.{Shape}
 use Rattle.fault_ledger.specs.declared.PieceState.TheVariants.{Open, Clear, Hit, Skipped}
 use Rattle.fault_ledger.specs.History.{entry, piece_at, block_count}
@@ -18,7 +19,7 @@ loop-block-init c = record { sees = sees_same c.args.token.now c.requires.sitter
 pub overflow_mul-result : goal.overflow_mul-result
 overflow_mul-result c =
     let is : c.self.inside.shape ≡ c.args.self.now.shape = sym c.self.invariant ∙ ap (λ (x : Place). x.shape) c.self.view_is in
-    let few : block_count c.self.inside.shape ≤ 4194304 = subst (λ (x : Shape). block_count x ≤ 4194304) (sym is) (few_blocks c.args.self.now.shape c.args.class (subst (λ (x : Place). shape_fault x.shape ≡ None) c.requires.place c.requires.sitter.limits) c.requires.range) in
+    let few : block_count c.self.inside.shape ≤ max_pieces = subst (λ (x : Shape). block_count x ≤ max_pieces) (sym is) (few_blocks c.args.self.now.shape c.args.class (subst (λ (x : Place). shape_fault x.shape ≡ None) c.requires.place c.requires.sitter.limits) c.requires.range) in
     let e = c.blocks-block-end.ensures in
     let l = c.loop-block-test.true in
     omega arith
@@ -28,7 +29,7 @@ overflow_add-result c =
     let is : c.self.inside.shape ≡ c.args.self.now.shape = sym c.self.invariant ∙ ap (λ (x : Place). x.shape) c.self.view_is in
     let l = looks_at c.self.inside.shape c.args.self.now.shape c.args.class c.loop-block.block c.blocks-block-end.result c.args.token.now c.loop-block.token c.look.new.token (Hit c.in-Hit.test) is c.blocks-block-end.ensures c.loop-block-test.true c.loop-block.invariant.sees c.loop-block.invariant.clear c.look.ensures.seen (sym c.in-Hit.is ∙ c.look.ensures.state) in
     let s = c.args.self.now.shape in
-    let few : block_count s ≤ 4194304 = few_blocks s c.args.class (subst (λ (x : Place). shape_fault x.shape ≡ None) c.requires.place c.requires.sitter.limits) c.requires.range in
+    let few : block_count s ≤ max_pieces = few_blocks s c.args.class (subst (λ (x : Place). shape_fault x.shape ≡ None) c.requires.place c.requires.sitter.limits) c.requires.range in
     let small = legal_hit s (piece_at s c.args.class c.loop-block.block) c.in-Hit.test c.look.new.token.seen (subst (λ (x : Place). IsLegal x.shape c.look.new.token.seen) c.requires.place l.sees.legal) l.found in
     let w = l.within in
     omega arith

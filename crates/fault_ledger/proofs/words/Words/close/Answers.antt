@@ -1,4 +1,4 @@
-use Rattle.std.proofs.Common.{◌≡◌, ◌+◌, ◌-◌, map, slice_index, ap, ◌∙◌, subst, arith}
+use Rattle.std.proofs.Common.{◌≡◌, map, sym, ap, ◌∙◌, subst}
 use Rattle.std.proofs.lemmas.Result.{IfOk-weaker}
 use Rattle.std.specs.Mem.Slots.{slots_items}
 use Rattle.patterns.specs.Least.{below}
@@ -6,7 +6,7 @@ use Rattle.fault_ledger.specs.declared.Shape.{Shape}
 use Rattle.fault_ledger.specs.History.{History, ContinuesWithout, piece_count, states_of}
 use Rattle.fault_ledger.specs.Answer.{IsLegal}
 use Rattle.fault_ledger.specs.Seats.{Place}
-use Rattle.fault_ledger.specs.Words.{Crowd, ForEach, state_at}
+use Rattle.fault_ledger.specs.Words.{Crowd, ForEach, field_in, state_at}
 use Rattle.fault_ledger.proofs.Groups.{closes}
 use Rattle.fault_ledger.proofs.words.Words.close.Goals as goal
 
@@ -15,10 +15,10 @@ returns c =
     let s = c.self.inside.table.shared.key in
     let words = slots_items c.close_with-closed.result.words in
     let same : s ≡ c.args.self.shape = ap (λ (p : Place). p.shape) c.self.view_is in
-    let count : c.word_count-pieces.result - 1 ≡ piece_count s = (let n = c.self.invariant.0 in let m = c.word_count-pieces.ensures in omega arith) in
+    let count : c.args.pieces ≡ piece_count s = c.requires.pieces ∙ ap piece_count (sym same) in
     let posts = ap (λ (g : Crowd). g.posts) c.group.view_is in
     IfOk-weaker c.read_states-states.result _ _
     (λ states is.
     subst (λ (x : Shape). (h : History) × IsLegal x h × ForEach (λ p. ContinuesWithout p.worker h p.seen) c.args.group.posts × (states.items ≡ states_of x h)) same
-    (closes s _ _ c.args.group words _ states.items c.close_with-closed.ensures.values.2 posts (is ∙ ap (λ n. map (λ piece. state_at (slice_index words (piece + 1))) (below n)) count)))
+    (closes s _ _ c.args.group words _ states.items c.close_with-closed.ensures.values.2 posts (is ∙ ap (λ n. map (λ piece. state_at (field_in words piece)) (below n)) count)))
     c.read_states-states.ensures

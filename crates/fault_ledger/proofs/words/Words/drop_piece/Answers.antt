@@ -6,17 +6,18 @@ use Rattle.fault_ledger.proofs.Takes.{taken}
 use Rattle.fault_ledger.proofs.Steps.{drop_allowed, drop_done}
 use Rattle.fault_ledger.proofs.words.Words.drop_piece.Goals as goal
 
-pub store-requires : goal.store-requires
-store-requires c =
+pub fetch_or-requires : goal.fetch_or-requires
+fetch_or-requires c =
     let seat = c.into_seat-seat.result in
     let t = taken seat.me c.token.view_is c.token.invariant c.requires.place c.self.view_is c.replace.ensures.value c.into_seat-seat.ensures in
     let below : c.args.piece < piece_count c.self.inside.table.shared.key = subst (λ (p : Place). c.args.piece < piece_count p.shape) (sym c.self.view_is) c.requires.piece in
     let hit = subst (λ (p : Place). has_earlier_hit p.shape c.args.token.now.seen c.args.piece ≡ true) (sym c.self.view_is) c.requires.hit in
     let words = c.self.invariant in
-    (t.table_is, omega arith, drop_allowed t c.self.inside.table.shared.table_id.slots seat.id c.args.piece c.requires.held below hit)
+    let place = c.word_with.ensures in
+    (t.table_is, omega arith, drop_allowed t c.self.inside.table.shared.table_id.slots seat.id c.args.piece c.word_with.result c.in_field.result c.requires.held below hit place c.in_field.ensures)
 
 pub returns : goal.returns
 returns c =
     let seat = c.into_seat-seat.result in
     let t = taken seat.me c.token.view_is c.token.invariant c.requires.place c.self.view_is c.replace.ensures.value c.into_seat-seat.ensures in
-    drop_done t c.self.inside.table.shared.table_id.slots c.args.piece c.store.new.seat.me c.into_badge.result c.store.ensures.0 c.store.ensures.2 c.into_badge.ensures.0 c.into_badge.ensures.2
+    drop_done t c.self.inside.table.shared.table_id.slots c.word_with.result c.in_field.result c.fetch_or.result c.fetch_or.new.seat.me c.into_badge.result c.fetch_or.ensures.0 c.fetch_or.ensures.2 c.into_badge.ensures.0 c.into_badge.ensures.2

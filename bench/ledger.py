@@ -1,0 +1,70 @@
+#!/usr/bin/env python3
+"""Times what the ledgers take beside the simulation of the same pieces.
+
+    bench/ledger.py [--only WORD]
+
+It puts the crates and the program `ledger_times.rt.txt` into a temporary folder, builds the program with
+`rt run`, and runs it on circuits of generate.py with 65,536 tests, all of them 0 on every source: most
+classes are then clear on each of 1,024 blocks, and each drop that is tried looks at all earlier ones.
+"""
+
+import argparse
+import pathlib
+import shutil
+import subprocess
+import sys
+import tempfile
+
+HERE = pathlib.Path(__file__).resolve().parent
+CRATES = HERE.parent / "crates"
+TESTS = 65_536
+
+# what the program stands on, beside the lines of crates.txt
+PROGRAM = "ledger_times: bench_net fault_model patterns block_sim fault_ledger anyhow\n"
+
+# name, words for the circuit
+CASES = [
+    ("c17", "c17"),
+    ("ripple adder of 32 bits", "ripple 32"),
+    ("random circuit of 500 gates", "random --gates 500 --inputs 40 --outputs 20 --depth 20"),
+    ("16 x 16 multiplier of 2,352 gates", "mult 16"),
+]
+
+
+def generated(*words):
+    words = [sys.executable, str(HERE / "generate.py"), *words]
+    return subprocess.run(words, check=True, stdout=subprocess.PIPE).stdout
+
+
+def build(folder):
+    # rt takes no crate that lies outside the folder, so these are copies, with what was proved of them.
+    shutil.copytree(CRATES, folder / "crates")
+    home = folder / "crates" / "ledger_times"
+    (home / "src").mkdir(parents=True)
+    shutil.copy(HERE / "ledger_times.rt.txt", home / "src" / "main.rt")
+    (folder / "HANDLES").write_text((HERE.parent / "HANDLES").read_text())
+    (folder / "crates.txt").write_text((HERE.parent / "crates.txt").read_text() + PROGRAM)
+    subprocess.run(["rt", "run"], cwd=home, stdout=subprocess.DEVNULL, check=True)
+    return home / "out" / "ledger_times"
+
+
+def main():
+    parser = argparse.ArgumentParser(description=__doc__, formatter_class=argparse.RawDescriptionHelpFormatter)
+    parser.add_argument("--only", default="")
+    options = parser.parse_args()
+    with tempfile.TemporaryDirectory() as name:
+        folder = pathlib.Path(name)
+        program = build(folder)
+        for title, circuit in CASES:
+            if options.only not in title:
+                continue
+            bench = generated(*circuit.split())
+            width = sum(line.startswith((b"INPUT", b"input")) or b"= DFF" in line for line in bench.splitlines())
+            (folder / "bench").write_bytes(bench)
+            (folder / "tests").write_text(("0" * width + "\n") * TESTS)
+            print(f"{title}:", flush=True)
+            subprocess.run([str(program), str(folder / "bench"), str(folder / "tests")], check=True)
+
+
+if __name__ == "__main__":
+    main()

@@ -1,0 +1,106 @@
+-- The start of a simulation by events: after the first change, with its readers waiting, the invariant holds.
+use Rattle.std.proofs.Common.{◌≡◌, ◌≢◌, ◌<◌, ◌≤◌, ℕ, ◌+◌, refl, sym, ◌∙◌, ap, Bool, true, false, cond, List, [], ◌∷◌, length, arith, set, inl, inr, ◌⊎◌}
+use Rattle.std.specs.Prelude.{Some, None, count_by, slice_index_or, ◌==◌}
+use Rattle.std.proofs.lemmas.List.{get_or-set_same, get_or-set_other}
+use Rattle.std.proofs.lemmas.List.Sums.{sum_by-cons}
+use Rattle.std.proofs.lemmas.Bool.{cases_eq, false≢true, eqb-true}
+use Rattle.bench_net.specs.Statement.{Statement}
+use Rattle.bench_net.specs.Scan.{names, signal}
+use Rattle.bench_net.specs.Circuit.{IsWellFormed}
+use Rattle.bench_net.proofs.Members.{among}
+use Rattle.fault_model.specs.Fault.{Fault}
+use Rattle.fault_model.specs.Solution.{Test}
+use Rattle.block_sim.specs.Words.{lane, test_of, AreWords}
+use Rattle.block_sim.specs.Events.{bits_of, HasEquation, Reads, IsElsewhere, AreWoken}
+use Rattle.block_sim.specs.Spreading.{IsSpreading, IsBalanced, IsRightIn, ahead, is_ahead}
+use Rattle.block_sim.proofs.Lanes.{lane_zero}
+use Rattle.block_sim.proofs.Balanced.{balanced_first}
+use Rattle.block_sim.proofs.Ahead.{ahead_cases}
+use Rattle.block_sim.proofs.RightByNow.{right_by_now}
+
+abbrev weight : Bool → ℕ
+weight b = cond b 1 0
+
+apart : (a b : Bool) → (a ≡ true → b ≡ true → ⊥) → weight a + weight b ≤ 1
+apart true true h = absurd (h refl refl)
+apart true false h = omega arith
+apart false true h = omega arith
+apart false false h = omega arith
+
+count_apart : (p q : ℕ → Bool) (xs : List ℕ) → ((x : ℕ) → p x ≡ true → q x ≡ true → ⊥) → count_by p xs + count_by q xs ≤ length xs
+count_apart p q [] h = omega arith
+count_apart p q (x ∷ xs) h =
+    let a = sum_by-cons (λ y. weight (p y)) x xs in let b = sum_by-cons (λ y. weight (q y)) x xs in let w = apart (p x) (q x) (h x) in let rest = count_apart p q xs h in
+    omega (arith, a, b, w, rest)
+
+module _ (c : List Statement) (tests : List Test) (block : ℕ) (f : Fault) (good : List ℕ) (lanes : ℕ) (lv : ℕ → ℕ) (start : ℕ) (well : IsWellFormed c) (rises : (g s : ℕ) → Reads c g s → lv s < lv g)
+    (delta at after : List ℕ) (idle : (t : ℕ) → slice_index_or at t 0 ≡ 0) (woken : AreWoken c lv start at after) where
+  which : (r : ℕ) → slice_index_or after r 0 ≢ 0 → Reads c r start × (slice_index_or after r 0 ≡ lv r + 1)
+  which r ne = go (woken.only r)
+    where
+      go : (slice_index_or after r 0 ≡ slice_index_or at r 0) ⊎ (Reads c r start × (slice_index_or at r 0 ≡ 0) × (slice_index_or after r 0 ≡ lv r + 1)) → Reads c r start × (slice_index_or after r 0 ≡ lv r + 1)
+      go (inl e) = absurd (ne (e ∙ idle r))
+      go (inr h) = (h.0, h.2)
+
+  pub count_first : (gates : List ℕ) → ahead lv after (lv start) gates + count_by (λ g. g == start) gates ≤ length gates
+  count_first gates = count_apart (is_ahead lv after (lv start)) (λ g. g == start) gates (λ x a e. go x (eqb-true x start e) (ahead_cases lv after (lv start) x a))
+    where
+      go : (x : ℕ) → x ≡ start → (lv start < lv x) ⊎ (slice_index_or after x 0 ≢ 0) → ⊥
+      go x e (inl lt) = let same : lv x ≡ lv start = ap lv e in omega (arith, lt, same)
+      go x e (inr ne) = let up = rises x start (which x ne).0 in let same : lv x ≡ lv start = ap lv e in omega (arith, up, same)
+
+  pub spreading_first : (diff : ℕ) → AreWords c tests block None good → ((t : ℕ) → slice_index_or delta t 0 ≡ 0) → ((t : ℕ) → t ≢ start → IsElsewhere f t)
+      → ((k : ℕ) → k < 64 → lane lanes k ≡ true → HasEquation c (test_of tests block k) (Some f) (bits_of c good (set delta start diff) k) start)
+      → start < length delta → diff ≢ 0 → (k : ℕ) × (k < 64) × (lane diff k ≡ true) → ((k : ℕ) → k < 64 → lane diff k ≡ true → lane lanes k ≡ true)
+      → IsSpreading c tests block f good lanes lv start lanes (set delta start diff) after (lv start)
+  spreading_first diff words clear off holds within differs a_lane in_lanes = record {
+    balanced = balanced_now;
+    narrow = λ k lt e. e;
+    at_level = λ g ne. (which g ne).1;
+    not_below = not_below;
+    touched = λ g ne. (start, (which g ne).0, λ e. differs (sym new_at ∙ e));
+    waits_clear = λ g ne. kept g (λ e. let up = rises g start (which g ne).0 in let same : lv g ≡ lv start = ap lv e in omega (arith, up, same));
+    above_clear = λ g lt. kept g (λ e. let same : lv g ≡ lv start = ap lv e in omega (arith, lt, same));
+    after_start = λ s ne. from s ne (cases_eq s start);
+    inside = λ s k lt e. in_lanes k lt (at_start s k e (cases_eq s start)).1;
+    some = λ s ne. some s ne (cases_eq s start);
+    right = λ s k lt e. right s k lt (at_start s k e (cases_eq s start));
+  }
+    where
+      balanced_now : IsBalanced c tests block f good lanes (set delta start diff) after
+      balanced_now = balanced_first c tests block f good lanes lv delta at after start diff words clear off woken holds
+
+      not_below : (g : ℕ) → slice_index_or after g 0 ≢ 0 → lv start ≤ lv g
+      not_below g ne = let up = rises g start (which g ne).0 in omega (arith, up)
+
+      new_at : slice_index_or (set delta start diff) start 0 ≡ diff
+      new_at = get_or-set_same delta start diff 0 within
+
+      kept : (s : ℕ) → s ≢ start → slice_index_or (set delta start diff) s 0 ≡ 0
+      kept s ne = get_or-set_other delta start s diff 0 ne ∙ clear s
+
+      from : (s : ℕ) → slice_index_or (set delta start diff) s 0 ≢ 0 → (s ≡ start) ⊎ (s ≢ start) → lv start ≤ lv s
+      from s ne (inl e) = let same : lv s ≡ lv start = ap lv e in omega (arith, same)
+      from s ne (inr other) = absurd (ne (kept s other))
+
+      at_start : (s k : ℕ) → lane (slice_index_or (set delta start diff) s 0) k ≡ true → (s ≡ start) ⊎ (s ≢ start) → (s ≡ start) × (lane diff k ≡ true)
+      at_start s k e (inl same) = (same, ap (λ d. lane d k) (sym new_at) ∙ (ap (λ x. lane (slice_index_or (set delta start diff) x 0) k) (sym same) ∙ e))
+      at_start s k e (inr other) = absurd (false≢true (sym (lane_zero k) ∙ (ap (λ d. lane d k) (sym (kept s other)) ∙ e)))
+
+      some : (s : ℕ) → slice_index_or (set delta start diff) s 0 ≢ 0 → (s ≡ start) ⊎ (s ≢ start) → (k : ℕ) × (k < 64) × (lane (slice_index_or (set delta start diff) s 0) k ≡ true)
+      some s ne (inl same) = (a_lane.0, a_lane.1, ap (λ x. lane (slice_index_or (set delta start diff) x 0) a_lane.0) same ∙ (ap (λ d. lane d a_lane.0) new_at ∙ a_lane.2))
+      some s ne (inr other) = absurd (ne (kept s other))
+
+      idle_here : slice_index_or after start 0 ≡ 0
+      idle_here = go (woken.only start)
+        where
+          go : (slice_index_or after start 0 ≡ slice_index_or at start 0) ⊎ (Reads c start start × (slice_index_or at start 0 ≡ 0) × (slice_index_or after start 0 ≡ lv start + 1)) → slice_index_or after start 0 ≡ 0
+          go (inl e) = e ∙ idle start
+          go (inr r) = let up = rises start start r.0 in absurd (omega (arith, up))
+
+      right : (s k : ℕ) → k < 64 → (s ≡ start) × (lane diff k ≡ true) → IsRightIn c tests block f good (set delta start diff) s k
+      right s k lt e n v named number solves =
+          let is : signal c n ≡ start = number ∙ e.0 in
+          let low : lv (signal c n) ≡ lv start = ap lv is in
+          right_by_now c tests block f good lanes (set delta start diff) after balanced_now lv (lv start) well rises not_below k lt (in_lanes k lt e.1) v solves n (among (names c) n named)
+          (omega (arith, low)) (ap (λ x. slice_index_or after x 0) is ∙ idle_here)

@@ -1,0 +1,132 @@
+-- The fault-free words say whether a line has a bit under a test of their block.
+use Rattle.std.proofs.Common.{◌≡◌, ◌<◌, ◌+◌, ◌*◌, ◌-◌, ◌^◌, ◌&&◌, ◌⊎◌, inl, inr, min, not, ℕ, zero, suc, arith, length, refl, false, true, sym, ◌∙◌, ap, subst, Bool, List, w64}
+use Rattle.std.specs.Prelude.{◌↔◌, ◌==◌, Contains, [], Some, None, unwrap_or, slice_index_or, bit_and}
+use Rattle.std.specs.Int.{bit_not}
+use Rattle.std.specs.Bool.{Decides}
+use Rattle.std.proofs.lemmas.Bool.{false≢true}
+use Rattle.std.proofs.lemmas.Nat.Bits.{bit_at-suc}
+use Rattle.bench_net.specs.Statement.{Name, Statement}
+use Rattle.bench_net.specs.Scan.{names, signal}
+use Rattle.bench_net.specs.Circuit.{IsWellFormed}
+use Rattle.fault_model.specs.declared.Line.{Line}
+use Rattle.fault_model.specs.declared.Model.TheVariants.{Transition}
+use Rattle.fault_model.specs.Solution.{Test}
+use Rattle.fault_model.specs.Detection.{carried, HasBit, LooksBack}
+use Rattle.fault_model.proofs.Unique.{agree}
+use Rattle.bench_net.proofs.SignalsLists.{within_place}
+use Rattle.block_sim.proofs.Placed.{index_of}
+use Rattle.patterns.specs.Tests.{size_of}
+use Rattle.block_sim.specs.Words.{lane, lane_bits, test_of, AreWords}
+use Rattle.block_sim.proofs.Lanes.{lane_and, lane_not, lane_ones}
+
+pub lane_has_bit : (c : List Statement) (tests : List Test) (block k : ℕ) (row : List ℕ) (l : Line) (n : Name) (bit : Bool) → IsWellFormed c → AreWords c tests block None row → k < 64
+    → carried c l ≡ Some n → Contains (names c) n → (lane (slice_index_or row (signal c n) 0) k ≡ bit) ↔ HasBit c (test_of tests block k) l bit
+lane_has_bit c tests block k row l n bit well words lt at named = (there, back)
+  where
+    there : lane (slice_index_or row (signal c n) 0) k ≡ bit → HasBit c (test_of tests block k) l bit
+    there e = (lane_bits c row k, n, words k lt, at, e)
+
+    back : HasBit c (test_of tests block k) l bit → lane (slice_index_or row (signal c n) 0) k ≡ bit
+    back h =
+        let same : h.1 ≡ n = ap (λ o. unwrap_or o n) (sym h.3 ∙ at) in
+        let own : h.0 n ≡ bit = subst (λ x. h.0 x ≡ bit) same h.4 in
+        agree c (test_of tests block k) None (lane_bits c row k) h.0 well (words k lt) h.2 n named ∙ own
+
+and_false : (b : Bool) → (b && false) ≡ false
+and_false true = refl
+and_false false = refl
+
+and_true : (b : Bool) → (b && true) ≡ b
+and_true true = refl
+and_true false = refl
+
+-- all lanes but the first
+later_ones : (j : ℕ) → j < 63 → lane 18446744073709551614 (suc j) ≡ true
+later_ones j lt = ap (λ x. x == 1) (bit_at-suc 18446744073709551614 j) ∙ lane_ones 63 j lt
+
+-- the test before the one of a number, where there is one
+pub looks_at : (c : List Statement) (tests : List Test) (l : Line) (bit : Bool) (t j : ℕ) → suc t ≡ j → t < length tests
+    → HasBit c (slice_index_or tests t []) l bit ↔ LooksBack c tests Transition l bit j
+looks_at c tests l bit t j e lt = subst (λ i. HasBit c (slice_index_or tests t []) l bit ↔ LooksBack c tests Transition l bit i) e (there, back)
+  where
+    there : HasBit c (slice_index_or tests t []) l bit → LooksBack c tests Transition l bit (suc t)
+    there h = let at = within_place tests t lt in (at.0, at.1, subst (λ x. HasBit c x l bit) (index_of tests t at.0 [] at.1) h)
+
+    back : LooksBack c tests Transition l bit (suc t) → HasBit c (slice_index_or tests t []) l bit
+    back h = subst (λ x. HasBit c x l bit) (sym (index_of tests t h.0 [] h.1)) h.2
+
+-- the word of a signal one test earlier tells the bits of a line that carries it: lane k + 1 by lane k of the
+-- block, and lane 0 by the last lane of the block before
+pub bits_before : (c : List Statement) (tests : List Test) (block k t number up : ℕ) (l : Line) (n : Name) (bit : Bool) → IsWellFormed c → k < 64 → suc t ≡ 64 * block + k
+    → carried c l ≡ Some n → Contains (names c) n → number ≡ signal c n
+    → (here : List ℕ) → AreWords c tests block None here → ((j : ℕ) → j < 63 → lane up (suc j) ≡ lane (slice_index_or here number 0) j)
+    → ((b : ℕ) → suc b ≡ block → (row : List ℕ) × AreWords c tests b None row × (lane up 0 ≡ lane (slice_index_or row number 0) 63))
+    → (lane up k ≡ bit) ↔ HasBit c (slice_index_or tests t []) l bit
+bits_before c tests block (suc j) t number up l n bit well lt e at named is here words later first =
+    let lower : j < 63 = omega (arith, lt) in
+    let there : 64 * block + j ≡ t = omega (arith, e) in
+    let same : lane up (suc j) ≡ lane (slice_index_or here (signal c n) 0) j = later j lower ∙ ap (λ s. lane (slice_index_or here s 0) j) is in
+    let bits = lane_has_bit c tests block j here l n bit well words (omega (arith, lt)) at named in
+    subst (λ x. (lane up (suc j) ≡ bit) ↔ HasBit c (slice_index_or tests x []) l bit) there (λ h. bits.0 (sym same ∙ h), λ h. same ∙ bits.1 h)
+bits_before c tests zero zero t number up l n bit well lt e at named is here words later first = absurd (omega (arith, e))
+bits_before c tests (suc b) zero t number up l n bit well lt e at named is here words later first =
+    let last = first b refl in
+    let there : 64 * b + 63 ≡ t = omega (arith, e) in
+    let same : lane up 0 ≡ lane (slice_index_or last.0 (signal c n) 0) 63 = last.2 ∙ ap (λ s. lane (slice_index_or last.0 s 0) 63) is in
+    let bits = lane_has_bit c tests b 63 last.0 l n bit well last.1 (omega arith) at named in
+    subst (λ x. (lane up 0 ≡ bit) ↔ HasBit c (slice_index_or tests x []) l bit) there (λ h. bits.0 (sym same ∙ h), λ h. same ∙ bits.1 h)
+
+-- the lanes that fit are those with the bit that the line is slow to leave
+pub fits_where : (bit : Bool) (before fits k : ℕ) → before < 2 ^ 64 → k < 64 → ((bit ≡ true) × (fits ≡ before)) ⊎ ((bit ≡ false) × (fits ≡ bit_not w64 before))
+    → (lane fits k ≡ true) ↔ (lane before k ≡ bit)
+fits_where bit before fits k few lt (inl h) = (λ e. ap (λ x. lane x k) (sym h.1) ∙ (e ∙ sym h.0), λ e. ap (λ x. lane x k) h.1 ∙ (e ∙ h.0))
+fits_where bit before fits k few lt (inr h) = (λ e. turned (lane before k) (sym turn ∙ e) ∙ sym h.0, λ e. turn ∙ ap not (e ∙ h.0))
+  where
+    turn : lane fits k ≡ not (lane before k)
+    turn = ap (λ x. lane x k) h.1 ∙ lane_not before k few lt
+
+    turned : (b : Bool) → not b ≡ true → b ≡ false
+    turned false e = refl
+    turned true e = sym e
+
+module _ (c : List Statement) (tests : List Test) (block k before fits : ℕ) (l : Line) (bit : Bool) (in_block : k < size_of (length tests) block)
+    (told : (t : ℕ) → suc t ≡ 64 * block + k → (lane before k ≡ bit) ↔ HasBit c (slice_index_or tests t []) l bit)
+    (fit : (lane fits k ≡ true) ↔ (lane before k ≡ bit)) where
+  -- where there is a test before
+  fits_look_back : 0 < 64 * block + k → Decides (lane fits k) (LooksBack c tests Transition l bit (64 * block + k))
+  fits_look_back some = go (64 * block + k) refl some
+    where
+      go : (j : ℕ) → 64 * block + k ≡ j → 0 < j → Decides (lane fits k) (LooksBack c tests Transition l bit (64 * block + k))
+      go zero e lt = absurd (omega (arith, lt))
+      go (suc t) e lt =
+          let few : k < min 64 (length tests - 64 * block) = in_block in
+          let bits = told t (sym e) in
+          let looks = looks_at c tests l bit t (64 * block + k) (sym e) (omega (arith, few, e)) in
+          (λ h. looks.0 (bits.0 (fit.0 h)), λ h. fit.1 (bits.1 (looks.1 h)))
+
+  -- in the first block lane 0 has none
+  fits_look_back_first : block ≡ 0 → Decides (lane (bit_and fits 18446744073709551614) k) (LooksBack c tests Transition l bit (64 * block + k))
+  fits_look_back_first none = go k refl
+    where
+      masked : (b : Bool) → lane 18446744073709551614 k ≡ b → lane (bit_and fits 18446744073709551614) k ≡ (lane fits k && b)
+      masked b e = lane_and fits 18446744073709551614 k ∙ ap (λ x. lane fits k && x) e
+
+      go : (i : ℕ) → k ≡ i → Decides (lane (bit_and fits 18446744073709551614) k) (LooksBack c tests Transition l bit (64 * block + k))
+      go zero e =
+          let first : 64 * block + k ≡ 0 = omega (arith, none, e) in
+          let clear : lane (bit_and fits 18446744073709551614) k ≡ false = masked false (ap (lane 18446744073709551614) e) ∙ and_false (lane fits k) in
+          (λ h. absurd (false≢true (sym clear ∙ h)), λ h. absurd (subst (LooksBack c tests Transition l bit) first h))
+      go (suc j) e =
+          let few : k < min 64 (length tests - 64 * block) = in_block in
+          let same : lane (bit_and fits 18446744073709551614) k ≡ lane fits k = masked true (ap (lane 18446744073709551614) e ∙ later_ones j (omega (arith, few, e))) ∙ and_true (lane fits k) in
+          subst (λ b. Decides b (LooksBack c tests Transition l bit (64 * block + k))) (sym same) (fits_look_back (omega (arith, e)))
+
+  -- and the mask leaves out just this one
+  pub masked_look_back : (mask : ℕ) → ((block ≡ 0) × (mask ≡ 18446744073709551614)) ⊎ ((0 < block) × (mask ≡ 18446744073709551615))
+      → Decides (lane (bit_and fits mask) k) (LooksBack c tests Transition l bit (64 * block + k))
+  masked_look_back mask (inl h) = subst (λ x. Decides (lane (bit_and fits x) k) (LooksBack c tests Transition l bit (64 * block + k))) (sym h.1) (fits_look_back_first h.0)
+  masked_look_back mask (inr h) =
+      let few : k < min 64 (length tests - 64 * block) = in_block in
+      let same : lane (bit_and fits mask) k ≡ lane fits k =
+      lane_and fits mask k ∙ (ap (λ x. lane fits k && lane x k) h.1 ∙ (ap (λ x. lane fits k && x) (lane_ones 64 k (omega (arith, few))) ∙ and_true (lane fits k))) in
+      subst (λ b. Decides b (LooksBack c tests Transition l bit (64 * block + k))) (sym same) (fits_look_back (omega (arith, h.0)))

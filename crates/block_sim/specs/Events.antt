@@ -1,0 +1,49 @@
+-- Words that differ from the fault-free ones, and the equations of the signals one by one.
+use Rattle.std.specs.Prelude.{◌≡◌, ◌≢◌, ◌⊎◌, ℕ, ◌+◌, Bool, false, List, Contains, Option, Some, slice_get, slice_index_or}
+use Rattle.std.specs.Option.{option_map_or}
+use Rattle.bench_net.specs.declared.Kind.{Kind}
+use Rattle.bench_net.specs.declared.Sink.{Sink}
+use Rattle.bench_net.specs.Statement.{Name, Statement, Gate}
+use Rattle.bench_net.specs.Scan.{signal, name_of, sources, observers}
+use Rattle.fault_model.specs.declared.Line.TheVariants as line
+use Rattle.fault_model.specs.Fault.{Fault}
+use Rattle.fault_model.specs.Solution.{Test, under, value, pins_see}
+use Rattle.block_sim.specs.Words.{lane, overlaid}
+
+-- the bits of a lane
+abbrev pub bits_of : List Statement → List ℕ → List ℕ → ℕ → Name → Bool
+bits_of c good delta k n = lane (overlaid good delta (signal c n)) k
+
+-- the equation of one signal
+pub record HasEquation (c : List Statement) (t : Test) (f : Option Fault) (v : Name → Bool) (s : ℕ) : Type 0 where
+  pub source : (i : ℕ) (n : Name) → signal c n ≡ s → slice_get (sources c) i ≡ Some n → v n ≡ under f (line.Stem s) (slice_index_or t i false)
+  pub gate : (n : Name) (kind : Kind) (args : List Name) → signal c n ≡ s → Contains c (Gate n kind args) → v n ≡ under f (line.Stem s) (value kind (pins_see f v s args))
+
+-- the gate reads the signal
+pub record Reads (c : List Statement) (g s : ℕ) : Type 0 where
+  pub name : Name
+  pub kind : Kind
+  pub args : List Name
+  pub read : Name
+  pub gate : Contains c (Gate name kind args)
+  pub number : signal c name ≡ g
+  pub reads : Contains args read
+  pub of : signal c read ≡ s
+
+-- the fault is on no line that the equation of the signal reads or drives
+pub record IsElsewhere (f : Fault) (s : ℕ) : Type 0 where
+  pub stem : f.line ≢ line.Stem s
+  pub pin : (pin : ℕ) → f.line ≢ line.Pin s pin
+
+-- the level of a signal, by its number
+abbrev pub level_at : List Statement → (Name → ℕ) → ℕ → ℕ
+level_at c level s = option_map_or level (name_of c s) 0
+
+-- The readers of a signal wait, each at its level, and no other gate waits that did not.
+pub record AreWoken (c : List Statement) (lv : ℕ → ℕ) (s : ℕ) (before after : List ℕ) : Type 0 where
+  pub readers : (r : ℕ) → Reads c r s → slice_index_or after r 0 ≢ 0
+  pub only : (r : ℕ) → (slice_index_or after r 0 ≡ slice_index_or before r 0) ⊎ (Reads c r s × (slice_index_or before r 0 ≡ 0) × (slice_index_or after r 0 ≡ lv r + 1))
+
+-- an observer observes the signal
+abbrev pub IsObserved : List Statement → ℕ → Type 0
+IsObserved c s = (o : Sink × Name) × Contains (observers c) o × (signal c o.1 ≡ s)

@@ -1,0 +1,34 @@
+-- Which gates a fault stirs on a block: those that have to be looked at to know what the fault does.
+use Rattle.std.specs.Prelude.{◌≡◌, ◌≢◌, ℕ, ◌+◌, ◌*◌, ◌<◌, Bool, List, length, Contains, Some, None, slice_get}
+use Rattle.bench_net.specs.declared.Kind.{Kind}
+use Rattle.bench_net.specs.Statement.{Name, Statement, Gate}
+use Rattle.bench_net.specs.Scan.{signal}
+use Rattle.fault_model.specs.declared.Line.TheVariants as line
+use Rattle.fault_model.specs.Fault.{Fault}
+use Rattle.fault_model.specs.Solution.{Test, Solves, sees}
+use Rattle.patterns.specs.Tests.{size_of}
+
+-- Under a test some pin of the gate sees another bit with the fault than without it. Of a transition fault it is the line
+-- stuck at the fault's bit that counts.
+pub record IsStirredBy (c : List Statement) (t : Test) (f : Fault) (gate : ℕ) : Type 0 where
+  pub fault_free : Name → Bool
+  pub faulty : Name → Bool
+  pub name : Name
+  pub kind : Kind
+  pub args : List Name
+  pub pin : ℕ
+  pub read : Name
+  pub solves : Solves c t None fault_free
+  pub solves_faulty : Solves c t (Some f) faulty
+  pub stands : Contains c (Gate name kind args)
+  pub number : signal c name ≡ gate
+  pub at : slice_get args pin ≡ Some read
+  pub differs : sees None fault_free (line.Pin gate pin) read ≢ sees (Some f) faulty (line.Pin gate pin) read
+
+-- some test of the block stirs the gate
+abbrev pub IsStirred : List Statement → List Test → ℕ → Fault → ℕ → Type 0
+IsStirred c tests block f gate = (k : ℕ) × (t : Test) × (k < size_of (length tests) block) × (slice_get tests (64 * block + k) ≡ Some t) × IsStirredBy c t f gate
+
+-- the list names each gate that the fault stirs on the block
+abbrev pub HasStirred : List Statement → List Test → ℕ → Fault → List ℕ → Type 0
+HasStirred c tests block f gates = (gate : ℕ) → IsStirred c tests block f gate → Contains gates gate

@@ -1,0 +1,15 @@
+//! Worked cases of what stands below: circuits of bench texts, refused texts, faults and classes,
+//! test texts and order texts. A case is one row of a table; a test goes over its table. This crate
+//! has tests alone, so that the crates below, which are larger, are proved once.
+#![tactic(auto)]
+
+#[cfg(test)]
+mod circuits;
+#[cfg(test)]
+mod faults;
+#[cfg(test)]
+mod orders;
+#[cfg(test)]
+mod refusals;
+#[cfg(test)]
+mod rows;

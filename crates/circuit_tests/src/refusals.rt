@@ -1,0 +1,152 @@
+//! Bench texts that are refused, each with its fault.
+
+use crate::circuits::C17;
+use bench_net::{BenchFault, Limit, read_bench};
+use std::alloc::Global;
+use std::test::Fail;
+
+/// Texts whose fault is at this line, counted from 1, and is that the line is no statement.
+const NO_STATEMENTS: [(&[u8], u64); 22] = [
+    (b"INPUT(a", 1),
+    (b"INPUT(a)\nz = vdd\n", 2),
+    (b"INPUT(a)\nz = INV(a)\n", 2),
+    (b"INPUT(a)\nz = NOT(a, a)\n", 2),
+    (b"OUTPUT(z)\n)\n", 2),
+    (b"INPUT(a)\rINPUT(b)\n", 1),
+    (b"INPUT(a)\r\r\n", 1),
+    (b"INPUT(a\x80)\n", 1),
+    (b"INPUT(a)\nz = AND(a,)\n", 2),
+    (b"INPUT(a)\nz = AND()\n", 2),
+    (b"INPUT(a)\nz = AND(a a)\n", 2),
+    (b"INPUT(a)\nz = DFF(a, a)\n", 2),
+    (b"INPUT(a)\nz = BUF(a, a)\n", 2),
+    (b"INPUT(a, b)\n", 1),
+    (b"INPUT()\n", 1),
+    (b"INPUT(a) x\n", 1),
+    (b"z == NOT(a)\n", 1),
+    (b"INPUTS(a)\n", 1),
+    (b"INPUT(a)\n\nINPUT(b\nOUTPUT)\n", 3),
+    (b"z = NOT(a)(b)\n", 1),
+    (b"INPUT(a)\n\x7f\n", 2),
+    (b"INPUT(# a)\n", 1),
+];
+
+/// Texts with another fault.
+const OTHERS: [(&[u8], BenchFault); 17] = [
+    (b"INPUT(a)\nINPUT(a)\n", BenchFault::Redefined(2)),
+    (b"OUTPUT(x)\nINPUT(a)\nINPUT(a)\n", BenchFault::Redefined(3)),
+    (
+        b"INPUT(a)\nINPUT(b)\nb = NOT(a)\na = NOT(b)\n",
+        BenchFault::Redefined(3),
+    ),
+    (b"q = DFF(a)\n\nINPUT(q)\n", BenchFault::Redefined(3)),
+    (b"OUTPUT(z)\n", BenchFault::Undefined(1)),
+    (b"INPUT(a)\nOUTPUT(A)\n", BenchFault::Undefined(2)),
+    (
+        b"INPUT(a)\nz = AND(a, b)\nOUTPUT(c)\n",
+        BenchFault::Undefined(2),
+    ),
+    (b"INPUT(a)\n# b\n\nq = DFF(b)\n", BenchFault::Undefined(4)),
+    (b"OUTPUT(z)\n)\n", BenchFault::Syntax(2)),
+    (b"a = NOT(a)\nOUTPUT(x)\n", BenchFault::Undefined(2)),
+    (b"a = NOT(b)\nb = NOT(a)\n", BenchFault::Cycle(1)),
+    (
+        b"INPUT(a)\nb = NOT(c)\nc = AND(a, d)\nd = BUFF(c)\n",
+        BenchFault::Cycle(2),
+    ),
+    (
+        b"# a loop\n\nINPUT(c)\r\n\na = AND(b, c)\nb = NOT(a)\n",
+        BenchFault::Cycle(5),
+    ),
+    (b"", BenchFault::Empty),
+    (b"# x\n", BenchFault::Empty),
+    (b"# nothing\n", BenchFault::Empty),
+    (b"\r\n \t\n\r", BenchFault::Empty),
+];
+
+/// The refusal of a text, or none where it is accepted.
+fn refusal(alloc: Global, text: &[u8]) -> Option<BenchFault> {
+    read_bench(alloc, text).err()
+}
+
+#[test]
+fn faulty_texts_are_refused_by_name(rt: HostRuntime) {
+    for (text, line) in NO_STATEMENTS {
+        assert_eq!(rt; refusal(rt.alloc(), text), Some(BenchFault::Syntax(line)));
+    }
+    for (text, fault) in OTHERS {
+        assert_eq!(rt; refusal(rt.alloc(), text), Some(fault));
+    }
+}
+
+/// What a beginning of c17 is refused with: each of its 13 lines ends with its one `)`.
+fn refusal_of_beginning(text: &[u8]) -> Option<BenchFault> {
+    let whole = text.iter().filter(|byte| **byte == b')').count() as u64;
+    match text.last() {
+        None => Some(BenchFault::Empty),
+        Some(b')') | Some(b'\n') => match whole {
+            1..=5 | 13 => None,
+            6..=11 => Some(BenchFault::Undefined(6)),
+            _ => Some(BenchFault::Undefined(7)),
+        },
+        Some(_) => Some(BenchFault::Syntax(whole + 1)),
+    }
+}
+
+#[test]
+fn c17_cut_short_is_read_or_refused_by_name(rt: HostRuntime) {
+    for end in 0..=C17.len() {
+        let text = &C17[..end];
+        let want = refusal_of_beginning(text);
+        assert_eq!(rt; refusal(rt.alloc(), text), want, "the first {end} bytes");
+    }
+}
+
+#[test]
+fn limits_go_before_what_the_lines_say(rt: HostRuntime) -> Result<(), Fail> {
+    for (first, again, count, last, limit) in [
+        ("(", "((((((((((((((((", 1_048_576, "", Limit::Bytes),
+        ("", "INPUT(a)\n", 1_000_001, "", Limit::Signals),
+        ("a=OR(a", ",a", 4_000_000, ")", Limit::Sinks),
+    ] {
+        let mut text = String::from_str(rt.alloc(), first)?;
+        for _ in 0..count {
+            text.push_str(again)?;
+        }
+        text.push_str(last)?;
+        let want = Some(BenchFault::TooLarge(limit));
+        assert_eq!(rt; refusal(rt.alloc(), text.as_bytes()), want);
+    }
+    Ok(())
+}
+
+#[test]
+fn words_of_faults(rt: HostRuntime) -> Result<(), Fail> {
+    for (fault, words) in [
+        (
+            BenchFault::TooLarge(Limit::Bytes),
+            "bench: more than 16777216 bytes",
+        ),
+        (
+            BenchFault::TooLarge(Limit::Signals),
+            "bench: more than 1000000 signals",
+        ),
+        (
+            BenchFault::TooLarge(Limit::Sinks),
+            "bench: more than 4000000 sinks",
+        ),
+        (BenchFault::Syntax(3), "bench line 3: syntax"),
+        (
+            BenchFault::Redefined(4),
+            "bench line 4: name defined before",
+        ),
+        (BenchFault::Undefined(5), "bench line 5: name not defined"),
+        (BenchFault::Cycle(6), "bench line 6: cycle"),
+        (BenchFault::Empty, "bench: no signal"),
+        (BenchFault::Memory, "out of memory"),
+    ] {
+        let said = format!(in rt.alloc(); "{fault}")?;
+        assert_eq!(rt; said.as_str(), words);
+    }
+    Ok(())
+}

@@ -1,0 +1,108 @@
+//! The gates that wait to be evaluated, in one bucket a level.
+
+ghost use Rattle.std.specs.Prelude.{◌≡◌, ◌≢◌, ◌↔◌, ℕ, ◌+◌, ◌<◌, All, IfOk, IfSome, IfNone, IsTrue, length, slice_index_or, slice_set};
+
+use std::alloc::{AllocError, Global};
+use std::marker::Model;
+
+/// The gates that wait. A bucket is a chain of gates: its head and each gate's next are a gate's number
+/// and 1, or 0 at the end.
+#[derive(Drop)]
+pub struct Buckets {
+    /// For each gate 0, or the level at which it waits and 1.
+    at: Vec<u32>,
+    next: Vec<u32>,
+    heads: Vec<u32>,
+    waiting: usize,
+}
+
+impl Model for Buckets {
+    ghost use Rattle.std.specs.Prelude.{length};
+    ghost use Rattle.event_queue.specs.Buckets.{Waiting, AreBuckets};
+
+    ghost Value = { Waiting };
+
+    ghost view = { λ b. record { at = b.at.items; levels = length b.heads.items } };
+
+    ghost invariant = { λ b. AreBuckets b.at.items b.next.items b.heads.items b.waiting };
+}
+
+impl Buckets {
+    /// Empty buckets for this many gates and levels.
+    pub fn new(alloc: Global, gates: u32, levels: u32) -> Result<Buckets, AllocError>
+        ensures gates { IfOk result (λ b. length b.at ≡ gates) }
+        ensures levels { IfOk result (λ b. b.levels ≡ levels) }
+        ensures empty { IfOk result (λ b. All (λ at. at ≡ 0) b.at) }
+    {
+        let at = vec![in alloc; 0u32; gates as usize]?;
+        let next = vec![in alloc; 0u32; gates as usize]?;
+        let heads = vec![in alloc; 0u32; levels as usize]?;
+        Ok(Buckets {
+            at,
+            next,
+            heads,
+            waiting: 0,
+        })
+    }
+
+    /// The number of levels.
+    #[inline(always)]
+    pub fn levels(&self) -> u32
+        ensures { result ≡ self.now.levels }
+    {
+        self.heads.len() as u32
+    }
+
+    /// Whether no gate waits.
+    #[inline(always)]
+    pub fn is_empty(&self) -> bool
+        ensures { IsTrue result ↔ All (λ at. at ≡ 0) self.now.at }
+    {
+        self.waiting == 0
+    }
+
+    /// Whether a gate waits.
+    #[inline(always)]
+    pub fn waits(&self, gate: u32) -> bool
+        requires { gate < length self.now.at }
+        ensures { IsTrue result ↔ (slice_index_or self.now.at gate 0 ≢ 0) }
+    {
+        self.at[gate as usize] != 0
+    }
+
+    /// Lets a gate that did not wait do so, at a level.
+    #[inline(always)]
+    pub fn add(&mut self, gate: u32, level: u32)
+        requires gate { gate < length self.old.at }
+        requires level { level < self.old.levels }
+        requires idle { slice_index_or self.old.at gate 0 ≡ 0 }
+        ensures at { self.new.at ≡ slice_set self.old.at gate (level + 1) }
+        ensures levels { self.new.levels ≡ self.old.levels }
+    {
+        let head = self.heads[level as usize];
+        self.next[gate as usize] = head;
+        self.heads[level as usize] = gate + 1;
+        self.at[gate as usize] = level + 1;
+        self.waiting += 1;
+    }
+
+    /// Takes a gate that waits at a level; `None` where none does.
+    #[inline(always)]
+    pub fn take(&mut self, level: u32) -> Option<u32>
+        requires { level < self.old.levels }
+        ensures none { IfNone result ((self.new.at ≡ self.old.at) × ((gate : ℕ) → slice_index_or self.old.at gate 0 ≢ level + 1)) }
+        ensures some { IfSome result (λ gate. (gate < length self.old.at) × (slice_index_or self.old.at gate 0 ≡ level + 1) × (self.new.at ≡ slice_set self.old.at gate 0)) }
+        ensures levels { self.new.levels ≡ self.old.levels }
+    {
+        let head = self.heads[level as usize];
+        if head == 0 {
+            return None;
+        }
+        let gate = head - 1;
+        let next = self.next[gate as usize];
+        self.heads[level as usize] = next;
+        self.at[gate as usize] = 0;
+        self.waiting -= 1;
+        Some(gate)
+    }
+}

@@ -1,0 +1,112 @@
+-- Eight fields of eight bits in a word: an `or` of one field leaves the others.
+use Rattle.std.proofs.Common.{◌≡◌, ◌≢◌, ℕ, ◌+◌, ◌-◌, ◌*◌, ◌/◌, ◌%◌, ◌^◌, ◌<◌, ◌≤◌, bit_or, sym, ap, ◌∙◌, subst, arith, mod-eq_of_lt, mul_assoc, mul-div_cancel, pow-add, pow_pos, pow_mono, lt_of_lt_of_le, mul-lt-mul_of_pos_right, List, set, length, slice_index, get_or-set_same, get_or-set_other}
+use Rattle.std.proofs.Math.Nat.{div-eq_of_lt}
+use Rattle.std.proofs.lemmas.Nat.{or_shr, or_mod}
+use Rattle.std.specs.Int.Bits.{or_zero_l, or_zero_r}
+use native.Mathlib.Decide.{dec_lt, ℕ_discrete}
+use mathlib.Core.Logic.{dite}
+use Rattle.fault_ledger.specs.Words.{field, field_in, in_field, word_with}
+
+or_field : (n m j : ℕ) → field (bit_or n m) j ≡ bit_or (field n j) (field m j)
+or_field n m j =
+    ap (λ x. x % 2 ^ 8) (or_shr n m (8 * j)) ∙ or_mod (n / 2 ^ (8 * j)) (m / 2 ^ (8 * j)) 8
+
+here : (c i : ℕ) → c < 256 → field (c * 2 ^ (8 * i)) i ≡ c
+here c i l = ap (λ x. x % 2 ^ 8) (mul-div_cancel c (pow_pos (8 * i))) ∙ mod-eq_of_lt l
+
+whole : (x : ℕ) → x * 2 ^ 8 % 2 ^ 8 ≡ 0
+whole x = omega arith
+
+below : (c i j : ℕ) → j < i → field (c * 2 ^ (8 * i)) j ≡ 0
+below c i j l =
+    let k = i - (j + 1) in
+    let e : 8 * i ≡ (8 * k + 8) + 8 * j = omega arith in
+    let powers : 2 ^ ((8 * k + 8) + 8 * j) ≡ (2 ^ (8 * k) * 2 ^ 8) * 2 ^ (8 * j) =
+    pow-add 2 (8 * k + 8) (8 * j) ∙ ap (λ x. x * 2 ^ (8 * j)) (pow-add 2 (8 * k) 8) in
+    let p : c * 2 ^ (8 * i) ≡ ((c * 2 ^ (8 * k)) * 2 ^ 8) * 2 ^ (8 * j) =
+    ap (λ x. c * 2 ^ x) e
+    ∙ ap (λ x. c * x) powers
+    ∙ sym (mul_assoc c (2 ^ (8 * k) * 2 ^ 8) (2 ^ (8 * j)))
+    ∙ ap (λ x. x * 2 ^ (8 * j)) (sym (mul_assoc c (2 ^ (8 * k)) (2 ^ 8))) in
+    ap (λ x. field x j) p
+    ∙ ap (λ x. x % 2 ^ 8) (mul-div_cancel ((c * 2 ^ (8 * k)) * 2 ^ 8) (pow_pos (8 * j)))
+    ∙ whole (c * 2 ^ (8 * k))
+
+-- a field of which only the lowest bits are set is below the next
+pub under : (c i : ℕ) → c < 256 → c * 2 ^ (8 * i) < 2 ^ (8 + 8 * i)
+under c i l =
+    subst (λ x. c * 2 ^ (8 * i) < x) (sym (pow-add 2 8 (8 * i)))
+    (mul-lt-mul_of_pos_right l (pow_pos (8 * i)))
+
+above : (c i j : ℕ) → c < 256 → i < j → field (c * 2 ^ (8 * i)) j ≡ 0
+above c i j l k =
+    let d : 2 ^ (8 + 8 * i) ≤ 2 ^ (8 * j) = pow_mono (omega arith) in
+    ap (λ x. x % 2 ^ 8) (div-eq_of_lt (lt_of_lt_of_le (under c i l) d))
+
+-- a field that was 0 is c after an `or` with c there, and the others stay
+or_here : (n c i : ℕ) → c < 256 → field n i ≡ 0 → field (bit_or n (c * 2 ^ (8 * i))) i ≡ c
+or_here n c i l free =
+    or_field n (c * 2 ^ (8 * i)) i ∙ (λ k. bit_or (free k) (here c i l k)) ∙ or_zero_l c
+
+or_else : (n c i j : ℕ) → c < 256 → i ≢ j → field (bit_or n (c * 2 ^ (8 * i))) j ≡ field n j
+or_else n c i j l apart =
+    or_field n (c * 2 ^ (8 * i)) j
+    ∙ ap (bit_or (field n j)) (nothing (dec_lt i j))
+    ∙ or_zero_r (field n j)
+  where
+    nothing : Dec (i < j) → field (c * 2 ^ (8 * i)) j ≡ 0
+    nothing (yes k) = above c i j l k
+    nothing (no k) = below c i j (omega arith)
+
+-- the same word has the same in a piece's field
+pub same_field : (p a b : ℕ) → in_field p a ≡ in_field p b → a ≡ b
+same_field p a b e =
+    let positive = pow_pos (8 * (p % 8)) in
+    sym (mul-div_cancel a positive)
+    ∙ ap (λ x. x / 2 ^ (8 * (p % 8))) e
+    ∙ mul-div_cancel b positive
+
+-- the words after an `or` on the field of a piece
+abbrev pub marked_words : List ℕ → ℕ → ℕ → List ℕ
+marked_words words p c =
+    set words (word_with p) (bit_or (slice_index words (word_with p)) (in_field p c))
+
+-- the field of the piece itself, which was 0
+pub marked_here : (words : List ℕ) (p c : ℕ) → word_with p < length words → c < 256
+    → field_in words p ≡ 0 → field_in (marked_words words p c) p ≡ c
+marked_here words p c long small free =
+    let old = slice_index words (word_with p) in
+    let set_now = get_or-set_same words (word_with p) (bit_or old (in_field p c)) 0 long in
+    ap (λ n. field n (p % 8)) set_now ∙ or_here old c (p % 8) small free
+
+-- the fields of the others
+pub marked_else : (words : List ℕ) (p q c : ℕ) → word_with p < length words → c < 256 → p ≢ q
+    → field_in (marked_words words p c) q ≡ field_in words q
+marked_else words p q c long small apart = dite (ℕ_discrete (p / 8) (q / 8)) same_word other_word
+  where
+    new : ℕ
+    new = bit_or (slice_index words (word_with p)) (in_field p c)
+
+    now : List ℕ
+    now = set words (word_with p) new
+
+    same_word : p / 8 ≡ q / 8 → field_in now q ≡ field_in words q
+    same_word e =
+        let set_now = get_or-set_same words (word_with p) new 0 long in
+        let at : slice_index now (word_with q) ≡ new =
+        subst (λ x. slice_index now (x + 1) ≡ new) e set_now in
+        ap (λ x. field x (q % 8)) at
+        ∙ or_else (slice_index words (word_with p)) c (p % 8) (q % 8) small (λ r. apart (omega arith))
+        ∙ ap (λ x. field (slice_index words (x + 1)) (q % 8)) e
+
+    other_word : p / 8 ≢ q / 8 → field_in now q ≡ field_in words q
+    other_word m =
+        ap (λ x. field x (q % 8))
+        (get_or-set_other words (word_with p) (word_with q) new 0 (λ r. m (omega arith)))
+
+-- the cursor stays
+pub marked_cursor : (words : List ℕ) (p c : ℕ)
+    → slice_index (marked_words words p c) 0 ≡ slice_index words 0
+marked_cursor words p c =
+    let new = bit_or (slice_index words (word_with p)) (in_field p c) in
+    get_or-set_other words (word_with p) 0 new 0 (λ q. absurd (omega arith))

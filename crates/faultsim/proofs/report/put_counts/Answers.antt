@@ -1,6 +1,0 @@
-use Rattle.faultsim.proofs.Outputs.{writes_same}
-use Rattle.faultsim.proofs.Texts.{counts_text}
-use Rattle.faultsim.proofs.report.put_counts.Goals as goal
-
-pub returns : goal.returns
-returns g c = writes_same _ _ _ _ _ _ _ (counts_text c.args.faults c.args.classes c.format.result.now c.format-2.result.now c.format.ensures.text c.format-2.ensures.text) c.put_pieces.ensures

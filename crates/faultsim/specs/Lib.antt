@@ -1,4 +1,0 @@
-pub mod Output
-pub mod Verdict
-pub mod Report
-pub mod EndToEnd

@@ -1,0 +1,16 @@
+//! Tests of the fault ledger: cases of calls and replies, of seats that look and meet, and runs of
+//! workers in threads.
+//!
+//! They stand in a crate above it, since a crate with tests is proved a second time as a whole.
+#![tactic(auto)]
+
+#[cfg(test)]
+mod both_ledgers;
+#[cfg(test)]
+mod limits;
+#[cfg(test)]
+mod seats;
+#[cfg(test)]
+mod staffed;
+#[cfg(test)]
+mod threads;

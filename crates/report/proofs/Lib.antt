@@ -1,0 +1,5 @@
+pub mod Outputs
+pub mod Cells
+pub mod Texts
+pub mod Lines
+pub mod Accepted

@@ -1,0 +1,36 @@
+-- The pieces of a text make the text.
+use Rattle.std.proofs.Common.{◌≡◌, ◌<◌, ◌*◌, ◌/◌, ◌%◌, ℕ, List, [], ◌++◌, append_assoc, arith, refl}
+use Rattle.std.specs.Prelude.{codes, decimal}
+use Rattle.std.proofs.lemmas.Fmt.{decimal_digit}
+use Rattle.std.specs.Prelude.{Bool, IfSome, Some, slice_get}
+use Rattle.bench_net.specs.Statement.{Statement}
+use Rattle.fault_model.specs.declared.Line.{Line}
+use Rattle.fault_model.specs.declared.Model.{Model}
+use Rattle.fault_model.specs.Fault.{Fault, faults}
+use Rattle.report.specs.Report.{line_text, defect_text, fault_text, coverage_line}
+use Rattle.report.proofs.Lines.{model_known}
+
+-- a fault of the list by its line, its bit and the model of the list
+pub fault_by_parts : (m : Model) (c : List Statement) (fs : List Fault) (i : ℕ) (f : Fault) (l : Line) (bit : Bool) (said : List ℕ)
+    → fs ≡ faults m c → slice_get fs i ≡ Some f → IfSome (slice_get fs i) (λ f. l ≡ f.line) → IfSome (slice_get fs i) (λ f. bit ≡ f.stuck)
+    → said ≡ defect_text m bit → line_text c l ++ said ≡ fault_text c f
+fault_by_parts m c fs i f l bit said list at line_is bit_is said_is =
+    let own_line : l ≡ f.line = rw at at line_is in
+    let own_bit : bit ≡ f.stuck = rw at at bit_is in
+    let own_model : f.model ≡ m = model_known m c fs i f list at in
+    rw (said_is, own_line, own_bit, ← own_model) refl
+
+-- the coverage line from its numbers, given as texts
+pub coverage_text : (found total : ℕ) (a b whole tens ones : List ℕ) → a ≡ decimal found → b ≡ decimal total
+    → whole ≡ decimal (10000 * found / total / 100) → tens ≡ decimal (10000 * found / total % 100 / 10) → ones ≡ decimal (10000 * found / total % 100 % 10)
+    → a ++ (codes " of " ++ (b ++ (codes " (" ++ (whole ++ (codes "." ++ (tens ++ (ones ++ (codes "%)\n" ++ []))))))))
+    ≡ coverage_line found total
+coverage_text found total a b whole tens ones e f g h i =
+    let small : 10000 * found / total % 100 / 10 < 10 = omega arith in
+    let last : 10000 * found / total % 100 % 10 < 10 = omega arith in
+    rw (e, f, g, h, i, decimal_digit _ small, decimal_digit _ last) (simp append_assoc)
+
+-- the last line of the listing from its numbers, given as texts
+pub counts_text : (faults classes : ℕ) (a b : List ℕ) → a ≡ decimal faults → b ≡ decimal classes
+    → a ++ (codes " faults in " ++ (b ++ (codes " classes\n" ++ []))) ≡ decimal faults ++ codes " faults in " ++ decimal classes ++ codes " classes\n"
+counts_text faults classes a b e f = rw (e, f) (simp append_assoc)

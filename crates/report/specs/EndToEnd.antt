@@ -1,0 +1,122 @@
+-- From the bytes read to the bytes written.
+use Rattle.std.specs.Prelude.{◌≡◌, ◌⊎◌, ⊤, ℕ, ◌<◌, ◌≤◌, Bool, List, length, Option, Result, Ok, Err}
+use Rattle.bench_net.specs.declared.BenchFault.TheVariants as bench_fault
+use Rattle.bench_net.specs.Statement.{Statement}
+use Rattle.bench_net.specs.Scan.{sources}
+use Rattle.bench_net.specs.Circuit.{IsCircuit}
+use Rattle.bench_net.specs.Refusal.{IsAccepted, IsRefused}
+use Rattle.fault_model.specs.declared.Model.{Model}
+use Rattle.fault_model.specs.Collapse.{Collapsed, AreClassesOf}
+use Rattle.patterns.specs.declared.OrderFault.TheVariants as order_fault
+use Rattle.patterns.specs.declared.TestFault.TheVariants as test_fault
+use Rattle.patterns.specs.Order.{HasMoves, IsOrderRefusal}
+use Rattle.patterns.specs.Tests.{TestList, HasTests, IsTestList, IsTestRefusal, max_pieces}
+use Rattle.block_sim.specs.declared.job.JobFault.TheVariants as job_fault
+use Rattle.block_sim.specs.Parts.{Parts, BelongTogether, piece_count}
+use Rattle.workers.specs.declared.RunFault.TheVariants as run_fault
+use Rattle.workers.specs.Refused.{IsRunFault, IsScheduleFault}
+use Rattle.workers.specs.Verdict.{AreFirsts}
+use Rattle.report.specs.declared.text.SimFault.{SimFault}
+use Rattle.report.specs.declared.text.SimFault.TheVariants as fault
+use Rattle.report.specs.Output.{Output, TakesAll, TakesFront}
+use Rattle.report.specs.Report.{report, listing}
+
+-- the bytes are the report of a bench text and a test text under a model: each fault has the first test that detects it, or none
+abbrev pub IsReportOf : Model → List ℕ → List ℕ → Bool → List ℕ → Type 0
+IsReportOf m bench text list bytes = (c : List Statement) × (tests : TestList) × (firsts : List (Option ℕ)) × IsAccepted bench c
+    × HasTests text (length (sources c)) tests × AreFirsts m c tests.tests firsts × (bytes ≡ report m c firsts list)
+
+-- the bytes are the listing of a bench text under a model
+abbrev pub IsListingOf : Model → List ℕ → List ℕ → Type 0
+IsListingOf m bench bytes = (c : List Statement) × (classes : Collapsed) × IsAccepted bench c
+    × AreClassesOf m c classes × (bytes ≡ listing m c classes.class_of (length classes.representative))
+
+-- What a call wrote whose text is of this kind: the whole text, and nothing else; a beginning of it, where the
+-- output failed; or nothing, where anything else was refused.
+abbrev pub WritesOneOf : (List ℕ → Type 0) → Result (Unit {0}) SimFault → Output → Output → Type 0
+WritesOneOf IsText (Ok u) old new = (text : List ℕ) × IsText text × TakesAll old new text
+WritesOneOf IsText (Err (fault.Report f)) old new = (text : List ℕ) × IsText text × TakesFront old new text
+WritesOneOf IsText (Err _) old new = new ≡ old
+
+-- When each fault of the listing comes. Want of memory, and an output that takes nothing more, may come any time.
+abbrev pub IsListingFault : List ℕ → SimFault → Type 0
+IsListingFault bench (fault.Bench f) = (f ≡ bench_fault.Memory) ⊎ IsRefused bench f
+IsListingFault bench fault.Memory = ⊤
+IsListingFault bench (fault.Report f) = ⊤
+IsListingFault bench _ = ⊥
+
+-- the job of a bench text and a test text under a model: the circuit and the tests of the texts, with the circuit's faults and
+-- classes
+abbrev pub IsJobOf : Model → List ℕ → List ℕ → Parts → Type 0
+IsJobOf m bench text job = IsAccepted bench job.circuit × HasTests text (length (sources job.circuit)) job.tests × BelongTogether job
+    × (job.list.model ≡ m)
+
+-- the tests are tests for the circuit
+pub record AreTestsFor (c : List Statement) (list : TestList) : Type 0 where
+  pub circuit : IsCircuit c
+  pub tests : IsTestList list
+  pub width : list.width ≡ length (sources c)
+
+-- the job of a circuit and of tests under a model
+abbrev pub IsJobFor : Model → List Statement → TestList → Parts → Type 0
+IsJobFor m c tests job =
+    (job.circuit ≡ c) × (job.tests ≡ tests) × BelongTogether job × (job.list.model ≡ m)
+
+-- When the bench text or the test text is refused. The bench text is read first.
+abbrev pub IsInputFault : List ℕ → List ℕ → SimFault → Type 0
+IsInputFault bench text (fault.Bench f) = (f ≡ bench_fault.Memory) ⊎ IsRefused bench f
+IsInputFault bench text (fault.Tests f) = (c : List Statement) × IsAccepted bench c
+    × ((f ≡ test_fault.Memory) ⊎ IsTestRefusal text (length (sources c)) f)
+IsInputFault bench text _ = ⊥
+
+-- when no job is made of a circuit and of tests: for the number of pieces, or for want of memory
+abbrev pub IsPiecesFault : Model → List Statement → TestList → SimFault → Type 0
+IsPiecesFault m c tests (fault.Job f) = (f ≡ job_fault.Memory)
+    ⊎ ((job : Parts) × IsJobFor m c tests job × (max_pieces < piece_count job))
+IsPiecesFault m c tests fault.Memory = ⊤
+IsPiecesFault m c tests _ = ⊥
+
+-- When each fault of reading a job comes: the two texts are read, and then comes the number of
+-- pieces.
+abbrev pub IsJobFault : Model → List ℕ → List ℕ → SimFault → Type 0
+IsJobFault m bench text (fault.Job f) = (f ≡ job_fault.Memory)
+    ⊎ ((job : Parts) × IsJobOf m bench text job × (max_pieces < piece_count job))
+IsJobFault m bench text fault.Memory = ⊤
+IsJobFault m bench text f = IsInputFault bench text f
+
+-- the job of the texts, which hasn't too many pieces
+abbrev pub IsJobWithin : Model → List ℕ → List ℕ → Parts → Type 0
+IsJobWithin m bench text job = IsJobOf m bench text job × (piece_count job ≤ max_pieces)
+
+-- When each fault of the report comes: those of its job, then those of a run whose gate lets every
+-- piece pass, then an output that takes nothing more.
+abbrev pub IsReportFault : Model → List ℕ → List ℕ → ℕ → SimFault → Type 0
+IsReportFault m bench text workers (fault.Run f) =
+    (job : Parts) × IsJobWithin m bench text job × IsRunFault job workers ⊤ f
+IsReportFault m bench text workers (fault.Report f) =
+    (job : Parts) × IsJobWithin m bench text job × (0 < workers) × (workers ≤ 64)
+IsReportFault m bench text workers f = IsJobFault m bench text f
+
+-- the order text spells moves of so many workers
+abbrev pub HasSomeMoves : List ℕ → ℕ → Type 0
+HasSomeMoves order workers = (moves : List ℕ) × HasMoves order workers moves
+
+-- When each fault of the report of a schedule comes: those of the bench text and of the test text,
+-- then those of the order text, then those of the job, and then those of a run of moves that are
+-- all of workers of the run.
+abbrev pub IsScheduleTextFault : Model → List ℕ → List ℕ → List ℕ → ℕ → SimFault → Type 0
+IsScheduleTextFault m bench text order workers (fault.Order f) =
+    (c : List Statement) × (tests : TestList)
+    × IsAccepted bench c × HasTests text (length (sources c)) tests
+    × ((f ≡ order_fault.Memory) ⊎ IsOrderRefusal order workers f)
+IsScheduleTextFault m bench text order workers (fault.Job f) =
+    HasSomeMoves order workers × IsJobFault m bench text (fault.Job f)
+IsScheduleTextFault m bench text order workers fault.Memory = HasSomeMoves order workers
+IsScheduleTextFault m bench text order workers (fault.Run (run_fault.NoSuchMove index)) = ⊥
+IsScheduleTextFault m bench text order workers (fault.Run f) =
+    (job : Parts) × (moves : List ℕ) × IsJobWithin m bench text job
+    × HasMoves order workers moves × IsScheduleFault workers moves f
+IsScheduleTextFault m bench text order workers (fault.Report f) =
+    (job : Parts) × IsJobWithin m bench text job
+    × HasSomeMoves order workers × (0 < workers) × (workers ≤ 64)
+IsScheduleTextFault m bench text order workers f = IsInputFault bench text f

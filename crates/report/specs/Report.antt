@@ -1,0 +1,78 @@
+-- The texts of the report and of the listing.
+use Rattle.std.specs.Prelude.{⊤, ℕ, ◌<◌, ◌+◌, ◌*◌, ◌/◌, ◌%◌, Bool, true, false, List, [], ◌∷◌, ◌++◌, length, map, zip, flat_map, Option, Some, None, if◌then◌else◌, slice_get, unwrap_or, codes, decimal}
+use Rattle.bench_net.specs.Statement.{Statement}
+use Rattle.bench_net.specs.Scan.{names, name_of, cells}
+use Rattle.fault_model.specs.declared.Line.{Line}
+use Rattle.fault_model.specs.declared.Line.TheVariants.{Stem, Pin, Data, Out}
+use Rattle.fault_model.specs.declared.Model.{Model}
+use Rattle.fault_model.specs.declared.Model.TheVariants.{StuckAt, Transition}
+use Rattle.fault_model.specs.Fault.{Fault, faults}
+use Rattle.workers.specs.Verdict.{detected}
+
+-- the name of a signal, and of the cell of this number
+abbrev pub signal_text : List Statement → ℕ → List ℕ
+signal_text c s = unwrap_or (name_of c s) []
+
+abbrev pub cell_text : List Statement → ℕ → List ℕ
+cell_text c cell = unwrap_or (slice_get (map (λ qd. qd.0) (cells c)) cell) []
+
+-- a line: `stem NAME`, `pin GATE K`, `data Q` or `out J`, where K and J count from 1
+abbrev pub line_text : List Statement → Line → List ℕ
+line_text c (Stem s) = codes "stem " ++ signal_text c s
+line_text c (Pin gate pin) = codes "pin " ++ signal_text c gate ++ codes " " ++ decimal (pin + 1)
+line_text c (Data cell) = codes "data " ++ cell_text c cell
+line_text c (Out output) = codes "out " ++ decimal (output + 1)
+
+-- what is wrong with a line: it is stuck at 0 or at 1, slow to rise (to leave 0) or slow to fall (to leave 1)
+abbrev pub defect_text : Model → Bool → List ℕ
+defect_text StuckAt false = codes " sa0"
+defect_text StuckAt true = codes " sa1"
+defect_text Transition false = codes " str"
+defect_text Transition true = codes " stf"
+
+-- a fault: its line, and what is wrong with it
+abbrev pub fault_text : List Statement → Fault → List ℕ
+fault_text c f = line_text c f.line ++ defect_text f.model f.stuck
+
+-- the number of a test, or `none`
+abbrev pub first_text : Option ℕ → List ℕ
+first_text None = codes "none"
+first_text (Some t) = decimal t
+
+-- two decimal digits
+abbrev pub two_digits : ℕ → List ℕ
+two_digits n = (48 + n / 10) ∷ (48 + n % 10) ∷ []
+
+-- `D of T (P.PP%)`: with h = 10000 D div T, the whole part is h div 100 and the decimals are h mod 100
+abbrev pub coverage_line : ℕ → ℕ → List ℕ
+coverage_line found total =
+    let h : ℕ = 10000 * found / total in
+    decimal found ++ codes " of " ++ decimal total ++ codes " (" ++ decimal (h / 100) ++ codes "." ++ two_digits (h % 100) ++ codes "%)\n"
+
+-- a fault line: `FAULT FIRST`
+abbrev pub first_line : List Statement → Fault × Option ℕ → List ℕ
+first_line c at = fault_text c at.0 ++ (codes " " ++ first_text at.1 ++ codes "\n")
+
+-- the fault lines: one for each fault of a model in order
+abbrev pub fault_lines : Model → List Statement → List (Option ℕ) → List ℕ
+fault_lines m c firsts = flat_map (first_line c) (zip (faults m c) firsts)
+
+-- the report: the fault lines where they are asked for, and the coverage line
+abbrev pub report : Model → List Statement → List (Option ℕ) → Bool → List ℕ
+report m c firsts list = (if list then fault_lines m c firsts else []) ++ coverage_line (detected firsts) (length firsts)
+
+-- a line of the listing: `FAULT class N`
+abbrev pub class_line : List Statement → Fault × ℕ → List ℕ
+class_line c at = fault_text c at.0 ++ (codes " class " ++ decimal at.1 ++ codes "\n")
+
+-- the listing: a line for each fault in order, then `T faults in C classes`
+abbrev pub listing : Model → List Statement → List ℕ → ℕ → List ℕ
+listing m c class_of class_count =
+    flat_map (class_line c) (zip (faults m c) class_of) ++ (decimal (length (faults m c)) ++ codes " faults in " ++ decimal class_count ++ codes " classes\n")
+
+-- the line's numbers are those of signals, pins, cells and outputs that the circuit has, as far as its text needs them
+abbrev pub IsLineOf : List Statement → Line → Type 0
+IsLineOf c (Stem s) = s < length (names c)
+IsLineOf c (Pin gate pin) = gate < length (names c)
+IsLineOf c (Data cell) = cell < length (cells c)
+IsLineOf c (Out output) = ⊤

@@ -1,0 +1,19 @@
+//! From the bytes of a bench text and a test text to the bytes of the report, and to those of the listing.
+//!
+//! [`simulate_text`] tells which test of a list first detects each fault of a circuit, and the fault
+//! coverage, by workers in threads; [`schedule_text`] tells the same by one thread, which makes the
+//! moves of an order text. [`faults_text`] lists the faults with their classes. All write to an
+//! [`Out`], and their contracts say which bytes.
+#![tactic(auto)]
+
+mod output;
+mod report;
+mod text;
+
+pub use output::{Formatted, Out, OutFailed, Plain};
+pub use report::{ReportFault, write_listing, write_report};
+pub use text::{
+    SimFault, faults_text, faults_text_in, job_of, listing_bytes, report_bytes, schedule_text,
+    schedule_text_in, simulate_text, simulate_text_in,
+};
+pub use workers::RunFault;

@@ -1,0 +1,108 @@
+//! Where the program's bytes go.
+
+ghost use Rattle.std.specs.List.{flat_map};
+ghost use Rattle.std.specs.Prelude.{◌≡◌, ◌≤◌, IfOk, length};
+ghost use Rattle.std.specs.Io.KnownBytes.{WriteAppends};
+ghost use Rattle.report.specs.Output.{Output, fails_after, is_refusal, Writes};
+
+use std::fmt;
+use std::io::Write;
+use thiserror::Error;
+
+/// An output took nothing more.
+#[derive(Clone, Copy, Debug, PartialEq, Eq, Error)]
+#[error("cannot write")]
+pub struct OutFailed;
+
+/// Something that takes bytes, and counts how often it failed to.
+pub trait Out {
+    // The bytes that it has taken, where it tells them, and how many of its calls failed, or took nothing
+    // of a piece that isn't empty. The number stays at the greatest u64.
+    ghost seen: { Self → Output };
+
+    /// Takes a front part of the piece and says how long it is; an error took nothing.
+    fn put(&mut self, piece: &[u8]) -> Result<usize, OutFailed>
+        ensures within { IfOk result (λ n. n ≤ length piece.now) }
+        ensures taken { WriteAppends (seen self.old).bytes (seen self.new).bytes result piece.now }
+        ensures counted { (seen self.new).fails
+            ≡ fails_after (seen self.old).fails (is_refusal result piece.now) };
+}
+
+/// The output over a writer of std, by one `write` a call. It tells the bytes that the writer tells: over
+/// a vector, those that the vector holds.
+#[derive(Drop)]
+pub struct Plain<W> {
+    writer: W,
+    fails: u64,
+}
+
+impl<W: Write> Plain<W> {
+    /// An output over a writer, which has not failed yet.
+    pub fn new(writer: W) -> Self
+        ensures writer { result.writer ≡ writer }
+        ensures fresh { result.fails ≡ 0 }
+    {
+        Plain { writer, fails: 0 }
+    }
+
+    /// The writer.
+    pub fn into_writer(self) -> W
+        ensures { result ≡ self.writer }
+    {
+        let Plain { writer, fails: _ } = self;
+        writer
+    }
+}
+
+impl<W: Write> Out for Plain<W> {
+    ghost seen = { λ p. record { bytes = W.contents p.writer; fails = p.fails } };
+
+    fn put(&mut self, piece: &[u8]) -> Result<usize, OutFailed> {
+        match self.writer.write(piece) {
+            Ok(n) if n > 0 || piece.is_empty() => Ok(n),
+            Ok(n) => {
+                self.fails = self.fails.saturating_add(1);
+                Ok(n)
+            }
+            Err(_) => {
+                self.fails = self.fails.saturating_add(1);
+                Err(OutFailed)
+            }
+        }
+    }
+}
+
+/// Puts the whole piece, in as many calls as the output needs. A call that takes nothing is a failure.
+pub fn put_all<W: Out>(piece: &[u8], out: &mut W) -> Result<(), OutFailed>
+    ensures { Writes result (W.seen out.old) (W.seen out.new) piece.now }
+{
+    let mut rest = piece;
+    while !rest.is_empty() {
+        let taken = out.put(rest)?;
+        if taken == 0 {
+            return Err(OutFailed);
+        }
+        rest = &rest[taken..];
+    }
+    Ok(())
+}
+
+/// Puts pieces of text, one after another.
+pub fn put_pieces<W: Out>(pieces: &[&str], out: &mut W) -> Result<(), OutFailed>
+    ensures { Writes result (W.seen out.old) (W.seen out.new) (flat_map (λ p. p.now) pieces.now) }
+{
+    for piece in pieces {
+        put_all(piece.as_bytes(), out)?;
+    }
+    Ok(())
+}
+
+/// An output as a writer of formatted text.
+#[derive(Drop)]
+pub struct Formatted<'a, W>(pub &'a mut W);
+
+impl<W: Out> fmt::Write for Formatted<'_, W> {
+    fn write_str(&mut self, s: &str) -> fmt::Result {
+        put_all(s.as_bytes(), self.0).map_err(|_| fmt::Error)
+    }
+}

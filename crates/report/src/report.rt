@@ -1,0 +1,302 @@
+//! The texts that the program writes: the report of a run, and the listing of faults and classes.
+
+ghost use Rattle.std.specs.Prelude.{◌≡◌, ◌<◌, ◌++◌, codes, length, slice_get, Some, zip, decimal};
+ghost use Rattle.std.specs.List.{flat_map};
+ghost use Rattle.bench_net.specs.Scan.{cells};
+ghost use Rattle.fault_model.specs.Fault.{Fault, faults};
+ghost use Rattle.fault_model.specs.Collapse.{AreClassesOf};
+ghost use Rattle.report.specs.Output.{Writes};
+ghost use Rattle.report.specs.Report.{IsLineOf, cell_text, first_line, class_line, line_text, defect_text, fault_text, fault_lines, coverage_line, report, listing};
+
+use crate::output::{Out, OutFailed, put_pieces};
+use bench_net::Circuit;
+use block_sim::Job;
+use fault_model::{Classes, Faults, Line, Model};
+use itoa::Buffer;
+use thiserror::Error;
+use workers::Verdicts;
+
+/// Writes a line of another kind than a pin, and what is said of it: the kind, its name or number, the rest.
+fn put_named<'a, W: Out>(
+    kind: &'a str,
+    name: &'a str,
+    said: &'a str,
+    out: &mut W,
+) -> Result<(), OutFailed>
+    ensures { Writes result (W.seen out.old) (W.seen out.new)
+        (kind.now ++ name.now ++ said.now) }
+{
+    put_pieces(&[kind, name, said], out)
+}
+
+/// Writes a pin, given the gate's name and the pin's place, from 1, and what is said of it.
+fn put_pin<'a, W: Out>(
+    gate: &'a str,
+    place: &'a str,
+    said: &'a str,
+    out: &mut W,
+) -> Result<(), OutFailed>
+    ensures { Writes result (W.seen out.old) (W.seen out.new)
+        (codes "pin " ++ gate.now ++ codes " " ++ place.now ++ said.now) }
+{
+    put_pieces(&["pin ", gate, " ", place, said], out)
+}
+
+/// The name of the signal that a cell drives. Cells count from 0.
+fn cell_name(circuit: &Circuit, cell: u32) -> &str
+    requires { cell < length (cells circuit.now) }
+    ensures { result.now ≡ cell_text circuit.now cell }
+{
+    circuit.name_of(circuit.scan_cells()[cell as usize].q)
+}
+
+/// What is wrong with a line, by the model of its fault and the bit.
+fn defect(model: Model, bit: bool) -> &'static str
+    ensures { result.now ≡ defect_text model bit }
+{
+    match (model, bit) {
+        (Model::StuckAt, false) => " sa0",
+        (Model::StuckAt, true) => " sa1",
+        (Model::Transition, false) => " str",
+        (Model::Transition, true) => " stf",
+    }
+}
+
+/// Writes a line of the circuit, and what is said of it. Pins and OUTPUT lines count from 1 in the text.
+fn put_line<'a, W: Out>(
+    circuit: &Circuit,
+    line: Line,
+    said: &'a str,
+    out: &mut W,
+) -> Result<(), OutFailed>
+    requires { IsLineOf circuit.now line }
+    ensures { Writes result (W.seen out.old) (W.seen out.new)
+        (line_text circuit.now line ++ said.now) }
+{
+    let mut number = Buffer::new();
+    match line {
+        Line::Stem(signal) => put_named("stem ", circuit.name_of(signal), said, out),
+        Line::Pin { gate, pin } => {
+            let place = number.format(u64::from(pin) + 1);
+            put_pin(circuit.name_of(gate), place, said, out)
+        }
+        Line::Data { cell } => put_named("data ", cell_name(circuit, cell), said, out),
+        Line::Out { output } => {
+            let place = number.format(u64::from(output) + 1);
+            put_named("out ", place, said, out)
+        }
+    }
+}
+
+/// Writes a fault: its line, and what is wrong with it.
+fn put_fault<W: Out>(
+    circuit: &Circuit,
+    list: &Faults,
+    fault: u32,
+    out: &mut W,
+) -> Result<(), OutFailed>
+    requires list { list.now.list ≡ faults list.now.model circuit.now }
+    requires in_range { fault < length list.now.list }
+    ensures { (f : Fault) → slice_get list.now.list fault ≡ Some f
+        → Writes result (W.seen out.old) (W.seen out.new) (fault_text circuit.now f) }
+{
+    let said = defect(list.model(), list.stuck_of(fault));
+    put_line(circuit, list.line_of(fault), said, out)
+}
+
+/// Writes the coverage line, `D of T (P.PP%)`: the percentage is cut off after two decimals.
+fn put_coverage<W: Out>(detected: u32, total: u32, out: &mut W) -> Result<(), OutFailed>
+    requires { 0 < total }
+    ensures { Writes result (W.seen out.old) (W.seen out.new) (coverage_line detected total) }
+{
+    let hundredths = 10_000 * u64::from(detected) / u64::from(total);
+    let decimals = hundredths % 100;
+    let mut found = Buffer::new();
+    let mut all = Buffer::new();
+    let mut whole = Buffer::new();
+    let mut tens = Buffer::new();
+    let mut ones = Buffer::new();
+    let pieces = [
+        found.format(detected),
+        " of ",
+        all.format(total),
+        " (",
+        whole.format(hundredths / 100),
+        ".",
+        tens.format(decimals / 10),
+        ones.format(decimals % 10),
+        "%)\n",
+    ];
+    put_pieces(&pieces, out)
+}
+
+/// Writes a line of the report or of the listing: a fault, and what is said of it.
+fn put_fault_line<'a, W: Out>(
+    circuit: &Circuit,
+    list: &Faults,
+    fault: u32,
+    before: &'a str,
+    said: &'a str,
+    out: &mut W,
+) -> Result<(), OutFailed>
+    requires list { list.now.list ≡ faults list.now.model circuit.now }
+    requires in_range { fault < length list.now.list }
+    ensures { (f : Fault) → slice_get list.now.list fault ≡ Some f
+        → Writes result (W.seen out.old) (W.seen out.new)
+        (fault_text circuit.now f ++ (before.now ++ said.now ++ codes "\n")) }
+{
+    put_fault(circuit, list, fault, out)?;
+    put_named(before, said, "\n", out)
+}
+
+/// Writes the line of the report for a fault: the fault, and the first test that detects it or `none`.
+fn put_first_line<W: Out>(
+    circuit: &Circuit,
+    list: &Faults,
+    fault: u32,
+    first: Option<u32>,
+    out: &mut W,
+) -> Result<(), OutFailed>
+    requires list { list.now.list ≡ faults list.now.model circuit.now }
+    requires in_range { fault < length list.now.list }
+    ensures { (f : Fault) → slice_get list.now.list fault ≡ Some f
+        → Writes result (W.seen out.old) (W.seen out.new) (first_line circuit.now (f, first)) }
+{
+    match first {
+        Some(test) => {
+            let mut number = Buffer::new();
+            put_fault_line(circuit, list, fault, " ", number.format(test), out)
+        }
+        None => put_fault_line(circuit, list, fault, " ", "none", out),
+    }
+}
+
+/// Writes the line of the listing for a fault: the fault and its class.
+fn put_class_line<W: Out>(
+    circuit: &Circuit,
+    list: &Faults,
+    fault: u32,
+    class: u32,
+    out: &mut W,
+) -> Result<(), OutFailed>
+    requires list { list.now.list ≡ faults list.now.model circuit.now }
+    requires in_range { fault < length list.now.list }
+    ensures { (f : Fault) → slice_get list.now.list fault ≡ Some f
+        → Writes result (W.seen out.old) (W.seen out.new) (class_line circuit.now (f, class)) }
+{
+    let mut number = Buffer::new();
+    put_fault_line(circuit, list, fault, " class ", number.format(class), out)
+}
+
+/// Writes each fault of the list with the first test that detects it, or `none`.
+fn put_firsts<W: Out>(
+    circuit: &Circuit,
+    list: &Faults,
+    verdicts: &Verdicts,
+    out: &mut W,
+) -> Result<(), OutFailed>
+    requires list { list.now.list ≡ faults list.now.model circuit.now }
+    requires count { length verdicts.now.firsts ≡ length list.now.list }
+    ensures { Writes result (W.seen out.old) (W.seen out.new)
+        (fault_lines list.now.model circuit.now verdicts.now.firsts) }
+{
+    for fault in 0..list.count() {
+        put_first_line(circuit, list, fault, verdicts.first(fault), out)?;
+    }
+    Ok(())
+}
+
+/// Writes each fault of the list with its class.
+fn put_classes<W: Out>(
+    circuit: &Circuit,
+    list: &Faults,
+    classes: &Classes,
+    out: &mut W,
+) -> Result<(), OutFailed>
+    requires list { list.now.list ≡ faults list.now.model circuit.now }
+    requires count { length classes.now.class_of ≡ length list.now.list }
+    ensures { Writes result (W.seen out.old) (W.seen out.new)
+        (flat_map (class_line circuit.now) (zip list.now.list classes.now.class_of)) }
+{
+    for fault in 0..list.count() {
+        put_class_line(circuit, list, fault, classes.class_of(fault), out)?;
+    }
+    Ok(())
+}
+
+/// Why a report or a listing was not written.
+#[derive(Clone, Copy, Debug, PartialEq, Eq, Error)]
+pub enum ReportFault {
+    /// The output took nothing more: what went out is a beginning of the text.
+    #[error("cannot write")]
+    Write,
+}
+
+impl From<OutFailed> for ReportFault {
+    fn from(_: OutFailed) -> ReportFault {
+        ReportFault::Write
+    }
+}
+
+/// Writes the report of a job and of the verdicts of its faults: with `listed` each fault of the
+/// list and the first test that detects it, then the coverage line. It takes no memory.
+///
+/// Where the output takes nothing more it is refused with [`ReportFault::Write`], and what went
+/// out is a beginning of the report.
+pub fn write_report<W: Out>(
+    job: &Job,
+    verdicts: &Verdicts,
+    listed: bool,
+    out: &mut W,
+) -> Result<(), ReportFault>
+    requires count { length verdicts.now.firsts ≡ length job.now.list.list }
+    ensures { Writes result (W.seen out.old) (W.seen out.new)
+        (report job.now.list.model job.now.circuit verdicts.now.firsts listed) }
+{
+    let circuit = job.circuit();
+    let signals = circuit.signals();
+    prove!(signals > 0);
+    let detected = verdicts.detected();
+    let total = verdicts.total();
+    if !listed {
+        return Ok(put_coverage(detected, total, out)?);
+    }
+    put_firsts(circuit, job.faults(), verdicts, out)?;
+    put_coverage(detected, total, out)?;
+    Ok(())
+}
+
+/// Writes the listing: each fault with its class, then how many there are of both. It takes no memory.
+pub fn write_listing<W: Out>(
+    circuit: &Circuit,
+    list: &Faults,
+    classes: &Classes,
+    out: &mut W,
+) -> Result<(), ReportFault>
+    requires list { list.now.list ≡ faults list.now.model circuit.now }
+    requires classes { AreClassesOf list.now.model circuit.now classes.now }
+    ensures { Writes result (W.seen out.old) (W.seen out.new)
+        (listing list.now.model circuit.now classes.now.class_of (length classes.now.representative)) }
+{
+    put_classes(circuit, list, classes, out)?;
+    put_counts(list.count(), classes.count(), out)?;
+    Ok(())
+}
+
+/// Writes the last line of the listing: how many faults there are, and in how many classes.
+fn put_counts<W: Out>(faults: u32, classes: u32, out: &mut W) -> Result<(), OutFailed>
+    ensures { Writes result (W.seen out.old) (W.seen out.new)
+        (decimal faults ++ codes " faults in " ++ decimal classes ++ codes " classes\n") }
+{
+    let mut all = Buffer::new();
+    let mut number = Buffer::new();
+    put_pieces(
+        &[
+            all.format(faults),
+            " faults in ",
+            number.format(classes),
+            " classes\n",
+        ],
+        out,
+    )
+}

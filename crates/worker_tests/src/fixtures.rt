@@ -1,0 +1,97 @@
+//! Jobs, and what is expected of their verdicts.
+
+use bench_net::{BenchFault, read_bench};
+use block_sim::Job;
+use fault_model::{Model, collapse, list_faults_in};
+use patterns::read_tests;
+use std::alloc::{AllocError, Global};
+use std::process::Abort;
+use std::test::Fail;
+use workers::Verdicts;
+
+/// The smallest circuit of the ISCAS 85 benchmarks.
+pub(crate) const C17: &str =
+    "INPUT(G1)\nINPUT(G2)\nINPUT(G3)\nINPUT(G6)\nINPUT(G7)\nOUTPUT(G22)\nOUTPUT(G23)\nG10 = NAND(G1, G3)\nG11 = NAND(G3, G6)\nG16 = NAND(G2, G11)\nG19 = NAND(G11, G7)\nG22 = NAND(G10, G16)\nG23 = NAND(G16, G19)\n";
+
+/// The first tests of C17 where the one test is all ones.
+pub(crate) const C17_FIRSTS: [Option<u32>; 34] = [
+    Some(0),
+    None,
+    None,
+    None,
+    Some(0),
+    None,
+    Some(0),
+    None,
+    Some(0),
+    None,
+    Some(0),
+    None,
+    None,
+    None,
+    None,
+    Some(0),
+    None,
+    Some(0),
+    None,
+    Some(0),
+    None,
+    Some(0),
+    Some(0),
+    None,
+    None,
+    None,
+    Some(0),
+    None,
+    Some(0),
+    None,
+    Some(0),
+    None,
+    None,
+    Some(0),
+];
+
+/// A buffer: its faults are a/0, a/1, z/0 and z/1, and its classes those of z/0 and z/1.
+pub(crate) const BUFFER: &str = "INPUT(a)\nOUTPUT(z)\nz = BUFF(a)\n";
+
+/// One wire: its faults a/0 and a/1 are a class each.
+pub(crate) const WIRE: &str = "INPUT(a)\nOUTPUT(a)\n";
+
+/// A job of a circuit and of rows of tests, each with how often it stands there.
+pub(crate) fn job_of(
+    alloc: Global,
+    model: Model,
+    bench: &str,
+    rows: &[(&str, u32)],
+) -> Result<Job, Fail> {
+    let circuit = read_bench(alloc, bench.as_bytes())?;
+    if circuit.sources() == 0 {
+        return Err(BenchFault::Empty.into());
+    }
+    let text = text_of(alloc, rows)?;
+    let tests = read_tests(alloc, text.as_slice(), circuit.sources())?;
+    let faults = list_faults_in(alloc, &circuit, model)?;
+    let classes = collapse(alloc, &circuit, &faults)?;
+    Ok(Job::new(alloc, circuit, faults, classes, tests)?)
+}
+
+fn text_of(alloc: Global, rows: &[(&str, u32)]) -> Result<Vec<u8>, AllocError> {
+    let mut text = Vec::new(alloc);
+    for (row, count) in rows {
+        for _ in 0..*count {
+            text.extend_from_slice(row.as_bytes())?;
+            text.push(b'\n')?;
+        }
+    }
+    Ok(text)
+}
+
+/// Checks the verdicts of all faults.
+pub(crate) fn check<R: Abort>(rt: &R, verdicts: &Verdicts, firsts: &[Option<u32>]) {
+    assert_eq!(rt; verdicts.total() as usize, firsts.len());
+    for fault in 0..verdicts.total() {
+        assert_eq!(rt; firsts.get(fault as usize), Some(&verdicts.first(fault)));
+    }
+    let detected = firsts.iter().filter(|first| first.is_some()).count();
+    assert_eq!(rt; verdicts.detected() as usize, detected);
+}

@@ -1,0 +1,82 @@
+//! Runs of one thread.
+
+use crate::fixtures::{BUFFER, C17, C17_FIRSTS, WIRE, check, job_of};
+use fault_model::Model;
+use std::test::Fail;
+use workers::{RunFault, run_schedule};
+
+#[test]
+fn worker_two_reports_block_one_before_block_zero(rt: HostRuntime) -> Result<(), Fail> {
+    let job = job_of(rt.alloc(), Model::StuckAt, BUFFER, &[("0", 63), ("1", 2)])?;
+    let orders: [(&[u32], u32); 2] = [(&[0, 1, 2, 3, 2, 3, 1, 0], 0), (&[], 2)];
+    for (moves, skipped) in orders {
+        let verdicts = run_schedule(rt.alloc(), &job, 4, moves)?;
+        check(&rt, &verdicts, &[Some(63), Some(0), Some(63), Some(0)]);
+        assert_eq!(rt; verdicts.skipped(), skipped);
+    }
+    Ok(())
+}
+
+#[test]
+fn transitions_are_told_by_the_test_before(rt: HostRuntime) -> Result<(), Fail> {
+    let job = job_of(
+        rt.alloc(),
+        Model::Transition,
+        BUFFER,
+        &[("0", 64), ("1", 1)],
+    )?;
+    let verdicts = run_schedule(rt.alloc(), &job, 3, &[2, 2, 0])?;
+    check(&rt, &verdicts, &[Some(64), None, Some(64), None]);
+    Ok(())
+}
+
+#[test]
+fn numbers_of_workers_go_before_moves(rt: HostRuntime) -> Result<(), Fail> {
+    let job = job_of(rt.alloc(), Model::StuckAt, WIRE, &[("0", 1)])?;
+    let schedules: [(u32, &[u32], RunFault); 5] = [
+        (4, &[0, 9, 4], RunFault::NoSuchMove(1)),
+        (4, &[4], RunFault::NoSuchMove(0)),
+        (64, &[63, 64], RunFault::NoSuchMove(1)),
+        (0, &[4], RunFault::NoWorkers),
+        (65, &[70], RunFault::TooManyWorkers),
+    ];
+    for (workers, moves, fault) in schedules {
+        let refused = run_schedule(rt.alloc(), &job, workers, moves).err();
+        assert_eq!(rt; refused, Some(fault));
+    }
+    Ok(())
+}
+
+#[test]
+fn c17_in_a_hundred_orders(rt: HostRuntime) -> Result<(), Fail> {
+    let job = job_of(rt.alloc(), Model::StuckAt, C17, &[("11111", 1)])?;
+    let mut seed: u32 = 1;
+    for _ in 0..100 {
+        let mut moves = Vec::new(rt.alloc());
+        for _ in 0..60 {
+            // The generator of Numerical Recipes.
+            seed = seed.wrapping_mul(1_664_525).wrapping_add(1_013_904_223);
+            moves.push((seed >> 16) % 7)?;
+        }
+        let verdicts = run_schedule(rt.alloc(), &job, 7, moves.as_slice())?;
+        check(&rt, &verdicts, &C17_FIRSTS);
+    }
+    Ok(())
+}
+
+#[test]
+fn words_of_the_faults(rt: HostRuntime) -> Result<(), Fail> {
+    let unfinished = RunFault::Unfinished { class: 1, block: 2 };
+    for (fault, words) in [
+        (RunFault::NoWorkers, "no workers"),
+        (RunFault::TooManyWorkers, "more than 64 workers"),
+        (RunFault::NoSuchMove(1), "move 1: no such worker"),
+        (RunFault::Memory, "out of memory"),
+        (RunFault::Threads, "thread refused"),
+        (unfinished, "unfinished at class 1 block 2"),
+    ] {
+        let said = format!(in rt.alloc(); "{fault}")?;
+        assert_eq!(rt; said.as_str(), words);
+    }
+    Ok(())
+}

@@ -1,0 +1,76 @@
+-- From true outcomes to first tests.
+use Rattle.std.proofs.Common.{◌≡◌, ◌<◌, ℕ, zero, suc, true, List, [], ◌∷◌, ◌++◌, map, length, Option, Some, None, refl, sym, ap, ◌∙◌, subst, arith, take, lt-ltb}
+use Rattle.std.specs.Prelude.{slice_get, unwrap_or}
+use Rattle.std.proofs.lemmas.List.{length-map}
+use Rattle.std.proofs.lemmas.Option.{slice_get_within}
+use Rattle.bench_net.proofs.SignalsLists.{within_place}
+use Rattle.fault_model.specs.Fault.{Fault, faults}
+use Rattle.fault_model.specs.Collapse.{representatives, IsClassOf}
+use Rattle.patterns.specs.declared.Outcome.{Outcome}
+use Rattle.patterns.specs.declared.Outcome.TheVariants as outcome
+use Rattle.patterns.specs.Tests.{blocks, size_of}
+use Rattle.patterns.specs.Least.{Table, least}
+use Rattle.block_sim.specs.First.{IsFirst, IsTrueOutcome}
+use Rattle.block_sim.specs.Parts.{Parts, BelongTogether}
+use Rattle.block_sim.proofs.LawOfTable.{least_is_first}
+use Rattle.fault_ledger.specs.declared.Shape.{Shape}
+use Rattle.fault_ledger.specs.History.{History, block_count}
+use Rattle.fault_ledger.specs.Answer.{IsTrueTo, fits_size}
+use Rattle.fault_ledger.specs.Settled.{status}
+use Rattle.fault_ledger.proofs.Settles.{settles_at_least}
+use Rattle.workers.specs.Schedule.{IsTableOf}
+use Rattle.workers.specs.Settling.{AreSettled, IsShapeOf}
+use Rattle.workers.specs.Verdict.{AreFirsts, settled_at, verdicts}
+
+-- there are as many classes as representatives
+pub class_count : (job : Parts) → BelongTogether job → length job.classes.representative ≡ length (representatives job.list.model job.circuit)
+class_count job b =
+    sym (length-map job.classes.representative (slice_get (faults job.list.model job.circuit)))
+    ∙ ap (λ (l : List (Option Fault)). length l) b.classes.representative
+    ∙ length-map {B = Option Fault} (representatives job.list.model job.circuit) Some
+
+-- the true outcome of a piece is one of its block's
+pub true_fits : (job : Parts) (s : Shape) (class block : ℕ) (o : Outcome) → IsShapeOf job s
+    → IsTrueOutcome job.list.model job.circuit job.tests.tests class block o → fits_size (size_of s.tests block) o ≡ true
+true_fits job s class block outcome.Clear is t = refl
+true_fits job s class block (outcome.Hit k) is t =
+    let e : size_of s.tests block ≡ size_of (length job.tests.tests) block = ap (λ n. size_of n block) is.tests in
+    lt-ltb k (size_of s.tests block) (subst (λ n. k < n) (sym e) t.2.0)
+
+-- what stands at a place of a mapped list
+at_map : {A B : Type 0} (f : A → B) (xs : List A) (i : ℕ) (y : B) → slice_get (map f xs) i ≡ Some y → (x : A) × (slice_get xs i ≡ Some x) × (f x ≡ y)
+at_map f [] i y e = let bad : None ≡ Some y = e in absurd (cc)
+at_map f (x ∷ xs) zero y e = (x, refl, ap (λ o. unwrap_or o y) e)
+at_map f (x ∷ xs) (suc i) y e = at_map f xs i y e
+
+-- the verdicts of a history that is true to a true table and settles all classes are first tests
+pub firsts_of : (job : Parts) (s : Shape) (table : Table) (h : History) → BelongTogether job → IsShapeOf job s → IsTableOf job table → IsTrueTo s table h
+    → AreSettled s h s.classes → AreFirsts job.list.model job.circuit job.tests.tests (verdicts s h job.classes.class_of)
+firsts_of job s table h b is each to settled = record {
+  count = length-map job.classes.class_of (λ class. settled_at (status s h class)) ∙ b.classes.count;
+  first = λ i f first at e.
+      let x = at_map (λ class. settled_at (status s h class)) job.classes.class_of i first e in
+      let k = x.0 in
+      let of : IsClassOf job.list.model job.circuit f k = b.classes.class i f k at x.1 in
+      let lt : k < s.classes = subst (λ n. k < n) (sym (is.classes ∙ class_count job b)) (slice_get_within (representatives job.list.model job.circuit) k of.0 of.3) in
+      let own = settled k lt in
+      let least_is : own.0 ≡ least table (block_count s) k = settles_at_least s table h to k own.0 lt own.1 in
+      let same : first ≡ own.0 = sym x.2 ∙ ap settled_at own.1 in
+      let number : block_count s ≡ blocks (length job.tests.tests) = ap blocks is.tests in
+      subst (IsFirst job.circuit job.tests.tests f) (sym (same ∙ least_is ∙ ap (λ n. least table n k) number))
+      (least_is_first job.list.model job.circuit job.tests.tests table b.circuit.well_formed b.circuit.arities each f k of);
+}
+
+-- the class of a fault is one of the ledger's
+pub class_in : (job : Parts) (s : Shape) (i k : ℕ) → BelongTogether job → IsShapeOf job s → slice_get job.classes.class_of i ≡ Some k → k < s.classes
+class_in job s i k b is e =
+    let lt : i < length job.classes.class_of = slice_get_within job.classes.class_of i k e in
+    let f = within_place (faults job.list.model job.circuit) i (omega (arith, lt, b.classes.count)) in
+    let of : IsClassOf job.list.model job.circuit f.0 k = b.classes.class i f.0 k f.1 e in
+    subst (λ n. k < n) (sym (is.classes ∙ class_count job b)) (slice_get_within (representatives job.list.model job.circuit) k of.0 of.3)
+
+-- one element more of a list
+pub take_more : {A B : Type 0} (g : A → B) (xs : List A) (i : ℕ) (x : A) → slice_get xs i ≡ Some x → map g (take i xs) ++ g x ∷ [] ≡ map g (take (suc i) xs)
+take_more g [] i x e = let bad : None ≡ Some x = e in absurd (cc)
+take_more g (y ∷ xs) zero x e = ap (λ o. g (unwrap_or o y) ∷ []) (sym e)
+take_more g (y ∷ xs) (suc i) x e = ap (λ l. g y ∷ l) (take_more g xs i x e)

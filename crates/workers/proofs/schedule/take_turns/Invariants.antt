@@ -1,0 +1,20 @@
+use Rattle.std.proofs.Common.{◌≡◌}
+use Rattle.patterns.specs.Least.{Table}
+use Rattle.block_sim.specs.Parts.{HasRoom}
+use Rattle.fault_ledger.specs.History.{History}
+use Rattle.fault_ledger.specs.Answer.{IsLegal}
+use Rattle.fault_ledger.specs.Face.{face}
+use Rattle.workers.specs.Schedule.{IsTableOf}
+use Rattle.workers.proofs.Turns.{Turned, left_of}
+use Rattle.workers.proofs.schedule.take_turns.Given as goal
+
+abbrev pub invariant-turns : goal.invariant-turns
+invariant-turns l = record {
+  shape : l.ledger.shape ≡ l.fn.ledger.shape;
+  fits : HasRoom l.workspace l.job;
+  turned : (table : Table) (h : History) → IsTableOf l.job table → IsLegal l.fn.ledger.shape h → l.fn.ledger ≡ face l.fn.ledger.shape h
+      → Turned table l.fn.ledger.shape h l.ledger l.skipped;
+}
+
+abbrev pub decreases-turns : goal.decreases-turns
+decreases-turns l = left_of l.ledger

@@ -1,0 +1,5 @@
+pub mod Verdict
+pub mod Settling
+pub mod Schedule
+pub mod Refused
+pub mod Work

@@ -1,0 +1,32 @@
+-- When a run is refused.
+use Rattle.std.specs.Prelude.{◌≡◌, ◌<◌, ◌≤◌, ℕ, nat_le, List, All, Some, length, position}
+use Rattle.patterns.specs.Tests.{blocks}
+use Rattle.block_sim.specs.Parts.{Parts}
+use Rattle.workers.specs.declared.RunFault.{RunFault}
+use Rattle.workers.specs.declared.RunFault.TheVariants.{NoWorkers, TooManyWorkers, NoSuchMove, Memory, Threads, Unfinished}
+
+-- when a number of workers is refused
+abbrev pub IsWorkersFault : ℕ → RunFault → Type 0
+IsWorkersFault workers NoWorkers = workers ≡ 0
+IsWorkersFault workers TooManyWorkers = 64 < workers
+IsWorkersFault workers _ = ⊥
+
+-- When a schedule is refused: for its number of workers, then for the first of its moves that is
+-- of a worker out of range, and then for want of memory.
+abbrev pub IsScheduleFault : ℕ → List ℕ → RunFault → Type 0
+IsScheduleFault workers moves (NoSuchMove index) =
+    (0 < workers) × (workers ≤ 64) × (position (λ worker. nat_le workers worker) moves ≡ Some index)
+IsScheduleFault workers moves Memory =
+    (0 < workers) × (workers ≤ 64) × All (λ worker. worker < workers) moves
+IsScheduleFault workers moves fault = IsWorkersFault workers fault
+
+-- When a run in threads is refused: for its number of workers, and then for want of memory or of
+-- a thread. One whose gate always lets pass finishes; else the fault names a class and a block of
+-- the job.
+abbrev pub IsRunFault : Parts → ℕ → Type 0 → RunFault → Type 0
+IsRunFault job workers passing Memory = (0 < workers) × (workers ≤ 64)
+IsRunFault job workers passing Threads = (0 < workers) × (workers ≤ 64)
+IsRunFault job workers passing (Unfinished class block) = (0 < workers) × (workers ≤ 64)
+    × (class < length job.classes.representative) × (block < blocks (length job.tests.tests))
+    × (¬ passing)
+IsRunFault job workers passing fault = IsWorkersFault workers fault

@@ -1,0 +1,39 @@
+-- The verdicts of a run.
+use Rattle.std.specs.Prelude.{◌≡◌, ℕ, List, map, length, is_some, count_by, Option, Some, None, slice_get}
+use Rattle.bench_net.specs.Statement.{Statement}
+use Rattle.fault_model.specs.declared.Model.{Model}
+use Rattle.fault_model.specs.Fault.{Fault, faults}
+use Rattle.fault_model.specs.Solution.{Test}
+use Rattle.block_sim.specs.First.{IsFirst}
+use Rattle.fault_ledger.specs.declared.Shape.{Shape}
+use Rattle.fault_ledger.specs.declared.Status.{Status}
+use Rattle.fault_ledger.specs.declared.Status.TheVariants.{Settled, Waiting}
+use Rattle.fault_ledger.specs.History.{History}
+use Rattle.fault_ledger.specs.Settled.{status}
+
+-- what contracts see of the verdicts: a test or none for each fault, and the number of pieces
+-- that were skipped
+pub record VerdictList : Type 0 where
+  pub firsts : List (Option ℕ)
+  pub skipped : ℕ
+
+-- the test at which a settled class is settled, or none
+abbrev pub settled_at : Status → Option ℕ
+settled_at (Settled at) = at
+settled_at (Waiting block) = None
+
+-- the verdict of each fault after a finished history: that of its class
+abbrev pub verdicts : Shape → History → List ℕ → List (Option ℕ)
+verdicts shape h class_of = map (λ class. settled_at (status shape h class)) class_of
+
+-- the number of detected faults
+abbrev pub detected : List (Option ℕ) → ℕ
+detected firsts = count_by is_some firsts
+
+-- each fault of the circuit's list, before collapsing, has the first test that detects it, or
+-- none where no test does
+pub record AreFirsts (m : Model) (c : List Statement) (tests : List Test)
+    (firsts : List (Option ℕ)) : Type 0 where
+  pub count : length firsts ≡ length (faults m c)
+  pub first : (i : ℕ) (f : Fault) (first : Option ℕ) → slice_get (faults m c) i ≡ Some f
+      → slice_get firsts i ≡ Some first → IsFirst c tests f first

@@ -1,0 +1,193 @@
+//! A run of one thread, by a schedule.
+
+ghost use Rattle.std.specs.Prelude.{◌≡◌, ◌≢◌, ◌<◌, ◌≤◌, ◌+◌, ◌*◌, ℕ, nat_le, true, false, [], ◌∷◌, All, Some, position, length, IfOk, IfErr, OnOk};
+ghost use Rattle.std.specs.Option.{option_map_or};
+ghost use Rattle.patterns.specs.Least.{Table, below};
+ghost use Rattle.block_sim.specs.Parts.{HasRoom};
+ghost use Rattle.fault_ledger.specs.declared.Shape.{Shape};
+ghost use Rattle.fault_ledger.specs.Answer.{IsLegal};
+ghost use Rattle.fault_ledger.specs.Face.{HasHistory, face};
+ghost use Rattle.fault_ledger.specs.History.{History, claims, held, piece_count};
+ghost use Rattle.workers.specs.Refused.{IsScheduleFault};
+ghost use Rattle.workers.specs.Schedule.{IsScheduled, IsTableOf, drops, move, moved, turns};
+ghost use Rattle.workers.specs.Settling.{AreSettled, IsShapeOf, shape_for};
+ghost use Rattle.workers.specs.Verdict.{AreFirsts};
+
+use crate::verdicts::verdicts_of;
+use crate::{RunFault, Verdicts, check_workers};
+use block_sim::{Job, Workspace, first_hit};
+use fault_ledger::{Claim, Event, Ledger};
+use std::alloc::{AllocError, Global};
+
+/// A move of a worker: it claims where it holds nothing, else it drops its piece where it can,
+/// else it simulates it and reports. Gives the event of the ledger, or none where there is
+/// nothing left to claim.
+fn step(job: &Job, ledger: &mut Ledger, workspace: &mut Workspace, worker: u32) -> Option<Event>
+    requires shape { IsShapeOf job.now ledger.old.shape }
+    requires worker { worker < ledger.old.shape.workers }
+    requires fits { HasRoom workspace.old job.now }
+    ensures shape { ledger.new.shape ≡ ledger.old.shape }
+    ensures moved { (table : Table) (h : History) → IsTableOf job.now table
+        → IsLegal ledger.old.shape h → ledger.old ≡ face ledger.old.shape h
+        → let later : History = move table ledger.old.shape h worker in
+        (ledger.new ≡ face ledger.old.shape later)
+        × (later ≡ option_map_or (λ event. event ∷ h) result h) }
+    ensures fits { HasRoom workspace.new job.now }
+{
+    let _parts = job.classes();
+    let Some((class, block)) = ledger.held(worker) else {
+        return match ledger.claim(worker) {
+            Ok(Claim::Piece { .. }) => Some(Event::Claim(worker)),
+            Ok(Claim::Exhausted) => None,
+            Err(_) => unreachable!(),
+        };
+    };
+    match ledger.drop_piece(worker) {
+        Ok(()) => Some(Event::Drop(worker)),
+        Err(_) => {
+            let outcome = first_hit(job, workspace, class, block);
+            let Ok(()) = ledger.report(worker, outcome) else {
+                unreachable!()
+            };
+            Some(Event::Report(worker, outcome))
+        }
+    }
+}
+
+/// What moves in order did.
+#[derive(Clone, Copy, Debug, PartialEq, Eq)]
+struct Played {
+    /// The number of pieces that were dropped.
+    skipped: u32,
+    /// Whether there was an event at all.
+    changed: bool,
+}
+
+/// The moves of these workers, in order.
+fn play(job: &Job, ledger: &mut Ledger, workspace: &mut Workspace, moves: &[u32]) -> Played
+    requires shape { IsShapeOf job.now ledger.old.shape }
+    requires history { HasHistory ledger.old }
+    requires workers { All (λ worker. worker < ledger.old.shape.workers) moves.now }
+    requires fits { HasRoom workspace.old job.now }
+    ensures shape { ledger.new.shape ≡ ledger.old.shape }
+    ensures moved { (table : Table) (h : History) → IsTableOf job.now table
+        → IsLegal ledger.old.shape h → ledger.old ≡ face ledger.old.shape h
+        → let later : History = moved table ledger.old.shape h moves.now in
+        (ledger.new ≡ face ledger.old.shape later) × IsLegal ledger.old.shape later
+        × (drops later ≡ drops h + result.skipped)
+        × (result.changed ≡ true → length h < length later)
+        × (result.changed ≡ false → (later ≡ h)
+        × All (λ w. (claims h ≡ piece_count ledger.old.shape) × (held w h ≡ None)) moves.now) }
+    ensures fits { HasRoom workspace.new job.now }
+{
+    let _parts = job.classes();
+    let mut skipped = 0;
+    let mut changed = false;
+    for worker in moves {
+        if let Some(event) = step(job, ledger, workspace, *worker) {
+            changed = true;
+            if let Event::Drop(_) = event {
+                skipped += 1;
+            }
+        }
+    }
+    Played { skipped, changed }
+}
+
+/// The moves of all workers in turn, until none has anything left to do. Gives the number of
+/// pieces that were dropped.
+fn take_turns(job: &Job, ledger: &mut Ledger, workspace: &mut Workspace, everyone: &[u32]) -> u32
+    requires shape { IsShapeOf job.now ledger.old.shape }
+    requires history { HasHistory ledger.old }
+    requires everyone { everyone.now ≡ below ledger.old.shape.workers }
+    requires some { 0 < ledger.old.shape.workers }
+    requires fits { HasRoom workspace.old job.now }
+    ensures shape { ledger.new.shape ≡ ledger.old.shape }
+    ensures moved { (table : Table) (h : History) → IsTableOf job.now table
+        → IsLegal ledger.old.shape h → ledger.old ≡ face ledger.old.shape h
+        → let shape : Shape = ledger.old.shape in
+        let later : History = moved table shape h (turns shape.workers (2 * piece_count shape)) in
+        (ledger.new ≡ face shape later) × IsLegal shape later
+        × (drops later ≡ drops h + result) × AreSettled shape later shape.classes }
+{
+    let _parts = job.classes();
+    let mut skipped = 0;
+    'turns: loop {
+        let turn = play(job, ledger, workspace, everyone);
+        skipped += turn.skipped;
+        if !turn.changed {
+            return skipped;
+        }
+    }
+}
+
+/// Refuses moves of a worker that isn't one of the run's.
+fn check_moves(workers: u32, moves: &[u32]) -> Result<(), RunFault>
+    ensures in_range { OnOk result (All (λ worker. worker < workers) moves.now) }
+    ensures refused { IfErr result (λ fault. (index : ℕ) × (fault ≡ RunFault.NoSuchMove index)
+        × (position (λ worker. nat_le workers worker) moves.now ≡ Some index)) }
+{
+    match moves.iter().position(|worker| *worker >= workers) {
+        Some(index) => Err(RunFault::NoSuchMove(index as u64)),
+        None => Ok(()),
+    }
+}
+
+/// Runs a job by moves of its workers, numbered from 0, in one thread: a move of a worker that
+/// holds nothing claims a piece, and one of a worker that holds a piece drops it where an earlier
+/// block of its class detects, else simulates it and reports. These moves come first, and then
+/// all workers move in turn until nothing is left to claim. The verdicts are the first tests
+/// whatever the moves.
+///
+/// It is refused, in this order, with [`RunFault::NoWorkers`], with [`RunFault::TooManyWorkers`]
+/// above 64 workers, with [`RunFault::NoSuchMove`] and the least index of a move of a worker that
+/// isn't below the number of workers, before any move is made, and with [`RunFault::Memory`].
+/// Beside the ledger, a workspace and the verdicts it takes a word for each worker.
+pub fn run_schedule(
+    alloc: Global,
+    job: &Job,
+    workers: u32,
+    moves: &[u32],
+) -> Result<Verdicts, RunFault>
+    ensures firsts { IfOk result (λ v.
+        AreFirsts job.now.list.model job.now.circuit job.now.tests.tests v.firsts) }
+    ensures history { IfOk result (IsScheduled job.now workers moves.now) }
+    ensures workers { OnOk result ((0 < workers) × (workers ≤ 64)) }
+    ensures moves { OnOk result (All (λ worker. worker < workers) moves.now) }
+    ensures refused { IfErr result (IsScheduleFault workers moves.now) }
+{
+    check_workers(workers)?;
+    check_moves(workers, moves)?;
+    let everyone = workers_in_order(alloc, workers)?;
+    let mut ledger = open_ledger(alloc, job, workers)?;
+    let mut workspace = Workspace::new(alloc, job)?;
+    let firsts = Vec::with_capacity(alloc, job.faults().count() as usize)?;
+    let played = play(job, &mut ledger, &mut workspace, moves);
+    let turned = take_turns(job, &mut ledger, &mut workspace, everyone.as_slice());
+    let verdicts = verdicts_of(job, &ledger, played.skipped + turned, firsts)?;
+    Ok(verdicts)
+}
+
+/// The numbers of the workers, from 0 on.
+fn workers_in_order(alloc: Global, workers: u32) -> Result<Vec<u32>, AllocError>
+    ensures { IfOk result (λ everyone. everyone.items ≡ below workers) }
+{
+    let mut everyone = Vec::with_capacity(alloc, workers as usize)?;
+    for worker in 0..workers {
+        everyone.push(worker)?;
+    }
+    Ok(everyone)
+}
+
+/// A new ledger of a job. A job has no more pieces than a ledger takes, so it is refused for want
+/// of memory alone.
+fn open_ledger(alloc: Global, job: &Job, workers: u32) -> Result<Ledger, RunFault>
+    requires { (0 < workers) × (workers ≤ 64) }
+    ensures face { IfOk result (λ ledger. ledger ≡ face (shape_for job.now workers) []) }
+    ensures refused { IfErr result (λ fault. fault ≡ RunFault.Memory) }
+{
+    match Ledger::new(alloc, job.classes().count(), job.tests().count(), workers) {
+        Ok(ledger) => Ok(ledger),
+        Err(_) => Err(RunFault::Memory),
+    }
+}

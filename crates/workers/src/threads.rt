@@ -1,0 +1,205 @@
+//! A run of workers in threads of their own.
+
+ghost use Rattle.std.specs.Prelude.{◌≡◌, ◌⊎◌, ◌<◌, ◌≤◌, All, count_by, map, IfOk, IfErr, OnOk};
+ghost use Rattle.block_sim.specs.Parts.{BelongTogether, HasRoom};
+ghost use Rattle.fault_ledger.specs.Answer.{IsLegal};
+ghost use Rattle.fault_ledger.specs.History.{History, states_of};
+ghost use Rattle.fault_ledger.specs.Seats.{closed_face, newcomer, newcomers};
+ghost use Rattle.workers.specs.Refused.{IsRunFault};
+ghost use Rattle.workers.specs.Settling.{IsShapeOf, shape_for};
+ghost use Rattle.workers.specs.Verdict.{AreFirsts};
+ghost use Rattle.workers.specs.Work.{AreBack, IsOfHistory, Returns, is_skipped};
+
+use crate::verdicts::verdicts_of;
+use crate::worker::{Gate, work};
+use crate::{RunFault, Verdicts, check_workers};
+use block_sim::{Job, Workspace};
+use fault_ledger::{Closed, Finish, PieceState, Seat, SharedLedger};
+use std::alloc::{AllocError, Global};
+use std::snapshot::Snapshot;
+use std::sync::Wait;
+use std::thread;
+use std::thread::{Promise, Threads};
+
+/// What a worker takes into its thread.
+#[derive(Drop)]
+struct Worker {
+    seat: Seat,
+    workspace: Workspace,
+}
+
+/// What the thread of a worker borrows: the seat that it gives back is its worker's, and has
+/// reported the truth.
+#[derive(Drop)]
+struct Kept<G> {
+    job: Snapshot<Job>,
+    ledger: Snapshot<SharedLedger>,
+    gate: Snapshot<G>,
+    worker: u32,
+}
+
+impl<G: Gate> Promise<Seat> for Kept<G> {
+    ghost use Rattle.workers.specs.Work.{Returns};
+
+    ghost kept_by = { λ p r.
+        Returns p.job.value p.ledger.value p.worker (G.passing p.gate.value) r };
+}
+
+/// The work of one thread.
+fn serve<G: Gate>(job: &Job, ledger: &SharedLedger, gate: &G, worker: Worker) -> Seat
+    requires shape { IsShapeOf job.now ledger.now.shape }
+    requires new { worker.seat ≡ newcomer ledger.now worker.seat.worker }
+    requires fits { HasRoom worker.workspace job.now }
+    ensures { Returns job.now ledger.now worker.seat.worker (G.passing gate.now) result }
+{
+    let Worker {
+        mut seat,
+        mut workspace,
+    } = worker;
+    work(job, ledger, &mut workspace, &mut seat, gate);
+    seat
+}
+
+/// Lets each worker work in a thread of its own, and gives the seats back.
+fn in_threads<G: Gate + Sync, R: Threads + Wait>(
+    rt: &R,
+    alloc: Global,
+    job: &Job,
+    ledger: &SharedLedger,
+    gate: &G,
+    workers: Vec<Worker>,
+) -> Result<Vec<Seat>, RunFault>
+    requires shape { IsShapeOf job.now ledger.now.shape }
+    requires new { map (λ w. w.seat) workers.items ≡ newcomers ledger.now }
+    requires fits { All (λ w. HasRoom w.workspace job.now) workers.items }
+    ensures back { IfOk result (λ seats.
+        AreBack job.now ledger.now (G.passing gate.now) seats.items) }
+    ensures refused { IfErr result (λ fault.
+        (fault ≡ RunFault.Memory) ⊎ (fault ≡ RunFault.Threads)) }
+{
+    thread::scope(
+        thread::scope_env(),
+        rt,
+        |scope| -> Result<Vec<Seat>, RunFault>
+            requires shape { IsShapeOf job.now ledger.now.shape }
+            requires new { map (λ w. w.seat) workers.items ≡ newcomers ledger.now }
+            requires fits { All (λ w. HasRoom w.workspace job.now) workers.items }
+            ensures back { IfOk result (λ seats.
+                AreBack job.entry.now ledger.entry.now (G.passing gate.entry.now) seats.items) }
+            ensures refused { IfErr result (λ fault.
+                (fault ≡ RunFault.Memory) ⊎ (fault ≡ RunFault.Threads)) }
+        {
+            let count = workers.len();
+            let mut handles = Vec::with_capacity(alloc, count)?;
+            for worker in workers {
+                let kept = Kept {
+                    job: Snapshot::of(job),
+                    ledger: Snapshot::of(ledger),
+                    gate: Snapshot::of(gate),
+                    worker: worker.seat.worker(),
+                };
+                let Ok(handle) = scope.spawn_with(kept, move || serve(job, ledger, gate, worker))
+                else {
+                    break;
+                };
+                handles.push(handle)?;
+            }
+            let refused = handles.len() < count;
+            let back = thread::join_promised(rt, handles)?;
+            if refused {
+                return Err(RunFault::Threads);
+            }
+            Ok(back)
+        },
+    )
+}
+
+/// A worker for each seat, with room of its own.
+fn workers_of(alloc: Global, job: &Job, seats: Vec<Seat>) -> Result<Vec<Worker>, AllocError>
+    ensures seats { IfOk result (λ workers. map (λ w. w.seat) workers.items ≡ seats.items) }
+    ensures fits { IfOk result (λ workers. All (λ w. HasRoom w.workspace job.now) workers.items) }
+{
+    let mut workers = Vec::with_capacity(alloc, seats.len())?;
+    for seat in seats {
+        let workspace = Workspace::new(alloc, job)?;
+        workers.push(Worker { seat, workspace })?;
+    }
+    Ok(workers)
+}
+
+/// A new shared ledger of a job, and the seats of its workers. A job has no more pieces than a
+/// ledger takes, so it is refused for want of memory alone.
+fn share_ledger(
+    alloc: Global,
+    job: &Job,
+    workers: u32,
+) -> Result<(SharedLedger, Vec<Seat>), RunFault>
+    requires { (0 < workers) × (workers ≤ 64) }
+    ensures ledger { IfOk result (λ made. made.0.shape ≡ shape_for job.now workers) }
+    ensures seats { IfOk result (λ made. made.1.items ≡ newcomers made.0) }
+    ensures refused { IfErr result (λ fault. fault ≡ RunFault.Memory) }
+    ensures together { BelongTogether job.now }
+{
+    match SharedLedger::new(alloc, job.classes().count(), job.tests().count(), workers) {
+        Ok(made) => Ok(made),
+        Err(_) => Err(RunFault::Memory),
+    }
+}
+
+/// The number of pieces that were skipped.
+fn skipped_in(job: &Job, closed: &Closed) -> u32
+    requires { IsShapeOf job.now closed.now.shape }
+    ensures { (h : History) → closed.now ≡ closed_face closed.now.shape h
+        → result ≡ count_by is_skipped (states_of closed.now.shape h) }
+{
+    let classes = job.classes().count();
+    let mut skipped = 0;
+    for piece in 0..classes * job.tests().blocks() {
+        if let PieceState::Skipped = closed.entry(piece % classes, piece / classes) {
+            skipped += 1;
+        }
+    }
+    skipped
+}
+
+/// Runs a job by workers in threads of their own, numbered from 0, which share one ledger without
+/// a lock: each claims a piece, asks the gate whether it may go on, drops the piece where an
+/// earlier block of its class detects, else simulates it and reports. The verdicts are the first
+/// tests, whatever the workers do in whatever order.
+///
+/// It is refused, in this order, with [`RunFault::NoWorkers`], with [`RunFault::TooManyWorkers`]
+/// above 64 workers, and with [`RunFault::Memory`] or [`RunFault::Threads`] where memory or the
+/// start of a thread was refused; the threads that were started are joined first. Where the gate
+/// stopped workers and not all classes are settled it is [`RunFault::Unfinished`]. The job is
+/// unchanged, and can be run again.
+///
+/// The ledger, a workspace for each worker and the room of the verdicts are there before the
+/// first claim, and the workers take no memory.
+pub fn run<G: Gate + Sync, R: Threads + Wait>(
+    rt: &R,
+    alloc: Global,
+    job: &Job,
+    workers: u32,
+    gate: &G,
+) -> Result<Verdicts, RunFault>
+    ensures firsts { IfOk result (λ v.
+        AreFirsts job.now.list.model job.now.circuit job.now.tests.tests v.firsts) }
+    ensures history { IfOk result (IsOfHistory job.now workers) }
+    ensures workers { OnOk result ((0 < workers) × (workers ≤ 64)) }
+    ensures refused { IfErr result (IsRunFault job.now workers (G.passing gate.now)) }
+{
+    check_workers(workers)?;
+    let (ledger, seats) = share_ledger(alloc, job, workers)?;
+    let crew = workers_of(alloc, job, seats)?;
+    let firsts = Vec::with_capacity(alloc, job.faults().count() as usize)?;
+    let seats = in_threads(rt, alloc, job, &ledger, gate, crew)?;
+    let Ok(closed) = ledger.close(alloc, seats) else {
+        return Err(RunFault::Memory);
+    };
+    if let Finish::Waiting { class, block } = closed.finished() {
+        return Err(RunFault::Unfinished { class, block });
+    }
+    let skipped = skipped_in(job, &closed);
+    let verdicts = verdicts_of(job, &closed, skipped, firsts)?;
+    Ok(verdicts)
+}

@@ -1,0 +1,151 @@
+//! The verdicts of a run.
+
+ghost use Rattle.std.specs.Prelude.{◌≡◌, ◌<◌, ◌^◌, [], length, slice_get, IfErr, IfOk, Some};
+ghost use Rattle.fault_ledger.specs.Answer.{IsLegal};
+ghost use Rattle.fault_ledger.specs.History.{History};
+ghost use Rattle.fault_ledger.specs.Settled.{status};
+ghost use Rattle.workers.specs.Settling.{AreSettled, IsShapeOf};
+ghost use Rattle.workers.specs.Verdict.{detected, verdicts};
+
+use crate::RunFault;
+use block_sim::Job;
+use fault_ledger::{Closed, Ledger, Status};
+use std::marker::Model;
+
+/// For each fault the first test that detects it, or none. Faults and tests are numbered from 0.
+#[derive(Debug, Drop)]
+pub struct Verdicts {
+    firsts: Vec<Option<u32>>,
+    detected: u32,
+    skipped: u32,
+}
+
+impl Model for Verdicts {
+    ghost use Rattle.std.specs.Prelude.{◌≡◌, ◌<◌, ◌^◌, length};
+    ghost use Rattle.workers.specs.Verdict.{VerdictList, detected as detected_in};
+
+    ghost Value = { VerdictList };
+
+    ghost view = { λ v. record { firsts = v.firsts.items; skipped = v.skipped } };
+
+    ghost invariant = { λ v.
+        (length v.firsts.items < 2 ^ 32) × (v.detected ≡ detected_in v.firsts.items) };
+}
+
+impl Verdicts {
+    /// The verdicts of faults in the order of their list.
+    fn of(firsts: Vec<Option<u32>>, skipped: u32) -> Verdicts
+        requires { length firsts.items < 2 ^ 32 }
+        ensures firsts { result.firsts ≡ firsts.items }
+        ensures skipped { result.skipped ≡ skipped }
+    {
+        let detected = firsts.iter().filter(|first| first.is_some()).count() as u32;
+        Verdicts {
+            firsts,
+            detected,
+            skipped,
+        }
+    }
+
+    /// The first test that detects a fault, or none where no test does. It takes constant time.
+    pub fn first(&self, fault: u32) -> Option<u32>
+        requires { fault < length self.now.firsts }
+        ensures { slice_get self.now.firsts fault ≡ Some result }
+    {
+        self.firsts[fault as usize]
+    }
+
+    /// The number of faults that a test detects. It takes constant time.
+    pub fn detected(&self) -> u32
+        ensures { result ≡ detected self.now.firsts }
+    {
+        let _firsts = &self.firsts;
+        self.detected
+    }
+
+    /// The number of faults, before collapsing.
+    pub fn total(&self) -> u32
+        ensures { result ≡ length self.now.firsts }
+    {
+        self.firsts.len() as u32
+    }
+
+    /// The number of pieces of work that were dropped, since an earlier block of their class
+    /// detects.
+    pub fn skipped(&self) -> u32
+        ensures { result ≡ self.now.skipped }
+    {
+        self.skipped
+    }
+}
+
+/// A ledger that tells the status of each class.
+pub(crate) trait Statuses {
+    ghost use Rattle.fault_ledger.specs.declared.Shape.{Shape};
+    ghost use Rattle.fault_ledger.specs.History.{History};
+
+    /// The numbers of the ledger.
+    ghost shape_of: { Self → Shape };
+
+    /// The ledger shows what a history says of each piece.
+    ghost Shows: { Self → History → Type 0 };
+
+    /// Whether a class is settled, and at which test, else the block that it waits for.
+    fn status_of(&self, class: u32) -> Status
+        requires { class < (shape_of self.now).classes }
+        ensures { (h : History) → IsLegal (shape_of self.now) h → Shows self.now h
+            → result ≡ status (shape_of self.now) h class };
+}
+
+impl Statuses for Ledger {
+    ghost use Rattle.std.specs.Prelude.{◌≡◌};
+    ghost use Rattle.fault_ledger.specs.Face.{face};
+
+    ghost shape_of = { λ ledger. ledger.shape };
+
+    ghost Shows = { λ ledger h. ledger ≡ face ledger.shape h };
+
+    fn status_of(&self, class: u32) -> Status {
+        self.status(class)
+    }
+}
+
+impl Statuses for Closed {
+    ghost use Rattle.std.specs.Prelude.{◌≡◌};
+    ghost use Rattle.fault_ledger.specs.Seats.{closed_face};
+
+    ghost shape_of = { λ closed. closed.shape };
+
+    ghost Shows = { λ closed h. closed ≡ closed_face closed.shape h };
+
+    fn status_of(&self, class: u32) -> Status {
+        self.status(class)
+    }
+}
+
+/// The verdict of each fault, which is that of its class, in a list that was empty.
+pub(crate) fn verdicts_of<L: Statuses>(
+    job: &Job,
+    ledger: &L,
+    skipped: u32,
+    firsts: Vec<Option<u32>>,
+) -> Result<Verdicts, RunFault>
+    requires shape { IsShapeOf job.now (L.shape_of ledger.now) }
+    requires settled { (h : History) × IsLegal (L.shape_of ledger.now) h × L.Shows ledger.now h
+        × AreSettled (L.shape_of ledger.now) h (L.shape_of ledger.now).classes }
+    requires empty { firsts.items ≡ [] }
+    ensures firsts { (h : History) → IsLegal (L.shape_of ledger.now) h → L.Shows ledger.now h
+        → IfOk result (λ v. v.firsts ≡ verdicts (L.shape_of ledger.now) h job.now.classes.class_of) }
+    ensures skipped { IfOk result (λ v. v.skipped ≡ skipped) }
+    ensures refused { IfErr result (λ fault. fault ≡ RunFault.Memory) }
+{
+    let mut firsts = firsts;
+    let classes = job.classes();
+    for fault in 0..job.faults().count() {
+        let Status::Settled(first) = ledger.status_of(classes.class_of(fault)) else {
+            unreachable!()
+        };
+        firsts.push(first)?;
+    }
+    Ok(Verdicts::of(firsts, skipped))
+}

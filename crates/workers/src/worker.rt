@@ -1,0 +1,141 @@
+//! One worker.
+
+ghost use Rattle.std.specs.Prelude.{◌≡◌, ◌⊎◌, ◌<◌, ◌≤◌, ℕ, true, IsTrue, Some, None};
+ghost use Rattle.fault_ledger.specs.History.{block_count, held, claims, piece_at, piece_count};
+ghost use Rattle.fault_ledger.specs.Seats.{IsSitter, Sees};
+ghost use Rattle.block_sim.specs.Parts.{HasRoom};
+ghost use Rattle.workers.specs.Settling.{AreSettled, IsShapeOf};
+ghost use Rattle.workers.specs.Work.{EndsAs, Works};
+
+use block_sim::{Job, Workspace, first_hit};
+use fault_ledger::{Claim, Seat, SharedLedger, Status};
+
+/// How a worker's work ends.
+#[derive(Clone, Copy, Debug, PartialEq, Eq)]
+pub enum End {
+    /// All pieces were claimed.
+    Exhausted,
+    /// The worker has seen every class settled.
+    AllSettled,
+    /// The gate stopped the worker, which still holds its piece.
+    Stopped,
+}
+
+/// What a worker asks before it begins a piece that it has claimed.
+pub trait Gate {
+    /// Where it holds, [`Gate::pass`] lets every piece pass.
+    ghost passing: { Self → Type 0 };
+
+    /// Whether the worker may go on with the piece.
+    fn pass(&self, worker: u32, class: u32, block: u32) -> bool
+        ensures { passing self.now → result ≡ true };
+}
+
+/// A gate that lets every piece pass.
+#[derive(Clone, Copy, Debug)]
+pub struct OpenGate;
+
+impl Gate for OpenGate {
+    ghost passing = { λ _. Unit {0} };
+
+    fn pass(&self, _worker: u32, _class: u32, _block: u32) -> bool {
+        true
+    }
+}
+
+/// Drops the piece that the seat holds, or simulates it and reports.
+fn finish_piece(
+    job: &Job,
+    ledger: &SharedLedger,
+    workspace: &mut Workspace,
+    seat: &mut Seat,
+    class: u32,
+    block: u32,
+) -> bool
+    requires shape { IsShapeOf job.now ledger.now.shape }
+    requires place { seat.old.place ≡ ledger.now }
+    requires piece { held seat.old.worker seat.old.seen
+        ≡ Some (piece_at ledger.now.shape class block) }
+    requires sitter { IsSitter seat.old }
+    requires range { (class < ledger.now.shape.classes) × (block < block_count ledger.now.shape) }
+    requires fits { HasRoom workspace.old job.now }
+    ensures works { Works job.now seat.old seat.new }
+    ensures told { seat.new.told ≡ seat.old.told }
+    ensures free { held seat.new.worker seat.new.seen ≡ None }
+    ensures fits { HasRoom workspace.new job.now }
+{
+    match ledger.drop_piece(seat) {
+        Ok(()) => return false,
+        Err(_) => {}
+    }
+    let outcome = first_hit(job, workspace, class, block);
+    let Ok(()) = ledger.report(seat, outcome) else {
+        unreachable!()
+    };
+    true
+}
+
+/// The lowest class from this one on that the seat doesn't see settled, or the number of classes.
+fn lowest_waiting(ledger: &SharedLedger, seat: &mut Seat, classes: u32, from: u32) -> u32
+    requires place { seat.old.place ≡ ledger.now }
+    requires sitter { IsSitter seat.old }
+    requires classes { classes ≡ ledger.now.shape.classes }
+    requires range { from ≤ classes }
+    requires settled { AreSettled ledger.now.shape seat.old.seen from }
+    ensures sees { Sees seat.old seat.old.told seat.new }
+    ensures settled { AreSettled ledger.now.shape seat.new.seen result }
+    ensures range { result ≤ classes }
+{
+    for class in from..classes {
+        if let Status::Waiting(_) = ledger.status(seat, class) {
+            return class;
+        }
+    }
+    classes
+}
+
+/// One worker of a run: claims pieces until all are claimed, the gate stops it, or every class is
+/// settled.
+pub fn work<G: Gate>(
+    job: &Job,
+    ledger: &SharedLedger,
+    workspace: &mut Workspace,
+    seat: &mut Seat,
+    gate: &G,
+) -> End
+    requires shape { IsShapeOf job.now ledger.now.shape }
+    requires place { seat.old.place ≡ ledger.now }
+    requires free { held seat.old.worker seat.old.seen ≡ None }
+    requires fits { HasRoom workspace.old job.now }
+    ensures works { Works job.now seat.old seat.new }
+    ensures ends { EndsAs seat.new result }
+    ensures passing { G.passing gate.now → (result ≡ End.Exhausted) ⊎ (result ≡ End.AllSettled) }
+    ensures fits { HasRoom workspace.new job.now }
+{
+    let _sitter = seat.worker();
+    let classes = job.classes().count();
+    let mut lowest = 0;
+    'claims: loop {
+        let worker = seat.worker();
+        match ledger.claim(seat) {
+            Ok(Claim::Piece { class, block }) => {
+                if !gate.pass(worker, class, block) {
+                    return End::Stopped;
+                }
+                let _sitter = seat.worker();
+                if finish_piece(job, ledger, workspace, seat, class, block) {
+                    let _sitter = seat.worker();
+                    lowest = lowest_waiting(ledger, seat, classes, lowest);
+                    if lowest >= classes {
+                        return End::AllSettled;
+                    }
+                }
+            }
+            Ok(Claim::Exhausted) => {
+                let _sitter = seat.worker();
+                return End::Exhausted;
+            }
+            Err(_) => unreachable!(),
+        }
+    }
+}
