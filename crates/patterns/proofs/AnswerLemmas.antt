@@ -61,8 +61,8 @@ rows-test_limit text width none =
     (cases_lt max_tests (length (rows text)))
 
 -- the tests of a text have their width and are within the limit
-pub IsTestList-has_tests : (text : List ℕ) (width : ℕ) (t : TestList) → HasTests text width t → IsTestList t
-IsTestList-has_tests text width t has =
+pub has_tests_list : (text : List ℕ) (width : ℕ) (t : TestList) → HasTests text width t → IsTestList t
+has_tests_list text width t has =
     record {
       each = subst (All (λ test. length test ≡ t.width)) (sym has.2)
           (All-map (λ test. length test ≡ t.width) bits (rows text)

@@ -48,6 +48,7 @@ impl Model for Tests {
 pub fn read_tests(alloc: Global, text: &[u8], width: u32) -> Result<Tests, TestFault>
     requires { 1 ≤ width }
     ensures tests { IfOk result (λ t. HasTests text.now width t) }
+    ensures list { IfOk result (λ t. IsTestList t) }
     ensures refused { IfErr result (λ fault.
         (fault ≡ TestFault.Memory) ⊎ IsTestRefusal text.now width fault) }
 {

@@ -8,13 +8,12 @@ use Rattle.bench_net.specs.Statement.{Statement}
 use Rattle.bench_net.specs.Scan.{names, sources}
 use Rattle.bench_net.specs.Circuit.{IsCircuit, HaveArities, max_signals, max_sinks, sink_count}
 use Rattle.bench_net.specs.Refusal.{IsAccepted}
-use Rattle.bench_net.proofs.Arities.{arities_of_text}
 use Rattle.fault_model.specs.declared.Model.{Model}
 use Rattle.fault_model.specs.Fault.{FaultList, fault_list}
 use Rattle.fault_model.specs.Collapse.{Collapsed, AreClassesOf}
 use Rattle.patterns.specs.Tests.{TestList, HasTests}
 use Rattle.patterns.specs.Order.{HasMoves}
-use Rattle.patterns.proofs.AnswerLemmas.{All-has_moves, IsTestList-has_tests}
+use Rattle.patterns.proofs.AnswerLemmas.{All-has_moves}
 use Rattle.block_sim.specs.declared.job.JobFault.{JobFault}
 use Rattle.block_sim.specs.declared.job.JobFault.TheVariants as job_fault
 use Rattle.block_sim.specs.Parts.{Parts, BelongTogether}
@@ -24,25 +23,6 @@ use Rattle.workers.specs.Refused.{IsScheduleFault}
 use Rattle.workers.specs.Verdict.{AreFirsts}
 use Rattle.report.specs.declared.text.SimFault.TheVariants as fault
 use Rattle.report.specs.EndToEnd.{AreTestsFor, IsJobFor, IsJobOf, IsJobWithin, IsScheduleTextFault}
-
--- the statements of an accepted text are a circuit
-pub accepted_circuit : (text : List ℕ) (c : List Statement) → IsAccepted text c → IsCircuit c
-accepted_circuit text c a = record {
-  well_formed = a.3;
-  arities = subst HaveArities (sym a.2) (arities_of_text text a.0 a.1.each);
-  signals = subst (λ x. length (names x) ≤ max_signals) (sym a.2) a.1.signals;
-  sinks = subst (λ x. sink_count x ≤ max_sinks) (sym a.2) a.1.sinks;
-}
-
--- the circuit and the tests of two texts fit together
-pub texts_fit : (bench text : List ℕ) (c : List Statement) (tests : TestList) (width : ℕ)
-    → IsAccepted bench c → HasTests text width tests → width ≡ length (sources c)
-    → AreTestsFor c tests
-texts_fit bench text c tests width accepted has same = record {
-  circuit = accepted_circuit bench c accepted;
-  tests = IsTestList-has_tests text width tests has;
-  width = has.1 ∙ same;
-}
 
 -- the parts that are made for a circuit and tests are a job of them
 pub job_is : (m : Model) (c : List Statement) (list : FaultList) (classes : Collapsed)

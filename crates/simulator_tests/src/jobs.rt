@@ -10,11 +10,7 @@ use std::test::Fail;
 /// The job of a bench text and a test text under a fault model.
 pub fn job_of(alloc: Global, bench: &[u8], tests: &[u8], model: Model) -> Result<Job, Fail> {
     let circuit = read_bench(alloc, bench)?;
-    let width = circuit.sources();
-    if width == 0 {
-        return Err(Fail::new("no source"));
-    }
-    let tests = read_tests(alloc, tests, width)?;
+    let tests = read_tests(alloc, tests, circuit.sources())?;
     let faults = list_faults_in(alloc, &circuit, model)?;
     let classes = collapse(alloc, &circuit, &faults)?;
     Ok(Job::new(alloc, circuit, faults, classes, tests)?)

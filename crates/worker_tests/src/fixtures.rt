@@ -1,6 +1,6 @@
 //! Jobs, and what is expected of their verdicts.
 
-use bench_net::{BenchFault, read_bench};
+use bench_net::read_bench;
 use block_sim::Job;
 use fault_model::{Model, collapse, list_faults_in};
 use patterns::read_tests;
@@ -65,9 +65,6 @@ pub(crate) fn job_of(
     rows: &[(&str, u32)],
 ) -> Result<Job, Fail> {
     let circuit = read_bench(alloc, bench.as_bytes())?;
-    if circuit.sources() == 0 {
-        return Err(BenchFault::Empty.into());
-    }
     let text = text_of(alloc, rows)?;
     let tests = read_tests(alloc, text.as_slice(), circuit.sources())?;
     let faults = list_faults_in(alloc, &circuit, model)?;

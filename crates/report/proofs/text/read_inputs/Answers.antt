@@ -1,7 +1,9 @@
-use Rattle.report.proofs.Accepted.{texts_fit}
+use Rattle.std.proofs.Common.{◌∙◌}
 use Rattle.report.proofs.text.read_inputs.Goals as goal
 
 pub returns-clause-fit : goal.returns-clause-fit
-returns-clause-fit c =
-    texts_fit c.args.bench.now c.args.tests.now c.in_ok-circuit.circuit c.in_ok-tests.tests c.sources.result
-    c.in_ok-circuit.ensures.accepted c.in_ok-tests.ensures.tests c.sources.ensures.count
+returns-clause-fit c = record {
+  circuit = c.in_ok-circuit.ensures.circuit;
+  tests = c.in_ok-tests.ensures.list;
+  width = c.in_ok-tests.ensures.tests.1 ∙ c.sources.ensures.count;
+}

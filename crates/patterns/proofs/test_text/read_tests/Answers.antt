@@ -1,0 +1,9 @@
+use Rattle.std.proofs.Common.{rules}
+use Rattle.patterns.specs.Tests.{HasTests}
+use Rattle.patterns.proofs.AnswerLemmas.{has_tests_list}
+use Rattle.patterns.proofs.test_text.read_tests.Goals as goal
+
+pub returns-clause-list : goal.returns-clause-list
+returns-clause-list c =
+    let has : HasTests c.args.text.now c.args.width c.loop-row.tests = search rules in
+    has_tests_list c.args.text.now c.args.width c.loop-row.tests has
