@@ -11,9 +11,9 @@ use Rattle.bench_net.specs.Circuit.{IsCircuit, sink_count}
 use Rattle.bench_net.specs.Stored.{name_at, statement_of, statements_of, defined_numbers, read_numbers, AreStatements}
 use Rattle.bench_net.specs.Tables.{AreTableLines, AreDefinitions}
 use Rattle.bench_net.specs.Marks.{gate_pins, IsGraph, AreLevelsOf}
-use Rattle.bench_net.proofs.Members.{Among, among, contained}
+use Rattle.lists.proofs.Members.{Among, among, contained}
 use Rattle.bench_net.proofs.Counted.{few_lines, pins_read, pin_count}
-use Rattle.bench_net.proofs.Named.{line_at, gate_at, definition_count}
+use Rattle.bench_net.proofs.Named.{line_at, gate_at, definition_count, at_among}
 use Rattle.bench_net.proofs.Calls.{defined_in}
 use Rattle.bench_net.proofs.NamedLevels.{level_by, levels_by, numbering_by, named_among}
 
@@ -47,11 +47,6 @@ graph ns lines at places are defs = record {
     count : length places ≡ length ns
     count = definition_count ns lines places are.numbered defs
 
-name_in : (ns : List Name) (s : ℕ) → s < length ns → Among (name_at ns s) ns
-name_in [] s lt = absurd (omega (arith, lt))
-name_in (n ∷ ns) zero lt = inl refl
-name_in (n ∷ ns) (suc s) lt = inr (name_in ns s (omega (arith, lt)))
-
 pub circuit : (ns : List Name) (lines : List Line) (at places levels : List ℕ) → AreStatements ns lines at → AreDefinitions lines places → AreLevelsOf (gate_pins lines places) (length ns) levels → lines ≢ []
     → IsCircuit (statements_of ns lines)
 circuit ns lines at places levels are defs level some = record {
@@ -74,4 +69,4 @@ circuit ns lines at places levels are defs level some = record {
     defined n c =
         let found = named_among ns (flat_map read_numbers lines) n (subst (Among n) (reads_are ns lines) (among (flat_map read (statements_of ns lines)) n c)) in
         let lt = are.numbered.in_range found.0 (contained (flat_map read_numbers lines) found.0 found.1) in
-        subst (λ xs. Contains xs n) (sym are.numbered.names_are) (contained ns n (subst (λ x. Among x ns) found.2 (name_in ns found.0 lt)))
+        subst (λ xs. Contains xs n) (sym are.numbered.names_are) (contained ns n (subst (λ x. Among x ns) found.2 (at_among ns found.0 lt)))

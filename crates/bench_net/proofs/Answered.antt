@@ -2,7 +2,7 @@
 use Rattle.std.proofs.Common.{◌≡◌, ◌≢◌, ◌<◌, ◌≤◌, ◌+◌, ℕ, zero, suc, refl, sym, ◌∙◌, ap, subst, Bool, true, false, not, List, [], ◌∷◌, length, arith, inl, inr, ◌⊎◌}
 use Rattle.std.specs.Prelude.{Contains, Option, Some, None, Result, Ok, Err, slice_get, flat_map, nat_lt, IsTrue, if◌then◌else◌}
 use Rattle.std.specs.List.{list_all, AllZip}
-use Rattle.std.proofs.lemmas.Bool.{leb-true, cases_order, lt-ltb}
+use Rattle.std.proofs.lemmas.Bool.{leb-true, cases_order, lt-ltb, not-true, not-false}
 use Rattle.bench_net.specs.declared.Limit.TheVariants.{Bytes, Signals, Sinks}
 use Rattle.bench_net.specs.declared.BenchFault.{BenchFault}
 use Rattle.bench_net.specs.declared.BenchFault.TheVariants.{TooLarge, Redefined, Undefined, Cycle}
@@ -12,10 +12,8 @@ use Rattle.bench_net.specs.Reading.{States, LinesState, statements}
 use Rattle.bench_net.specs.Scan.{names}
 use Rattle.bench_net.specs.Circuit.{IsWellFormed, IsStuckSet, IsStuck, max_bytes, max_signals, max_sinks, sink_count}
 use Rattle.bench_net.specs.Refusal.{at_line, IsLowest, NoLine, IsWithin, IsSyntaxFault, IsRedefinition, IsUndefined, IsCyclic, IsAccepted, IsRefused}
-use Rattle.bench_net.proofs.Plain.{not_split}
 use Rattle.bench_net.proofs.Reader.{stated_of, sound_states, complete_states}
-use Rattle.bench_net.proofs.Members.{Among, among, contained, each_passes, some_passes}
-use Rattle.bench_net.proofs.SignalsLists.{among_left, among_right, among_append}
+use Rattle.lists.proofs.Members.{Among, among, contained, each_passes, some_passes, among_left, among_right, among_append}
 use Rattle.bench_net.proofs.Answer.{is_in, settled, arguments_of, rounds_enough, first_line, redefines, reads_unknown, is_unsettled, line_or, statements_or, answer_stated, with_line, all_stated, answer_lines, answer_text}
 use Rattle.bench_net.proofs.Checked.{among_in, in_contained}
 use Rattle.bench_net.proofs.Refused.{any_true}
@@ -151,10 +149,6 @@ placed : (stated : List Stated) (line : ℕ) (s : Stated) → at_line stated lin
 placed stated zero s e = let bad : None ≡ Some s = e in cc
 placed stated (suc i) s e = (i, refl, e)
 
-not_off : (b : Bool) → not b ≡ false → b ≡ true
-not_off true e = refl
-not_off false e = let bad : true ≡ false = e in cc
-
 -- ---- a name that an earlier line defines
 
 names_onto : (before : List Stated) (i : ℕ) (stated : List Stated) (n : Name)
@@ -269,7 +263,7 @@ undefinition stated = record {
     yes i None at e = let bad : false ≡ true = e in cc
     yes i (Some t) at e =
         let f =
-        some_not (is_known stated) (read t) (not_split (list_all (is_known stated)
+        some_not (is_known stated) (read t) (not-true (list_all (is_known stated)
         (read t)) e) in
         let n : Name = f.0 in (
           n,
@@ -287,7 +281,7 @@ undefinition stated = record {
         let here : Some (Some t) ≡ Some (Some bad.1.0) = sym at ∙ bad.1.1 in
         let same : bad.1.0 ≡ t = cc in
         let all : list_all (is_known stated) (read t) ≡ true =
-        not_off (list_all (is_known stated) (read t)) e in
+        not-false (list_all (is_known stated) (read t)) e in
         bad.2 (in_contained (names_of stated) bad.0 (each_passes (is_known stated)
         (read t) bad.0 all (subst (λ s. Contains (read s) bad.0) same bad.1.2)))
 
@@ -355,7 +349,7 @@ cyclic stated = record {
       kind,
       args,
       at,
-      unsettled (statements stated) n (not_split (settled
+      unsettled (statements stated) n (not-true (settled
           (statements stated) (rounds_enough (statements stated)) n) e),
     )
 
@@ -371,7 +365,7 @@ cyclic stated = record {
         (Gate bad.0 bad.1 bad.2)) ≡ false =
         subst (λ x. is_unsettled (statements stated) (onto [] i stated) x ≡ false)
         (other i s bad at) e in
-        settled_free (statements stated) (rounds_enough (statements stated)) bad.0 (not_off
+        settled_free (statements stated) (rounds_enough (statements stated)) bad.0 (not-false
         (settled (statements stated) (rounds_enough (statements stated)) bad.0) off) bad.4
 
 -- ---- no line with a fault: the statements are well-formed

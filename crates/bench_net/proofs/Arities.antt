@@ -7,7 +7,7 @@ use Rattle.bench_net.specs.Text.{lines}
 use Rattle.bench_net.specs.Statement.{Name, Statement, Gate}
 use Rattle.bench_net.specs.Reading.{HasArity, States, LinesState, statements}
 use Rattle.bench_net.specs.Circuit.{HaveArities}
-use Rattle.bench_net.proofs.Members.{Among, among}
+use Rattle.lists.proofs.Members.{Among, among}
 
 -- a line that states a gate has the arity
 stated_arity : (line : List ℕ) (s : Statement) (n : Name) (kind : Kind) (args : List Name) → States line (Some s) → s ≡ Gate n kind args → HasArity kind args

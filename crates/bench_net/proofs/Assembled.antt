@@ -21,9 +21,10 @@ use Rattle.bench_net.specs.Parsed.{stands_for}
 use Rattle.bench_net.specs.Entries.{Entry, entry_of, entries_of, stated_by, names_in, reads_in, defined_of, read_of, HaveEntries, AreDistinct, IsFirstRedefinition, IsFirstUndefined}
 use Rattle.bench_net.specs.Numbering.{statements_in, AreNumberedLines}
 use Rattle.bench_net.proofs.Plain.{some_path}
-use Rattle.bench_net.proofs.Members.{Among, among, contained}
+use Rattle.lists.proofs.Members.{Among, among, contained}
 use Rattle.bench_net.proofs.Numbering.{reads_known}
-use Rattle.bench_net.proofs.Rising.{Rise, numbered_rise, entry_at_line, line_of_entry, statements_numbered, rise_front, front_below, below_in_front, contains_flat, of_flat, one_line, rise_pairs, number_in, among_at}
+use Rattle.bench_net.proofs.Rising.{Rise, numbered_rise, entry_at_line, line_of_entry, statements_numbered, rise_front, front_below, below_in_front, contains_flat, of_flat, one_line, rise_pairs, number_in}
+use Rattle.lists.proofs.Places.{at_place}
 use Rattle.bench_net.proofs.Words.{names_utf8}
 
 -- the statements of entries, and the names that they define and read
@@ -184,7 +185,7 @@ module _ (text : List ℕ) (stated : List StatedLine) (h : HaveEntries (lines te
       go (Some x) f =
           let a : x.number ≡ number = some_path x.number number (sym (ap (option_map (λ line. line.number)) f) ∙ numbers) in
           let b : stands_for x.statement ≡ statement_of ns l = some_path (stands_for x.statement) (statement_of ns l) (sym (ap (option_map (λ line. stands_for line.statement)) f) ∙ statement) in
-          let inside : Among (entry_of x) (entries_of stated) = among_at (entries_of stated) i (entry_of x) (slice_get-map entry_of stated i ∙ ap (option_map entry_of) f) in
+          let inside : Among (entry_of x) (entries_of stated) = at_place (entries_of stated) i (entry_of x) (slice_get-map entry_of stated i ∙ ap (option_map entry_of) f) in
           subst (λ y. Among y (entries_of stated)) (λ j. (a j, b j)) inside
 
   -- the numbered lines are those of the text

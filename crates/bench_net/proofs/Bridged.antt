@@ -12,7 +12,7 @@ use Rattle.bench_net.specs.Scan.{names}
 use Rattle.bench_net.specs.Circuit.{HaveArities, IsCircuit, IsStuck, sink_count}
 use Rattle.bench_net.specs.Refusal.{Defines, IsRedefinition, NoLine, IsCyclic, IsAccepted, IsRefused}
 use Rattle.bench_net.specs.Stored.{name_at, statement_of, statements_of, AreLinesOf, AreStatements, IsCyclicLine, AreRefused}
-use Rattle.bench_net.proofs.Members.{Among, contained}
+use Rattle.lists.proofs.Members.{Among, contained}
 use Rattle.bench_net.proofs.Arities.{arities_of_text}
 
 -- ---- where no line redefines a name, each name stands once

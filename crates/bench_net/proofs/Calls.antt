@@ -15,9 +15,10 @@ use Rattle.bench_net.specs.Scan.{names, signal, name_of, definition, gate_line, 
 use Rattle.bench_net.specs.Stored.{name_at, statement_of, statements_of, defined_numbers, read_numbers, AreNumbered}
 use Rattle.bench_net.specs.Tables.{input_number, output_number, cell_numbers, defines_number}
 use Rattle.bench_net.specs.Inside.{IsInside}
-use Rattle.bench_net.proofs.Members.{Among, contained}
+use Rattle.lists.proofs.Members.{Among, contained, among_left, among_right}
 use Rattle.bench_net.proofs.Counted.{few_sources, source_defined, outputs_read, pins_read}
-use Rattle.bench_net.proofs.Named.{AreNamed, name_of_at, signal_at, same_number, map_signal, inputs_are, outputs_are, cells_are, cell_names, sources_are, source_numbers, definers_are, line_at, index_of, definition_count}
+use Rattle.bench_net.proofs.Named.{AreNamed, name_of_at, signal_at, same_number, map_signal, inputs_are, outputs_are, cells_are, cell_names, sources_are, source_numbers, definers_are, line_at, definition_count}
+use Rattle.lists.proofs.Places.{placed, at_place}
 
 pub named : (ns : List Name) (lines : List Line) (tables : Tables) (levels : Levels) → IsInside ns lines tables levels → AreNamed ns lines
 named ns lines tables levels inside = record { numbered = inside.numbered; once = inside.once }
@@ -28,7 +29,7 @@ name_count ns lines tables levels inside = ap length inside.numbered.names_are
 -- the numbers that lines hold are below the number of names
 pub defined_in : (ns : List Name) (lines : List Line) (s : ℕ) → AreNumbered ns lines → Among s (flat_map defined_numbers lines) → s < length ns
 defined_in ns lines s numbered a =
-    let at = index_of (flat_map defined_numbers lines) s a in
+    let at = placed (flat_map defined_numbers lines) s a in
     omega (arith, numbered.in_order at.0 s at.1, slice_get_within (flat_map defined_numbers lines) at.0 s at.1, numbered.count)
 
 pub read_in : (ns : List Name) (lines : List Line) (s : ℕ) → AreNumbered ns lines → Among s (flat_map read_numbers lines) → s < length ns
@@ -37,11 +38,6 @@ read_in ns lines s numbered a = numbered.in_range s (contained (flat_map read_nu
 pub source_in : (ns : List Name) (lines : List Line) (s : ℕ) → AreNumbered ns lines → Among s (source_numbers lines) → s < length ns
 source_in ns lines s numbered a = defined_in ns lines s numbered (source_defined lines s a)
 
-left_among : {X : Type 0} (xs ys : List X) (x : X) → Among x xs → Among x (xs ++ ys)
-left_among [] ys x a = absurd a
-left_among (z ∷ xs) ys x (inl e) = inl e
-left_among (z ∷ xs) ys x (inr a) = inr (left_among xs ys x a)
-
 -- ---- lists of signals
 
 pub call_inputs : (ns : List Name) (lines : List Line) (tables : Tables) (levels : Levels) → IsInside ns lines tables levels
@@ -49,7 +45,7 @@ pub call_inputs : (ns : List Name) (lines : List Line) (tables : Tables) (levels
 call_inputs ns lines tables levels inside =
     inside.tables_are.inputs_are
     ∙ (sym (map_signal ns lines (filter_map input_number lines) (named ns lines tables levels inside)
-    (λ s a. source_in ns lines s inside.numbered (left_among (filter_map input_number lines) (map (λ cell. cell.q) (filter_map cell_numbers lines)) s a)))
+    (λ s a. source_in ns lines s inside.numbered (among_left (filter_map input_number lines) (map (λ cell. cell.q) (filter_map cell_numbers lines)) s a)))
     ∙ ap (map (signal (statements_of ns lines))) (sym (inputs_are ns lines)))
 
 pub call_outputs : (ns : List Name) (lines : List Line) (tables : Tables) (levels : Levels) → IsInside ns lines tables levels
@@ -69,15 +65,11 @@ cell_q (line.Gate s g ∷ lines) cell a = inr (cell_q lines cell a)
 cell_q (line.Dff q d ∷ lines) cell (inl e) = inl (ap (λ x. x.q) e)
 cell_q (line.Dff q d ∷ lines) cell (inr a) = inr (cell_q lines cell a)
 
-right_among : {X : Type 0} (xs ys : List X) (x : X) → Among x ys → Among x (xs ++ ys)
-right_among [] ys x a = a
-right_among (z ∷ xs) ys x a = inr (right_among xs ys x a)
-
 cell_d : (lines : List Line) (cell : ScanCell) → Among cell (filter_map cell_numbers lines) → Among cell.d (flat_map read_numbers lines)
 cell_d [] cell a = absurd a
 cell_d (line.Input s ∷ lines) cell a = cell_d lines cell a
 cell_d (line.Output s ∷ lines) cell a = inr (cell_d lines cell a)
-cell_d (line.Gate s g ∷ lines) cell a = right_among g.pins.items (flat_map read_numbers lines) cell.d (cell_d lines cell a)
+cell_d (line.Gate s g ∷ lines) cell a = among_right g.pins.items (flat_map read_numbers lines) cell.d (cell_d lines cell a)
 cell_d (line.Dff q d ∷ lines) cell (inl e) = inl (ap (λ x. x.d) e)
 cell_d (line.Dff q d ∷ lines) cell (inr a) = inr (cell_d lines cell a)
 
@@ -125,11 +117,6 @@ pub call_source_some : (ns : List Name) (lines : List Line) (tables : Tables) (l
 call_source_some ns lines tables levels s i inside lt at =
     source_at ns lines i ∙ (ap (option_map (name_at ns)) (inside.tables_are.places_are.some s i at) ∙ sym (name_of_at ns lines s (named ns lines tables levels inside) lt))
 
-in_list : {X : Type 0} (xs : List X) (i : ℕ) (x : X) → slice_get xs i ≡ Some x → Among x xs
-in_list [] i x h = let bad : None ≡ Some x = h in cc
-in_list (y ∷ xs) zero x h = let both : Some y ≡ Some x = h in let same : y ≡ x = cc in inl same
-in_list (y ∷ xs) (suc i) x h = inr (in_list xs i x h)
-
 pub call_source_none : (ns : List Name) (lines : List Line) (tables : Tables) (levels : Levels) (s i : ℕ) → IsInside ns lines tables levels → s < length ns
     → slice_get tables.source_places.items s ≡ Some None → slice_get (sources (statements_of ns lines)) i ≢ name_of (statements_of ns lines) s
 call_source_none ns lines tables levels s i inside lt at same =
@@ -140,7 +127,7 @@ call_source_none ns lines tables levels s i inside lt at same =
     go (Some t) e h =
         let both : Some (name_at ns t) ≡ Some (name_at ns s) = h in
         let names_same : name_at ns t ≡ name_at ns s = cc in
-        let t_lt = source_in ns lines t inside.numbered (in_list (source_numbers lines) i t e) in
+        let t_lt = source_in ns lines t inside.numbered (at_place (source_numbers lines) i t e) in
         let is : t ≡ s = same_number ns lines t s (named ns lines tables levels inside) t_lt lt names_same in
         inside.tables_are.places_are.none s i at (e ∙ ap Some is)
 
@@ -159,7 +146,7 @@ call_gate ns lines tables levels s l inside lt at =
     let both : Some found.0 ≡ Some l = sym found.1 ∙ at in
     let same : found.0 ≡ l = cc in
     let is : definition c s ≡ Some (statement_of ns l) = ap (λ xs. slice_get xs s) (definers_are ns lines) ∙ (slice_get-map (statement_of ns) (filter defines_number lines) s ∙ (ap (option_map (statement_of ns)) found.3 ∙ ap (λ x. Some (statement_of ns x)) same)) in
-    ap (gate_line c) is ∙ go l (in_list lines (slice_index tables.definitions.items s) l at)
+    ap (gate_line c) is ∙ go l (at_place lines (slice_index tables.definitions.items s) l at)
   where
     go : (m : Line) → Among m lines → gate_line (statements_of ns lines) (Some (statement_of ns m)) ≡ line_gate m
     go (line.Input t) a = refl

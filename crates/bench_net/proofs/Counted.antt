@@ -11,25 +11,7 @@ use Rattle.bench_net.specs.declared.Sink.TheVariants.{Pin, Out}
 use Rattle.bench_net.specs.declared.sinks.Reader.{Reader}
 use Rattle.bench_net.specs.Stored.{defined_numbers, read_numbers}
 use Rattle.bench_net.specs.Tables.{input_number, output_number, cell_numbers, pin_readers, output_readers, line_readers, all_readers, PinsFit}
-use Rattle.bench_net.proofs.Members.{Among}
-
-among_left : {X : Type 0} (xs ys : List X) (x : X) → Among x xs → Among x (xs ++ ys)
-among_left [] ys x a = absurd a
-among_left (z ∷ xs) ys x (inl e) = inl e
-among_left (z ∷ xs) ys x (inr a) = inr (among_left xs ys x a)
-
-among_right : {X : Type 0} (xs ys : List X) (x : X) → Among x ys → Among x (xs ++ ys)
-among_right [] ys x a = a
-among_right (z ∷ xs) ys x a = inr (among_right xs ys x a)
-
-pub among_cases : {X : Type 0} (xs ys : List X) (x : X) → Among x (xs ++ ys) → Among x xs ⊎ Among x ys
-among_cases [] ys x a = inr a
-among_cases (z ∷ xs) ys x (inl e) = inl (inl e)
-among_cases (z ∷ xs) ys x (inr a) = go (among_cases xs ys x a)
-  where
-    go : Among x xs ⊎ Among x ys → Among x (z ∷ xs) ⊎ Among x ys
-    go (inl b) = inl (inr b)
-    go (inr b) = inr b
+use Rattle.lists.proofs.Members.{Among, among_left, among_right, among_append}
 
 -- ---- sources
 
@@ -63,7 +45,7 @@ few_lines (line.Gate s g ∷ lines) = omega (arith, few_lines lines, length-appe
 few_lines (line.Dff q d ∷ lines) = omega (arith, few_lines lines)
 
 pub source_defined : (lines : List Line) (s : ℕ) → Among s (filter_map input_number lines ++ map (λ cell. cell.q) (filter_map cell_numbers lines)) → Among s (flat_map defined_numbers lines)
-source_defined lines s a = go (among_cases (filter_map input_number lines) (map (λ cell. cell.q) (filter_map cell_numbers lines)) s a)
+source_defined lines s a = go (among_append (filter_map input_number lines) (map (λ cell. cell.q) (filter_map cell_numbers lines)) s a)
   where
     input : (ls : List Line) → Among s (filter_map input_number ls) → Among s (flat_map defined_numbers ls)
     input [] b = absurd b
@@ -117,7 +99,7 @@ lines_read : (cell : ℕ) (lines : List Line) (reader : Reader) → Among reader
 lines_read cell [] reader a = absurd a
 lines_read cell (line.Input s ∷ lines) reader a = lines_read cell lines reader a
 lines_read cell (line.Output s ∷ lines) reader a = inr (lines_read cell lines reader a)
-lines_read cell (line.Gate s g ∷ lines) reader a = go (lines_read cell lines reader) (among_cases (pin_readers s g.pins.items) (line_readers cell lines) reader a)
+lines_read cell (line.Gate s g ∷ lines) reader a = go (lines_read cell lines reader) (among_append (pin_readers s g.pins.items) (line_readers cell lines) reader a)
   where
     go : (Among reader (line_readers cell lines) → Among reader.signal (flat_map read_numbers lines)) → Among reader (pin_readers s g.pins.items) ⊎ Among reader (line_readers cell lines)
         → Among reader.signal (g.pins.items ++ flat_map read_numbers lines)
@@ -135,7 +117,7 @@ outputs_read (line.Gate t g ∷ lines) s a = among_right g.pins.items (flat_map 
 outputs_read (line.Dff q d ∷ lines) s a = inr (outputs_read lines s a)
 
 pub reader_reads : (lines : List Line) (reader : Reader) → Among reader (all_readers lines (filter_map output_number lines)) → Among reader.signal (flat_map read_numbers lines)
-reader_reads lines reader a = go (among_cases (line_readers 0 lines) (output_readers (filter_map output_number lines)) reader a)
+reader_reads lines reader a = go (among_append (line_readers 0 lines) (output_readers (filter_map output_number lines)) reader a)
   where
     go : Among reader (line_readers 0 lines) ⊎ Among reader (output_readers (filter_map output_number lines)) → Among reader.signal (flat_map read_numbers lines)
     go (inl b) = lines_read 0 lines reader b

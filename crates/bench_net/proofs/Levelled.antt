@@ -7,7 +7,7 @@ use Rattle.bench_net.specs.declared.levels.LevelFault.{LevelFault}
 use Rattle.bench_net.specs.declared.levels.LevelFault.TheVariants.{Memory, Cycle}
 use Rattle.bench_net.specs.Level.{greatest}
 use Rattle.bench_net.specs.Marks.{marked_level, level_of_mark, level_from, level_or_zero, IsLevelled, PinsLevelled, AreMarks, AreLevelsOf, HasPinIn, IsStuckAt, IsLowestStuck, IsRootFault, IsLevelFault}
-use Rattle.bench_net.proofs.Members.{among}
+use Rattle.lists.proofs.Members.{among}
 use Rattle.bench_net.proofs.Marking.{greatest-above, map-same}
 
 not_stuck_below : (pins : ℕ → Option (List ℕ)) (n : ℕ) (marks : List Mark) (members : List ℕ) → AreMarks pins n marks → ((m : ℕ) → Contains members m → HasPinIn pins members m)

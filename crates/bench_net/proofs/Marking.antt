@@ -10,7 +10,7 @@ use Rattle.bench_net.specs.declared.levels.Mark.{Mark}
 use Rattle.bench_net.specs.declared.levels.Mark.TheVariants.{Unvisited, Open, Level}
 use Rattle.bench_net.specs.Level.{greatest}
 use Rattle.bench_net.specs.Marks.{line_pins, mark_from, level_of_mark, marked_level, has_level, IsLevelled, level_or_zero, level_from, PinsLevelled, AreMarks, NoneOpen, KeepsLevels}
-use Rattle.bench_net.proofs.Members.{Among, contained}
+use Rattle.lists.proofs.Members.{Among, contained}
 
 -- the mark of the line at a place, before any gate is followed
 abbrev pub first_mark : List Line → ℕ → Mark

@@ -14,9 +14,10 @@ use Rattle.bench_net.specs.Scan.{signal, name_of, inputs, outputs, cells, source
 use Rattle.bench_net.specs.Stored.{name_at, statement_of, statements_of, defined_numbers, AreNumbered}
 use Rattle.bench_net.specs.Tables.{input_number, output_number, cell_numbers, defined_number, defines_number, AreDefinitions}
 use Rattle.bench_net.specs.Marks.{gate_pins, line_pins}
-use Rattle.bench_net.proofs.Members.{Among, contained}
+use Rattle.lists.proofs.Members.{Among, contained}
 use Rattle.bench_net.proofs.Checked.{same_bytes, bytes_refl}
 use Rattle.bench_net.proofs.Numbers.{signal-name_of}
+use Rattle.lists.proofs.Places.{placed, within_place}
 
 -- names that are numbered, each once
 pub record AreNamed (ns : List Name) (lines : List Line) : Type 0 where
@@ -28,7 +29,7 @@ pub record AreNamed (ns : List Name) (lines : List Line) : Type 0 where
 pub name_of_at : (ns : List Name) (lines : List Line) (s : ℕ) → AreNamed ns lines → s < length ns → name_of (statements_of ns lines) s ≡ Some (name_at ns s)
 name_of_at ns lines s named lt = ap (λ xs. slice_get xs s) named.numbered.names_are ∙ slice_get-get_or ns s [] lt
 
-at_among : (ns : List Name) (s : ℕ) → s < length ns → Among (name_at ns s) ns
+pub at_among : (ns : List Name) (s : ℕ) → s < length ns → Among (name_at ns s) ns
 at_among [] s lt = absurd (omega (arith, lt))
 at_among (n ∷ ns) zero lt = inl refl
 at_among (n ∷ ns) (suc s) lt = inr (at_among ns s (omega (arith, lt)))
@@ -134,29 +135,19 @@ definer_among (line.Output t ∷ lines) l s (inr a) d = definer_among lines l s 
 definer_among (line.Gate t g ∷ lines) l s (inr a) d = inr (definer_among lines l s a d)
 definer_among (line.Dff q d' ∷ lines) l s (inr a) d = inr (definer_among lines l s a d)
 
-pub index_of : {X : Type 0} (xs : List X) (x : X) → Among x xs → (i : ℕ) × (slice_get xs i ≡ Some x)
-index_of [] x a = absurd a
-index_of (y ∷ xs) x (inl e) = (0, ap Some e)
-index_of (y ∷ xs) x (inr a) = let i = index_of xs x a in (suc i.0, i.1)
-
-some_at : {X : Type 0} (xs : List X) (i : ℕ) → i < length xs → (x : X) × (slice_get xs i ≡ Some x)
-some_at [] i lt = absurd (omega (arith, lt))
-some_at (x ∷ xs) zero lt = (x, refl)
-some_at (x ∷ xs) (suc i) lt = some_at xs i (omega (arith, lt))
-
 -- the line of each signal, and the signal of each line
 pub line_of : (ns : List Name) (lines : List Line) (s : ℕ) → AreNumbered ns lines → s < length ns → (l : Line) × (slice_get (filter defines_number lines) s ≡ Some l) × (defined_number l ≡ Some s)
 line_of ns lines s numbered lt =
-    let l = some_at (filter defines_number lines) s (omega (arith, lt, definer_count lines, numbered.count)) in
-    let n = some_at (flat_map defined_numbers lines) s (omega (arith, lt, numbered.count)) in
+    let l = within_place (filter defines_number lines) s (omega (arith, lt, definer_count lines, numbered.count)) in
+    let n = within_place (flat_map defined_numbers lines) s (omega (arith, lt, numbered.count)) in
     (l.0, l.1, definer_at lines s n.0 l.0 l.1 n.1 ∙ ap Some (numbered.in_order s n.0 n.1))
 
 pub only_line : (ns : List Name) (lines : List Line) (l : Line) (s : ℕ) → AreNumbered ns lines → Among l lines → defined_number l ≡ Some s → slice_get (filter defines_number lines) s ≡ Some l
 only_line ns lines l s numbered a d =
-    let at = index_of (filter defines_number lines) l (definer_among lines l s a d) in
+    let at = placed (filter defines_number lines) l (definer_among lines l s a d) in
     let i : ℕ = at.0 in
     let lt : i < length (filter defines_number lines) = slice_get_within (filter defines_number lines) i l at.1 in
-    let n = some_at (flat_map defined_numbers lines) i (omega (arith, lt, definer_count lines)) in
+    let n = within_place (flat_map defined_numbers lines) i (omega (arith, lt, definer_count lines)) in
     let both : Some n.0 ≡ Some s = sym (definer_at lines i n.0 l at.1 n.1) ∙ d in
     let same : n.0 ≡ s = cc in
     let place : s ≡ i = sym same ∙ numbered.in_order i n.0 n.1 in

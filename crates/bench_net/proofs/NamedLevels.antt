@@ -16,8 +16,8 @@ use Rattle.bench_net.specs.Stored.{name_at, statements_of, read_numbers}
 use Rattle.bench_net.specs.Tables.{input_number, cell_numbers, defined_number, AreDefinitions}
 use Rattle.bench_net.specs.Marks.{gate_pins, line_pins, level_from, AreLevelsOf}
 use Rattle.bench_net.specs.Rows.{rank, AreRows}
-use Rattle.bench_net.proofs.Members.{Among, among, contained}
-use Rattle.bench_net.proofs.Counted.{pins_read, among_cases}
+use Rattle.lists.proofs.Members.{Among, among, contained, among_append}
+use Rattle.bench_net.proofs.Counted.{pins_read}
 use Rattle.bench_net.proofs.Marking.{greatest-cons}
 use Rattle.bench_net.proofs.Ranks.{rank-equal, rank-less, rank-in}
 use Rattle.bench_net.proofs.Grouped.{has_rank}
@@ -56,7 +56,7 @@ gate_statement ns (l ∷ lines) n kind args (inr a) = let found = gate_statement
 
 -- a source is defined by a line that is no gate's
 source_line : (lines : List Line) (s : ℕ) → Among s (source_numbers lines) → (l : Line) × Among l lines × (defined_number l ≡ Some s) × (line_pins (Some l) ≡ None)
-source_line lines s a = go (among_cases (filter_map input_number lines) (map (λ cell. cell.q) (filter_map cell_numbers lines)) s a)
+source_line lines s a = go (among_append (filter_map input_number lines) (map (λ cell. cell.q) (filter_map cell_numbers lines)) s a)
   where
     input : (ls : List Line) → Among s (filter_map input_number ls) → (l : Line) × Among l ls × (defined_number l ≡ Some s) × (line_pins (Some l) ≡ None)
     input [] b = absurd b

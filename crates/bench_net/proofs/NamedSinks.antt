@@ -16,10 +16,11 @@ use Rattle.bench_net.specs.Scan.{signal, cell, places, pins_of, sinks}
 use Rattle.bench_net.specs.Stored.{name_at, statements_of, defined_numbers, read_numbers}
 use Rattle.bench_net.specs.Tables.{output_number, cell_numbers, pin_readers, output_readers, line_readers, all_readers, sinks_at}
 use Rattle.std.proofs.lemmas.Option.{slice_get_within}
-use Rattle.bench_net.proofs.Members.{Among, contained}
+use Rattle.lists.proofs.Members.{Among, contained}
 use Rattle.bench_net.proofs.Checked.{bytes_refl}
 use Rattle.bench_net.proofs.Counted.{outputs_read}
-use Rattle.bench_net.proofs.Named.{AreNamed, signal_at, bytes_at, outputs_are, cells_are, q_names, index_of}
+use Rattle.bench_net.proofs.Named.{AreNamed, signal_at, bytes_at, outputs_are, cells_are, q_names}
+use Rattle.lists.proofs.Places.{placed}
 
 -- the sinks of a signal among readers
 abbrev sinks_from : List Reader → ℕ → List Sink
@@ -140,7 +141,7 @@ sinks_named ns lines s named lt =
     ∙ ap (λ ys. flat_map (pins_of (statements_of ns lines) (name_at ns s)) (statements_of ns lines) ++ ys) (outs ∙ ap (λ os. map Out (places (name_at ns s) os)) (sym (outputs_are ns lines))))
   where
     defined : InRange (length ns) (flat_map defined_numbers lines)
-    defined x a = let at = index_of (flat_map defined_numbers lines) x a in
+    defined x a = let at = placed (flat_map defined_numbers lines) x a in
         omega (arith, named.numbered.in_order at.0 x at.1, slice_get_within (flat_map defined_numbers lines) at.0 x at.1, named.numbered.count)
 
     read : InRange (length ns) (flat_map read_numbers lines)

@@ -1,5 +1,5 @@
 -- Names looked up by their numbers, and lines numbered one after another.
-use Rattle.std.proofs.Common.{◌≡◌, ◌<◌, ◌≤◌, ◌+◌, ℕ, zero, suc, refl, sym, ◌∙◌, ap, subst, Bool, true, false, List, [], ◌∷◌, ◌++◌, length, take, drop, map, arith, get_or, inl, inr, ◌⊎◌, length-append}
+use Rattle.std.proofs.Common.{◌≡◌, ◌<◌, ◌≤◌, ◌+◌, ℕ, zero, suc, refl, sym, ◌∙◌, ap, subst, Bool, true, false, List, [], ◌∷◌, ◌++◌, length, take, drop, map, arith, get_or, inl, inr, ◌⊎◌, length-append, append-nil}
 use Rattle.std.specs.Prelude.{Contains, Some, slice_get, slice_index_or, flat_map, bytes_eq, position, Result, Ok, Err, IfErr}
 use Rattle.std.specs.List.{All, list_any}
 use Rattle.std.specs.Borrow.{Bor}
@@ -23,7 +23,7 @@ use Rattle.bench_net.specs.Entries.{names_in, reads_in, defined_of, read_of, IsF
 use Rattle.bench_net.specs.Stored.{name_at, statement_of, statements_of, defined_numbers, read_numbers}
 use Rattle.bench_net.specs.Numbering.{LacksOneOf, IsNextFor, IsNumberedLine, statements_in, AreNumberedLines}
 use Rattle.bench_net.proofs.Checked.{same_bytes, among_in}
-use Rattle.bench_net.proofs.Members.{Among, among}
+use Rattle.lists.proofs.Members.{Among, among}
 use Rattle.bench_net.proofs.Passes.{at_item, names_more, names_fit}
 use Rattle.bench_net.proofs.Answer.{is_in}
 
@@ -94,10 +94,6 @@ at_length : (front back : List Name) (n : Name) → slice_index_or (front ++ (n 
 at_length [] back n = refl
 at_length (m ∷ front) back n = at_length front back n
 
-append_nil : {A : Type 0} (xs : List A) → xs ++ [] ≡ xs
-append_nil [] = refl
-append_nil (x ∷ xs) = ap (λ ys. x ∷ ys) (append_nil xs)
-
 -- the number of the name that a line defines is that of the names before it
 pub next_for : (ns : List Name) (stated : List StatedLine) (i : ℕ) (line : StatedLine) (next : ℕ) → ns ≡ names_in stated → i < length stated → line ≡ get_or stated i line
     → next ≡ length (names_in (take i stated)) → IsNextFor ns next (stands_for line.statement)
@@ -157,13 +153,13 @@ push_line ns stated lines new l h one_more = record {
 }
   where
     numbers : flat_map defined_numbers (lines ++ l ∷ []) ≡ flat_map defined_numbers lines ++ defined_numbers l
-    numbers = flat_map-append defined_numbers lines (l ∷ []) ∙ ap (λ ys. flat_map defined_numbers lines ++ ys) (append_nil (defined_numbers l))
+    numbers = flat_map-append defined_numbers lines (l ∷ []) ∙ ap (λ ys. flat_map defined_numbers lines ++ ys) (append-nil (defined_numbers l))
 
     pins : flat_map read_numbers (lines ++ l ∷ []) ≡ flat_map read_numbers lines ++ read_numbers l
-    pins = flat_map-append read_numbers lines (l ∷ []) ∙ ap (λ ys. flat_map read_numbers lines ++ ys) (append_nil (read_numbers l))
+    pins = flat_map-append read_numbers lines (l ∷ []) ∙ ap (λ ys. flat_map read_numbers lines ++ ys) (append-nil (read_numbers l))
 
     names : names_in (stated ++ new ∷ []) ≡ names_in stated ++ defined_of new
-    names = flat_map-append defined_of stated (new ∷ []) ∙ ap (λ ys. names_in stated ++ ys) (append_nil (defined_of new))
+    names = flat_map-append defined_of stated (new ∷ []) ∙ ap (λ ys. names_in stated ++ ys) (append-nil (defined_of new))
 
     counted : length (flat_map defined_numbers lines) + length (defined_numbers l) ≡ length (names_in stated) + length (defined_of new)
     counted = omega (arith, h.own_count, ap length one_more.own, length-map (defined_of new) (λ n. length (names_in stated)))
@@ -171,7 +167,7 @@ push_line ns stated lines new l h one_more = record {
     order : (defined_of new ≡ []) ⊎ ((m : Name) × (defined_of new ≡ m ∷ []))
         → (i number : ℕ) → slice_get (flat_map defined_numbers lines ++ defined_numbers l) i ≡ Some number → number ≡ i
     order (inl none) = subst (λ own. (i number : ℕ) → slice_get (flat_map defined_numbers lines ++ own) i ≡ Some number → number ≡ i) (sym (one_more.own ∙ ap (map (λ n. length (names_in stated))) none))
-        (subst (λ all. (i number : ℕ) → slice_get all i ≡ Some number → number ≡ i) (sym (append_nil (flat_map defined_numbers lines))) h.in_order)
+        (subst (λ all. (i number : ℕ) → slice_get all i ≡ Some number → number ≡ i) (sym (append-nil (flat_map defined_numbers lines))) h.in_order)
     order (inr some) = subst (λ own. (i number : ℕ) → slice_get (flat_map defined_numbers lines ++ own) i ≡ Some number → number ≡ i) (sym (one_more.own ∙ ap (map (λ n. length (names_in stated))) some.1))
         (push_order (flat_map defined_numbers lines) (length (names_in stated)) h.in_order (sym h.own_count))
 

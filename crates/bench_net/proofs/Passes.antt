@@ -1,5 +1,5 @@
 -- Steps of the passes over the lines: names counted, names defined, names read.
-use Rattle.std.proofs.Common.{◌≡◌, ◌<◌, ◌≤◌, ◌+◌, ℕ, suc, refl, sym, ◌∙◌, ap, subst, Bool, true, false, List, [], ◌∷◌, ◌++◌, length, take, drop, arith, get_or, length-append, take-append-drop}
+use Rattle.std.proofs.Common.{◌≡◌, ◌<◌, ◌≤◌, ◌+◌, ℕ, suc, refl, sym, ◌∙◌, ap, subst, Bool, true, false, List, [], ◌∷◌, ◌++◌, length, take, drop, arith, get_or, length-append, take-append-drop, append-nil}
 use Rattle.std.specs.Prelude.{Contains, AllPairs, ◌≢◌, flat_map, not, bytes_eq, if◌then◌else◌}
 use Rattle.std.specs.List.{list_any}
 use Rattle.std.proofs.lemmas.List.{take_more, map_push}
@@ -14,11 +14,7 @@ use Rattle.bench_net.specs.Parsed.{names_of}
 use Rattle.bench_net.specs.Entries.{IsAddition}
 use Rattle.bench_net.proofs.Checked.{in_contained, among_in}
 use Rattle.bench_net.proofs.Answer.{is_in}
-use Rattle.bench_net.proofs.Members.{among}
-
-append_nil : {A : Type 0} (xs : List A) → xs ++ [] ≡ xs
-append_nil [] = refl
-append_nil (x ∷ xs) = ap (λ ys. x ∷ ys) (append_nil xs)
+use Rattle.lists.proofs.Members.{among}
 
 -- a list at one of its elements
 pub at_item : {A : Type 0} (xs : List A) (i : ℕ) (x : A) → i < length xs → x ≡ get_or xs i x → xs ≡ take i xs ++ (x ∷ drop (suc i) xs)
@@ -27,7 +23,7 @@ at_item xs i x h e = sym (take-append-drop i xs) ∙ ap (λ ys. take i xs ++ ys)
 -- the names of one more line
 pub names_more : {A : Type 0} (f : A → List Name) (xs : List A) (i : ℕ) (x : A) → i < length xs → x ≡ get_or xs i x → flat_map f (take (i + 1) xs) ≡ flat_map f (take i xs) ++ f x
 names_more f xs i x h e =
-    ap (flat_map f) (take_more xs i x h ∙ ap (λ y. take i xs ++ y ∷ []) (sym e)) ∙ flat_map-append f (take i xs) (x ∷ []) ∙ ap (λ ys. flat_map f (take i xs) ++ ys) (append_nil (f x))
+    ap (flat_map f) (take_more xs i x h ∙ ap (λ y. take i xs ++ y ∷ []) (sym e)) ∙ flat_map-append f (take i xs) (x ∷ []) ∙ ap (λ ys. flat_map f (take i xs) ++ ys) (append-nil (f x))
 
 -- the names so far and those of this line are no more than all
 pub names_fit : {A : Type 0} (f : A → List Name) (xs : List A) (i : ℕ) (x : A) → i < length xs → x ≡ get_or xs i x → length (flat_map f (take i xs)) + length (f x) ≤ length (flat_map f xs)

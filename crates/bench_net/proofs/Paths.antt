@@ -8,7 +8,7 @@ use Rattle.bench_net.specs.declared.levels.Mark.TheVariants.{Unvisited, Open, Le
 use Rattle.bench_net.specs.declared.levels.Step.{Step}
 use Rattle.bench_net.specs.Level.{greatest}
 use Rattle.bench_net.specs.Marks.{level_of_mark, marked_level, IsLevelled, level_or_zero, AreMarks, NoneOpen, KeepsLevels, HasPinIn, IsStuckAt}
-use Rattle.bench_net.proofs.Members.{Among, among, contained}
+use Rattle.lists.proofs.Members.{Among, among, contained}
 use Rattle.bench_net.proofs.Marking.{opened, open_keeps, finished, marked_set, read_set}
 
 abbrev pub gates_of : List Step → List ℕ

@@ -13,7 +13,7 @@ use Rattle.bench_net.specs.Refusal.{IsLowest}
 use Rattle.bench_net.specs.Stored.{name_at, statement_of, statements_of, defined_numbers, read_numbers, AreNumbered, IsCyclicLine}
 use Rattle.bench_net.specs.Tables.{defined_number, AreDefinitions}
 use Rattle.bench_net.specs.Marks.{gate_pins, line_pins, HasPinIn, IsStuckAt, IsLowestStuck}
-use Rattle.bench_net.proofs.Members.{Among, among, contained, some_passes}
+use Rattle.lists.proofs.Members.{Among, among, contained, some_passes}
 use Rattle.bench_net.proofs.Checked.{same_bytes, bytes_refl}
 use Rattle.bench_net.proofs.Counted.{pins_read}
 use Rattle.bench_net.proofs.Named.{AreNamed, same_number, line_at, gate_at, pins_of_line, defined_below}

@@ -5,7 +5,8 @@ use Rattle.bench_net.specs.Statement.{Name, Statement, defined}
 use Rattle.bench_net.specs.Reading.{statements}
 use Rattle.bench_net.specs.Refusal.{at_line}
 use Rattle.bench_net.specs.Entries.{Entry, numbered_from, stated_by, AreDistinct}
-use Rattle.bench_net.proofs.Members.{Among, among, contained}
+use Rattle.lists.proofs.Members.{Among, among, contained}
+use Rattle.lists.proofs.Places.{at_place}
 
 -- each number is above those before it, and the first is k or more
 abbrev pub Rise : ℕ → List Entry → Type 0
@@ -186,9 +187,3 @@ number_in entries line s a = contained (map (λ e. e.0) entries) line (go entrie
     go [] x = x
     go (e ∷ es) (inl x) = inl (ap (λ z. z.0) x)
     go (e ∷ es) (inr x) = inr (go es x)
-
--- what stands at a place is among them
-pub among_at : {X : Type 0} (xs : List X) (i : ℕ) (x : X) → slice_get xs i ≡ Some x → Among x xs
-among_at [] i x e = cc
-among_at (y ∷ ys) zero x e = inl (cc)
-among_at (y ∷ ys) (suc i) x e = inr (among_at ys i x e)

@@ -7,9 +7,9 @@ use Rattle.bench_net.specs.declared.Sink.TheVariants.{Pin, Data, Out}
 use Rattle.bench_net.specs.Statement.{Name, Statement, Input, Output, Gate, Dff, read}
 use Rattle.bench_net.specs.Scan.{names, signal, outputs, cell, places, pins_of, sinks}
 use Rattle.bench_net.specs.Circuit.{IsWellFormed, sink_count}
-use Rattle.bench_net.proofs.Members.{Among}
+use Rattle.lists.proofs.Members.{Among}
 use Rattle.bench_net.proofs.Checked.{same_bytes}
-use Rattle.bench_net.proofs.SignalsLists.{Distinct, distinct_from_pairs}
+use Rattle.lists.proofs.Distinct.{Distinct, distinct_from_pairs}
 
 -- how often a name stands in a list
 abbrev pub count : Name → List Name → ℕ

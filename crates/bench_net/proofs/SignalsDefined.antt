@@ -6,10 +6,11 @@ use Rattle.std.proofs.Math.Numerals.{one-add}
 use Rattle.bench_net.specs.Statement.{Name, Statement, Input, Output, Gate, Dff, defined, read}
 use Rattle.bench_net.specs.Scan.{names, signal, name_of, definition, inputs, outputs, cells, sources}
 use Rattle.bench_net.specs.Circuit.{IsWellFormed}
-use Rattle.bench_net.proofs.Members.{Among, among, contained}
+use Rattle.lists.proofs.Members.{Among, among, contained, among_append, among_joined}
 use Rattle.bench_net.proofs.Checked.{same_bytes, bytes_refl}
 use Rattle.bench_net.proofs.Numbers.{at_position, name_of-signal}
-use Rattle.bench_net.proofs.SignalsLists.{Distinct, distinct_from_pairs, distinct_between, one_place_of, among_append, among_joined, at_place}
+use Rattle.lists.proofs.Distinct.{Distinct, distinct_from_pairs, distinct_between, one_place_of}
+use Rattle.lists.proofs.Places.{at_place}
 
 -- a name other than n is no n for the test of bytes
 pub bytes_differ : (n m : Name) → m ≢ n → bytes_eq n m ≡ false

@@ -8,30 +8,13 @@ use Rattle.bench_net.specs.declared.Sink.TheVariants.{Pin, Data, Out}
 use Rattle.bench_net.specs.Statement.{Name, Statement, Input, Output, Gate, Dff}
 use Rattle.bench_net.specs.Scan.{names, signal, outputs, cells, cell, places, pins_of, sinks}
 use Rattle.bench_net.specs.Circuit.{IsWellFormed}
-use Rattle.bench_net.proofs.Members.{Among, contained}
+use Rattle.lists.proofs.Members.{Among, contained, among_append, mapped_from, joined_from, filtered_from}
 use Rattle.bench_net.proofs.Checked.{same_bytes}
 use Rattle.bench_net.proofs.Numbers.{at_position}
-use Rattle.bench_net.proofs.SignalsLists.{Distinct, distinct_from_pairs, among_append, mapped_from, joined_from, filtered_from, numbered_from}
+use Rattle.lists.proofs.Distinct.{Distinct, distinct_from_pairs, distinct_append, distinct_map}
+use Rattle.lists.proofs.Places.{numbered_from}
 use Rattle.bench_net.proofs.SignalsDefined.{signal_apart, one_definition, defined_among}
 use Rattle.bench_net.proofs.SignalsSinks.{pin_reads, places_are}
-
-pub distinct_append : {X : Type 0} (xs ys : List X) → Distinct xs → Distinct ys → ((x : X) → Among x xs → Among x ys → ⊥) → Distinct (xs ++ ys)
-distinct_append [] ys d e apart = e
-distinct_append {X} (x ∷ xs) ys d e apart = (fresh, distinct_append xs ys d.1 e (λ y a b. apart y (inr a) b))
-  where
-    split : Among x xs ⊎ Among x ys → ⊥
-    split (inl h) = d.0 h
-    split (inr h) = apart x (inl refl) h
-
-    fresh : Among x (xs ++ ys) → ⊥
-    fresh a = split (among_append xs ys x a)
-
-pub distinct_map : {X Y : Type 0} (f : X → Y) (xs : List X) → ((x y : X) → f x ≡ f y → x ≡ y) → Distinct xs → Distinct (map f xs)
-distinct_map f [] one d = tt
-distinct_map {X} {Y} f (x ∷ xs) one d = (fresh, distinct_map f xs one d.1)
-  where
-    fresh : Among (f x) (map f xs) → ⊥
-    fresh a = let p = mapped_from f xs (f x) a in d.0 (subst (λ y. Among y xs) (one p.0 x p.2) p.1)
 
 -- the places of a name are apart
 places_from : (n : Name) (ns : List Name) (from : ℕ) → Distinct (map (λ at. at.0) (filter (λ at. bytes_eq n at.1) (enumerate_from from ns)))
@@ -112,7 +95,7 @@ out_reads c n number a = go (among_append (flat_map (pins_of c n) c) (map Out (p
         subst (λ k. slice_get (outputs c) k ≡ Some n) same (places_are n (outputs c) p.0 p.1)
 
 -- the q of a cell that stands in the list
-q_among : (c : List Statement) (q d : Name) → Among (Dff q d) c → Among q (map (λ cell. cell.0) (cells c))
+pub q_among : (c : List Statement) (q d : Name) → Among (Dff q d) c → Among q (map (λ cell. cell.0) (cells c))
 q_among [] q d a = absurd a
 q_among (Dff p e ∷ c) q d (inl same) = let it : Dff p e ≡ Dff q d = same in let here : p ≡ q = cc in inl here
 q_among (Dff p e ∷ c) q d (inr a) = inr (q_among c q d a)

@@ -7,8 +7,9 @@ use Rattle.bench_net.specs.Statement.{Name, Statement, Input, Output, Gate, Dff,
 use Rattle.bench_net.specs.Reading.{HasArity}
 use Rattle.bench_net.specs.Scan.{names, inputs, cells, sources}
 use Rattle.bench_net.specs.Circuit.{IsWellFormed, IsCircuit}
-use Rattle.bench_net.proofs.Members.{Among, among, contained}
+use Rattle.lists.proofs.Members.{Among, among, contained}
 use Rattle.bench_net.proofs.SignalsDefined.{read_named}
+use Rattle.bench_net.proofs.Reader.{some_args}
 
 -- a well-formed list defines a name
 names_of_output : (c : List Statement) (n : Name) → Contains (names c) n → 0 < length (names c)
@@ -50,17 +51,6 @@ driven (Gate m kind args ∷ c) n (inr a) = go (driven c n a)
     go d = elim d [ inl h ↦ inl h | inr x ↦ inr (x.0, x.1, inr x.2) ]
 driven (Dff q d ∷ c) n a = inl (cell_more (inputs c) (map (λ cell. cell.0) (cells c)) q)
 
--- a gate has an argument
-some_argument : (kind : Kind) (args : List Name) → HasArity kind args → 1 ≤ length args
-some_argument And args h = h
-some_argument Nand args h = h
-some_argument Or args h = h
-some_argument Nor args h = h
-some_argument Xor args h = h
-some_argument Xnor args h = h
-some_argument Not args h = omega (arith, h)
-some_argument Buff args h = omega (arith, h)
-
 first_argument : (args : List Name) → 1 ≤ length args → (a : Name) × Among a args
 first_argument [] h = absurd (omega (arith, h))
 first_argument (a ∷ args) h = (a, inl refl)
@@ -75,7 +65,7 @@ back c is (suc bound) n lt a = elim (driven c n a) [ inl h ↦ h | inr x ↦ fur
         → ((m : Name) → is.well_formed.acyclic.0 m < bound → Among m (names c) → 1 ≤ length (sources c)) → 1 ≤ length (sources c)
     further x before =
         let at : Contains c (Gate n x.0 x.1) = contained c (Gate n x.0 x.1) x.2 in
-        let first = first_argument x.1 (some_argument x.0 x.1 (is.arities n x.0 x.1 at)) in
+        let first = first_argument x.1 (some_args x.0 x.1 (is.arities n x.0 x.1 at)) in
         let lower = is.well_formed.acyclic.1 n first.0 (x.0, x.1, at, contained x.1 first.0 first.1) in
         before first.0 (omega (arith, lower, lt)) (among (names c) first.0 (read_named c (Gate n x.0 x.1) first.0 is.well_formed x.2 first.1))
 

@@ -4,7 +4,7 @@ use Rattle.std.specs.Prelude.{Contains, Some, slice_get, flat_map, ◌==◌}
 use Rattle.std.specs.List.{All, AllZip, list_all}
 use Rattle.std.specs.Str.{IsUtf8}
 use Rattle.std.specs.Int.{is_in_range}
-use Rattle.std.proofs.lemmas.Bool.{leb-true}
+use Rattle.std.proofs.lemmas.Bool.{leb-true, and_parts}
 use Rattle.std.proofs.lemmas.List.Elements.{All-cons, All-nil}
 use Rattle.std.proofs.lemmas.Str.{IsUtf8-from_ascii}
 use Rattle.std.proofs.lemmas.Str.Ascii.{IsAscii-from_all}
@@ -12,22 +12,21 @@ use Rattle.bench_net.specs.Text.{is_word_byte, is_mark, Spells}
 use Rattle.bench_net.specs.Statement.{Name, Statement, Input, Output, Gate, Dff, defined}
 use Rattle.bench_net.specs.Reading.{States}
 use Rattle.bench_net.specs.Entries.{Entry, stated_by, HaveEntries}
-use Rattle.bench_net.proofs.Plain.{and_split}
-use Rattle.bench_net.proofs.Members.{Among, among}
+use Rattle.lists.proofs.Members.{Among, among}
 use Rattle.bench_net.proofs.Rising.{at_entry, of_flat}
 
 word_ascii : (b : ℕ) → is_word_byte b ≡ true → b < 128
 word_ascii b e =
-    let p = and_split (is_in_range 33 126 b && not (is_mark b)) (not (b == 35)) e in
-    let q = and_split (is_in_range 33 126 b) (not (is_mark b)) p.0 in
-    let r = and_split (leb 33 b) (leb b 126) q.0 in
+    let p = and_parts (is_in_range 33 126 b && not (is_mark b)) (not (b == 35)) e in
+    let q = and_parts (is_in_range 33 126 b) (not (is_mark b)) p.0 in
+    let r = and_parts (leb 33 b) (leb b 126) q.0 in
     let high : b ≤ 126 = leb-true b 126 r.1 in
     omega (arith, high)
 
 all_ascii : (w : List ℕ) → list_all is_word_byte w ≡ true → All (λ b. b < 128) w
 all_ascii [] e = All-nil (λ b. b < 128)
 all_ascii (b ∷ w) e =
-    let p = and_split (is_word_byte b) (list_all is_word_byte w) e in
+    let p = and_parts (is_word_byte b) (list_all is_word_byte w) e in
     All-cons (λ c. c < 128) b w (word_ascii b p.0) (all_ascii w p.1)
 
 word_utf8 : (w : List ℕ) → list_all is_word_byte w ≡ true → IsUtf8 w

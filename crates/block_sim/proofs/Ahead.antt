@@ -5,7 +5,7 @@ use Rattle.std.proofs.lemmas.List.{get_or-set_same, get_or-set_other}
 use Rattle.std.proofs.lemmas.List.Sums.{sum_by-cons, sum_by-set}
 use Rattle.std.proofs.lemmas.Bool.{cases_eq, false≢true, ltb-true, lt-ltb, le-ltb, eq-eqb, eqb-true}
 use Rattle.bench_net.specs.Statement.{Statement}
-use Rattle.bench_net.proofs.Members.{Among, among}
+use Rattle.lists.proofs.Members.{Among, among}
 use Rattle.block_sim.specs.Events.{Reads, AreWoken}
 use Rattle.block_sim.specs.Spreading.{is_ahead}
 

@@ -8,9 +8,9 @@ use Rattle.bench_net.specs.declared.Kind.{Kind}
 use Rattle.bench_net.specs.Statement.{Name, Statement, Gate}
 use Rattle.bench_net.specs.Scan.{names, signal, name_of, inputs, cells, sources}
 use Rattle.bench_net.specs.Circuit.{IsWellFormed}
-use Rattle.bench_net.proofs.Members.{Among, among, contained}
+use Rattle.lists.proofs.Members.{Among, among, contained, among_left, among_right}
 use Rattle.bench_net.proofs.Numbers.{name_of-signal, signal-name_of}
-use Rattle.bench_net.proofs.SignalsLists.{at_place, placed, place_within, among_left, among_right}
+use Rattle.lists.proofs.Places.{at_place, placed, place_within}
 use Rattle.bench_net.proofs.SignalsDefined.{defined_among, source_named, read_named}
 use Rattle.fault_model.specs.declared.Line.TheVariants as line
 use Rattle.fault_model.specs.Fault.{Fault}

@@ -7,7 +7,7 @@ use Rattle.bench_net.specs.declared.ScanCell.{ScanCell}
 use Rattle.bench_net.specs.Statement.{Name, Statement, Input, Output, Gate, Dff}
 use Rattle.bench_net.specs.Scan.{names, signal, definition, gate_line, gate_of, cells, outputs}
 use Rattle.bench_net.proofs.Numbers.{definition_defines}
-use Rattle.bench_net.proofs.SignalsLists.{place_within}
+use Rattle.lists.proofs.Places.{place_within}
 use Rattle.fault_model.specs.declared.Line.TheVariants as line
 use Rattle.fault_model.specs.Detection.{argument, carried}
 use Rattle.block_sim.proofs.DataPins.{data_signals}

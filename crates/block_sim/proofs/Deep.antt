@@ -9,8 +9,8 @@ use Rattle.bench_net.specs.Statement.{Name, Statement, Gate}
 use Rattle.bench_net.specs.Scan.{names, inputs, cells, sources}
 use Rattle.bench_net.specs.Circuit.{IsWellFormed}
 use Rattle.bench_net.specs.Level.{AreLevels, HasLevel, greatest}
-use Rattle.bench_net.proofs.Members.{Among, among, contained}
-use Rattle.bench_net.proofs.SignalsLists.{at_place, among_left, among_right, among_map, mapped_from}
+use Rattle.lists.proofs.Members.{Among, among, contained, among_left, among_right, among_map, mapped_from}
+use Rattle.lists.proofs.Places.{at_place}
 use Rattle.bench_net.proofs.SignalsDefined.{read_named}
 use Rattle.fault_model.proofs.Unique.{Driven, driven}
 

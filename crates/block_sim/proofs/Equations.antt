@@ -8,9 +8,9 @@ use Rattle.bench_net.specs.declared.Kind.{Kind}
 use Rattle.bench_net.specs.Statement.{Name, Statement, Input, Output, Gate, Dff, read}
 use Rattle.bench_net.specs.Scan.{names, signal, name_of, definition, gate_of, gate_line, inputs, outputs, cells, sources}
 use Rattle.bench_net.specs.Circuit.{IsWellFormed, IsCircuit, max_sinks, sink_count}
-use Rattle.bench_net.proofs.Members.{Among, among, contained}
+use Rattle.lists.proofs.Members.{Among, among, contained, among_left, among_right}
 use Rattle.bench_net.proofs.Numbers.{definition_defines, name_of-signal, signal-name_of}
-use Rattle.bench_net.proofs.SignalsLists.{at_place, placed, place_within, within_place, among_left, among_right}
+use Rattle.lists.proofs.Places.{at_place, placed, place_within, within_place}
 use Rattle.bench_net.proofs.SignalsDefined.{IsSource, definition-signal, source_definition, source_place, read_named}
 use Rattle.fault_model.specs.declared.Line.TheVariants as line
 use Rattle.fault_model.specs.Fault.{Fault}

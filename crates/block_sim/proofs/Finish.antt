@@ -8,9 +8,9 @@ use Rattle.bench_net.specs.declared.Sink.{Sink}
 use Rattle.bench_net.specs.Statement.{Name, Statement, Gate}
 use Rattle.bench_net.specs.Scan.{names, signal, observers}
 use Rattle.bench_net.specs.Circuit.{IsWellFormed}
-use Rattle.bench_net.proofs.Members.{among}
+use Rattle.lists.proofs.Members.{among}
 use Rattle.bench_net.proofs.SignalsDefined.{read_named}
-use Rattle.bench_net.proofs.SignalsLists.{within_place, placed}
+use Rattle.lists.proofs.Places.{within_place, placed}
 use Rattle.fault_model.specs.declared.Line.TheVariants as line
 use Rattle.fault_model.specs.Detection.{DetectsAt, LooksBack}
 use Rattle.fault_model.specs.Fault.{Fault, branch}

@@ -4,8 +4,8 @@ use Rattle.std.specs.Prelude.{Option, Some, None, map, slice_get, is_none}
 use Rattle.std.proofs.lemmas.Bool.{cases_lt}
 use Rattle.bench_net.specs.Statement.{Statement}
 use Rattle.bench_net.specs.Circuit.{IsWellFormed, HaveArities}
-use Rattle.bench_net.proofs.Members.{contained}
-use Rattle.bench_net.proofs.SignalsLists.{at_place, filtered_from, place_within}
+use Rattle.lists.proofs.Members.{contained, filtered_from}
+use Rattle.lists.proofs.Places.{at_place, place_within}
 use Rattle.fault_model.specs.declared.Model.{Model}
 use Rattle.fault_model.specs.Fault.{Fault, faults}
 use Rattle.fault_model.specs.Solution.{Test}

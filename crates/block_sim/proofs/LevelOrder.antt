@@ -9,9 +9,9 @@ use Rattle.bench_net.specs.Statement.{Name, Statement, Gate}
 use Rattle.bench_net.specs.Scan.{names, signal, sources, inputs, cells}
 use Rattle.bench_net.specs.Circuit.{IsWellFormed}
 use Rattle.bench_net.specs.Level.{AreLevels, HasLevel, IsLevelOrder, GoesBefore, greatest}
-use Rattle.bench_net.proofs.Members.{Among, among, contained}
+use Rattle.lists.proofs.Members.{Among, among, contained, among_append, among_left, among_right, among_map}
 use Rattle.bench_net.proofs.Numbers.{name_of-signal}
-use Rattle.bench_net.proofs.SignalsLists.{among_append, among_left, among_right, among_map, place_within}
+use Rattle.lists.proofs.Places.{place_within}
 use Rattle.bench_net.proofs.SignalsDefined.{defined_among, read_named, signal_apart}
 use Rattle.fault_model.proofs.Unique.{Driven, driven}
 

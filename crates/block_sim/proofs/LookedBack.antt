@@ -13,7 +13,7 @@ use Rattle.fault_model.specs.declared.Model.TheVariants.{Transition}
 use Rattle.fault_model.specs.Solution.{Test}
 use Rattle.fault_model.specs.Detection.{carried, HasBit, LooksBack}
 use Rattle.fault_model.proofs.Unique.{agree}
-use Rattle.bench_net.proofs.SignalsLists.{within_place}
+use Rattle.lists.proofs.Places.{within_place}
 use Rattle.block_sim.proofs.Placed.{index_of}
 use Rattle.patterns.specs.Tests.{size_of}
 use Rattle.block_sim.specs.Words.{lane, lane_bits, test_of, AreWords}

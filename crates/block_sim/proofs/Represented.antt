@@ -2,8 +2,8 @@
 use Rattle.std.proofs.Common.{◌≡◌, ◌<◌, ℕ, zero, suc, refl, sym, ◌∙◌, ap, subst, Bool, List, [], ◌∷◌, length}
 use Rattle.std.specs.Prelude.{Contains, Option, Some, None, IfSome, map, slice_get, unwrap_or}
 use Rattle.bench_net.specs.Statement.{Statement}
-use Rattle.bench_net.proofs.Members.{contained}
-use Rattle.bench_net.proofs.SignalsLists.{at_place, place_within}
+use Rattle.lists.proofs.Members.{contained}
+use Rattle.lists.proofs.Places.{at_place, place_within}
 use Rattle.fault_model.specs.declared.Line.{Line}
 use Rattle.fault_model.specs.declared.Model.{Model}
 use Rattle.fault_model.specs.Fault.{Fault, FaultList, fault_list, faults}

@@ -6,9 +6,9 @@ use Rattle.bench_net.specs.Statement.{Name, Statement, Gate}
 use Rattle.bench_net.specs.Scan.{names, signal}
 use Rattle.bench_net.specs.Circuit.{IsWellFormed}
 use Rattle.bench_net.specs.Level.{AreLevels, HasLevel}
-use Rattle.bench_net.proofs.Members.{among, contained}
+use Rattle.lists.proofs.Members.{among, contained, among_map}
 use Rattle.bench_net.proofs.Numbers.{name_of-signal}
-use Rattle.bench_net.proofs.SignalsLists.{among_map, at_place, within_place}
+use Rattle.lists.proofs.Places.{at_place, within_place}
 use Rattle.bench_net.proofs.SignalsDefined.{defined_among, read_named}
 use Rattle.fault_model.proofs.Levels.{below_greatest}
 use Rattle.block_sim.specs.Events.{Reads, level_at}

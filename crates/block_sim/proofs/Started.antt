@@ -11,9 +11,9 @@ use Rattle.bench_net.specs.declared.Sink.TheVariants as sink
 use Rattle.bench_net.specs.Statement.{Name, Statement, Gate}
 use Rattle.bench_net.specs.Scan.{names, signal, definition, gate_of, sources, observers, outputs, cells}
 use Rattle.bench_net.specs.Circuit.{IsWellFormed}
-use Rattle.bench_net.proofs.Members.{Among, among, contained}
+use Rattle.lists.proofs.Members.{Among, among, contained, among_append, among_left, among_right, among_map, mapped_from}
 use Rattle.bench_net.proofs.Numbers.{name_of-signal}
-use Rattle.bench_net.proofs.SignalsLists.{among_append, among_left, among_right, among_map, among_numbered, mapped_from, numbered_at, at_place, within_place}
+use Rattle.lists.proofs.Places.{among_numbered, numbered_at, at_place, within_place}
 use Rattle.bench_net.proofs.SignalsDefined.{defined_among, definition-signal, source_named}
 use Rattle.fault_model.specs.declared.Line.{Line}
 use Rattle.fault_model.specs.declared.Line.TheVariants as line

@@ -9,9 +9,9 @@ use Rattle.bench_net.specs.Statement.{Name, Statement, Input, Output, Gate, Dff}
 use Rattle.bench_net.specs.Scan.{names, signal, name_of, sinks, cells}
 use Rattle.bench_net.specs.Circuit.{IsWellFormed}
 use Rattle.bench_net.specs.Level.{AreLevels, HasLevel}
-use Rattle.bench_net.proofs.Members.{Among, contained}
+use Rattle.lists.proofs.Members.{Among, contained}
 use Rattle.bench_net.proofs.Numbers.{name_of-signal, signal-name_of}
-use Rattle.bench_net.proofs.SignalsLists.{at_place, placed, place_within, within_place}
+use Rattle.lists.proofs.Places.{at_place, placed, place_within, within_place}
 use Rattle.bench_net.proofs.SignalsOnce.{data_reads, out_reads}
 use Rattle.fault_model.proofs.Shown.{observes}
 use Rattle.block_sim.specs.Events.{Reads, IsObserved, AreWoken, level_at}

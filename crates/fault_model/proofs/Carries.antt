@@ -6,12 +6,11 @@ use Rattle.bench_net.specs.declared.Sink.TheVariants as sink
 use Rattle.bench_net.specs.Statement.{Name, Statement, Input, Output, Gate, Dff}
 use Rattle.bench_net.specs.Scan.{names, name_of, cell, cells, sinks, definition}
 use Rattle.bench_net.specs.Circuit.{IsWellFormed}
-use Rattle.bench_net.proofs.Members.{Among, contained}
-use Rattle.bench_net.proofs.SignalsLists.{at_place}
-use Rattle.bench_net.proofs.SignalsDefined.{definition-signal}
-use Rattle.bench_net.proofs.SignalsDefined.{cell_in}
+use Rattle.lists.proofs.Members.{Among, contained}
+use Rattle.lists.proofs.Places.{at_place, from_mapped}
+use Rattle.bench_net.proofs.SignalsDefined.{definition-signal, cell_in}
 use Rattle.bench_net.proofs.SignalsSinks.{pin_reads}
-use Rattle.bench_net.proofs.SignalsOnce.{data_reads, out_reads}
+use Rattle.bench_net.proofs.SignalsOnce.{data_reads, out_reads, q_among}
 use Rattle.bench_net.proofs.Numbers.{at_position}
 use Rattle.fault_model.specs.declared.Line.TheVariants as line
 use Rattle.fault_model.specs.declared.Model.{Model}
@@ -19,28 +18,11 @@ use Rattle.fault_model.specs.Fault.{Fault, faults, branch}
 use Rattle.fault_model.specs.Detection.{carried, argument}
 use Rattle.fault_model.proofs.Listed.{IsOn, listed_on, branch_among}
 
--- what stands at a place of a mapped list
-from_mapped : {X Y : Type 0} (f : X → Y) (xs : List X) (i : ℕ) (y : Y) → slice_get (map f xs) i ≡ Some y → (x : X) × (slice_get xs i ≡ Some x) × (f x ≡ y)
-from_mapped f [] i y e = let bad : None ≡ Some y = e in cc
-from_mapped f (x ∷ xs) zero y e = (x, refl, ap (λ o. unwrap_or o y) e)
-from_mapped f (x ∷ xs) (suc i) y e = from_mapped f xs i y e
-
-cell_among : (c : List Statement) (q d : Name) → Among (Dff q d) c → Among q (map (λ cell. cell.0) (cells c))
-cell_among [] q d a = absurd a
-cell_among (Dff p e ∷ c) q d (inl same) = let it : Dff p e ≡ Dff q d = same in let here : p ≡ q = cc in inl here
-cell_among (Dff p e ∷ c) q d (inr a) = inr (cell_among c q d a)
-cell_among (Input m ∷ c) q d (inl same) = let it : Input m ≡ Dff q d = same in cc
-cell_among (Input m ∷ c) q d (inr a) = cell_among c q d a
-cell_among (Output m ∷ c) q d (inl same) = let it : Output m ≡ Dff q d = same in cc
-cell_among (Output m ∷ c) q d (inr a) = cell_among c q d a
-cell_among (Gate m kind args ∷ c) q d (inl same) = let it : Gate m kind args ≡ Dff q d = same in cc
-cell_among (Gate m kind args ∷ c) q d (inr a) = cell_among c q d a
-
 -- the cell whose data pin reads a name
 data_carries : (c : List Statement) (i : ℕ) (n : Name) → IsWellFormed c → Among (sink.Data i) (sinks c n) → carried c (line.Data i) ≡ Some n
 data_carries c i n well a =
     let r = data_reads c n i a in
-    let at = at_position (map (λ cell. cell.0) (cells c)) r.q (cell_among c r.q n r.stands) in
+    let at = at_position (map (λ cell. cell.0) (cells c)) r.q (q_among c r.q n r.stands) in
     let p = from_mapped (λ cell. cell.0) (cells c) (cell c r.q) r.q at in
     let stands : Among (Dff p.0.0 p.0.1) c = cell_in c p.0 (at_place (cells c) (cell c r.q) p.0 p.1) in
     let one = definition-signal c (Dff r.q n) r.q well (contained c (Dff r.q n) r.stands) refl in

@@ -4,14 +4,13 @@ use Rattle.std.specs.Prelude.{Contains, Option, Some, None, unwrap_or, is_none, 
 use Rattle.bench_net.specs.declared.Sink.{Sink}
 use Rattle.bench_net.specs.Statement.{Name, Statement}
 use Rattle.bench_net.specs.Scan.{observers}
-use Rattle.bench_net.specs.Circuit.{IsWellFormed}
-use Rattle.bench_net.proofs.Members.{contained}
-use Rattle.bench_net.proofs.SignalsLists.{at_place, filtered_from}
+use Rattle.bench_net.specs.Circuit.{IsWellFormed, HaveArities}
+use Rattle.lists.proofs.Members.{contained, filtered_from}
+use Rattle.lists.proofs.Places.{at_place}
 use Rattle.fault_model.specs.declared.Model.{Model}
 use Rattle.fault_model.specs.Fault.{Fault, faults, branch}
 use Rattle.fault_model.specs.Solution.{Test, Solves, Detects, under, shows, ShowSame}
 use Rattle.fault_model.specs.Collapse.{next, Reaches, here, onward, representatives, IsClassOf, ClassesShowSame}
-use Rattle.bench_net.specs.Circuit.{HaveArities}
 use Rattle.fault_model.specs.Laws.{HasSolutions, HasOneSolution, ClassesDetectSame, RepresentativesDetectSame, DetectionIsOfAnySolution}
 use Rattle.fault_model.proofs.Unique.{agree}
 use Rattle.fault_model.proofs.Existence.{solution, solution_solves}

@@ -3,8 +3,8 @@ use Rattle.std.proofs.Common.{◌≡◌, ◌<◌, ◌≤◌, ℕ, ◌+◌, refl,
 use Rattle.std.specs.Prelude.{Option, Some, None, slice_get, map, filter, is_none, option_map, option_and_then, if◌then◌else◌}
 use Rattle.std.proofs.lemmas.List.{length-map, append-nil}
 use Rattle.bench_net.specs.Statement.{Statement}
-use Rattle.bench_net.proofs.Members.{contained}
-use Rattle.bench_net.proofs.SignalsLists.{at_place, place_within}
+use Rattle.lists.proofs.Members.{contained}
+use Rattle.lists.proofs.Places.{at_place, place_within}
 use Rattle.fault_model.specs.declared.Model.{Model}
 use Rattle.fault_model.specs.Fault.{Fault, faults}
 use Rattle.fault_model.specs.Collapse.{next, here, representatives, IsClassOf}

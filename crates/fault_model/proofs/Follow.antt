@@ -3,8 +3,8 @@ use Rattle.std.proofs.Common.{◌≡◌, ◌<◌, ℕ, zero, suc, refl, sym, ◌
 use Rattle.std.specs.Prelude.{Contains, Some, None, slice_get, map, option_map, option_and_then}
 use Rattle.std.proofs.lemmas.Option.{slice_get-get_or}
 use Rattle.bench_net.specs.Statement.{Statement}
-use Rattle.bench_net.proofs.Members.{contained}
-use Rattle.bench_net.proofs.SignalsLists.{at_place, place_within}
+use Rattle.lists.proofs.Members.{contained}
+use Rattle.lists.proofs.Places.{at_place, place_within}
 use Rattle.fault_model.specs.declared.Model.{Model}
 use Rattle.fault_model.specs.Fault.{Fault, faults}
 use Rattle.fault_model.specs.Collapse.{next, onward, representatives, IsClassOf, AreClassesOf}

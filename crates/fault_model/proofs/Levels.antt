@@ -5,9 +5,9 @@ use Rattle.bench_net.specs.Statement.{Name, Statement, Gate}
 use Rattle.bench_net.specs.Scan.{names, signal, name_of, inputs, cells, sources}
 use Rattle.bench_net.specs.Circuit.{IsWellFormed}
 use Rattle.bench_net.specs.Level.{greatest, AreLevels, HasLevel, GoesBefore, IsLevelOrder}
-use Rattle.bench_net.proofs.Members.{Among, among, contained}
+use Rattle.lists.proofs.Members.{Among, among, contained, among_left, among_right, among_map}
 use Rattle.bench_net.proofs.Numbers.{name_of-signal}
-use Rattle.bench_net.proofs.SignalsLists.{at_place, place_within, within_place, among_left, among_right, among_map}
+use Rattle.lists.proofs.Places.{at_place, place_within, within_place}
 use Rattle.bench_net.proofs.SignalsDefined.{read_named, signal_apart}
 use Rattle.fault_model.specs.Fault.{Fault}
 use Rattle.fault_model.proofs.Unique.{Driven, driven}

@@ -9,10 +9,10 @@ use Rattle.bench_net.specs.declared.Sink.TheVariants as sink
 use Rattle.bench_net.specs.Statement.{Name, Statement, Gate}
 use Rattle.bench_net.specs.Scan.{names, signal, name_of, sinks, gate_line}
 use Rattle.bench_net.specs.Circuit.{IsWellFormed}
-use Rattle.bench_net.proofs.Members.{Among, among, contained}
-use Rattle.bench_net.proofs.Plain.{and_split}
+use Rattle.lists.proofs.Members.{Among, among, contained, among_append, among_left, among_joined, joined_from}
+use Rattle.std.proofs.lemmas.Bool.{and_parts}
 use Rattle.bench_net.proofs.Numbers.{name_of-signal, signal-name_of}
-use Rattle.bench_net.proofs.SignalsLists.{among_append, among_left, among_joined, joined_from, among_numbered, numbered_at, at_place}
+use Rattle.lists.proofs.Places.{among_numbered, numbered_at, at_place}
 use Rattle.bench_net.proofs.SignalsDefined.{definition-signal, defined_among}
 use Rattle.bench_net.proofs.SignalsSinks.{PinReads, pin_reads}
 use Rattle.fault_model.specs.declared.Line.{Line}
@@ -25,7 +25,7 @@ use Rattle.fault_model.specs.Collapse.{next, next_over, next_stuck, readers, kin
 -- the test of lines
 pub same_lines : (l k : Line) → same_line l k ≡ true → l ≡ k
 same_lines (line.Stem s) (line.Stem t) e = ap line.Stem (eqb-true s t e)
-same_lines (line.Pin g p) (line.Pin h q) e = let both = and_split (g == h) (p == q) e in let a : g ≡ h = eqb-true g h both.0 in let b : p ≡ q = eqb-true p q both.1 in cc
+same_lines (line.Pin g p) (line.Pin h q) e = let both = and_parts (g == h) (p == q) e in let a : g ≡ h = eqb-true g h both.0 in let b : p ≡ q = eqb-true p q both.1 in cc
 same_lines (line.Data i) (line.Data j) e = ap line.Data (eqb-true i j e)
 same_lines (line.Out i) (line.Out j) e = ap line.Out (eqb-true i j e)
 same_lines (line.Stem s) (line.Pin h q) e = cc

@@ -9,10 +9,10 @@ use Rattle.bench_net.specs.declared.Sink.TheVariants as sink
 use Rattle.bench_net.specs.Statement.{Name, Statement, Output, Gate, Dff}
 use Rattle.bench_net.specs.Reading.{HasArity}
 use Rattle.bench_net.specs.Scan.{names, signal, definition, inputs, cell, cells, outputs, sources, sinks, observers}
-use Rattle.bench_net.specs.Circuit.{IsWellFormed}
-use Rattle.bench_net.proofs.Members.{Among, among, contained}
+use Rattle.bench_net.specs.Circuit.{IsWellFormed, HaveArities}
+use Rattle.lists.proofs.Members.{Among, among, contained, among_left, among_right, among_append, among_map, mapped_from}
 use Rattle.bench_net.proofs.Checked.{same_bytes, bytes_refl}
-use Rattle.bench_net.proofs.SignalsLists.{placed, at_place, among_left, among_right, among_append, among_map, mapped_from, among_numbered, numbered_at}
+use Rattle.lists.proofs.Places.{placed, at_place, among_numbered, numbered_at}
 use Rattle.bench_net.proofs.SignalsDefined.{signal_apart, source_definition, IsSource, definition-signal, defined_among, read_named, output_in, cell_in}
 use Rattle.bench_net.proofs.SignalsSinks.{pin_among, out_among, data_among}
 use Rattle.fault_model.specs.declared.Line.TheVariants as line
@@ -21,7 +21,6 @@ use Rattle.fault_model.specs.declared.Model.TheVariants.{StuckAt, Transition}
 use Rattle.fault_model.specs.Fault.{Fault, faults, branch}
 use Rattle.fault_model.specs.Solution.{Test, Solves, value, sees, pins_see, shows, ShowSame}
 use Rattle.fault_model.specs.Collapse.{next, next_stuck}
-use Rattle.bench_net.specs.Circuit.{HaveArities}
 use Rattle.fault_model.proofs.Unique.{Driven, driven}
 use Rattle.fault_model.proofs.Listed.{under_other, under_own, Step, step_of}
 use Rattle.fault_model.proofs.Chains.{read_below, read_defined, gate_defined}

@@ -6,9 +6,9 @@ use Rattle.bench_net.specs.Statement.{Statement}
 use Rattle.bench_net.specs.Scan.{names, signal, sinks}
 use Rattle.bench_net.specs.Circuit.{IsWellFormed}
 use Rattle.bench_net.specs.Level.{IsLevelOrder}
-use Rattle.bench_net.proofs.Members.{among, contained}
+use Rattle.lists.proofs.Members.{among, contained}
 use Rattle.bench_net.proofs.Numbers.{name_of-signal}
-use Rattle.bench_net.proofs.SignalsLists.{at_place, placed, place_within}
+use Rattle.lists.proofs.Places.{at_place, placed, place_within}
 use Rattle.fault_model.specs.declared.Line.TheVariants as line
 use Rattle.fault_model.specs.declared.Model.{Model}
 use Rattle.fault_model.specs.Fault.{Fault, faults}

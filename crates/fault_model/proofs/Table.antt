@@ -2,8 +2,8 @@
 use Rattle.std.proofs.Common.{◌≡◌, ◌<◌, ℕ, zero, suc, ◌+◌, ◌*◌, ◌/◌, ◌%◌, refl, sym, ◌∙◌, ap, subst, Bool, true, false, List, length, get_or, arith, inl, inr}
 use Rattle.std.specs.Prelude.{Contains, Option, Some, None, slice_get, flat_map, option_map, option_and_then, nat_eq, IfSome}
 use Rattle.std.proofs.lemmas.Option.{slice_get-get_or}
-use Rattle.bench_net.proofs.Members.{Among, among, contained}
-use Rattle.bench_net.proofs.SignalsLists.{joined_from, place_within, within_place}
+use Rattle.lists.proofs.Members.{Among, among, contained, joined_from}
+use Rattle.lists.proofs.Places.{place_within, within_place}
 use Rattle.fault_model.specs.declared.Line.{Line}
 use Rattle.fault_model.specs.declared.Line.TheVariants as line
 use Rattle.fault_model.specs.declared.Model.{Model}

@@ -7,9 +7,9 @@ use Rattle.bench_net.specs.declared.Sink.TheVariants as sink
 use Rattle.bench_net.specs.Statement.{Name, Statement, Input, Output, Gate, Dff, read}
 use Rattle.bench_net.specs.Circuit.{IsWellFormed}
 use Rattle.bench_net.specs.Scan.{names, signal, cell, cells, sinks, name_of}
-use Rattle.bench_net.proofs.Members.{Among, contained}
+use Rattle.lists.proofs.Members.{Among, contained}
 use Rattle.bench_net.proofs.Numbers.{name_of-signal, at_position}
-use Rattle.bench_net.proofs.SignalsLists.{place_within, within_place, at_place}
+use Rattle.lists.proofs.Places.{place_within, within_place, at_place}
 use Rattle.bench_net.proofs.SignalsDefined.{defined_among}
 use Rattle.bench_net.proofs.SignalsSinks.{pin_reads}
 use Rattle.bench_net.proofs.SignalsOnce.{data_reads}
@@ -18,6 +18,7 @@ use Rattle.fault_model.specs.declared.Model.{Model}
 use Rattle.fault_model.specs.Fault.{Fault, branch, faults}
 use Rattle.fault_model.proofs.Listed.{listed_on, listed_model, branch_among, IsOn}
 use Rattle.report.specs.Report.{IsLineOf}
+use Rattle.bench_net.proofs.SomeSource.{some_signal}
 
 among_cells : (c : List Statement) (q d : Name) → Among (Dff q d) c → Among q (map (λ qd. qd.0) (cells c))
 among_cells [] q d a = absurd a
@@ -64,14 +65,3 @@ line_known m c fs i l list h e =
 -- and its model is that of the list
 pub model_known : (m : Model) (c : List Statement) (fs : List Fault) (i : ℕ) (f : Fault) → fs ≡ faults m c → slice_get fs i ≡ Some f → f.model ≡ m
 model_known m c fs i f list at = listed_model m c f (subst (λ xs. Contains xs f) list (contained fs f (at_place fs i f at)))
-
--- a circuit has a signal
-names_of_output : (c : List Statement) (n : Name) → Contains (names c) n → 0 < length (names c)
-names_of_output c n at = omega (arith, at.1)
-
-pub some_signal : (c : List Statement) → IsWellFormed c → 0 < length (names c)
-some_signal [] well = absurd (well.some refl)
-some_signal (Input n ∷ c) well = omega arith
-some_signal (Gate n kind args ∷ c) well = omega arith
-some_signal (Dff q d ∷ c) well = omega arith
-some_signal (Output n ∷ c) well = names_of_output (Output n ∷ c) n (well.all_defined n (contained (flat_map read (Output n ∷ c)) n (inl refl)))

@@ -23,7 +23,7 @@ use Rattle.workers.specs.Settling.{AreSettled, IsShapeOf, shape_for}
 use Rattle.workers.specs.Work.{AreBack, IsOfHistory, is_skipped, ReportsTruly, Returns}
 use Rattle.workers.proofs.Closing.{none_open, all_settled, settled_goes_on, settled_finished, finished_settled}
 use Rattle.workers.specs.Verdict.{AreFirsts, VerdictList, verdicts}
-use Rattle.bench_net.proofs.SignalsLists.{within_place}
+use Rattle.lists.proofs.Places.{within_place}
 use Rattle.workers.proofs.Reports.{truly_goes_on, all_true, firsts_truly}
 
 module _ (job : Parts) (p : Place) (P : Type 0) (seats : List Sitter) (h : History) (back : AreBack job p P seats) (holds : HoldsAll h seats) where

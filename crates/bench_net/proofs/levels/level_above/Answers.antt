@@ -8,7 +8,7 @@ use Rattle.std.proofs.lemmas.Bool.Decides.{nat_tests}
 use Rattle.bench_net.specs.Level.{greatest}
 use Rattle.bench_net.specs.Marks.{level_or_zero}
 use Rattle.bench_net.proofs.Marking.{marked_is, greatest-least}
-use Rattle.bench_net.proofs.Members.{contained}
+use Rattle.lists.proofs.Members.{contained}
 use Rattle.bench_net.proofs.levels.level_above.Goals as goal
 
 max_is : (a b : ℕ) → ord_max nat_cmp a b ≡ max a b

@@ -5,7 +5,7 @@ use Rattle.std.proofs.lemmas.List.{length-map, length-append}
 use Rattle.std.proofs.lemmas.List.Elements.{Contains-get_or}
 use Rattle.bench_net.specs.Stored.{defined_numbers, read_numbers}
 use Rattle.bench_net.specs.Tables.{input_number, cell_numbers, output_number, all_readers, ArePlaces, AreSinkRows}
-use Rattle.bench_net.proofs.Members.{Among, among, contained}
+use Rattle.lists.proofs.Members.{Among, among, contained}
 use Rattle.bench_net.proofs.Counted.{few_inputs, few_outputs, source_defined, reader_count, reader_reads, all_fit}
 use Rattle.bench_net.proofs.tables.tables_of.Goals as goal
 

@@ -3,9 +3,9 @@ use Rattle.std.specs.Prelude.{Some, slice_index_or, bit_and, bit_xor}
 use Rattle.bench_net.specs.declared.Sink.TheVariants as sink
 use Rattle.bench_net.specs.Statement.{Gate}
 use Rattle.bench_net.specs.Scan.{names, signal, name_of, definition, gate_of, gate_line}
-use Rattle.bench_net.proofs.Members.{contained}
+use Rattle.lists.proofs.Members.{contained}
 use Rattle.bench_net.proofs.Numbers.{definition_defines, name_of-signal, signal-name_of}
-use Rattle.bench_net.proofs.SignalsLists.{at_place, place_within}
+use Rattle.lists.proofs.Places.{at_place, place_within}
 use Rattle.fault_model.specs.Detection.{argument, carried}
 use Rattle.fault_model.specs.Solution.{value}
 use Rattle.fault_model.proofs.Carries.{carries}

@@ -2,9 +2,9 @@ use Rattle.std.proofs.Common.{◌∙◌, ap, sym}
 use Rattle.std.proofs.lemmas.List.{get_or-map}
 use Rattle.bench_net.specs.declared.ScanCell.{ScanCell}
 use Rattle.bench_net.specs.Scan.{names}
-use Rattle.bench_net.proofs.Members.{contained}
+use Rattle.lists.proofs.Members.{contained}
 use Rattle.bench_net.proofs.Numbers.{signal-name_of}
-use Rattle.bench_net.proofs.SignalsLists.{at_place}
+use Rattle.lists.proofs.Places.{at_place}
 use Rattle.fault_model.specs.Detection.{carried}
 use Rattle.block_sim.proofs.Carried.{gate_within, output_signal, data_signal}
 use Rattle.block_sim.proofs.look_back.carried.Goals as goal

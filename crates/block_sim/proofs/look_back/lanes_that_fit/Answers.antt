@@ -4,7 +4,7 @@ use Rattle.std.specs.Bool.{Decides}
 use Rattle.bench_net.specs.Scan.{names, signal}
 use Rattle.bench_net.specs.Circuit.{IsCircuit}
 use Rattle.bench_net.proofs.Numbers.{name_of-signal}
-use Rattle.bench_net.proofs.SignalsLists.{place_within}
+use Rattle.lists.proofs.Places.{place_within}
 use Rattle.fault_model.specs.Detection.{LooksBack, carried}
 use Rattle.fault_model.proofs.Carries.{carries}
 use Rattle.block_sim.specs.Stuck.{stuck_fault}

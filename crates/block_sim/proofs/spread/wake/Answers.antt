@@ -4,7 +4,7 @@ use Rattle.std.proofs.lemmas.List.{length-set}
 use Rattle.std.proofs.lemmas.Bool.{false≢true}
 use Rattle.bench_net.specs.declared.Sink.TheVariants as sink
 use Rattle.bench_net.specs.Scan.{names}
-use Rattle.bench_net.proofs.SignalsLists.{within_place}
+use Rattle.lists.proofs.Places.{within_place}
 use Rattle.block_sim.proofs.Finish.{idle_of}
 use Rattle.block_sim.proofs.Readers.{reader_within}
 use Rattle.block_sim.proofs.Woken.{HasWoken, woken_none, observer_none, sink_gate, woken_waits, woken_passed, woken_added, observer_passed, observer_found, woken_all, observer_all}

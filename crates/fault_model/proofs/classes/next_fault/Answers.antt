@@ -1,7 +1,7 @@
 use Rattle.std.proofs.Common.{◌≡◌, Some, None, ap, sym, ◌∙◌}
 use Rattle.std.specs.Prelude.{slice_get, Contains, option_map, option_and_then}
 use Rattle.bench_net.specs.Scan.{names}
-use Rattle.bench_net.proofs.SignalsLists.{place_within}
+use Rattle.lists.proofs.Places.{place_within}
 use Rattle.fault_model.specs.declared.Line.TheVariants as line
 use Rattle.fault_model.specs.Fault.{Fault, faults}
 use Rattle.fault_model.specs.Collapse.{next, next_stuck, kind_of}

@@ -1,6 +1,6 @@
 use Rattle.std.proofs.Common.{◌≡◌, ◌<◌, ◌+◌, Bool, true, false, [], ◌∷◌, ◌++◌, length, Some, None, ap, ◌∙◌, subst, arith}
 use Rattle.std.specs.Prelude.{slice_get, option_map, option_and_then, is_some, not}
-use Rattle.bench_net.proofs.SignalsLists.{within_place}
+use Rattle.lists.proofs.Places.{within_place}
 use Rattle.fault_model.specs.Fault.{faults}
 use Rattle.fault_model.specs.Collapse.{next}
 use Rattle.fault_model.proofs.Ends.{Numbered, numbered_end, numbered_other, numbered_ends, answer_none, answer_is_some}

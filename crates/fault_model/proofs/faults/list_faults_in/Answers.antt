@@ -2,7 +2,7 @@ use Rattle.std.proofs.Common.{◌≡◌, ◌≤◌, ◌+◌, [], ◌∷◌, ◌+
 use Rattle.std.specs.Prelude.{flat_map}
 use Rattle.bench_net.specs.Scan.{names, sinks}
 use Rattle.bench_net.specs.Circuit.{max_signals, max_sinks}
-use Rattle.bench_net.proofs.SignalsLists.{within_place}
+use Rattle.lists.proofs.Places.{within_place}
 use Rattle.fault_model.specs.declared.Line.TheVariants as line
 use Rattle.fault_model.specs.Fault.{branch, branches, both}
 use Rattle.fault_model.proofs.Lines.{faults_are}

@@ -1,7 +1,7 @@
 use Rattle.std.proofs.Common.{ap, ◌<◌, ◌≤◌, length, arith}
 use Rattle.std.specs.Prelude.{zip, None}
 use Rattle.std.proofs.lemmas.Result.{err_from_is_err_and}
-use Rattle.bench_net.proofs.SignalsLists.{within_place}
+use Rattle.lists.proofs.Places.{within_place}
 use Rattle.report.specs.Report.{first_line}
 use Rattle.report.proofs.Outputs.{takes_more, stopped, flat_map_cut, flat_map_taken, zipped_by, all_zipped}
 use Rattle.report.proofs.report.put_firsts.Goals as goal
