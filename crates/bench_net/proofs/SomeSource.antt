@@ -15,7 +15,7 @@ use Rattle.bench_net.proofs.Reader.{some_args}
 names_of_output : (c : List Statement) (n : Name) → Contains (names c) n → 0 < length (names c)
 names_of_output c n at = omega (arith, at.1)
 
-some_signal : (c : List Statement) → IsWellFormed c → 0 < length (names c)
+pub some_signal : (c : List Statement) → IsWellFormed c → 0 < length (names c)
 some_signal [] well = absurd (well.some refl)
 some_signal (Input n ∷ c) well = omega arith
 some_signal (Gate n kind args ∷ c) well = omega arith
