@@ -19,8 +19,8 @@ HERE = pathlib.Path(__file__).resolve().parent
 CRATES = HERE.parent / "crates"
 TESTS = 65_536
 
-# what the program stands on, beside the lines of crates.txt
-PROGRAM = "ledger_times: bench_net fault_model patterns block_sim fault_ledger anyhow\n"
+# what the program stands on, beside a crate of the kit
+STANDS_ON = ["bench_net", "fault_model", "patterns", "block_sim", "fault_ledger"]
 
 # name, words for the circuit
 CASES = [
@@ -36,14 +36,27 @@ def generated(*words):
     return subprocess.run(words, check=True, stdout=subprocess.PIPE).stdout
 
 
+def needed(lines, names):
+    """The lines of crates.txt of these crates and of all below them, lowest first."""
+    stands_on = {line.split(":")[0]: line.split(":")[1].split() for line in lines if not line.startswith("#")}
+    wanted = list(names)
+    for name in wanted:
+        wanted += [below for below in stands_on[name] if below in stands_on and below not in wanted]
+    return [line for line in lines if line.split(":")[0] in wanted]
+
+
 def build(folder):
     # rt takes no crate that lies outside the folder, so these are copies, with what was proved of them.
-    shutil.copytree(CRATES, folder / "crates")
+    lines = needed((HERE.parent / "crates.txt").read_text().splitlines(), STANDS_ON)
+    for line in lines:
+        name = line.split(":")[0]
+        shutil.copytree(CRATES / name, folder / "crates" / name)
     home = folder / "crates" / "ledger_times"
     (home / "src").mkdir(parents=True)
     shutil.copy(HERE / "ledger_times.rt.txt", home / "src" / "main.rt")
     (folder / "HANDLES").write_text((HERE.parent / "HANDLES").read_text())
-    (folder / "crates.txt").write_text((HERE.parent / "crates.txt").read_text() + PROGRAM)
+    program = f"ledger_times: {' '.join(STANDS_ON)} anyhow"
+    (folder / "crates.txt").write_text("\n".join([*lines, program]) + "\n")
     subprocess.run(["rt", "run"], cwd=home, stdout=subprocess.DEVNULL, check=True)
     return home / "out" / "ledger_times"
 

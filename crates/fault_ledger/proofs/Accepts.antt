@@ -1,5 +1,5 @@
 -- When a claim, a report or a drop is accepted, and what it is answered.
-use Rattle.std.proofs.Common.{◌≡◌, ℕ, ◌<◌, true, cond, ◌∷◌, [], ◌++◌, Some, None, sym, ap, ◌∙◌, subst, lt-ltb}
+use Rattle.std.proofs.Common.{◌≡◌, ℕ, ◌<◌, true, if◌then◌else◌, ◌∷◌, [], ◌++◌, Some, None, sym, ap, ◌∙◌, subst, lt-ltb}
 use Rattle.patterns.specs.declared.Outcome.{Outcome}
 use Rattle.patterns.specs.Tests.{size_of}
 use Rattle.fault_ledger.specs.declared.Event.{Event}
@@ -14,21 +14,21 @@ use Rattle.fault_ledger.proofs.Legal.{report_accepted, drop_accepted, hit_kept}
 
 pub claim_answer : (s : Shape) (h : History) (w : ℕ) → w < s.workers → held w h ≡ None → claims h < piece_count s → answer s h (call.Claim w) ≡ Claimed (claim_is.Piece (class_of s (claims h)) (block_of s (claims h)))
 claim_answer s h w among free more =
-    ap (λ b. cond b (claim_reply s h (held w h)) (Refused NoSuchWorker)) (lt-ltb w s.workers among)
+    ap (λ b. if b then claim_reply s h (held w h) else Refused NoSuchWorker) (lt-ltb w s.workers among)
     ∙ ap (claim_reply s h) free
-    ∙ ap (λ b. cond b (Claimed (claim_is.Piece (class_of s (claims h)) (block_of s (claims h)))) (Claimed claim_is.Exhausted)) (lt-ltb (claims h) (piece_count s) more)
+    ∙ ap (λ b. if b then Claimed (claim_is.Piece (class_of s (claims h)) (block_of s (claims h))) else Claimed claim_is.Exhausted) (lt-ltb (claims h) (piece_count s) more)
 
 pub report_answer : (s : Shape) (h : History) (w p : ℕ) (o : Outcome) → w < s.workers → held w h ≡ Some p → fits_size (size_of s.tests (block_of s p)) o ≡ true → answer s h (call.Report w o) ≡ Done
 report_answer s h w p o among here fits =
-    ap (λ b. cond b (report_reply s o (held w h)) (Refused NoSuchWorker)) (lt-ltb w s.workers among)
+    ap (λ b. if b then report_reply s o (held w h) else Refused NoSuchWorker) (lt-ltb w s.workers among)
     ∙ ap (report_reply s o) here
-    ∙ ap (λ b. cond b Done (Refused BadOutcome)) fits
+    ∙ ap (λ b. if b then Done else Refused BadOutcome) fits
 
 pub drop_answer : (s : Shape) (h : History) (w p : ℕ) → w < s.workers → held w h ≡ Some p → has_earlier_hit s h p ≡ true → answer s h (call.Drop w) ≡ Done
 drop_answer s h w p among here hit =
-    ap (λ b. cond b (drop_reply s h (held w h)) (Refused NoSuchWorker)) (lt-ltb w s.workers among)
+    ap (λ b. if b then drop_reply s h (held w h) else Refused NoSuchWorker) (lt-ltb w s.workers among)
     ∙ ap (drop_reply s h) here
-    ∙ ap (λ b. cond b Done (Refused NoEarlierHit)) hit
+    ∙ ap (λ b. if b then Done else Refused NoEarlierHit) hit
 
 -- what the calls of events that were accepted were answered
 pub report_answered : (s : Shape) (h : History) (w : ℕ) (o : Outcome) → after s h (call.Report w o) ≡ Event.Report w o ∷ h → answer s h (call.Report w o) ≡ Done

@@ -1,17 +1,19 @@
 -- What looks at the pieces of a class say of the class.
-use Rattle.std.proofs.Common.{◌≡◌, ◌≢◌, ℕ, ◌+◌, ◌*◌, ◌<◌, Bool, true, false, true≢false, List, [], ◌∷◌, map, Option, refl, sym, ap, ◌∙◌, subst, arith}
+use Rattle.std.proofs.Common.{◌≡◌, ◌≢◌, ℕ, ◌+◌, ◌*◌, ◌<◌, ◌≤◌, Bool, nat_lt, true, false, true≢false, List, [], ◌∷◌, map, Option, refl, sym, ap, ◌∙◌, subst, arith}
+use borrow.Author.Tests.{ltb-true, ltb-false}
 use Rattle.patterns.specs.Least.{below}
 use Rattle.fault_ledger.specs.declared.Shape.{Shape}
 use Rattle.fault_ledger.specs.declared.PieceState.{PieceState}
 use Rattle.fault_ledger.specs.declared.PieceState.TheVariants as state
 use Rattle.fault_ledger.specs.declared.Status.TheVariants.{Settled}
-use Rattle.fault_ledger.specs.History.{History, entry, block_count, piece_at, ContinuesWithout}
-use Rattle.fault_ledger.specs.Answer.{is_hit, IsLegal}
-use Rattle.fault_ledger.specs.Settled.{status_from, IsSettledAt}
+use Rattle.fault_ledger.specs.History.{History, entry, block_count, class_of, block_of, piece_at, ContinuesWithout}
+use Rattle.fault_ledger.specs.Answer.{is_hit, has_earlier_hit, IsLegal}
+use Rattle.fault_ledger.specs.Settled.{status_from, AreClear, IsSettledAt}
 use Rattle.fault_ledger.specs.Seats.{Sitter, Sees}
+use Rattle.fault_ledger.proofs.Tables.{any_at-below, any_none-below}
 use Rattle.fault_ledger.proofs.Histories.{entry_goes_on}
 use Rattle.fault_ledger.proofs.Legal.{never_first}
-use Rattle.fault_ledger.proofs.Sits.{sees_twice}
+use Rattle.fault_ledger.proofs.Sits.{clear_goes_on, sees_twice}
 
 pub not_hit : (x : PieceState) → ((k : ℕ) → x ≡ state.Hit k → ⊥) → is_hit x ≡ false
 not_hit state.Open n = refl
@@ -33,30 +35,36 @@ no_hit_before w p later earlier c e = go (is_hit (entry p earlier)) refl
 abbrev pub ClearBelow : Shape → ℕ → ℕ → History → Type 0
 ClearBelow s class n h = (k : ℕ) → k < n → entry (piece_at s class k) h ≡ state.Clear
 
--- what was clear stays clear
-pub clear_stays : (s : Shape) (class n w : ℕ) (later earlier : History) → ContinuesWithout w later earlier → ClearBelow s class n earlier → ClearBelow s class n later
-clear_stays s class n w later earlier c clear k l =
-    let e = clear k l in
-    entry_goes_on w (piece_at s class k) later earlier c (λ o. absurd (cc)) ∙ e
+-- whether one of the earlier blocks of a piece's class is a hit
+pub none_found : (s : Shape) (h : History) (p n : ℕ) → AreClear s h (class_of s p) n → ((k : ℕ) → n ≤ k → k < block_of s p → is_hit (entry (piece_at s (class_of s p) k) h) ≡ false)
+    → has_earlier_hit s h p ≡ false
+none_found s h p n clear none = any_none-below (λ b. is_hit (entry (piece_at s (class_of s p) b) h)) (block_of s p) (λ k l. go k l (nat_lt k n) refl)
+  where
+    go : (k : ℕ) → k < block_of s p → (b : Bool) → nat_lt k n ≡ b → is_hit (entry (piece_at s (class_of s p) k) h) ≡ false
+    go k l true e = ap is_hit (clear k (ltb-true k n e))
+    go k l false e = none k (ltb-false k n e) l
+
+pub hit_found : (s : Shape) (h : History) (p n : ℕ) → n < block_of s p → is_hit (entry (piece_at s (class_of s p) n) h) ≡ true → has_earlier_hit s h p ≡ true
+hit_found s h p n l hit = any_at-below (λ b. is_hit (entry (piece_at s (class_of s p) b) h)) (block_of s p) n l hit
 
 -- what a look at the next block of a class shows, where the blocks before it were clear
 pub record LooksAt (s : Shape) (class n : ℕ) (a d : Sitter) (x : PieceState) : Type 0 where
   pub within : n < block_count s
   pub sees : Sees a a.told d
-  pub clear : ClearBelow s class n d.seen
+  pub clear : AreClear s d.seen class n
   pub found : entry (piece_at s class n) d.seen ≡ x
 
-pub looks_at : (own s : Shape) (class n count : ℕ) (a b d : Sitter) (x : PieceState) → own ≡ s → count ≡ block_count own → n < count → Sees a a.told b → ClearBelow s class n b.seen → Sees b b.told d
+pub looks_at : (own s : Shape) (class n count : ℕ) (a b d : Sitter) (x : PieceState) → own ≡ s → count ≡ block_count own → n < count → Sees a a.told b → AreClear s b.seen class n → Sees b b.told d
     → x ≡ entry (class + own.classes * n) d.seen → LooksAt s class n a d x
 looks_at own s class n count a b d x is many l before clear sees e = record {
   within = subst (λ (y : Shape). n < block_count y) is (omega arith);
   sees = sees_twice a b d before sees;
-  clear = clear_stays s class n b.worker d.seen b.seen sees.newer clear;
+  clear = clear_goes_on s b.worker class n d.seen b.seen sees.newer clear;
   found = sym (subst (λ (y : Shape). x ≡ entry (piece_at y class n) d.seen) is e);
 }
 
 -- behind clear pieces alone there is no skipped one
-pub skipped_not_first : (s : Shape) (class n : ℕ) (h : History) → IsLegal s h → class < s.classes → n < block_count s → ClearBelow s class n h → entry (piece_at s class n) h ≡ state.Skipped → ⊥
+pub skipped_not_first : (s : Shape) (class n : ℕ) (h : History) → IsLegal s h → class < s.classes → n < block_count s → AreClear s h class n → entry (piece_at s class n) h ≡ state.Skipped → ⊥
 skipped_not_first s class n h legal l m clear e = let r = never_first s h legal class n l m e in r.2 (clear r.0 r.1)
 
 settles : (f g : ℕ → PieceState) (b : ℕ) (xs : List ℕ) (at : Option ℕ) → ((k : ℕ) → f k ≢ state.Open → g k ≡ f k) → status_from b (map f xs) ≡ Settled at → status_from b (map g xs) ≡ Settled at

@@ -1,6 +1,5 @@
 -- What each call answers, over the parts of a face.
-use Rattle.std.proofs.Common.{◌≡◌, ℕ, ◌+◌, ◌*◌, ◌%◌, ◌/◌, ◌<◌, ◌≤◌, Bool, true, false, cond, ◌⊎◌, inl, inr, is_some, eqb, List, ◌∷◌, ◌++◌, map, set, length, slice_get, slice_index_or, Option, Some, None, refl, sym, ap, ◌∙◌, subst, arith, lt-ltb, le-ltb, ne_eqb, eq-eqb}
-use Rattle.std.specs.List.{list_any}
+use Rattle.std.proofs.Common.{◌≡◌, ℕ, ◌+◌, ◌*◌, ◌%◌, ◌/◌, ◌<◌, ◌≤◌, Bool, true, false, if◌then◌else◌, ◌⊎◌, inl, inr, is_some, eqb, List, ◌∷◌, ◌++◌, map, set, length, slice_get, slice_index_or, Option, Some, None, refl, sym, ap, ◌∙◌, subst, arith, lt-ltb, le-ltb, ne_eqb, eq-eqb}
 use Rattle.std.proofs.Math.Nat.{mod-lt}
 use Rattle.std.proofs.lemmas.Option.{get_or_from_slice_get, slice_get_within}
 use Rattle.patterns.specs.declared.Outcome.{Outcome}
@@ -20,6 +19,7 @@ use Rattle.fault_ledger.specs.declared.Reply.TheVariants.{Claimed, Done, Refused
 use Rattle.fault_ledger.specs.History.{History, claims, held, holds, state_of, entry, piece_count, class_of, block_of, piece_at}
 use Rattle.fault_ledger.specs.Answer.{fits_size, is_hit, has_earlier_hit, claim_reply, report_reply, drop_reply, answer, added, after, IsLegal}
 use Rattle.fault_ledger.specs.Face.{Face, face, IsLedger, Answers}
+use Rattle.fault_ledger.specs.Lowest.{hit_below}
 use Rattle.fault_ledger.proofs.Tables.{length-below, get-below, set-below, any-below}
 use Rattle.fault_ledger.proofs.Pieces.{some_class, piece_at-below, block_of-below}
 use Rattle.fault_ledger.proofs.Histories.{holds-not, held-holds}
@@ -90,11 +90,11 @@ some_of (Some p) e = (p, refl)
 
 -- claims
 pub claim-no_worker : (f : Face) (w : ℕ) → f.shape.workers ≤ w → Answers f (call.Claim w) (Refused NoSuchWorker) f
-claim-no_worker f w l = answered f f (call.Claim w) (Refused NoSuchWorker) (λ h legal e. (sym (ap (λ b. cond b (claim_reply f.shape h (held w h)) (Refused NoSuchWorker)) (le-ltb w f.shape.workers l)), e))
+claim-no_worker f w l = answered f f (call.Claim w) (Refused NoSuchWorker) (λ h legal e. (sym (ap (λ b. if b then claim_reply f.shape h (held w h) else Refused NoSuchWorker) (le-ltb w f.shape.workers l)), e))
 
 pub claim-holding : (f : Face) (w p : ℕ) → slice_get f.holding w ≡ Some (Some p) → Answers f (call.Claim w) (Refused Holding) f
 claim-holding f w p g = answered f f (call.Claim w) (Refused Holding) (λ h legal e. (
-  sym (ap (λ b. cond b (claim_reply f.shape h (held w h)) (Refused NoSuchWorker)) (lt-ltb w f.shape.workers (found-worker f h w (Some p) e g))
+  sym (ap (λ b. if b then claim_reply f.shape h (held w h) else Refused NoSuchWorker) (lt-ltb w f.shape.workers (found-worker f h w (Some p) e g))
       ∙ ap (claim_reply f.shape h) (found-held f h w (Some p) e g)),
   e,
 ))
@@ -102,9 +102,9 @@ claim-holding f w p g = answered f f (call.Claim w) (Refused Holding) (λ h lega
 pub claim-exhausted : (f : Face) (w : ℕ) → slice_get f.holding w ≡ Some None → length f.states ≤ f.claimed → Answers f (call.Claim w) (Claimed claim_is.Exhausted) f
 claim-exhausted f w g l = answered f f (call.Claim w) (Claimed claim_is.Exhausted) (λ h legal e.
     let few : piece_count f.shape ≤ claims h = (let a = claimed-is f h e in let b = states-length f h e in omega arith) in (
-      sym (ap (λ b. cond b (claim_reply f.shape h (held w h)) (Refused NoSuchWorker)) (lt-ltb w f.shape.workers (found-worker f h w None e g))
+      sym (ap (λ b. if b then claim_reply f.shape h (held w h) else Refused NoSuchWorker) (lt-ltb w f.shape.workers (found-worker f h w None e g))
           ∙ ap (claim_reply f.shape h) (found-held f h w None e g)
-          ∙ ap (λ b. cond b (Claimed (claim_is.Piece (class_of f.shape (claims h)) (block_of f.shape (claims h)))) (Claimed claim_is.Exhausted)) (le-ltb (claims h) (piece_count f.shape) few)),
+          ∙ ap (λ b. if b then Claimed (claim_is.Piece (class_of f.shape (claims h)) (block_of f.shape (claims h))) else Claimed claim_is.Exhausted) (le-ltb (claims h) (piece_count f.shape) few)),
       e,
     ))
 
@@ -113,15 +113,15 @@ pub claim-piece : (f : Face) (w : ℕ) → slice_get f.holding w ≡ Some None �
 claim-piece f w g l = answered f (faced f.shape (f.claimed + 1) (set f.holding w (Some f.claimed)) f.states) (call.Claim w) (Claimed (claim_is.Piece (f.claimed % f.shape.classes) (f.claimed / f.shape.classes))) (λ h legal e.
     let c = claimed-is f h e in
     let some : claims h < piece_count f.shape = (let b = states-length f h e in omega arith) in (
-      sym (ap (λ b. cond b (claim_reply f.shape h (held w h)) (Refused NoSuchWorker)) (lt-ltb w f.shape.workers (found-worker f h w None e g))
+      sym (ap (λ b. if b then claim_reply f.shape h (held w h) else Refused NoSuchWorker) (lt-ltb w f.shape.workers (found-worker f h w None e g))
           ∙ ap (claim_reply f.shape h) (found-held f h w None e g)
-          ∙ ap (λ b. cond b (Claimed (claim_is.Piece (class_of f.shape (claims h)) (block_of f.shape (claims h)))) (Claimed claim_is.Exhausted)) (lt-ltb (claims h) (piece_count f.shape) some)
+          ∙ ap (λ b. if b then Claimed (claim_is.Piece (class_of f.shape (claims h)) (block_of f.shape (claims h))) else Claimed claim_is.Exhausted) (lt-ltb (claims h) (piece_count f.shape) some)
           ∙ ap (λ n. Claimed (claim_is.Piece (class_of f.shape n) (block_of f.shape n))) (sym c)),
       λ i. faced f.shape (c i + 1)
           ((ap (λ l. set l w (Some f.claimed)) (holding-is f h e)
           ∙ set-below (λ v. held v h) (λ v. held v (Event.Claim w ∷ h)) f.shape.workers w (Some f.claimed) (found-worker f h w None e g)
-          (ap Some c ∙ sym (ap (λ b. cond b (Some (claims h)) (held w h)) (eq-eqb w w refl)))
-          (λ k n. sym (ap (λ b. cond b (Some (claims h)) (held k h)) (ne_eqb k w n)))) i)
+          (ap Some c ∙ sym (ap (λ b. if b then Some (claims h) else held w h) (eq-eqb w w refl)))
+          (λ k n. sym (ap (λ b. if b then Some (claims h) else held k h) (ne_eqb k w n)))) i)
           (states-is f h e i),
     ))
 
@@ -131,12 +131,12 @@ FoundNone f w r = ((r ≡ NoSuchWorker) × (length f.holding ≤ w)) ⊎ ((r ≡
 
 -- reports
 pub report-no_worker : (f : Face) (w : ℕ) (o : Outcome) → f.shape.workers ≤ w → Answers f (call.Report w o) (Refused NoSuchWorker) f
-report-no_worker f w o l = answered f f (call.Report w o) (Refused NoSuchWorker) (λ h legal e. (sym (ap (λ b. cond b (report_reply f.shape o (held w h)) (Refused NoSuchWorker)) (le-ltb w f.shape.workers l)), e))
+report-no_worker f w o l = answered f f (call.Report w o) (Refused NoSuchWorker) (λ h legal e. (sym (ap (λ b. if b then report_reply f.shape o (held w h) else Refused NoSuchWorker) (le-ltb w f.shape.workers l)), e))
 
 -- the answer to a report of a worker that is one of the ledger
 report-answer : (f : Face) (h : History) (w : ℕ) (o : Outcome) (x : Option ℕ) → f ≡ face f.shape h → slice_get f.holding w ≡ Some x → answer f.shape h (call.Report w o) ≡ report_reply f.shape o x
 report-answer f h w o x e g =
-    ap (λ b. cond b (report_reply f.shape o (held w h)) (Refused NoSuchWorker)) (lt-ltb w f.shape.workers (found-worker f h w x e g))
+    ap (λ b. if b then report_reply f.shape o (held w h) else Refused NoSuchWorker) (lt-ltb w f.shape.workers (found-worker f h w x e g))
     ∙ ap (report_reply f.shape o) (found-held f h w x e g)
 
 pub report-nothing : (f : Face) (w : ℕ) (o : Outcome) → slice_get f.holding w ≡ Some None → Answers f (call.Report w o) (Refused NothingHeld) f
@@ -147,38 +147,38 @@ report-refused f w o r i (inl x) = subst (λ y. Answers f (call.Report w o) (Ref
 report-refused f w o r i (inr x) = subst (λ y. Answers f (call.Report w o) (Refused y) f) (sym x.0) (report-nothing f w o x.1)
 
 pub report-bad : (f : Face) (w p : ℕ) (o : Outcome) → slice_get f.holding w ≡ Some (Some p) → fits_size (size_of f.shape.tests (p / f.shape.classes)) o ≡ false → Answers f (call.Report w o) (Refused BadOutcome) f
-report-bad f w p o g b = answered f f (call.Report w o) (Refused BadOutcome) (λ h legal e. (sym (report-answer f h w o (Some p) e g ∙ ap (λ x. cond x Done (Refused BadOutcome)) b), e))
+report-bad f w p o g b = answered f f (call.Report w o) (Refused BadOutcome) (λ h legal e. (sym (report-answer f h w o (Some p) e g ∙ ap (λ x. if x then Done else Refused BadOutcome) b), e))
 
 -- the face after the worker of a piece has reported or dropped it
 settled-face : (f : Face) (h now : History) (w p : ℕ) (x : PieceState) → IsLegal f.shape h → f ≡ face f.shape h → slice_get f.holding w ≡ Some (Some p)
-    → claims now ≡ claims h → ((v : ℕ) → held v now ≡ cond (eqb v w) None (held v h)) → ((q : ℕ) → entry q now ≡ cond (holds w q h) x (entry q h))
+    → claims now ≡ claims h → ((v : ℕ) → held v now ≡ (if eqb v w then None else held v h)) → ((q : ℕ) → entry q now ≡ (if holds w q h then x else entry q h))
     → faced f.shape f.claimed (set f.holding w None) (set f.states p x) ≡ face f.shape now
 settled-face f h now w p x legal e g a b d =
     let is = found-held f h w (Some p) e g in
     λ i. faced f.shape ((claimed-is f h e ∙ sym a) i)
     ((ap (λ l. set l w None) (holding-is f h e)
     ∙ set-below (λ v. held v h) (λ v. held v now) f.shape.workers w None (found-worker f h w (Some p) e g)
-    (sym (b w ∙ ap (λ y. cond y None (held w h)) (eq-eqb w w refl)))
-    (λ k n. sym (b k ∙ ap (λ y. cond y None (held k h)) (ne_eqb k w n)))) i)
+    (sym (b w ∙ ap (λ y. if y then None else held w h) (eq-eqb w w refl)))
+    (λ k n. sym (b k ∙ ap (λ y. if y then None else held k h) (ne_eqb k w n)))) i)
     ((ap (λ l. set l p x) (states-is f h e)
     ∙ set-below (λ q. entry q h) (λ q. entry q now) (piece_count f.shape) p x (held_piece f.shape w p h legal is)
-    (sym (d p ∙ ap (λ y. cond y x (entry p h)) (held-holds w p h is)))
-    (λ k n. sym (d k ∙ ap (λ y. cond y x (entry k h)) (holds-not w k h (λ y. n (let q : Some k ≡ Some p = sym y ∙ is in cc)))))) i)
+    (sym (d p ∙ ap (λ y. if y then x else entry p h) (held-holds w p h is)))
+    (λ k n. sym (d k ∙ ap (λ y. if y then x else entry k h) (holds-not w k h (λ y. n (let q : Some k ≡ Some p = sym y ∙ is in cc)))))) i)
 
 pub report-done : (f : Face) (w p : ℕ) (o : Outcome) → slice_get f.holding w ≡ Some (Some p) → fits_size (size_of f.shape.tests (p / f.shape.classes)) o ≡ true
     → Answers f (call.Report w o) Done (faced f.shape f.claimed (set f.holding w None) (set f.states p (state_of o)))
 report-done f w p o g b = answered f (faced f.shape f.claimed (set f.holding w None) (set f.states p (state_of o))) (call.Report w o) Done (λ h legal e. (
-  sym (report-answer f h w o (Some p) e g ∙ ap (λ x. cond x Done (Refused BadOutcome)) b),
+  sym (report-answer f h w o (Some p) e g ∙ ap (λ x. if x then Done else Refused BadOutcome) b),
   settled-face f h (Event.Report w o ∷ h) w p (state_of o) legal e g refl (λ v. refl) (λ q. refl),
 ))
 
 -- drops
 pub drop-no_worker : (f : Face) (w : ℕ) → f.shape.workers ≤ w → Answers f (call.Drop w) (Refused NoSuchWorker) f
-drop-no_worker f w l = answered f f (call.Drop w) (Refused NoSuchWorker) (λ h legal e. (sym (ap (λ b. cond b (drop_reply f.shape h (held w h)) (Refused NoSuchWorker)) (le-ltb w f.shape.workers l)), e))
+drop-no_worker f w l = answered f f (call.Drop w) (Refused NoSuchWorker) (λ h legal e. (sym (ap (λ b. if b then drop_reply f.shape h (held w h) else Refused NoSuchWorker) (le-ltb w f.shape.workers l)), e))
 
 drop-answer : (f : Face) (h : History) (w : ℕ) (x : Option ℕ) → f ≡ face f.shape h → slice_get f.holding w ≡ Some x → answer f.shape h (call.Drop w) ≡ drop_reply f.shape h x
 drop-answer f h w x e g =
-    ap (λ b. cond b (drop_reply f.shape h (held w h)) (Refused NoSuchWorker)) (lt-ltb w f.shape.workers (found-worker f h w x e g))
+    ap (λ b. if b then drop_reply f.shape h (held w h) else Refused NoSuchWorker) (lt-ltb w f.shape.workers (found-worker f h w x e g))
     ∙ ap (drop_reply f.shape h) (found-held f h w x e g)
 
 pub drop-nothing : (f : Face) (w : ℕ) → slice_get f.holding w ≡ Some None → Answers f (call.Drop w) (Refused NothingHeld) f
@@ -190,7 +190,7 @@ drop-refused f w r i (inr x) = subst (λ y. Answers f (call.Drop w) (Refused y) 
 
 -- whether the states show an earlier hit of the piece's class
 abbrev pub shows_hit : Face → ℕ → Bool
-shows_hit f p = list_any (λ block. is_hit (slice_index_or f.states (p % f.shape.classes + f.shape.classes * block) state.Open)) (below (p / f.shape.classes))
+shows_hit f p = hit_below f.shape f.states (class_of f.shape p) (block_of f.shape p)
 
 shows-hit : (f : Face) (h : History) (p : ℕ) → f ≡ face f.shape h → p < piece_count f.shape → shows_hit f p ≡ has_earlier_hit f.shape h p
 shows-hit f h p e l =
@@ -202,12 +202,12 @@ shows-hit f h p e l =
 pub drop-bad : (f : Face) (w p : ℕ) → slice_get f.holding w ≡ Some (Some p) → shows_hit f p ≡ false → Answers f (call.Drop w) (Refused NoEarlierHit) f
 drop-bad f w p g b = answered f f (call.Drop w) (Refused NoEarlierHit) (λ h legal e.
     let l = held_piece f.shape w p h legal (found-held f h w (Some p) e g) in
-    (sym (drop-answer f h w (Some p) e g ∙ ap (λ x. cond x Done (Refused NoEarlierHit)) (sym (shows-hit f h p e l) ∙ b)), e))
+    (sym (drop-answer f h w (Some p) e g ∙ ap (λ x. if x then Done else Refused NoEarlierHit) (sym (shows-hit f h p e l) ∙ b)), e))
 
 pub drop-done : (f : Face) (w p : ℕ) → slice_get f.holding w ≡ Some (Some p) → shows_hit f p ≡ true → Answers f (call.Drop w) Done (faced f.shape f.claimed (set f.holding w None) (set f.states p state.Skipped))
 drop-done f w p g b = answered f (faced f.shape f.claimed (set f.holding w None) (set f.states p state.Skipped)) (call.Drop w) Done (λ h legal e.
     let l = held_piece f.shape w p h legal (found-held f h w (Some p) e g) in (
-      sym (drop-answer f h w (Some p) e g ∙ ap (λ x. cond x Done (Refused NoEarlierHit)) (sym (shows-hit f h p e l) ∙ b)),
+      sym (drop-answer f h w (Some p) e g ∙ ap (λ x. if x then Done else Refused NoEarlierHit) (sym (shows-hit f h p e l) ∙ b)),
       settled-face f h (Event.Drop w ∷ h) w p state.Skipped legal e g refl (λ v. refl) (λ q. refl),
     ))
 

@@ -1,5 +1,5 @@
 -- Facts about histories: who holds a piece, and what becomes of it.
-use Rattle.std.proofs.Common.{◌≡◌, ◌≢◌, ℕ, ◌+◌, ◌<◌, ◌≤◌, Bool, true, false, cond, eqb, [], ◌∷◌, ◌++◌, Option, Some, None, refl, sym, ap, ◌∙◌, arith, ne_eqb, eqb-true, eq-eqb, append_assoc}
+use Rattle.std.proofs.Common.{◌≡◌, ◌≢◌, ℕ, ◌+◌, ◌<◌, ◌≤◌, Bool, true, false, if◌then◌else◌, eqb, [], ◌∷◌, ◌++◌, Option, Some, None, refl, sym, ap, ◌∙◌, arith, ne_eqb, eqb-true, eq-eqb, append_assoc}
 use Rattle.std.specs.Option.{option_map_or}
 use Rattle.fault_ledger.specs.declared.Event.{Event}
 use Rattle.fault_ledger.specs.declared.PieceState.TheVariants as state
@@ -10,17 +10,17 @@ pub held_below : (w p : ℕ) (h : History) → held w h ≡ Some p → p < claim
 held_below w p [] e = absurd (cc)
 held_below w p (Event.Claim u ∷ h) e = go (eqb w u) (held_below w p h) e
   where
-    go : (b : Bool) → (held w h ≡ Some p → p < claims h) → cond b (Some (claims h)) (held w h) ≡ Some p → p < claims h + 1
+    go : (b : Bool) → (held w h ≡ Some p → p < claims h) → (if b then Some (claims h) else held w h) ≡ Some p → p < claims h + 1
     go true i e = let q : claims h ≡ p = cc in omega arith
     go false i e = let j = i e in omega arith
 held_below w p (Event.Report u o ∷ h) e = go (eqb w u) (held_below w p h) e
   where
-    go : (b : Bool) → (held w h ≡ Some p → p < claims h) → cond b None (held w h) ≡ Some p → p < claims h
+    go : (b : Bool) → (held w h ≡ Some p → p < claims h) → (if b then None else held w h) ≡ Some p → p < claims h
     go true i e = absurd (cc)
     go false i e = i e
 held_below w p (Event.Drop u ∷ h) e = go (eqb w u) (held_below w p h) e
   where
-    go : (b : Bool) → (held w h ≡ Some p → p < claims h) → cond b None (held w h) ≡ Some p → p < claims h
+    go : (b : Bool) → (held w h ≡ Some p → p < claims h) → (if b then None else held w h) ≡ Some p → p < claims h
     go true i e = absurd (cc)
     go false i e = i e
 
@@ -29,20 +29,20 @@ pub held_once : (w v p : ℕ) (h : History) → held w h ≡ Some p → held v h
 held_once w v p [] e f = absurd (cc)
 held_once w v p (Event.Claim u ∷ h) e f = go (eqb w u) (eqb v u) (held_once w v p h) refl refl e f
   where
-    go : (a b : Bool) → (held w h ≡ Some p → held v h ≡ Some p → w ≡ v) → eqb w u ≡ a → eqb v u ≡ b → cond a (Some (claims h)) (held w h) ≡ Some p → cond b (Some (claims h)) (held v h) ≡ Some p → w ≡ v
+    go : (a b : Bool) → (held w h ≡ Some p → held v h ≡ Some p → w ≡ v) → eqb w u ≡ a → eqb v u ≡ b → (if a then Some (claims h) else held w h) ≡ Some p → (if b then Some (claims h) else held v h) ≡ Some p → w ≡ v
     go true true i x y e f = eqb-true w u x ∙ sym (eqb-true v u y)
     go true false i x y e f = let q : claims h ≡ p = cc in let j = held_below v p h f in absurd (omega arith)
     go false true i x y e f = let q : claims h ≡ p = cc in let j = held_below w p h e in absurd (omega arith)
     go false false i x y e f = i e f
 held_once w v p (Event.Report u o ∷ h) e f = go (eqb w u) (eqb v u) (held_once w v p h) e f
   where
-    go : (a b : Bool) → (held w h ≡ Some p → held v h ≡ Some p → w ≡ v) → cond a None (held w h) ≡ Some p → cond b None (held v h) ≡ Some p → w ≡ v
+    go : (a b : Bool) → (held w h ≡ Some p → held v h ≡ Some p → w ≡ v) → (if a then None else held w h) ≡ Some p → (if b then None else held v h) ≡ Some p → w ≡ v
     go true b i e f = absurd (cc)
     go false true i e f = absurd (cc)
     go false false i e f = i e f
 held_once w v p (Event.Drop u ∷ h) e f = go (eqb w u) (eqb v u) (held_once w v p h) e f
   where
-    go : (a b : Bool) → (held w h ≡ Some p → held v h ≡ Some p → w ≡ v) → cond a None (held w h) ≡ Some p → cond b None (held v h) ≡ Some p → w ≡ v
+    go : (a b : Bool) → (held w h ≡ Some p → held v h ≡ Some p → w ≡ v) → (if a then None else held w h) ≡ Some p → (if b then None else held v h) ≡ Some p → w ≡ v
     go true b i e f = absurd (cc)
     go false true i e f = absurd (cc)
     go false false i e f = i e f
@@ -77,17 +77,17 @@ pub held_open : (w p : ℕ) (h : History) → held w h ≡ Some p → entry p h 
 held_open w p [] e = refl
 held_open w p (Event.Claim v ∷ h) e = go (eqb w v) (held_open w p h) e
   where
-    go : (b : Bool) → (held w h ≡ Some p → entry p h ≡ state.Open) → cond b (Some (claims h)) (held w h) ≡ Some p → entry p h ≡ state.Open
+    go : (b : Bool) → (held w h ≡ Some p → entry p h ≡ state.Open) → (if b then Some (claims h) else held w h) ≡ Some p → entry p h ≡ state.Open
     go true i e = let q : claims h ≡ p = cc in unclaimed_open p h (omega arith)
     go false i e = i e
 held_open w p (Event.Report v o ∷ h) e = go (eqb w v) (held_open w p h) refl e
   where
-    go : (b : Bool) → (held w h ≡ Some p → entry p h ≡ state.Open) → eqb w v ≡ b → cond b None (held w h) ≡ Some p → cond (holds v p h) (state_of o) (entry p h) ≡ state.Open
+    go : (b : Bool) → (held w h ≡ Some p → entry p h ≡ state.Open) → eqb w v ≡ b → (if b then None else held w h) ≡ Some p → (if holds v p h then state_of o else entry p h) ≡ state.Open
     go true i x e = absurd (cc)
     go false i x e = rw (holds-not v p h (λ f. let q = eq-eqb w v (held_once w v p h e f) in absurd (cc))) (i e)
 held_open w p (Event.Drop v ∷ h) e = go (eqb w v) (held_open w p h) refl e
   where
-    go : (b : Bool) → (held w h ≡ Some p → entry p h ≡ state.Open) → eqb w v ≡ b → cond b None (held w h) ≡ Some p → cond (holds v p h) state.Skipped (entry p h) ≡ state.Open
+    go : (b : Bool) → (held w h ≡ Some p → entry p h ≡ state.Open) → eqb w v ≡ b → (if b then None else held w h) ≡ Some p → (if holds v p h then state.Skipped else entry p h) ≡ state.Open
     go true i x e = absurd (cc)
     go false i x e = rw (holds-not v p h (λ f. let q = eq-eqb w v (held_once w v p h e f) in absurd (cc))) (i e)
 

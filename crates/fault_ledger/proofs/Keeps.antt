@@ -1,5 +1,5 @@
 -- Claims, reports and drops keep the rule.
-use Rattle.std.proofs.Common.{◌≡◌, ◌≢◌, ℕ, ◌+◌, ◌^◌, ◌%◌, ◌<◌, ◌≤◌, inl, inr, min, Bool, true, false, cond, eqb, List, [], ◌∷◌, ◌++◌, set, length, slice_index, bit_or, Some, None, refl, sym, ap, ◌∙◌, subst, arith, eq-eqb, length-set, get_or-set_other, get_or-set_same, mod-eq_of_lt}
+use Rattle.std.proofs.Common.{◌≡◌, ◌≢◌, ℕ, ◌+◌, ◌^◌, ◌%◌, ◌<◌, ◌≤◌, inl, inr, min, Bool, true, false, if◌then◌else◌, eqb, List, [], ◌∷◌, ◌++◌, set, length, slice_index, bit_or, Some, None, refl, sym, ap, ◌∙◌, subst, arith, eq-eqb, length-set, get_or-set_other, get_or-set_same, mod-eq_of_lt}
 use Rattle.std.proofs.Math.Nat.{min-eq_left, min-eq_right}
 use native.Mathlib.Decide.{dec_lt, ℕ_discrete}
 use mathlib.Core.Option.{some, none}
@@ -28,7 +28,7 @@ use Rattle.fault_ledger.proofs.Fields.{marked_words, marked_here, marked_else, m
 
 -- what `Allows` asks at one state
 abbrev Goes : {S : Type 0} → Shape → State S View → ℕ → Me S View → ℕ → (ℕ → ℕ) → (ℕ → Me S View → Type 0) → Type 0
-Goes {S} s t id me i f then = (w : View) × (a : Act S) × Valid t.homes me.1 a × IsKept s (stepped t i (f (slice_index t.words i)) id me.1 w a) × then (slice_index t.words i) (w, carried_after me.1 a)
+Goes {S} s t id me i f after_it = (w : View) × (a : Act S) × Valid t.homes me.1 a × IsKept s (stepped t i (f (slice_index t.words i)) id me.1 w a) × after_it (slice_index t.words i) (w, carried_after me.1 a)
 
 -- the workers of another view are others
 others_apart : (s : Shape) (views : List View) (id j w : ℕ) (told : Bool) (seen : History) (u : View) → ((x : ℕ) → total (λ v. times x v.posts) views ≤ 1)
@@ -36,7 +36,7 @@ others_apart : (s : Shape) (views : List View) (id j w : ℕ) (told : Bool) (see
 others_apart s views id j w told seen u apart at n there =
     let two = total-two (λ v. times w v.posts) views id j (one s w told seen) u (λ e. n (sym e)) at there in
     let here : eqb w w ≡ true = eq-eqb w w refl in
-    let once : times w (one s w told seen).posts ≡ 1 = ap (λ b. cond b 1 0 + 0) here in
+    let once : times w (one s w told seen).posts ≡ 1 = ap (λ b. (if b then 1 else 0) + 0) here in
     let most = apart w in
     times-none w u.posts (omega arith)
 
@@ -166,13 +166,13 @@ module _ {S : Type 0} (s : Shape) (slots id w : ℕ) (seen : History) (out : Lis
 
 -- the words after the field of a held piece, which was 0, was set by an `or`
 made : (p q : ℕ) (h : History) (w : ℕ) (words : List ℕ) (x now : PieceState) → held w h ≡ Some p → word_with p < length words → code_of x < 256
-    → field_in words p ≡ code_of (entry p h) → field_in words q ≡ code_of (entry q h) → now ≡ cond (holds w q h) x (entry q h)
+    → field_in words p ≡ code_of (entry p h) → field_in words q ≡ code_of (entry q h) → now ≡ (if holds w q h then x else entry q h)
     → field_in (marked_words words p (code_of x)) q ≡ code_of now
 made p q h w words x now here long small mine was is =
     dite (ℕ_discrete p q)
-    (λ e. let same : now ≡ x = is ∙ ap (λ b. cond b x (entry q h)) (held-holds w q h (here ∙ ap Some e)) in
+    (λ e. let same : now ≡ x = is ∙ ap (λ b. if b then x else entry q h) (held-holds w q h (here ∙ ap Some e)) in
     subst (λ n. field_in (marked_words words p (code_of x)) n ≡ code_of now) e (marked_here words p (code_of x) long small (mine ∙ ap code_of (held_open w p h here)) ∙ ap code_of (sym same)))
-    (λ n. let same : now ≡ entry q h = is ∙ ap (λ b. cond b x (entry q h)) (holds-not w q h (λ f. n (let r : Some p ≡ Some q = sym here ∙ f in cc))) in
+    (λ n. let same : now ≡ entry q h = is ∙ ap (λ b. if b then x else entry q h) (holds-not w q h (λ f. n (let r : Some p ≡ Some q = sym here ∙ f in cc))) in
     marked_else words p q (code_of x) long small n ∙ was ∙ ap code_of (sym same))
 
 -- the field of an outcome of a block has eight bits
@@ -186,7 +186,7 @@ module _ {S : Type 0} (s : Shape) (slots id w p : ℕ) (told : Bool) (seen : His
   me' = (one s w told seen, out)
 
   settles : (e : Event) (x : PieceState) (t : State S View) (h : History) (kept : IsKeptBy s h t.words t.views) → get_elem? t.views id ≡ some me'.0 → worker_of e ≡ w → after s h (call_of e) ≡ e ∷ h
-      → claims (e ∷ h) ≡ claims h → ((q : ℕ) → entry q (e ∷ h) ≡ cond (holds w q h) x (entry q h)) → p < piece_count s → code_of x < 256
+      → claims (e ∷ h) ≡ claims h → ((q : ℕ) → entry q (e ∷ h) ≡ (if holds w q h then x else entry q h)) → p < piece_count s → code_of x < 256
       → IsKeptBy s (e ∷ h) (marked_words t.words p (code_of x)) (set t.views id (one s w told (e ∷ h)))
   settles e x t h kept at by accepts same entries below small =
       let now = marked_words t.words p (code_of x) in

@@ -1,5 +1,5 @@
 -- Facts about legal histories.
-use Rattle.std.proofs.Common.{◌≡◌, ◌≢◌, ℕ, zero, suc, ◌+◌, ◌<◌, ◌≤◌, Bool, true, false, ◌||◌, cond, nat_lt, List, [], ◌∷◌, ◌++◌, length, Option, Some, None, refl, sym, ap, ◌∙◌, subst, arith}
+use Rattle.std.proofs.Common.{◌≡◌, ◌≢◌, ℕ, zero, suc, ◌+◌, ◌<◌, ◌≤◌, Bool, true, false, ◌||◌, if◌then◌else◌, nat_lt, List, [], ◌∷◌, ◌++◌, length, Option, Some, None, refl, sym, ap, ◌∙◌, subst, arith}
 use Rattle.std.specs.List.{list_any}
 use borrow.Author.Tests.{ltb-true}
 use Rattle.patterns.specs.declared.Outcome.{Outcome}
@@ -28,11 +28,11 @@ grew h e p = let q = ap (λ (l : History). length l) p in omega arith
 pub claim_accepted : (s : Shape) (h : History) (w : ℕ) → after s h (call.Claim w) ≡ Event.Claim w ∷ h → (w < s.workers) × (held w h ≡ None) × (claims h < piece_count s)
 claim_accepted s h w e = go (nat_lt w s.workers) (held w h) refl refl e
   where
-    more : (m : Bool) → added (call.Claim w) (cond m (Claimed (claim_is.Piece (class_of s (claims h)) (block_of s (claims h)))) (Claimed claim_is.Exhausted)) ++ h ≡ Event.Claim w ∷ h → m ≡ true
+    more : (m : Bool) → added (call.Claim w) (if m then Claimed (claim_is.Piece (class_of s (claims h)) (block_of s (claims h))) else Claimed claim_is.Exhausted) ++ h ≡ Event.Claim w ∷ h → m ≡ true
     more true e = refl
     more false e = absurd (grew h (Event.Claim w) e)
 
-    go : (b : Bool) (o : Option ℕ) → nat_lt w s.workers ≡ b → held w h ≡ o → added (call.Claim w) (cond b (claim_reply s h o) (Refused NoSuchWorker)) ++ h ≡ Event.Claim w ∷ h → (w < s.workers) × (held w h ≡ None) × (claims h < piece_count s)
+    go : (b : Bool) (o : Option ℕ) → nat_lt w s.workers ≡ b → held w h ≡ o → added (call.Claim w) (if b then claim_reply s h o else Refused NoSuchWorker) ++ h ≡ Event.Claim w ∷ h → (w < s.workers) × (held w h ≡ None) × (claims h < piece_count s)
     go true None x y e = (ltb-true w s.workers x, y, ltb-true (claims h) (piece_count s) (more (nat_lt (claims h) (piece_count s)) e))
     go true (Some p) x y e = absurd (grew h (Event.Claim w) e)
     go false o x y e = absurd (grew h (Event.Claim w) e)
@@ -40,11 +40,11 @@ claim_accepted s h w e = go (nat_lt w s.workers) (held w h) refl refl e
 pub report_accepted : (s : Shape) (h : History) (w : ℕ) (o : Outcome) → after s h (call.Report w o) ≡ Event.Report w o ∷ h → (p : ℕ) × (w < s.workers) × (held w h ≡ Some p) × (fits_size (size_of s.tests (block_of s p)) o ≡ true)
 report_accepted s h w o e = go (nat_lt w s.workers) (held w h) refl refl e
   where
-    more : (m : Bool) → added (call.Report w o) (cond m Done (Refused BadOutcome)) ++ h ≡ Event.Report w o ∷ h → m ≡ true
+    more : (m : Bool) → added (call.Report w o) (if m then Done else Refused BadOutcome) ++ h ≡ Event.Report w o ∷ h → m ≡ true
     more true e = refl
     more false e = absurd (grew h (Event.Report w o) e)
 
-    go : (b : Bool) (x : Option ℕ) → nat_lt w s.workers ≡ b → held w h ≡ x → added (call.Report w o) (cond b (report_reply s o x) (Refused NoSuchWorker)) ++ h ≡ Event.Report w o ∷ h
+    go : (b : Bool) (x : Option ℕ) → nat_lt w s.workers ≡ b → held w h ≡ x → added (call.Report w o) (if b then report_reply s o x else Refused NoSuchWorker) ++ h ≡ Event.Report w o ∷ h
         → (p : ℕ) × (w < s.workers) × (held w h ≡ Some p) × (fits_size (size_of s.tests (block_of s p)) o ≡ true)
     go true None y z e = absurd (grew h (Event.Report w o) e)
     go true (Some p) y z e = (p, ltb-true w s.workers y, z, more (fits_size (size_of s.tests (block_of s p)) o) e)
@@ -53,11 +53,11 @@ report_accepted s h w o e = go (nat_lt w s.workers) (held w h) refl refl e
 pub drop_accepted : (s : Shape) (h : History) (w : ℕ) → after s h (call.Drop w) ≡ Event.Drop w ∷ h → (p : ℕ) × (w < s.workers) × (held w h ≡ Some p) × (has_earlier_hit s h p ≡ true)
 drop_accepted s h w e = go (nat_lt w s.workers) (held w h) refl refl e
   where
-    more : (m : Bool) → added (call.Drop w) (cond m Done (Refused NoEarlierHit)) ++ h ≡ Event.Drop w ∷ h → m ≡ true
+    more : (m : Bool) → added (call.Drop w) (if m then Done else Refused NoEarlierHit) ++ h ≡ Event.Drop w ∷ h → m ≡ true
     more true e = refl
     more false e = absurd (grew h (Event.Drop w) e)
 
-    go : (b : Bool) (x : Option ℕ) → nat_lt w s.workers ≡ b → held w h ≡ x → added (call.Drop w) (cond b (drop_reply s h x) (Refused NoSuchWorker)) ++ h ≡ Event.Drop w ∷ h
+    go : (b : Bool) (x : Option ℕ) → nat_lt w s.workers ≡ b → held w h ≡ x → added (call.Drop w) (if b then drop_reply s h x else Refused NoSuchWorker) ++ h ≡ Event.Drop w ∷ h
         → (p : ℕ) × (w < s.workers) × (held w h ≡ Some p) × (has_earlier_hit s h p ≡ true)
     go true None y z e = absurd (grew h (Event.Drop w) e)
     go true (Some p) y z e = (p, ltb-true w s.workers y, z, more (has_earlier_hit s h p) e)
@@ -98,7 +98,7 @@ legal_hit s p k [] l e = absurd (cc)
 legal_hit s p k (Event.Claim w ∷ h) l e = legal_hit s p k h l.1 e
 legal_hit s p k (Event.Report w o ∷ h) l e = go (holds w p h) refl o refl e (legal_hit s p k h l.1)
   where
-    go : (b : Bool) → holds w p h ≡ b → (x : Outcome) → o ≡ x → cond b (state_of x) (entry p h) ≡ state.Hit k → (entry p h ≡ state.Hit k → k < size_of s.tests (block_of s p)) → k < size_of s.tests (block_of s p)
+    go : (b : Bool) → holds w p h ≡ b → (x : Outcome) → o ≡ x → (if b then state_of x else entry p h) ≡ state.Hit k → (entry p h ≡ state.Hit k → k < size_of s.tests (block_of s p)) → k < size_of s.tests (block_of s p)
     go true y outcome.Clear z e i = absurd (cc)
     go true y (outcome.Hit j) z e i =
         let a = report_accepted s h w o l.0 in
@@ -108,7 +108,7 @@ legal_hit s p k (Event.Report w o ∷ h) l e = go (holds w p h) refl o refl e (l
     go false y x z e i = i e
 legal_hit s p k (Event.Drop w ∷ h) l e = go (holds w p h) e (legal_hit s p k h l.1)
   where
-    go : (b : Bool) → cond b state.Skipped (entry p h) ≡ state.Hit k → (entry p h ≡ state.Hit k → k < size_of s.tests (block_of s p)) → k < size_of s.tests (block_of s p)
+    go : (b : Bool) → (if b then state.Skipped else entry p h) ≡ state.Hit k → (entry p h ≡ state.Hit k → k < size_of s.tests (block_of s p)) → k < size_of s.tests (block_of s p)
     go true e i = absurd (cc)
     go false e i = i e
 
@@ -149,13 +149,13 @@ skipped_behind s p [] l e = absurd (cc)
 skipped_behind s p (Event.Claim w ∷ h) l e = skipped_behind s p h l.1 e
 skipped_behind s p (Event.Report w o ∷ h) l e = go (holds w p h) o e (skipped_behind s p h l.1)
   where
-    go : (b : Bool) (x : Outcome) → cond b (state_of x) (entry p h) ≡ state.Skipped → (entry p h ≡ state.Skipped → has_earlier_hit s h p ≡ true) → has_earlier_hit s (Event.Report w o ∷ h) p ≡ true
+    go : (b : Bool) (x : Outcome) → (if b then state_of x else entry p h) ≡ state.Skipped → (entry p h ≡ state.Skipped → has_earlier_hit s h p ≡ true) → has_earlier_hit s (Event.Report w o ∷ h) p ≡ true
     go true outcome.Clear e i = absurd (cc)
     go true (outcome.Hit j) e i = absurd (cc)
     go false x e i = hit_kept s h (Event.Report w o) p (i e)
 skipped_behind s p (Event.Drop w ∷ h) l e = go (holds w p h) refl e (skipped_behind s p h l.1)
   where
-    go : (b : Bool) → holds w p h ≡ b → cond b state.Skipped (entry p h) ≡ state.Skipped → (entry p h ≡ state.Skipped → has_earlier_hit s h p ≡ true) → has_earlier_hit s (Event.Drop w ∷ h) p ≡ true
+    go : (b : Bool) → holds w p h ≡ b → (if b then state.Skipped else entry p h) ≡ state.Skipped → (entry p h ≡ state.Skipped → has_earlier_hit s h p ≡ true) → has_earlier_hit s (Event.Drop w ∷ h) p ≡ true
     go true x e i =
         let a = drop_accepted s h w l.0 in
         let q : a.0 ≡ p = cc (holds-held w p h x, a.2) in

@@ -5,6 +5,7 @@ pub mod Histories
 pub mod Legal
 pub mod Settles
 pub mod Faces
+pub mod Lowest
 pub mod Statuses
 pub mod Finishes
 pub mod Replays

@@ -1,5 +1,5 @@
 -- What the limits of a shape say.
-use Rattle.std.proofs.Common.{◌≡◌, ℕ, zero, suc, ◌*◌, ◌<◌, ◌≤◌, ◌==◌, Bool, true, false, cond, nat_lt, Some, None, refl, arith}
+use Rattle.std.proofs.Common.{◌≡◌, ℕ, zero, suc, ◌*◌, ◌<◌, ◌≤◌, ◌==◌, Bool, true, false, if◌then◌else◌, nat_lt, Some, None, refl, arith}
 use borrow.Author.Tests.{ltb-false}
 use Rattle.patterns.specs.Tests.{max_pieces}
 use Rattle.fault_ledger.specs.declared.Shape.{Shape}
@@ -10,7 +10,7 @@ use Rattle.fault_ledger.specs.Face.{shape_fault}
 pub shape_small : (s : Shape) → shape_fault s ≡ None → (piece_count s ≤ max_pieces) × (s.workers ≤ 64)
 shape_small s e = go (s.workers == 0) (nat_lt 64 s.workers) (nat_lt max_pieces (piece_count s)) refl refl e
   where
-    go : (a b c : Bool) → nat_lt 64 s.workers ≡ b → nat_lt max_pieces (piece_count s) ≡ c → cond a (Some NoWorkers) (cond b (Some TooManyWorkers) (cond c (Some TooManyPieces) None)) ≡ None → (piece_count s ≤ max_pieces) × (s.workers ≤ 64)
+    go : (a b c : Bool) → nat_lt 64 s.workers ≡ b → nat_lt max_pieces (piece_count s) ≡ c → (if a then Some NoWorkers else if b then Some TooManyWorkers else if c then Some TooManyPieces else None) ≡ None → (piece_count s ≤ max_pieces) × (s.workers ≤ 64)
     go true b c x y e = absurd (cc)
     go false true c x y e = absurd (cc)
     go false false true x y e = absurd (cc)

@@ -1,5 +1,5 @@
 -- A load keeps the rule, and shows a seat the whole history.
-use Rattle.std.proofs.Common.{◌≡◌, ℕ, zero, suc, ◌+◌, ◌%◌, ◌<◌, ◌≤◌, min, cond, eqb, List, [], ◌∷◌, ◌++◌, set, length, slice_index, refl, sym, ap, ◌∙◌, subst, arith}
+use Rattle.std.proofs.Common.{◌≡◌, ℕ, suc, ◌+◌, ◌%◌, ◌<◌, ◌≤◌, min, if◌then◌else◌, eqb, List, [], ◌∷◌, ◌++◌, set, length, slice_index, refl, sym, ap, ◌∙◌, subst, arith}
 use Rattle.std.proofs.Math.Nat.{min-le_right}
 use mathlib.Core.Option.{some, none}
 use lib.ListN.{get_elem?}
@@ -11,6 +11,7 @@ use Rattle.fault_ledger.specs.History.{History, piece_count, claims, entry, Cont
 use Rattle.fault_ledger.specs.Answer.{IsLegal}
 use Rattle.fault_ledger.specs.Words.{code_of, field_in, field, total, times, told_of, ForEach, Knows, IsKeptBy, IsKept, see, Looks}
 use Rattle.fault_ledger.proofs.Histories.{held_goes_on, claims_past, goes_on_same}
+use Rattle.fault_ledger.proofs.Tables.{set_same}
 use Rattle.fault_ledger.proofs.Totals.{total-set, for_all, set_known}
 
 -- a sum over views stays where one view changes and adds as much as before
@@ -59,12 +60,7 @@ see_knows s h words views kept shape (p ∷ ps) k = (
 
 see_same : (h : History) (ps : List Post) → (length (see h ps) ≡ length ps) × (told_of (see h ps) ≡ told_of ps) × ((x : ℕ) → times x (see h ps) ≡ times x ps)
 see_same h [] = (refl, refl, λ x. refl)
-see_same h (p ∷ ps) = let i = see_same h ps in (ap suc i.0, ap (λ n. cond p.told 1 0 + n) i.1, λ x. ap (λ n. cond (eqb p.worker x) 1 0 + n) (i.2 x))
-
-set_same : (words : List ℕ) (i : ℕ) → set words i (slice_index words i) ≡ words
-set_same [] i = refl
-set_same (x ∷ xs) zero = refl
-set_same (x ∷ xs) (suc i) = ap (λ l. x ∷ l) (set_same xs i)
+see_same h (p ∷ ps) = let i = see_same h ps in (ap suc i.0, ap (λ n. (if p.told then 1 else 0) + n) i.1, λ x. ap (λ n. (if eqb p.worker x then 1 else 0) + n) (i.2 x))
 
 -- a load of any word by a seat of one worker or more
 pub looks_allowed : {S : Type 0} (s : Shape) (slots id i : ℕ) (shape : Shape) (p : Post) (ps : List Post) (out : List (ℕ × S))

@@ -1,5 +1,5 @@
 -- The rule of the shared words at the start, and where a token is parted in two or two are joined.
-use Rattle.std.proofs.Common.{◌≡◌, ℕ, zero, suc, ◌+◌, ◌*◌, ◌%◌, ◌^◌, ◌<◌, ◌≤◌, ⊎_elim, min, Bool, true, false, true≢false, cond, eqb, List, [], ◌∷◌, ◌++◌, set, length, slice_index, None, refl, sym, ap, ◌∙◌, subst, arith, ne_eqb, length-append}
+use Rattle.std.proofs.Common.{◌≡◌, ℕ, zero, suc, ◌+◌, ◌*◌, ◌%◌, ◌^◌, ◌<◌, ◌≤◌, ⊎_elim, min, Bool, true, false, true≢false, if◌then◌else◌, eqb, List, [], ◌∷◌, ◌++◌, set, length, slice_index, None, refl, sym, ap, ◌∙◌, subst, arith, ne_eqb, length-append}
 use Rattle.std.proofs.Math.Nat.{min-eq_left, zero-div}
 use mathlib.Core.Option.{some, some-injective, some-ne-none}
 use mathlib.Core.Logic.{dite}
@@ -40,7 +40,7 @@ times-newcomers x w (suc n) =
     (λ e. let i = times-before x (suc w) n (omega arith) in at_most (eqb w x) (omega arith))
     (λ n'. let e : eqb w x ≡ false = ne_eqb w x n' in let i = times-newcomers x (suc w) n in rw e (omega arith))
   where
-    at_most : (b : Bool) → times x (newcomer_posts (suc w) n) ≤ 0 → cond b 1 0 + times x (newcomer_posts (suc w) n) ≤ 1
+    at_most : (b : Bool) → times x (newcomer_posts (suc w) n) ≤ 0 → (if b then 1 else 0) + times x (newcomer_posts (suc w) n) ≤ 1
     at_most true l = omega arith
     at_most false l = omega arith
 

@@ -1,5 +1,5 @@
 -- A class that is settled is settled at the least test of every table to which the reports are true.
-use Rattle.std.proofs.Common.{◌≡◌, ℕ, ◌+◌, Bool, true, false, cond, List, [], ◌∷◌, map, Option, refl, sym, subst}
+use Rattle.std.proofs.Common.{◌≡◌, ℕ, ◌+◌, Bool, true, false, if◌then◌else◌, List, [], ◌∷◌, map, Option, refl, sym, subst}
 use Rattle.patterns.specs.declared.Outcome.{Outcome}
 use Rattle.patterns.specs.declared.Outcome.TheVariants as outcome
 use Rattle.patterns.specs.Least.{Table, below, first_hit}
@@ -29,12 +29,12 @@ agrees s table [] t p = tt
 agrees s table (Event.Claim w ∷ h) t p = agrees s table h t p
 agrees s table (Event.Report w o ∷ h) t p = go (holds w p h) refl (agrees s table h t.1 p)
   where
-    go : (b : Bool) → holds w p h ≡ b → Agrees (entry p h) (table (class_of s p) (block_of s p)) → Agrees (cond b (state_of o) (entry p h)) (table (class_of s p) (block_of s p))
+    go : (b : Bool) → holds w p h ≡ b → Agrees (entry p h) (table (class_of s p) (block_of s p)) → Agrees (if b then state_of o else entry p h) (table (class_of s p) (block_of s p))
     go true e i = subst (λ x. Agrees (state_of o) x) (subst (λ x. Gives s table x o) (holds-held w p h e) t.0) (agrees_with o)
     go false e i = i
 agrees s table (Event.Drop w ∷ h) t p = go (holds w p h) (agrees s table h t p)
   where
-    go : (b : Bool) → Agrees (entry p h) (table (class_of s p) (block_of s p)) → Agrees (cond b state.Skipped (entry p h)) (table (class_of s p) (block_of s p))
+    go : (b : Bool) → Agrees (entry p h) (table (class_of s p) (block_of s p)) → Agrees (if b then state.Skipped else entry p h) (table (class_of s p) (block_of s p))
     go true i = tt
     go false i = i
 

@@ -1,7 +1,13 @@
 -- Lists that a function of the place gives.
-use Rattle.std.proofs.Common.{List, [], ◌++◌, add-one, ◌≡◌, ◌≢◌, ℕ, zero, suc, ◌+◌, ◌<◌, ◌≤◌, Bool, true, false, ◌||◌, ◌∷◌, map, set, length, replicate, get_or, refl, sym, ap, ◌∙◌, arith}
+use Rattle.std.proofs.Common.{List, [], ◌++◌, add-one, ◌≡◌, ◌≢◌, ℕ, zero, suc, ◌+◌, ◌<◌, ◌≤◌, Bool, true, false, ◌||◌, ◌∷◌, map, set, length, replicate, get_or, slice_index, refl, sym, ap, ◌∙◌, arith}
 use Rattle.std.specs.List.{list_any}
 use Rattle.patterns.specs.Least.{from_up, below}
+
+-- a place of a list is given what stands there
+pub set_same : (xs : List ℕ) (i : ℕ) → set xs i (slice_index xs i) ≡ xs
+set_same [] i = refl
+set_same (x ∷ xs) zero = refl
+set_same (x ∷ xs) (suc i) = ap (λ l. x ∷ l) (set_same xs i)
 
 pub length-from_up : {X : Type 0} (f : ℕ → X) (a n : ℕ) → length (map f (from_up a n)) ≡ n
 length-from_up f a zero = refl

@@ -1,5 +1,5 @@
 -- Sums over views, and facts about posts.
-use Rattle.std.proofs.Common.{◌≡◌, ℕ, ⊎_elim, subst, zero, suc, ◌+◌, ◌≤◌, ◌≢◌, Bool, true, false, cond, eqb, List, [], ◌∷◌, ◌++◌, set, length, refl, sym, ap, arith, eq-eqb}
+use Rattle.std.proofs.Common.{◌≡◌, ℕ, ⊎_elim, subst, zero, suc, ◌+◌, ◌≤◌, ◌≢◌, Bool, true, false, if◌then◌else◌, eqb, List, [], ◌∷◌, ◌++◌, set, length, refl, sym, ap, arith, eq-eqb}
 use mathlib.Core.Option.{some, some-injective, some-ne-none}
 use lib.ListN.{get_elem?}
 use Rattle.atomic_table.proofs.Lists.{at_set}
@@ -34,7 +34,7 @@ pub told-length : (ps : List Post) → told_of ps ≤ length ps
 told-length [] = omega arith
 told-length (p ∷ ps) = let i = told-length ps in go p.told i
   where
-    go : (b : Bool) → told_of ps ≤ length ps → cond b 1 0 + told_of ps ≤ length (p ∷ ps)
+    go : (b : Bool) → told_of ps ≤ length ps → (if b then 1 else 0) + told_of ps ≤ length (p ∷ ps)
     go true i = omega arith
     go false i = omega arith
 
@@ -42,7 +42,7 @@ pub times-none : (w : ℕ) (ps : List Post) → times w ps ≡ 0 → ForEach (λ
 times-none w [] e = tt
 times-none w (p ∷ ps) e = go (eqb p.worker w) (times-none w ps) refl e
   where
-    go : (b : Bool) → (times w ps ≡ 0 → ForEach (λ p. p.worker ≢ w) ps) → eqb p.worker w ≡ b → cond b 1 0 + times w ps ≡ 0 → ForEach (λ p. p.worker ≢ w) (p ∷ ps)
+    go : (b : Bool) → (times w ps ≡ 0 → ForEach (λ p. p.worker ≢ w) ps) → eqb p.worker w ≡ b → (if b then 1 else 0) + times w ps ≡ 0 → ForEach (λ p. p.worker ≢ w) (p ∷ ps)
     go true i x e = absurd (omega arith)
     go false i x e = ((λ q. let r = eq-eqb p.worker w q in absurd (cc)), i (omega arith))
 

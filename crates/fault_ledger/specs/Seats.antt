@@ -1,17 +1,19 @@
 -- How clients see a shared ledger, its seats, and what a call on a seat does.
-use Rattle.std.specs.Prelude.{◌≡◌, ◌<◌, ℕ, Bool, true, false, List, [], ◌∷◌, All, map, Option, None}
+use Rattle.std.specs.Prelude.{◌≡◌, ◌≢◌, ◌<◌, ◌≤◌, ℕ, Bool, true, false, List, [], ◌∷◌, All, map, slice_index, Option, Some, None}
 use Rattle.atomic_table.specs.Seated.{TableId}
 use Rattle.patterns.specs.Least.{below}
 use Rattle.fault_ledger.specs.declared.Shape.{Shape}
 use Rattle.fault_ledger.specs.declared.PieceState.{PieceState}
+use Rattle.fault_ledger.specs.declared.PieceState.TheVariants.{Clear}
 use Rattle.fault_ledger.specs.declared.Event.{Event}
 use Rattle.fault_ledger.specs.declared.Refusal.TheVariants.{NoEarlierHit}
 use Rattle.fault_ledger.specs.declared.Call.{Call}
 use Rattle.fault_ledger.specs.declared.Call.TheVariants as call
 use Rattle.fault_ledger.specs.declared.Reply.{Reply}
 use Rattle.fault_ledger.specs.declared.Reply.TheVariants.{Refused}
-use Rattle.fault_ledger.specs.History.{History, piece_count, class_of, block_of, claims, held, ContinuesWithout, states_of}
+use Rattle.fault_ledger.specs.History.{History, piece_count, piece_at, class_of, block_of, claims, held, entry, ContinuesWithout, states_of}
 use Rattle.fault_ledger.specs.Answer.{answer, call_of, IsLegal}
+use Rattle.fault_ledger.specs.Settled.{AreClear}
 use Rattle.fault_ledger.specs.Face.{shape_fault}
 
 -- which shared ledger it is: its table of words, and its shape
@@ -19,28 +21,47 @@ pub record Place : Type 0 where
   pub table : TableId
   pub shape : Shape
 
--- a seat: its ledger, its worker, whether it was told that all pieces are claimed, and the history that it has seen
+-- a seat: its ledger, its worker, whether it was told that all pieces are claimed, and the history
+-- that it has seen
 pub record Sitter : Type 0 where
   pub place : Place
   pub worker : ℕ
   pub told : Bool
   pub seen : History
 
--- What every seat is: its worker is one of the ledger's, what it has seen is legal, and where it was told
--- that all pieces are claimed they were, and it holds none.
+-- What every seat is: its worker is one of the ledger's, what it has seen is legal, and where it
+-- was told that all pieces are claimed they were, and it holds none.
 pub record IsSitter (a : Sitter) : Type 0 where
   pub limits : shape_fault a.place.shape ≡ None
   pub among : a.worker < a.place.shape.workers
   pub legal : IsLegal a.place.shape a.seen
-  pub ended : a.told ≡ true → (held a.worker a.seen ≡ None) × (claims a.seen ≡ piece_count a.place.shape)
+  pub ended : a.told ≡ true
+      → (held a.worker a.seen ≡ None) × (claims a.seen ≡ piece_count a.place.shape)
+
+-- the blocks that are remembered as clear, so many first ones of each class, are so in what was
+-- seen
+abbrev pub RemembersClear : Sitter → List ℕ → Type 0
+RemembersClear a blocks = (class : ℕ)
+    → AreClear a.place.shape a.seen class (slice_index blocks class)
 
 -- what a seat keeps beside its token
-pub record IsSeated (a : Sitter) (worker : ℕ) (told : Bool) (classes : ℕ) (piece : Option ℕ) : Type 0 where
+pub record IsSeated (a : Sitter) (worker : ℕ) (told : Bool) (classes : ℕ) (piece : Option ℕ)
+    (clear : List ℕ) : Type 0 where
   pub sitter : IsSitter a
   pub worker_is : worker ≡ a.worker
   pub told_is : told ≡ a.told
   pub classes_is : classes ≡ a.place.shape.classes
   pub piece_is : piece ≡ held a.worker a.seen
+  pub remembers : RemembersClear a clear
+
+-- The clear blocks at the head of a class, below an end: so many, and then a block in this state,
+-- which isn't Clear, or the end.
+pub record EndsClear (shape : Shape) (h : History) (class end blocks : ℕ)
+    (next : Option PieceState) : Type 0 where
+  pub clear : AreClear shape h class blocks
+  pub none : next ≡ None → end ≤ blocks
+  pub some : (x : PieceState) → next ≡ Some x
+      → (blocks < end) × (x ≢ Clear) × (entry (piece_at shape class blocks) h ≡ x)
 
 -- the class and the block of a piece that is held
 abbrev pub class_and_block : Shape → ℕ → ℕ × ℕ
@@ -61,16 +82,16 @@ newcomers place = map (newcomer place) (below place.shape.workers)
 abbrev pub Keeps : Sitter → Sitter → Type 0
 Keeps old new = (new.place ≡ old.place) × (new.worker ≡ old.worker) × (new.told ≡ old.told)
 
--- No event of the seat: what it has seen afterwards is legal, begins with what it had seen, and has no
--- new event of its worker.
+-- No event of the seat: what it has seen afterwards is legal, begins with what it had seen, and has
+-- no new event of its worker.
 pub record Sees (old : Sitter) (told : Bool) (new : Sitter) : Type 0 where
   pub seat : new ≡ sitter_at old told new.seen
   pub newer : ContinuesWithout old.worker new.seen old.seen
   pub legal : IsLegal old.place.shape new.seen
 
--- One event of the seat: what it has seen afterwards is legal and ends with the event; the history just
--- before the event begins with what it had seen, has no new event of its worker, and the reply is the
--- sequential fault list's after it.
+-- One event of the seat: what it has seen afterwards is legal and ends with the event; the history
+-- just before the event begins with what it had seen, has no new event of its worker, and the reply
+-- is the sequential fault list's after it.
 pub record Makes (old : Sitter) (e : Event) (reply : Reply) (new : Sitter) : Type 0 where
   pub before : History
   pub seat : new ≡ sitter_at old old.told (e ∷ before)
@@ -78,14 +99,15 @@ pub record Makes (old : Sitter) (e : Event) (reply : Reply) (new : Sitter) : Typ
   pub legal : IsLegal old.place.shape (e ∷ before)
   pub replied : reply ≡ answer old.place.shape before (call_of e)
 
--- No step: the seat is as it was, and the reply is the sequential fault list's after what it has seen.
+-- No step: the seat is as it was, and the reply is the sequential fault list's after what it has
+-- seen.
 pub record Stays (old : Sitter) (c : Call) (reply : Reply) (new : Sitter) : Type 0 where
   pub seat : new ≡ old
   pub replied : reply ≡ answer old.place.shape old.seen c
 
--- A drop that finds no hit: a seat that sees more, and the refusal is the sequential fault list's after a
--- history that begins with what the seat had seen, perhaps that itself, and with which what it has seen
--- afterwards begins.
+-- A drop that finds no hit: a seat that sees more, and the refusal is the sequential fault list's
+-- after a history that begins with what the seat had seen, perhaps that itself, and with which what
+-- it has seen afterwards begins.
 pub record FindsNoHit (old : Sitter) (new : Sitter) : Type 0 where
   pub sees : Sees old old.told new
   pub at : History
@@ -93,8 +115,8 @@ pub record FindsNoHit (old : Sitter) (new : Sitter) : Type 0 where
   pub later : ContinuesWithout old.worker new.seen at
   pub replied : Refused NoEarlierHit ≡ answer old.place.shape at (call.Drop old.worker)
 
--- Two seats that met: what the first has seen begins with what both had seen, what the second has seen
--- begins with that, and in both the events of either worker are those of before.
+-- Two seats that met: what the first has seen begins with what both had seen, what the second has
+-- seen begins with that, and in both the events of either worker are those of before.
 pub record Meets (first second first_now second_now : Sitter) : Type 0 where
   pub first_sees : Sees first first.told first_now
   pub second_sees : Sees second second.told second_now
@@ -122,7 +144,8 @@ AreStates shape states = (h : History) × IsLegal shape h × (states ≡ states_
 abbrev pub HoldsAll : History → List Sitter → Type 0
 HoldsAll h seats = All (λ seat. ContinuesWithout seat.worker h seat.seen) seats
 
--- There is one legal history that the closed ledger shows, and in which all that the seats have seen and
--- done stands, each event once.
+-- There is one legal history that the closed ledger shows, and in which all that the seats have
+-- seen and done stands, each event once.
 abbrev pub Closes : Shape → List Sitter → ClosedFace → Type 0
-Closes shape seats closed = (h : History) × IsLegal shape h × HoldsAll h seats × (closed ≡ closed_face shape h)
+Closes shape seats closed = (h : History) × IsLegal shape h × HoldsAll h seats
+    × (closed ≡ closed_face shape h)

@@ -1,5 +1,6 @@
--- The rule of the shared words: what is true of the words and of all that the seats have seen, between any two steps.
-use Rattle.std.specs.Prelude.{◌≡◌, ℕ, zero, suc, ◌+◌, ◌*◌, ◌/◌, ◌%◌, ◌^◌, ◌<◌, ◌≤◌, ◌⊎◌, Bool, true, false, cond, ◌==◌, if◌then◌else◌, min, List, [], ◌∷◌, ◌++◌, length, slice_index, Some, None}
+-- The rule of the shared words: what is true of the words and of all that the seats have seen,
+-- between any two steps.
+use Rattle.std.specs.Prelude.{◌≡◌, ℕ, zero, suc, ◌+◌, ◌*◌, ◌/◌, ◌%◌, ◌^◌, ◌<◌, ◌≤◌, ◌⊎◌, Bool, true, false, ◌==◌, if◌then◌else◌, min, List, [], ◌∷◌, ◌++◌, length, slice_index, Some, None}
 use mathlib.Core.Option.{some}
 use lib.ListN.{get_elem?}
 use Rattle.patterns.specs.declared.Outcome.{Outcome}
@@ -20,8 +21,8 @@ use Rattle.fault_ledger.specs.Seats.{Place, Sitter}
 abbrev pub field : ℕ → ℕ → ℕ
 field n j = n / 2 ^ (8 * j) % 2 ^ 8
 
--- the number of the word in which a piece stands; word 0 is the cursor, and then come eight pieces to
--- a word
+-- the number of the word in which a piece stands; word 0 is the cursor, and then come eight pieces
+-- to a word
 abbrev pub word_with : ℕ → ℕ
 word_with piece = piece / 8 + 1
 
@@ -46,7 +47,11 @@ code_of (state.Hit k) = 128 + k
 
 -- the state that a code stands for
 abbrev pub state_at : ℕ → PieceState
-state_at n = if n == 0 then state.Open else if n == 1 then state.Clear else if n == 2 then state.Skipped else state.Hit (n % 64)
+state_at n =
+    if n == 0 then state.Open
+    else if n == 1 then state.Clear
+    else if n == 2 then state.Skipped
+    else state.Hit (n % 64)
 
 -- the sum of a number over all views
 abbrev pub total : (View → ℕ) → List View → ℕ
@@ -61,14 +66,14 @@ times w (p ∷ posts) = (if p.worker == w then 1 else 0) + times w posts
 -- how many of the posts were told that all pieces are claimed
 abbrev pub told_of : List Post → ℕ
 told_of [] = 0
-told_of (p ∷ posts) = cond p.told 1 0 + told_of posts
+told_of (p ∷ posts) = (if p.told then 1 else 0) + told_of posts
 
 abbrev pub ForEach : (Post → Type 0) → List Post → Type 0
 ForEach P [] = Unit {0}
 ForEach P (p ∷ posts) = P p × ForEach P posts
 
--- what a post has seen: the history begins with it, and has no further event of its worker, who is one of
--- the ledger's; where it was told that all pieces are claimed they were, and it holds none
+-- what a post has seen: the history begins with it, and has no further event of its worker, who is
+-- one of the ledger's; where it was told that all pieces are claimed they were, and it holds none
 pub record Knows (shape : Shape) (h : History) (of : Shape) (p : Post) : Type 0 where
   pub same : of ≡ shape
   pub among : p.worker < shape.workers
@@ -76,10 +81,11 @@ pub record Knows (shape : Shape) (h : History) (of : Shape) (p : Post) : Type 0 
   pub done : p.told ≡ true → (held p.worker p.seen ≡ None) × (claims p.seen ≡ piece_count shape)
 
 -- The words and the views are those of this legal history. Word 0 is the cursor, which counts the
--- claims that were tried, and field p % 8 of word p / 8 + 1 has the code of piece p. Past the pieces the
--- cursor counts those that were told, each once. There are at most as many posts as workers, and no
--- worker stands at two.
-pub record IsKeptBy (shape : Shape) (h : History) (words : List ℕ) (views : List View) : Type 0 where
+-- claims that were tried, and field p % 8 of word p / 8 + 1 has the code of piece p. Past the
+-- pieces the cursor counts those that were told, each once. There are at most as many posts as
+-- workers, and no worker stands at two.
+pub record IsKeptBy (shape : Shape) (h : History) (words : List ℕ)
+    (views : List View) : Type 0 where
   pub limits : shape_fault shape ≡ None
   pub legal : IsLegal shape h
   pub sized : length words ≡ word_count shape
@@ -88,9 +94,11 @@ pub record IsKeptBy (shape : Shape) (h : History) (words : List ℕ) (views : Li
   pub bounded : slice_index words 0 ≤ piece_count shape + total (λ v. told_of v.posts) views
   pub staffed : total (λ v. length v.posts) views ≤ shape.workers
   pub apart : (w : ℕ) → total (λ v. times w v.posts) views ≤ 1
-  pub known : (id : ℕ) (v : View) → get_elem? views id ≡ some v → ForEach (Knows shape h v.shape) v.posts
+  pub known : (id : ℕ) (v : View) → get_elem? views id ≡ some v
+      → ForEach (Knows shape h v.shape) v.posts
 
--- the rule: there is one legal history of which the words are, and which begins with all that was seen
+-- the rule: there is one legal history of which the words are, and which begins with all that was
+-- seen
 abbrev pub IsKept : {S : Type 0} → Shape → State S View → Type 0
 IsKept shape t = (h : History) × IsKeptBy shape h t.words t.views
 
@@ -107,27 +115,34 @@ OfPosts [] P = Unit {0}
 OfPosts (p ∷ []) P = P p
 OfPosts (p ∷ q ∷ posts) P = Unit {0}
 
--- after what was seen and events of others, the worker's event was legal, and is now the last that was seen
+-- after what was seen and events of others, the worker's event was legal, and is now the last that
+-- was seen
 abbrev pub Adds : Shape → Post → Event → View → Type 0
-Adds shape p e v = (before : History) × ContinuesWithout p.worker before p.seen × IsLegal shape (e ∷ before) × (v ≡ one shape p.worker p.told (e ∷ before))
+Adds shape p e v = (before : History) × ContinuesWithout p.worker before p.seen
+    × IsLegal shape (e ∷ before) × (v ≡ one shape p.worker p.told (e ∷ before))
 
 -- a claim that found the number n: it is of piece n, or all pieces are claimed
 abbrev pub Claims : {S : Type 0} → Step S → Me S View → ℕ → Me S View → Type 0
 Claims step me n me' = (me'.1 ≡ me.1) × OfPosts me.0.posts (λ p.
     (h : History) × ContinuesWithout p.worker h p.seen
-    × (((n < piece_count me.0.shape) × (claims h ≡ n) × IsLegal me.0.shape (Event.Claim p.worker ∷ h) × (me'.0 ≡ one me.0.shape p.worker false (Event.Claim p.worker ∷ h)))
-    ⊎ ((piece_count me.0.shape ≤ n) × (claims h ≡ piece_count me.0.shape) × IsLegal me.0.shape h × (me'.0 ≡ one me.0.shape p.worker true h))))
+    × (((n < piece_count me.0.shape) × (claims h ≡ n)
+    × IsLegal me.0.shape (Event.Claim p.worker ∷ h)
+    × (me'.0 ≡ one me.0.shape p.worker false (Event.Claim p.worker ∷ h)))
+    ⊎ ((piece_count me.0.shape ≤ n) × (claims h ≡ piece_count me.0.shape) × IsLegal me.0.shape h
+    × (me'.0 ≡ one me.0.shape p.worker true h))))
 
 -- a fetch_or that sets an outcome's code in the field of the piece held reports that outcome
 abbrev pub Reports : {S : Type 0} → Step S → Me S View → ℕ → Me S View → Type 0
 Reports step me n me' = (me'.1 ≡ me.1) × OfPosts me.0.posts (λ p.
     (o : Outcome)
-    × ((piece : ℕ) → held p.worker p.seen ≡ Some piece → step.first ≡ in_field piece (code_of (state_of o)))
+    × ((piece : ℕ) → held p.worker p.seen ≡ Some piece
+    → step.first ≡ in_field piece (code_of (state_of o)))
     × Adds me.0.shape p (Event.Report p.worker o) me'.0)
 
 -- a fetch_or that drops a piece
 abbrev pub Drops : {S : Type 0} → Step S → Me S View → ℕ → Me S View → Type 0
-Drops step me n me' = (me'.1 ≡ me.1) × OfPosts me.0.posts (λ p. Adds me.0.shape p (Event.Drop p.worker) me'.0)
+Drops step me n me' = (me'.1 ≡ me.1)
+    × OfPosts me.0.posts (λ p. Adds me.0.shape p (Event.Drop p.worker) me'.0)
 
 -- every worker of a view has seen this history
 abbrev pub see : History → List Post → List Post
@@ -138,7 +153,8 @@ see h (p ∷ posts) = post p.worker p.told h ∷ see h posts
 -- history which begins with all that was seen
 abbrev pub Looks : {S : Type 0} → Step S → Me S View → ℕ → Me S View → Type 0
 Looks step me n me' = (me'.1 ≡ me.1) × ((h : History)
-    × ((p : ℕ) → step.word ≡ word_with p → p < piece_count me.0.shape → field n (p % 8) ≡ code_of (entry p h))
+    × ((p : ℕ) → step.word ≡ word_with p → p < piece_count me.0.shape
+    → field n (p % 8) ≡ code_of (entry p h))
     × IsLegal me.0.shape h
     × ForEach (λ p. ContinuesWithout p.worker h p.seen) me.0.posts
     × (me'.0 ≡ record { shape = me.0.shape; posts = see h me.0.posts }))

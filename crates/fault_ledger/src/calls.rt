@@ -21,8 +21,11 @@ pub fn replay(
     ensures face { IfOk result (λ done. done.0 ≡ face shape (after_all shape [] calls.now)) }
     ensures legal { IfOk result (λ _. IsLegal shape (after_all shape [] calls.now)) }
 
-    // Over every table of outcomes to which the reports are true, a settled class is settled at its least test.
-    ensures least { IfOk result (λ _. (table : Table) → IsTrueTo shape table (after_all shape [] calls.now) → SettlesAtLeast shape table (after_all shape [] calls.now)) }
+    // Over every table of outcomes to which the reports are true, a settled class is settled at its
+    // least test.
+    ensures least { IfOk result (λ _. (table : Table)
+        → IsTrueTo shape table (after_all shape [] calls.now)
+        → SettlesAtLeast shape table (after_all shape [] calls.now)) }
     ensures skipped { IfOk result (λ _. SkippedIsNeverFirst shape (after_all shape [] calls.now)) }
 
     ensures refused { (fault : LedgerFault) → shape_fault shape ≡ Some fault → result ≡ Err fault }

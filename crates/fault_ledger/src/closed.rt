@@ -43,7 +43,8 @@ impl Closed {
     pub fn entry(&self, class: u32, block: u32) -> PieceState
         requires { (class < self.now.shape.classes) × (block < block_count self.now.shape) }
         ensures states { AreStates self.now.shape self.now.states }
-        ensures entry { (h : History) → self.now ≡ closed_face self.now.shape h → result ≡ entry (piece_at self.now.shape class block) h }
+        ensures entry { (h : History) → self.now ≡ closed_face self.now.shape h
+            → result ≡ entry (piece_at self.now.shape class block) h }
     {
         self.states[(class + self.shape.classes * block) as usize]
     }
@@ -53,16 +54,19 @@ impl Closed {
     pub fn status(&self, class: u32) -> Status
         requires { class < self.now.shape.classes }
         ensures states { AreStates self.now.shape self.now.states }
-        ensures status { (h : History) → IsLegal self.now.shape h → self.now ≡ closed_face self.now.shape h → result ≡ status self.now.shape h class }
+        ensures status { (h : History) → IsLegal self.now.shape h
+            → self.now ≡ closed_face self.now.shape h → result ≡ status self.now.shape h class }
     {
         status_in(self.shape, &self.states, class)
     }
 
     /// Whether all classes are settled, else the lowest class that isn't, with the block that it
-    /// waits for. It takes at most the time of [`Closed::status`] for that class and each lower one.
+    /// waits for. It takes at most the time of [`Closed::status`] for that class and each lower
+    /// one.
     pub fn finished(&self) -> Finish
         ensures states { AreStates self.now.shape self.now.states }
-        ensures finish { (h : History) → IsLegal self.now.shape h → self.now ≡ closed_face self.now.shape h → result ≡ finish self.now.shape h }
+        ensures finish { (h : History) → IsLegal self.now.shape h
+            → self.now ≡ closed_face self.now.shape h → result ≡ finish self.now.shape h }
     {
         finish_in(self.shape, &self.states)
     }

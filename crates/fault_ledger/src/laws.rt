@@ -11,11 +11,12 @@ ghost use Rattle.fault_ledger.specs.Settled.{IsFirstHit, IsSettledAt};
 /// A settled class is settled at the least test of every table of outcomes to which the reports are
 /// true, whatever the order of the reports and the drops.
 pub fn settles_at_the_least_test()
-    ensures { (shape : Shape) (table : Table) (h : History) → IsTrueTo shape table h → SettlesAtLeast shape table h }
+    ensures { (shape : Shape) (table : Table) (h : History) → IsTrueTo shape table h
+        → SettlesAtLeast shape table h }
 {}
 
-/// A class is settled at a test exactly where that is the test of the first of its blocks that isn't
-/// clear, which is a hit; and at none exactly where all its blocks are clear.
+/// A class is settled at a test exactly where that is the test of the first of its blocks that
+/// isn't clear, which is a hit; and at none exactly where all its blocks are clear.
 pub fn settled_at_the_first_hit()
     ensures { (shape : Shape) (h : History) (class : ℕ) (at : Option ℕ)
         → IsSettledAt shape h class at ↔ IsFirstHit shape h class at }
@@ -28,10 +29,12 @@ pub fn skipped_is_never_first()
 
 /// A piece that isn't open never changes again.
 pub fn pieces_change_once()
-    ensures { (piece : ℕ) (later h : History) → Continues later h → entry piece h ≢ PieceState.Open → entry piece later ≡ entry piece h }
+    ensures { (piece : ℕ) (later h : History) → Continues later h → entry piece h ≢ PieceState.Open
+        → entry piece later ≡ entry piece h }
 {}
 
 /// No two workers hold one piece.
 pub fn no_piece_is_held_twice()
-    ensures { (first second piece : ℕ) (h : History) → held first h ≡ Some piece → held second h ≡ Some piece → first ≡ second }
+    ensures { (first second piece : ℕ) (h : History) → held first h ≡ Some piece
+        → held second h ≡ Some piece → first ≡ second }
 {}

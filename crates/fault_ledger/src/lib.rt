@@ -2,11 +2,11 @@
 //!
 //! A piece is one fault class and one block of 64 tests. Workers claim pieces in one fixed order,
 //! report what they found, or drop a piece where an earlier block of its class is known to detect.
-//! Outcomes come in any order; a class is settled at its earliest detecting test. A drop is the fault
-//! dropping of Bushnell and Agrawal, Essentials of Electronic Testing, by blocks of tests.
+//! Outcomes come in any order; a class is settled at its earliest detecting test. A drop is the
+//! fault dropping of Bushnell and Agrawal, Essentials of Electronic Testing, by blocks of tests.
 //!
-//! [`Ledger`] has one owner, who calls for all workers; [`SharedLedger`] is for workers in threads of
-//! their own, each with its [`Seat`]. Both answer alike.
+//! [`Ledger`] has one owner, who calls for all workers; [`SharedLedger`] is for workers in threads
+//! of their own, each with its [`Seat`]. Both answer alike.
 #![tactic(auto)]
 
 mod calls;
@@ -31,7 +31,7 @@ use std::alloc::{AllocError, AllocFailed};
 use thiserror::Error;
 
 /// The most workers that a ledger serves.
-const MAX_WORKERS: u32 = 64;
+pub const MAX_WORKERS: u32 = 64;
 
 /// The size of a ledger. Classes, tests and workers are numbered from 0.
 #[derive(Clone, Copy, Debug, PartialEq, Eq)]
@@ -107,7 +107,8 @@ pub enum Claim {
     Exhausted,
 }
 
-/// One event of a ledger: a worker got the next piece, reported the piece that it held, or dropped it.
+/// One event of a ledger: a worker got the next piece, reported the piece that it held, or dropped
+/// it.
 ///
 /// No call takes or gives one. Contracts speak of the history of a ledger, which is the list of its
 /// events.

@@ -1,14 +1,11 @@
 //! The ledger of one owner.
 
-ghost use Rattle.std.specs.Prelude.{ℕ, ◌≡◌, ◌⊎◌, ◌<◌, ◌≤◌, ◌+◌, ◌*◌, ◌/◌, ◌%◌, [], length, slice_get, slice_index_or, IfOk, IfErr, OnErr, Some, None};
-ghost use Rattle.std.specs.List.{list_any};
+ghost use Rattle.std.specs.Prelude.{ℕ, ◌≡◌, ◌⊎◌, ◌<◌, ◌≤◌, if◌then◌else◌, min, [], length, slice_get, IfOk, IfErr, OnErr, Some, None};
 ghost use Rattle.std.specs.Option.{option_map};
-ghost use Rattle.patterns.specs.Least.{below};
 ghost use Rattle.fault_ledger.specs.declared.Call.{Call};
 ghost use Rattle.fault_ledger.specs.declared.Reply.{Reply};
-ghost use Rattle.fault_ledger.specs.declared.PieceState.{PieceState};
 ghost use Rattle.fault_ledger.specs.Answer.{fits_size, is_hit, claim_reply_of, done_reply_of};
-ghost use Rattle.fault_ledger.specs.History.{History, held};
+ghost use Rattle.fault_ledger.specs.History.{History, held, state_of};
 ghost use Rattle.fault_ledger.specs.Seats.{class_and_block};
 ghost use Rattle.fault_ledger.specs.Face.{face, shape_of, shape_fault, Answers, IsLedger};
 
@@ -21,23 +18,36 @@ use std::marker::Model;
 /// A ledger with one owner.
 ///
 /// The n-th claim, counted from 0, is for the piece of class `n % classes` and block `n / classes`.
-/// Only [`Ledger::new`] takes memory: one entry a piece and one a worker.
+/// Only [`Ledger::new`] takes memory: 8 bytes a piece, 8 a worker, and 4 a class that has a piece.
 #[derive(Debug, Drop)]
 pub struct Ledger {
     shape: Shape,
     claimed: u32,
     holding: Vec<Option<u32>>,
     states: Vec<PieceState>,
+    // For each class the lowest of its blocks that is a hit, or the number of blocks where none is.
+    lowest_hits: Vec<u32>,
 }
 
 impl Model for Ledger {
     ghost use Rattle.fault_ledger.specs.Face.{Face, IsLedger};
+    ghost use Rattle.fault_ledger.specs.Lowest.{AreLowestHits};
 
     ghost Value = { Face };
 
-    ghost view = { λ l. record { shape = l.shape; claimed = l.claimed; holding = l.holding.items; states = l.states.items } };
+    ghost view = { λ l. record {
+      shape = l.shape;
+      claimed = l.claimed;
+      holding = l.holding.items;
+      states = l.states.items;
+    } };
 
-    ghost invariant = { λ l. IsLedger (record { shape = l.shape; claimed = l.claimed; holding = l.holding.items; states = l.states.items }) };
+    ghost invariant = { λ l. IsLedger (record {
+      shape = l.shape;
+      claimed = l.claimed;
+      holding = l.holding.items;
+      states = l.states.items;
+    }) × AreLowestHits l.shape l.states.items l.lowest_hits.items };
 }
 
 impl Ledger {
@@ -48,8 +58,10 @@ impl Ledger {
     /// 16,777,216 pieces, and with [`LedgerFault::Memory`].
     pub fn new(alloc: Global, classes: u32, tests: u32, workers: u32) -> Result<Ledger, LedgerFault>
         ensures face { IfOk result (λ ledger. ledger ≡ face (shape_of classes tests workers) []) }
-        ensures refused { (fault : LedgerFault) → shape_fault (shape_of classes tests workers) ≡ Some fault → result ≡ Err fault }
-        ensures memory { shape_fault (shape_of classes tests workers) ≡ None → IfErr result (λ fault. fault ≡ LedgerFault.Memory) }
+        ensures refused { (fault : LedgerFault)
+            → shape_fault (shape_of classes tests workers) ≡ Some fault → result ≡ Err fault }
+        ensures memory { shape_fault (shape_of classes tests workers) ≡ None
+            → IfErr result (λ fault. fault ≡ LedgerFault.Memory) }
     {
         let shape = Shape {
             classes,
@@ -61,11 +73,14 @@ impl Ledger {
         }
         let holding = vec![in alloc; None; workers as usize]?;
         let states = vec![in alloc; PieceState::Open; shape.pieces() as usize]?;
+        let with_pieces = u64::from(classes).min(shape.pieces());
+        let lowest_hits = vec![in alloc; shape.blocks(); with_pieces as usize]?;
         Ok(Ledger {
             shape,
             claimed: 0,
             holding,
             states,
+            lowest_hits,
         })
     }
 
@@ -80,7 +95,8 @@ impl Ledger {
     /// The class and the block of the piece that a worker holds.
     pub fn held(&self, worker: u32) -> Option<(u32, u32)>
         requires { worker < self.now.shape.workers }
-        ensures held { (h : History) → self.now ≡ face self.now.shape h → result ≡ option_map {U = ℕ × ℕ} (class_and_block self.now.shape) (held worker h) }
+        ensures held { (h : History) → self.now ≡ face self.now.shape h
+            → result ≡ option_map {U = ℕ × ℕ} (class_and_block self.now.shape) (held worker h) }
         ensures ledger { IsLedger self.now }
     {
         match self.holding[worker as usize] {
@@ -129,28 +145,30 @@ impl Ledger {
         ensures refused { OnErr result (self.new ≡ self.old) }
     {
         let piece = held_by(&self.holding, worker)?;
-        let size = self.shape.size_of(piece / self.shape.classes);
-        if !fits(size, outcome) {
+        let block = piece / self.shape.classes;
+        if !fits(self.shape.size_of(block), outcome) {
             return Err(Refusal::BadOutcome);
         }
+        let class = (piece % self.shape.classes) as usize;
+        self.lowest_hits[class] = lowest_hit_after(self.lowest_hits[class], block, outcome);
         self.holding[worker as usize] = None;
         self.states[piece as usize] = state_after(outcome);
         Ok(())
     }
 
-    /// Skips the piece that a worker holds, which it then no longer holds. It takes at most the time
-    /// of a look at each earlier block of the piece's class.
+    /// Skips the piece that a worker holds, which it then no longer holds. It takes constant time.
     ///
     /// It is refused with [`Refusal::NoSuchWorker`], else with [`Refusal::NothingHeld`], else with
-    /// [`Refusal::NoEarlierHit`] where no earlier block of the class is a hit; the worker then still
-    /// holds the piece. A piece of block 0 is always refused.
+    /// [`Refusal::NoEarlierHit`] where no earlier block of the class is a hit; the worker then
+    /// still holds the piece. A piece of block 0 is always refused.
     pub fn drop_piece(&mut self, worker: u32) -> Result<(), Refusal>
         ensures answer { Answers self.old (Call.Drop worker) (done_reply_of result) self.new }
         ensures shape { self.new.shape ≡ self.old.shape }
         ensures refused { OnErr result (self.new ≡ self.old) }
     {
         let piece = held_by(&self.holding, worker)?;
-        if !has_earlier_hit(&self.states, self.shape.classes, piece) {
+        let class = (piece % self.shape.classes) as usize;
+        if self.lowest_hits[class] >= piece / self.shape.classes {
             return Err(Refusal::NoEarlierHit);
         }
         self.holding[worker as usize] = None;
@@ -168,7 +186,8 @@ impl Ledger {
     }
 
     /// Whether all classes are settled, else the lowest class that isn't, with the block that it
-    /// waits for. It takes at most the time of [`Ledger::status`] for that class and each lower one.
+    /// waits for. It takes at most the time of [`Ledger::status`] for that class and each lower
+    /// one.
     pub fn finished(&self) -> Finish
         ensures { Answers self.now Call.Finished (Reply.Finish result) self.now }
     {
@@ -179,7 +198,9 @@ impl Ledger {
 /// The piece that a worker holds.
 fn held_by(holding: &[Option<u32>], worker: u32) -> Result<u32, Refusal>
     ensures held { IfOk result (λ piece. slice_get holding.now worker ≡ Some (Some piece)) }
-    ensures refused { IfErr result (λ refusal. ((refusal ≡ Refusal.NoSuchWorker) × (length holding.now ≤ worker)) ⊎ ((refusal ≡ Refusal.NothingHeld) × (slice_get holding.now worker ≡ Some None))) }
+    ensures refused { IfErr result (λ refusal.
+        ((refusal ≡ Refusal.NoSuchWorker) × (length holding.now ≤ worker))
+        ⊎ ((refusal ≡ Refusal.NothingHeld) × (slice_get holding.now worker ≡ Some None))) }
 {
     match holding.get(worker as usize) {
         None => Err(Refusal::NoSuchWorker),
@@ -198,17 +219,12 @@ pub(crate) fn fits(size: u32, outcome: Outcome) -> bool
     }
 }
 
-/// Whether an earlier block of the piece's class is a hit.
-fn has_earlier_hit(states: &[PieceState], classes: u32, piece: u32) -> bool
-    requires classes { 0 < classes }
-    requires piece { piece < length states.now }
-    ensures { result ≡ list_any (λ block. is_hit (slice_index_or states.now (piece % classes + classes * block) PieceState.Open)) (below (piece / classes)) }
+/// The lowest hit of a class, or its number of blocks, after the report of a block.
+fn lowest_hit_after(lowest: u32, block: u32, outcome: Outcome) -> u32
+    ensures { result ≡ if is_hit (state_of outcome) then min lowest block else lowest }
 {
-    let class = piece % classes;
-    for block in 0..piece / classes {
-        if let PieceState::Hit(_) = states[(class + classes * block) as usize] {
-            return true;
-        }
+    match outcome {
+        Outcome::Clear => lowest,
+        Outcome::Hit(_) => lowest.min(block),
     }
-    false
 }

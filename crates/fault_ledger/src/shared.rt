@@ -1,15 +1,15 @@
 //! The ledger that threads share, without a lock.
 
-ghost use Rattle.std.specs.Prelude.{◌≡◌, ◌⊎◌, ◌<◌, ℕ, true, false, All, map, length, IfOk, IfErr, OnErr, Ok, Err, Some, None};
+ghost use Rattle.std.specs.Prelude.{◌≡◌, ◌⊎◌, ◌<◌, ◌≤◌, ℕ, true, false, All, map, set, length, slice_index, IfOk, IfErr, OnErr, Ok, Err, Some, None};
 ghost use Rattle.std.specs.Option.{option_map};
 ghost use Rattle.fault_ledger.specs.declared.Call.TheVariants as call;
 ghost use Rattle.fault_ledger.specs.declared.Event.{Event};
 ghost use Rattle.fault_ledger.specs.declared.Reply.TheVariants.{Done};
 ghost use Rattle.fault_ledger.specs.History.{History, ContinuesWithout, block_count, block_of, entry, held, piece_at, piece_count};
-ghost use Rattle.fault_ledger.specs.Answer.{answer, claim_reply_of, done_reply_of, has_earlier_hit};
-ghost use Rattle.fault_ledger.specs.Settled.{status, finish};
+ghost use Rattle.fault_ledger.specs.Answer.{answer, claim_reply_of, done_reply_of, has_earlier_hit, is_hit};
+ghost use Rattle.fault_ledger.specs.Settled.{status, finish, AreClear};
 ghost use Rattle.fault_ledger.specs.Face.{shape_fault, shape_of};
-ghost use Rattle.fault_ledger.specs.Seats.{Closes, FindsNoHit, IsSitter, Keeps, Makes, Meets, Sees, Stays, class_and_block, newcomers};
+ghost use Rattle.fault_ledger.specs.Seats.{Closes, EndsClear, FindsNoHit, IsSitter, Keeps, Makes, Meets, Sees, Stays, class_and_block, newcomers};
 ghost use Rattle.fault_ledger.specs.Words.{newcomer_posts, post_of};
 
 use crate::sequential::fits;
@@ -19,12 +19,15 @@ use patterns::{BLOCK_SIZE, Outcome};
 use std::alloc::{AllocError, Global};
 use std::marker::Model;
 
+/// How many classes a seat remembers the clear blocks of, the first ones, at 4 bytes a class.
+const REMEMBERED_CLASSES: u32 = 65_536;
+
 /// A ledger that threads share.
 ///
-/// The n-th claim over all workers, counted from 0, is for the piece of class `n % classes` and block
-/// `n / classes`. Each worker calls with its [`Seat`], and each claim, report and drop that is accepted
-/// takes effect at one atomic step, so the calls of all workers stand in one legal history of the
-/// sequential fault list. No call takes a lock or tries a step again, and none but
+/// The n-th claim over all workers, counted from 0, is for the piece of class `n % classes` and
+/// block `n / classes`. Each worker calls with its [`Seat`], and each claim, report and drop that
+/// is accepted takes effect at one atomic step, so the calls of all workers stand in one legal
+/// history of the sequential fault list. No call takes a lock or tries a step again, and none but
 /// [`SharedLedger::new`] and [`SharedLedger::close`] takes memory.
 ///
 /// Contracts see a seat as its ledger, its worker, the history that it has seen, and whether it was
@@ -46,8 +49,8 @@ impl Model for SharedLedger {
     ghost invariant = { λ l. l.words.shape ≡ l.shape };
 }
 
-/// A worker's seat at a [`SharedLedger`]. It moves into the worker's thread and comes back at the join.
-/// The piece that a seat holds when it is dropped stays open.
+/// A worker's seat at a [`SharedLedger`]. It moves into the worker's thread and comes back at the
+/// join. The piece that a seat holds when it is dropped stays open.
 #[derive(Drop)]
 pub struct Seat {
     token: Token,
@@ -55,6 +58,8 @@ pub struct Seat {
     told: bool,
     classes: u32,
     piece: Option<u32>,
+    // For each of the first classes, how many of its first blocks were seen clear, and so stay it.
+    clear_blocks: Vec<u32>,
 }
 
 impl Model for Seat {
@@ -64,7 +69,7 @@ impl Model for Seat {
 
     ghost view = { λ s. s.token };
 
-    ghost invariant = { λ s. IsSeated s.token s.worker s.told s.classes s.piece };
+    ghost invariant = { λ s. IsSeated s.token s.worker s.told s.classes s.piece s.clear_blocks.items };
 }
 
 impl Seat {
@@ -78,7 +83,8 @@ impl Seat {
 
     /// The class and the block of the piece that the seat holds.
     pub fn held(&self) -> Option<(u32, u32)>
-        ensures held { result ≡ option_map (class_and_block self.now.place.shape) (held self.now.worker self.now.seen) }
+        ensures held { result ≡ option_map (class_and_block self.now.place.shape)
+            (held self.now.worker self.now.seen) }
         ensures sitter { IsSitter self.now }
     {
         let piece = self.piece?;
@@ -87,12 +93,13 @@ impl Seat {
 }
 
 impl SharedLedger {
-    /// A ledger of these numbers of fault classes, tests and workers, of which nothing is claimed, and
-    /// a seat for each worker, worker w at place w.
+    /// A ledger of these numbers of fault classes, tests and workers, of which nothing is claimed,
+    /// and a seat for each worker, worker w at place w.
     ///
     /// It is refused, in this order, with [`LedgerFault::NoWorkers`], with
     /// [`LedgerFault::TooManyWorkers`] above 64 workers, with [`LedgerFault::TooManyPieces`] above
-    /// 16,777,216 pieces, and with [`LedgerFault::Memory`].
+    /// 16,777,216 pieces, and with [`LedgerFault::Memory`]. It takes a byte a piece, twice for a
+    /// moment, and for each seat 4 bytes a class, for the first 65,536 classes.
     #[tactic(auto, using(crate::proofs::Deals::newcomers_placed))]
     pub fn new(
         alloc: Global,
@@ -103,8 +110,10 @@ impl SharedLedger {
         ensures ledger { IfOk result (λ made. made.0.shape ≡ shape_of classes tests workers) }
         ensures seats { IfOk result (λ made. made.1.items ≡ newcomers made.0) }
         ensures places { IfOk result (λ made. All (λ seat. seat.place ≡ made.0) made.1.items) }
-        ensures refused { (fault : LedgerFault) → shape_fault (shape_of classes tests workers) ≡ Some fault → result ≡ Err fault }
-        ensures memory { shape_fault (shape_of classes tests workers) ≡ None → IfErr result (λ fault. fault ≡ LedgerFault.Memory) }
+        ensures refused { (fault : LedgerFault)
+            → shape_fault (shape_of classes tests workers) ≡ Some fault → result ≡ Err fault }
+        ensures memory { shape_fault (shape_of classes tests workers) ≡ None
+            → IfErr result (λ fault. fault ≡ LedgerFault.Memory) }
     {
         let shape = Shape {
             classes,
@@ -119,18 +128,27 @@ impl SharedLedger {
         Ok((SharedLedger { words, shape }, seats))
     }
 
-    /// The next piece for a seat that holds none, or [`Claim::Exhausted`] where all are claimed. It is
-    /// one atomic step, but for a seat that was told so before and is told so again without a step.
+    /// The next piece for a seat that holds none, or [`Claim::Exhausted`] where all are claimed. It
+    /// is one atomic step, but for a seat that was told so before and is told so again without a
+    /// step.
     ///
     /// It is refused with [`Refusal::Holding`], without a step.
     pub fn claim(&self, seat: &mut Seat) -> Result<Claim, Refusal>
         requires { seat.old.place ≡ self.now }
         ensures kept { (seat.new.place ≡ seat.old.place) × (seat.new.worker ≡ seat.old.worker) }
-        ensures piece { (class block : ℕ) → result ≡ Ok (Claim.Piece class block) → (seat.old.told ≡ false) × Makes seat.old (Event.Claim seat.old.worker) (claim_reply_of result) seat.new }
-        ensures exhausted { result ≡ Ok Claim.Exhausted → seat.old.told ≡ false → Sees seat.old true seat.new × (claim_reply_of result ≡ answer self.now.shape seat.new.seen (call.Claim seat.old.worker)) }
+        ensures piece { (class block : ℕ) → result ≡ Ok (Claim.Piece class block)
+            → (seat.old.told ≡ false)
+            × Makes seat.old (Event.Claim seat.old.worker) (claim_reply_of result) seat.new }
+        ensures exhausted { result ≡ Ok Claim.Exhausted → seat.old.told ≡ false
+            → Sees seat.old true seat.new
+            × (claim_reply_of result
+            ≡ answer self.now.shape seat.new.seen (call.Claim seat.old.worker)) }
         ensures told { result ≡ Ok Claim.Exhausted → seat.new.told ≡ true }
-        ensures again { seat.old.told ≡ true → (result ≡ Ok Claim.Exhausted) × Stays seat.old (call.Claim seat.old.worker) (claim_reply_of result) seat.new }
-        ensures refused { OnErr result (Stays seat.old (call.Claim seat.old.worker) (claim_reply_of result) seat.new) }
+        ensures again { seat.old.told ≡ true
+            → (result ≡ Ok Claim.Exhausted)
+            × Stays seat.old (call.Claim seat.old.worker) (claim_reply_of result) seat.new }
+        ensures refused { OnErr result
+            (Stays seat.old (call.Claim seat.old.worker) (claim_reply_of result) seat.new) }
         ensures refusal { IfErr result (λ refusal. refusal ≡ Refusal.Holding) }
     {
         if seat.piece.is_some() {
@@ -155,15 +173,18 @@ impl SharedLedger {
     /// Takes a seat's outcome of the piece that it holds, which it then no longer holds. It is one
     /// atomic step.
     ///
-    /// It is refused, without a step, with [`Refusal::NothingHeld`], else with [`Refusal::BadOutcome`]
-    /// where the outcome names a test that the piece's block hasn't; the seat then still holds the
-    /// piece.
+    /// It is refused, without a step, with [`Refusal::NothingHeld`], else with
+    /// [`Refusal::BadOutcome`] where the outcome names a test that the piece's block hasn't; the
+    /// seat then still holds the piece.
     pub fn report(&self, seat: &mut Seat, outcome: Outcome) -> Result<(), Refusal>
         requires { seat.old.place ≡ self.now }
         ensures kept { Keeps seat.old seat.new }
-        ensures accepted { IfOk result (λ _. Makes seat.old (Event.Report seat.old.worker outcome) Done seat.new) }
-        ensures refused { OnErr result (Stays seat.old (call.Report seat.old.worker outcome) (done_reply_of result) seat.new) }
-        ensures refusal { IfErr result (λ refusal. (refusal ≡ Refusal.NothingHeld) ⊎ (refusal ≡ Refusal.BadOutcome)) }
+        ensures accepted { IfOk result
+            (λ _. Makes seat.old (Event.Report seat.old.worker outcome) Done seat.new) }
+        ensures refused { OnErr result
+            (Stays seat.old (call.Report seat.old.worker outcome) (done_reply_of result) seat.new) }
+        ensures refusal { IfErr result
+            (λ refusal. (refusal ≡ Refusal.NothingHeld) ⊎ (refusal ≡ Refusal.BadOutcome)) }
     {
         let Some(piece) = seat.piece else {
             return Err(Refusal::NothingHeld);
@@ -177,19 +198,28 @@ impl SharedLedger {
         Ok(())
     }
 
-    /// Skips the piece that a seat holds, which it then no longer holds. It looks at the earlier blocks
-    /// of the piece's class, from block 0 up, until it sees a hit, and then drops the piece in one
-    /// atomic step.
+    /// Skips the piece that a seat holds, which it then no longer holds. It looks at the earlier
+    /// blocks of the piece's class until it sees a hit, and then drops the piece in one atomic
+    /// step.
+    ///
+    /// The looks begin at the first block that the seat hasn't seen clear, which it remembers for
+    /// the first 65,536 classes; for any other class they begin at block 0. It takes at most the
+    /// time of two looks at each block from there to the piece's, so constant time where the seat
+    /// has seen all earlier blocks clear, or all up to a hit.
     ///
     /// It is refused with [`Refusal::NothingHeld`], without a step, else, after the looks, with
-    /// [`Refusal::NoEarlierHit`] where no earlier block of the class was a hit at the first of them; the
-    /// seat then still holds the piece. A piece of block 0 is always refused, without a look.
+    /// [`Refusal::NoEarlierHit`] where no earlier block of the class was a hit at the first of
+    /// them; the seat then still holds the piece. A piece of block 0 is always refused, without a
+    /// look.
     pub fn drop_piece(&self, seat: &mut Seat) -> Result<(), Refusal>
         requires { seat.old.place ≡ self.now }
         ensures kept { Keeps seat.old seat.new }
-        ensures accepted { IfOk result (λ _. Makes seat.old (Event.Drop seat.old.worker) Done seat.new) }
-        ensures refusal { IfErr result (λ refusal. (refusal ≡ Refusal.NothingHeld) ⊎ (refusal ≡ Refusal.NoEarlierHit)) }
-        ensures nothing_held { result ≡ Err Refusal.NothingHeld → Stays seat.old (call.Drop seat.old.worker) (done_reply_of result) seat.new }
+        ensures accepted { IfOk result
+            (λ _. Makes seat.old (Event.Drop seat.old.worker) Done seat.new) }
+        ensures refusal { IfErr result
+            (λ refusal. (refusal ≡ Refusal.NothingHeld) ⊎ (refusal ≡ Refusal.NoEarlierHit)) }
+        ensures nothing_held { result ≡ Err Refusal.NothingHeld
+            → Stays seat.old (call.Drop seat.old.worker) (done_reply_of result) seat.new }
         ensures no_earlier_hit { result ≡ Err Refusal.NoEarlierHit → FindsNoHit seat.old seat.new }
         ensures block_zero { (piece : ℕ) → held seat.old.worker seat.old.seen ≡ Some piece
             → block_of self.now.shape piece ≡ 0
@@ -198,7 +228,7 @@ impl SharedLedger {
         let Some(piece) = seat.piece else {
             return Err(Refusal::NothingHeld);
         };
-        if !self.finds_earlier_hit(&mut seat.token, piece) {
+        if !self.finds_earlier_hit(seat, piece) {
             return Err(Refusal::NoEarlierHit);
         }
         self.words.drop_piece(&mut seat.token, piece);
@@ -206,25 +236,89 @@ impl SharedLedger {
         Ok(())
     }
 
-    /// Looks at the earlier blocks of a piece's class, from block 0 up, until it sees a hit.
-    fn finds_earlier_hit(&self, token: &mut Token, piece: u32) -> bool
-        requires place { token.old.place ≡ self.now }
-        requires sitter { IsSitter token.old }
+    /// Looks at the earlier blocks of a piece's class, from the first that isn't remembered as
+    /// clear, until it sees a hit.
+    fn finds_earlier_hit(&self, seat: &mut Seat, piece: u32) -> bool
+        requires place { seat.old.place ≡ self.now }
         requires piece { piece < piece_count self.now.shape }
-        ensures sees { Sees token.old token.old.told token.new }
+        ensures sees { Sees seat.old seat.old.told seat.new }
         ensures block_zero { block_of self.now.shape piece ≡ 0
-            → (result ≡ false) × (token.new ≡ token.old) }
-        ensures found { result ≡ true → has_earlier_hit self.now.shape token.new.seen piece ≡ true }
-        ensures missed { result ≡ false → (at : History) × ContinuesWithout token.old.worker at token.old.seen × ContinuesWithout token.old.worker token.new.seen at × (has_earlier_hit self.now.shape at piece ≡ false) }
+            → (result ≡ false) × (seat.new ≡ seat.old) }
+        ensures found { result ≡ true → has_earlier_hit self.now.shape seat.new.seen piece ≡ true }
+        ensures missed { result ≡ false → (at : History)
+            × ContinuesWithout seat.old.worker at seat.old.seen
+            × ContinuesWithout seat.old.worker seat.new.seen at
+            × (has_earlier_hit self.now.shape at piece ≡ false) }
     {
         let class = piece % self.shape.classes;
-        for block in 0..piece / self.shape.classes {
-            let earlier = class + self.shape.classes * block;
-            if let PieceState::Hit(_) = self.words.look(token, earlier) {
+        let end = piece / self.shape.classes;
+        let head = self.passes_clear(seat, class, end);
+        self.finds_hit(&mut seat.token, class, head.clear, end)
+    }
+
+    /// Looks at blocks of a class, from this one up and below an end, until it sees a hit.
+    fn finds_hit(&self, token: &mut Token, class: u32, from: u32, end: u32) -> bool
+        requires place { token.old.place ≡ self.now }
+        requires sitter { IsSitter token.old }
+        requires range { (class < self.now.shape.classes) × (end ≤ block_count self.now.shape) }
+        ensures sees { Sees token.old token.old.told token.new }
+        ensures unmoved { end ≡ 0 → token.new ≡ token.old }
+        ensures found { result ≡ true → (block : ℕ) × (block < end)
+            × (is_hit (entry (piece_at self.now.shape class block) token.new.seen) ≡ true) }
+        ensures missed { result ≡ false → (block : ℕ) → from ≤ block → block < end
+            → is_hit (entry (piece_at self.now.shape class block) token.old.seen) ≡ false }
+    {
+        for block in from..end {
+            let piece = class + self.shape.classes * block;
+            if let PieceState::Hit(_) = self.words.look(token, piece) {
                 return true;
             }
         }
         false
+    }
+
+    /// The clear blocks at the head of a class, below an end. It looks at those that the seat
+    /// doesn't remember as clear, and remembers them.
+    fn passes_clear(&self, seat: &mut Seat, class: u32, end: u32) -> ClearHead
+        requires place { seat.old.place ≡ self.now }
+        requires range { (class < self.now.shape.classes) × (end ≤ block_count self.now.shape) }
+        ensures sitter { IsSitter seat.old }
+        ensures sees { Sees seat.old seat.old.told seat.new }
+        ensures unmoved { end ≡ 0 → seat.new ≡ seat.old }
+        ensures head { EndsClear self.now.shape seat.new.seen class end result.clear result.next }
+    {
+        let from = clear_blocks_of(&seat.clear_blocks, class);
+        let head = self.passes_clear_from(&mut seat.token, class, from, end);
+        remember(&mut seat.clear_blocks, class, head.clear);
+        head
+    }
+
+    /// The clear blocks at the head of a class, below an end, of which those below another are
+    /// known.
+    fn passes_clear_from(&self, token: &mut Token, class: u32, from: u32, end: u32) -> ClearHead
+        requires place { token.old.place ≡ self.now }
+        requires sitter { IsSitter token.old }
+        requires range { (class < self.now.shape.classes) × (end ≤ block_count self.now.shape) }
+        requires known { AreClear self.now.shape token.old.seen class from }
+        ensures sees { Sees token.old token.old.told token.new }
+        ensures unmoved { end ≡ 0 → token.new ≡ token.old }
+        ensures head { EndsClear self.now.shape token.new.seen class end result.clear result.next }
+    {
+        for block in from..end {
+            match self.words.look(token, class + self.shape.classes * block) {
+                PieceState::Clear => {}
+                state => {
+                    return ClearHead {
+                        clear: block,
+                        next: Some(state),
+                    };
+                }
+            }
+        }
+        ClearHead {
+            clear: from.max(end),
+            next: None,
+        }
     }
 
     /// What the ledger has of a piece. It is one atomic step.
@@ -239,9 +333,9 @@ impl SharedLedger {
             .look(&mut seat.token, class + self.shape.classes * block)
     }
 
-    /// Whether a class is settled, and at which test, else the block that it waits for. It looks at the
-    /// blocks of the class, from block 0 up, to the first that isn't clear, and takes effect at its
-    /// last look.
+    /// Whether a class is settled, and at which test, else the block that it waits for. It looks at
+    /// the blocks of the class up to the first that isn't clear, and takes effect at its last look.
+    /// The looks begin as those of [`SharedLedger::drop_piece`] do.
     pub fn status(&self, seat: &mut Seat, class: u32) -> Status
         requires place { seat.old.place ≡ self.now }
         requires range { class < self.now.shape.classes }
@@ -249,49 +343,37 @@ impl SharedLedger {
         ensures seen { Sees seat.old seat.old.told seat.new }
         ensures status { result ≡ status self.now.shape seat.new.seen class }
     {
-        self.status_of(&mut seat.token, class)
-    }
-
-    /// Looks at the blocks of a class, from block 0 up, to the first that isn't clear.
-    fn status_of(&self, token: &mut Token, class: u32) -> Status
-        requires place { token.old.place ≡ self.now }
-        requires sitter { IsSitter token.old }
-        requires range { class < self.now.shape.classes }
-        ensures seen { Sees token.old token.old.told token.new }
-        ensures status { result ≡ status self.now.shape token.new.seen class }
-    {
-        for block in 0..self.shape.blocks() {
-            let piece = class + self.shape.classes * block;
-            match self.words.look(token, piece) {
-                PieceState::Clear => {}
-                PieceState::Hit(test) => return Status::Settled(Some(BLOCK_SIZE * block + test)),
-                PieceState::Open => return Status::Waiting(block),
-                // A skipped piece stands behind a hit of its class.
-                PieceState::Skipped => unreachable!(),
-            }
+        let head = self.passes_clear(seat, class, self.shape.blocks());
+        match head.next {
+            None => Status::Settled(None),
+            Some(PieceState::Hit(test)) => Status::Settled(Some(BLOCK_SIZE * head.clear + test)),
+            Some(PieceState::Open) => Status::Waiting(head.clear),
+            // The block isn't clear.
+            Some(PieceState::Clear) => unreachable!(),
+            // A skipped piece stands behind a hit of its class.
+            Some(PieceState::Skipped) => unreachable!(),
         }
-        Status::Settled(None)
     }
 
-    /// Whether all classes are settled, else the lowest class that isn't, with the block that it waits
-    /// for. It takes the looks of [`SharedLedger::status`] for that class and each lower one, and takes
-    /// effect at its last look.
+    /// Whether all classes are settled, else the lowest class that isn't, with the block that it
+    /// waits for. It takes the looks of [`SharedLedger::status`] for that class and each lower one,
+    /// and takes effect at its last look.
     pub fn finished(&self, seat: &mut Seat) -> Finish
         requires { seat.old.place ≡ self.now }
         ensures kept { Keeps seat.old seat.new }
         ensures seen { Sees seat.old seat.old.told seat.new }
         ensures finish { result ≡ finish self.now.shape seat.new.seen }
     {
-        for class in 0..self.shape.classes {
-            if let Status::Waiting(block) = self.status_of(&mut seat.token, class) {
+        for class in 0..seat.classes {
+            if let Status::Waiting(block) = self.status(seat, class) {
                 return Finish::Waiting { class, block };
             }
         }
         Finish::Finished
     }
 
-    /// Puts together what two seats have seen: afterwards both have seen all that either had seen or
-    /// done. It takes three looks at the cursor.
+    /// Puts together what two seats have seen: afterwards both have seen all that either had seen
+    /// or done. It takes three looks at the cursor.
     pub fn meet(&self, first: &mut Seat, second: &mut Seat)
         requires { (first.old.place ≡ self.now) × (second.old.place ≡ self.now) }
         ensures first { Keeps first.old first.new }
@@ -301,8 +383,9 @@ impl SharedLedger {
         self.words.meet(&mut first.token, &mut second.token);
     }
 
-    /// What became of each piece, once all seats are back. Seats may also stay away: the states then
-    /// hold what these did too, but the contract ties them only to what the seats given have seen.
+    /// What became of each piece, once all seats are back. Seats may also stay away: the states
+    /// then hold what these did too, but the contract ties them only to what the seats given have
+    /// seen.
     ///
     /// It is refused only with [`LedgerFault::Memory`]; the ledger and the seats are gone then too.
     pub fn close(self, alloc: Global, seats: Vec<Seat>) -> Result<Closed, LedgerFault>
@@ -315,6 +398,34 @@ impl SharedLedger {
         let group = group_of(&words, seats);
         let states = words.close(alloc, group, shape.pieces() as usize)?;
         Ok(Closed::of(shape, states))
+    }
+}
+
+/// The clear blocks at the head of a class.
+#[derive(Clone, Copy)]
+struct ClearHead {
+    /// How many they are.
+    clear: u32,
+    /// What the ledger has of the block behind them, where that was looked at: it isn't clear.
+    next: Option<PieceState>,
+}
+
+/// How many first blocks of a class are remembered as clear.
+fn clear_blocks_of(clear_blocks: &[u32], class: u32) -> u32
+    ensures { result ≡ slice_index clear_blocks.now class }
+{
+    match clear_blocks.get(class as usize) {
+        Some(blocks) => *blocks,
+        None => 0,
+    }
+}
+
+/// Remembers how many first blocks of a class are clear, where the class is one of the first.
+fn remember(clear_blocks: &mut Vec<u32>, class: u32, blocks: u32)
+    ensures { clear_blocks.new.items ≡ set clear_blocks.old.items class blocks }
+{
+    if (class as usize) < clear_blocks.len() {
+        clear_blocks[class as usize] = blocks;
     }
 }
 
@@ -333,12 +444,15 @@ fn seats_of(
     for worker in 0..shape.workers {
         let (token, rest) = words.part(group);
         group = rest;
+        let remembered = shape.classes.min(REMEMBERED_CLASSES);
+        let clear_blocks = vec![in alloc; 0; remembered as usize]?;
         seats.push(Seat {
             token,
             worker,
             told: false,
             classes: shape.classes,
             piece: None,
+            clear_blocks,
         })?;
     }
     Ok(seats)
@@ -370,6 +484,7 @@ fn token_of(seat: Seat) -> Token
         told: _,
         classes: _,
         piece: _,
+        clear_blocks: _,
     } = seat;
     token
 }

@@ -15,7 +15,8 @@ pub(crate) fn status_in(shape: Shape, states: &[PieceState], class: u32) -> Stat
     requires limits { shape_fault shape ≡ None }
     requires states { AreStates shape states.now }
     requires range { class < shape.classes }
-    ensures { (h : History) → IsLegal shape h → states.now ≡ states_of shape h → result ≡ status shape h class }
+    ensures { (h : History) → IsLegal shape h → states.now ≡ states_of shape h
+        → result ≡ status shape h class }
 {
     for block in 0..shape.blocks() {
         let piece = class + shape.classes * block;
@@ -30,11 +31,13 @@ pub(crate) fn status_in(shape: Shape, states: &[PieceState], class: u32) -> Stat
     Status::Settled(None)
 }
 
-/// Whether all classes are settled, else the lowest class that isn't, with the block that it waits for.
+/// Whether all classes are settled, else the lowest class that isn't, with the block that it waits
+/// for.
 pub(crate) fn finish_in(shape: Shape, states: &[PieceState]) -> Finish
     requires limits { shape_fault shape ≡ None }
     requires states { AreStates shape states.now }
-    ensures { (h : History) → IsLegal shape h → states.now ≡ states_of shape h → result ≡ finish shape h }
+    ensures { (h : History) → IsLegal shape h → states.now ≡ states_of shape h
+        → result ≡ finish shape h }
 {
     for class in 0..shape.classes {
         if let Status::Waiting(block) = status_in(shape, states, class) {

@@ -2,8 +2,8 @@
 //!
 //! Word 0 is the cursor, which counts the claims that were tried. Behind it stand the pieces, eight
 //! to a word: piece p, counted from 0, has the field of eight bits from bit 8 * (p % 8) on of word
-//! p / 8 + 1. Each step is one atomic operation on one word. Views and events are facts of the proof:
-//! no value of [`View`] or [`Post`] is made.
+//! p / 8 + 1. Each step is one atomic operation on one word. Views and events are facts of the
+//! proof: no value of [`View`] or [`Post`] is made.
 
 ghost use Rattle.std.specs.Prelude.{◌≡◌, ◌<◌, ◌≤◌, ◌+◌, ◌*◌, ◌/◌, ◌%◌, true, false, [], ◌∷◌, map, IfOk, Some, None};
 ghost use Rattle.patterns.specs.Tests.{size_of};
@@ -45,8 +45,8 @@ const SKIPPED: u64 = 2;
 /// The code of a hit at test 0 of its block; that of a hit at test k is `HIT + k`.
 const HIT: u64 = 128;
 
-/// A worker that a token stands for, whether it was told that all pieces are claimed, and the history
-/// that it has seen, the newest event first.
+/// A worker that a token stands for, whether it was told that all pieces are claimed, and the
+/// history that it has seen, the newest event first.
 pub(crate) struct Post {
     pub(crate) worker: u32,
     pub(crate) told: bool,
@@ -145,7 +145,9 @@ impl Model for Words {
 
     ghost view = { λ w. place_of w.table.shared.table_id w.table.shared.key };
 
-    ghost invariant = { λ w. (w.table.shared.table_id.words ≡ word_count w.table.shared.key) × (w.table.shared.table_id.slots ≡ 0) × (shape_fault w.table.shared.key ≡ None) };
+    ghost invariant = { λ w. (w.table.shared.table_id.words ≡ word_count w.table.shared.key)
+        × (w.table.shared.table_id.slots ≡ 0)
+        × (shape_fault w.table.shared.key ≡ None) };
 }
 
 /// A token with which one worker steps. It has no bytes.
@@ -199,7 +201,8 @@ impl Words {
     pub(crate) fn new(alloc: Global, shape: Shape) -> Result<(Words, Group), AllocError>
         requires { shape_fault shape ≡ None }
         ensures words { IfOk result (λ made. made.0.shape ≡ shape) }
-        ensures group { IfOk result (λ made. (made.1.place ≡ made.0) × (made.1.posts ≡ newcomer_posts 0 shape.workers)) }
+        ensures group { IfOk result (λ made. (made.1.place ≡ made.0)
+            × (made.1.posts ≡ newcomer_posts 0 shape.workers)) }
     {
         let pieces = shape.pieces() as usize;
         let zeros = vec![in alloc; OPEN; pieces.div_ceil(PIECES_PER_WORD) + 1]?;
@@ -242,9 +245,15 @@ impl Words {
     pub(crate) fn claim(&self, token: &mut Token) -> u64
         requires place { token.old.place ≡ self.now }
         requires free { (token.old.told ≡ false) × (held token.old.worker token.old.seen ≡ None) }
-        ensures piece { result < piece_count self.now.shape → Makes token.old (Event.Claim token.old.worker) (Claimed (claim_is.Piece (class_of self.now.shape result) (block_of self.now.shape result))) token.new }
-        ensures held { result < piece_count self.now.shape → held token.old.worker token.new.seen ≡ Some result }
-        ensures none { piece_count self.now.shape ≤ result → Sees token.old true token.new × (claims token.new.seen ≡ piece_count self.now.shape) }
+        ensures piece { result < piece_count self.now.shape
+            → Makes token.old (Event.Claim token.old.worker)
+            (Claimed (claim_is.Piece (class_of self.now.shape result)
+            (block_of self.now.shape result)))
+            token.new }
+        ensures held { result < piece_count self.now.shape
+            → held token.old.worker token.new.seen ≡ Some result }
+        ensures none { piece_count self.now.shape ≤ result
+            → Sees token.old true token.new × (claims token.new.seen ≡ piece_count self.now.shape) }
     {
         let mut seat = mem::replace(&mut token.badge, Badge::blank()).into_seat::<u8>();
         let piece = self.table.shared.fetch_add::<Claiming>(&mut seat, 0, 1);
@@ -252,13 +261,14 @@ impl Words {
         piece
     }
 
-    /// One atomic step: the outcome's code is set in the field of the worker's piece, which was 0. The
-    /// other seven pieces of the word stay.
+    /// One atomic step: the outcome's code is set in the field of the worker's piece, which was 0.
+    /// The other seven pieces of the word stay.
     pub(crate) fn report(&self, token: &mut Token, piece: u32, outcome: Outcome)
         requires place { token.old.place ≡ self.now }
         requires piece { piece < piece_count self.now.shape }
         requires held { held token.old.worker token.old.seen ≡ Some piece }
-        requires fits { fits_size (size_of self.now.shape.tests (block_of self.now.shape piece)) outcome ≡ true }
+        requires fits { fits_size (size_of self.now.shape.tests (block_of self.now.shape piece)) outcome
+            ≡ true }
         ensures { Makes token.old (Event.Report token.old.worker outcome) Done token.new }
     {
         let mut seat = mem::replace(&mut token.badge, Badge::blank()).into_seat::<u8>();
@@ -270,9 +280,9 @@ impl Words {
         token.badge = seat.into_badge();
     }
 
-    /// One atomic step: the code of a skipped piece is set in the field of the worker's piece, which
-    /// was 0. The other seven pieces of the word stay. The worker has seen a hit of an earlier block of
-    /// the piece's class.
+    /// One atomic step: the code of a skipped piece is set in the field of the worker's piece,
+    /// which was 0. The other seven pieces of the word stay. The worker has seen a hit of an
+    /// earlier block of the piece's class.
     pub(crate) fn drop_piece(&self, token: &mut Token, piece: u32)
         requires place { token.old.place ≡ self.now }
         requires piece { piece < piece_count self.now.shape }
@@ -328,7 +338,9 @@ impl Words {
     ) -> Result<Vec<PieceState>, AllocError>
         requires place { group.place ≡ self }
         requires pieces { pieces ≡ piece_count self.shape }
-        ensures { IfOk result (λ states. (h : History) × IsLegal self.shape h × ForEach (λ p. ContinuesWithout p.worker h p.seen) group.posts × (states.items ≡ states_of self.shape h)) }
+        ensures { IfOk result (λ states. (h : History) × IsLegal self.shape h
+            × ForEach (λ p. ContinuesWithout p.worker h p.seen) group.posts
+            × (states.items ≡ states_of self.shape h)) }
     {
         let Words { table } = self;
         let Group { seat } = group;
@@ -346,7 +358,9 @@ fn read_states(
     pieces: usize,
 ) -> Result<Vec<PieceState>, AllocError>
     requires { (slots_len closed.now.words ≡ (pieces + 7) / 8 + 1) × IsFull closed.now.words }
-    ensures { IfOk result (λ states. states.items ≡ map (λ piece. rule.state_at (rule.field_in (slots_items closed.now.words) piece)) (below pieces)) }
+    ensures { IfOk result (λ states. states.items
+        ≡ map (λ piece. rule.state_at (rule.field_in (slots_items closed.now.words) piece))
+        (below pieces)) }
 {
     let mut states = Vec::with_capacity(alloc, pieces)?;
     for piece in 0..pieces {

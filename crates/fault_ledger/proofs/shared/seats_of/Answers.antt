@@ -15,8 +15,10 @@ invariant_of-push c =
     let w = c.loop-worker.worker in
     let i = c.loop-worker.invariant in
     let e = c.part-token.ensures in
-    deal_seat p c.args.shape w c.part-token.result.0 (deal_first p w c.args.shape.workers c.loop-worker.group.posts c.part-token.result.1.posts c.part-token.result.0 c.loop-worker-test.true i.posts e.posts e.place.0)
-    c.requires.shape.0 c.requires.shape.1 c.loop-worker-test.true
+    let a = c.part-token.result.0 in
+    let first = deal_first p w c.args.shape.workers c.loop-worker.group.posts c.part-token.result.1.posts a c.loop-worker-test.true i.posts e.posts e.place.0 in
+    deal_seat p c.args.shape w c.min-remembered.result c.in_ok-clear_blocks.clear_blocks.items a first c.requires.shape.0 c.requires.shape.1 c.loop-worker-test.true
+    (c.in_ok-clear_blocks.ensures.items_if_clones_equal (λ y is. is))
 
 pub loop-worker-preserved : goal.loop-worker-preserved
 loop-worker-preserved c =

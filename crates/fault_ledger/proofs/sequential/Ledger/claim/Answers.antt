@@ -14,7 +14,7 @@ pub index-requires : goal.index-requires
 index-requires c =
     let s = c.self.inside in
     let f = faced s.shape s.claimed s.holding.items s.states.items in
-    let a = ledger-holding f c.self.invariant in
+    let a = ledger-holding f c.self.invariant.0 in
     let b = s.holding.ok in
     omega arith
 
@@ -23,7 +23,7 @@ returns-then-is_some-clause-answer c =
     let s = c.self.inside in
     let f = faced s.shape s.claimed s.holding.items s.states.items in
     let w = c.args.worker in
-    let a = ledger-holding f c.self.invariant in
+    let a = ledger-holding f c.self.invariant.0 in
     let found = slice_get_read s.holding.items s.shape.workers w c.index.result.now (sym a) c.if-worker-self.false c.index.ensures in
     let held = some_of c.index.result.now (sym c.is_some.ensures ∙ c.if-is_some.true) in
     subst (λ (g : Face). Answers g (call.Claim w) (Refused Holding) g) c.self.view_is (claim-holding f w held.0 (found ∙ ap Some held.1))
@@ -33,7 +33,7 @@ returns-then-piece-len-clause-answer c =
     let s = c.self.inside in
     let f = faced s.shape s.claimed s.holding.items s.states.items in
     let w = c.args.worker in
-    let a = ledger-holding f c.self.invariant in
+    let a = ledger-holding f c.self.invariant.0 in
     let found = slice_get_read s.holding.items s.shape.workers w c.index.result.now (sym a) c.if-worker-self.false c.index.ensures in
     let free = none_of c.index.result.now (sym c.is_some.ensures ∙ c.if-is_some.false) in
     let all : length s.states.items ≤ s.claimed = (let b = c.len.ensures in let d = s.states.ok in let e = c.if-piece-len.true in omega arith) in
@@ -43,7 +43,7 @@ pub index_mut-requires : goal.index_mut-requires
 index_mut-requires c =
     let s = c.self.inside in
     let f = faced s.shape s.claimed s.holding.items s.states.items in
-    let a = ledger-holding f c.self.invariant in
+    let a = ledger-holding f c.self.invariant.0 in
     let b = s.holding.ok in
     omega arith
 
@@ -51,8 +51,8 @@ pub overflow_add-self : goal.overflow_add-self
 overflow_add-self c =
     let s = c.self.inside in
     let f = faced s.shape s.claimed s.holding.items s.states.items in
-    let a = ledger-states f c.self.invariant in
-    let few : piece_count s.shape ≤ max_pieces = ledger-few f c.self.invariant in
+    let a = ledger-states f c.self.invariant.0 in
+    let few : piece_count s.shape ≤ max_pieces = ledger-few f c.self.invariant.0 in
     let b = c.len.ensures in
     let d = s.states.ok in
     let e = c.if-piece-len.false in
@@ -63,7 +63,7 @@ claims c =
     let s = c.self.inside in
     let f = faced s.shape s.claimed s.holding.items s.states.items in
     let w = c.args.worker in
-    let a = ledger-holding f c.self.invariant in
+    let a = ledger-holding f c.self.invariant.0 in
     let found = slice_get_read s.holding.items s.shape.workers w c.index.result.now (sym a) c.if-worker-self.false c.index.ensures in
     let free = none_of c.index.result.now (sym c.is_some.ensures ∙ c.if-is_some.false) in
     let more : s.claimed < length s.states.items = (let b = c.len.ensures in let d = s.states.ok in let e = c.if-piece-len.false in omega arith) in
@@ -71,9 +71,11 @@ claims c =
 
 pub invariant_of-self : goal.invariant_of-self
 invariant_of-self c =
-    let s = c.self.inside in
-    ledger-after (faced s.shape s.claimed s.holding.items s.states.items) (s.claimed + 1) (set s.holding.items c.args.worker (Some s.claimed)) s.states.items
-    (call.Claim c.args.worker) (Claimed (claim_is.Piece (s.claimed % s.shape.classes) (s.claimed / s.shape.classes))) c.self.invariant (claims c)
+    let s = c.self.inside in (
+      ledger-after (faced s.shape s.claimed s.holding.items s.states.items) (s.claimed + 1) (set s.holding.items c.args.worker (Some s.claimed)) s.states.items
+          (call.Claim c.args.worker) (Claimed (claim_is.Piece (s.claimed % s.shape.classes) (s.claimed / s.shape.classes))) c.self.invariant.0 (claims c),
+      c.self.invariant.1,
+    )
 
 pub returns-clause-answer : goal.returns-clause-answer
 returns-clause-answer c =

@@ -22,14 +22,14 @@ index-requires c =
     let s = c.self.inside in
     let f = faced s.shape s.claimed s.holding.items s.states.items in
     let lt = subst (λ (x : Face). c.args.worker < x.shape.workers) (sym c.self.view_is) c.requires in
-    omega (arith, lt, ledger-holding f c.self.invariant, s.holding.ok.0)
+    omega (arith, lt, ledger-holding f c.self.invariant.0, s.holding.ok.0)
 
 pub nonzero_rem-result : goal.nonzero_rem-result
 nonzero_rem-result c =
     let s = c.self.inside in
     let f = faced s.shape s.claimed s.holding.items s.states.items in
     let lt = subst (λ (x : Face). c.args.worker < x.shape.workers) (sym c.self.view_is) c.requires in
-    some_class s.shape c.in-Some.piece (found-piece f c.args.worker c.in-Some.piece c.self.invariant (at f c.args.worker c.index.result.now (Some c.in-Some.piece) c.self.invariant lt c.index.ensures c.in-Some.is))
+    some_class s.shape c.in-Some.piece (found-piece f c.args.worker c.in-Some.piece c.self.invariant.0 (at f c.args.worker c.index.result.now (Some c.in-Some.piece) c.self.invariant.0 lt c.index.ensures c.in-Some.is))
 
 pub nonzero_div-result : goal.nonzero_div-result
 nonzero_div-result c = nonzero_rem-result c
@@ -39,11 +39,11 @@ returns-in-Some-clause-held c = λ h e.
     let s = c.self.inside in
     let f = faced s.shape s.claimed s.holding.items s.states.items in
     let lt = subst (λ (x : Face). c.args.worker < x.shape.workers) (sym c.self.view_is) c.requires in
-    says f c.args.self.now c.args.worker (Some c.in-Some.piece) h c.self.view_is (at f c.args.worker c.index.result.now (Some c.in-Some.piece) c.self.invariant lt c.index.ensures c.in-Some.is) e
+    says f c.args.self.now c.args.worker (Some c.in-Some.piece) h c.self.view_is (at f c.args.worker c.index.result.now (Some c.in-Some.piece) c.self.invariant.0 lt c.index.ensures c.in-Some.is) e
 
 pub returns-in-None-clause-held : goal.returns-in-None-clause-held
 returns-in-None-clause-held c = λ h e.
     let s = c.self.inside in
     let f = faced s.shape s.claimed s.holding.items s.states.items in
     let lt = subst (λ (x : Face). c.args.worker < x.shape.workers) (sym c.self.view_is) c.requires in
-    says f c.args.self.now c.args.worker None h c.self.view_is (at f c.args.worker c.index.result.now None c.self.invariant lt c.index.ensures c.in-None.is) e
+    says f c.args.self.now c.args.worker None h c.self.view_is (at f c.args.worker c.index.result.now None c.self.invariant.0 lt c.index.ensures c.in-None.is) e

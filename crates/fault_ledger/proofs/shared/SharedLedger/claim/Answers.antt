@@ -1,5 +1,6 @@
-use Rattle.std.proofs.Common.{◌≡◌, ◌≤◌, true, None, ap, sym, ◌∙◌, subst, arith}
+use Rattle.std.proofs.Common.{◌≡◌, ◌<◌, ◌≤◌, true, Some, None, ap, sym, ◌∙◌, subst, arith}
 use Rattle.fault_ledger.specs.declared.Shape.{Shape}
+use Rattle.fault_ledger.specs.declared.Event.{Event}
 use Rattle.fault_ledger.specs.declared.Claim.TheVariants as claim_is
 use Rattle.fault_ledger.specs.declared.Call.TheVariants as call
 use Rattle.fault_ledger.specs.declared.Reply.TheVariants.{Claimed}
@@ -8,7 +9,7 @@ use Rattle.fault_ledger.specs.Answer.{answer}
 use Rattle.fault_ledger.specs.Seats.{Place, Sitter, Sees}
 use Rattle.fault_ledger.proofs.Histories.{held_goes_on}
 use Rattle.fault_ledger.proofs.Faces.{none_of}
-use Rattle.fault_ledger.proofs.Sits.{seated_ends, exhausted_at}
+use Rattle.fault_ledger.proofs.Sits.{seated_ends, seated_makes, exhausted_at}
 use Rattle.fault_ledger.proofs.shared.SharedLedger.claim.Goals as goal
 
 -- the step of a claim that finds no piece
@@ -28,7 +29,7 @@ pub invariant_of-seat : goal.invariant_of-seat
 invariant_of-seat c =
     let i = c.seat.inside in
     let e = ends c in
-    seated_ends i.token c.claim-piece.new.token i.worker i.told i.classes i.piece c.seat.invariant e.0 e.1 e.2
+    seated_ends i.token c.claim-piece.new.token i.worker i.told i.classes i.piece i.clear_blocks.items c.seat.invariant e.0 e.1 e.2
 
 pub returns-then-piece-pieces-clause-exhausted : goal.returns-then-piece-pieces-clause-exhausted
 returns-then-piece-pieces-clause-exhausted c = λ _ _.
@@ -40,3 +41,14 @@ returns-then-piece-pieces-clause-exhausted c = λ _ _.
       subst (λ (a : Sitter). Claimed claim_is.Exhausted ≡ answer a.place.shape now.seen (call.Claim a.worker)) c.seat.view_is (exhausted_at i.token now.seen c.seat.invariant.sitter free e.2)
           ∙ ap (λ (p : Place). answer p.shape now.seen (call.Claim c.args.seat.now.worker)) c.requires,
     )
+
+pub invariant_of-seat-2 : goal.invariant_of-seat-2
+invariant_of-seat-2 c =
+    let i = c.seat.inside in
+    let s = c.self.inside in
+    let now = c.claim-piece.new.token in
+    let at : i.token.place ≡ s.words = ap (λ (a : Sitter). a.place) c.seat.view_is ∙ c.requires ∙ sym c.self.view_is in
+    let some : c.claim-piece.result < piece_count s.shape = (let a = c.pieces.ensures in let b = c.if-piece-pieces.false in omega arith) in
+    let within = subst (λ (x : Shape). c.claim-piece.result < piece_count x) (sym c.self.invariant) some in
+    seated_makes i.token now (Event.Claim i.token.worker) _ i.worker i.told i.classes i.piece (Some c.claim-piece.result) i.clear_blocks.items c.seat.invariant
+    (sym c.seat.invariant.told_is ∙ c.if-seat.false) (c.claim-piece.ensures.piece within) (c.claim-piece.ensures.held within)

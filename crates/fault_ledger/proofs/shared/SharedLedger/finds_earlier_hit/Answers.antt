@@ -1,63 +1,45 @@
-use Rattle.std.proofs.Common.{◌≡◌, ℕ, ◌/◌, ◌%◌, ◌<◌, true, false, refl, sym, ap, ◌∙◌, subst, arith, below_more}
+use Rattle.std.proofs.Common.{◌≡◌, ℕ, ◌/◌, ◌%◌, ◌<◌, ◌≤◌, Bool, true, false, refl, sym, ap, ◌∙◌, subst, arith}
 use Rattle.fault_ledger.specs.declared.Shape.{Shape}
-use Rattle.fault_ledger.specs.History.{class_of, block_of, piece_at, entry}
-use Rattle.fault_ledger.specs.Answer.{is_hit, has_earlier_hit}
-use Rattle.fault_ledger.specs.Seats.{Place}
-use Rattle.fault_ledger.proofs.Tables.{any_at-below, any_none-below}
-use Rattle.fault_ledger.proofs.Histories.{goes_on_same}
-use Rattle.fault_ledger.proofs.Sits.{sees_twice}
-use Rattle.fault_ledger.proofs.Classes.{not_hit, no_hit_before}
+use Rattle.fault_ledger.specs.History.{ContinuesWithout, class_of, block_of, piece_at, entry}
+use Rattle.fault_ledger.specs.Answer.{is_hit}
+use Rattle.fault_ledger.specs.Seats.{Place, Sitter, Sees, EndsClear}
+use Rattle.fault_ledger.proofs.Sits.{seated_sees, sees_twice}
+use Rattle.fault_ledger.proofs.Classes.{none_found, hit_found}
 use Rattle.fault_ledger.proofs.shared.SharedLedger.finds_earlier_hit.Goals as goal
 
-pub returns-in-Hit-clause-sees : goal.returns-in-Hit-clause-sees
-returns-in-Hit-clause-sees c = sees_twice c.args.token.now c.loop-block.token c.look.new.token c.loop-block.invariant.sees c.look.ensures.seen
+pub invariant_of-seat : goal.invariant_of-seat
+invariant_of-seat c =
+    let i = c.seat.inside in
+    seated_sees i.token c.finds_hit.new.token i.worker i.told i.classes i.piece i.clear_blocks.items c.seat.invariant c.finds_hit.ensures.sees
 
-pub returns-in-Hit-clause-found : goal.returns-in-Hit-clause-found
-returns-in-Hit-clause-found c = λ _.
-    let s = c.self.inside.shape in
-    let p = c.args.piece in
-    let h = c.look.new.token.seen in
-    let is : s ≡ c.args.self.now.shape = sym c.self.invariant ∙ ap (λ (x : Place). x.shape) c.self.view_is in
-    subst (λ (x : Shape). has_earlier_hit x h p ≡ true) is
-    (any_at-below (λ b. is_hit (entry (piece_at s (class_of s p) b) h)) (block_of s p) c.loop-block.block c.loop-block-test.true (ap is_hit (sym c.look.ensures.state ∙ c.in-Hit.is)))
+not_found : (b : Bool) → (b ≡ true → ⊥) → b ≡ false
+not_found true f = absurd (f refl)
+not_found false f = refl
 
-pub loop-block-preserved : goal.loop-block-preserved
-loop-block-preserved c =
-    let a = c.args.token.now in
-    let d = c.look.new.token in
-    let n = c.loop-block.block in
-    let class = c.args.piece % c.self.inside.shape.classes in
-    let is : c.self.inside.shape ≡ c.args.self.now.shape = sym c.self.invariant ∙ ap (λ (x : Place). x.shape) c.self.view_is in
-    let sees = sees_twice a c.loop-block.token d c.loop-block.invariant.sees c.look.ensures.seen in
-    let none = subst (λ (x : Shape). is_hit (entry (piece_at x class n) d.seen) ≡ false) is (ap is_hit (sym c.look.ensures.state) ∙ not_hit c.look.result c.in_default.not-Hit) in
-    record {
-      sees = sees;
-      unmoved = λ e. absurd (omega arith);
-      missed = below_more (λ k. is_hit (entry (piece_at c.args.self.now.shape class k) a.seen) ≡ false) n c.loop-block.invariant.missed
-          (no_hit_before a.worker (piece_at c.args.self.now.shape class n) d.seen a.seen sees.newer none);
-    }
-
--- a piece of block 0 has no earlier block
-pub returns-in-Hit-clause-block_zero : goal.returns-in-Hit-clause-block_zero
-returns-in-Hit-clause-block_zero c = λ zero_block.
-    let is : c.self.inside.shape ≡ c.args.self.now.shape = sym c.self.invariant ∙ ap (λ (x : Place). x.shape) c.self.view_is in
-    let none = subst (λ (x : Shape). block_of x c.args.piece ≡ 0) (sym is) zero_block in
-    let l = c.loop-block-test.true in
-    absurd (omega arith)
-
-pub returns-clause-block_zero : goal.returns-clause-block_zero
-returns-clause-block_zero c = λ zero_block.
-    let is : c.self.inside.shape ≡ c.args.self.now.shape = sym c.self.invariant ∙ ap (λ (x : Place). x.shape) c.self.view_is in
-    let none = subst (λ (x : Shape). block_of x c.args.piece ≡ 0) (sym is) zero_block in
-    let l = c.loop-block.auto.block-end in
-    (refl, c.loop-block.invariant.unmoved (omega arith))
-
-pub returns-clause-missed : goal.returns-clause-missed
-returns-clause-missed c = λ _.
-    let a = c.args.token.now in
+pub returns : goal.returns
+returns c =
     let s = c.args.self.now.shape in
     let p = c.args.piece in
+    let a = c.args.seat.now in
+    let b = c.passes_clear-head.new.seat in
+    let d = c.finds_hit.new.token in
+    let n = c.passes_clear-head.result.clear in
     let is : c.self.inside.shape ≡ s = sym c.self.invariant ∙ ap (λ (x : Place). x.shape) c.self.view_is in
-    let all : (k : ℕ) → k < p / c.self.inside.shape.classes → is_hit (entry (piece_at s (p % c.self.inside.shape.classes) k) a.seen) ≡ false = λ k l. c.loop-block.invariant.missed k (let e = c.loop-block-test.false in omega arith) in
-    let none = subst (λ (x : Shape). (k : ℕ) → k < p / x.classes → is_hit (entry (piece_at s (p % x.classes) k) a.seen) ≡ false) is all in
-    (a.seen, goes_on_same a.worker a.seen, c.loop-block.invariant.sees.newer, any_none-below (λ b. is_hit (entry (piece_at s (class_of s p) b) a.seen)) (block_of s p) none)
+    let first = c.passes_clear-head.ensures.sees in
+    let then = subst (λ (x : Sitter). Sees x x.told d) c.seat.view_is c.finds_hit.ensures.sees in
+    let head = subst (λ (x : Shape). EndsClear s b.seen (class_of x p) (block_of x p) n c.passes_clear-head.result.next) is c.passes_clear-head.ensures.head in
+    record {
+      sees = sees_twice a b d first then;
+      block_zero = λ e.
+          let none = subst (λ (x : Shape). block_of x p ≡ 0) (sym is) e in (
+            not_found c.finds_hit.result (λ t. let f = c.finds_hit.ensures.found t in let l = f.1 in omega arith),
+            c.finds_hit.ensures.unmoved none ∙ c.seat.view_is ∙ c.passes_clear-head.ensures.unmoved none,
+          );
+      found = λ t.
+          let f = subst (λ (x : Shape). (k : ℕ) × (k < block_of x p) × (is_hit (entry (piece_at s (class_of x p) k) d.seen) ≡ true)) is (c.finds_hit.ensures.found t) in
+          hit_found s d.seen p f.0 f.1 f.2;
+      missed = λ t.
+          let none = subst (λ (x : Sitter). (k : ℕ) → n ≤ k → k < p / c.self.inside.shape.classes → is_hit (entry (piece_at s (p % c.self.inside.shape.classes) k) x.seen) ≡ false) c.seat.view_is (c.finds_hit.ensures.missed t) in
+          let all = subst (λ (x : Shape). (k : ℕ) → n ≤ k → k < block_of x p → is_hit (entry (piece_at s (class_of x p) k) b.seen) ≡ false) is none in
+          (b.seen, first.newer, subst (λ w. ContinuesWithout w d.seen b.seen) (ap (λ (x : Sitter). x.worker) first.seat) then.newer, none_found s b.seen p n head.clear all);
+    }

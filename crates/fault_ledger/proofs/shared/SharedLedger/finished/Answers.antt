@@ -1,30 +1,39 @@
 use Rattle.std.proofs.Common.{◌≡◌, ℕ, ◌<◌, ◌≤◌, Option, sym, ap, ◌∙◌, subst, arith, below_more}
-use Rattle.fault_ledger.specs.declared.Shape.{Shape}
 use Rattle.fault_ledger.specs.Settled.{status, IsSettledAt}
-use Rattle.fault_ledger.specs.Seats.{Place, Sitter, Sees}
+use Rattle.fault_ledger.specs.Seats.{Place, Sitter, IsSitter}
 use Rattle.fault_ledger.proofs.Finishes.{finish-waits, finish-all}
-use Rattle.fault_ledger.proofs.Sits.{seated_sees, sees_same, sees_twice, sees_kept}
+use Rattle.fault_ledger.proofs.Sits.{sees_same, sees_twice, sees_kept}
 use Rattle.fault_ledger.proofs.Classes.{settled_stays}
 use Rattle.fault_ledger.proofs.shared.SharedLedger.finished.Goals as goal
+use Rattle.fault_ledger.proofs.shared.SharedLedger.finished.Goals.{After-seat}
+
+-- the seat knows the number of classes
+count : (c : After-seat) → c.seat.inside.classes ≡ c.args.self.now.shape.classes
+count c = c.seat.invariant.classes_is ∙ ap (λ (x : Sitter). x.place.shape.classes) c.seat.view_is ∙ ap (λ (x : Place). x.shape.classes) c.requires
 
 pub loop-class-init : goal.loop-class-init
 loop-class-init c = record {
-  seated = c.seat.invariant;
-  sees = subst (λ (a : Sitter). Sees a a.told c.seat.inside.token) c.seat.view_is (sees_same c.seat.inside.token c.seat.invariant.sitter);
+  sees = sees_same c.args.seat.now (subst IsSitter c.seat.view_is c.seat.invariant.sitter);
   settled = λ k l. absurd (omega arith);
+}
+
+pub status-requires : goal.status-requires
+status-requires c = record {
+  place = ap (λ (x : Sitter). x.place) c.loop-class.invariant.sees.seat ∙ c.requires;
+  range = let e = count (goal.at.status-requires c).After-seat in let l = c.loop-class-test.true in omega arith;
 }
 
 pub returns-in-Waiting : goal.returns-in-Waiting
 returns-in-Waiting c =
-    let b = c.loop-class.seat-inside.token in
-    let d = c.status_of.new.token in
+    let a = c.args.seat.now in
+    let b = c.loop-class.seat in
+    let d = c.status.new.seat in
     let s = c.args.self.now.shape in
-    let is : c.self.inside.shape ≡ s = sym c.self.invariant ∙ ap (λ (x : Place). x.shape) c.self.view_is in
-    let f = c.status_of.ensures in
-    let within = subst (λ (x : Shape). c.loop-class.class < x.classes) is c.loop-class-test.true in
-    let sees = sees_twice c.args.seat.now b d c.loop-class.invariant.sees f.seen in
+    let f = c.status.ensures in
+    let within : c.loop-class.class < s.classes = (let e = count (goal.at.returns-in-Waiting c).After-seat in let l = c.loop-class-test.true in omega arith) in
+    let sees = sees_twice a b d c.loop-class.invariant.sees f.seen in
     record {
-      kept = sees_kept c.args.seat.now d sees;
+      kept = sees_kept a d sees;
       seen = sees;
       finish = sym (finish-waits (status s d.seen) s.classes c.loop-class.class c.in-Waiting.block within
           (λ k l. let e = c.loop-class.invariant.settled k l in (e.0, settled_stays s k b.worker e.0 d.seen b.seen f.seen.newer e.1))
@@ -33,27 +42,24 @@ returns-in-Waiting c =
 
 pub loop-class-preserved : goal.loop-class-preserved
 loop-class-preserved c =
-    let i = c.loop-class.seat-inside in
-    let b = i.token in
-    let d = c.status_of.new.token in
+    let b = c.loop-class.seat in
+    let d = c.status.new.seat in
     let s = c.args.self.now.shape in
-    let f = c.status_of.ensures in
+    let f = c.status.ensures in
     record {
-      seated = seated_sees b d i.worker i.told i.classes i.piece c.loop-class.invariant.seated f.seen;
       sees = sees_twice c.args.seat.now b d c.loop-class.invariant.sees f.seen;
       settled = below_more (λ k. (at : Option ℕ) × IsSettledAt s d.seen k at) c.loop-class.class
           (λ k l. let e = c.loop-class.invariant.settled k l in (e.0, settled_stays s k b.worker e.0 d.seen b.seen f.seen.newer e.1))
           (c.in_default.field-0, sym f.status ∙ c.in_default.is);
     }
 
-pub returns-clause-finish : goal.returns-clause-finish
-returns-clause-finish c =
+pub returns : goal.returns
+returns c =
     let s = c.args.self.now.shape in
-    let is : c.self.inside.shape ≡ s = sym c.self.invariant ∙ ap (λ (x : Place). x.shape) c.self.view_is in
-    let all = subst (λ (x : Shape). x.classes ≤ c.loop-class.class) is c.loop-class-test.false in
-    sym (finish-all (status s c.loop-class.seat-inside.token.seen) s.classes (λ k l. c.loop-class.invariant.settled k (omega arith)))
-
-pub invariant_of-seat-in-Waiting : goal.invariant_of-seat-in-Waiting
-invariant_of-seat-in-Waiting c =
-    let i = c.loop-class.seat-inside in
-    seated_sees i.token c.status_of.new.token i.worker i.told i.classes i.piece c.loop-class.invariant.seated c.status_of.ensures.seen
+    let sees = c.loop-class.invariant.sees in
+    let all : s.classes ≤ c.loop-class.class = (let e = count (goal.at.returns c).After-seat in let l = c.loop-class-test.false in omega arith) in
+    record {
+      kept = sees_kept c.args.seat.now c.loop-class.seat sees;
+      seen = sees;
+      finish = sym (finish-all (status s c.loop-class.seat.seen) s.classes (λ k l. c.loop-class.invariant.settled k (omega arith)));
+    }
