@@ -1,7 +1,11 @@
 #!/usr/bin/env python3
 """Times `faultsim` against a C++ simulator of the same job, and checks that both write the same.
 
-    bench/compare.py [--rounds N] [--only WORD]
+    bench/compare.py [--workers] [--rounds N] [--only WORD]
+
+With --workers it runs other cases, each with 1, 2 and 4 workers against the baseline with as many, and prints for
+each number the ratio of the least times, and how much faster each of both is than its own run with 1 worker: as a
+whole, and without the time of a run with the first test alone, which is reading and setting up.
 
 It builds baseline.cpp with g++ and the program with `rt run`, makes circuits and tests with
 generate.py in a temporary folder, runs both in turn, and prints for each case the ratio of the
@@ -33,6 +37,16 @@ CASES = [
     ("a random circuit of 100,000 gates, 128 tests", "random --gates 100000 --inputs 500 --outputs 500 --ffs 5000 --depth 60", 128, ""),
 ]
 
+# the same, for --workers
+WORKER_CASES = [
+    ("c17, 4,096 tests", "c17", 4096),
+    ("a 32-bit error corrector, 4,096 tests", "ecc 32", 4096),
+    ("a 16 x 16 multiplier of 2,352 gates, 4,096 tests", "mult 16", 4096),
+    ("a random circuit of 22,000 gates, 4,096 tests", "random --gates 22000 --inputs 200 --outputs 200 --ffs 1500 --depth 50", 4096),
+    ("a random circuit of 100,000 gates, 128 tests", "random --gates 100000 --inputs 500 --outputs 500 --ffs 5000 --depth 60", 128),
+]
+WORKERS = (1, 2, 4)
+
 
 def run(words, **options):
     return subprocess.run(words, check=True, stdout=subprocess.PIPE, **options).stdout
@@ -57,14 +71,50 @@ def timed(words):
     return time.perf_counter() - begin, (done.returncode, done.stdout, done.stderr)
 
 
+def compare_workers(folder, baseline, rounds, only):
+    for title, circuit, tests in WORKER_CASES:
+        if only not in title:
+            continue
+        bench = generated(folder, "bench", circuit.split())
+        rows = generated(folder, "tests", ["tests", "--bench", bench, "--count", str(tests)])
+        first = folder / "first"
+        first.write_text(pathlib.Path(rows).read_text().split("\n")[0] + "\n")
+        least = {}
+        for _ in range(rounds):
+            # 0 stands for one worker and the first test alone
+            for workers in (0, *WORKERS):
+                words = ["run", "--bench", bench, "--tests", rows if workers else str(first),
+                         "--workers", str(max(workers, 1)), "--list"]
+                outs = []
+                for program in (str(PROGRAM), str(baseline)):
+                    took, out = timed([program, *words])
+                    least[program, workers] = min(took, least.get((program, workers), took))
+                    outs.append(out)
+                if outs[0] != outs[1]:
+                    sys.exit(f"{title}: the reports differ")
+        print(title)
+        for workers in WORKERS:
+            ratio = least[str(PROGRAM), workers] / least[str(baseline), workers]
+            line = f"  {workers} workers: {ratio:.2f} of the baseline's time"
+            for name, program in (("ours", str(PROGRAM)), ("its", str(baseline))):
+                one, many, set_up = (least[program, number] for number in (1, workers, 0))
+                line += f"; {name} {one / many:.2f} times as fast as with 1"
+                if many - set_up > 0.05:
+                    line += f", {(one - set_up) / (many - set_up):.2f} without setting up"
+            print(line, flush=True)
+
+
 def main():
     parser = argparse.ArgumentParser(description=__doc__, formatter_class=argparse.RawDescriptionHelpFormatter)
     parser.add_argument("--rounds", type=int, default=5)
     parser.add_argument("--only", default="")
+    parser.add_argument("--workers", action="store_true")
     options = parser.parse_args()
     with tempfile.TemporaryDirectory() as name:
         folder = pathlib.Path(name)
         baseline = build(folder)
+        if options.workers:
+            return compare_workers(folder, baseline, options.rounds, options.only)
         for title, circuit, tests, line in CASES:
             if options.only not in title:
                 continue

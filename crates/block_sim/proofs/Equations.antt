@@ -1,12 +1,12 @@
 -- The words that the code computes satisfy the equations of their signals.
 use Rattle.std.proofs.Common.{◌≡◌, ◌<◌, ◌≤◌, ℕ, ◌+◌, ◌*◌, refl, sym, ◌∙◌, ap, subst, Bool, true, false, List, [], ◌∷◌, length, arith, inl, inr}
-use Rattle.std.specs.Prelude.{All, Contains, Option, Some, None, map, flat_map, slice_get, slice_index_or, unwrap_or, ◌==◌, ◌++◌}
+use Rattle.std.specs.Prelude.{All, Contains, Option, Some, None, map, flat_map, slice_get, slice_index_or, unwrap_or, ◌==◌}
 use Rattle.std.proofs.lemmas.List.Elements.{Contains-get_or}
 use Rattle.std.specs.Int.{bit_at}
 use Rattle.std.proofs.lemmas.List.{length-append, length-map}
 use Rattle.bench_net.specs.declared.Kind.{Kind}
 use Rattle.bench_net.specs.Statement.{Name, Statement, Input, Output, Gate, Dff, read}
-use Rattle.bench_net.specs.Scan.{names, signal, name_of, definition, gate_of, gate_line, inputs, outputs, cells, sources}
+use Rattle.bench_net.specs.Scan.{names, signal, name_of, definition, gate_of, gate_line, inputs, cells, sources}
 use Rattle.bench_net.specs.Circuit.{IsWellFormed, IsCircuit, max_sinks, sink_count}
 use Rattle.lists.proofs.Members.{Among, among, contained, among_left, among_right}
 use Rattle.bench_net.proofs.Numbers.{definition_defines, name_of-signal, signal-name_of}

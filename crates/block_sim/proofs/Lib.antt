@@ -21,6 +21,7 @@ pub mod Rises
 pub mod Steps
 pub mod Readers
 pub mod Woken
+pub mod Flats
 pub mod Seen
 pub mod Deep
 pub mod Started

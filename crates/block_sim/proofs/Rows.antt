@@ -12,7 +12,7 @@ mapped_get h [] i x lt e = absurd (omega (arith, lt))
 mapped_get h (y ∷ xs) zero x lt e = ap (λ z. Some (h z)) (sym e)
 mapped_get h (y ∷ xs) (suc i) x lt e = mapped_get h xs i x (omega (arith, lt)) e
 
-pushed_get : {X : Type 0} (xs : List X) (x y : X) (i : ℕ) → slice_get (xs ++ x ∷ []) i ≡ Some y → (slice_get xs i ≡ Some y) ⊎ ((i ≡ length xs) × (x ≡ y))
+pub pushed_get : {X : Type 0} (xs : List X) (x y : X) (i : ℕ) → slice_get (xs ++ x ∷ []) i ≡ Some y → (slice_get xs i ≡ Some y) ⊎ ((i ≡ length xs) × (x ≡ y))
 pushed_get [] x y zero e = inr (refl, ap (λ o. unwrap_or o y) e)
 pushed_get [] x y (suc i) e = let bad : None ≡ Some y = e in cc
 pushed_get (z ∷ xs) x y zero e = inl e

@@ -15,10 +15,10 @@ ghost use Rattle.block_sim.specs.Stirred.{HasStirred};
 ghost use Rattle.block_sim.specs.Stuck.{stuck_fault};
 ghost use Rattle.block_sim.specs.Words.{lane, pin_bits, AreWords};
 
+use crate::flat::FlatCircuit;
 use crate::look_back::carried;
 use crate::spread::{Extent, spread};
 use crate::words::{Stuck, evaluate_gate};
-use bench_net::Circuit;
 use event_queue::{Buckets, Overlay};
 use fault_model::Line;
 
@@ -26,7 +26,7 @@ use fault_model::Line;
 /// without it; where the first hit is asked for, some of them with the least. No gate is evaluated where
 /// the fault turns its line in none of the lanes.
 pub fn effect(
-    circuit: &Circuit,
+    circuit: &FlatCircuit,
     good: &[u64],
     fault: Stuck,
     extent: Extent,
@@ -102,7 +102,7 @@ pub fn effect(
 
 /// The lanes, of those that are asked for, in which a fault on a pin of a gate changes the gate's word.
 fn gate_change(
-    circuit: &Circuit,
+    circuit: &FlatCircuit,
     good: &[u64],
     fault: Stuck,
     lanes: u64,
@@ -124,8 +124,15 @@ fn gate_change(
 {
     match circuit.gate_of(gate) {
         Some(line) => {
-            let pins = line.pins.as_slice();
-            let word = evaluate_gate(line.kind, pins, gate, Some(fault), good, same, evaluations);
+            let word = evaluate_gate(
+                line.kind,
+                line.pins,
+                gate,
+                Some(fault),
+                good,
+                same,
+                evaluations,
+            );
             (word ^ good[gate as usize]) & lanes
         }
         None => unreachable!(),

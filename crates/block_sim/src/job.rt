@@ -11,6 +11,7 @@ ghost use Rattle.block_sim.specs.Parts.{BelongTogether, piece_count};
 ghost use Rattle.block_sim.specs.Stuck.{stuck_fault};
 ghost use Rattle.block_sim.specs.Words.{AreWords};
 
+use crate::flat::FlatCircuit;
 use crate::words::{Stuck, evaluate};
 use bench_net::Circuit;
 use fault_model::{Classes, Faults};
@@ -30,10 +31,21 @@ pub enum JobFault {
     Memory,
 }
 
+impl From<AllocError> for JobFault {
+    ghost use Rattle.std.specs.Prelude.{◌≡◌};
+    ghost use Rattle.block_sim.specs.declared.job.JobFault.TheVariants.{Memory};
+
+    ghost from_gives = { λ _ fault. fault ≡ Memory };
+
+    fn from(_refused: AllocError) -> JobFault {
+        JobFault::Memory
+    }
+}
+
 /// A circuit, its faults and classes, and tests for it, with the fault-free words of every block.
 #[derive(Drop)]
 pub struct Job {
-    circuit: Circuit,
+    flat: FlatCircuit,
     faults: Faults,
     classes: Classes,
     tests: Tests,
@@ -47,9 +59,9 @@ impl Model for Job {
 
     ghost Value = { Parts };
 
-    ghost view = { λ j. record { circuit = j.circuit; list = j.faults; classes = j.classes; tests = j.tests } };
+    ghost view = { λ j. record { circuit = j.flat; list = j.faults; classes = j.classes; tests = j.tests } };
 
-    ghost invariant = { λ j. IsJob (record { circuit = j.circuit; list = j.faults; classes = j.classes; tests = j.tests }) (map (λ row. row.items) j.rows.items) };
+    ghost invariant = { λ j. IsJob (record { circuit = j.flat; list = j.faults; classes = j.classes; tests = j.tests }) (map (λ row. row.items) j.rows.items) };
 }
 
 impl Job {
@@ -74,16 +86,15 @@ impl Job {
         if pieces > u64::from(MAX_PIECES) {
             return Err(JobFault::TooManyPieces);
         }
-        match fault_free_rows(alloc, &circuit, &tests) {
-            Ok(rows) => Ok(Job {
-                circuit,
-                faults,
-                classes,
-                tests,
-                rows,
-            }),
-            Err(AllocError) => Err(JobFault::Memory),
-        }
+        let flat = FlatCircuit::new(alloc, circuit)?;
+        let rows = fault_free_rows(alloc, &flat, &tests)?;
+        Ok(Job {
+            flat,
+            faults,
+            classes,
+            tests,
+            rows,
+        })
     }
 
     /// The circuit.
@@ -92,7 +103,15 @@ impl Job {
         ensures together { BelongTogether self.now }
         ensures few { piece_count self.now ≤ max_pieces }
     {
-        &self.circuit
+        self.flat.circuit()
+    }
+
+    /// The circuit in flat arrays.
+    pub(crate) fn flat(&self) -> &FlatCircuit
+        ensures part { result.now ≡ self.now.circuit }
+        ensures together { BelongTogether self.now }
+    {
+        &self.flat
     }
 
     /// The fault list.
@@ -149,7 +168,7 @@ impl Job {
 /// The words of every block without a fault, one row a block.
 fn fault_free_rows(
     alloc: Global,
-    circuit: &Circuit,
+    circuit: &FlatCircuit,
     tests: &Tests,
 ) -> Result<Vec<Vec<u64>>, AllocError>
     requires circuit { IsCircuit circuit.now }
@@ -157,7 +176,7 @@ fn fault_free_rows(
     ensures count { IfOk result (λ rows. length (map (λ row. row.items) rows.items) ≡ blocks (length tests.now.tests)) }
     ensures rows { IfOk result (λ rows. AreFaultFree circuit.now tests.now.tests (map (λ row. row.items) rows.items)) }
 {
-    let signals = circuit.signals() as usize;
+    let signals = circuit.circuit().signals() as usize;
     let same = vec![in alloc; 0u64; signals]?;
     let mut evaluations = 0;
     let mut rows = Vec::new(alloc);

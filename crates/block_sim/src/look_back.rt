@@ -14,9 +14,9 @@ ghost use Rattle.patterns.specs.Tests.{blocks, size_of};
 ghost use Rattle.block_sim.specs.Stuck.{stuck_fault};
 ghost use Rattle.block_sim.specs.Words.{lane};
 
+use crate::flat::FlatCircuit;
 use crate::job::Job;
 use crate::words::Stuck;
-use bench_net::Circuit;
 use fault_model::Line;
 
 /// The lanes of a block whose test before lets the fault be detected: for a stuck-at fault all lanes, for a
@@ -31,7 +31,7 @@ pub fn lanes_that_fit(job: &Job, block: u32, fault: Stuck) -> u64
     match fault.model {
         fault_model::Model::StuckAt => !0,
         fault_model::Model::Transition => {
-            let before = word_before(job, block, carried(job.circuit(), fault.line));
+            let before = word_before(job, block, carried(job.flat(), fault.line));
             let fits = if fault.at_one { before } else { !before };
             let earlier = if block == 0 { !1 } else { !0 };
             fits & earlier
@@ -66,7 +66,7 @@ fn one_lane_up(word: u64, last: u64) -> u64
 }
 
 /// The signal that a line of the circuit carries: that of the stem, or the one that its branch leads from.
-pub fn carried(circuit: &Circuit, line: Line) -> u32
+pub fn carried(circuit: &FlatCircuit, line: Line) -> u32
     requires circuit { IsCircuit circuit.now }
     requires named { (n : Name) × (carried circuit.now line ≡ Some n) }
     ensures { (n : Name) → carried circuit.now line ≡ Some n → result ≡ signal circuit.now n }
@@ -74,13 +74,13 @@ pub fn carried(circuit: &Circuit, line: Line) -> u32
     match line {
         Line::Stem(signal) => signal,
         Line::Pin { gate, pin } => pin_signal(circuit, gate, pin),
-        Line::Data { cell } => circuit.scan_cells()[cell as usize].d,
-        Line::Out { output } => circuit.outputs()[output as usize],
+        Line::Data { cell } => circuit.circuit().scan_cells()[cell as usize].d,
+        Line::Out { output } => circuit.circuit().outputs()[output as usize],
     }
 }
 
 /// The signal that a pin of a gate reads.
-fn pin_signal(circuit: &Circuit, gate: u32, pin: u32) -> u32
+fn pin_signal(circuit: &FlatCircuit, gate: u32, pin: u32) -> u32
     requires gate { gate < length (names circuit.now) }
     requires named { (n : Name) × (argument (definition circuit.now gate) pin ≡ Some n) }
     ensures { (n : Name) → argument (definition circuit.now gate) pin ≡ Some n → result ≡ signal circuit.now n }

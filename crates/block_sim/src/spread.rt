@@ -21,8 +21,8 @@ ghost use Rattle.block_sim.specs.Stirred.{HasStirred};
 ghost use Rattle.block_sim.specs.Words.{lane, AreWords};
 
 use crate::block_lanes::lanes_below;
+use crate::flat::{FlatCircuit, Reader};
 use crate::words::evaluate_gate;
-use bench_net::{Circuit, Sink};
 use event_queue::{Buckets, Overlay};
 
 /// How far the lanes of a block are followed.
@@ -54,7 +54,7 @@ impl Extent {
 
 /// Lets the gates that read a signal wait, each at its level, and tells whether an observer reads it.
 #[inline(always)]
-fn wake(circuit: &Circuit, signal: u32, buckets: &mut Buckets) -> bool
+fn wake(circuit: &FlatCircuit, signal: u32, buckets: &mut Buckets) -> bool
     requires circuit { IsCircuit circuit.now }
     requires signal { signal < length (names circuit.now) }
     requires gates { length (names circuit.now) ≤ length buckets.old.at }
@@ -65,25 +65,21 @@ fn wake(circuit: &Circuit, signal: u32, buckets: &mut Buckets) -> bool
     ensures gates { length buckets.new.at ≡ length buckets.old.at }
     ensures levels { buckets.new.levels ≡ buckets.old.levels }
 {
-    let mut observed = false;
-    for sink in circuit.sinks_of(signal) {
-        let Sink::Pin { gate, pin: _ } = *sink else {
-            observed = true;
-            continue;
-        };
+    for reader in circuit.readers_of(signal) {
+        let Reader { gate, level } = *reader;
         if buckets.waits(gate) {
             continue;
         }
-        buckets.add(gate, circuit.level_of(gate));
+        buckets.add(gate, level);
     }
-    observed
+    circuit.is_observed(signal)
 }
 
 /// Lets a signal differ in some lanes, so that its readers wait, and tells in which of them an observer
 /// sees it.
 #[inline(always)]
 fn change(
-    circuit: &Circuit,
+    circuit: &FlatCircuit,
     signal: u32,
     diff: u64,
     overlay: &mut Overlay,
@@ -117,7 +113,7 @@ fn change(
 /// in which of them an observer sees that. Where no lane is followed any more nothing is evaluated.
 #[inline(always)]
 fn evaluate_waiting(
-    circuit: &Circuit,
+    circuit: &FlatCircuit,
     good: &[u64],
     lanes: u64,
     gate: u32,
@@ -164,10 +160,9 @@ fn evaluate_waiting(
     }
     match circuit.gate_of(gate) {
         Some(line) => {
-            let pins = line.pins.as_slice();
             let word = evaluate_gate(
                 line.kind,
-                pins,
+                line.pins,
                 gate,
                 None,
                 good,
@@ -188,7 +183,7 @@ fn evaluate_waiting(
 /// for. Tells lanes in which an observer shows another bit: all such lanes, or where the first hit is
 /// asked for some with the least of them.
 pub fn spread(
-    circuit: &Circuit,
+    circuit: &FlatCircuit,
     good: &[u64],
     extent: Extent,
     lanes: u64,

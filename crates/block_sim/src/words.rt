@@ -11,6 +11,7 @@ ghost use Rattle.patterns.specs.Tests.{IsWord, blocks};
 ghost use Rattle.block_sim.specs.Words.{lane, pin_bits, AreWords, IsSignalWord};
 ghost use Rattle.block_sim.specs.Stuck.{fault_of};
 
+use crate::flat::FlatCircuit;
 use bench_net::{Circuit, Kind};
 use fault_model::Line;
 use patterns::Tests;
@@ -109,7 +110,7 @@ fn source_word(circuit: &Circuit, tests: &Tests, block: u32, signal: u32) -> u64
 /// The fault-free word of one signal, from the tests or from the words of the signals that its gate reads.
 /// No word differs from itself: `same` is all 0.
 fn signal_word(
-    circuit: &Circuit,
+    circuit: &FlatCircuit,
     tests: &Tests,
     block: u32,
     words: &[u64],
@@ -127,23 +128,15 @@ fn signal_word(
     ensures { IsSignalWord circuit.now tests.now.tests block None words.now signal result }
 {
     match circuit.gate_of(signal) {
-        Some(gate) => evaluate_gate(
-            gate.kind,
-            gate.pins.as_slice(),
-            signal,
-            None,
-            words,
-            same,
-            evaluations,
-        ),
-        None => source_word(circuit, tests, block, signal),
+        Some(gate) => evaluate_gate(gate.kind, gate.pins, signal, None, words, same, evaluations),
+        None => source_word(circuit.circuit(), tests, block, signal),
     }
 }
 
 /// Writes the fault-free word of every signal on a block, at the signal's number. It goes in level order,
 /// so a gate comes after the signals that it reads.
 pub fn evaluate(
-    circuit: &Circuit,
+    circuit: &FlatCircuit,
     tests: &Tests,
     block: u32,
     words: &mut [u64],
@@ -159,7 +152,7 @@ pub fn evaluate(
     ensures words { AreWords circuit.now tests.now.tests block None words.new }
     ensures room { length words.new ≡ length words.old }
 {
-    let order = circuit.in_level_order();
+    let order = circuit.circuit().in_level_order();
     for signal in order {
         let signal = *signal;
         let word = signal_word(circuit, tests, block, words, same, signal, evaluations);

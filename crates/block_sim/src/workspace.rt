@@ -130,7 +130,7 @@ fn outcome(job: &Job, workspace: &mut Workspace, class: u32, block: u32, extent:
     let fault = job.representative(class);
     let lanes = lanes_below(job.tests().size_of(block)) & lanes_that_fit(job, block, fault);
     let seen = effect(
-        job.circuit(),
+        job.flat(),
         job.fault_free(block),
         fault,
         extent,

@@ -1,17 +1,18 @@
-//! The command line: words in, a status out.
+//! The program: words in, a status out.
 
+use crate::options::{Task, command_line, model_named, workers_help};
 use crate::source::{Source, SourceFault};
 use bench_net::BenchFault;
 use block_sim::JobFault;
 use clap::error::ErrorKind;
-use clap::{Arg, ArgAction, ArgMatches, Command, Error, value_parser};
+use clap::{ArgMatches, Error};
 use fault_model::Model;
 use patterns::{OrderFault, TestFault};
 use report::{
     Formatted, Out, ReportFault, RunFault, SimFault, faults_text_in, schedule_text_in,
     simulate_text_in,
 };
-use std::alloc::{AllocError, Global};
+use std::alloc::Global;
 use std::fmt::Write;
 use std::sync::Wait;
 use std::thread::Threads;
@@ -28,21 +29,6 @@ pub const MISUSED: u8 = 2;
 /// The status of a file, an output, memory or a thread that is refused.
 pub const FAILED: u8 = 3;
 
-/// The greatest number of workers on the command line.
-const MAX_WORKERS: i64 = 64;
-
-/// The fault models by their names on the command line.
-static MODELS: [&str; 2] = ["stuck", "transition"];
-
-/// The model of a name among [`MODELS`].
-fn model_named(name: &str) -> Option<Model> {
-    match name {
-        "stuck" => Some(Model::StuckAt),
-        "transition" => Some(Model::Transition),
-        _ => None,
-    }
-}
-
 /// Why a command was not done.
 #[derive(Clone, Copy)]
 pub(crate) enum Fault<'a> {
@@ -52,93 +38,6 @@ pub(crate) enum Fault<'a> {
     Unreadable(&'a str),
     /// A text is refused, or the work on it, or the output.
     Sim(SimFault),
-}
-
-/// The option `--bench FILE`.
-fn bench_option<'a>(alloc: Global) -> Arg<'a> {
-    Arg::new(alloc, "bench")
-        .long("bench")
-        .value_name("FILE")
-        .required(true)
-        .help("The file of the circuit, a bench text")
-}
-
-/// The option `--model MODEL`.
-fn model_option<'a>(alloc: Global) -> Arg<'a> {
-    Arg::new(alloc, "model")
-        .long("model")
-        .value_name("MODEL")
-        .value_parser(MODELS.as_slice())
-        .default_value("stuck")
-        .help("Which faults: stuck-at, or slow to rise and slow to fall")
-}
-
-/// A subcommand that simulates the tests of a file.
-fn simulation<'a>(
-    alloc: Global,
-    name: &'static str,
-    about: &'static str,
-) -> Result<Command<'a>, AllocError> {
-    let tests = Arg::new(alloc, "tests")
-        .long("tests")
-        .value_name("FILE")
-        .required(true)
-        .help("The file of the tests, one a line");
-    let workers = Arg::new(alloc, "workers")
-        .long("workers")
-        .value_name("N")
-        .value_parser(value_parser!(u32).range(1..=MAX_WORKERS))
-        .default_value("4")
-        .help("How many workers share the run");
-    let list = Arg::new(alloc, "list")
-        .long("list")
-        .action(ArgAction::SetTrue)
-        .help("Tell the first test of each fault, too");
-    Command::new(alloc, name)
-        .about(about)
-        .arg(bench_option(alloc))?
-        .arg(tests)?
-        .arg(model_option(alloc))?
-        .arg(workers)?
-        .arg(list)
-}
-
-/// The subcommand `run`.
-fn run_command<'a>(alloc: Global) -> Result<Command<'a>, AllocError> {
-    simulation(
-        alloc,
-        "run",
-        "Simulates all faults of a model and tells the fault coverage",
-    )
-}
-
-/// The subcommand `schedule`.
-fn schedule_command<'a>(alloc: Global) -> Result<Command<'a>, AllocError> {
-    let order = Arg::new(alloc, "order")
-        .long("order")
-        .value_name("FILE")
-        .required(true)
-        .help("The file of the moves, the number of a worker, from 0, a line");
-    simulation(
-        alloc,
-        "schedule",
-        "Does what run does by one thread, with the workers' moves in a given order",
-    )?
-    .arg(order)
-}
-
-/// The command line of the program.
-fn command_line<'a>(alloc: Global) -> Result<Command<'a>, AllocError> {
-    let faults = Command::new(alloc, "faults")
-        .about("Lists all faults of a model with their classes")
-        .arg(bench_option(alloc))?
-        .arg(model_option(alloc))?;
-    Command::new(alloc, "faultsim")
-        .about("Parallel fault simulation of bench circuits")
-        .subcommand_required(true)
-        .subcommand(run_command(alloc)?)?
-        .subcommand(schedule_command(alloc)?)?
-        .subcommand(faults)
 }
 
 /// The model that the command line names.
@@ -291,11 +190,17 @@ fn tell<E: Out>(fault: &Fault<'_>, err: &mut E) {
     };
 }
 
+/// Answers a command line that there is no memory for.
+fn refused_memory<E: Out>(err: &mut E) -> u8 {
+    let fault = Fault::Sim(SimFault::Memory);
+    tell(&fault, err);
+    status_of(&fault)
+}
+
 /// Answers a command line that asks for help, or is refused.
 fn answer_error<W: Out, E: Out>(error: &Error, out: &mut W, err: &mut E) -> u8 {
     if error.kind() == ErrorKind::OutOfMemory {
-        tell(&Fault::Sim(SimFault::Memory), err);
-        return FAILED;
+        return refused_memory(err);
     }
     if error.use_stderr() {
         let _ = write!(Formatted(err), "{error}");
@@ -319,26 +224,40 @@ pub fn run_words<'a, R: Threads + Wait, S: Source, W: Out, E: Out>(
     out: &mut W,
     err: &mut E,
 ) -> u8 {
-    let Ok(command) = command_line(alloc) else {
-        tell(&Fault::Sim(SimFault::Memory), err);
-        return FAILED;
+    let Ok(workers) = workers_help(alloc) else {
+        return refused_memory(err);
+    };
+    let Ok(command) = command_line(alloc, &workers) else {
+        return refused_memory(err);
     };
     let matches = match command.try_get_matches_from(words) {
         Ok(matches) => matches,
         Err(error) => return answer_error(&error, out, err),
     };
-    let done = match matches.subcommand() {
-        Some(("run", options)) => do_run(rt, alloc, options, files, out),
-        Some(("schedule", options)) => do_schedule(alloc, options, files, out),
-        Some(("faults", options)) => do_faults(alloc, options, files, out),
-        Some((other, _)) => Err(Fault::Misused(other)),
-        None => Err(Fault::Misused("no command")),
-    };
-    match done {
+    match do_task(rt, alloc, &matches, files, out) {
         Ok(()) => DONE,
         Err(fault) => {
             tell(&fault, err);
             status_of(&fault)
         }
+    }
+}
+
+/// Does what the subcommand names.
+fn do_task<'a, R: Threads + Wait, S: Source, W: Out>(
+    rt: &R,
+    alloc: Global,
+    matches: &ArgMatches<'a>,
+    files: &mut S,
+    out: &mut W,
+) -> Result<(), Fault<'a>> {
+    let Some((name, options)) = matches.subcommand() else {
+        return Err(Fault::Misused("no command"));
+    };
+    match Task::named(name) {
+        Some(Task::Run) => do_run(rt, alloc, options, files, out),
+        Some(Task::Schedule) => do_schedule(alloc, options, files, out),
+        Some(Task::Faults) => do_faults(alloc, options, files, out),
+        None => Err(Fault::Misused(name)),
     }
 }

@@ -1,8 +1,9 @@
-//! `faultsim` tells which test of a list first finds each fault of a bench circuit, and what the fault
-//! coverage is.
+//! `faultsim` tells which test of a list first finds each fault of a bench circuit, and what the
+//! fault coverage is.
 #![tactic(auto)]
 
 mod command;
+mod options;
 mod source;
 
 use command::{FAILED, MISUSED, run_words};

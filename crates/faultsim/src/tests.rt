@@ -1,6 +1,7 @@
 //! The program's words, streams and statuses, with files and streams in memory.
 
 mod cases;
+mod words;
 
 ghost use Rattle.std.specs.Prelude.{◌≤◌};
 ghost use Rattle.block_sim.specs.Parts.{HasRoom};
@@ -9,7 +10,7 @@ use crate::command::{Fault, run_words, status_of};
 use crate::source::{Source, SourceFault};
 use bench_net::BenchFault;
 use block_sim::{Job, JobFault, Workspace, simulate};
-use cases::{CASES, Case, HELP, MISSING, MISUSED, MORE_CASES, REFUSED_CASES, TRANSITION_CASES};
+use cases::{BUFFER, C17, CASES, Case, MORE_CASES, REFUSED_CASES, TRANSITION_CASES};
 use fault_model::Model;
 use patterns::{OrderFault, Outcome, TestFault};
 use report::{
@@ -21,9 +22,7 @@ use std::io::{self, Write};
 use std::sync::Wait;
 use std::test::Fail;
 use std::thread::Threads;
-
-const C17: &str =
-    "INPUT(G1)\nINPUT(G2)\nINPUT(G3)\nINPUT(G6)\nINPUT(G7)\nOUTPUT(G22)\nOUTPUT(G23)\nG10 = NAND(G1, G3)\nG11 = NAND(G3, G6)\nG16 = NAND(G2, G11)\nG19 = NAND(G11, G7)\nG22 = NAND(G10, G16)\nG23 = NAND(G16, G19)\n";
+use words::{HELP, LONG_BENCHES, LONG_RUNS, Long, MISSING, MISUSED, Past};
 
 /// The files `bench`, `tests` and `order`.
 #[derive(Clone, Copy)]
@@ -270,8 +269,16 @@ fn failing_output_has_a_beginning(rt: HostRuntime) -> Result<(), Fail> {
     for limit in 0..19 {
         let out = Screen::cut(limit, 4096);
         let told = run_on(&rt, RUN, C17_FILES, out)?;
+        let (said, status) = if limit < 18 {
+            ("faultsim: cannot write\n", 3)
+        } else {
+            ("", 0)
+        };
         assert!(rt; told.out.text() == &whole[..limit.min(whole.len())]);
-        assert!(rt; told.status == if limit < 18 { 3 } else { 0 });
+        assert!(rt;
+            told.err.text() == said.as_bytes() && told.status == status,
+            "{limit}"
+        );
     }
     Ok(())
 }
@@ -377,8 +384,6 @@ fn bytes_of<R: AllocGlobal + Threads + Wait>(rt: &R, case: &Case) -> Result<Vec<
     Ok(out.into_writer())
 }
 
-const BUFFER: &str = "INPUT(a)\nOUTPUT(z)\nz = BUFF(a)\n";
-
 const SLOW_BUFFER: &str =
     "stem a str 1\nstem a stf 2\nstem z str 1\nstem z stf 2\n4 of 4 (100.00%)\n";
 
@@ -410,7 +415,13 @@ static TEXT_CASES: [Case; 4] = [
         bench: BUFFER,
         tests: "",
         order: "",
-        stdout: "stem a sa0 class 0\nstem a sa1 class 1\nstem z sa0 class 0\nstem z sa1 class 1\n4 faults in 2 classes\n",
+        stdout: "\
+            stem a sa0 class 0\n\
+            stem a sa1 class 1\n\
+            stem z sa0 class 0\n\
+            stem z sa1 class 1\n\
+            4 faults in 2 classes\n\
+            ",
         stderr: "",
         status: 0,
     },
@@ -539,7 +550,13 @@ static LONG_TESTS: [(&str, Wanted); 5] = [
     (
         "1\n",
         Wanted {
-            stdout: "stem a sa0 65535\nstem a sa1 0\nstem z sa0 65535\nstem z sa1 0\n4 of 4 (100.00%)\n",
+            stdout: "\
+                stem a sa0 65535\n\
+                stem a sa1 0\n\
+                stem z sa0 65535\n\
+                stem z sa1 0\n\
+                4 of 4 (100.00%)\n\
+                ",
             stderr: "",
             status: 0,
         },
@@ -563,27 +580,67 @@ const MORE_THAN_65536_ROWS: Wanted = Wanted {
     status: 1,
 };
 
-/// A test text of 65,535 rows `0` and then these rows.
-fn rows_past_65535(alloc: Global, rows: &str) -> Result<String, AllocError> {
-    let mut text = String::new(alloc);
-    for _ in 0..65_535 {
-        text.push_str("0\n")?;
-    }
-    text.push_str(rows)?;
-    Ok(text)
-}
-
 #[test]
 fn buffer_takes_65536_tests(rt: HostRuntime) -> Result<(), Fail> {
     let line = "faultsim run --bench bench --tests tests --workers 4 --list";
     for (rows, wanted) in &LONG_TESTS {
-        let tests = rows_past_65535(rt.alloc(), rows)?;
+        let long = Long {
+            before: "",
+            part: "0\n",
+            count: 65_535,
+            after: rows,
+        };
+        let tests = spelled(rt.alloc(), &long)?;
         let files = Texts {
             bench: BUFFER,
             tests: &tests,
             order: "",
         };
         assert!(rt; answers(&rt, line, files, *wanted)?, "{rows}");
+    }
+    Ok(())
+}
+
+/// The text of a file that is long.
+fn spelled(alloc: Global, long: &Long) -> Result<String, AllocError> {
+    let mut text = String::from_str(alloc, long.before)?;
+    for _ in 0..long.count {
+        text.push_str(long.part)?;
+    }
+    text.push_str(long.after)?;
+    Ok(text)
+}
+
+/// Whether the program refuses files past a limit.
+fn refuses<R: AllocGlobal + Threads + Wait>(rt: &R, past: &Past) -> Result<bool, AllocError> {
+    let bench = spelled(rt.alloc(), &past.bench)?;
+    let tests = spelled(rt.alloc(), &past.tests)?;
+    let order = spelled(rt.alloc(), &past.order)?;
+    let files = Texts {
+        bench: &bench,
+        tests: &tests,
+        order: &order,
+    };
+    let wanted = Wanted {
+        stdout: "",
+        stderr: past.stderr,
+        status: 1,
+    };
+    answers(rt, past.line, files, wanted)
+}
+
+#[test]
+fn bench_texts_past_a_limit_are_refused(rt: HostRuntime) -> Result<(), Fail> {
+    for past in &LONG_BENCHES {
+        assert!(rt; refuses(&rt, past)?, "{}", past.stderr);
+    }
+    Ok(())
+}
+
+#[test]
+fn runs_past_a_limit_are_refused(rt: HostRuntime) -> Result<(), Fail> {
+    for past in &LONG_RUNS {
+        assert!(rt; refuses(&rt, past)?, "{}", past.stderr);
     }
     Ok(())
 }

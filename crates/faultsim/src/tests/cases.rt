@@ -1,7 +1,27 @@
 //! Command lines and texts that the program is run on, and what must come.
 
-/// A case: what it shows, the command line, the files `bench`, `tests` and `order`, and what must come
-/// on standard output, on standard error and as the status.
+/// C17 of the ISCAS-85 benchmarks.
+pub const C17: &str = "\
+    INPUT(G1)\n\
+    INPUT(G2)\n\
+    INPUT(G3)\n\
+    INPUT(G6)\n\
+    INPUT(G7)\n\
+    OUTPUT(G22)\n\
+    OUTPUT(G23)\n\
+    G10 = NAND(G1, G3)\n\
+    G11 = NAND(G3, G6)\n\
+    G16 = NAND(G2, G11)\n\
+    G19 = NAND(G11, G7)\n\
+    G22 = NAND(G10, G16)\n\
+    G23 = NAND(G16, G19)\n\
+    ";
+
+/// A buffer.
+pub const BUFFER: &str = "INPUT(a)\nOUTPUT(z)\nz = BUFF(a)\n";
+
+/// A case: what it shows, the command line, the files `bench`, `tests` and `order`, and what must
+/// come on standard output, on standard error and as the status.
 #[derive(Clone, Copy)]
 pub struct Case {
     pub name: &'static str,
@@ -14,7 +34,8 @@ pub struct Case {
     pub status: u8,
 }
 
-/// Stuck-at faults, in two tables: the proof of a test that goes over a table takes steps for each case.
+/// Stuck-at faults, in two tables: the proof of a test that goes over a table takes steps for each
+/// case.
 pub static CASES: [Case; 9] = [
     Case {
         name: "and_all_tests",
@@ -22,7 +43,15 @@ pub static CASES: [Case; 9] = [
         bench: "INPUT(a)\nINPUT(b)\nOUTPUT(z)\nz = AND(a, b)\n",
         tests: "00\n01\n10\n11\n",
         order: "",
-        stdout: "stem a sa0 3\nstem a sa1 1\nstem b sa0 3\nstem b sa1 2\nstem z sa0 3\nstem z sa1 0\n6 of 6 (100.00%)\n",
+        stdout: "\
+            stem a sa0 3\n\
+            stem a sa1 1\n\
+            stem b sa0 3\n\
+            stem b sa1 2\n\
+            stem z sa0 3\n\
+            stem z sa1 0\n\
+            6 of 6 (100.00%)\n\
+            ",
         stderr: "",
         status: 0,
     },
@@ -32,15 +61,26 @@ pub static CASES: [Case; 9] = [
         bench: "input( a )\r\nOutput(z)\r\n\r\nz=buf(a) # x",
         tests: "",
         order: "",
-        stdout: "stem a sa0 class 0\nstem a sa1 class 1\nstem z sa0 class 0\nstem z sa1 class 1\n4 faults in 2 classes\n",
+        stdout: "\
+            stem a sa0 class 0\n\
+            stem a sa1 class 1\n\
+            stem z sa0 class 0\n\
+            stem z sa1 class 1\n\
+            4 faults in 2 classes\n\
+            ",
         stderr: "",
         status: 0,
     },
     Case {
         name: "buffer_64_zeros",
         line: "faultsim run --bench bench --tests tests",
-        bench: "INPUT(a)\nOUTPUT(z)\nz = BUFF(a)\n",
-        tests: "0\n0\n0\n0\n0\n0\n0\n0\n0\n0\n0\n0\n0\n0\n0\n0\n0\n0\n0\n0\n0\n0\n0\n0\n0\n0\n0\n0\n0\n0\n0\n0\n0\n0\n0\n0\n0\n0\n0\n0\n0\n0\n0\n0\n0\n0\n0\n0\n0\n0\n0\n0\n0\n0\n0\n0\n0\n0\n0\n0\n0\n0\n0\n0\n",
+        bench: BUFFER,
+        tests: "\
+            0\n0\n0\n0\n0\n0\n0\n0\n0\n0\n0\n0\n0\n0\n0\n0\n\
+            0\n0\n0\n0\n0\n0\n0\n0\n0\n0\n0\n0\n0\n0\n0\n0\n\
+            0\n0\n0\n0\n0\n0\n0\n0\n0\n0\n0\n0\n0\n0\n0\n0\n\
+            0\n0\n0\n0\n0\n0\n0\n0\n0\n0\n0\n0\n0\n0\n0\n0\n\
+            ",
         order: "",
         stdout: "2 of 4 (50.00%)\n",
         stderr: "",
@@ -49,8 +89,14 @@ pub static CASES: [Case; 9] = [
     Case {
         name: "buffer_65th_test_is_one",
         line: "faultsim run --bench bench --tests tests --list",
-        bench: "INPUT(a)\nOUTPUT(z)\nz = BUFF(a)\n",
-        tests: "0\n0\n0\n0\n0\n0\n0\n0\n0\n0\n0\n0\n0\n0\n0\n0\n0\n0\n0\n0\n0\n0\n0\n0\n0\n0\n0\n0\n0\n0\n0\n0\n0\n0\n0\n0\n0\n0\n0\n0\n0\n0\n0\n0\n0\n0\n0\n0\n0\n0\n0\n0\n0\n0\n0\n0\n0\n0\n0\n0\n0\n0\n0\n0\n1\n",
+        bench: BUFFER,
+        tests: "\
+            0\n0\n0\n0\n0\n0\n0\n0\n0\n0\n0\n0\n0\n0\n0\n0\n\
+            0\n0\n0\n0\n0\n0\n0\n0\n0\n0\n0\n0\n0\n0\n0\n0\n\
+            0\n0\n0\n0\n0\n0\n0\n0\n0\n0\n0\n0\n0\n0\n0\n0\n\
+            0\n0\n0\n0\n0\n0\n0\n0\n0\n0\n0\n0\n0\n0\n0\n0\n\
+            1\n\
+            ",
         order: "",
         stdout: "stem a sa0 64\nstem a sa1 0\nstem z sa0 64\nstem z sa1 0\n4 of 4 (100.00%)\n",
         stderr: "",
@@ -59,17 +105,53 @@ pub static CASES: [Case; 9] = [
     Case {
         name: "c17_listing",
         line: "faultsim faults --bench bench",
-        bench: "INPUT(G1)\nINPUT(G2)\nINPUT(G3)\nINPUT(G6)\nINPUT(G7)\nOUTPUT(G22)\nOUTPUT(G23)\nG10 = NAND(G1, G3)\nG11 = NAND(G3, G6)\nG16 = NAND(G2, G11)\nG19 = NAND(G11, G7)\nG22 = NAND(G10, G16)\nG23 = NAND(G16, G19)\n",
+        bench: C17,
         tests: "",
         order: "",
-        stdout: "stem G1 sa0 class 8\nstem G1 sa1 class 0\nstem G2 sa0 class 14\nstem G2 sa1 class 1\nstem G3 sa0 class 2\nstem G3 sa1 class 3\npin G10 2 sa0 class 8\npin G10 2 sa1 class 4\npin G11 1 sa0 class 10\npin G11 1 sa1 class 5\nstem G6 sa0 class 10\nstem G6 sa1 class 6\nstem G7 sa0 class 17\nstem G7 sa1 class 7\nstem G10 sa0 class 19\nstem G10 sa1 class 8\nstem G11 sa0 class 9\nstem G11 sa1 class 10\npin G16 2 sa0 class 14\npin G16 2 sa1 class 11\npin G19 1 sa0 class 17\npin G19 1 sa1 class 12\nstem G16 sa0 class 13\nstem G16 sa1 class 14\npin G22 2 sa0 class 19\npin G22 2 sa1 class 15\npin G23 1 sa0 class 21\npin G23 1 sa1 class 16\nstem G19 sa0 class 21\nstem G19 sa1 class 17\nstem G22 sa0 class 18\nstem G22 sa1 class 19\nstem G23 sa0 class 20\nstem G23 sa1 class 21\n34 faults in 22 classes\n",
+        stdout: "\
+            stem G1 sa0 class 8\n\
+            stem G1 sa1 class 0\n\
+            stem G2 sa0 class 14\n\
+            stem G2 sa1 class 1\n\
+            stem G3 sa0 class 2\n\
+            stem G3 sa1 class 3\n\
+            pin G10 2 sa0 class 8\n\
+            pin G10 2 sa1 class 4\n\
+            pin G11 1 sa0 class 10\n\
+            pin G11 1 sa1 class 5\n\
+            stem G6 sa0 class 10\n\
+            stem G6 sa1 class 6\n\
+            stem G7 sa0 class 17\n\
+            stem G7 sa1 class 7\n\
+            stem G10 sa0 class 19\n\
+            stem G10 sa1 class 8\n\
+            stem G11 sa0 class 9\n\
+            stem G11 sa1 class 10\n\
+            pin G16 2 sa0 class 14\n\
+            pin G16 2 sa1 class 11\n\
+            pin G19 1 sa0 class 17\n\
+            pin G19 1 sa1 class 12\n\
+            stem G16 sa0 class 13\n\
+            stem G16 sa1 class 14\n\
+            pin G22 2 sa0 class 19\n\
+            pin G22 2 sa1 class 15\n\
+            pin G23 1 sa0 class 21\n\
+            pin G23 1 sa1 class 16\n\
+            stem G19 sa0 class 21\n\
+            stem G19 sa1 class 17\n\
+            stem G22 sa0 class 18\n\
+            stem G22 sa1 class 19\n\
+            stem G23 sa0 class 20\n\
+            stem G23 sa1 class 21\n\
+            34 faults in 22 classes\n\
+            ",
         stderr: "",
         status: 0,
     },
     Case {
         name: "c17_single_test",
         line: "faultsim run --bench bench --tests tests",
-        bench: "INPUT(G1)\nINPUT(G2)\nINPUT(G3)\nINPUT(G6)\nINPUT(G7)\nOUTPUT(G22)\nOUTPUT(G23)\nG10 = NAND(G1, G3)\nG11 = NAND(G3, G6)\nG16 = NAND(G2, G11)\nG19 = NAND(G11, G7)\nG22 = NAND(G10, G16)\nG23 = NAND(G16, G19)\n",
+        bench: C17,
         tests: "11111\n",
         order: "",
         stdout: "14 of 34 (41.17%)\n",
@@ -79,17 +161,66 @@ pub static CASES: [Case; 9] = [
     Case {
         name: "c17_single_test_listed",
         line: "faultsim run --bench bench --tests tests --list",
-        bench: "INPUT(G1)\nINPUT(G2)\nINPUT(G3)\nINPUT(G6)\nINPUT(G7)\nOUTPUT(G22)\nOUTPUT(G23)\nG10 = NAND(G1, G3)\nG11 = NAND(G3, G6)\nG16 = NAND(G2, G11)\nG19 = NAND(G11, G7)\nG22 = NAND(G10, G16)\nG23 = NAND(G16, G19)\n",
+        bench: C17,
         tests: "11111\n",
         order: "",
-        stdout: "stem G1 sa0 0\nstem G1 sa1 none\nstem G2 sa0 none\nstem G2 sa1 none\nstem G3 sa0 0\nstem G3 sa1 none\npin G10 2 sa0 0\npin G10 2 sa1 none\npin G11 1 sa0 0\npin G11 1 sa1 none\nstem G6 sa0 0\nstem G6 sa1 none\nstem G7 sa0 none\nstem G7 sa1 none\nstem G10 sa0 none\nstem G10 sa1 0\nstem G11 sa0 none\nstem G11 sa1 0\npin G16 2 sa0 none\npin G16 2 sa1 0\npin G19 1 sa0 none\npin G19 1 sa1 0\nstem G16 sa0 0\nstem G16 sa1 none\npin G22 2 sa0 none\npin G22 2 sa1 none\npin G23 1 sa0 0\npin G23 1 sa1 none\nstem G19 sa0 0\nstem G19 sa1 none\nstem G22 sa0 0\nstem G22 sa1 none\nstem G23 sa0 none\nstem G23 sa1 0\n14 of 34 (41.17%)\n",
+        stdout: "\
+            stem G1 sa0 0\n\
+            stem G1 sa1 none\n\
+            stem G2 sa0 none\n\
+            stem G2 sa1 none\n\
+            stem G3 sa0 0\n\
+            stem G3 sa1 none\n\
+            pin G10 2 sa0 0\n\
+            pin G10 2 sa1 none\n\
+            pin G11 1 sa0 0\n\
+            pin G11 1 sa1 none\n\
+            stem G6 sa0 0\n\
+            stem G6 sa1 none\n\
+            stem G7 sa0 none\n\
+            stem G7 sa1 none\n\
+            stem G10 sa0 none\n\
+            stem G10 sa1 0\n\
+            stem G11 sa0 none\n\
+            stem G11 sa1 0\n\
+            pin G16 2 sa0 none\n\
+            pin G16 2 sa1 0\n\
+            pin G19 1 sa0 none\n\
+            pin G19 1 sa1 0\n\
+            stem G16 sa0 0\n\
+            stem G16 sa1 none\n\
+            pin G22 2 sa0 none\n\
+            pin G22 2 sa1 none\n\
+            pin G23 1 sa0 0\n\
+            pin G23 1 sa1 none\n\
+            stem G19 sa0 0\n\
+            stem G19 sa1 none\n\
+            stem G22 sa0 0\n\
+            stem G22 sa1 none\n\
+            stem G23 sa0 none\n\
+            stem G23 sa1 0\n\
+            14 of 34 (41.17%)\n\
+            ",
         stderr: "",
         status: 0,
     },
     Case {
         name: "eleven_inputs_one_output",
         line: "faultsim run --bench bench --tests tests",
-        bench: "INPUT(i0)\nINPUT(i1)\nINPUT(i2)\nINPUT(i3)\nINPUT(i4)\nINPUT(i5)\nINPUT(i6)\nINPUT(i7)\nINPUT(i8)\nINPUT(i9)\nINPUT(i10)\nOUTPUT(i0)\n",
+        bench: "\
+            INPUT(i0)\n\
+            INPUT(i1)\n\
+            INPUT(i2)\n\
+            INPUT(i3)\n\
+            INPUT(i4)\n\
+            INPUT(i5)\n\
+            INPUT(i6)\n\
+            INPUT(i7)\n\
+            INPUT(i8)\n\
+            INPUT(i9)\n\
+            INPUT(i10)\n\
+            OUTPUT(i0)\n\
+            ",
         tests: "00000000000\n11111111111\n",
         order: "",
         stdout: "2 of 22 (9.09%)\n",
@@ -114,7 +245,13 @@ pub static MORE_CASES: [Case; 10] = [
         name: "idle_lanes_count_for_nothing",
         line: "faultsim run --bench bench --tests tests",
         bench: "INPUT(a)\nINPUT(b)\nOUTPUT(z)\nz = NOR(a, b)\n",
-        tests: "11\n11\n11\n11\n11\n11\n11\n11\n11\n11\n11\n11\n11\n11\n11\n11\n11\n11\n11\n11\n11\n11\n11\n11\n11\n11\n11\n11\n11\n11\n11\n11\n11\n11\n11\n11\n11\n11\n11\n11\n11\n11\n11\n11\n11\n11\n11\n11\n11\n11\n11\n11\n11\n11\n11\n11\n11\n11\n11\n11\n11\n11\n11\n11\n11\n",
+        tests: "\
+            11\n11\n11\n11\n11\n11\n11\n11\n11\n11\n11\n11\n11\n11\n11\n11\n\
+            11\n11\n11\n11\n11\n11\n11\n11\n11\n11\n11\n11\n11\n11\n11\n11\n\
+            11\n11\n11\n11\n11\n11\n11\n11\n11\n11\n11\n11\n11\n11\n11\n11\n\
+            11\n11\n11\n11\n11\n11\n11\n11\n11\n11\n11\n11\n11\n11\n11\n11\n\
+            11\n\
+            ",
         order: "",
         stdout: "1 of 6 (16.66%)\n",
         stderr: "",
@@ -133,8 +270,14 @@ pub static MORE_CASES: [Case; 10] = [
     Case {
         name: "moves_out_of_order",
         line: "faultsim schedule --bench bench --tests tests --order order --workers 4 --list",
-        bench: "INPUT(a)\nOUTPUT(z)\nz = BUFF(a)\n",
-        tests: "0\n0\n0\n0\n0\n0\n0\n0\n0\n0\n0\n0\n0\n0\n0\n0\n0\n0\n0\n0\n0\n0\n0\n0\n0\n0\n0\n0\n0\n0\n0\n0\n0\n0\n0\n0\n0\n0\n0\n0\n0\n0\n0\n0\n0\n0\n0\n0\n0\n0\n0\n0\n0\n0\n0\n0\n0\n0\n0\n0\n0\n0\n0\n1\n1\n",
+        bench: BUFFER,
+        tests: "\
+            0\n0\n0\n0\n0\n0\n0\n0\n0\n0\n0\n0\n0\n0\n0\n0\n\
+            0\n0\n0\n0\n0\n0\n0\n0\n0\n0\n0\n0\n0\n0\n0\n0\n\
+            0\n0\n0\n0\n0\n0\n0\n0\n0\n0\n0\n0\n0\n0\n0\n0\n\
+            0\n0\n0\n0\n0\n0\n0\n0\n0\n0\n0\n0\n0\n0\n0\n1\n\
+            1\n\
+            ",
         order: "0\n1\n2\n3\n2\n3\n1\n0\n",
         stdout: "stem a sa0 63\nstem a sa1 0\nstem z sa0 63\nstem z sa1 0\n4 of 4 (100.00%)\n",
         stderr: "",
@@ -153,8 +296,14 @@ pub static MORE_CASES: [Case; 10] = [
     Case {
         name: "no_moves",
         line: "faultsim schedule --bench bench --tests tests --order order --workers 4 --list",
-        bench: "INPUT(a)\nOUTPUT(z)\nz = BUFF(a)\n",
-        tests: "0\n0\n0\n0\n0\n0\n0\n0\n0\n0\n0\n0\n0\n0\n0\n0\n0\n0\n0\n0\n0\n0\n0\n0\n0\n0\n0\n0\n0\n0\n0\n0\n0\n0\n0\n0\n0\n0\n0\n0\n0\n0\n0\n0\n0\n0\n0\n0\n0\n0\n0\n0\n0\n0\n0\n0\n0\n0\n0\n0\n0\n0\n0\n1\n1\n",
+        bench: BUFFER,
+        tests: "\
+            0\n0\n0\n0\n0\n0\n0\n0\n0\n0\n0\n0\n0\n0\n0\n0\n\
+            0\n0\n0\n0\n0\n0\n0\n0\n0\n0\n0\n0\n0\n0\n0\n0\n\
+            0\n0\n0\n0\n0\n0\n0\n0\n0\n0\n0\n0\n0\n0\n0\n0\n\
+            0\n0\n0\n0\n0\n0\n0\n0\n0\n0\n0\n0\n0\n0\n0\n1\n\
+            1\n\
+            ",
         order: "",
         stdout: "stem a sa0 63\nstem a sa1 0\nstem z sa0 63\nstem z sa1 0\n4 of 4 (100.00%)\n",
         stderr: "",
@@ -163,7 +312,7 @@ pub static MORE_CASES: [Case; 10] = [
     Case {
         name: "no_tests",
         line: "faultsim run --bench bench --tests tests",
-        bench: "INPUT(G1)\nINPUT(G2)\nINPUT(G3)\nINPUT(G6)\nINPUT(G7)\nOUTPUT(G22)\nOUTPUT(G23)\nG10 = NAND(G1, G3)\nG11 = NAND(G3, G6)\nG16 = NAND(G2, G11)\nG19 = NAND(G11, G7)\nG22 = NAND(G10, G16)\nG23 = NAND(G16, G19)\n",
+        bench: C17,
         tests: "",
         order: "",
         stdout: "0 of 34 (0.00%)\n",
@@ -186,7 +335,17 @@ pub static MORE_CASES: [Case; 10] = [
         bench: "INPUT(a)\nOUTPUT(a)\nOUTPUT(z)\nz = NOT(a)\n",
         tests: "",
         order: "",
-        stdout: "stem a sa0 class 0\nstem a sa1 class 1\npin z 1 sa0 class 5\npin z 1 sa1 class 4\nout 1 sa0 class 2\nout 1 sa1 class 3\nstem z sa0 class 4\nstem z sa1 class 5\n8 faults in 6 classes\n",
+        stdout: "\
+            stem a sa0 class 0\n\
+            stem a sa1 class 1\n\
+            pin z 1 sa0 class 5\n\
+            pin z 1 sa1 class 4\n\
+            out 1 sa0 class 2\n\
+            out 1 sa1 class 3\n\
+            stem z sa0 class 4\n\
+            stem z sa1 class 5\n\
+            8 faults in 6 classes\n\
+            ",
         stderr: "",
         status: 0,
     },
@@ -196,7 +355,19 @@ pub static MORE_CASES: [Case; 10] = [
         bench: "INPUT(a)\nOUTPUT(y)\nq = DFF(y)\ny = AND(a, q)\n",
         tests: "11\n",
         order: "",
-        stdout: "stem a sa0 0\nstem a sa1 none\nstem q sa0 0\nstem q sa1 none\nstem y sa0 0\nstem y sa1 none\ndata q sa0 0\ndata q sa1 none\nout 1 sa0 0\nout 1 sa1 none\n5 of 10 (50.00%)\n",
+        stdout: "\
+            stem a sa0 0\n\
+            stem a sa1 none\n\
+            stem q sa0 0\n\
+            stem q sa1 none\n\
+            stem y sa0 0\n\
+            stem y sa1 none\n\
+            data q sa0 0\n\
+            data q sa1 none\n\
+            out 1 sa0 0\n\
+            out 1 sa1 none\n\
+            5 of 10 (50.00%)\n\
+            ",
         stderr: "",
         status: 0,
     },
@@ -206,7 +377,17 @@ pub static MORE_CASES: [Case; 10] = [
         bench: "INPUT(a)\nOUTPUT(z)\nz = XOR(a, a)\n",
         tests: "0\n1\n",
         order: "",
-        stdout: "stem a sa0 none\nstem a sa1 none\npin z 1 sa0 1\npin z 1 sa1 0\npin z 2 sa0 1\npin z 2 sa1 0\nstem z sa0 none\nstem z sa1 0\n5 of 8 (62.50%)\n",
+        stdout: "\
+            stem a sa0 none\n\
+            stem a sa1 none\n\
+            pin z 1 sa0 1\n\
+            pin z 1 sa1 0\n\
+            pin z 2 sa0 1\n\
+            pin z 2 sa1 0\n\
+            stem z sa0 none\n\
+            stem z sa1 0\n\
+            5 of 8 (62.50%)\n\
+            ",
         stderr: "",
         status: 0,
     },
@@ -217,8 +398,14 @@ pub static TRANSITION_CASES: [Case; 7] = [
     Case {
         name: "transition_across_blocks",
         line: "faultsim run --bench bench --tests tests --list --model transition",
-        bench: "INPUT(a)\nOUTPUT(z)\nz = BUFF(a)\n",
-        tests: "0\n0\n0\n0\n0\n0\n0\n0\n0\n0\n0\n0\n0\n0\n0\n0\n0\n0\n0\n0\n0\n0\n0\n0\n0\n0\n0\n0\n0\n0\n0\n0\n0\n0\n0\n0\n0\n0\n0\n0\n0\n0\n0\n0\n0\n0\n0\n0\n0\n0\n0\n0\n0\n0\n0\n0\n0\n0\n0\n0\n0\n0\n0\n0\n1\n",
+        bench: BUFFER,
+        tests: "\
+            0\n0\n0\n0\n0\n0\n0\n0\n0\n0\n0\n0\n0\n0\n0\n0\n\
+            0\n0\n0\n0\n0\n0\n0\n0\n0\n0\n0\n0\n0\n0\n0\n0\n\
+            0\n0\n0\n0\n0\n0\n0\n0\n0\n0\n0\n0\n0\n0\n0\n0\n\
+            0\n0\n0\n0\n0\n0\n0\n0\n0\n0\n0\n0\n0\n0\n0\n0\n\
+            1\n\
+            ",
         order: "",
         stdout: "stem a str 64\nstem a stf none\nstem z str 64\nstem z stf none\n2 of 4 (50.00%)\n",
         stderr: "",
@@ -226,9 +413,16 @@ pub static TRANSITION_CASES: [Case; 7] = [
     },
     Case {
         name: "transition_across_blocks_scheduled",
-        line: "faultsim schedule --bench bench --tests tests --order order --workers 2 --list --model transition",
-        bench: "INPUT(a)\nOUTPUT(z)\nz = BUFF(a)\n",
-        tests: "0\n0\n0\n0\n0\n0\n0\n0\n0\n0\n0\n0\n0\n0\n0\n0\n0\n0\n0\n0\n0\n0\n0\n0\n0\n0\n0\n0\n0\n0\n0\n0\n0\n0\n0\n0\n0\n0\n0\n0\n0\n0\n0\n0\n0\n0\n0\n0\n0\n0\n0\n0\n0\n0\n0\n0\n0\n0\n0\n0\n0\n0\n0\n0\n1\n",
+        line: "faultsim schedule --bench bench --tests tests --order order --workers 2 \
+            --list --model transition",
+        bench: BUFFER,
+        tests: "\
+            0\n0\n0\n0\n0\n0\n0\n0\n0\n0\n0\n0\n0\n0\n0\n0\n\
+            0\n0\n0\n0\n0\n0\n0\n0\n0\n0\n0\n0\n0\n0\n0\n0\n\
+            0\n0\n0\n0\n0\n0\n0\n0\n0\n0\n0\n0\n0\n0\n0\n0\n\
+            0\n0\n0\n0\n0\n0\n0\n0\n0\n0\n0\n0\n0\n0\n0\n0\n\
+            1\n\
+            ",
         order: "",
         stdout: "stem a str 64\nstem a stf none\nstem z str 64\nstem z stf none\n2 of 4 (50.00%)\n",
         stderr: "",
@@ -240,14 +434,22 @@ pub static TRANSITION_CASES: [Case; 7] = [
         bench: "INPUT(a)\nINPUT(b)\nOUTPUT(z)\nz = AND(a, b)\n",
         tests: "00\n01\n10\n11\n",
         order: "",
-        stdout: "stem a str none\nstem a stf none\nstem b str 3\nstem b stf 2\nstem z str 3\nstem z stf none\n3 of 6 (50.00%)\n",
+        stdout: "\
+            stem a str none\n\
+            stem a stf none\n\
+            stem b str 3\n\
+            stem b stf 2\n\
+            stem z str 3\n\
+            stem z stf none\n\
+            3 of 6 (50.00%)\n\
+            ",
         stderr: "",
         status: 0,
     },
     Case {
         name: "transition_buffer",
         line: "faultsim run --bench bench --tests tests --list --model transition",
-        bench: "INPUT(a)\nOUTPUT(z)\nz = BUFF(a)\n",
+        bench: BUFFER,
         tests: "0\n1\n0\n",
         order: "",
         stdout: "stem a str 1\nstem a stf 2\nstem z str 1\nstem z stf 2\n4 of 4 (100.00%)\n",
@@ -257,7 +459,7 @@ pub static TRANSITION_CASES: [Case; 7] = [
     Case {
         name: "transition_c17_single_test",
         line: "faultsim run --bench bench --tests tests --model transition",
-        bench: "INPUT(G1)\nINPUT(G2)\nINPUT(G3)\nINPUT(G6)\nINPUT(G7)\nOUTPUT(G22)\nOUTPUT(G23)\nG10 = NAND(G1, G3)\nG11 = NAND(G3, G6)\nG16 = NAND(G2, G11)\nG19 = NAND(G11, G7)\nG22 = NAND(G10, G16)\nG23 = NAND(G16, G19)\n",
+        bench: C17,
         tests: "11111\n",
         order: "",
         stdout: "0 of 34 (0.00%)\n",
@@ -280,7 +482,17 @@ pub static TRANSITION_CASES: [Case; 7] = [
         bench: "INPUT(a)\nOUTPUT(a)\nOUTPUT(z)\nz = NOT(a)\n",
         tests: "",
         order: "",
-        stdout: "stem a str class 0\nstem a stf class 1\npin z 1 str class 5\npin z 1 stf class 4\nout 1 str class 2\nout 1 stf class 3\nstem z str class 4\nstem z stf class 5\n8 faults in 6 classes\n",
+        stdout: "\
+            stem a str class 0\n\
+            stem a stf class 1\n\
+            pin z 1 str class 5\n\
+            pin z 1 stf class 4\n\
+            out 1 str class 2\n\
+            out 1 stf class 3\n\
+            stem z str class 4\n\
+            stem z stf class 5\n\
+            8 faults in 6 classes\n\
+            ",
         stderr: "",
         status: 0,
     },
@@ -311,7 +523,7 @@ pub static REFUSED_CASES: [Case; 18] = [
     Case {
         name: "order_no_such_worker",
         line: "faultsim schedule --bench bench --tests tests --order order",
-        bench: "INPUT(G1)\nINPUT(G2)\nINPUT(G3)\nINPUT(G6)\nINPUT(G7)\nOUTPUT(G22)\nOUTPUT(G23)\nG10 = NAND(G1, G3)\nG11 = NAND(G3, G6)\nG16 = NAND(G2, G11)\nG19 = NAND(G11, G7)\nG22 = NAND(G10, G16)\nG23 = NAND(G16, G19)\n",
+        bench: C17,
         tests: "11111\n",
         order: "4\n",
         stdout: "",
@@ -321,7 +533,7 @@ pub static REFUSED_CASES: [Case; 18] = [
     Case {
         name: "order_ten_digits",
         line: "faultsim schedule --bench bench --tests tests --order order",
-        bench: "INPUT(G1)\nINPUT(G2)\nINPUT(G3)\nINPUT(G6)\nINPUT(G7)\nOUTPUT(G22)\nOUTPUT(G23)\nG10 = NAND(G1, G3)\nG11 = NAND(G3, G6)\nG16 = NAND(G2, G11)\nG19 = NAND(G11, G7)\nG22 = NAND(G10, G16)\nG23 = NAND(G16, G19)\n",
+        bench: C17,
         tests: "11111\n",
         order: "0000000003\n",
         stdout: "",
@@ -468,70 +680,4 @@ pub static REFUSED_CASES: [Case; 18] = [
         stderr: "faultsim: bench line 1: cycle\n",
         status: 1,
     },
-];
-
-/// Command lines of which the file `none` is the first that is missing.
-pub static MISSING: [&str; 5] = [
-    "faultsim faults --bench none",
-    "faultsim run --bench none --tests other",
-    "faultsim run --bench bench --tests none",
-    "faultsim schedule --bench bench --tests none --order other",
-    "faultsim schedule --bench bench --tests tests --order none",
-];
-
-/// Command lines that the program refuses, and what it says of each.
-pub static MISUSED: [(&str, &str); 18] = [
-    ("faultsim", "Usage"),
-    ("faultsim simulate", "simulate"),
-    ("faultsim run --bench bench", "--tests"),
-    ("faultsim run --tests tests", "--bench"),
-    ("faultsim schedule --bench bench --tests tests", "--order"),
-    ("faultsim schedule --bench bench --order order", "--tests"),
-    (
-        "faultsim run --bench bench --tests tests --order order",
-        "--order",
-    ),
-    ("faultsim faults", "--bench"),
-    ("faultsim faults --bench bench --list", "--list"),
-    ("faultsim faults --bench bench --model delay", "delay"),
-    (
-        "faultsim run --bench bench --tests tests --model delay",
-        "delay",
-    ),
-    (
-        "faultsim schedule --bench bench --tests tests --order order --model delay",
-        "delay",
-    ),
-    (
-        "faultsim run --bench bench --tests tests --model",
-        "--model",
-    ),
-    ("faultsim run --bench bench --tests tests --workers 0", "0"),
-    ("faultsim run --bench bench --tests tests --workers x", "x"),
-    (
-        "faultsim run --bench bench --tests tests --workers 65",
-        "65",
-    ),
-    (
-        "faultsim schedule --bench bench --tests tests --order order --workers 65",
-        "65",
-    ),
-    (
-        "faultsim run --bench bench --tests tests --workers",
-        "--workers",
-    ),
-];
-
-/// What help tells of a subcommand: each option with the name of its value, and the defaults.
-pub static HELP: [(&str, &str); 10] = [
-    ("faultsim run --help", "--bench <FILE>"),
-    ("faultsim run --help", "--tests <FILE>"),
-    ("faultsim run --help", "--model <MODEL>"),
-    ("faultsim run --help", "[default: stuck]"),
-    ("faultsim run --help", "stuck, transition"),
-    ("faultsim run --help", "--workers <N>"),
-    ("faultsim run --help", "[default: 4]"),
-    ("faultsim run --help", "--list"),
-    ("faultsim schedule --help", "--order <FILE>"),
-    ("faultsim schedule --help", "[default: 4]"),
 ];

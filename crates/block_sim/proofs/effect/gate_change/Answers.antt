@@ -1,7 +1,6 @@
-use Rattle.std.proofs.Common.{◌≡◌, ◌<◌, ◌≤◌, ℕ, ap, arith, length, List, subst, sym, ◌∙◌}
-use Rattle.std.specs.Prelude.{All, Option, Some, slice_index_or, unwrap_or}
+use Rattle.std.proofs.Common.{◌≡◌, ℕ, ap, arith, List, sym, ◌∙◌}
+use Rattle.std.specs.Prelude.{Option, Some, slice_index_or, unwrap_or}
 use Rattle.bench_net.specs.declared.Kind.{Kind}
-use Rattle.bench_net.specs.Circuit.{max_sinks}
 use Rattle.fault_model.specs.Solution.{value}
 use Rattle.block_sim.specs.Stuck.{stuck_fault}
 use Rattle.block_sim.specs.Words.{pin_bits}
@@ -11,25 +10,22 @@ use Rattle.block_sim.proofs.effect.gate_change.Goals as goal
 
 pub evaluate_gate-word-requires-clause-pins_in : goal.evaluate_gate-word-requires-clause-pins_in
 evaluate_gate-word-requires-clause-pins_in c =
-    subst (All (λ p. p < length c.args.good.now)) (sym c.as_slice-pins.ensures)
-    (λ k d lt.
-    let within = pins_within c.args.circuit.now c.args.gate c.in-Some.line.now.kind c.in-Some.line.now.pins.items c.requires.circuit.well_formed (sym c.in-Some.ensures) k d lt in
-    omega (arith, within, c.requires.good))
+    λ k d lt.
+    let within = pins_within c.args.circuit.now c.args.gate c.in-Some.line.kind c.in-Some.line.pins.now c.requires.circuit.well_formed (sym c.in-Some.ensures) k d lt in
+    omega (arith, within, c.requires.good)
 
 pub evaluate_gate-word-requires-clause-few : goal.evaluate_gate-word-requires-clause-few
 evaluate_gate-word-requires-clause-few c =
-    subst (λ pins. length pins ≤ max_sinks) (sym c.as_slice-pins.ensures)
-    (pins_few c.args.circuit.now c.args.gate c.in-Some.line.now.kind c.in-Some.line.now.pins.items c.requires.circuit (sym c.in-Some.ensures))
+    pins_few c.args.circuit.now c.args.gate c.in-Some.line.kind c.in-Some.line.pins.now c.requires.circuit (sym c.in-Some.ensures)
 
 pub returns-clause-inside : goal.returns-clause-inside
 returns-clause-inside c = λ k lt e. only_lanes _ c.args.lanes k e
 
 pub returns-clause-changed : goal.returns-clause-changed
 returns-clause-changed c = λ kind pins k is lt in_lanes.
-    let own = c.in-Some.line.now in
-    let same : (own.kind, own.pins.items) ≡ (kind, pins) = ap (λ (o : Option (Kind × List ℕ)). unwrap_or o (kind, pins)) (c.in-Some.ensures ∙ is) in
+    let own = c.in-Some.line in
+    let same : (own.kind, own.pins.now) ≡ (kind, pins) = ap (λ (o : Option (Kind × List ℕ)). unwrap_or o (kind, pins)) (c.in-Some.ensures ∙ is) in
     let fault = Some (stuck_fault c.args.fault) in
     changed_to c.evaluate_gate-word.result (slice_index_or c.args.good.now c.args.gate 0) c.args.lanes k in_lanes
     ∙ (c.evaluate_gate-word.ensures.value k lt
-    ∙ (ap (λ ps. value own.kind (pin_bits fault c.args.gate ps c.args.good.now c.args.same.now k)) c.as_slice-pins.ensures
-    ∙ ap (λ p. value p.0 (pin_bits fault c.args.gate p.1 c.args.good.now c.args.same.now k)) same))
+    ∙ (ap (λ p. value p.0 (pin_bits fault c.args.gate p.1 c.args.good.now c.args.same.now k)) same))

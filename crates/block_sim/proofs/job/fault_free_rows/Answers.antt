@@ -12,7 +12,7 @@ loop-block-preserved c =
     let before = map items c.loop-block.rows.items in
     let words = c.evaluate.new.words in
     let long : length words ≡ vec_len c.in_ok-row.row = omega (arith, c.evaluate.ensures.room, c.deref_mut.ensures.len) in
-    let room : length words ≡ length (names c.args.circuit.now) = omega (arith, long, c.in_ok-row.ensures.len, c.signals-signals.ensures.count) in
+    let room : length words ≡ length (names c.args.circuit.now) = omega (arith, long, c.in_ok-row.ensures.len, c.signals-signals.ensures.count, ap (λ x. length (names x)) c.circuit.ensures) in
     let pushed : map items c.push.new.self.items ≡ before ++ words ∷ [] =
     ap (map items) c.in_ok-push.ensures.items ∙ (map-append items c.loop-block.rows.items _ ∙ ap (λ row. before ++ row ∷ []) (with_items_is c.in_ok-row.row words long)) in
     record {

@@ -15,21 +15,21 @@ use Rattle.block_sim.proofs.look_back.lanes_that_fit.Goals as goal
 use Rattle.block_sim.proofs.look_back.lanes_that_fit.Goals.{then-fault, else-fault, then-block-eq0, else-block-eq0}
 
 pub carried-requires-clause-circuit : goal.carried-requires-clause-circuit
-carried-requires-clause-circuit c = subst IsCircuit (sym c.circuit.ensures.part) c.circuit.ensures.together.circuit
+carried-requires-clause-circuit c = subst IsCircuit (sym c.flat.ensures.part) c.flat.ensures.together.circuit
 
 pub carried-requires-clause-named : goal.carried-requires-clause-named
 carried-requires-clause-named c =
-    let named = carries c.args.fault.model c.args.job.now.circuit (stuck_fault c.args.fault) c.circuit.ensures.together.circuit.well_formed c.requires.listed in
-    (named.0, ap (λ x. carried x c.args.fault.line) c.circuit.ensures.part ∙ named.1)
+    let named = carries c.args.fault.model c.args.job.now.circuit (stuck_fault c.args.fault) c.flat.ensures.together.circuit.well_formed c.requires.listed in
+    (named.0, ap (λ x. carried x c.args.fault.line) c.flat.ensures.part ∙ named.1)
 
 pub word_before-before-requires-clause-circuit : goal.word_before-before-requires-clause-circuit
-word_before-before-requires-clause-circuit c = c.circuit.ensures.together.circuit.well_formed
+word_before-before-requires-clause-circuit c = c.flat.ensures.together.circuit.well_formed
 
 pub word_before-before-requires-clause-signal : goal.word_before-before-requires-clause-signal
 word_before-before-requires-clause-signal c =
-    let named = carries c.args.fault.model c.args.job.now.circuit (stuck_fault c.args.fault) c.circuit.ensures.together.circuit.well_formed c.requires.listed in
+    let named = carries c.args.fault.model c.args.job.now.circuit (stuck_fault c.args.fault) c.flat.ensures.together.circuit.well_formed c.requires.listed in
     let is : c.carried.result ≡ signal c.args.job.now.circuit named.0 =
-    c.carried.ensures named.0 (ap (λ x. carried x c.args.fault.line) c.circuit.ensures.part ∙ named.1) ∙ ap (λ x. signal x named.0) c.circuit.ensures.part in
+    c.carried.ensures named.0 (ap (λ x. carried x c.args.fault.line) c.flat.ensures.part ∙ named.1) ∙ ap (λ x. signal x named.0) c.flat.ensures.part in
     let lt = place_within (names c.args.job.now.circuit) _ named.0 (name_of-signal c.args.job.now.circuit named.0 named.2) in
     subst (λ x. x < length (names c.args.job.now.circuit)) (sym is) lt
 
@@ -47,9 +47,9 @@ returns-after-block-eq0 c = λ k few.
     let below : k < min 64 (length job.tests.tests - 64 * c.args.block) = few in
     let lt : k < 64 = omega (arith, below) in
     let within : before < 2 ^ 64 = omega arith in
-    let named = carries c.args.fault.model job.circuit (stuck_fault c.args.fault) c.circuit.ensures.together.circuit.well_formed c.requires.listed in
+    let named = carries c.args.fault.model job.circuit (stuck_fault c.args.fault) c.flat.ensures.together.circuit.well_formed c.requires.listed in
     let is : c.carried.result ≡ signal job.circuit named.0 =
-    c.carried.ensures named.0 (ap (λ x. carried x c.args.fault.line) c.circuit.ensures.part ∙ named.1) ∙ ap (λ x. signal x named.0) c.circuit.ensures.part in
+    c.carried.ensures named.0 (ap (λ x. carried x c.args.fault.line) c.flat.ensures.part ∙ named.1) ∙ ap (λ x. signal x named.0) c.flat.ensures.part in
     let fit = fits_where bit before c.if-fault.fits k within lt (elim c.if-fault.branch [
       | then-fault w ↦ inl (w.if-fault.true, w.fits-is)
       | else-fault w ↦ inr (w.if-fault.false, w.fits-is)

@@ -1,8 +1,7 @@
 use Rattle.std.proofs.Common.{◌≡◌, ◌≢◌, ◌<◌, ◌≤◌, ℕ, ◌+◌, sym, ◌∙◌, ap, subst, length, arith}
-use Rattle.std.specs.Prelude.{All, None, slice_index_or, slice_set, bit_and, bit_or, bit_xor}
+use Rattle.std.specs.Prelude.{None, slice_index_or, slice_set, bit_and, bit_or, bit_xor}
 use Rattle.std.proofs.lemmas.Bool.{false≢true}
 use Rattle.std.proofs.lemmas.List.{length-set, get_or-set_same, get_or-set_other}
-use Rattle.bench_net.specs.Circuit.{max_sinks}
 use Rattle.fault_model.specs.Solution.{value}
 use Rattle.block_sim.specs.Events.{level_at, AreWoken}
 use Rattle.block_sim.specs.Spreading.{IsSpreading, HasTouched, AreSeen, ahead}
@@ -17,15 +16,13 @@ use Rattle.block_sim.proofs.spread.evaluate_waiting.Goals as goal
 
 pub evaluate_gate-word-requires-clause-pins_in : goal.evaluate_gate-word-requires-clause-pins_in
 evaluate_gate-word-requires-clause-pins_in c =
-    subst (All (λ p. p < length c.args.good.now)) (sym c.as_slice-pins.ensures)
-    (λ k d lt.
-    let within = pins_within c.args.circuit.now c.args.gate c.in-Some.line.now.kind c.in-Some.line.now.pins.items c.requires.circuit.well_formed (sym c.in-Some.ensures) k d lt in
-    omega (arith, within, c.requires.good))
+    λ k d lt.
+    let within = pins_within c.args.circuit.now c.args.gate c.in-Some.line.kind c.in-Some.line.pins.now c.requires.circuit.well_formed (sym c.in-Some.ensures) k d lt in
+    omega (arith, within, c.requires.good)
 
 pub evaluate_gate-word-requires-clause-few : goal.evaluate_gate-word-requires-clause-few
 evaluate_gate-word-requires-clause-few c =
-    subst (λ pins. length pins ≤ max_sinks) (sym c.as_slice-pins.ensures)
-    (pins_few c.args.circuit.now c.args.gate c.in-Some.line.now.kind c.in-Some.line.now.pins.items c.requires.circuit (sym c.in-Some.ensures))
+    pins_few c.args.circuit.now c.args.gate c.in-Some.line.kind c.in-Some.line.pins.now c.requires.circuit (sym c.in-Some.ensures)
 
 pub returns-then-diff-eq0-clause-spreading : goal.returns-then-diff-eq0-clause-spreading
 returns-then-diff-eq0-clause-spreading c = λ tests block f asked level start now are off h.
@@ -38,19 +35,18 @@ returns-then-diff-eq0-clause-spreading c = λ tests block f asked level start no
     let overlay = c.args.overlay.now in
     let gate = c.args.gate in
     let word = c.evaluate_gate-word.result in
-    let own = c.in-Some.line.now in
+    let own = c.in-Some.line in
     let taken_at = slice_set at gate (now + 1) in
     let in_at : gate < length at = omega (arith, c.requires.gate, c.requires.gates) in
     let in_taken : gate < length taken_at = omega (arith, in_at, length-set at gate (now + 1)) in
     let in_overlay : gate < length overlay = omega (arith, c.requires.gate, c.requires.overlay) in
     let taken : slice_index_or taken_at gate 0 ≡ now + 1 = get_or-set_same at gate (now + 1) 0 in_at in
     let back : slice_set taken_at gate 0 ≡ at = restored at gate now c.requires.waits in
-    let valued : (k : ℕ) → k < 64 → lane word k ≡ value own.kind (pin_bits None gate own.pins.items good overlay k) =
+    let valued : (k : ℕ) → k < 64 → lane word k ≡ value own.kind (pin_bits None gate own.pins.now good overlay k) =
     λ k lt. c.evaluate_gate-word.ensures.value k lt
-    ∙ (ap (λ d. value own.kind (pin_bits None gate c.as_slice-pins.result.now good d k)) c.words.ensures
-    ∙ ap (λ ps. value own.kind (pin_bits None gate ps good overlay k)) c.as_slice-pins.ensures) in
+    ∙ ap (λ d. value own.kind (pin_bits None gate own.pins.now good d k)) c.words.ensures in
     subst (λ x. IsSpreading circuit tests block f good asked lv start c.args.lanes overlay x now) back
-    (evaluated_same circuit tests block f good asked lv start c.args.lanes well rises off overlay taken_at now gate h taken in_taken in_overlay own.kind own.pins.items (sym c.in-Some.ensures) word valued
+    (evaluated_same circuit tests block f good asked lv start c.args.lanes well rises off overlay taken_at now gate h taken in_taken in_overlay own.kind own.pins.now (sym c.in-Some.ensures) word valued
     (λ k lt e. no_change word (slice_index_or good gate 0) c.args.lanes k c.if-diff-eq0.true e))
 
 pub returns-then-diff-eq0-clause-counted : goal.returns-then-diff-eq0-clause-counted
@@ -64,19 +60,18 @@ returns-then-diff-eq0-clause-counted c = λ tests block f asked level start now 
     let overlay = c.args.overlay.now in
     let gate = c.args.gate in
     let word = c.evaluate_gate-word.result in
-    let own = c.in-Some.line.now in
+    let own = c.in-Some.line in
     let taken_at = slice_set at gate (now + 1) in
     let in_at : gate < length at = omega (arith, c.requires.gate, c.requires.gates) in
     let in_taken : gate < length taken_at = omega (arith, in_at, length-set at gate (now + 1)) in
     let in_overlay : gate < length overlay = omega (arith, c.requires.gate, c.requires.overlay) in
     let taken : slice_index_or taken_at gate 0 ≡ now + 1 = get_or-set_same at gate (now + 1) 0 in_at in
     let back : slice_set taken_at gate 0 ≡ at = restored at gate now c.requires.waits in
-    let valued : (k : ℕ) → k < 64 → lane word k ≡ value own.kind (pin_bits None gate own.pins.items good overlay k) =
+    let valued : (k : ℕ) → k < 64 → lane word k ≡ value own.kind (pin_bits None gate own.pins.now good overlay k) =
     λ k lt. c.evaluate_gate-word.ensures.value k lt
-    ∙ (ap (λ d. value own.kind (pin_bits None gate c.as_slice-pins.result.now good d k)) c.words.ensures
-    ∙ ap (λ ps. value own.kind (pin_bits None gate ps good overlay k)) c.as_slice-pins.ensures) in
+    ∙ ap (λ d. value own.kind (pin_bits None gate own.pins.now good d k)) c.words.ensures in
     let less = subst (λ x. ahead lv x now gates + 1 ≤ ahead lv taken_at now gates) back
-    (ahead_same circuit tests block f good asked lv start c.args.lanes well rises off overlay taken_at now gate h taken in_taken in_overlay own.kind own.pins.items (sym c.in-Some.ensures) word valued gates all) in
+    (ahead_same circuit tests block f good asked lv start c.args.lanes well rises off overlay taken_at now gate h taken in_taken in_overlay own.kind own.pins.now (sym c.in-Some.ensures) word valued gates all) in
     omega (arith, less, c.evaluate_gate-word.ensures.counted)
 
 pub returns-then-diff-eq0-clause-seen : goal.returns-then-diff-eq0-clause-seen
@@ -94,22 +89,21 @@ returns-clause-spreading c = λ tests block f asked level start now are off h.
     let overlay = c.args.overlay.now in
     let gate = c.args.gate in
     let word = c.evaluate_gate-word.result in
-    let own = c.in-Some.line.now in
+    let own = c.in-Some.line in
     let taken_at = slice_set at gate (now + 1) in
     let in_at : gate < length at = omega (arith, c.requires.gate, c.requires.gates) in
     let in_taken : gate < length taken_at = omega (arith, in_at, length-set at gate (now + 1)) in
     let in_overlay : gate < length overlay = omega (arith, c.requires.gate, c.requires.overlay) in
     let taken : slice_index_or taken_at gate 0 ≡ now + 1 = get_or-set_same at gate (now + 1) 0 in_at in
     let back : slice_set taken_at gate 0 ≡ at = restored at gate now c.requires.waits in
-    let valued : (k : ℕ) → k < 64 → lane word k ≡ value own.kind (pin_bits None gate own.pins.items good overlay k) =
+    let valued : (k : ℕ) → k < 64 → lane word k ≡ value own.kind (pin_bits None gate own.pins.now good overlay k) =
     λ k lt. c.evaluate_gate-word.ensures.value k lt
-    ∙ (ap (λ d. value own.kind (pin_bits None gate c.as_slice-pins.result.now good d k)) c.words.ensures
-    ∙ ap (λ ps. value own.kind (pin_bits None gate ps good overlay k)) c.as_slice-pins.ensures) in
+    ∙ ap (λ d. value own.kind (pin_bits None gate own.pins.now good d k)) c.words.ensures in
     let diff = bit_and (bit_xor word (slice_index_or good gate 0)) c.args.lanes in
     let woken : AreWoken circuit lv gate (slice_set taken_at gate 0) c.change.new.buckets.at =
     subst (λ b. AreWoken circuit lv gate b c.change.new.buckets.at) (sym back) (c.change.ensures.woken level are) in
     subst (λ x. IsSpreading circuit tests block f good asked lv start c.args.lanes x c.change.new.buckets.at now) (sym c.change.ensures.changed)
-    (evaluated_changed circuit tests block f good asked lv start c.args.lanes well rises off overlay taken_at now gate h taken in_taken in_overlay own.kind own.pins.items (sym c.in-Some.ensures) word valued diff c.change.new.buckets.at c.if-diff-eq0.false c.change.ensures.some
+    (evaluated_changed circuit tests block f good asked lv start c.args.lanes well rises off overlay taken_at now gate h taken in_taken in_overlay own.kind own.pins.now (sym c.in-Some.ensures) word valued diff c.change.new.buckets.at c.if-diff-eq0.false c.change.ensures.some
     (λ k lt e. only_lanes (bit_xor word (slice_index_or good gate 0)) c.args.lanes k e) (λ k lt e. changed_to word (slice_index_or good gate 0) c.args.lanes k e) woken)
 
 pub returns-clause-counted : goal.returns-clause-counted
@@ -123,21 +117,20 @@ returns-clause-counted c = λ tests block f asked level start now gates are off 
     let overlay = c.args.overlay.now in
     let gate = c.args.gate in
     let word = c.evaluate_gate-word.result in
-    let own = c.in-Some.line.now in
+    let own = c.in-Some.line in
     let taken_at = slice_set at gate (now + 1) in
     let in_at : gate < length at = omega (arith, c.requires.gate, c.requires.gates) in
     let in_taken : gate < length taken_at = omega (arith, in_at, length-set at gate (now + 1)) in
     let in_overlay : gate < length overlay = omega (arith, c.requires.gate, c.requires.overlay) in
     let taken : slice_index_or taken_at gate 0 ≡ now + 1 = get_or-set_same at gate (now + 1) 0 in_at in
     let back : slice_set taken_at gate 0 ≡ at = restored at gate now c.requires.waits in
-    let valued : (k : ℕ) → k < 64 → lane word k ≡ value own.kind (pin_bits None gate own.pins.items good overlay k) =
+    let valued : (k : ℕ) → k < 64 → lane word k ≡ value own.kind (pin_bits None gate own.pins.now good overlay k) =
     λ k lt. c.evaluate_gate-word.ensures.value k lt
-    ∙ (ap (λ d. value own.kind (pin_bits None gate c.as_slice-pins.result.now good d k)) c.words.ensures
-    ∙ ap (λ ps. value own.kind (pin_bits None gate ps good overlay k)) c.as_slice-pins.ensures) in
+    ∙ ap (λ d. value own.kind (pin_bits None gate own.pins.now good d k)) c.words.ensures in
     let diff = bit_and (bit_xor word (slice_index_or good gate 0)) c.args.lanes in
     let woken : AreWoken circuit lv gate (slice_set taken_at gate 0) c.change.new.buckets.at =
     subst (λ b. AreWoken circuit lv gate b c.change.new.buckets.at) (sym back) (c.change.ensures.woken level are) in
-    let less = ahead_changed circuit tests block f good asked lv start c.args.lanes well rises off overlay taken_at now gate h taken in_taken in_overlay own.kind own.pins.items (sym c.in-Some.ensures) word valued diff c.change.new.buckets.at c.if-diff-eq0.false c.change.ensures.some
+    let less = ahead_changed circuit tests block f good asked lv start c.args.lanes well rises off overlay taken_at now gate h taken in_taken in_overlay own.kind own.pins.now (sym c.in-Some.ensures) word valued diff c.change.new.buckets.at c.if-diff-eq0.false c.change.ensures.some
     (λ k lt e. only_lanes (bit_xor word (slice_index_or good gate 0)) c.args.lanes k e) (λ k lt e. changed_to word (slice_index_or good gate 0) c.args.lanes k e) woken
     gates (subst (λ x. HasTouched circuit x gates) c.change.ensures.changed all) in
     omega (arith, less, c.evaluate_gate-word.ensures.counted)

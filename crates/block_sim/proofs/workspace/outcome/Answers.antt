@@ -17,19 +17,19 @@ use Rattle.block_sim.proofs.workspace.outcome.Goals as goal
 pub effect-seen-requires-clause-words : goal.effect-seen-requires-clause-words
 effect-seen-requires-clause-words c =
     let tests = c.args.job.now.tests.tests in
-    (tests, c.args.block, subst (λ x. AreWords x tests c.args.block None c.fault_free.result.now) (sym c.circuit.ensures.part) c.fault_free.ensures.words)
+    (tests, c.args.block, subst (λ x. AreWords x tests c.args.block None c.fault_free.result.now) (sym c.flat.ensures.part) c.fault_free.ensures.words)
 
 pub effect-seen-requires-clause-levels : goal.effect-seen-requires-clause-levels
 effect-seen-requires-clause-levels c = λ g k h.
     let circuit = c.args.job.now.circuit in
-    let le = level_within circuit g k c.circuit.ensures.together.circuit.well_formed (subst (λ x. HasLevel x g k) c.circuit.ensures.part h) in
+    let le = level_within circuit g k c.flat.ensures.together.circuit.well_formed (subst (λ x. HasLevel x g k) c.flat.ensures.part h) in
     let room : length c.workspace.inside.overlay ≡ c.args.workspace.now.signals = ap (λ r. r.signals) c.workspace.view_is in
     omega (arith, le, room, c.requires.fits, c.workspace.invariant.levels)
 
 pub returns-clause-outcome : goal.returns-clause-outcome
 returns-clause-outcome c =
     let job = c.args.job.now in
-    let well = c.circuit.ensures.together.circuit.well_formed in
+    let well = c.flat.ensures.together.circuit.well_formed in
     let tests = job.tests.tests in
     let block = c.args.block in
     let fault = stuck_fault c.representative-fault.result in
@@ -38,14 +38,14 @@ returns-clause-outcome c =
     let size : c.size_of.result ≡ size_of (length tests) block = c.size_of.ensures ∙ ap (λ t. size_of (length t.tests) block) c.tests.ensures.part in
     let decides : (k : ℕ) → k < 64 → Decides (lane lanes k) ((k < size_of (length tests) block) × LooksBack job.circuit tests fault.model fault.line fault.stuck (64 * block + k)) =
     λ k lt. lanes_decide c.lanes_below.result c.lanes_that_fit.result (size_of (length tests) block) k (c.lanes_below.ensures k lt ∙ ap (nat_lt k) size) (c.lanes_that_fit.ensures k) in
-    let words : AreWords c.circuit.result.now tests block None good = subst (λ x. AreWords x tests block None good) (sym c.circuit.ensures.part) c.fault_free.ensures.words in
-    let shown : AreShown job.circuit tests block fault good lanes c.effect-seen.result = subst (λ x. AreShown x tests block fault good lanes c.effect-seen.result) c.circuit.ensures.part (c.effect-seen.ensures.shown tests block words) in
+    let words : AreWords c.flat.result.now tests block None good = subst (λ x. AreWords x tests block None good) (sym c.flat.ensures.part) c.fault_free.ensures.words in
+    let shown : AreShown job.circuit tests block fault good lanes c.effect-seen.result = subst (λ x. AreShown x tests block fault good lanes c.effect-seen.result) c.flat.ensures.part (c.effect-seen.ensures.shown tests block words) in
     (fault, c.representative-fault.ensures.representative, outcome_of_shown job.circuit tests block fault good lanes c.effect-seen.result well c.fault_free.ensures.words decides shown c.least_lane.result c.least_lane.ensures)
 
 pub returns-clause-counted : goal.returns-clause-counted
 returns-clause-counted c = λ r gates at all.
     let job = c.args.job.now in
-    let well = c.circuit.ensures.together.circuit.well_formed in
+    let well = c.flat.ensures.together.circuit.well_formed in
     let tests = job.tests.tests in
     let block = c.args.block in
     let fault = stuck_fault c.representative-fault.result in
@@ -54,9 +54,9 @@ returns-clause-counted c = λ r gates at all.
     let size : c.size_of.result ≡ size_of (length tests) block = c.size_of.ensures ∙ ap (λ t. size_of (length t.tests) block) c.tests.ensures.part in
     let decides : (k : ℕ) → k < 64 → Decides (lane lanes k) ((k < size_of (length tests) block) × LooksBack job.circuit tests fault.model fault.line fault.stuck (64 * block + k)) =
     λ k lt. lanes_decide c.lanes_below.result c.lanes_that_fit.result (size_of (length tests) block) k (c.lanes_below.ensures k lt ∙ ap (nat_lt k) size) (c.lanes_that_fit.ensures k) in
-    let words : AreWords c.circuit.result.now tests block None good = subst (λ x. AreWords x tests block None good) (sym c.circuit.ensures.part) c.fault_free.ensures.words in
+    let words : AreWords c.flat.result.now tests block None good = subst (λ x. AreWords x tests block None good) (sym c.flat.ensures.part) c.fault_free.ensures.words in
     let same : r ≡ fault = ap (λ (o : Option Fault). unwrap_or o r) (sym at ∙ c.representative-fault.ensures.representative) in
-    let stirred : HasStirred c.circuit.result.now tests block fault gates = subst (λ x. HasStirred x tests block fault gates) (sym c.circuit.ensures.part) (subst (λ x. HasStirred job.circuit tests block x gates) same all) in
+    let stirred : HasStirred c.flat.result.now tests block fault gates = subst (λ x. HasStirred x tests block fault gates) (sym c.flat.ensures.part) (subst (λ x. HasStirred job.circuit tests block x gates) same all) in
     let le = c.effect-seen.ensures.counted tests block gates words (λ k lt e. ((decides k lt).0 e).0) stirred in
     let before : c.workspace.inside.evaluations ≡ c.args.workspace.now.evaluations = ap (λ x. x.evaluations) c.workspace.view_is in
     omega (arith, le, before)

@@ -24,4 +24,4 @@ returns-clause-words c =
     let within : c.args.block < length c.self.inside.rows.items = omega (arith, c.self.invariant.count, counted, tests) in
     let row = c.self.invariant.fault_free c.args.block c.index.result.now.items (mapped_get (λ row. row.items) c.self.inside.rows.items c.args.block c.index.result.now within c.index.ensures) in
     subst (λ p. AreWords p.circuit p.tests.tests c.args.block None c.as_slice.result.now) view
-    (subst (λ words. AreWords c.self.inside.circuit c.self.inside.tests.tests c.args.block None words) (sym c.as_slice.ensures.value) row.1)
+    (subst (λ words. AreWords c.self.inside.flat c.self.inside.tests.tests c.args.block None words) (sym c.as_slice.ensures.value) row.1)

@@ -1,0 +1,51 @@
+use Rattle.std.proofs.Common.{◌<◌, ◌∙◌, ap, sym, subst, length, arith}
+use Rattle.std.specs.Prelude.{Some, slice_range}
+use Rattle.std.specs.Option.{option_map}
+use Rattle.bench_net.specs.Scan.{names, gate_of}
+use Rattle.block_sim.proofs.Flats.{row_of}
+use Rattle.block_sim.proofs.flat.FlatCircuit.gate_of.Goals as goal
+
+pub offset_bounds-deref-row : goal.offset_bounds-deref-row
+offset_bounds-deref-row c =
+    let own = c.self.inside in
+    let row = row_of own.circuit own.lists.pins.items own.lists.readers.items own.lists.rows.items c.args.signal c.index-row.result.now c.self.invariant
+    (subst (λ x. c.args.signal < length (names x)) (sym c.self.view_is) c.requires) c.index-row.ensures in
+    omega (arith, row.pins_in.0, row.pins_in.1, c.deref.ensures.len)
+
+pub slice_bounds-result-count : goal.slice_bounds-result-count
+slice_bounds-result-count c =
+    let own = c.self.inside in
+    let row = row_of own.circuit own.lists.pins.items own.lists.readers.items own.lists.rows.items c.args.signal c.index-row.result.now c.self.invariant
+    (subst (λ x. c.args.signal < length (names x)) (sym c.self.view_is) c.requires) c.index-row.ensures in
+    row.pins_in.0
+
+pub slice_bounds-result-start : goal.slice_bounds-result-start
+slice_bounds-result-start c =
+    let own = c.self.inside in
+    let row = row_of own.circuit own.lists.pins.items own.lists.readers.items own.lists.rows.items c.args.signal c.index-row.result.now c.self.invariant
+    (subst (λ x. c.args.signal < length (names x)) (sym c.self.view_is) c.requires) c.index-row.ensures in
+    row.pins_in.0
+
+pub slice_bounds-result-end : goal.slice_bounds-result-end
+slice_bounds-result-end c =
+    let own = c.self.inside in
+    let row = row_of own.circuit own.lists.pins.items own.lists.readers.items own.lists.rows.items c.args.signal c.index-row.result.now c.self.invariant
+    (subst (λ x. c.args.signal < length (names x)) (sym c.self.view_is) c.requires) c.index-row.ensures in
+    omega (arith, row.pins_in.1, ap length c.deref.ensures.value)
+
+pub returns-in-Some : goal.returns-in-Some
+returns-in-Some c =
+    let own = c.self.inside in
+    let row = row_of own.circuit own.lists.pins.items own.lists.readers.items own.lists.rows.items c.args.signal c.index-row.result.now c.self.invariant
+    (subst (λ x. c.args.signal < length (names x)) (sym c.self.view_is) c.requires) c.index-row.ensures in
+    ap (λ l. Some (c.in-Some.kind, slice_range l c.index-row.result.now.pins_start c.index-row.result.now.pins_end)) c.deref.ensures.value
+    ∙ (ap (option_map (λ kind. (kind, slice_range own.lists.pins.items c.index-row.result.now.pins_start c.index-row.result.now.pins_end))) (sym c.in-Some.is)
+    ∙ (row.driven ∙ ap (λ x. gate_of x c.args.signal) c.self.view_is))
+
+pub returns-in-None : goal.returns-in-None
+returns-in-None c =
+    let own = c.self.inside in
+    let row = row_of own.circuit own.lists.pins.items own.lists.readers.items own.lists.rows.items c.args.signal c.index-row.result.now c.self.invariant
+    (subst (λ x. c.args.signal < length (names x)) (sym c.self.view_is) c.requires) c.index-row.ensures in
+    ap (option_map (λ kind. (kind, slice_range own.lists.pins.items c.index-row.result.now.pins_start c.index-row.result.now.pins_end))) (sym c.in-None.is)
+    ∙ (row.driven ∙ ap (λ x. gate_of x c.args.signal) c.self.view_is)

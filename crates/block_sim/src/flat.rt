@@ -1,0 +1,216 @@
+//! The circuit in flat arrays, as the simulation reads it: a row for each signal, at the signal's number.
+
+ghost use Rattle.std.specs.Prelude.{◌≡◌, ◌↔◌, ◌<◌, ◌++◌, ℕ, List, IfOk, IsTrue, length};
+ghost use Rattle.std.specs.Option.{option_map};
+ghost use Rattle.bench_net.specs.declared.Kind.{Kind};
+ghost use Rattle.bench_net.specs.Scan.{names, gate_of};
+ghost use Rattle.bench_net.specs.Circuit.{IsCircuit};
+ghost use Rattle.bench_net.specs.Level.{HasLevel};
+ghost use Rattle.block_sim.specs.Events.{IsObserved};
+ghost use Rattle.block_sim.specs.Flat.{AreReaders, HasMore, IsDriver, IsFlat, IsRow};
+
+use bench_net::{Circuit, Kind, Sink};
+use std::alloc::{AllocError, Global};
+use std::marker::Model;
+
+/// A gate that drives a signal: its kind, and the signal that each of its pins reads, in order.
+#[derive(Clone, Copy)]
+pub struct Gate<'a> {
+    pub kind: Kind,
+    pub pins: &'a [u32],
+}
+
+/// A gate that reads a signal, and its level.
+#[derive(Clone, Copy)]
+pub struct Reader {
+    pub gate: u32,
+    pub level: u32,
+}
+
+/// What is known of a signal. The pins of its gate and its readers are parts of the lists of all.
+#[derive(Clone, Copy)]
+struct Row {
+    /// The kind of the gate that drives the signal; `None` for a source.
+    driver: Option<Kind>,
+    observed: bool,
+    level: u32,
+    pins_start: usize,
+    pins_end: usize,
+    readers_start: usize,
+    readers_end: usize,
+}
+
+/// The rows of all signals, with their pins and readers.
+#[derive(Drop)]
+struct Lists {
+    rows: Vec<Row>,
+    pins: Vec<u32>,
+    readers: Vec<Reader>,
+}
+
+/// A circuit with what a simulation asks of its signals in flat arrays.
+#[derive(Drop)]
+pub struct FlatCircuit {
+    circuit: Circuit,
+    lists: Lists,
+}
+
+impl Model for FlatCircuit {
+    ghost use Rattle.std.specs.Prelude.{List};
+    ghost use Rattle.bench_net.specs.Statement.{Statement};
+    ghost use Rattle.block_sim.specs.Flat.{IsFlat};
+
+    ghost Value = { List Statement };
+
+    ghost view = { λ flat. flat.circuit };
+
+    ghost invariant = { λ flat. IsFlat flat.circuit flat.lists.pins.items flat.lists.readers.items flat.lists.rows.items };
+}
+
+impl FlatCircuit {
+    /// The circuit with its rows. It takes a row for each signal and a few numbers for each pin.
+    pub fn new(alloc: Global, circuit: Circuit) -> Result<FlatCircuit, AllocError>
+        ensures { IfOk result (λ flat. flat ≡ circuit) }
+    {
+        let lists = lists_of(alloc, &circuit)?;
+        Ok(FlatCircuit { circuit, lists })
+    }
+
+    /// The circuit.
+    #[inline(always)]
+    pub fn circuit(&self) -> &Circuit
+        ensures { result.now ≡ self.now }
+    {
+        &self.circuit
+    }
+
+    /// The gate that drives a signal; `None` for a source.
+    #[inline(always)]
+    pub fn gate_of(&self, signal: u32) -> Option<Gate<'_>>
+        requires { signal < length (names self.now) }
+        ensures { option_map {U = Kind × List ℕ} (λ g. (g.kind, g.pins.now)) result ≡ gate_of self.now signal }
+    {
+        let row = &self.lists.rows[signal as usize];
+        match row.driver {
+            Some(kind) => Some(Gate {
+                kind,
+                pins: &self.lists.pins[row.pins_start..row.pins_end],
+            }),
+            None => None,
+        }
+    }
+
+    /// The gates that read a signal. One that reads it twice may stand there twice.
+    #[inline(always)]
+    pub fn readers_of(&self, signal: u32) -> &[Reader]
+        requires { signal < length (names self.now) }
+        ensures { AreReaders self.now signal result.now }
+    {
+        let row = &self.lists.rows[signal as usize];
+        &self.lists.readers[row.readers_start..row.readers_end]
+    }
+
+    /// Whether an observer observes a signal.
+    #[inline(always)]
+    pub fn is_observed(&self, signal: u32) -> bool
+        requires { signal < length (names self.now) }
+        ensures { IsTrue result ↔ IsObserved self.now signal }
+    {
+        self.lists.rows[signal as usize].observed
+    }
+
+    /// The level of a signal.
+    #[inline(always)]
+    pub fn level_of(&self, signal: u32) -> u32
+        requires { signal < length (names self.now) }
+        ensures { HasLevel self.now signal result }
+    {
+        self.lists.rows[signal as usize].level
+    }
+}
+
+/// The lists of a circuit.
+fn lists_of(alloc: Global, circuit: &Circuit) -> Result<Lists, AllocError>
+    ensures { IfOk result (λ lists. IsFlat circuit.now lists.pins.items lists.readers.items lists.rows.items) }
+{
+    let signals = circuit.signals();
+    let mut rows = Vec::with_capacity(alloc, signals as usize)?;
+    let mut pins = Vec::new(alloc);
+    let mut readers = Vec::new(alloc);
+    for signal in 0..signals {
+        let row = add_row(circuit, signal, &mut pins, &mut readers)?;
+        rows.push(row)?;
+    }
+    Ok(Lists {
+        rows,
+        pins,
+        readers,
+    })
+}
+
+/// The row of a signal, whose pins and readers are added behind the others.
+fn add_row(
+    circuit: &Circuit,
+    signal: u32,
+    pins: &mut Vec<u32>,
+    readers: &mut Vec<Reader>,
+) -> Result<Row, AllocError>
+    requires circuit { IsCircuit circuit.now }
+    requires signal { signal < length (names circuit.now) }
+    ensures row { IfOk result (IsRow circuit.now pins.new.items readers.new.items signal) }
+    ensures pins { IfOk result (λ _. HasMore pins.old.items pins.new.items) }
+    ensures readers { IfOk result (λ _. HasMore readers.old.items readers.new.items) }
+{
+    let pins_start = pins.len();
+    let driver = add_pins(circuit, signal, pins)?;
+    let readers_start = readers.len();
+    let observed = add_readers(circuit, signal, readers)?;
+    Ok(Row {
+        driver,
+        observed,
+        level: circuit.level_of(signal),
+        pins_start,
+        pins_end: pins.len(),
+        readers_start,
+        readers_end: readers.len(),
+    })
+}
+
+/// The kind of the gate that drives a signal. The signals that its pins read are added behind the others.
+fn add_pins(circuit: &Circuit, signal: u32, pins: &mut Vec<u32>) -> Result<Option<Kind>, AllocError>
+    requires { signal < length (names circuit.now) }
+    ensures { IfOk result (IsDriver circuit.now signal pins.old.items pins.new.items) }
+{
+    match circuit.gate_of(signal) {
+        Some(gate) => {
+            pins.extend_from_slice(gate.pins.as_slice())?;
+            Ok(Some(gate.kind))
+        }
+        None => Ok(None),
+    }
+}
+
+/// Whether an observer observes a signal. The gates that read it are added behind the others.
+fn add_readers(
+    circuit: &Circuit,
+    signal: u32,
+    readers: &mut Vec<Reader>,
+) -> Result<bool, AllocError>
+    requires circuit { IsCircuit circuit.now }
+    requires signal { signal < length (names circuit.now) }
+    ensures readers { IfOk result (λ _. (more : List Reader) × (readers.new.items ≡ readers.old.items ++ more) × AreReaders circuit.now signal more) }
+    ensures observed { IfOk result (λ observed. IsTrue observed ↔ IsObserved circuit.now signal) }
+{
+    let mut observed = false;
+    for sink in circuit.sinks_of(signal) {
+        match *sink {
+            Sink::Pin { gate, pin: _ } => {
+                let level = circuit.level_of(gate);
+                readers.push(Reader { gate, level })?;
+            }
+            Sink::Data { .. } => observed = true,
+            Sink::Out { .. } => observed = true,
+        }
+    }
+    Ok(observed)
+}

@@ -1,0 +1,13 @@
+//! Tests of calls for which memory or threads are refused, and of calls that go on where none is left.
+#![tactic(auto)]
+
+#[cfg(test)]
+mod ballast;
+#[cfg(test)]
+mod parts;
+#[cfg(test)]
+mod runs;
+#[cfg(test)]
+mod sweep;
+#[cfg(test)]
+mod texts;

@@ -1,0 +1,209 @@
+//! The calls that make the parts of a job, and what a run of it stands on.
+
+use crate::sweep::{Outcome, Trial, answered, refused, sweep};
+use bench_net::{BenchFault, read_bench};
+use block_sim::{Job, JobFault, Workspace};
+use fault_ledger::{Call, Finish, Ledger, LedgerFault, Shape, SharedLedger, replay};
+use fault_model::{Model, collapse, list_faults};
+use patterns::{OrderFault, TestFault, read_order, read_tests};
+use report::{RunFault, SimFault, job_of};
+use std::alloc::{AllocError, Global};
+use std::test::Fail;
+
+/// The smallest circuit of the ISCAS 85 benchmarks: 34 stuck-at faults in 22 classes.
+pub(crate) const C17: &[u8] =
+    b"INPUT(G1)\nINPUT(G2)\nINPUT(G3)\nINPUT(G6)\nINPUT(G7)\nOUTPUT(G22)\nOUTPUT(G23)\nG10 = NAND(G1, G3)\nG11 = NAND(G3, G6)\nG16 = NAND(G2, G11)\nG19 = NAND(G11, G7)\nG22 = NAND(G10, G16)\nG23 = NAND(G16, G19)\n";
+
+/// Moves of two workers.
+pub(crate) const ORDER: &[u8] = b"1\n1\n0\n";
+
+/// A ledger of C17 with 65 tests.
+const SHAPE: Shape = Shape {
+    classes: 22,
+    tests: 65,
+    workers: 2,
+};
+
+/// 65 tests of C17: 64 of them are all ones, and the last is all zeros.
+pub(crate) fn tests_of_c17(alloc: Global) -> Result<Vec<u8>, AllocError> {
+    let mut text = Vec::new(alloc);
+    for _ in 0..64 {
+        text.extend_from_slice(b"11111\n")?;
+    }
+    text.extend_from_slice(b"00000\n")?;
+    Ok(text)
+}
+
+/// Whether a text call was refused for want of memory, or of a thread.
+pub(crate) fn is_want(fault: SimFault) -> bool {
+    match fault {
+        SimFault::Memory => true,
+        SimFault::Bench(fault) => fault == BenchFault::Memory,
+        SimFault::Tests(fault) => fault == TestFault::Memory,
+        SimFault::Order(fault) => fault == OrderFault::Memory,
+        SimFault::Job(fault) => fault == JobFault::Memory,
+        SimFault::Run(fault) => fault == RunFault::Memory || fault == RunFault::Threads,
+        SimFault::Report(_) => false,
+    }
+}
+
+/// A part of a job.
+#[derive(Clone, Copy, Debug)]
+enum Part {
+    Circuit,
+    Faults,
+    Classes,
+    Tests,
+    Whole,
+}
+
+/// A part that is made, and the job that has it already.
+#[derive(Drop)]
+struct Making<'a> {
+    part: Part,
+    job: &'a Job,
+    tests: &'a [u8],
+}
+
+impl Trial for Making<'_> {
+    fn name(&self) -> &str {
+        match self.part {
+            Part::Circuit => "read_bench",
+            Part::Faults => "list_faults",
+            Part::Classes => "collapse",
+            Part::Tests => "read_tests",
+            Part::Whole => "job_of",
+        }
+    }
+
+    fn attempt(&self, alloc: Global) -> Outcome {
+        match self.part {
+            Part::Circuit => match read_bench(alloc, C17) {
+                Ok(circuit) => answered(circuit.signals() == 11),
+                Err(fault) => refused(fault == BenchFault::Memory),
+            },
+            Part::Faults => match list_faults(alloc, self.job.circuit()) {
+                Ok(faults) => answered(faults.count() == 34),
+                Err(AllocError) => Outcome::Refused,
+            },
+            Part::Classes => match collapse(alloc, self.job.circuit(), self.job.faults()) {
+                Ok(classes) => answered(classes.count() == 22),
+                Err(AllocError) => Outcome::Refused,
+            },
+            Part::Tests => match read_tests(alloc, self.tests, 5) {
+                Ok(tests) => answered(tests.count() == 65),
+                Err(fault) => refused(fault == TestFault::Memory),
+            },
+            Part::Whole => match job_of(alloc, Model::StuckAt, C17, self.tests) {
+                Ok(job) => answered(job.classes().count() == 22),
+                Err(fault) => refused(is_want(fault)),
+            },
+        }
+    }
+}
+
+/// What a run stands on, beside its job.
+#[derive(Clone, Copy, Debug)]
+enum Means {
+    Order,
+    Workspace,
+    Ledger,
+    Replay,
+    SharedLedger,
+}
+
+/// A means of a run that is made for a job.
+#[derive(Drop)]
+struct Setting<'a> {
+    means: Means,
+    job: &'a Job,
+}
+
+impl Trial for Setting<'_> {
+    fn name(&self) -> &str {
+        match self.means {
+            Means::Order => "read_order",
+            Means::Workspace => "Workspace::new",
+            Means::Ledger => "Ledger::new",
+            Means::Replay => "replay",
+            Means::SharedLedger => "SharedLedger::new",
+        }
+    }
+
+    fn attempt(&self, alloc: Global) -> Outcome {
+        match self.means {
+            Means::Order => match read_order(alloc, ORDER, 2) {
+                Ok(moves) => answered(moves.len() == 3),
+                Err(fault) => refused(fault == OrderFault::Memory),
+            },
+            Means::Workspace => match Workspace::new(alloc, self.job) {
+                Ok(workspace) => answered(workspace.fits(self.job)),
+                Err(AllocError) => Outcome::Refused,
+            },
+            Means::Ledger => match Ledger::new(alloc, 22, 65, 2) {
+                Ok(ledger) => answered(ledger.shape() == SHAPE),
+                Err(fault) => refused(fault == LedgerFault::Memory),
+            },
+            Means::Replay => match replay(alloc, SHAPE, &[Call::Claim(1), Call::Finished]) {
+                Ok((ledger, replies)) => {
+                    answered(ledger.held(1) == Some((0, 0)) && replies.len() == 2)
+                }
+                Err(fault) => refused(fault == LedgerFault::Memory),
+            },
+            Means::SharedLedger => share(alloc),
+        }
+    }
+}
+
+/// A shared ledger that is made and closed again.
+fn share(alloc: Global) -> Outcome {
+    match SharedLedger::new(alloc, 22, 65, 2) {
+        Ok((ledger, seats)) => {
+            if seats.len() != 2 {
+                return Outcome::Wrong;
+            }
+            match ledger.close(alloc, seats) {
+                Ok(closed) => answered(closed.finished() == Finish::Waiting { class: 0, block: 0 }),
+                Err(fault) => refused(fault == LedgerFault::Memory),
+            }
+        }
+        Err(fault) => refused(fault == LedgerFault::Memory),
+    }
+}
+
+#[test]
+fn parts_of_a_job(rt: HostRuntime) -> Result<(), Fail> {
+    let tests = tests_of_c17(rt.alloc())?;
+    let job = job_of(rt.alloc(), Model::StuckAt, C17, tests.as_slice())?;
+    for part in [
+        Part::Circuit,
+        Part::Faults,
+        Part::Classes,
+        Part::Tests,
+        Part::Whole,
+    ] {
+        let making = Making {
+            part,
+            job: &job,
+            tests: tests.as_slice(),
+        };
+        sweep(&rt, rt.alloc(), &making)?;
+    }
+    Ok(())
+}
+
+#[test]
+fn means_of_a_run(rt: HostRuntime) -> Result<(), Fail> {
+    let tests = tests_of_c17(rt.alloc())?;
+    let job = job_of(rt.alloc(), Model::StuckAt, C17, tests.as_slice())?;
+    for means in [
+        Means::Order,
+        Means::Workspace,
+        Means::Ledger,
+        Means::Replay,
+        Means::SharedLedger,
+    ] {
+        sweep(&rt, rt.alloc(), &Setting { means, job: &job })?;
+    }
+    Ok(())
+}

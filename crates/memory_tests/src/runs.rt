@@ -1,0 +1,79 @@
+//! Runs of a job, in one thread and in threads.
+
+use crate::ballast::Ballast;
+use crate::parts::{C17, tests_of_c17};
+use crate::sweep::{Outcome, Trial, answered, refused, sweep};
+use block_sim::Job;
+use fault_model::Model;
+use report::{RunFault, job_of};
+use std::alloc::Global;
+use std::sync::Wait;
+use std::test::Fail;
+use std::thread::Threads;
+use workers::{OpenGate, Verdicts, run, run_schedule};
+
+/// Whether these are the verdicts of C17, of whose faults two tests detect 19.
+fn is_right(verdicts: &Verdicts) -> bool {
+    verdicts.detected() == 19 && verdicts.total() == 34
+}
+
+/// A run of one thread.
+#[derive(Drop)]
+struct Scheduled<'a> {
+    job: &'a Job,
+}
+
+impl Trial for Scheduled<'_> {
+    fn name(&self) -> &str {
+        "run_schedule"
+    }
+
+    fn attempt(&self, alloc: Global) -> Outcome {
+        match run_schedule(alloc, self.job, 2, &[1, 1, 0]) {
+            Ok(verdicts) => answered(is_right(&verdicts)),
+            Err(fault) => refused(fault == RunFault::Memory),
+        }
+    }
+}
+
+/// A run of two threads.
+#[derive(Drop)]
+struct Threaded<'a, R> {
+    rt: &'a R,
+    job: &'a Job,
+}
+
+impl<R: Threads + Wait> Trial for Threaded<'_, R> {
+    fn name(&self) -> &str {
+        "run"
+    }
+
+    fn attempt(&self, alloc: Global) -> Outcome {
+        match run(self.rt, alloc, self.job, 2, &OpenGate) {
+            Ok(verdicts) => answered(is_right(&verdicts)),
+            Err(fault) => refused(fault == RunFault::Memory || fault == RunFault::Threads),
+        }
+    }
+}
+
+#[test]
+fn runs_of_a_job(rt: HostRuntime) -> Result<(), Fail> {
+    let tests = tests_of_c17(rt.alloc())?;
+    let job = job_of(rt.alloc(), Model::StuckAt, C17, tests.as_slice())?;
+    sweep(&rt, rt.alloc(), &Scheduled { job: &job })?;
+    sweep(&rt, rt.alloc(), &Threaded { rt: &rt, job: &job })
+}
+
+#[test]
+fn starts_of_threads(rt: HostRuntime) -> Result<(), Fail> {
+    let tests = tests_of_c17(rt.alloc())?;
+    let job = job_of(rt.alloc(), Model::StuckAt, C17, tests.as_slice())?;
+    // No stack of a thread finds room, but for those that are kept from threads that ended.
+    let ballast = Ballast::large(rt.alloc(), 20)?;
+    let refused = run(&rt, rt.alloc(), &job, 64, &OpenGate).err();
+    assert_eq!(rt; refused, Some(RunFault::Threads));
+    drop(ballast);
+    let verdicts = run(&rt, rt.alloc(), &job, 64, &OpenGate)?;
+    assert!(rt; is_right(&verdicts));
+    Ok(())
+}

@@ -1,0 +1,123 @@
+//! The text calls: where they are refused, nothing is written.
+
+ghost use Rattle.std.specs.Prelude.{◌≤◌};
+
+use crate::parts::{C17, ORDER, is_want, tests_of_c17};
+use crate::sweep::{Outcome, Trial, answered, refused, sweep};
+use fault_model::Model;
+use report::{
+    Out, OutFailed, SimFault, faults_text, listing_bytes, report_bytes, schedule_text,
+    simulate_text,
+};
+use std::alloc::Global;
+use std::sync::Wait;
+use std::test::Fail;
+use std::thread::Threads;
+
+/// An output of 2,048 bytes that takes no memory.
+#[derive(Drop)]
+pub(crate) struct Screen {
+    bytes: [u8; 2048],
+    len: usize,
+    fails: u64,
+    ghost in_room: { len ≤ 2048 },
+}
+
+impl Screen {
+    pub(crate) fn new() -> Screen {
+        Screen {
+            bytes: [0; 2048],
+            len: 0,
+            fails: 0,
+        }
+    }
+
+    pub(crate) fn text(&self) -> &[u8] {
+        &self.bytes[..self.len]
+    }
+}
+
+impl Out for Screen {
+    ghost use Rattle.std.specs.Prelude.{None};
+
+    ghost seen = { λ s. record { bytes = None; fails = s.fails } };
+
+    fn put(&mut self, piece: &[u8]) -> Result<usize, OutFailed> {
+        let taken = piece.len().min(2048 - self.len);
+        if taken == 0 && !piece.is_empty() {
+            self.fails = self.fails.saturating_add(1);
+            return Err(OutFailed);
+        }
+        let end = self.len + taken;
+        self.bytes[self.len..end].copy_from_slice(&piece[..taken]);
+        self.len = end;
+        Ok(taken)
+    }
+}
+
+/// A text call.
+#[derive(Clone, Copy, Debug)]
+enum TextCall {
+    Simulate,
+    Schedule,
+    Faults,
+}
+
+/// A text call on C17, and what it writes.
+#[derive(Drop)]
+struct Written<'a, R> {
+    rt: &'a R,
+    call: TextCall,
+    tests: &'a [u8],
+    text: &'a [u8],
+}
+
+impl<R: Threads + Wait> Written<'_, R> {
+    fn write(&self, alloc: Global, screen: &mut Screen) -> Result<(), SimFault> {
+        match self.call {
+            TextCall::Simulate => simulate_text(self.rt, alloc, C17, self.tests, 2, true, screen),
+            TextCall::Schedule => schedule_text(alloc, C17, self.tests, ORDER, 2, true, screen),
+            TextCall::Faults => faults_text(alloc, C17, screen),
+        }
+    }
+}
+
+impl<R: Threads + Wait> Trial for Written<'_, R> {
+    fn name(&self) -> &str {
+        match self.call {
+            TextCall::Simulate => "simulate_text",
+            TextCall::Schedule => "schedule_text",
+            TextCall::Faults => "faults_text",
+        }
+    }
+
+    fn attempt(&self, alloc: Global) -> Outcome {
+        let mut screen = Screen::new();
+        match self.write(alloc, &mut screen) {
+            Ok(()) => answered(screen.text() == self.text),
+            Err(fault) => refused(screen.text().is_empty() && is_want(fault)),
+        }
+    }
+}
+
+#[test]
+fn nothing_is_written_without_memory(rt: HostRuntime) -> Result<(), Fail> {
+    let tests = tests_of_c17(rt.alloc())?;
+    let tests = tests.as_slice();
+    let report = report_bytes(&rt, rt.alloc(), Model::StuckAt, C17, tests, 1, true)?;
+    let listing = listing_bytes(rt.alloc(), Model::StuckAt, C17)?;
+    for (call, text) in [
+        (TextCall::Simulate, report.as_slice()),
+        (TextCall::Schedule, report.as_slice()),
+        (TextCall::Faults, listing.as_slice()),
+    ] {
+        let written = Written {
+            rt: &rt,
+            call,
+            tests,
+            text,
+        };
+        sweep(&rt, rt.alloc(), &written)?;
+    }
+    Ok(())
+}
