@@ -19,15 +19,13 @@ mod worker;
 ghost use Rattle.std.specs.Prelude.{◌<◌, ◌≤◌, IfErr, OnOk};
 ghost use Rattle.workers.specs.Refused.{IsWorkersFault};
 
+pub use fault_ledger::MAX_WORKERS;
 pub use schedule::run_schedule;
 use std::alloc::{AllocError, AllocFailed};
 use thiserror::Error;
 pub use threads::run;
 pub use verdicts::Verdicts;
 pub use worker::{End, Gate, OpenGate, work};
-
-/// The most workers of a run.
-const MAX_WORKERS: u32 = 64;
 
 /// Why a run gave no verdicts.
 #[derive(Clone, Copy, Debug, PartialEq, Eq, Error)]
