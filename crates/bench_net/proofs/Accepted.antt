@@ -1,7 +1,7 @@
 -- Numbered statements with levels are a circuit, and what its tables need.
-use Rattle.std.proofs.Common.{◌≡◌, ◌≢◌, ◌<◌, ℕ, zero, suc, sym, ◌∙◌, ap, subst, refl, List, [], ◌∷◌, ◌++◌, map, length, arith, inl, inr}
+use Rattle.std.proofs.Common.{◌≡◌, ◌≢◌, ℕ, sym, ◌∙◌, ap, subst, refl, List, [], ◌∷◌, length, arith}
 use Rattle.std.specs.Prelude.{slice_index, Contains, AllPairs, flat_map}
-use Rattle.std.proofs.lemmas.List.{length-map, map-append}
+use Rattle.std.proofs.lemmas.List.{length-map}
 use Rattle.std.proofs.lemmas.Option.{slice_get_within}
 use Rattle.bench_net.specs.declared.line.Line.{Line}
 use Rattle.bench_net.specs.declared.line.Line.TheVariants as line
@@ -16,16 +16,10 @@ use Rattle.bench_net.proofs.Counted.{few_lines, pins_read, pin_count}
 use Rattle.bench_net.proofs.Named.{line_at, gate_at, definition_count, at_among}
 use Rattle.bench_net.proofs.Calls.{defined_in}
 use Rattle.bench_net.proofs.NamedLevels.{level_by, levels_by, numbering_by, named_among}
-
-pub reads_are : (ns : List Name) (lines : List Line) → flat_map read (statements_of ns lines) ≡ map (name_at ns) (flat_map read_numbers lines)
-reads_are ns [] = refl
-reads_are ns (line.Input s ∷ lines) = reads_are ns lines
-reads_are ns (line.Output s ∷ lines) = ap (λ xs. name_at ns s ∷ xs) (reads_are ns lines)
-reads_are ns (line.Gate s g ∷ lines) = ap (λ xs. map (name_at ns) g.pins.items ++ xs) (reads_are ns lines) ∙ sym (map-append (name_at ns) g.pins.items (flat_map read_numbers lines))
-reads_are ns (line.Dff q d ∷ lines) = ap (λ xs. name_at ns d ∷ xs) (reads_are ns lines)
+use Rattle.bench_net.proofs.Numbering.{reads_numbers}
 
 pub read_count : (ns : List Name) (lines : List Line) → length (flat_map read_numbers lines) ≡ sink_count (statements_of ns lines)
-read_count ns lines = sym (ap length (reads_are ns lines) ∙ length-map (flat_map read_numbers lines) (name_at ns))
+read_count ns lines = sym (ap length (reads_numbers ns lines) ∙ length-map (flat_map read_numbers lines) (name_at ns))
 
 pub table_lines : (ns : List Name) (lines : List Line) (at : List ℕ) → AreStatements ns lines at → AreTableLines lines (length ns)
 table_lines ns lines at are = record {
@@ -67,6 +61,6 @@ circuit ns lines at places levels are defs level some = record {
 
     defined : (n : Name) → Contains (flat_map read (statements_of ns lines)) n → Contains (names (statements_of ns lines)) n
     defined n c =
-        let found = named_among ns (flat_map read_numbers lines) n (subst (Among n) (reads_are ns lines) (among (flat_map read (statements_of ns lines)) n c)) in
+        let found = named_among ns (flat_map read_numbers lines) n (subst (Among n) (reads_numbers ns lines) (among (flat_map read (statements_of ns lines)) n c)) in
         let lt = are.numbered.in_range found.0 (contained (flat_map read_numbers lines) found.0 found.1) in
         subst (λ xs. Contains xs n) (sym are.numbered.names_are) (contained ns n (subst (λ x. Among x ns) found.2 (at_among ns found.0 lt)))

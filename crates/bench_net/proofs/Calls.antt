@@ -1,5 +1,5 @@
 -- What the tables of a circuit say of its statements.
-use Rattle.std.proofs.Common.{◌≡◌, ◌≢◌, ◌<◌, ◌≤◌, ◌+◌, ℕ, zero, suc, sym, ◌∙◌, ap, refl, List, [], ◌∷◌, ◌++◌, map, length, get_or, filter, arith, inl, inr, length-append}
+use Rattle.std.proofs.Common.{◌≡◌, ◌≢◌, ◌<◌, ◌≤◌, ◌+◌, ℕ, sym, ◌∙◌, ap, refl, List, [], ◌∷◌, map, length, get_or, filter, arith, inl, inr, length-append}
 use Rattle.std.specs.Prelude.{Option, Some, None, slice_get, slice_index, flat_map, option_map, IfSome, IfNone}
 use Rattle.std.specs.List.{filter_map}
 use Rattle.std.proofs.lemmas.List.{length-map, get_or_read}

@@ -189,7 +189,7 @@ in_map ns [] n within a = absurd a
 in_map ns (k ∷ numbers) n within (inl e) = subst (Contains ns) e (Contains-get_or ns k [] (All-head (λ m. m < length ns) k numbers within))
 in_map ns (k ∷ numbers) n within (inr a) = in_map ns numbers n (All-tail (λ m. m < length ns) k numbers within) a
 
-reads_numbers : (ns : List Name) (lines : List Line) → flat_map read (statements_of ns lines) ≡ map (name_at ns) (flat_map read_numbers lines)
+pub reads_numbers : (ns : List Name) (lines : List Line) → flat_map read (statements_of ns lines) ≡ map (name_at ns) (flat_map read_numbers lines)
 reads_numbers ns [] = refl
 reads_numbers ns (l ∷ lines) =
     (λ j. reads_of ns l j ++ reads_numbers ns lines j) ∙ sym (map-append (name_at ns) (read_numbers l) (flat_map read_numbers lines))

@@ -6,7 +6,6 @@ use Rattle.bench_net.specs.Reading.{statements}
 use Rattle.bench_net.specs.Refusal.{at_line}
 use Rattle.bench_net.specs.Entries.{Entry, numbered_from, stated_by, AreDistinct}
 use Rattle.lists.proofs.Members.{Among, among, contained}
-use Rattle.lists.proofs.Places.{at_place}
 
 -- each number is above those before it, and the first is k or more
 abbrev pub Rise : ℕ → List Entry → Type 0

@@ -1,9 +1,9 @@
 -- How many gates are still to be evaluated at most: those that wait, and those that lie above the level.
-use Rattle.std.proofs.Common.{◌≡◌, ◌≢◌, ◌<◌, ◌≤◌, ℕ, suc, ◌+◌, refl, sym, ◌∙◌, ap, Bool, true, false, not, ◌||◌, cond, List, [], ◌∷◌, length, arith, set, inl, inr, ◌⊎◌}
+use Rattle.std.proofs.Common.{◌≡◌, ◌≢◌, ◌<◌, ◌≤◌, ℕ, suc, ◌+◌, refl, sym, ◌∙◌, ap, Bool, true, false, not, cond, List, [], ◌∷◌, length, arith, set, inl, inr, ◌⊎◌}
 use Rattle.std.specs.Prelude.{Contains, count_by, slice_index_or, nat_lt, ◌==◌}
 use Rattle.std.proofs.lemmas.List.{get_or-set_same, get_or-set_other}
 use Rattle.std.proofs.lemmas.List.Sums.{sum_by-cons, sum_by-set}
-use Rattle.std.proofs.lemmas.Bool.{cases_eq, false≢true, ltb-true, lt-ltb, le-ltb, eq-eqb, eqb-true}
+use Rattle.std.proofs.lemmas.Bool.{cases_eq, false≢true, ltb-true, lt-ltb, le-ltb, eq-eqb, eqb-true, or_left, or_right, or_cases}
 use Rattle.bench_net.specs.Statement.{Statement}
 use Rattle.lists.proofs.Members.{Among, among}
 use Rattle.block_sim.specs.Events.{Reads, AreWoken}
@@ -37,18 +37,6 @@ count_less p q g (x ∷ xs) h is isnt (inl e) =
 count_less p q g (x ∷ xs) h is isnt (inr a) =
     let m = count_cons p x xs in let n = count_cons q x xs in let w = weight_le (p x) (q x) (h x) in let rest = count_less p q g xs h is isnt a in
     omega (arith, m, n, w, rest)
-
--- ---- the gates ahead
-or_cases : (a b : Bool) → (a || b) ≡ true → (a ≡ true) ⊎ (b ≡ true)
-or_cases true b e = inl refl
-or_cases false b e = inr e
-
-or_left : (a b : Bool) → a ≡ true → (a || b) ≡ true
-or_left a b e = rw e refl
-
-or_right : (a b : Bool) → b ≡ true → (a || b) ≡ true
-or_right true b e = refl
-or_right false b e = e
 
 waits_true : (x : ℕ) → x ≢ 0 → not (x == 0) ≡ true
 waits_true x ne = go (x == 0) refl

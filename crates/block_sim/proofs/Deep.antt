@@ -1,8 +1,8 @@
 -- Each level from 1 up to a signal's is that of some signal, so a level is at most the number of signals.
-use Rattle.std.proofs.Common.{◌≡◌, ◌<◌, ◌≤◌, ℕ, zero, suc, ◌+◌, ◌-◌, refl, sym, ◌∙◌, Bool, true, false, ◌||◌, List, [], ◌∷◌, length, map, max, arith, inl, inr, ◌⊎◌, eq-eqb}
+use Rattle.std.proofs.Common.{◌≡◌, ◌<◌, ◌≤◌, ℕ, zero, suc, ◌+◌, ◌-◌, refl, sym, ◌∙◌, true, List, [], ◌∷◌, length, map, max, arith, inl, inr, ◌⊎◌, eq-eqb}
 use Rattle.std.specs.Prelude.{fold, ◌==◌}
 use Rattle.std.specs.List.{list_any}
-use Rattle.std.proofs.lemmas.Bool.{cases_lt}
+use Rattle.std.proofs.lemmas.Bool.{cases_lt, or_left, or_right}
 use Rattle.std.proofs.lemmas.List.{length-map}
 use Rattle.std.proofs.lemmas.Map.Steps.{le-length_from_below}
 use Rattle.bench_net.specs.Statement.{Name, Statement, Gate}
@@ -13,13 +13,6 @@ use Rattle.lists.proofs.Members.{Among, among, contained, among_left, among_righ
 use Rattle.lists.proofs.Places.{at_place}
 use Rattle.bench_net.proofs.SignalsDefined.{read_named}
 use Rattle.fault_model.proofs.Unique.{Driven, driven}
-
-or_left : (a b : Bool) → a ≡ true → (a || b) ≡ true
-or_left a b e = rw e refl
-
-or_right : (a b : Bool) → b ≡ true → (a || b) ≡ true
-or_right true b e = refl
-or_right false b e = e
 
 any_of : (xs : List ℕ) (q : ℕ) → Among q xs → list_any (λ x. q == x) xs ≡ true
 any_of [] q a = absurd a

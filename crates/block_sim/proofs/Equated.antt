@@ -18,6 +18,7 @@ use Rattle.fault_model.proofs.Unique.{pins_agree}
 use Rattle.fault_model.proofs.Listed.{under_other}
 use Rattle.block_sim.specs.Words.{lane, overlaid, pin_bits}
 use Rattle.block_sim.specs.Events.{bits_of, HasEquation, Reads, IsElsewhere}
+use Rattle.block_sim.proofs.Equations.{nothing}
 
 module _ (c : List Statement) (t : Test) (f : Option Fault) (v : Name → Bool) where
   pub each_equation : Solves c t f v → (s : ℕ) → HasEquation c t f v s
@@ -70,10 +71,6 @@ equation_kept c t f good delta g diff s k ne off =
     equation_same c t f (bits_of c good delta k) (bits_of c good (set delta g diff) k) s
     (λ n number. word_other good delta g diff (signal c n) k (λ e. ne (sym number ∙ e)))
     (λ n a kind args number at h. word_other good delta g diff (signal c a) k (λ e. off (record { name = n; kind = kind; args = args; read = a; gate = at; number = number; reads = h; of = e })))
-
--- ---- the gate itself
-nothing : {X : Type 0} (x : X) → None ≡ Some x → ⊥
-nothing x e = cc
 
 pub gate_named : (c : List Statement) (n : Name) (kind : Kind) (args : List Name) (g : ℕ) → IsWellFormed c → signal c n ≡ g → Contains c (Gate n kind args)
     → gate_of c g ≡ Some (kind, map (signal c) args)

@@ -20,7 +20,7 @@ use Rattle.patterns.specs.Tests.{IsWord, as_number, bit}
 use Rattle.block_sim.specs.Words.{lane, pin_bits, IsSignalWord}
 use Rattle.block_sim.proofs.Bridge.{pins_named}
 
-nothing : {X : Type 0} (x : X) → None ≡ Some x → ⊥
+pub nothing : {X : Type 0} (x : X) → None ≡ Some x → ⊥
 nothing x e = cc
 
 -- the gate whose signal has this number

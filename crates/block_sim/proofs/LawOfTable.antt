@@ -1,15 +1,14 @@
 -- The law of the table: over the true outcomes, the least test of a class is the first test of each of its faults.
-use Rattle.std.proofs.Common.{◌≡◌, ◌<◌, ◌≤◌, ℕ, zero, suc, ◌+◌, ◌*◌, ◌-◌, refl, sym, subst, true, List, ◌∷◌, length, arith, inl, inr, ◌⊎◌}
-use Rattle.std.specs.Prelude.{Option, Some, None, map, slice_get, is_none}
+use Rattle.std.proofs.Common.{◌≡◌, ◌<◌, ◌≤◌, ℕ, zero, suc, ◌+◌, ◌*◌, ◌-◌, sym, subst, true, List, ◌∷◌, length, arith, inl, inr, ◌⊎◌}
+use Rattle.std.specs.Prelude.{Option, Some, None, map}
 use Rattle.std.proofs.lemmas.Bool.{cases_lt}
 use Rattle.bench_net.specs.Statement.{Statement}
 use Rattle.bench_net.specs.Circuit.{IsWellFormed, HaveArities}
-use Rattle.lists.proofs.Members.{contained, filtered_from}
-use Rattle.lists.proofs.Places.{at_place, place_within}
+use Rattle.lists.proofs.Places.{place_within}
 use Rattle.fault_model.specs.declared.Model.{Model}
 use Rattle.fault_model.specs.Fault.{Fault, faults}
 use Rattle.fault_model.specs.Solution.{Test}
-use Rattle.fault_model.specs.Collapse.{next, here, representatives, IsClassOf, AreEquivalent}
+use Rattle.fault_model.specs.Collapse.{representatives, IsClassOf, AreEquivalent}
 use Rattle.fault_model.specs.Detection.{DetectsAt}
 use Rattle.fault_model.proofs.LookBack.{classes_detected_same}
 use Rattle.patterns.specs.declared.Outcome.{Outcome}
@@ -17,16 +16,7 @@ use Rattle.patterns.specs.declared.Outcome.TheVariants.{Clear, Hit}
 use Rattle.patterns.specs.Tests.{blocks, size_of}
 use Rattle.patterns.specs.Least.{Table, from_up, first_hit, least}
 use Rattle.block_sim.specs.First.{IsFirst, IsOutcome, IsTrueOutcome, IsTrueTable, LeastIsFirst}
-
--- a representative's class is its own place
-representative_class : (m : Model) (c : List Statement) (r : Fault) (class : ℕ) → slice_get (representatives m c) class ≡ Some r → IsClassOf m c r class
-representative_class m c r class at =
-    let p = filtered_from (λ f. is_none (next c f)) (faults m c) r (at_place (representatives m c) class r at) in
-    (r, contained (faults m c) r p.0, (here, none (next c r) p.1), at)
-  where
-    none : (o : Option Fault) → is_none o ≡ true → o ≡ None
-    none None e = refl
-    none (Some g) e = cc
+use Rattle.fault_model.proofs.ClassLaw.{own_class}
 
 -- a fault is detected by the same tests as the representative of its class, so what is true of that on a block is true of it
 outcome_too : (c : List Statement) (tests : List Test) (f r : Fault) (block : ℕ) (o : Outcome) → ((t : ℕ) → DetectsAt c tests f t → DetectsAt c tests r t)
@@ -41,7 +31,7 @@ true_of_class m c tests f class block o well arities of h =
     (λ t. (classes_detected_same c well arities f h.0 tests t both).1) h.2
   where
     both : AreEquivalent c f h.0
-    both = (m, class, of, representative_class m c h.0 class h.1)
+    both = (m, class, of, own_class m c h.0 class h.1)
 
 -- the first test from a block on that detects a fault
 abbrev IsFirstFrom : List Statement → List Test → Fault → ℕ → Option ℕ → Type 0

@@ -14,6 +14,7 @@ use Rattle.bench_net.proofs.Numbers.{name_of-signal}
 use Rattle.lists.proofs.Places.{place_within}
 use Rattle.bench_net.proofs.SignalsDefined.{defined_among, read_named, signal_apart}
 use Rattle.fault_model.proofs.Unique.{Driven, driven}
+use Rattle.fault_model.proofs.Levels.{below_fold}
 
 -- an element stands between two lists
 split_at : (xs : List ℕ) (x : ℕ) → Among x xs → (ys zs : List ℕ) × (xs ≡ ys ++ x ∷ zs)
@@ -68,11 +69,6 @@ order_within c order i h lt = within_span (length (names c)) order (order_spans 
 above_start : (ns : List ℕ) (start : ℕ) → start ≤ fold max start ns
 above_start [] start = omega arith
 above_start (n ∷ ns) start = let h : max start n ≤ fold max (max start n) ns = above_start ns (max start n) in omega (arith, h)
-
-below_greatest : (ns : List ℕ) (start n : ℕ) → Among n ns → n ≤ fold max start ns
-below_greatest [] start n a = absurd a
-below_greatest (m ∷ ns) start n (inl e) = let h : max start m ≤ fold max (max start m) ns = above_start ns (max start m) in omega (arith, h, e)
-below_greatest (m ∷ ns) start n (inr a) = below_greatest ns (max start m) n a
 
 maps_agree : (f g : Name → ℕ) (ns : List Name) → ((n : Name) → Among n ns → f n ≡ g n) → map f ns ≡ map g ns
 maps_agree f g [] same = refl
@@ -132,7 +128,7 @@ module _ (c : List Statement) (well : IsWellFormed c) where
           above = high.2.gate n kind args (contained c (Gate n kind args) gate)
 
           most : high.0 a ≤ greatest (map high.0 args)
-          most = below_greatest (map high.0 args) 0 (high.0 a) (among_map high.0 args a reads)
+          most = below_fold (map high.0 args) 0 (high.0 a) (among_map high.0 args a reads)
 
           by_order : (j < k) ⊎ ((j ≡ k) × (signal c n < signal c a)) → ⊥
           by_order (inl lt) = omega (arith, lt, level_n, level_a, above, most)

@@ -3,23 +3,12 @@ use Rattle.std.proofs.Common.{◌≡◌, ◌≢◌, ◌<◌, ◌≤◌, ℕ, ref
 use Rattle.std.specs.Prelude.{slice_index_or, bit_or}
 use Rattle.std.specs.Bool.{Decides}
 use Rattle.std.proofs.lemmas.List.{get_or-set_same, get_or-set_other}
-use Rattle.std.proofs.lemmas.Bool.{cases_eq, false≢true}
+use Rattle.std.proofs.lemmas.Bool.{cases_eq, false≢true, or_left, or_right, or_cases}
 use Rattle.bench_net.specs.Statement.{Statement}
 use Rattle.block_sim.specs.Words.{lane}
 use Rattle.block_sim.specs.Events.{IsObserved}
 use Rattle.block_sim.specs.Spreading.{AreSeen}
 use Rattle.block_sim.proofs.Lanes.{lane_or, lane_zero}
-
-or_cases : (a b : Bool) → (a || b) ≡ true → (a ≡ true) ⊎ (b ≡ true)
-or_cases true b e = inl refl
-or_cases false b e = inr e
-
-or_left : (a b : Bool) → a ≡ true → (a || b) ≡ true
-or_left a b e = rw e refl
-
-or_right : (a b : Bool) → b ≡ true → (a || b) ≡ true
-or_right true b e = refl
-or_right false b e = e
 
 none_in_zero : (d k : ℕ) → d ≡ 0 → lane d k ≡ true → ⊥
 none_in_zero d k e h = false≢true (sym (lane_zero k) ∙ (ap (λ x. lane x k) (sym e) ∙ h))

@@ -20,7 +20,8 @@ use Rattle.fault_ledger.specs.History.{History, claims, held, holds, state_of, e
 use Rattle.fault_ledger.specs.Answer.{fits_size, is_hit, has_earlier_hit, claim_reply, report_reply, drop_reply, answer, added, after, IsLegal}
 use Rattle.fault_ledger.specs.Face.{Face, face, IsLedger, Answers}
 use Rattle.fault_ledger.specs.Lowest.{hit_below}
-use Rattle.fault_ledger.proofs.Tables.{length-below, get-below, set-below, any-below}
+use Rattle.patterns.proofs.BelowLemmas.{length-map-below, get_or-map-below}
+use Rattle.fault_ledger.proofs.Tables.{set-below, any-below}
 use Rattle.fault_ledger.proofs.Pieces.{some_class, piece_at-below, block_of-below}
 use Rattle.fault_ledger.proofs.Histories.{holds-not, held-holds}
 use Rattle.fault_ledger.proofs.Legal.{legal_after, held_piece}
@@ -41,10 +42,10 @@ pub states-is : (f : Face) (h : History) → f ≡ face f.shape h → f.states �
 states-is f h e = ap (λ (g : Face). g.states) e
 
 pub holding-length : (f : Face) (h : History) → f ≡ face f.shape h → length f.holding ≡ f.shape.workers
-holding-length f h e = ap (λ (l : List (Option ℕ)). length l) (holding-is f h e) ∙ length-below (λ w. held w h) f.shape.workers
+holding-length f h e = ap (λ (l : List (Option ℕ)). length l) (holding-is f h e) ∙ length-map-below (λ w. held w h) f.shape.workers
 
 pub states-length : (f : Face) (h : History) → f ≡ face f.shape h → length f.states ≡ piece_count f.shape
-states-length f h e = ap (λ (l : List PieceState). length l) (states-is f h e) ∙ length-below (λ p. entry p h) (piece_count f.shape)
+states-length f h e = ap (λ (l : List PieceState). length l) (states-is f h e) ∙ length-map-below (λ p. entry p h) (piece_count f.shape)
 
 -- a worker whose place is found is one of the ledger, and holds what is found there
 pub found-worker : (f : Face) (h : History) (w : ℕ) (x : Option ℕ) → f ≡ face f.shape h → slice_get f.holding w ≡ Some x → w < f.shape.workers
@@ -52,12 +53,12 @@ found-worker f h w x e g = let a = slice_get_within f.holding w x g in let b = h
 
 pub found-held : (f : Face) (h : History) (w : ℕ) (x : Option ℕ) → f ≡ face f.shape h → slice_get f.holding w ≡ Some x → held w h ≡ x
 found-held f h w x e g =
-    sym (get-below (λ v. held v h) f.shape.workers w None (found-worker f h w x e g))
+    sym (get_or-map-below (λ v. held v h) f.shape.workers w None (found-worker f h w x e g))
     ∙ ap (λ l. slice_index_or l w None) (sym (holding-is f h e))
     ∙ get_or_from_slice_get f.holding w x None g
 
 pub state-entry : (f : Face) (h : History) (p : ℕ) → f ≡ face f.shape h → p < piece_count f.shape → slice_index_or f.states p state.Open ≡ entry p h
-state-entry f h p e l = ap (λ x. slice_index_or x p state.Open) (states-is f h e) ∙ get-below (λ q. entry q h) (piece_count f.shape) p state.Open l
+state-entry f h p e l = ap (λ x. slice_index_or x p state.Open) (states-is f h e) ∙ get_or-map-below (λ q. entry q h) (piece_count f.shape) p state.Open l
 
 -- a reply that is the answer, and a face that is that of the history with what the reply adds
 pub answered : (f g : Face) (c : Call) (r : Reply) → ((h : History) → IsLegal f.shape h → f ≡ face f.shape h → (r ≡ answer f.shape h c) × (g ≡ face f.shape (added c r ++ h))) → Answers f c r g

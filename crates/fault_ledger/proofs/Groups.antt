@@ -13,7 +13,7 @@ use Rattle.fault_ledger.specs.History.{History, ContinuesWithout, piece_count, b
 use Rattle.fault_ledger.specs.Answer.{IsLegal}
 use Rattle.fault_ledger.specs.Seats.{Place}
 use Rattle.fault_ledger.specs.Words.{Crowd, crowd, place_of, IsKept, Knows, ForEach, field_in, state_at}
-use Rattle.fault_ledger.proofs.Tables.{same-below}
+use Rattle.patterns.proofs.BelowLemmas.{map-below_same}
 use Rattle.fault_ledger.proofs.Totals.{for_all}
 use Rattle.fault_ledger.proofs.Legal.{legal_hit}
 use Rattle.fault_ledger.proofs.Codes.{decoded}
@@ -51,7 +51,7 @@ closes s id v g words slots states f same is =
       h,
       kept.legal,
       subst (ForEach (λ p. ContinuesWithout p.worker h p.seen)) same (for_all (Knows s h v.shape) (λ p. ContinuesWithout p.worker h p.seen) v.posts (λ p k. k.newer) (kept.known id v f.1.1)),
-      is ∙ same-below (λ piece. state_at (field_in words piece)) (λ piece. entry piece h) (piece_count s)
+      is ∙ map-below_same (λ piece. state_at (field_in words piece)) (λ piece. entry piece h) (piece_count s)
           (λ p l. ap (λ ws. state_at (field_in ws p)) (sym f.2) ∙ ap state_at (kept.marked p l) ∙ decoded (entry p h) (λ k e. below_64 k s.tests (block_of s p) (legal_hit s p k h kept.legal e))),
     )
   where

@@ -9,7 +9,7 @@ use Rattle.fault_ledger.specs.declared.Status.TheVariants as status_is
 use Rattle.fault_ledger.specs.History.{History, entry, block_count, piece_count, piece_at, states_of}
 use Rattle.fault_ledger.specs.Settled.{status_from, status}
 use Rattle.fault_ledger.specs.Seats.{AreStates}
-use Rattle.fault_ledger.proofs.Tables.{length-below, get-below, same-below}
+use Rattle.patterns.proofs.BelowLemmas.{length-map-below, get_or-map-below, map-below_same}
 use Rattle.fault_ledger.proofs.Pieces.{piece_at-below}
 use Rattle.fault_ledger.proofs.Legal.{legal_hit, never_first}
 
@@ -43,7 +43,7 @@ status-none g n clear = status-past g 0 n 0 n n (omega arith) (omega arith) (λ 
 pub found-entry : (s : Shape) (states : List PieceState) (h : History) (class block : ℕ) (d : PieceState) → states ≡ states_of s h → class < s.classes → block < block_count s → slice_index_or states (class + s.classes * block) d ≡ entry (piece_at s class block) h
 found-entry s states h class block d e l m =
     ap (λ x. slice_index_or x (piece_at s class block) d) e
-    ∙ get-below (λ p. entry p h) (piece_count s) (piece_at s class block) d (piece_at-below s class block l m)
+    ∙ get_or-map-below (λ p. entry p h) (piece_count s) (piece_at s class block) d (piece_at-below s class block l m)
 
 -- the state that a list of states shows of a class and a block
 abbrev pub shown : Shape → List PieceState → ℕ → ℕ → PieceState
@@ -56,7 +56,7 @@ shown-entry s states h class block e l m = found-entry s states h class block st
 pub shown-status : (s : Shape) (states : List PieceState) (h : History) (class : ℕ) (x : Status) → class < s.classes → states ≡ states_of s h → status_from 0 (map (shown s states class) (below (block_count s))) ≡ x → x ≡ status s h class
 shown-status s states h class x l e is =
     sym is
-    ∙ ap (status_from 0) (same-below (shown s states class) (λ block. entry (piece_at s class block) h) (block_count s) (λ k m. shown-entry s states h class k e l m))
+    ∙ ap (status_from 0) (map-below_same (shown s states class) (λ block. entry (piece_at s class block) h) (block_count s) (λ k m. shown-entry s states h class k e l m))
 
 -- the test of a hit that is shown is below 64, and there are few blocks
 pub shown-hit : (s : Shape) (states : List PieceState) (class block k : ℕ) → AreStates s states → class < s.classes → block < block_count s → shown s states class block ≡ state.Hit k → k < 64
@@ -74,5 +74,5 @@ shown-skipped s states class block are l m clear e =
 pub shown-within : (s : Shape) (states : List PieceState) (class block : ℕ) → AreStates s states → class < s.classes → block < block_count s → class + s.classes * block < length states
 shown-within s states class block are l m =
     let a = piece_at-below s class block l m in
-    let b : length states ≡ piece_count s = ap (λ (xs : List PieceState). length xs) are.2 ∙ length-below (λ p. entry p are.0) (piece_count s) in
+    let b : length states ≡ piece_count s = ap (λ (xs : List PieceState). length xs) are.2 ∙ length-map-below (λ p. entry p are.0) (piece_count s) in
     omega arith

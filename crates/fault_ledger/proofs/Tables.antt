@@ -2,6 +2,7 @@
 use Rattle.std.proofs.Common.{List, [], ◌++◌, add-one, ◌≡◌, ◌≢◌, ℕ, zero, suc, ◌+◌, ◌<◌, ◌≤◌, Bool, true, false, ◌||◌, ◌∷◌, map, set, length, replicate, get_or, slice_index, refl, sym, ap, ◌∙◌, arith}
 use Rattle.std.specs.List.{list_any}
 use Rattle.patterns.specs.Least.{from_up, below}
+use Rattle.patterns.proofs.BelowLemmas.{length-map-below, get_or-map-below, map-below_same}
 
 -- a place of a list is given what stands there
 pub set_same : (xs : List ℕ) (i : ℕ) → set xs i (slice_index xs i) ≡ xs
@@ -13,25 +14,16 @@ pub length-from_up : {X : Type 0} (f : ℕ → X) (a n : ℕ) → length (map f 
 length-from_up f a zero = refl
 length-from_up f a (suc n) = ap suc (length-from_up f (a + 1) n)
 
-pub length-below : {X : Type 0} (f : ℕ → X) (n : ℕ) → length (map f (below n)) ≡ n
-length-below f n = length-from_up f 0 n
-
 get-from_up : {X : Type 0} (f : ℕ → X) (a n i j : ℕ) (d : X) → i < n → a + i ≡ j → get_or (map f (from_up a n)) i d ≡ f j
 get-from_up f a zero i j d l e = absurd (omega arith)
 get-from_up f a (suc n) zero j d l e = ap f (let q : a ≡ j = omega arith in q)
 get-from_up f a (suc n) (suc i) j d l e = get-from_up f (a + 1) n i j d (omega arith) (omega arith)
-
-pub get-below : {X : Type 0} (f : ℕ → X) (n i : ℕ) (d : X) → i < n → get_or (map f (below n)) i d ≡ f i
-get-below f n i d l = get-from_up f 0 n i i d l (omega arith)
 
 pub same-from_up : {X : Type 0} (f g : ℕ → X) (a n : ℕ) → ((k : ℕ) → a ≤ k → k < a + n → f k ≡ g k) → map f (from_up a n) ≡ map g (from_up a n)
 same-from_up f g a zero e = refl
 same-from_up f g a (suc n) e =
     ap (λ x. x ∷ map f (from_up (a + 1) n)) (e a (omega arith) (omega arith))
     ∙ ap (λ xs. g a ∷ xs) (same-from_up f g (a + 1) n (λ k l m. e k (omega arith) (omega arith)))
-
-pub same-below : {X : Type 0} (f g : ℕ → X) (n : ℕ) → ((k : ℕ) → k < n → f k ≡ g k) → map f (below n) ≡ map g (below n)
-same-below f g n e = same-from_up f g 0 n (λ k l m. e k (omega arith))
 
 set-from_up : {X : Type 0} (f g : ℕ → X) (a n i j : ℕ) (x : X) → i < n → a + i ≡ j → x ≡ g j → ((k : ℕ) → k ≢ j → f k ≡ g k) → set (map f (from_up a n)) i x ≡ map g (from_up a n)
 set-from_up f g a zero i j x l e p q = absurd (omega arith)

@@ -1,9 +1,9 @@
 -- A fault of the list is on a line that carries a name.
-use Rattle.std.proofs.Common.{◌≡◌, ℕ, zero, suc, refl, sym, ◌∙◌, ap, List, [], ◌∷◌, inl, inr}
-use Rattle.std.specs.Prelude.{Contains, None, unwrap_or, option_map, Some, map, slice_get}
+use Rattle.std.proofs.Common.{◌≡◌, ℕ, refl, sym, ◌∙◌, ap, List, [], ◌∷◌, inl, inr}
+use Rattle.std.specs.Prelude.{Contains, option_map, Some, map, slice_get}
 use Rattle.bench_net.specs.declared.Sink.{Sink}
 use Rattle.bench_net.specs.declared.Sink.TheVariants as sink
-use Rattle.bench_net.specs.Statement.{Name, Statement, Input, Output, Gate, Dff}
+use Rattle.bench_net.specs.Statement.{Name, Statement, Gate, Dff}
 use Rattle.bench_net.specs.Scan.{names, name_of, cell, cells, sinks, definition}
 use Rattle.bench_net.specs.Circuit.{IsWellFormed}
 use Rattle.lists.proofs.Members.{Among, contained}

@@ -20,7 +20,7 @@ fold_grows : (ns : List ℕ) (a b : ℕ) → b ≤ a → b ≤ fold max a ns
 fold_grows [] a b h = h
 fold_grows (n ∷ ns) a b h = fold_grows ns (max a n) b (omega (arith, h))
 
-below_fold : (ns : List ℕ) (a n : ℕ) → Among n ns → n ≤ fold max a ns
+pub below_fold : (ns : List ℕ) (a n : ℕ) → Among n ns → n ≤ fold max a ns
 below_fold [] a n h = absurd h
 below_fold (m ∷ ns) a n (inl e) = fold_grows ns (max a m) n (omega (arith, e))
 below_fold (m ∷ ns) a n (inr h) = below_fold ns (max a m) n h

@@ -18,7 +18,7 @@ use Rattle.fault_model.specs.declared.Line.{Line}
 use Rattle.fault_model.specs.declared.Line.TheVariants as line
 use Rattle.fault_model.specs.declared.Model.{Model}
 use Rattle.fault_model.specs.Fault.{Fault, branch, branches, both, faults_of, faults}
-use Rattle.fault_model.proofs.Listed.{branch_among}
+use Rattle.fault_model.proofs.Listed.{branch_among, on_both}
 
 -- the lines of one signal: its stem, then its branches
 abbrev pub lines_of : List Statement → ℕ × Name → List Line
@@ -112,12 +112,6 @@ module _ (c : List Statement) (well : IsWellFormed c) where
   pub distinct_lines : Distinct (lines c)
   distinct_lines = lines_once 0 (names c) (distinct_from_pairs (names c) well.once)
 
--- so no fault stands twice in the list
-on_line : (m : Model) (l : Line) (f : Fault) → Among f (both m l) → f.line ≡ l
-on_line m l f (inl e) = sym (ap (λ x. x.line) e)
-on_line m l f (inr (inl e)) = sym (ap (λ x. x.line) e)
-on_line m l f (inr (inr bad)) = absurd bad
-
 distinct_both : (m : Model) (ls : List Line) → Distinct ls → Distinct (flat_map (both m) ls)
 distinct_both m [] d = tt
 distinct_both m (l ∷ ls) d = distinct_append (both m l) (flat_map (both m) ls) own (distinct_both m ls d.1) apart
@@ -130,7 +124,7 @@ distinct_both m (l ∷ ls) d = distinct_append (both m l) (flat_map (both m) ls)
         other (inr bad) = bad
 
     apart : (f : Fault) → Among f (both m l) → Among f (flat_map (both m) ls) → ⊥
-    apart f a b = let p = joined_from (both m) ls f b in d.0 (subst (λ k. Among k ls) (sym (on_line m p.0 f p.2) ∙ on_line m l f a) p.1)
+    apart f a b = let p = joined_from (both m) ls f b in d.0 (subst (λ k. Among k ls) (sym (on_both m p.0 f p.2) ∙ on_both m l f a) p.1)
 
 pub distinct_faults : (m : Model) (c : List Statement) → IsWellFormed c → Distinct (faults m c)
 distinct_faults m c well = subst Distinct (faults_are m c) (distinct_both m (lines c) (distinct_lines c well))

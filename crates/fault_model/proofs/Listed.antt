@@ -62,7 +62,7 @@ under_own f l bit own = let e : same_line f.line l ≡ true = rw own (same_itsel
 abbrev pub IsOn : List Statement → ℕ → Name → Line → Type 0
 IsOn c s n l = (l ≡ line.Stem s) ⊎ ((k : Sink) × Among k (branches c n) × (l ≡ branch k))
 
-on_both : (m : Model) (l : Line) (f : Fault) → Among f (both m l) → f.line ≡ l
+pub on_both : (m : Model) (l : Line) (f : Fault) → Among f (both m l) → f.line ≡ l
 on_both m l f (inl e) = sym (ap (λ x. x.line) e)
 on_both m l f (inr (inl e)) = sym (ap (λ x. x.line) e)
 on_both m l f (inr (inr bad)) = absurd bad

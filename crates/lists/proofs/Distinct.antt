@@ -1,5 +1,5 @@
 -- Lists without a repeated element.
-use Rattle.std.proofs.Common.{◌≡◌, ℕ, zero, suc, ◌<◌, refl, sym, ap, subst, List, [], ◌∷◌, ◌++◌, length, arith, inl, inr, ◌⊎◌}
+use Rattle.std.proofs.Common.{◌≡◌, ℕ, zero, suc, refl, sym, ap, subst, List, [], ◌∷◌, ◌++◌, arith, inl, inr, ◌⊎◌}
 use Rattle.std.specs.Prelude.{Contains, Some, None, slice_get, map, AllPairs, ◌≢◌, unwrap_or}
 use Rattle.lists.proofs.Members.{Among, contained, among_left, among_right, among_append, mapped_from}
 use Rattle.lists.proofs.Places.{at_place}

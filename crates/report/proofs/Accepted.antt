@@ -5,8 +5,7 @@ use Rattle.std.proofs.lemmas.Bool.{leb-true}
 use Rattle.std.proofs.lemmas.List.Elements.{All-get_or}
 use Rattle.std.proofs.lemmas.List.Quantifiers.{position-Some}
 use Rattle.bench_net.specs.Statement.{Statement}
-use Rattle.bench_net.specs.Scan.{names, sources}
-use Rattle.bench_net.specs.Circuit.{IsCircuit, HaveArities, max_signals, max_sinks, sink_count}
+use Rattle.bench_net.specs.Scan.{sources}
 use Rattle.bench_net.specs.Refusal.{IsAccepted}
 use Rattle.fault_model.specs.declared.Model.{Model}
 use Rattle.fault_model.specs.Fault.{FaultList, fault_list}

@@ -1,11 +1,10 @@
 -- The lines of the faults of the list are lines of the circuit.
-use Rattle.std.proofs.Common.{◌≡◌, ◌<◌, ℕ, refl, sym, subst, List, [], ◌∷◌, length, inl, inr, arith}
+use Rattle.std.proofs.Common.{◌≡◌, ◌<◌, ℕ, refl, sym, subst, List, [], ◌∷◌, length, inl, inr}
 use Rattle.std.proofs.lemmas.List.{length-map}
-use Rattle.std.specs.Prelude.{Contains, Some, IfSome, slice_get, map, flat_map}
+use Rattle.std.specs.Prelude.{Contains, Some, IfSome, slice_get, map}
 use Rattle.bench_net.specs.declared.Sink.{Sink}
 use Rattle.bench_net.specs.declared.Sink.TheVariants as sink
-use Rattle.bench_net.specs.Statement.{Name, Statement, Input, Output, Gate, Dff, read}
-use Rattle.bench_net.specs.Circuit.{IsWellFormed}
+use Rattle.bench_net.specs.Statement.{Name, Statement, Input, Output, Gate, Dff}
 use Rattle.bench_net.specs.Scan.{names, signal, cell, cells, sinks, name_of}
 use Rattle.lists.proofs.Members.{Among, contained}
 use Rattle.bench_net.proofs.Numbers.{name_of-signal, at_position}
@@ -18,7 +17,6 @@ use Rattle.fault_model.specs.declared.Model.{Model}
 use Rattle.fault_model.specs.Fault.{Fault, branch, faults}
 use Rattle.fault_model.proofs.Listed.{listed_on, listed_model, branch_among, IsOn}
 use Rattle.report.specs.Report.{IsLineOf}
-use Rattle.bench_net.proofs.SomeSource.{some_signal}
 
 among_cells : (c : List Statement) (q d : Name) → Among (Dff q d) c → Among q (map (λ qd. qd.0) (cells c))
 among_cells [] q d a = absurd a

@@ -3,7 +3,7 @@ use Rattle.std.proofs.Common.{◌≡◌, ◌<◌, ℕ, zero, suc, List, [], ◌�
 use Rattle.std.proofs.lemmas.List.{length-map}
 use Rattle.block_sim.specs.Parts.{Parts, HasRoom}
 use Rattle.fault_ledger.specs.Seats.{Place, Sitter, newcomer, newcomers}
-use Rattle.fault_ledger.proofs.Tables.{length-below, get-below}
+use Rattle.patterns.proofs.BelowLemmas.{length-map-below, get_or-map-below}
 use Rattle.workers.specs.declared.threads.Worker.{Worker}
 use Rattle.workers.specs.Work.{Returns}
 
@@ -15,13 +15,13 @@ get_map f (x ∷ xs) (suc k) d = get_map f xs k d
 -- how many workers there are
 pub workers_count : (ws : List Worker) (p : Place) → map (λ (w : Worker). w.seat) ws ≡ newcomers p → length ws ≡ p.shape.workers
 workers_count ws p e =
-    sym (length-map ws (λ (w : Worker). w.seat)) ∙ ap (λ (l : List Sitter). length l) e ∙ length-below (newcomer p) p.shape.workers
+    sym (length-map ws (λ (w : Worker). w.seat)) ∙ ap (λ (l : List Sitter). length l) e ∙ length-map-below (newcomer p) p.shape.workers
 
 -- each has its newcomer's seat
 pub seat_at : (ws : List Worker) (p : Place) (k : ℕ) (d : Worker) → map (λ (w : Worker). w.seat) ws ≡ newcomers p → k < length ws → (get_or ws k d).seat ≡ newcomer p k
 seat_at ws p k d e lt =
     let n = workers_count ws p e in
-    get_map (λ (w : Worker). w.seat) ws k d ∙ ap (λ (l : List Sitter). get_or l k d.seat) e ∙ get-below (newcomer p) p.shape.workers k d.seat (omega arith)
+    get_map (λ (w : Worker). w.seat) ws k d ∙ ap (λ (l : List Sitter). get_or l k d.seat) e ∙ get_or-map-below (newcomer p) p.shape.workers k d.seat (omega arith)
 
 -- and room for the job
 pub room_at : (ws : List Worker) (job : Parts) (k : ℕ) (d : Worker) → All (λ (w : Worker). HasRoom w.workspace job) ws → k < length ws → HasRoom (get_or ws k d).workspace job

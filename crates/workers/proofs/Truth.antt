@@ -3,7 +3,7 @@ use Rattle.std.proofs.Common.{◌≡◌, ◌<◌, ℕ, zero, suc, true, List, []
 use Rattle.std.specs.Prelude.{slice_get, unwrap_or}
 use Rattle.std.proofs.lemmas.List.{length-map}
 use Rattle.std.proofs.lemmas.Option.{slice_get_within}
-use Rattle.lists.proofs.Places.{within_place}
+use Rattle.lists.proofs.Places.{within_place, from_mapped}
 use Rattle.fault_model.specs.Fault.{Fault, faults}
 use Rattle.fault_model.specs.Collapse.{representatives, IsClassOf}
 use Rattle.patterns.specs.declared.Outcome.{Outcome}
@@ -37,19 +37,13 @@ true_fits job s class block (outcome.Hit k) is t =
     let e : size_of s.tests block ≡ size_of (length job.tests.tests) block = ap (λ n. size_of n block) is.tests in
     lt-ltb k (size_of s.tests block) (subst (λ n. k < n) (sym e) t.2.0)
 
--- what stands at a place of a mapped list
-at_map : {A B : Type 0} (f : A → B) (xs : List A) (i : ℕ) (y : B) → slice_get (map f xs) i ≡ Some y → (x : A) × (slice_get xs i ≡ Some x) × (f x ≡ y)
-at_map f [] i y e = let bad : None ≡ Some y = e in absurd (cc)
-at_map f (x ∷ xs) zero y e = (x, refl, ap (λ o. unwrap_or o y) e)
-at_map f (x ∷ xs) (suc i) y e = at_map f xs i y e
-
 -- the verdicts of a history that is true to a true table and settles all classes are first tests
 pub firsts_of : (job : Parts) (s : Shape) (table : Table) (h : History) → BelongTogether job → IsShapeOf job s → IsTableOf job table → IsTrueTo s table h
     → AreSettled s h s.classes → AreFirsts job.list.model job.circuit job.tests.tests (verdicts s h job.classes.class_of)
 firsts_of job s table h b is each to settled = record {
   count = length-map job.classes.class_of (λ class. settled_at (status s h class)) ∙ b.classes.count;
   first = λ i f first at e.
-      let x = at_map (λ class. settled_at (status s h class)) job.classes.class_of i first e in
+      let x = from_mapped (λ class. settled_at (status s h class)) job.classes.class_of i first e in
       let k = x.0 in
       let of : IsClassOf job.list.model job.circuit f k = b.classes.class i f k at x.1 in
       let lt : k < s.classes = subst (λ n. k < n) (sym (is.classes ∙ class_count job b)) (slice_get_within (representatives job.list.model job.circuit) k of.0 of.3) in

@@ -1,5 +1,5 @@
 -- What lists of moves leave: how many events there can be, and that the workers' turns end.
-use Rattle.std.proofs.Common.{◌≡◌, ◌≢◌, ◌<◌, ◌≤◌, ◌+◌, ◌-◌, ◌*◌, ◌⊎◌, inl, inr, ℕ, zero, suc, Bool, true, false, cond, List, [], ◌∷◌, ◌++◌, length, map, get_or, All, Option, Some, None, refl, sym, ap, ◌∙◌, subst, arith, le-ltb, lt-ltb, eq-eqb, ne_eqb, append_assoc, append-nil, add-one}
+use Rattle.std.proofs.Common.{◌≡◌, ◌≢◌, ◌<◌, ◌≤◌, ◌+◌, ◌-◌, ◌*◌, ◌⊎◌, inl, inr, ℕ, zero, suc, Bool, true, false, cond, List, [], ◌∷◌, ◌++◌, length, map, All, Option, Some, None, refl, sym, ap, ◌∙◌, subst, arith, le-ltb, lt-ltb, eq-eqb, ne_eqb, append_assoc, append-nil, add-one}
 use Rattle.std.specs.Prelude.{count_by, is_some}
 use Rattle.std.specs.Option.{option_map_or}
 use Rattle.std.proofs.lemmas.Bool.{cases_lt}
@@ -19,6 +19,7 @@ use Rattle.workers.specs.Schedule.{IsTableOf, drops, is_drop, move, move_holding
 use Rattle.workers.specs.Settling.{AreSettled, IsShapeOf}
 use Rattle.workers.proofs.Closing.{all_settled, none_open}
 use Rattle.workers.proofs.Moves.{move_legal, move_true}
+use Rattle.patterns.proofs.BelowLemmas.{length-below, get_or-below}
 
 pub moved_append : (t : Table) (s : Shape) (h : History) (xs ys : List ℕ) → moved t s h (xs ++ ys) ≡ moved t s (moved t s h xs) ys
 moved_append t s h [] ys = refl
@@ -242,24 +243,9 @@ module _ (t : Table) (s : Shape) (h : History) (xs : List ℕ) (w : ℕ) (f new 
             ),
       )
 
-below_at : (n k d : ℕ) → k < n → get_or (below n) k d ≡ k
-below_at n k d lt = from 0 n k k lt (omega arith)
-  where
-    from : (a n i j : ℕ) → i < n → a + i ≡ j → get_or (from_up a n) i d ≡ j
-    from a zero i j l e = absurd (omega (arith, l))
-    from a (suc n) zero j l e = omega (arith, e)
-    from a (suc n) (suc i) j l e = from (a + 1) n i j (omega (arith, l)) (omega (arith, e))
-
-length_below : (n : ℕ) → length (below n) ≡ n
-length_below n = from 0 n
-  where
-    from : (a n : ℕ) → length (from_up a n) ≡ n
-    from a zero = refl
-    from a (suc n) = ap suc (from (a + 1) n)
-
 -- all of the workers are workers
 pub all_below : (n : ℕ) → All (λ w. w < n) (below n)
-all_below n k d lt = let l = length_below n in subst (λ x. x < n) (sym (below_at n k d (omega (arith, l, lt)))) (omega (arith, l, lt))
+all_below n k d lt = let l = length-below n in subst (λ x. x < n) (sym (get_or-below n k d (omega (arith, l, lt)))) (omega (arith, l, lt))
 
 pub all_turns : (n m : ℕ) → All (λ w. w < n) (turns n m)
 all_turns n zero = All-nil (λ w. w < n)
@@ -328,8 +314,8 @@ module _ (t : Table) (s : Shape) (h : History) (f new : Face) (n m : ℕ) (was :
 
       each : (w : ℕ) → w < s.workers → (claims h1 ≡ piece_count s) × (held w h1 ≡ None)
       each w lt =
-          let l = length_below s.workers in
-          subst (λ k. (claims h1 ≡ piece_count s) × (held k h1 ≡ None)) (below_at s.workers w 0 lt) ((turn.4 refl).1 w 0 (omega (arith, l, lt)))
+          let l = length-below s.workers in
+          subst (λ k. (claims h1 ≡ piece_count s) × (held k h1 ≡ None)) (get_or-below s.workers w 0 lt) ((turn.4 refl).1 w 0 (omega (arith, l, lt)))
 
       all : claims h1 ≡ piece_count s
       all = (each 0 some).0

@@ -1,4 +1,4 @@
-use Rattle.std.proofs.Common.{◌≡◌, ◌∙◌, ◌<◌, ◌+◌, ℕ, Bool, List, All, true, false, not, refl, sym, ap, subst, arith}
+use Rattle.std.proofs.Common.{◌≡◌, ◌∙◌, ◌<◌, ◌+◌, ℕ, Bool, List, All, true, false, refl, sym, ap, subst, arith}
 use Rattle.patterns.specs.Least.{below}
 use Rattle.block_sim.proofs.TrueTable.{true_table}
 use Rattle.fault_ledger.specs.declared.Shape.{Shape}
@@ -8,14 +8,7 @@ use Rattle.fault_ledger.specs.Face.{face}
 use Rattle.workers.specs.Schedule.{moved, turns, drops}
 use Rattle.workers.proofs.Turns.{Done, played_on, turned_none, turned_more, turned_over, skipped_few, all_below, left_of, left_events}
 use Rattle.workers.proofs.schedule.take_turns.Goals as goal
-
-not_false : (b : Bool) → not b ≡ false → b ≡ true
-not_false true e = refl
-not_false false e = absurd (cc)
-
-not_true : (b : Bool) → not b ≡ true → b ≡ false
-not_true true e = absurd (cc)
-not_true false e = refl
+use Rattle.std.proofs.lemmas.Bool.{not-false, not-true}
 
 pub turns-init : goal.turns-init
 turns-init c = record { shape = refl; fits = c.requires.fits; turned = λ t h is l e. turned_none t c.args.ledger.now.shape h c.args.ledger.now l e }
@@ -57,7 +50,7 @@ returns-then-not-turn-clause-moved c = λ t h is l e.
     let turn = played_on job t s c.turns.ledger c.play-turn.new.ledger g c.args.everyone.now c.play-turn.result.skipped c.play-turn.result.changed c.turns.invariant.shape is x.legal x.shows
     c.play-turn.ensures.moved in
     turned_over t s h c.turns.ledger c.play-turn.new.ledger c.turns.skipped c.play-turn.result.skipped x c.requires.some
-    (subst (λ (b : Bool). Done t s g (below s.workers) c.play-turn.new.ledger c.play-turn.result.skipped b) (not_true c.play-turn.result.changed c.if-not-turn.true)
+    (subst (λ (b : Bool). Done t s g (below s.workers) c.play-turn.new.ledger c.play-turn.result.skipped b) (not-true c.play-turn.result.changed c.if-not-turn.true)
     (subst (λ (xs : List ℕ). Done t s g xs c.play-turn.new.ledger c.play-turn.result.skipped c.play-turn.result.changed) c.requires.everyone turn))
 
 pub turns-preserved : goal.turns-preserved
@@ -72,7 +65,7 @@ turns-preserved c = record {
       let turn = played_on job t s c.turns.ledger c.play-turn.new.ledger g c.args.everyone.now c.play-turn.result.skipped c.play-turn.result.changed c.turns.invariant.shape is x.legal x.shows
       c.play-turn.ensures.moved in
       turned_more t s h c.turns.ledger c.play-turn.new.ledger c.turns.skipped c.play-turn.result.skipped x
-      (subst (λ (b : Bool). Done t s g (below s.workers) c.play-turn.new.ledger c.play-turn.result.skipped b) (not_false c.play-turn.result.changed c.if-not-turn.false)
+      (subst (λ (b : Bool). Done t s g (below s.workers) c.play-turn.new.ledger c.play-turn.result.skipped b) (not-false c.play-turn.result.changed c.if-not-turn.false)
       (subst (λ (xs : List ℕ). Done t s g xs c.play-turn.new.ledger c.play-turn.result.skipped c.play-turn.result.changed) c.requires.everyone turn));
 }
 
@@ -86,7 +79,7 @@ turns-smaller c =
     let g : History = moved t.0 s h.0 (turns s.workers x.turns_done) in
     let turn = played_on job t.0 s c.turns.ledger c.play-turn.new.ledger g c.args.everyone.now c.play-turn.result.skipped c.play-turn.result.changed c.turns.invariant.shape t.1 x.legal x.shows
     c.play-turn.ensures.moved in
-    let longer = turn.3 (not_false c.play-turn.result.changed c.if-not-turn.false) in
+    let longer = turn.3 (not-false c.play-turn.result.changed c.if-not-turn.false) in
     let before = left_events s g x.legal in
     let after = left_events s (moved t.0 s g c.args.everyone.now) turn.1 in
     let a = ap left_of x.shows in

@@ -9,7 +9,7 @@ use Rattle.fault_ledger.specs.declared.PieceState.{PieceState}
 use Rattle.fault_ledger.specs.declared.PieceState.TheVariants as state
 use Rattle.fault_ledger.specs.History.{History, entry, piece_at, piece_count, states_of}
 use Rattle.fault_ledger.proofs.Pieces.{at-of}
-use Rattle.fault_ledger.proofs.Tables.{get-below, length-below}
+use Rattle.patterns.proofs.BelowLemmas.{get_or-map-below, length-map-below}
 use Rattle.block_sim.specs.Parts.{Parts}
 use Rattle.workers.specs.Settling.{IsShapeOf}
 use Rattle.workers.specs.Work.{is_skipped}
@@ -30,7 +30,7 @@ pieces job s n m is e f =
 -- a piece by its class and its block
 at : (s : Shape) (h : History) (p n : ℕ) (x : PieceState) → n ≡ s.classes → p < piece_count s → x ≡ entry (piece_at s (p % n) (p / n)) h → x ≡ get_or (states_of s h) p state.Open
 at s h p n x e lt is =
-    is ∙ ap (λ k. entry (piece_at s (p % k) (p / k)) h) e ∙ ap (λ k. entry k h) (at-of s p) ∙ sym (get-below (λ k. entry k h) (piece_count s) p state.Open lt)
+    is ∙ ap (λ k. entry (piece_at s (p % k) (p / k)) h) e ∙ ap (λ k. entry k h) (at-of s p) ∙ sym (get_or-map-below (λ k. entry k h) (piece_count s) p state.Open lt)
 
 pub loop-piece-preserved : goal.loop-piece-preserved
 loop-piece-preserved c =
@@ -47,7 +47,7 @@ loop-piece-preserved c =
         few = (let e = b.skipped-is in let f = was.few in omega (arith, e, f));
         count = λ h e.
             let there = at s h p c.count-classes.result c.entry.result own lt (c.entry.ensures.entry h e) in
-            let long = length-below (λ k. entry k h) (piece_count s) in
+            let long = length-map-below (λ k. entry k h) (piece_count s) in
             b.skipped-is ∙ ap (λ n. n + 1) (was.count h e)
             ∙ sym (count_by_more_yes is_skipped (states_of s h) p state.Open (omega (arith, long, lt)) (ap is_skipped (sym there ∙ b.in-Skipped.is)));
       }
@@ -55,7 +55,7 @@ loop-piece-preserved c =
         few = (let e = b.skipped-is in let f = was.few in omega (arith, e, f));
         count = λ h e.
             let there = at s h p c.count-classes.result c.entry.result own lt (c.entry.ensures.entry h e) in
-            let long = length-below (λ k. entry k h) (piece_count s) in
+            let long = length-map-below (λ k. entry k h) (piece_count s) in
             b.skipped-is ∙ was.count h e
             ∙ sym (count_by_more_no is_skipped (states_of s h) p state.Open (omega (arith, long, lt)) (ap is_skipped (sym there) ∙ not_skipped c.entry.result b.in_default.not-Skipped));
       }
@@ -67,6 +67,6 @@ returns c = λ h e.
     let count = c.count-classes.ensures ∙ ap (λ (x : Collapsed). length x.representative) c.classes.ensures.part in
     let number = c.blocks-2.ensures ∙ ap (λ (x : TestList). blocks (length x.tests)) c.tests.ensures.part in
     let all = pieces c.args.job.now s c.count-classes.result c.blocks-2.result c.requires count number in
-    let long = length-below (λ k. entry k h) (piece_count s) in
+    let long = length-map-below (λ k. entry k h) (piece_count s) in
     c.loop-piece.invariant.count h e
     ∙ ap (count_by is_skipped) (take_all c.loop-piece.piece (states_of s h) (omega (arith, long, all, c.loop-piece-test.false)))
