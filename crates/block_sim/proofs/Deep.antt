@@ -11,8 +11,8 @@ use Rattle.bench_net.specs.Circuit.{IsWellFormed}
 use Rattle.bench_net.specs.Level.{AreLevels, HasLevel, greatest}
 use Rattle.lists.proofs.Members.{Among, among, contained, among_left, among_right, among_map, mapped_from}
 use Rattle.lists.proofs.Places.{at_place}
-use Rattle.bench_net.proofs.SignalsDefined.{read_named}
-use Rattle.fault_model.proofs.Unique.{Driven, driven}
+use Rattle.bench_net.proofs.Public.{read_named}
+use Rattle.fault_model.proofs.Public.{Driven, driven}
 
 any_of : (xs : List ℕ) (q : ℕ) → Among q xs → list_any (λ x. q == x) xs ≡ true
 any_of [] q a = absurd a

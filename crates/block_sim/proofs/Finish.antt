@@ -9,15 +9,13 @@ use Rattle.bench_net.specs.Statement.{Name, Statement, Gate}
 use Rattle.bench_net.specs.Scan.{names, signal, observers}
 use Rattle.bench_net.specs.Circuit.{IsWellFormed}
 use Rattle.lists.proofs.Members.{among}
-use Rattle.bench_net.proofs.SignalsDefined.{read_named}
+use Rattle.bench_net.proofs.Public.{read_named}
 use Rattle.lists.proofs.Places.{within_place, placed}
 use Rattle.fault_model.specs.declared.Line.TheVariants as line
 use Rattle.fault_model.specs.Detection.{DetectsAt, LooksBack}
 use Rattle.fault_model.specs.Fault.{Fault, branch}
 use Rattle.fault_model.specs.Solution.{Test, Solves, Detects, shows}
-use Rattle.fault_model.proofs.ClassLaw.{detection_is_of_any_solution, has_solutions}
-use Rattle.fault_model.proofs.Listed.{under_other}
-use Rattle.fault_model.proofs.Shown.{observes}
+use Rattle.fault_model.proofs.Public.{detection_is_of_any_solution, has_solutions, under_other, observes}
 use Rattle.patterns.specs.declared.Outcome.{Outcome}
 use Rattle.patterns.specs.declared.Outcome.TheVariants.{Clear, Hit}
 use Rattle.patterns.specs.Tests.{size_of}

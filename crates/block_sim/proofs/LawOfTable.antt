@@ -10,13 +10,12 @@ use Rattle.fault_model.specs.Fault.{Fault, faults}
 use Rattle.fault_model.specs.Solution.{Test}
 use Rattle.fault_model.specs.Collapse.{representatives, IsClassOf, AreEquivalent}
 use Rattle.fault_model.specs.Detection.{DetectsAt}
-use Rattle.fault_model.proofs.LookBack.{classes_detected_same}
+use Rattle.fault_model.proofs.Public.{classes_detected_same, own_class}
 use Rattle.patterns.specs.declared.Outcome.{Outcome}
 use Rattle.patterns.specs.declared.Outcome.TheVariants.{Clear, Hit}
 use Rattle.patterns.specs.Tests.{blocks, size_of}
 use Rattle.patterns.specs.Least.{Table, from_up, first_hit, least}
 use Rattle.block_sim.specs.First.{IsFirst, IsOutcome, IsTrueOutcome, IsTrueTable, LeastIsFirst}
-use Rattle.fault_model.proofs.ClassLaw.{own_class}
 
 -- a fault is detected by the same tests as the representative of its class, so what is true of that on a block is true of it
 outcome_too : (c : List Statement) (tests : List Test) (f r : Fault) (block : ℕ) (o : Outcome) → ((t : ℕ) → DetectsAt c tests f t → DetectsAt c tests r t)

@@ -10,11 +10,9 @@ use Rattle.bench_net.specs.Scan.{names, signal, sources, inputs, cells}
 use Rattle.bench_net.specs.Circuit.{IsWellFormed}
 use Rattle.bench_net.specs.Level.{AreLevels, HasLevel, IsLevelOrder, GoesBefore, greatest}
 use Rattle.lists.proofs.Members.{Among, among, contained, among_append, among_left, among_right, among_map}
-use Rattle.bench_net.proofs.Numbers.{name_of-signal}
+use Rattle.bench_net.proofs.Public.{name_of-signal, defined_among, read_named, signal_apart}
 use Rattle.lists.proofs.Places.{place_within}
-use Rattle.bench_net.proofs.SignalsDefined.{defined_among, read_named, signal_apart}
-use Rattle.fault_model.proofs.Unique.{Driven, driven}
-use Rattle.fault_model.proofs.Levels.{below_fold}
+use Rattle.fault_model.proofs.Public.{Driven, driven, below_fold}
 
 -- an element stands between two lists
 split_at : (xs : List ℕ) (x : ℕ) → Among x xs → (ys zs : List ℕ) × (xs ≡ ys ++ x ∷ zs)

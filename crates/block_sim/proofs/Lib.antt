@@ -1,30 +1,31 @@
-pub mod Lanes
-pub mod Bridge
-pub mod LawOfTable
-pub mod GateLanes
-pub mod Equations
-pub mod LevelOrder
-pub mod Passed
-pub mod Rows
-pub mod Represented
-pub mod DataPins
-pub mod Placed
-pub mod Before
-pub mod LookedBack
-pub mod Equated
-pub mod Balanced
-pub mod Ahead
-pub mod RightByNow
-pub mod Spreading
-pub mod FirstChange
-pub mod Rises
-pub mod Steps
-pub mod Readers
-pub mod Woken
-pub mod Flats
-pub mod Seen
-pub mod Deep
-pub mod Started
-pub mod Finish
-pub mod Carried
-pub mod TrueTable
+mod Lanes
+mod Bridge
+mod LawOfTable
+mod GateLanes
+mod Equations
+mod LevelOrder
+mod Passed
+mod Rows
+mod Represented
+mod DataPins
+mod Placed
+mod Before
+mod LookedBack
+mod Equated
+mod Balanced
+mod Ahead
+mod RightByNow
+mod Spreading
+mod FirstChange
+mod Rises
+mod Steps
+mod Readers
+mod Woken
+mod Flats
+mod Seen
+mod Deep
+mod Started
+mod Finish
+mod Carried
+mod TrueTable
+pub mod Public

@@ -12,7 +12,7 @@ use Rattle.fault_model.specs.declared.Line.{Line}
 use Rattle.fault_model.specs.declared.Model.TheVariants.{Transition}
 use Rattle.fault_model.specs.Solution.{Test}
 use Rattle.fault_model.specs.Detection.{carried, HasBit, LooksBack}
-use Rattle.fault_model.proofs.Unique.{agree}
+use Rattle.fault_model.proofs.Public.{agree}
 use Rattle.lists.proofs.Places.{within_place}
 use Rattle.block_sim.proofs.Placed.{index_of}
 use Rattle.patterns.specs.Tests.{size_of}

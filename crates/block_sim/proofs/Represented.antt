@@ -8,7 +8,7 @@ use Rattle.fault_model.specs.declared.Line.{Line}
 use Rattle.fault_model.specs.declared.Model.{Model}
 use Rattle.fault_model.specs.Fault.{Fault, FaultList, fault_list, faults}
 use Rattle.fault_model.specs.Collapse.{Collapsed, AreClassesOf, representatives}
-use Rattle.fault_model.proofs.Listed.{listed_model}
+use Rattle.fault_model.proofs.Public.{listed_model}
 
 -- where the elements of one list are found as those of another, the one at a place is
 found_at : {X : Type 0} (find : ℕ → Option X) (xs : List ℕ) (ys : List X) (i k : ℕ) → map find xs ≡ map Some ys → slice_get xs i ≡ Some k

@@ -7,11 +7,11 @@ use Rattle.bench_net.specs.Scan.{names, signal, sources, inputs, cells}
 use Rattle.bench_net.specs.Circuit.{IsWellFormed}
 use Rattle.lists.proofs.Members.{Among, among, contained, among_left, among_right}
 use Rattle.lists.proofs.Places.{placed}
-use Rattle.bench_net.proofs.SignalsDefined.{read_named}
+use Rattle.bench_net.proofs.Public.{read_named}
 use Rattle.fault_model.specs.declared.Line.TheVariants as line
 use Rattle.fault_model.specs.Fault.{Fault}
 use Rattle.fault_model.specs.Solution.{Test, Solves, under, value}
-use Rattle.fault_model.proofs.Unique.{Driven, driven, pins_agree}
+use Rattle.fault_model.proofs.Public.{Driven, driven, pins_agree}
 use Rattle.block_sim.specs.Words.{lane, test_of}
 use Rattle.block_sim.specs.Events.{bits_of, HasEquation, Reads}
 use Rattle.block_sim.specs.Spreading.{IsBalanced}

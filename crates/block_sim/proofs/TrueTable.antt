@@ -15,9 +15,7 @@ use Rattle.fault_model.specs.Fault.{Fault, faults}
 use Rattle.fault_model.specs.Solution.{Test, Solves, Detects, shows}
 use Rattle.fault_model.specs.Collapse.{next, representatives}
 use Rattle.fault_model.specs.Detection.{carried, HasBit, LooksBack, DetectsAt}
-use Rattle.fault_model.proofs.Carries.{carries}
-use Rattle.fault_model.proofs.ClassLaw.{has_solutions, detection_is_of_any_solution}
-use Rattle.fault_model.proofs.Unique.{agree}
+use Rattle.fault_model.proofs.Public.{carries, has_solutions, detection_is_of_any_solution, agree}
 use Rattle.patterns.specs.declared.Outcome.{Outcome}
 use Rattle.patterns.specs.declared.Outcome.TheVariants.{Clear, Hit}
 use Rattle.patterns.specs.Tests.{size_of}

@@ -20,7 +20,7 @@ use Rattle.fault_ledger.specs.History.{History, claims, held, holds, state_of, e
 use Rattle.fault_ledger.specs.Answer.{fits_size, is_hit, has_earlier_hit, claim_reply, report_reply, drop_reply, answer, added, after, IsLegal}
 use Rattle.fault_ledger.specs.Face.{Face, face, IsLedger, Answers}
 use Rattle.fault_ledger.specs.Lowest.{hit_below}
-use Rattle.patterns.proofs.BelowLemmas.{length-map-below, get_or-map-below}
+use Rattle.patterns.proofs.Public.{length-map-below, get_or-map-below}
 use Rattle.fault_ledger.proofs.Tables.{set-below, any-below}
 use Rattle.fault_ledger.proofs.Pieces.{some_class, piece_at-below, block_of-below}
 use Rattle.fault_ledger.proofs.Histories.{holds-not, held-holds}

@@ -13,7 +13,7 @@ use Rattle.fault_ledger.specs.History.{History, ContinuesWithout, piece_count, b
 use Rattle.fault_ledger.specs.Answer.{IsLegal}
 use Rattle.fault_ledger.specs.Seats.{Place}
 use Rattle.fault_ledger.specs.Words.{Crowd, crowd, place_of, IsKept, Knows, ForEach, field_in, state_at}
-use Rattle.patterns.proofs.BelowLemmas.{map-below_same}
+use Rattle.patterns.proofs.Public.{map-below_same}
 use Rattle.fault_ledger.proofs.Totals.{for_all}
 use Rattle.fault_ledger.proofs.Legal.{legal_hit}
 use Rattle.fault_ledger.proofs.Codes.{decoded}

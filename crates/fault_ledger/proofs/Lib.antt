@@ -1,27 +1,28 @@
-pub mod Tables
-pub mod Pieces
-pub mod Limits
-pub mod Histories
-pub mod Legal
-pub mod Settles
-pub mod Faces
-pub mod Lowest
-pub mod Statuses
-pub mod Finishes
-pub mod Replays
-pub mod Totals
-pub mod Tokens
-pub mod Fields
-pub mod Codes
-pub mod Meets
-pub mod Groups
-pub mod Looks
-pub mod Takes
-pub mod Meetings
-pub mod Accepts
-pub mod Keeps
-pub mod Steps
-pub mod Sits
-pub mod Classes
-pub mod Deals
-pub mod FirstHits
+mod Tables
+mod Pieces
+mod Limits
+mod Histories
+mod Legal
+mod Settles
+mod Faces
+mod Lowest
+mod Statuses
+mod Finishes
+mod Replays
+mod Totals
+mod Tokens
+mod Fields
+mod Codes
+mod Meets
+mod Groups
+mod Looks
+mod Takes
+mod Meetings
+mod Accepts
+mod Keeps
+mod Steps
+mod Sits
+mod Classes
+mod Deals
+mod FirstHits
+pub mod Public

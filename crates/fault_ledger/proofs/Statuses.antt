@@ -9,7 +9,7 @@ use Rattle.fault_ledger.specs.declared.Status.TheVariants as status_is
 use Rattle.fault_ledger.specs.History.{History, entry, block_count, piece_count, piece_at, states_of}
 use Rattle.fault_ledger.specs.Settled.{status_from, status}
 use Rattle.fault_ledger.specs.Seats.{AreStates}
-use Rattle.patterns.proofs.BelowLemmas.{length-map-below, get_or-map-below, map-below_same}
+use Rattle.patterns.proofs.Public.{length-map-below, get_or-map-below, map-below_same}
 use Rattle.fault_ledger.proofs.Pieces.{piece_at-below}
 use Rattle.fault_ledger.proofs.Legal.{legal_hit, never_first}
 

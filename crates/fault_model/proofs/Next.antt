@@ -8,10 +8,8 @@ use Rattle.bench_net.specs.declared.Sink.TheVariants as sink
 use Rattle.bench_net.specs.Statement.{Name, Statement, Gate}
 use Rattle.bench_net.specs.Scan.{names, name_of, sinks}
 use Rattle.lists.proofs.Members.{Among, contained}
-use Rattle.bench_net.proofs.Numbers.{name_of-signal}
+use Rattle.bench_net.proofs.Public.{name_of-signal, defined_among, PinReads, pin_reads}
 use Rattle.lists.proofs.Places.{at_place, place_within, within_place}
-use Rattle.bench_net.proofs.SignalsDefined.{defined_among}
-use Rattle.bench_net.proofs.SignalsSinks.{PinReads, pin_reads}
 use Rattle.fault_model.specs.declared.Line.{Line}
 use Rattle.fault_model.specs.declared.Line.TheVariants as line
 use Rattle.fault_model.specs.declared.Model.{Model}

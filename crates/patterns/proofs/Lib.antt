@@ -1,10 +1,11 @@
 mod RowLemmas
 mod OrderLemmas
 mod LaneLemmas
-pub mod BelowLemmas
+mod BelowLemmas
 mod WordLemmas
 mod PushLemmas
-pub mod LeastLemmas
-pub mod FaultLemmas
-pub mod AnswerLemmas
-pub mod TestLemmas
+mod LeastLemmas
+mod FaultLemmas
+mod AnswerLemmas
+mod TestLemmas
+pub mod Public

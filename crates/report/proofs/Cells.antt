@@ -5,7 +5,7 @@ use Rattle.bench_net.specs.declared.ScanCell.{ScanCell}
 use Rattle.bench_net.specs.Statement.{Name, Statement, Input, Output, Gate, Dff}
 use Rattle.bench_net.specs.Scan.{names, cells, signal, name_of}
 use Rattle.lists.proofs.Members.{Among, contained}
-use Rattle.bench_net.proofs.Numbers.{name_of-signal}
+use Rattle.bench_net.proofs.Public.{name_of-signal}
 
 -- what a list of stored cells has at a place where the cells of the circuit have q
 pub cell_at : (cs : List (Name × Name)) (rs : List ScanCell) (f : Name → ℕ) (i : ℕ) (d : ScanCell)

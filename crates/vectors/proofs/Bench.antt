@@ -5,8 +5,7 @@ use Rattle.bench_net.specs.declared.BenchFault.{BenchFault}
 use Rattle.bench_net.specs.declared.BenchFault.TheVariants.{Syntax, Redefined, Undefined, Cycle, Empty}
 use Rattle.bench_net.specs.Statement.{Statement, Input, Output, Gate, Dff}
 use Rattle.bench_net.specs.Refusal.{IsAccepted, IsRefused}
-use Rattle.bench_net.proofs.Answer.{answer_text}
-use Rattle.bench_net.proofs.Answered.{accepted_by, refused_by}
+use Rattle.bench_net.proofs.Public.{answer_text, accepted_by, refused_by}
 use Rattle.vectors.proofs.Circuits.{c17, and_of_two, inverter_loop, buffer, output_and_inverter, xor_of_one, scan_cell, cell_of_itself}
 
 -- records, so that text and circuit or fault are read off the statement

@@ -10,15 +10,12 @@ use Rattle.bench_net.specs.Text.{Spells, Open, Word}
 use Rattle.bench_net.specs.Scan.{signal, sinks}
 use Rattle.bench_net.specs.Circuit.{IsWellFormed, IsStuck}
 use Rattle.bench_net.specs.Refusal.{IsAccepted, IsRefused, IsSyntaxFault}
-use Rattle.bench_net.proofs.Reader.{complete_states}
-use Rattle.bench_net.proofs.Answer.{is_in}
-use Rattle.bench_net.proofs.Checked.{well_formed, stuck, accepted}
+use Rattle.bench_net.proofs.Public.{complete_states, is_in, well_formed, stuck, accepted}
 use Rattle.fault_model.specs.declared.Model.TheVariants.{StuckAt}
 use Rattle.fault_model.specs.declared.Line.TheVariants as line
 use Rattle.fault_model.specs.Solution.{Solves, Detects}
 use Rattle.fault_model.specs.Collapse.{Represents}
-use Rattle.fault_model.proofs.Plain.{bit_within, rep_represents}
-use Rattle.fault_model.proofs.Checked.{solves, detects}
+use Rattle.fault_model.proofs.Public.{bit_within, rep_represents, solves, detects}
 use Rattle.vectors.proofs.Circuits.{c17, inverter_loop, buffer, output_and_inverter, xor_of_one, scan_cell, cell_of_itself, cycle_with_tail}
 
 abbrev number_in : List Name → Name → ℕ

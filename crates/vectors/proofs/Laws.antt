@@ -6,8 +6,7 @@ use Rattle.bench_net.specs.Scan.{observers, sources}
 use Rattle.fault_model.specs.declared.Model.TheVariants.{StuckAt}
 use Rattle.fault_model.specs.Fault.{Fault, faults}
 use Rattle.fault_model.specs.Solution.{Test, shows}
-use Rattle.fault_model.proofs.Plain.{rep, bit_within}
-use Rattle.fault_model.proofs.Checked.{same_bit, is_solved}
+use Rattle.fault_model.proofs.Public.{rep, bit_within, same_bit, is_solved}
 use Rattle.vectors.proofs.Circuits.{c17, and_of_two, inverter_loop, buffer, nor_of_two, output_and_inverter, xor_of_one, scan_cell, cell_of_itself}
 
 -- all tests of a width

@@ -6,7 +6,7 @@ use Rattle.fault_model.specs.declared.Model.TheVariants.{StuckAt, Transition}
 use Rattle.fault_model.specs.Fault.{faults}
 use Rattle.fault_model.specs.Solution.{Test}
 use Rattle.fault_model.specs.Collapse.{representatives}
-use Rattle.fault_model.proofs.Plain.{class_of, first_within}
+use Rattle.fault_model.proofs.Public.{class_of, first_within}
 use Rattle.bench_net.specs.Statement.{Statement}
 use Rattle.report.specs.Report.{listing, report}
 use Rattle.vectors.proofs.Circuits.{c17, and_of_two, inverter_loop, eleven_inputs, buffer, nor_of_two, output_and_inverter, xor_of_one, scan_cell, cell_of_itself}

@@ -7,8 +7,7 @@ use Rattle.fault_model.specs.Fault.{faults}
 use Rattle.fault_model.specs.Solution.{Test}
 use Rattle.fault_model.specs.Collapse.{representatives}
 use Rattle.fault_model.specs.Detection.{DetectsAt, carried}
-use Rattle.fault_model.proofs.Plain.{class_of, first_within}
-use Rattle.fault_model.proofs.Checked.{slow_at}
+use Rattle.fault_model.proofs.Public.{class_of, first_within, slow_at}
 use Rattle.vectors.proofs.Circuits.{c17, and_of_two, buffer, output_and_inverter, scan_cell}
 
 abbrev rows : List (List ℕ) → List Test

@@ -9,7 +9,7 @@ use Rattle.fault_model.specs.declared.Model.TheVariants.{StuckAt}
 use Rattle.fault_model.specs.declared.Line.TheVariants as line
 use Rattle.fault_model.specs.Fault.{Fault, faults}
 use Rattle.fault_model.specs.Collapse.{IsClassOf, AreClassesOf, Represents, representatives}
-use Rattle.fault_model.proofs.Plain.{rep_represents}
+use Rattle.fault_model.proofs.Public.{rep_represents}
 use Rattle.patterns.specs.Tests.{bit, as_number}
 use Rattle.patterns.specs.Least.{below}
 use Rattle.std.specs.Int.{bit_at}

@@ -14,12 +14,7 @@ use Rattle.fault_ledger.specs.declared.Finish.TheVariants as finish_is
 use Rattle.fault_ledger.specs.History.{History, ContinuesWithout, worker_of, block_count, piece_at, piece_count, claims, held, holds, entry, state_of}
 use Rattle.fault_ledger.specs.Answer.{IsLegal}
 use Rattle.fault_ledger.specs.Settled.{status, finish, finish_from, IsSettledAt}
-use Rattle.fault_ledger.proofs.Histories.{held-holds}
-use Rattle.fault_ledger.proofs.Legal.{claim_accepted}
-use Rattle.fault_ledger.proofs.Pieces.{piece_at-below}
-use Rattle.fault_ledger.proofs.Classes.{ClearBelow, skipped_not_first, settled_stays}
-use Rattle.fault_ledger.proofs.Statuses.{status-hit, status-none}
-use Rattle.fault_ledger.proofs.Finishes.{finish-all}
+use Rattle.fault_ledger.proofs.Public.{held-holds, claim_accepted, piece_at-below, ClearBelow, skipped_not_first, settled_stays, status-hit, status-none, finish-all}
 use Rattle.workers.specs.Settling.{AreSettled}
 
 -- an open piece that was claimed is held by one of the workers

@@ -3,7 +3,7 @@ use Rattle.std.proofs.Common.{◌≡◌, ◌<◌, ℕ, zero, suc, List, [], ◌�
 use Rattle.std.proofs.lemmas.List.{length-map}
 use Rattle.block_sim.specs.Parts.{Parts, HasRoom}
 use Rattle.fault_ledger.specs.Seats.{Place, Sitter, newcomer, newcomers}
-use Rattle.patterns.proofs.BelowLemmas.{length-map-below, get_or-map-below}
+use Rattle.patterns.proofs.Public.{length-map-below, get_or-map-below}
 use Rattle.workers.specs.declared.threads.Worker.{Worker}
 use Rattle.workers.specs.Work.{Returns}
 

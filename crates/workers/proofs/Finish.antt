@@ -16,9 +16,7 @@ use Rattle.fault_ledger.specs.History.{History, ContinuesWithout, block_count, p
 use Rattle.fault_ledger.specs.Answer.{IsLegal}
 use Rattle.fault_ledger.specs.Settled.{status, status_from, finish, finish_from}
 use Rattle.fault_ledger.specs.Seats.{ClosedFace, Closes, Place, Sitter, HoldsAll, closed_face}
-use Rattle.fault_ledger.proofs.Histories.{held_goes_on, claims_past}
-use Rattle.fault_ledger.proofs.Legal.{legal_claims}
-use Rattle.fault_ledger.proofs.Classes.{ClearBelow, skipped_not_first}
+use Rattle.fault_ledger.proofs.Public.{held_goes_on, claims_past, legal_claims, ClearBelow, skipped_not_first}
 use Rattle.workers.specs.Settling.{AreSettled, IsShapeOf, shape_for}
 use Rattle.workers.specs.Work.{AreBack, IsOfHistory, is_skipped, ReportsTruly, Returns}
 use Rattle.workers.proofs.Closing.{none_open, all_settled, settled_goes_on, settled_finished, finished_settled}

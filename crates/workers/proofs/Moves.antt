@@ -9,7 +9,7 @@ use Rattle.patterns.specs.Tests.{blocks, size_of}
 use Rattle.patterns.specs.Least.{Table}
 use Rattle.block_sim.specs.First.{IsTrueOutcome}
 use Rattle.block_sim.specs.Parts.{Parts, BelongTogether}
-use Rattle.block_sim.proofs.TrueTable.{one_outcome}
+use Rattle.block_sim.proofs.Public.{one_outcome}
 use Rattle.fault_ledger.specs.declared.Event.{Event}
 use Rattle.fault_ledger.specs.declared.Shape.{Shape}
 use Rattle.fault_ledger.specs.declared.Call.TheVariants as call
@@ -21,9 +21,7 @@ use Rattle.fault_ledger.specs.declared.Reply.TheVariants.{Claimed, Done, Refused
 use Rattle.fault_ledger.specs.History.{History, piece_count, class_of, block_of, claims, held}
 use Rattle.fault_ledger.specs.Answer.{IsLegal, Gives, IsTrueTo, added, after, answer, fits_size, has_earlier_hit, claim_reply, drop_reply}
 use Rattle.fault_ledger.specs.Seats.{class_and_block}
-use Rattle.fault_ledger.proofs.Accepts.{drop_answer, report_answer}
-use Rattle.fault_ledger.proofs.Legal.{held_piece, legal_after}
-use Rattle.fault_ledger.proofs.Pieces.{block_of-below, some_class}
+use Rattle.fault_ledger.proofs.Public.{drop_answer, report_answer, held_piece, legal_after, block_of-below, some_class}
 use Rattle.workers.specs.Schedule.{IsTableOf, move, move_holding}
 use Rattle.workers.specs.Settling.{IsShapeOf}
 use Rattle.workers.proofs.Truth.{class_count, true_fits}

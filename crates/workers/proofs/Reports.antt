@@ -5,13 +5,12 @@ use Rattle.fault_model.specs.Collapse.{representatives}
 use Rattle.patterns.specs.Tests.{blocks}
 use Rattle.patterns.specs.Least.{Table}
 use Rattle.block_sim.specs.Parts.{Parts, BelongTogether}
-use Rattle.block_sim.proofs.TrueTable.{one_outcome, true_table}
+use Rattle.block_sim.proofs.Public.{one_outcome, true_table}
 use Rattle.fault_ledger.specs.declared.Event.{Event}
 use Rattle.fault_ledger.specs.declared.Shape.{Shape}
 use Rattle.fault_ledger.specs.History.{History, ContinuesWithout, class_of, block_of, held}
 use Rattle.fault_ledger.specs.Answer.{IsLegal, Gives, IsTrueTo}
-use Rattle.fault_ledger.proofs.Legal.{report_accepted, held_piece}
-use Rattle.fault_ledger.proofs.Pieces.{block_of-below, some_class}
+use Rattle.fault_ledger.proofs.Public.{report_accepted, held_piece, block_of-below, some_class}
 use Rattle.workers.specs.Schedule.{IsTableOf}
 use Rattle.workers.specs.Settling.{AreSettled, IsShapeOf}
 use Rattle.workers.specs.Verdict.{AreFirsts, verdicts}

@@ -12,12 +12,12 @@ use Rattle.patterns.specs.Tests.{blocks, size_of}
 use Rattle.patterns.specs.Least.{Table, least}
 use Rattle.block_sim.specs.First.{IsFirst, IsTrueOutcome}
 use Rattle.block_sim.specs.Parts.{Parts, BelongTogether}
-use Rattle.block_sim.proofs.LawOfTable.{least_is_first}
+use Rattle.block_sim.proofs.Public.{least_is_first}
 use Rattle.fault_ledger.specs.declared.Shape.{Shape}
 use Rattle.fault_ledger.specs.History.{History, block_count}
 use Rattle.fault_ledger.specs.Answer.{IsTrueTo, fits_size}
 use Rattle.fault_ledger.specs.Settled.{status}
-use Rattle.fault_ledger.proofs.Settles.{settles_at_least}
+use Rattle.fault_ledger.proofs.Public.{settles_at_least}
 use Rattle.workers.specs.Schedule.{IsTableOf}
 use Rattle.workers.specs.Settling.{AreSettled, IsShapeOf}
 use Rattle.workers.specs.Verdict.{AreFirsts, settled_at, verdicts}

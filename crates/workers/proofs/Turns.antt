@@ -14,12 +14,12 @@ use Rattle.fault_ledger.specs.declared.Shape.{Shape}
 use Rattle.fault_ledger.specs.History.{History, piece_count, block_count, class_of, block_of, claims, held}
 use Rattle.fault_ledger.specs.Answer.{IsLegal, IsTrueTo, has_earlier_hit}
 use Rattle.fault_ledger.specs.Face.{Face, face}
-use Rattle.fault_ledger.proofs.Legal.{claim_accepted, report_accepted, drop_accepted, legal_claims}
+use Rattle.fault_ledger.proofs.Public.{claim_accepted, report_accepted, drop_accepted, legal_claims}
 use Rattle.workers.specs.Schedule.{IsTableOf, drops, is_drop, move, move_holding, moved, turns, schedule_history}
 use Rattle.workers.specs.Settling.{AreSettled, IsShapeOf}
 use Rattle.workers.proofs.Closing.{all_settled, none_open}
 use Rattle.workers.proofs.Moves.{move_legal, move_true}
-use Rattle.patterns.proofs.BelowLemmas.{length-below, get_or-below}
+use Rattle.patterns.proofs.Public.{length-below, get_or-below}
 
 pub moved_append : (t : Table) (s : Shape) (h : History) (xs ys : List ℕ) → moved t s h (xs ++ ys) ≡ moved t s (moved t s h xs) ys
 moved_append t s h [] ys = refl

@@ -15,11 +15,7 @@ use Rattle.fault_ledger.specs.declared.Call.TheVariants as call
 use Rattle.fault_ledger.specs.History.{History, NoneOf, block_count, piece_at, piece_count, class_of, block_of, claims, held}
 use Rattle.fault_ledger.specs.Answer.{IsLegal, fits_size, has_earlier_hit}
 use Rattle.fault_ledger.specs.Seats.{Place, Sitter, IsSitter, Sees, Makes, Stays, FindsNoHit}
-use Rattle.fault_ledger.proofs.Histories.{claims_past, held_goes_on}
-use Rattle.fault_ledger.proofs.Legal.{claim_accepted}
-use Rattle.fault_ledger.proofs.Accepts.{claim_answer, report_answer}
-use Rattle.fault_ledger.proofs.Pieces.{at-of, block_of-below, some_class, class_of-at, block_of-at}
-use Rattle.fault_ledger.proofs.Sits.{claim_at, drop_at, held_sees, sitter_sees}
+use Rattle.fault_ledger.proofs.Public.{claims_past, held_goes_on, claim_accepted, claim_answer, report_answer, at-of, block_of-below, some_class, class_of-at, block_of-at, claim_at, drop_at, held_sees, sitter_sees}
 use Rattle.std.proofs.Math.Nat.{mod-lt}
 use Rattle.fault_ledger.specs.declared.Status.{Status}
 use Rattle.fault_ledger.specs.declared.Status.TheVariants as status_is

@@ -4,11 +4,11 @@ use Rattle.bench_net.specs.declared.Sink.TheVariants as sink
 use Rattle.bench_net.specs.Statement.{Gate}
 use Rattle.bench_net.specs.Scan.{names, signal, name_of, definition, gate_of, gate_line}
 use Rattle.lists.proofs.Members.{contained}
-use Rattle.bench_net.proofs.Numbers.{definition_defines, name_of-signal, signal-name_of}
+use Rattle.bench_net.proofs.Public.{definition_defines, name_of-signal, signal-name_of}
 use Rattle.lists.proofs.Places.{at_place, place_within}
 use Rattle.fault_model.specs.Detection.{argument, carried}
 use Rattle.fault_model.specs.Solution.{value}
-use Rattle.fault_model.proofs.Carries.{carries}
+use Rattle.fault_model.proofs.Public.{carries}
 use lib.Bits.{and_le_r}
 use Rattle.block_sim.specs.Stuck.{stuck_fault}
 use Rattle.block_sim.specs.Words.{lane, pin_bits}

@@ -3,7 +3,7 @@ use Rattle.std.proofs.lemmas.List.{get_or-map}
 use Rattle.bench_net.specs.declared.ScanCell.{ScanCell}
 use Rattle.bench_net.specs.Scan.{names, signal}
 use Rattle.lists.proofs.Members.{contained}
-use Rattle.bench_net.proofs.Numbers.{signal-name_of}
+use Rattle.bench_net.proofs.Public.{signal-name_of}
 use Rattle.lists.proofs.Places.{at_place}
 use Rattle.fault_model.specs.Detection.{carried}
 use Rattle.block_sim.proofs.Carried.{gate_within, output_signal, data_signal}

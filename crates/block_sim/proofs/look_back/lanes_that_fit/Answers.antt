@@ -3,10 +3,10 @@ use Rattle.std.specs.Prelude.{bit_and}
 use Rattle.std.specs.Bool.{Decides}
 use Rattle.bench_net.specs.Scan.{names, signal}
 use Rattle.bench_net.specs.Circuit.{IsCircuit}
-use Rattle.bench_net.proofs.Numbers.{name_of-signal}
+use Rattle.bench_net.proofs.Public.{name_of-signal}
 use Rattle.lists.proofs.Places.{place_within}
 use Rattle.fault_model.specs.Detection.{LooksBack, carried}
-use Rattle.fault_model.proofs.Carries.{carries}
+use Rattle.fault_model.proofs.Public.{carries}
 use Rattle.block_sim.specs.Stuck.{stuck_fault}
 use Rattle.block_sim.specs.Words.{lane}
 use Rattle.block_sim.proofs.Lanes.{lane_ones}

@@ -2,7 +2,7 @@ use Rattle.std.proofs.Common.{◌≡◌, ◌≢◌, ◌<◌, ℕ, ◌+◌, sym, 
 use Rattle.std.specs.Prelude.{slice_index_or, slice_set, bit_or, map, ◌==◌}
 use Rattle.std.proofs.lemmas.List.{length-set, set-set, set-get_or, get_or_default}
 use Rattle.bench_net.specs.Scan.{names, signal}
-use Rattle.event_queue.proofs.Zeros.{index_zero}
+use Rattle.event_queue.proofs.Public.{index_zero}
 use Rattle.block_sim.specs.Events.{level_at}
 use Rattle.block_sim.specs.Spreading.{IsSpreading, HasTouched, AreSeen, ahead}
 use Rattle.block_sim.proofs.Ahead.{ahead_higher, waiting_less, count_at_most}

@@ -1,7 +1,7 @@
 use Rattle.std.proofs.Common.{◌∙◌, ap, refl, sym, arith}
 use Rattle.std.specs.Prelude.{None, slice_get}
 use Rattle.bench_net.specs.Scan.{sources, name_of}
-use Rattle.event_queue.proofs.Zeros.{index_zero}
+use Rattle.event_queue.proofs.Public.{index_zero}
 use Rattle.block_sim.proofs.Equations.{pins_within, pins_few, source_equation, gate_equation}
 use Rattle.block_sim.proofs.words.signal_word.Goals as goal
 

@@ -1,5 +1,5 @@
 use Rattle.std.proofs.Common.{◌≡◌, ◌∙◌, ◌+◌, ◌*◌, ◌++◌, ℕ, List, Option, [], refl, sym, ap, subst, arith}
-use Rattle.block_sim.proofs.TrueTable.{true_table}
+use Rattle.block_sim.proofs.Public.{true_table}
 use Rattle.fault_ledger.specs.declared.Shape.{Shape}
 use Rattle.block_sim.specs.Parts.{Parts}
 use Rattle.fault_ledger.specs.History.{History, piece_count}

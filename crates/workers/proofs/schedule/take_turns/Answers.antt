@@ -1,6 +1,6 @@
 use Rattle.std.proofs.Common.{◌≡◌, ◌∙◌, ◌<◌, ◌+◌, ℕ, Bool, List, All, true, false, refl, sym, ap, subst, arith}
 use Rattle.patterns.specs.Least.{below}
-use Rattle.block_sim.proofs.TrueTable.{true_table}
+use Rattle.block_sim.proofs.Public.{true_table}
 use Rattle.fault_ledger.specs.declared.Shape.{Shape}
 use Rattle.fault_ledger.specs.History.{History}
 use Rattle.fault_ledger.specs.Answer.{IsLegal}

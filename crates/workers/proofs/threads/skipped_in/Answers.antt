@@ -8,8 +8,8 @@ use Rattle.fault_ledger.specs.declared.Shape.{Shape}
 use Rattle.fault_ledger.specs.declared.PieceState.{PieceState}
 use Rattle.fault_ledger.specs.declared.PieceState.TheVariants as state
 use Rattle.fault_ledger.specs.History.{History, entry, piece_at, piece_count, states_of}
-use Rattle.fault_ledger.proofs.Pieces.{at-of}
-use Rattle.patterns.proofs.BelowLemmas.{get_or-map-below, length-map-below}
+use Rattle.fault_ledger.proofs.Public.{at-of}
+use Rattle.patterns.proofs.Public.{get_or-map-below, length-map-below}
 use Rattle.block_sim.specs.Parts.{Parts}
 use Rattle.workers.specs.Settling.{IsShapeOf}
 use Rattle.workers.specs.Work.{is_skipped}

@@ -5,7 +5,7 @@ use Rattle.fault_ledger.specs.declared.Reply.TheVariants.{Claimed}
 use Rattle.fault_ledger.specs.History.{piece_at}
 use Rattle.fault_ledger.specs.Seats.{Makes, Place}
 use Rattle.workers.proofs.Works.{claimed, exhausted, fewer, then_held, works_twice, settled_works, sees_works}
-use Rattle.fault_ledger.proofs.Sits.{held_sees, sees_kept}
+use Rattle.fault_ledger.proofs.Public.{held_sees, sees_kept}
 use Rattle.fault_ledger.specs.Settled.{IsSettledAt}
 use Rattle.workers.proofs.worker.work.Goals as goal
 
