@@ -1,4 +1,5 @@
-//! The circuit in flat arrays, as the simulation reads it: a row for each signal, at the signal's number.
+//! The circuit in flat arrays, as the simulation reads it: a row for each signal, at the
+//! signal's number.
 
 ghost use Rattle.std.specs.Prelude.{◌≡◌, ◌↔◌, ◌<◌, ◌++◌, ℕ, List, IfOk, IsTrue, length};
 ghost use Rattle.std.specs.Option.{option_map};
@@ -64,7 +65,8 @@ impl Model for FlatCircuit {
 
     ghost view = { λ flat. flat.circuit };
 
-    ghost invariant = { λ flat. IsFlat flat.circuit flat.lists.pins.items flat.lists.readers.items flat.lists.rows.items };
+    ghost invariant = { λ flat. IsFlat flat.circuit flat.lists.pins.items
+        flat.lists.readers.items flat.lists.rows.items };
 }
 
 impl FlatCircuit {
@@ -88,7 +90,8 @@ impl FlatCircuit {
     #[inline(always)]
     pub fn gate_of(&self, signal: u32) -> Option<Gate<'_>>
         requires { signal < length (names self.now) }
-        ensures { option_map {U = Kind × List ℕ} (λ g. (g.kind, g.pins.now)) result ≡ gate_of self.now signal }
+        ensures { option_map {U = Kind × List ℕ} (λ g. (g.kind, g.pins.now)) result
+            ≡ gate_of self.now signal }
     {
         let row = &self.lists.rows[signal as usize];
         match row.driver {
@@ -131,7 +134,8 @@ impl FlatCircuit {
 
 /// The lists of a circuit.
 fn lists_of(alloc: Global, circuit: &Circuit) -> Result<Lists, AllocError>
-    ensures { IfOk result (λ lists. IsFlat circuit.now lists.pins.items lists.readers.items lists.rows.items) }
+    ensures { IfOk result (λ lists.
+        IsFlat circuit.now lists.pins.items lists.readers.items lists.rows.items) }
 {
     let signals = circuit.signals();
     let mut rows = Vec::with_capacity(alloc, signals as usize)?;
@@ -176,7 +180,8 @@ fn add_row(
     })
 }
 
-/// The kind of the gate that drives a signal. The signals that its pins read are added behind the others.
+/// The kind of the gate that drives a signal. The signals that its pins read are added behind the
+/// others.
 fn add_pins(circuit: &Circuit, signal: u32, pins: &mut Vec<u32>) -> Result<Option<Kind>, AllocError>
     requires { signal < length (names circuit.now) }
     ensures { IfOk result (IsDriver circuit.now signal pins.old.items pins.new.items) }
@@ -198,7 +203,9 @@ fn add_readers(
 ) -> Result<bool, AllocError>
     requires circuit { IsCircuit circuit.now }
     requires signal { signal < length (names circuit.now) }
-    ensures readers { IfOk result (λ _. (more : List Reader) × (readers.new.items ≡ readers.old.items ++ more) × AreReaders circuit.now signal more) }
+    ensures readers { IfOk result (λ _. (more : List Reader)
+        × (readers.new.items ≡ readers.old.items ++ more)
+        × AreReaders circuit.now signal more) }
     ensures observed { IfOk result (λ observed. IsTrue observed ↔ IsObserved circuit.now signal) }
 {
     let mut observed = false;
