@@ -19,6 +19,15 @@ HERE = pathlib.Path(__file__).resolve().parent
 CRATES = HERE.parent / "crates"
 TESTS = 65_536
 
+# the loops of the program at which a seat stays one of its ledger
+LOOPS = {"work": "loop", "lowest_waiting": "loop-class"}
+INVARIANT = """use Rattle.std.proofs.Common.{◌≡◌}
+use Rattle.ledger_times.proofs.FUNCTION.Given as goal
+
+abbrev pub invariant-LOOP : goal.invariant-LOOP
+invariant-LOOP l = l.seat.place ≡ l.ledger
+"""
+
 # what the program stands on, beside a crate of the kit
 STANDS_ON = ["bench_net", "fault_model", "patterns", "block_sim", "fault_ledger"]
 
@@ -54,6 +63,11 @@ def build(folder):
     home = folder / "crates" / "ledger_times"
     (home / "src").mkdir(parents=True)
     shutil.copy(HERE / "ledger_times.rt.txt", home / "src" / "main.rt")
+    for function, loop in LOOPS.items():
+        proof = home / "proofs" / function
+        proof.mkdir(parents=True)
+        text = INVARIANT.replace("FUNCTION", function).replace("LOOP", loop)
+        (proof / "Invariants.antt").write_text(text)
     (folder / "HANDLES").write_text((HERE.parent / "HANDLES").read_text())
     program = f"ledger_times: {' '.join(STANDS_ON)} anyhow"
     (folder / "crates.txt").write_text("\n".join([*lines, program]) + "\n")

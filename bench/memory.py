@@ -5,8 +5,9 @@
 
 It runs crates/faultsim/out/faultsim, which `rt run` builds, under limits of its address space, from
 too small to ample. A run must end by itself within its time: either with `faultsim: out of memory` on
-standard error, nothing on standard output and status 3, or with the answer that it gives without a
-limit, which is also that of baseline.cpp. A run that a signal ends, or that says anything else, fails.
+standard error (or `faultsim: thread refused`, where the memory that is refused is a thread's stack),
+nothing on standard output and status 3, or with the answer that it gives without a limit, which is
+also that of baseline.cpp. A run that a signal ends, or that says anything else, fails.
 """
 
 import argparse
@@ -21,8 +22,9 @@ HERE = pathlib.Path(__file__).resolve().parent
 PROGRAM = HERE.parent / "crates" / "faultsim" / "out" / "faultsim"
 MEGABYTE = 1 << 20
 LIMITS = [8, 16, 32, 48, 64, 96, 128, 192, 256, 384, 512, 768, 1024, 1536, 2048, 3072]
-SECONDS = 120
-REFUSED = (3, b"", b"faultsim: out of memory\n")
+SECONDS = 300
+# what a run may say that ends with status 3, the second where a thread's stack is refused
+WORDS = ["out of memory", "thread refused"]
 
 
 def chain(count):
@@ -88,8 +90,9 @@ def main():
             print(f"{title}: right in {seconds:.1f} s without a limit", flush=True)
             for limit in LIMITS:
                 seconds, ended = run([str(PROGRAM), *words], limit)
-                if ended == REFUSED:
-                    print(f"    {limit} MB: out of memory, status 3, {seconds:.2f} s", flush=True)
+                said = ended[2].decode(errors="replace").removeprefix("faultsim: ").rstrip("\n")
+                if ended[:2] == (3, b"") and said in WORDS:
+                    print(f"    {limit} MB: {said}, status 3, {seconds:.2f} s", flush=True)
                 elif ended == answer:
                     print(f"    {limit} MB: right, {seconds:.2f} s", flush=True)
                     break
