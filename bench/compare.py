@@ -5,7 +5,9 @@
 
 With --workers it runs other cases, each with 1, 2 and 4 workers against the baseline with as many, and prints for
 each number the ratio of the least times, and how much faster each of both is than its own run with 1 worker: as a
-whole, and without the time of a run with the first test alone, which is reading and setting up.
+whole, and without the time of a run with the first test alone, which is reading and setting up. It also prints how
+much processor time each takes beside its run with 1 worker, which says what sharing the work costs even where the
+processors are busy with something else.
 
 It builds baseline.cpp with g++ and the program with `rt run`, makes circuits and tests with
 generate.py in a temporary folder, runs both in turn, and prints for each case the ratio of the
@@ -14,6 +16,7 @@ least times. Ratios alone are printed: times depend on the machine.
 
 import argparse
 import pathlib
+import resource
 import subprocess
 import sys
 import tempfile
@@ -79,7 +82,7 @@ def compare_workers(folder, baseline, rounds, only):
         rows = generated(folder, "tests", ["tests", "--bench", bench, "--count", str(tests)])
         first = folder / "first"
         first.write_text(pathlib.Path(rows).read_text().split("\n")[0] + "\n")
-        least = {}
+        least, spent = {}, {}
         for _ in range(rounds):
             # 0 stands for one worker and the first test alone
             for workers in (0, *WORKERS):
@@ -87,8 +90,11 @@ def compare_workers(folder, baseline, rounds, only):
                          "--workers", str(max(workers, 1)), "--list"]
                 outs = []
                 for program in (str(PROGRAM), str(baseline)):
+                    before = processor_time()
                     took, out = timed([program, *words])
+                    used = processor_time() - before
                     least[program, workers] = min(took, least.get((program, workers), took))
+                    spent[program, workers] = min(used, spent.get((program, workers), used))
                     outs.append(out)
                 if outs[0] != outs[1]:
                     sys.exit(f"{title}: the reports differ")
@@ -101,7 +107,13 @@ def compare_workers(folder, baseline, rounds, only):
                 line += f"; {name} {one / many:.2f} times as fast as with 1"
                 if many - set_up > 0.05:
                     line += f", {(one - set_up) / (many - set_up):.2f} without setting up"
+                line += f", for {spent[program, workers] / max(spent[program, 1], 1e-3):.2f} of its processor time"
             print(line, flush=True)
+
+
+def processor_time():
+    used = resource.getrusage(resource.RUSAGE_CHILDREN)
+    return used.ru_utime + used.ru_stime
 
 
 def main():
