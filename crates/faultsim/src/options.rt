@@ -2,13 +2,11 @@
 
 use clap::{Arg, ArgAction, Command, value_parser};
 use fault_model::Model;
+use report::MAX_WORKERS;
 use std::alloc::{AllocError, Global};
 
 /// What `--version` tells.
 const VERSION: &str = "0.2.0";
-
-/// The greatest number of workers on the command line.
-const MAX_WORKERS: i64 = 64;
 
 /// What the program can be asked to do.
 #[derive(Clone, Copy)]
@@ -176,7 +174,7 @@ fn workers_option<'a>(alloc: Global, help: &'a str) -> Arg<'a> {
     Arg::new(alloc, "workers")
         .long("workers")
         .value_name("N")
-        .value_parser(value_parser!(u32).range(1..=MAX_WORKERS))
+        .value_parser(value_parser!(u32).range(1..=i64::from(MAX_WORKERS)))
         .default_value("4")
         .help(help)
 }

@@ -16,4 +16,4 @@ pub use text::{
     SimFault, faults_text, faults_text_in, job_of, listing_bytes, report_bytes, schedule_text,
     schedule_text_in, simulate_text, simulate_text_in,
 };
-pub use workers::RunFault;
+pub use workers::{MAX_WORKERS, RunFault};
