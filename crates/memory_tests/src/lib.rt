@@ -4,6 +4,10 @@
 #[cfg(test)]
 mod ballast;
 #[cfg(test)]
+mod full;
+#[cfg(test)]
+mod once;
+#[cfg(test)]
 mod parts;
 #[cfg(test)]
 mod runs;

@@ -49,7 +49,7 @@ pub(crate) fn is_want(fault: SimFault) -> bool {
 
 /// A part of a job.
 #[derive(Clone, Copy, Debug)]
-enum Part {
+pub(crate) enum Part {
     Circuit,
     Faults,
     Classes,
@@ -57,12 +57,21 @@ enum Part {
     Whole,
 }
 
+/// The parts of a job, and a job of all.
+pub(crate) const PARTS: [Part; 5] = [
+    Part::Circuit,
+    Part::Faults,
+    Part::Classes,
+    Part::Tests,
+    Part::Whole,
+];
+
 /// A part that is made, and the job that has it already.
 #[derive(Drop)]
-struct Making<'a> {
-    part: Part,
-    job: &'a Job,
-    tests: &'a [u8],
+pub(crate) struct Making<'a> {
+    pub(crate) part: Part,
+    pub(crate) job: &'a Job,
+    pub(crate) tests: &'a [u8],
 }
 
 impl Trial for Making<'_> {
@@ -104,7 +113,7 @@ impl Trial for Making<'_> {
 
 /// What a run stands on, beside its job.
 #[derive(Clone, Copy, Debug)]
-enum Means {
+pub(crate) enum Means {
     Order,
     Workspace,
     Ledger,
@@ -112,11 +121,20 @@ enum Means {
     SharedLedger,
 }
 
+/// What a run stands on.
+pub(crate) const MEANS: [Means; 5] = [
+    Means::Order,
+    Means::Workspace,
+    Means::Ledger,
+    Means::Replay,
+    Means::SharedLedger,
+];
+
 /// A means of a run that is made for a job.
 #[derive(Drop)]
-struct Setting<'a> {
-    means: Means,
-    job: &'a Job,
+pub(crate) struct Setting<'a> {
+    pub(crate) means: Means,
+    pub(crate) job: &'a Job,
 }
 
 impl Trial for Setting<'_> {
@@ -175,13 +193,7 @@ fn share(alloc: Global) -> Outcome {
 fn parts_of_a_job(rt: HostRuntime) -> Result<(), Fail> {
     let tests = tests_of_c17(rt.alloc())?;
     let job = job_of(rt.alloc(), Model::StuckAt, C17, tests.as_slice())?;
-    for part in [
-        Part::Circuit,
-        Part::Faults,
-        Part::Classes,
-        Part::Tests,
-        Part::Whole,
-    ] {
+    for part in PARTS {
         let making = Making {
             part,
             job: &job,
@@ -196,13 +208,7 @@ fn parts_of_a_job(rt: HostRuntime) -> Result<(), Fail> {
 fn means_of_a_run(rt: HostRuntime) -> Result<(), Fail> {
     let tests = tests_of_c17(rt.alloc())?;
     let job = job_of(rt.alloc(), Model::StuckAt, C17, tests.as_slice())?;
-    for means in [
-        Means::Order,
-        Means::Workspace,
-        Means::Ledger,
-        Means::Replay,
-        Means::SharedLedger,
-    ] {
+    for means in MEANS {
         sweep(&rt, rt.alloc(), &Setting { means, job: &job })?;
     }
     Ok(())

@@ -1,6 +1,5 @@
 //! Runs of a job, in one thread and in threads.
 
-use crate::ballast::Ballast;
 use crate::parts::{C17, tests_of_c17};
 use crate::sweep::{Outcome, Trial, answered, refused, sweep};
 use block_sim::Job;
@@ -13,14 +12,14 @@ use std::thread::Threads;
 use workers::{OpenGate, Verdicts, run, run_schedule};
 
 /// Whether these are the verdicts of C17, of whose faults two tests detect 19.
-fn is_right(verdicts: &Verdicts) -> bool {
+pub(crate) fn is_right(verdicts: &Verdicts) -> bool {
     verdicts.detected() == 19 && verdicts.total() == 34
 }
 
 /// A run of one thread.
 #[derive(Drop)]
-struct Scheduled<'a> {
-    job: &'a Job,
+pub(crate) struct Scheduled<'a> {
+    pub(crate) job: &'a Job,
 }
 
 impl Trial for Scheduled<'_> {
@@ -38,9 +37,9 @@ impl Trial for Scheduled<'_> {
 
 /// A run of two threads.
 #[derive(Drop)]
-struct Threaded<'a, R> {
-    rt: &'a R,
-    job: &'a Job,
+pub(crate) struct Threaded<'a, R> {
+    pub(crate) rt: &'a R,
+    pub(crate) job: &'a Job,
 }
 
 impl<R: Threads + Wait> Trial for Threaded<'_, R> {
@@ -62,18 +61,4 @@ fn runs_of_a_job(rt: HostRuntime) -> Result<(), Fail> {
     let job = job_of(rt.alloc(), Model::StuckAt, C17, tests.as_slice())?;
     sweep(&rt, rt.alloc(), &Scheduled { job: &job })?;
     sweep(&rt, rt.alloc(), &Threaded { rt: &rt, job: &job })
-}
-
-#[test]
-fn starts_of_threads(rt: HostRuntime) -> Result<(), Fail> {
-    let tests = tests_of_c17(rt.alloc())?;
-    let job = job_of(rt.alloc(), Model::StuckAt, C17, tests.as_slice())?;
-    // No stack of a thread finds room, but for those that are kept from threads that ended.
-    let ballast = Ballast::large(rt.alloc(), 20)?;
-    let refused = run(&rt, rt.alloc(), &job, 64, &OpenGate).err();
-    assert_eq!(rt; refused, Some(RunFault::Threads));
-    drop(ballast);
-    let verdicts = run(&rt, rt.alloc(), &job, 64, &OpenGate)?;
-    assert!(rt; is_right(&verdicts));
-    Ok(())
 }

@@ -43,6 +43,16 @@ pub(crate) trait Trial {
     fn attempt(&self, alloc: Global) -> Outcome;
 }
 
+/// Makes a call, and once more where it was refused. It must succeed then, since what is refused here is
+/// one allocation or the start of one thread alone.
+pub(crate) fn once<T: Trial, R: Abort>(rt: &R, alloc: Global, trial: &T) {
+    let mut outcome = trial.attempt(alloc);
+    if outcome == Outcome::Refused {
+        outcome = trial.attempt(alloc);
+    }
+    assert_eq!(rt; outcome, Outcome::Right, "{}", trial.name());
+}
+
 /// Tries a call with ample memory, then with none, and then with one block more each time until it
 /// succeeds. It must be refused at first, and never be wrong.
 pub(crate) fn sweep<T: Trial, R: Abort>(rt: &R, alloc: Global, trial: &T) -> Result<(), Fail> {

@@ -57,7 +57,7 @@ impl Out for Screen {
 
 /// A text call.
 #[derive(Clone, Copy, Debug)]
-enum TextCall {
+pub(crate) enum TextCall {
     Simulate,
     Schedule,
     Faults,
@@ -65,11 +65,11 @@ enum TextCall {
 
 /// A text call on C17, and what it writes.
 #[derive(Drop)]
-struct Written<'a, R> {
-    rt: &'a R,
-    call: TextCall,
-    tests: &'a [u8],
-    text: &'a [u8],
+pub(crate) struct Written<'a, R> {
+    pub(crate) rt: &'a R,
+    pub(crate) call: TextCall,
+    pub(crate) tests: &'a [u8],
+    pub(crate) text: &'a [u8],
 }
 
 impl<R: Threads + Wait> Written<'_, R> {

@@ -1,0 +1,55 @@
+//! Each call once. The test passes with ample memory, and also where one allocation of its process, or the
+//! start of one thread, is refused: `bench/refusals.py` runs it so, with one after another.
+
+use crate::parts::{C17, MEANS, Making, PARTS, Setting, tests_of_c17};
+use crate::runs::{Scheduled, Threaded};
+use crate::sweep::once;
+use crate::texts::{TextCall, Written};
+use block_sim::Job;
+use fault_model::Model;
+use report::{job_of, listing_bytes, report_bytes};
+use std::alloc::Global;
+use std::process::Abort;
+use std::test::Fail;
+
+/// The parts of a job.
+fn make_parts<R: Abort>(rt: &R, alloc: Global, job: &Job, tests: &[u8]) {
+    for part in PARTS {
+        once(rt, alloc, &Making { part, job, tests });
+    }
+}
+
+/// What a run stands on.
+fn make_means<R: Abort>(rt: &R, alloc: Global, job: &Job) {
+    for means in MEANS {
+        once(rt, alloc, &Setting { means, job });
+    }
+}
+
+#[test]
+fn each_call_that_was_refused_succeeds_again(rt: HostRuntime) -> Result<(), Fail> {
+    let alloc = rt.alloc();
+    let tests = tests_of_c17(alloc)?;
+    let tests = tests.as_slice();
+    let report = report_bytes(&rt, alloc, Model::StuckAt, C17, tests, 1, true)?;
+    let listing = listing_bytes(alloc, Model::StuckAt, C17)?;
+    let job = job_of(alloc, Model::StuckAt, C17, tests)?;
+    make_parts(&rt, alloc, &job, tests);
+    make_means(&rt, alloc, &job);
+    once(&rt, alloc, &Scheduled { job: &job });
+    once(&rt, alloc, &Threaded { rt: &rt, job: &job });
+    for (call, text) in [
+        (TextCall::Simulate, report.as_slice()),
+        (TextCall::Schedule, report.as_slice()),
+        (TextCall::Faults, listing.as_slice()),
+    ] {
+        let written = Written {
+            rt: &rt,
+            call,
+            tests,
+            text,
+        };
+        once(&rt, alloc, &written);
+    }
+    Ok(())
+}
