@@ -335,13 +335,15 @@ impl SharedLedger {
 
     /// Whether a class is settled, and at which test, else the block that it waits for. It looks at
     /// the blocks of the class up to the first that isn't clear, and takes effect at its last look.
-    /// The looks begin as those of [`SharedLedger::drop_piece`] do.
+    /// The looks begin as those of [`SharedLedger::drop_piece`] do. Where there is no block it takes
+    /// no look.
     pub fn status(&self, seat: &mut Seat, class: u32) -> Status
         requires place { seat.old.place ≡ self.now }
         requires range { class < self.now.shape.classes }
         ensures kept { Keeps seat.old seat.new }
         ensures seen { Sees seat.old seat.old.told seat.new }
         ensures status { result ≡ status self.now.shape seat.new.seen class }
+        ensures no_block { block_count self.now.shape ≡ 0 → seat.new ≡ seat.old }
     {
         let head = self.passes_clear(seat, class, self.shape.blocks());
         match head.next {
@@ -357,12 +359,14 @@ impl SharedLedger {
 
     /// Whether all classes are settled, else the lowest class that isn't, with the block that it
     /// waits for. It takes the looks of [`SharedLedger::status`] for that class and each lower one,
-    /// and takes effect at its last look.
+    /// and takes effect at its last look. Where there is no piece it takes no look.
     pub fn finished(&self, seat: &mut Seat) -> Finish
         requires { seat.old.place ≡ self.now }
         ensures kept { Keeps seat.old seat.new }
         ensures seen { Sees seat.old seat.old.told seat.new }
         ensures finish { result ≡ finish self.now.shape seat.new.seen }
+        ensures no_piece { (self.now.shape.classes ≡ 0) ⊎ (block_count self.now.shape ≡ 0)
+            → seat.new ≡ seat.old }
     {
         for class in 0..seat.classes {
             if let Status::Waiting(block) = self.status(seat, class) {

@@ -1,4 +1,5 @@
-use Rattle.std.proofs.Common.{◌≡◌, ℕ, ◌<◌, ◌≤◌, Option, sym, ap, ◌∙◌, subst, arith, below_more}
+use Rattle.std.proofs.Common.{◌≡◌, ◌⊎◌, ⊎_elim, refl, ℕ, ◌<◌, ◌≤◌, Option, sym, ap, ◌∙◌, subst, arith, below_more}
+use Rattle.fault_ledger.specs.History.{block_count}
 use Rattle.fault_ledger.specs.Settled.{status, IsSettledAt}
 use Rattle.fault_ledger.specs.Seats.{Place, Sitter, IsSitter}
 use Rattle.fault_ledger.proofs.Finishes.{finish-waits, finish-all}
@@ -14,6 +15,7 @@ count c = c.seat.invariant.classes_is ∙ ap (λ (x : Sitter). x.place.shape.cla
 pub loop-class-init : goal.loop-class-init
 loop-class-init c = record {
   sees = sees_same c.args.seat.now (subst IsSitter c.seat.view_is c.seat.invariant.sitter);
+  still = λ _. refl;
   settled = λ k l. absurd (omega arith);
 }
 
@@ -38,6 +40,9 @@ returns-in-Waiting c =
       finish = sym (finish-waits (status s d.seen) s.classes c.loop-class.class c.in-Waiting.block within
           (λ k l. let e = c.loop-class.invariant.settled k l in (e.0, settled_stays s k b.worker e.0 d.seen b.seen f.seen.newer e.1))
           (sym f.status ∙ c.in-Waiting.is));
+      no_piece = λ (none : (s.classes ≡ 0) ⊎ (block_count s ≡ 0)).
+          let blocks : block_count s ≡ 0 = ⊎_elim (λ (e : s.classes ≡ 0). absurd (omega (arith, e, within))) (λ (e : block_count s ≡ 0). e) none in
+          f.no_block blocks ∙ c.loop-class.invariant.still none;
     }
 
 pub loop-class-preserved : goal.loop-class-preserved
@@ -46,8 +51,12 @@ loop-class-preserved c =
     let d = c.status.new.seat in
     let s = c.args.self.now.shape in
     let f = c.status.ensures in
+    let within : c.loop-class.class < s.classes = (let e = count (goal.at.loop-class-preserved c).After-seat in let l = c.loop-class-test.true in omega arith) in
     record {
       sees = sees_twice c.args.seat.now b d c.loop-class.invariant.sees f.seen;
+      still = λ (none : (s.classes ≡ 0) ⊎ (block_count s ≡ 0)).
+          let blocks : block_count s ≡ 0 = ⊎_elim (λ (e : s.classes ≡ 0). absurd (omega (arith, e, within))) (λ (e : block_count s ≡ 0). e) none in
+          f.no_block blocks ∙ c.loop-class.invariant.still none;
       settled = below_more (λ k. (at : Option ℕ) × IsSettledAt s d.seen k at) c.loop-class.class
           (λ k l. let e = c.loop-class.invariant.settled k l in (e.0, settled_stays s k b.worker e.0 d.seen b.seen f.seen.newer e.1))
           (c.in_default.field-0, sym f.status ∙ c.in_default.is);
@@ -62,4 +71,5 @@ returns c =
       kept = sees_kept c.args.seat.now c.loop-class.seat sees;
       seen = sees;
       finish = sym (finish-all (status s c.loop-class.seat.seen) s.classes (λ k l. c.loop-class.invariant.settled k (omega arith)));
+      no_piece = c.loop-class.invariant.still;
     }
