@@ -1,0 +1,136 @@
+//! What the author of a test generator calls, from texts to verdicts.
+
+ghost use Rattle.std.specs.Prelude.{◌<◌, length};
+ghost use Rattle.block_sim.specs.Parts.{HasRoom};
+ghost use Rattle.patterns.specs.Tests.{blocks};
+
+use bench_net::read_bench;
+use block_sim::{Job, Workspace, first_hit, simulate};
+use fault_model::{Model, collapse, list_faults};
+use patterns::{BLOCK_SIZE, Outcome, read_tests};
+use report::{SimFault, job_of, listing_bytes, report_bytes};
+use std::alloc::{AllocError, Global};
+use std::test::Fail;
+use workers::{OpenGate, Verdicts, run};
+
+/// C17 of the ISCAS-85 benchmarks.
+const C17: &[u8] = b"\
+    INPUT(G1)\n\
+    INPUT(G2)\n\
+    INPUT(G3)\n\
+    INPUT(G6)\n\
+    INPUT(G7)\n\
+    OUTPUT(G22)\n\
+    OUTPUT(G23)\n\
+    G10 = NAND(G1, G3)\n\
+    G11 = NAND(G3, G6)\n\
+    G16 = NAND(G2, G11)\n\
+    G19 = NAND(G11, G7)\n\
+    G22 = NAND(G10, G16)\n\
+    G23 = NAND(G16, G19)\n";
+
+/// The job of a bench text and a test text: circuit, stuck-at faults, their classes and the tests.
+fn read_job(alloc: Global, bench: &[u8], tests: &[u8]) -> Result<Job, SimFault> {
+    let circuit = read_bench(alloc, bench)?;
+    let faults = list_faults(alloc, &circuit)?;
+    let classes = collapse(alloc, &circuit, &faults)?;
+    let tests = read_tests(alloc, tests, circuit.sources())?;
+    Ok(Job::new(alloc, circuit, faults, classes, tests)?)
+}
+
+/// Whether some test of the run before detects a class.
+fn was_found(job: &Job, before: &Verdicts, class: u32) -> bool
+    requires { class < length job.now.classes.representative }
+{
+    let fault = job.classes().representative(class);
+    fault < before.total() && before.first(fault).is_some()
+}
+
+/// What a block of new tests adds to a run before: each class that it detects for the first time,
+/// with the number of the test that does, from 0.
+fn news(
+    alloc: Global,
+    job: &Job,
+    workspace: &mut Workspace,
+    block: u32,
+    before: &Verdicts,
+) -> Result<Vec<(u32, u32)>, AllocError>
+    requires block { block < blocks (length job.now.tests.tests) }
+    requires fits { HasRoom workspace.old job.now }
+{
+    let mut found = Vec::new(alloc);
+    for class in 0..job.classes().count() {
+        if was_found(job, before, class) {
+            continue;
+        }
+        if let Outcome::Hit(test) = first_hit(job, workspace, class, block) {
+            found.push((class, BLOCK_SIZE * block + test))?;
+        }
+    }
+    Ok(found)
+}
+
+#[test]
+fn faults_are_found_in_threads(rt: HostRuntime) -> Result<(), Fail> {
+    let job = read_job(rt.alloc(), C17, b"11111\n")?;
+    let verdicts = run(&rt, rt.alloc(), &job, 4, &OpenGate)?;
+    assert!(rt; verdicts.detected() == 14 && verdicts.total() == 34);
+    Ok(())
+}
+
+/// What three new tests of c17 add to a run before.
+fn news_of_three(alloc: Global, before: &Verdicts) -> Result<Vec<(u32, u32)>, SimFault> {
+    let job = read_job(alloc, C17, b"00000\n10101\n01010\n")?;
+    let mut workspace = Workspace::new(alloc, &job)?;
+    if job.tests().blocks() == 0 {
+        return Ok(Vec::new(alloc));
+    }
+    Ok(news(alloc, &job, &mut workspace, 0, before)?)
+}
+
+#[test]
+fn new_tests_find_more_classes(rt: HostRuntime) -> Result<(), Fail> {
+    let job = job_of(rt.alloc(), Model::StuckAt, C17, b"11111\n")?;
+    let before = run(&rt, rt.alloc(), &job, 4, &OpenGate)?;
+    let found = news_of_three(rt.alloc(), &before)?;
+    assert!(rt; found.len() == 12);
+    Ok(())
+}
+
+/// How many gates are evaluated for all classes on a block.
+fn evaluations(job: &Job, workspace: &mut Workspace, block: u32) -> u64
+    requires block { block < blocks (length job.now.tests.tests) }
+    requires fits { HasRoom workspace.old job.now }
+{
+    for class in 0..job.classes().count() {
+        simulate(job, workspace, class, block);
+    }
+    workspace.gate_evaluations()
+}
+
+#[test]
+fn evaluations_are_counted(rt: HostRuntime) -> Result<(), Fail> {
+    let job = read_job(rt.alloc(), C17, b"11111\n")?;
+    let mut workspace = Workspace::new(rt.alloc(), &job)?;
+    assert!(rt; job.tests().blocks() == 1);
+    assert_eq!(rt; evaluations(&job, &mut workspace, 0), 18);
+    Ok(())
+}
+
+#[test]
+fn texts_are_written(rt: HostRuntime) -> Result<(), Fail> {
+    let bench = b"INPUT(a)\nOUTPUT(z)\nz = BUFF(a)\n";
+    let tests = b"0\n1\n0\n";
+    let report = report_bytes(&rt, rt.alloc(), Model::Transition, bench, tests, 4, true)?;
+    let wanted = "stem a str 1\nstem a stf 2\nstem z str 1\nstem z stf 2\n4 of 4 (100.00%)\n";
+    assert!(rt; report.as_slice() == wanted.as_bytes());
+    Ok(())
+}
+
+#[test]
+fn listings_are_written(rt: HostRuntime) -> Result<(), Fail> {
+    let listing = listing_bytes(rt.alloc(), Model::StuckAt, b"z = DFF(z)\n")?;
+    let wanted = "stem z sa0 class 0\nstem z sa1 class 1\n2 faults in 2 classes\n";
+    assert!(rt; listing.as_slice() == wanted.as_bytes());
+    Ok(())
+}

@@ -1,0 +1,5 @@
+//! Worked examples of the library's calls, as tests. docs/LIBRARY.md shows them.
+#![tactic(auto)]
+
+#[cfg(test)]
+mod generator;
