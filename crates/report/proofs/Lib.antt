@@ -1,4 +1,4 @@
-pub mod Outputs
+pub mod Zips
 pub mod Cells
 pub mod Texts
 pub mod Lines

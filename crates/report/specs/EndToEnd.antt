@@ -18,7 +18,7 @@ use Rattle.workers.specs.Refused.{IsRunFault, IsScheduleFault}
 use Rattle.workers.specs.Verdict.{AreFirsts}
 use Rattle.report.specs.declared.text.SimFault.{SimFault}
 use Rattle.report.specs.declared.text.SimFault.TheVariants as fault
-use Rattle.report.specs.Output.{Output, TakesAll, TakesFront}
+use Rattle.output.specs.Output.{Output, TakesAll, TakesFront}
 use Rattle.report.specs.Report.{report, listing}
 
 -- the bytes are the report of a bench text and a test text under a model: each fault has the first test that detects it, or none

@@ -6,7 +6,6 @@
 //! [`Out`], and their contracts say which bytes.
 #![tactic(auto)]
 
-mod output;
 mod report;
 mod text;
 

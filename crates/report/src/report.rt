@@ -5,10 +5,10 @@ ghost use Rattle.std.specs.List.{flat_map};
 ghost use Rattle.bench_net.specs.Scan.{cells};
 ghost use Rattle.fault_model.specs.Fault.{Fault, faults};
 ghost use Rattle.fault_model.specs.Collapse.{AreClassesOf};
-ghost use Rattle.report.specs.Output.{Writes};
+ghost use Rattle.output.specs.Output.{Writes};
 ghost use Rattle.report.specs.Report.{IsLineOf, cell_text, first_line, class_line, line_text, defect_text, fault_text, fault_lines, coverage_line, report, listing};
 
-use crate::output::{Out, OutFailed, put_pieces};
+use output::{Out, OutFailed, put_pieces};
 use bench_net::Circuit;
 use block_sim::Job;
 use fault_model::{Classes, Faults, Line, Model};

@@ -8,7 +8,7 @@ ghost use Rattle.patterns.specs.Tests.{HasTests, max_pieces};
 ghost use Rattle.block_sim.specs.Parts.{piece_count};
 ghost use Rattle.report.specs.EndToEnd.{WritesOneOf, AreTestsFor, IsReportOf, IsReportFault, IsScheduleTextFault, HasSomeMoves, IsListingOf, IsListingFault, IsJobOf, IsJobFor, IsJobFault, IsInputFault, IsPiecesFault};
 
-use crate::output::{Out, Plain};
+use output::{Out, Plain};
 use crate::report::{ReportFault, write_listing, write_report};
 use bench_net::{BenchFault, Circuit, read_bench};
 use block_sim::{Job, JobFault};

@@ -3,7 +3,8 @@ use Rattle.std.specs.Prelude.{zip}
 use Rattle.std.proofs.lemmas.Result.{err_from_is_err_and}
 use Rattle.lists.proofs.Places.{within_place}
 use Rattle.report.specs.Report.{class_line}
-use Rattle.report.proofs.Outputs.{takes_more, stopped, flat_map_cut, flat_map_taken, zipped_by, all_zipped}
+use Rattle.output.proofs.Public.{takes_more, stopped, flat_map_cut, flat_map_taken}
+use Rattle.report.proofs.Zips.{zipped_by, all_zipped}
 use Rattle.report.proofs.report.put_classes.Goals as goal
 
 pub returns-in_err-put_class_line : goal.returns-in_err-put_class_line

@@ -1,4 +1,4 @@
-use Rattle.report.proofs.Outputs.{writes_same}
+use Rattle.output.proofs.Public.{writes_same}
 use Rattle.report.proofs.Texts.{counts_text}
 use Rattle.report.proofs.report.put_counts.Goals as goal
 

@@ -1,5 +1,5 @@
 use Rattle.std.proofs.lemmas.Result.{err_from_is_err_and}
-use Rattle.report.proofs.Outputs.{writes_then, stopped_before}
+use Rattle.output.proofs.Public.{writes_then, stopped_before}
 use Rattle.report.proofs.report.put_fault_line.Goals as goal
 
 pub returns-in_err-put_fault : goal.returns-in_err-put_fault

@@ -3,7 +3,8 @@ use Rattle.std.specs.Prelude.{zip, None}
 use Rattle.std.proofs.lemmas.Result.{err_from_is_err_and}
 use Rattle.lists.proofs.Places.{within_place}
 use Rattle.report.specs.Report.{first_line}
-use Rattle.report.proofs.Outputs.{takes_more, stopped, flat_map_cut, flat_map_taken, zipped_by, all_zipped}
+use Rattle.output.proofs.Public.{takes_more, stopped, flat_map_cut, flat_map_taken}
+use Rattle.report.proofs.Zips.{zipped_by, all_zipped}
 use Rattle.report.proofs.report.put_firsts.Goals as goal
 
 pub returns-in_err-put_first_line : goal.returns-in_err-put_first_line

@@ -1,7 +1,7 @@
 use Rattle.std.proofs.Common.{◌≡◌, true, length, arith}
 use Rattle.std.proofs.lemmas.Result.{err_from_is_err_and}
 use Rattle.workers.specs.Verdict.{detected}
-use Rattle.report.proofs.Outputs.{takes_more, stopped_before, stopped_after}
+use Rattle.output.proofs.Public.{takes_more, stopped_before, stopped_after}
 use Rattle.bench_net.proofs.Public.{some_signal}
 use Rattle.report.specs.Report.{coverage_line}
 use Rattle.report.proofs.report.write_report.Goals as goal

@@ -1,6 +1,6 @@
 use Rattle.std.proofs.lemmas.Result.{err_from_is_err_and}
-use Rattle.report.proofs.Outputs.{takes_more, stopped, flat_map_cut, flat_map_taken}
-use Rattle.report.proofs.output.put_pieces.Goals as goal
+use Rattle.output.proofs.Public.{takes_more, stopped, flat_map_cut, flat_map_taken}
+use Rattle.output.proofs.put_pieces.Goals as goal
 
 pub returns-in_err-put_all : goal.returns-in_err-put_all
 returns-in_err-put_all g c =

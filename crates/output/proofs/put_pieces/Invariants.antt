@@ -1,7 +1,7 @@
 use Rattle.std.proofs.Common.{take}
 use Rattle.std.specs.List.{flat_map}
-use Rattle.report.specs.Output.{TakesAll}
-use Rattle.report.proofs.output.put_pieces.Given as goal
+use Rattle.output.specs.Output.{TakesAll}
+use Rattle.output.proofs.put_pieces.Given as goal
 
 -- the pieces so far were taken whole
 abbrev pub invariant-loop-piece : goal.invariant-loop-piece

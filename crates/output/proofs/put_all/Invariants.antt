@@ -1,6 +1,6 @@
 use Rattle.std.proofs.Common.{◌≡◌, ℕ, List, ◌++◌, length}
-use Rattle.report.specs.Output.{TakesAll}
-use Rattle.report.proofs.output.put_all.Given as goal
+use Rattle.output.specs.Output.{TakesAll}
+use Rattle.output.proofs.put_all.Given as goal
 
 -- what has been taken so far, and what is left of the piece
 abbrev pub invariant-loop-rest : goal.invariant-loop-rest

@@ -1,6 +1,6 @@
 use Rattle.std.proofs.Common.{take, List, ℕ, ◌++◌, ◌∙◌}
-use Rattle.report.proofs.Outputs.{appends_more, rest_split, counts_none}
-use Rattle.report.proofs.output.put_all.Goals as goal
+use Rattle.output.proofs.Public.{appends_more, rest_split, counts_none}
+use Rattle.output.proofs.put_all.Goals as goal
 
 pub loop-rest-preserved : goal.loop-rest-preserved
 loop-rest-preserved g c =

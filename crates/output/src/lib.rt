@@ -1,9 +1,11 @@
-//! Where the program's bytes go.
+//! Where bytes go: outputs that say how much of a piece they took and count how often they failed, and
+//! calls that put whole texts.
+#![tactic(auto)]
 
 ghost use Rattle.std.specs.List.{flat_map};
 ghost use Rattle.std.specs.Prelude.{◌≡◌, ◌≤◌, IfOk, length};
 ghost use Rattle.std.specs.Io.KnownBytes.{WriteAppends};
-ghost use Rattle.report.specs.Output.{Output, fails_after, is_refusal, Writes};
+ghost use Rattle.output.specs.Output.{Output, fails_after, is_refusal, Writes};
 
 use std::fmt;
 use std::io::Write;

@@ -1,5 +1,5 @@
 -- What several pieces, one after another, leave in an output.
-use Rattle.std.proofs.Common.{◌≡◌, ◌≤◌, ◌-◌, ℕ, zero, Bool, false, List, ◌++◌, length, take, drop, ◌∙◌, append_assoc, arith, refl, subst}
+use Rattle.std.proofs.Common.{◌≡◌, ◌≤◌, ◌-◌, ℕ, Bool, false, List, ◌++◌, length, take, drop, ◌∙◌, append_assoc, arith, refl, subst}
 use Rattle.std.proofs.Common.{◌<◌, ◌+◌, suc, ap, get_or, ◌∷◌, [], append-nil}
 use Rattle.std.proofs.Math.Seq.{split_at}
 use Rattle.std.proofs.lemmas.List.{take_more}
@@ -7,9 +7,8 @@ use Rattle.std.proofs.lemmas.List.Concat.{flat_map-append}
 use Rattle.std.proofs.lemmas.Bool.{ne_eqb}
 use Rattle.std.specs.List.{flat_map}
 use Rattle.std.proofs.lemmas.Grind.{common_steps}
-use Rattle.std.specs.Prelude.{Option, Some, None, Result, Ok, Err, slice_get, zip, unwrap_or, ◌==◌, if◌then◌else◌}
-use Rattle.fault_model.specs.Fault.{Fault}
-use Rattle.report.specs.Output.{Output, fails_after, TakesAll, TakesFront, Writes}
+use Rattle.std.specs.Prelude.{Option, Some, None, Result, Ok, Err, ◌==◌, if◌then◌else◌}
+use Rattle.output.specs.Output.{Output, fails_after, TakesAll, TakesFront, Writes}
 use Rattle.std.specs.Io.KnownBytes.{Appends}
 
 pub appends_more : (a b c : Option (List ℕ)) (x y : List ℕ) → Appends a b x → Appends b c y → Appends a c (x ++ y)
@@ -65,28 +64,3 @@ writes_then (Err e) a b c x y p w = stopped_after x y a b c p w
 -- what is left of a text after a part that was not taken whole
 pub stopped_before : (x y : List ℕ) (a b : Output) → TakesFront a b x → TakesFront a b (x ++ y)
 stopped_before x y a b w = (w.0, w.1 ++ y, rw (w.2, append_assoc w.0 w.1 y) refl, w.3, w.4)
-
--- a pair of a zip, at a place that both lists have
-pub zipped_at : {X : Type 0} (fs : List Fault) (xs : List X) (i : ℕ) (f : Fault) (dx : X) (d : Fault × X) → length xs ≡ length fs → slice_get fs i ≡ Some f
-    → (i < length (zip fs xs)) × ((f, get_or xs i dx) ≡ get_or (zip fs xs) i d)
-zipped_at [] xs i f dx d same e = let bad : None ≡ Some f = e in cc
-zipped_at (g ∷ fs) [] i f dx d same e = absurd (omega (arith, same))
-zipped_at (g ∷ fs) (z ∷ xs) zero f dx d same e = let h : g ≡ f = ap (λ o. unwrap_or o f) e in (omega arith, rw h refl)
-zipped_at (g ∷ fs) (z ∷ xs) (suc i) f dx d same e =
-    let p = zipped_at fs xs i f dx d (omega (arith, same)) e in (omega (arith, p.0), p.1)
-
--- all pairs of a zip
-pub all_zipped : {X : Type 0} (fs : List Fault) (xs : List X) (i : ℕ) → length xs ≡ length fs → length fs ≤ i → take i (zip fs xs) ≡ zip fs xs
-all_zipped [] xs zero same e = refl
-all_zipped [] xs (suc i) same e = refl
-all_zipped (f ∷ fs) [] i same e = absurd (omega (arith, same))
-all_zipped (f ∷ fs) (x ∷ xs) zero same e = absurd (omega (arith, e))
-all_zipped (f ∷ fs) (x ∷ xs) (suc i) same e = ap (λ l. (f, x) ∷ l) (all_zipped fs xs i (omega (arith, same)) (omega (arith, e)))
-
--- the pair of what two lists have at a place
-pub zipped_by : {X : Type 0} (fs : List Fault) (xs : List X) (i : ℕ) (f : Fault) (x : X) (d : Fault × X) → slice_get fs i ≡ Some f → slice_get xs i ≡ Some x
-    → (i < length (zip fs xs)) × ((f, x) ≡ get_or (zip fs xs) i d)
-zipped_by [] xs i f x d e h = let bad : None ≡ Some f = e in cc
-zipped_by (g ∷ fs) [] i f x d e h = let bad : None ≡ Some x = h in cc
-zipped_by (g ∷ fs) (z ∷ xs) zero f x d e h = let p : g ≡ f = ap (λ o. unwrap_or o f) e in let q : z ≡ x = ap (λ o. unwrap_or o x) h in (omega arith, rw (p, q) refl)
-zipped_by (g ∷ fs) (z ∷ xs) (suc i) f x d e h = let p = zipped_by fs xs i f x d e h in (omega (arith, p.0), p.1)
