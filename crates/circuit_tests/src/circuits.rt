@@ -32,7 +32,7 @@ struct Case {
     answers: &'static str,
 }
 
-const CASES: [Case; 16] = [
+const CASES: [Case; 18] = [
     Case {
         name: "c17",
         text: C17,
@@ -53,6 +53,30 @@ const CASES: [Case; 16] = [
             G19: level 2, Nand 6 4; pin 10.1\n\
             G22: level 3, Nand 5 7; out 0\n\
             G23: level 3, Nand 7 8; out 1\n\
+            ",
+    },
+    Case {
+        name: "first_line_of_c17",
+        text: b"INPUT(G1)\n",
+        answers: "\
+            inputs 0\n\
+            cells\n\
+            outputs\n\
+            order 0\n\
+            sources 1, depth 0\n\
+            G1: level 0, source 0;\n\
+            ",
+    },
+    Case {
+        name: "first_line_of_c17_without_its_end",
+        text: b"INPUT(G1)",
+        answers: "\
+            inputs 0\n\
+            cells\n\
+            outputs\n\
+            order 0\n\
+            sources 1, depth 0\n\
+            G1: level 0, source 0;\n\
             ",
     },
     Case {

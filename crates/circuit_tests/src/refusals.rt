@@ -6,8 +6,9 @@ use std::alloc::Global;
 use std::test::Fail;
 
 /// Texts whose fault is at this line, counted from 1, and is that the line is no statement.
-const NO_STATEMENTS: [(&[u8], u64); 22] = [
+const NO_STATEMENTS: [(&[u8], u64); 23] = [
     (b"INPUT(a", 1),
+    (b"INPUT(G1", 1),
     (b"INPUT(a)\nz = vdd\n", 2),
     (b"INPUT(a)\nz = INV(a)\n", 2),
     (b"INPUT(a)\nz = NOT(a, a)\n", 2),
@@ -31,8 +32,8 @@ const NO_STATEMENTS: [(&[u8], u64); 22] = [
     (b"INPUT(# a)\n", 1),
 ];
 
-/// Texts with another fault.
-const OTHERS: [(&[u8], BenchFault); 17] = [
+/// Texts with another fault. Three are c17 up to the end of its line 6, 8 and 12.
+const OTHERS: [(&[u8], BenchFault); 20] = [
     (b"INPUT(a)\nINPUT(a)\n", BenchFault::Redefined(2)),
     (b"OUTPUT(x)\nINPUT(a)\nINPUT(a)\n", BenchFault::Redefined(3)),
     (
@@ -49,6 +50,23 @@ const OTHERS: [(&[u8], BenchFault); 17] = [
     (b"INPUT(a)\n# b\n\nq = DFF(b)\n", BenchFault::Undefined(4)),
     (b"OUTPUT(z)\n)\n", BenchFault::Syntax(2)),
     (b"a = NOT(a)\nOUTPUT(x)\n", BenchFault::Undefined(2)),
+    (
+        b"INPUT(G1)\nINPUT(G2)\nINPUT(G3)\nINPUT(G6)\nINPUT(G7)\nOUTPUT(G22)\n",
+        BenchFault::Undefined(6),
+    ),
+    (
+        b"\
+            INPUT(G1)\nINPUT(G2)\nINPUT(G3)\nINPUT(G6)\nINPUT(G7)\nOUTPUT(G22)\nOUTPUT(G23)\n\
+            G10 = NAND(G1, G3)\n",
+        BenchFault::Undefined(6),
+    ),
+    (
+        b"\
+            INPUT(G1)\nINPUT(G2)\nINPUT(G3)\nINPUT(G6)\nINPUT(G7)\nOUTPUT(G22)\nOUTPUT(G23)\n\
+            G10 = NAND(G1, G3)\nG11 = NAND(G3, G6)\nG16 = NAND(G2, G11)\n\
+            G19 = NAND(G11, G7)\nG22 = NAND(G10, G16)\n",
+        BenchFault::Undefined(7),
+    ),
     (b"a = NOT(b)\nb = NOT(a)\n", BenchFault::Cycle(1)),
     (
         b"INPUT(a)\nb = NOT(c)\nc = AND(a, d)\nd = BUFF(c)\n",
