@@ -87,7 +87,8 @@ row_kept c pins more_pins readers more_readers s row pins_more readers_more h =
     record {
       pins_in = (h.pins_in.0, omega (arith, h.pins_in.1, pins_long));
       readers_in = (h.readers_in.0, omega (arith, h.readers_in.1, readers_long));
-      driven = ap (λ own. option_map (λ kind. (kind, own)) row.driver) pins_are ∙ h.driven;
+      driven = ap (λ own. option_map (λ driver. (driver.kind, own)) row.driver) pins_are ∙ h.driven;
+      formed = h.formed;
       read_by = subst (AreReaders c s) (sym readers_are) h.read_by;
       level = h.level;
       observed = h.observed;

@@ -1,14 +1,17 @@
 -- A gate on words: in each lane, the folds over the pins' words are the folds over the bits that the pins see.
-use Rattle.std.proofs.Common.{◌≡◌, ◌<◌, ◌≤◌, ℕ, zero, suc, ◌+◌, refl, sym, ◌∙◌, ap, Bool, true, false, not, List, [], ◌∷◌, ◌++◌, length, take, arith}
-use Rattle.std.specs.Prelude.{Option, map, slice_index_or, bit_and, bit_or, bit_xor}
-use Rattle.std.specs.List.{enumerate_from, list_all, list_any}
+use Rattle.std.proofs.Common.{◌≡◌, ◌<◌, ◌≤◌, ℕ, zero, suc, ◌+◌, refl, sym, ◌∙◌, ap, Bool, true, false, not, List, [], ◌∷◌, ◌++◌, length, take, arith, inl, inr, ◌⊎◌}
+use Rattle.std.specs.Prelude.{Option, map, slice_index_or, bit_and, bit_xor, if◌then◌else◌}
+use Rattle.std.specs.List.{enumerate_from, list_all}
 use Rattle.std.proofs.lemmas.List.{take_all, take_more}
-use Rattle.std.proofs.lemmas.List.Folds.{list_all_more, list_any_more}
+use Rattle.std.proofs.lemmas.List.Folds.{list_all_more}
+use Rattle.bench_net.specs.declared.Kind.{Kind}
 use Rattle.fault_model.specs.declared.Line.TheVariants as line
 use Rattle.fault_model.specs.Fault.{Fault}
-use Rattle.fault_model.specs.Solution.{under, is_odd}
+use Rattle.fault_model.specs.Solution.{under, is_odd, value}
+use Rattle.block_sim.specs.declared.form.Form.{Form}
+use Rattle.block_sim.specs.Forms.{IsFormOf, turned}
 use Rattle.block_sim.specs.Words.{lane, overlaid, pin_bits}
-use Rattle.block_sim.proofs.Lanes.{lane_and, lane_or, lane_xor, lane_zero, lane_ones, unlike}
+use Rattle.block_sim.proofs.Lanes.{lane_and, lane_xor, lane_zero, lane_ones, unlike}
 
 -- the bit of one pin, and how many pins there are
 pin_at_from : (f : Option Fault) (gate : ℕ) (pins words delta : List ℕ) (k from i : ℕ) → i < length pins
@@ -46,28 +49,33 @@ is_odd_push (true ∷ bits) b = ap not (is_odd_push bits b) ∙ turned (is_odd b
     turned false = refl
 is_odd_push (false ∷ bits) b = is_odd_push bits b
 
--- In each lane: whether the bits that the first pins see are all 1, some 1, an odd number of them 1.
-pub record AreFolds (f : Option Fault) (gate : ℕ) (pins words delta : List ℕ) (i all any odd : ℕ) : Type 0 where
-  pub all_is : (k : ℕ) → k < 64 → lane all k ≡ list_all (λ b. b) (take i (pin_bits f gate pins words delta k))
-  pub any_is : (k : ℕ) → k < 64 → lane any k ≡ list_any (λ b. b) (take i (pin_bits f gate pins words delta k))
+-- a word that turns a bit round in each lane or in none
+turned_there : (b turn : Bool) → unlike b turn ≡ turned turn b
+turned_there true true = refl
+turned_there true false = refl
+turned_there false true = refl
+turned_there false false = refl
+
+-- In each lane: whether the bits that the first pins see, turned round or not, are all 1, and an odd number of them 1.
+pub record AreFolds (f : Option Fault) (gate : ℕ) (pins words delta : List ℕ) (turn : Bool) (i all odd : ℕ) : Type 0 where
+  pub all_is : (k : ℕ) → k < 64 → lane all k ≡ list_all (λ b. turned turn b) (take i (pin_bits f gate pins words delta k))
   pub odd_is : (k : ℕ) → k < 64 → lane odd k ≡ is_odd (take i (pin_bits f gate pins words delta k))
 
 module _ (f : Option Fault) (gate : ℕ) (pins words delta : List ℕ) where
-  pub folds_none : AreFolds f gate pins words delta 0 18446744073709551615 0 0
-  folds_none = record {
+  pub folds_none : (turn : Bool) → AreFolds f gate pins words delta turn 0 18446744073709551615 0
+  folds_none turn = record {
     all_is = λ k lt. lane_ones 64 k lt;
-    any_is = λ k lt. lane_zero k;
     odd_is = λ k lt. lane_zero k;
   }
 
-  pub folds_more : (i all any odd word : ℕ) → i < length pins → AreFolds f gate pins words delta i all any odd
+  pub folds_more : (turn : Bool) (flips i all odd word : ℕ) → i < length pins → ((k : ℕ) → k < 64 → lane flips k ≡ turn) → AreFolds f gate pins words delta turn i all odd
       → ((k : ℕ) → k < 64 → lane word k ≡ under f (line.Pin gate i) (lane (overlaid words delta (slice_index_or pins i 0)) k))
-      → AreFolds f gate pins words delta (i + 1) (bit_and all word) (bit_or any word) (bit_xor odd word)
-  folds_more i all any odd word lt h is = record {
+      → AreFolds f gate pins words delta turn (i + 1) (bit_and all (bit_xor word flips)) (bit_xor odd word)
+  folds_more turn flips i all odd word lt flip h is = record {
     all_is = λ k below.
-        lane_and all word k ∙ (rw (h.all_is k below, bit k below) refl ∙ sym (list_all_more (λ b. b) (pin_bits f gate pins words delta k) i false (within k)));
-    any_is = λ k below.
-        lane_or any word k ∙ (rw (h.any_is k below, bit k below) refl ∙ sym (list_any_more (λ b. b) (pin_bits f gate pins words delta k) i false (within k)));
+        lane_and all (bit_xor word flips) k
+        ∙ (rw (h.all_is k below, lane_xor word flips k, bit k below, flip k below, turned_there (slice_index_or (pin_bits f gate pins words delta k) i false) turn) refl
+        ∙ sym (list_all_more (λ b. turned turn b) (pin_bits f gate pins words delta k) i false (within k)));
     odd_is = λ k below.
         lane_xor odd word k ∙ (rw (h.odd_is k below, bit k below) refl
         ∙ sym (ap is_odd (take_more (pin_bits f gate pins words delta k) i false (within k)) ∙ is_odd_push (take i (pin_bits f gate pins words delta k)) (slice_index_or (pin_bits f gate pins words delta k) i false)));
@@ -83,11 +91,15 @@ module _ (f : Option Fault) (gate : ℕ) (pins words delta : List ℕ) where
   whole : (i k : ℕ) → length pins ≤ i → take i (pin_bits f gate pins words delta k) ≡ pin_bits f gate pins words delta k
   whole i k le = let e : length (pin_bits f gate pins words delta k) ≡ length pins = pins_counted f gate pins words delta k in take_all i (pin_bits f gate pins words delta k) (omega (arith, e, le))
 
-  pub folds_all : (i all any odd : ℕ) → length pins ≤ i → AreFolds f gate pins words delta i all any odd → (k : ℕ) → k < 64 → lane all k ≡ list_all (λ b. b) (pin_bits f gate pins words delta k)
-  folds_all i all any odd le h k lt = h.all_is k lt ∙ ap (list_all (λ b. b)) (whole i k le)
+  -- the word of a form
+  module _ (form : Form) (i all odd core flips : ℕ) (le : length pins ≤ i) (h : AreFolds f gate pins words delta form.turns_pins i all odd) (flip : (k : ℕ) → k < 64 → lane flips k ≡ form.turns) where
+    core_bit : (k : ℕ) → k < 64 → ((form.is_xor ≡ true) × (core ≡ odd)) ⊎ ((form.is_xor ≡ false) × (core ≡ all))
+        → lane core k ≡ (if form.is_xor then is_odd (pin_bits f gate pins words delta k) else list_all (λ b. turned form.turns_pins b) (pin_bits f gate pins words delta k))
+    core_bit k lt (inl (xor, e)) = ap (λ w. lane w k) e ∙ (h.odd_is k lt ∙ (ap is_odd (whole i k le) ∙ rw xor refl))
+    core_bit k lt (inr (and, e)) = ap (λ w. lane w k) e ∙ (h.all_is k lt ∙ (ap (list_all (λ b. turned form.turns_pins b)) (whole i k le) ∙ rw and refl))
 
-  pub folds_any : (i all any odd : ℕ) → length pins ≤ i → AreFolds f gate pins words delta i all any odd → (k : ℕ) → k < 64 → lane any k ≡ list_any (λ b. b) (pin_bits f gate pins words delta k)
-  folds_any i all any odd le h k lt = h.any_is k lt ∙ ap (list_any (λ b. b)) (whole i k le)
-
-  pub folds_odd : (i all any odd : ℕ) → length pins ≤ i → AreFolds f gate pins words delta i all any odd → (k : ℕ) → k < 64 → lane odd k ≡ is_odd (pin_bits f gate pins words delta k)
-  folds_odd i all any odd le h k lt = h.odd_is k lt ∙ ap is_odd (whole i k le)
+    pub folds_value : (kind : Kind) (k : ℕ) → k < 64 → IsFormOf kind form → ((form.is_xor ≡ true) × (core ≡ odd)) ⊎ ((form.is_xor ≡ false) × (core ≡ all))
+        → lane (bit_xor core flips) k ≡ value kind (pin_bits f gate pins words delta k)
+    folds_value kind k lt formed chosen =
+        lane_xor core flips k ∙ (ap (unlike (lane core k)) (flip k lt) ∙ (turned_there (lane core k) form.turns
+        ∙ (ap (turned form.turns) (core_bit k lt chosen) ∙ formed (pin_bits f gate pins words delta k))))

@@ -22,6 +22,7 @@ mod Steps
 mod Readers
 mod Woken
 mod Flats
+mod Forms
 mod Seen
 mod Deep
 mod Started

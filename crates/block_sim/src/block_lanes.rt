@@ -5,6 +5,14 @@ ghost use Rattle.block_sim.specs.Words.{lane, IsLeastLane};
 
 use patterns::Outcome;
 
+/// A word with this bit in each of its lanes.
+#[inline(always)]
+pub fn in_each_lane(bit: bool) -> u64
+    ensures { (k : ℕ) → k < 64 → lane result k ≡ bit }
+{
+    if bit { !0 } else { 0 }
+}
+
 /// A word whose lanes below the size are 1: those that a block's tests take.
 pub fn lanes_below(size: u32) -> u64
     requires { size ≤ 64 }

@@ -124,15 +124,7 @@ fn gate_change(
 {
     match circuit.gate_of(gate) {
         Some(line) => {
-            let word = evaluate_gate(
-                line.kind,
-                line.pins,
-                gate,
-                Some(fault),
-                good,
-                same,
-                evaluations,
-            );
+            let word = evaluate_gate(line, gate, Some(fault), good, same, evaluations);
             (word ^ good[gate as usize]) & lanes
         }
         None => unreachable!(),

@@ -1,7 +1,7 @@
 //! The circuit in flat arrays, as the simulation reads it: a row for each signal, at the
 //! signal's number.
 
-ghost use Rattle.std.specs.Prelude.{◌≡◌, ◌↔◌, ◌<◌, ◌++◌, ℕ, List, IfOk, IsTrue, length};
+ghost use Rattle.std.specs.Prelude.{◌≡◌, ◌↔◌, ◌<◌, ◌++◌, ℕ, List, IfOk, IfSome, IsTrue, length};
 ghost use Rattle.std.specs.Option.{option_map};
 ghost use Rattle.bench_net.specs.declared.Kind.{Kind};
 ghost use Rattle.bench_net.specs.Scan.{names, gate_of};
@@ -9,15 +9,19 @@ ghost use Rattle.bench_net.specs.Circuit.{IsCircuit};
 ghost use Rattle.bench_net.specs.Level.{HasLevel};
 ghost use Rattle.block_sim.specs.Events.{IsObserved};
 ghost use Rattle.block_sim.specs.Flat.{AreReaders, HasMore, IsDriver, IsFlat, IsRow};
+ghost use Rattle.block_sim.specs.Forms.{IsFormOf};
 
+use crate::form::Form;
 use bench_net::{Circuit, Kind, Sink};
 use std::alloc::{AllocError, Global};
 use std::marker::Model;
 
-/// A gate that drives a signal: its kind, and the signal that each of its pins reads, in order.
+/// A gate that drives a signal: its kind with the form of that, and the signal that each of its pins
+/// reads, in order.
 #[derive(Clone, Copy)]
 pub struct Gate<'a> {
     pub kind: Kind,
+    pub form: Form,
     pub pins: &'a [u32],
 }
 
@@ -28,11 +32,18 @@ pub struct Reader {
     pub level: u32,
 }
 
+/// The kind of the gate that drives a signal, and its form.
+#[derive(Clone, Copy)]
+struct Driver {
+    kind: Kind,
+    form: Form,
+}
+
 /// What is known of a signal. The pins of its gate and its readers are parts of the lists of all.
 #[derive(Clone, Copy)]
 struct Row {
-    /// The kind of the gate that drives the signal; `None` for a source.
-    driver: Option<Kind>,
+    /// `None` for a source.
+    driver: Option<Driver>,
     observed: bool,
     level: u32,
     pins_start: usize,
@@ -90,13 +101,15 @@ impl FlatCircuit {
     #[inline(always)]
     pub fn gate_of(&self, signal: u32) -> Option<Gate<'_>>
         requires { signal < length (names self.now) }
-        ensures { option_map {U = Kind × List ℕ} (λ g. (g.kind, g.pins.now)) result
+        ensures gate { option_map {U = Kind × List ℕ} (λ g. (g.kind, g.pins.now)) result
             ≡ gate_of self.now signal }
+        ensures form { IfSome result (λ g. IsFormOf g.kind g.form) }
     {
         let row = &self.lists.rows[signal as usize];
         match row.driver {
-            Some(kind) => Some(Gate {
-                kind,
+            Some(driver) => Some(Gate {
+                kind: driver.kind,
+                form: driver.form,
                 pins: &self.lists.pins[row.pins_start..row.pins_end],
             }),
             None => None,
@@ -180,16 +193,22 @@ fn add_row(
     })
 }
 
-/// The kind of the gate that drives a signal. The signals that its pins read are added behind the
-/// others.
-fn add_pins(circuit: &Circuit, signal: u32, pins: &mut Vec<u32>) -> Result<Option<Kind>, AllocError>
+/// The kind and the form of the gate that drives a signal. The signals that its pins read are added
+/// behind the others.
+fn add_pins(
+    circuit: &Circuit,
+    signal: u32,
+    pins: &mut Vec<u32>,
+) -> Result<Option<Driver>, AllocError>
     requires { signal < length (names circuit.now) }
     ensures { IfOk result (IsDriver circuit.now signal pins.old.items pins.new.items) }
 {
     match circuit.gate_of(signal) {
         Some(gate) => {
             pins.extend_from_slice(gate.pins.as_slice())?;
-            Ok(Some(gate.kind))
+            let kind = gate.kind;
+            let form = Form::of(kind);
+            Ok(Some(Driver { kind, form }))
         }
         None => Ok(None),
     }

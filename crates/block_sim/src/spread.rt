@@ -160,15 +160,7 @@ fn evaluate_waiting(
     }
     match circuit.gate_of(gate) {
         Some(line) => {
-            let word = evaluate_gate(
-                line.kind,
-                line.pins,
-                gate,
-                None,
-                good,
-                overlay.words(),
-                evaluations,
-            );
+            let word = evaluate_gate(line, gate, None, good, overlay.words(), evaluations);
             let diff = (word ^ good[gate as usize]) & lanes;
             if diff == 0 {
                 return 0;

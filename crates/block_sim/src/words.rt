@@ -8,11 +8,13 @@ ghost use Rattle.bench_net.specs.Scan.{names, sources, name_of, gate_of};
 ghost use Rattle.bench_net.specs.Circuit.{IsCircuit, max_sinks};
 ghost use Rattle.fault_model.specs.Solution.{value, under};
 ghost use Rattle.patterns.specs.Tests.{IsWord, blocks};
+ghost use Rattle.block_sim.specs.Forms.{IsFormOf};
 ghost use Rattle.block_sim.specs.Words.{lane, pin_bits, AreWords, IsSignalWord};
 ghost use Rattle.block_sim.specs.Stuck.{fault_of};
 
-use crate::flat::FlatCircuit;
-use bench_net::{Circuit, Kind};
+use crate::block_lanes::in_each_lane;
+use crate::flat::{FlatCircuit, Gate};
+use bench_net::Circuit;
 use fault_model::Line;
 use patterns::Tests;
 
@@ -31,7 +33,7 @@ impl Stuck {
     pub fn word(self) -> u64
         ensures { (k : ℕ) → k < 64 → lane result k ≡ self.at_one }
     {
-        if self.at_one { !0 } else { 0 }
+        in_each_lane(self.at_one)
     }
 }
 
@@ -51,45 +53,39 @@ fn seen(fault: Option<Stuck>, own: Line, word: u64) -> u64
 /// which that differs, or the stuck bit where the fault is on the pin. No other function evaluates a gate.
 #[inline(always)]
 pub fn evaluate_gate(
-    kind: Kind,
-    pins: &[u32],
+    line: Gate<'_>,
     gate: u32,
     fault: Option<Stuck>,
     words: &[u64],
     delta: &[u64],
     evaluations: &mut u64,
 ) -> u64
-    requires pins_in { All (λ p. p < length words.now) pins.now }
+    requires form { IsFormOf line.kind line.form }
+    requires pins_in { All (λ p. p < length words.now) line.pins.now }
     requires same { length words.now ≤ length delta.now }
-    requires few { length pins.now ≤ max_sinks }
+    requires few { length line.pins.now ≤ max_sinks }
     ensures value { (k : ℕ) → k < 64
-        → lane result k ≡ value kind (pin_bits (fault_of fault) gate pins.now words.now delta.now k) }
+        → lane result k ≡ value line.entry.kind
+        (pin_bits (fault_of fault) gate line.entry.pins.now words.now delta.now k) }
     ensures grown { evaluations.old ≤ evaluations.new }
     ensures counted { evaluations.new ≡ min (evaluations.old + 1) (2 ^ 64 - 1) }
 {
     *evaluations = evaluations.saturating_add(1);
+    let turned = in_each_lane(line.form.turns_pins);
     let mut all = !0u64;
-    let mut any = 0u64;
     let mut odd = 0u64;
-    for (place, signal) in pins.iter().enumerate() {
+    for (place, signal) in line.pins.iter().enumerate() {
         let own = Line::Pin {
             gate,
             pin: place as u32,
         };
         let signal = *signal as usize;
         let word = seen(fault, own, words[signal] ^ delta[signal]);
-        all &= word;
-        any |= word;
+        all &= word ^ turned;
         odd ^= word;
     }
-    match kind {
-        Kind::And => all,
-        Kind::Nand => !all,
-        Kind::Or | Kind::Buff => any,
-        Kind::Nor | Kind::Not => !any,
-        Kind::Xor => odd,
-        Kind::Xnor => !odd,
-    }
+    let word = if line.form.is_xor { odd } else { all };
+    word ^ in_each_lane(line.form.turns)
 }
 
 /// The word that a block's tests give a source.
@@ -128,7 +124,7 @@ fn signal_word(
     ensures { IsSignalWord circuit.now tests.now.tests block None words.now signal result }
 {
     match circuit.gate_of(signal) {
-        Some(gate) => evaluate_gate(gate.kind, gate.pins, signal, None, words, same, evaluations),
+        Some(gate) => evaluate_gate(gate, signal, None, words, same, evaluations),
         None => source_word(circuit.circuit(), tests, block, signal),
     }
 }

@@ -11,12 +11,12 @@ use Rattle.block_sim.proofs.effect.gate_change.Goals as goal
 pub evaluate_gate-word-requires-clause-pins_in : goal.evaluate_gate-word-requires-clause-pins_in
 evaluate_gate-word-requires-clause-pins_in c =
     λ k d lt.
-    let within = pins_within c.args.circuit.now c.args.gate c.in-Some.line.kind c.in-Some.line.pins.now c.requires.circuit.well_formed (sym c.in-Some.ensures) k d lt in
+    let within = pins_within c.args.circuit.now c.args.gate c.in-Some.line.kind c.in-Some.line.pins.now c.requires.circuit.well_formed (sym c.in-Some.ensures.gate) k d lt in
     omega (arith, within, c.requires.good)
 
 pub evaluate_gate-word-requires-clause-few : goal.evaluate_gate-word-requires-clause-few
 evaluate_gate-word-requires-clause-few c =
-    pins_few c.args.circuit.now c.args.gate c.in-Some.line.kind c.in-Some.line.pins.now c.requires.circuit (sym c.in-Some.ensures)
+    pins_few c.args.circuit.now c.args.gate c.in-Some.line.kind c.in-Some.line.pins.now c.requires.circuit (sym c.in-Some.ensures.gate)
 
 pub returns-clause-inside : goal.returns-clause-inside
 returns-clause-inside c = λ k lt e. only_lanes _ c.args.lanes k e
@@ -24,7 +24,7 @@ returns-clause-inside c = λ k lt e. only_lanes _ c.args.lanes k e
 pub returns-clause-changed : goal.returns-clause-changed
 returns-clause-changed c = λ kind pins k is lt in_lanes.
     let own = c.in-Some.line in
-    let same : (own.kind, own.pins.now) ≡ (kind, pins) = ap (λ (o : Option (Kind × List ℕ)). unwrap_or o (kind, pins)) (c.in-Some.ensures ∙ is) in
+    let same : (own.kind, own.pins.now) ≡ (kind, pins) = ap (λ (o : Option (Kind × List ℕ)). unwrap_or o (kind, pins)) (c.in-Some.ensures.gate ∙ is) in
     let fault = Some (stuck_fault c.args.fault) in
     changed_to c.evaluate_gate-word.result (slice_index_or c.args.good.now c.args.gate 0) c.args.lanes k in_lanes
     ∙ (c.evaluate_gate-word.ensures.value k lt

@@ -17,12 +17,12 @@ use Rattle.block_sim.proofs.spread.evaluate_waiting.Goals as goal
 pub evaluate_gate-word-requires-clause-pins_in : goal.evaluate_gate-word-requires-clause-pins_in
 evaluate_gate-word-requires-clause-pins_in c =
     λ k d lt.
-    let within = pins_within c.args.circuit.now c.args.gate c.in-Some.line.kind c.in-Some.line.pins.now c.requires.circuit.well_formed (sym c.in-Some.ensures) k d lt in
+    let within = pins_within c.args.circuit.now c.args.gate c.in-Some.line.kind c.in-Some.line.pins.now c.requires.circuit.well_formed (sym c.in-Some.ensures.gate) k d lt in
     omega (arith, within, c.requires.good)
 
 pub evaluate_gate-word-requires-clause-few : goal.evaluate_gate-word-requires-clause-few
 evaluate_gate-word-requires-clause-few c =
-    pins_few c.args.circuit.now c.args.gate c.in-Some.line.kind c.in-Some.line.pins.now c.requires.circuit (sym c.in-Some.ensures)
+    pins_few c.args.circuit.now c.args.gate c.in-Some.line.kind c.in-Some.line.pins.now c.requires.circuit (sym c.in-Some.ensures.gate)
 
 pub returns-then-diff-eq0-clause-spreading : goal.returns-then-diff-eq0-clause-spreading
 returns-then-diff-eq0-clause-spreading c = λ tests block f asked level start now are off h.
@@ -46,7 +46,7 @@ returns-then-diff-eq0-clause-spreading c = λ tests block f asked level start no
     λ k lt. c.evaluate_gate-word.ensures.value k lt
     ∙ ap (λ d. value own.kind (pin_bits None gate own.pins.now good d k)) c.words.ensures in
     subst (λ x. IsSpreading circuit tests block f good asked lv start c.args.lanes overlay x now) back
-    (evaluated_same circuit tests block f good asked lv start c.args.lanes well rises off overlay taken_at now gate h taken in_taken in_overlay own.kind own.pins.now (sym c.in-Some.ensures) word valued
+    (evaluated_same circuit tests block f good asked lv start c.args.lanes well rises off overlay taken_at now gate h taken in_taken in_overlay own.kind own.pins.now (sym c.in-Some.ensures.gate) word valued
     (λ k lt e. no_change word (slice_index_or good gate 0) c.args.lanes k c.if-diff-eq0.true e))
 
 pub returns-then-diff-eq0-clause-counted : goal.returns-then-diff-eq0-clause-counted
@@ -71,7 +71,7 @@ returns-then-diff-eq0-clause-counted c = λ tests block f asked level start now 
     λ k lt. c.evaluate_gate-word.ensures.value k lt
     ∙ ap (λ d. value own.kind (pin_bits None gate own.pins.now good d k)) c.words.ensures in
     let less = subst (λ x. ahead lv x now gates + 1 ≤ ahead lv taken_at now gates) back
-    (ahead_same circuit tests block f good asked lv start c.args.lanes well rises off overlay taken_at now gate h taken in_taken in_overlay own.kind own.pins.now (sym c.in-Some.ensures) word valued gates all) in
+    (ahead_same circuit tests block f good asked lv start c.args.lanes well rises off overlay taken_at now gate h taken in_taken in_overlay own.kind own.pins.now (sym c.in-Some.ensures.gate) word valued gates all) in
     omega (arith, less, c.evaluate_gate-word.ensures.counted)
 
 pub returns-then-diff-eq0-clause-seen : goal.returns-then-diff-eq0-clause-seen
@@ -103,7 +103,7 @@ returns-clause-spreading c = λ tests block f asked level start now are off h.
     let woken : AreWoken circuit lv gate (slice_set taken_at gate 0) c.change.new.buckets.at =
     subst (λ b. AreWoken circuit lv gate b c.change.new.buckets.at) (sym back) (c.change.ensures.woken level are) in
     subst (λ x. IsSpreading circuit tests block f good asked lv start c.args.lanes x c.change.new.buckets.at now) (sym c.change.ensures.changed)
-    (evaluated_changed circuit tests block f good asked lv start c.args.lanes well rises off overlay taken_at now gate h taken in_taken in_overlay own.kind own.pins.now (sym c.in-Some.ensures) word valued diff c.change.new.buckets.at c.if-diff-eq0.false c.change.ensures.some
+    (evaluated_changed circuit tests block f good asked lv start c.args.lanes well rises off overlay taken_at now gate h taken in_taken in_overlay own.kind own.pins.now (sym c.in-Some.ensures.gate) word valued diff c.change.new.buckets.at c.if-diff-eq0.false c.change.ensures.some
     (λ k lt e. only_lanes (bit_xor word (slice_index_or good gate 0)) c.args.lanes k e) (λ k lt e. changed_to word (slice_index_or good gate 0) c.args.lanes k e) woken)
 
 pub returns-clause-counted : goal.returns-clause-counted
@@ -130,7 +130,7 @@ returns-clause-counted c = λ tests block f asked level start now gates are off 
     let diff = bit_and (bit_xor word (slice_index_or good gate 0)) c.args.lanes in
     let woken : AreWoken circuit lv gate (slice_set taken_at gate 0) c.change.new.buckets.at =
     subst (λ b. AreWoken circuit lv gate b c.change.new.buckets.at) (sym back) (c.change.ensures.woken level are) in
-    let less = ahead_changed circuit tests block f good asked lv start c.args.lanes well rises off overlay taken_at now gate h taken in_taken in_overlay own.kind own.pins.now (sym c.in-Some.ensures) word valued diff c.change.new.buckets.at c.if-diff-eq0.false c.change.ensures.some
+    let less = ahead_changed circuit tests block f good asked lv start c.args.lanes well rises off overlay taken_at now gate h taken in_taken in_overlay own.kind own.pins.now (sym c.in-Some.ensures.gate) word valued diff c.change.new.buckets.at c.if-diff-eq0.false c.change.ensures.some
     (λ k lt e. only_lanes (bit_xor word (slice_index_or good gate 0)) c.args.lanes k e) (λ k lt e. changed_to word (slice_index_or good gate 0) c.args.lanes k e) woken
     gates (subst (λ x. HasTouched circuit x gates) c.change.ensures.changed all) in
     omega (arith, less, c.evaluate_gate-word.ensures.counted)

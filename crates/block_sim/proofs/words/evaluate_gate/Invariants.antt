@@ -3,4 +3,4 @@ use Rattle.block_sim.proofs.GateLanes.{AreFolds}
 use Rattle.block_sim.proofs.words.evaluate_gate.Given as goal
 
 abbrev pub invariant-loop-place : goal.invariant-loop-place
-invariant-loop-place l = AreFolds (fault_of l.fault) l.gate l.pins l.words l.delta l.place l.all l.any l.odd
+invariant-loop-place l = AreFolds (fault_of l.fault) l.gate l.line.pins.now l.words l.delta l.line.form.turns_pins l.place l.all l.odd

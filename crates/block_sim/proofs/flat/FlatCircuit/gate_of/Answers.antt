@@ -1,7 +1,9 @@
 use Rattle.std.proofs.Common.{◌<◌, ◌∙◌, ap, sym, subst, length, arith}
-use Rattle.std.specs.Prelude.{Some, slice_range}
+use Rattle.std.specs.Prelude.{IfSome, Some, slice_range}
 use Rattle.std.specs.Option.{option_map}
 use Rattle.bench_net.specs.Scan.{names, gate_of}
+use Rattle.block_sim.specs.declared.flat.Driver.{Driver}
+use Rattle.block_sim.specs.Forms.{IsFormOf}
 use Rattle.block_sim.proofs.Flats.{row_of}
 use Rattle.block_sim.proofs.flat.FlatCircuit.gate_of.Goals as goal
 
@@ -33,19 +35,26 @@ slice_bounds-result-end c =
     (subst (λ x. c.args.signal < length (names x)) (sym c.self.view_is) c.requires) c.index-row.ensures in
     omega (arith, row.pins_in.1, ap length c.deref.ensures.value)
 
-pub returns-in-Some : goal.returns-in-Some
-returns-in-Some c =
+pub returns-in-Some-clause-gate : goal.returns-in-Some-clause-gate
+returns-in-Some-clause-gate c =
     let own = c.self.inside in
     let row = row_of own.circuit own.lists.pins.items own.lists.readers.items own.lists.rows.items c.args.signal c.index-row.result.now c.self.invariant
     (subst (λ x. c.args.signal < length (names x)) (sym c.self.view_is) c.requires) c.index-row.ensures in
-    ap (λ l. Some (c.in-Some.kind, slice_range l c.index-row.result.now.pins_start c.index-row.result.now.pins_end)) c.deref.ensures.value
-    ∙ (ap (option_map (λ kind. (kind, slice_range own.lists.pins.items c.index-row.result.now.pins_start c.index-row.result.now.pins_end))) (sym c.in-Some.is)
+    ap (λ l. Some (c.in-Some.driver.kind, slice_range l c.index-row.result.now.pins_start c.index-row.result.now.pins_end)) c.deref.ensures.value
+    ∙ (ap (option_map (λ (driver : Driver). (driver.kind, slice_range own.lists.pins.items c.index-row.result.now.pins_start c.index-row.result.now.pins_end))) (sym c.in-Some.is)
     ∙ (row.driven ∙ ap (λ x. gate_of x c.args.signal) c.self.view_is))
 
-pub returns-in-None : goal.returns-in-None
-returns-in-None c =
+pub returns-in-None-clause-gate : goal.returns-in-None-clause-gate
+returns-in-None-clause-gate c =
     let own = c.self.inside in
     let row = row_of own.circuit own.lists.pins.items own.lists.readers.items own.lists.rows.items c.args.signal c.index-row.result.now c.self.invariant
     (subst (λ x. c.args.signal < length (names x)) (sym c.self.view_is) c.requires) c.index-row.ensures in
-    ap (option_map (λ kind. (kind, slice_range own.lists.pins.items c.index-row.result.now.pins_start c.index-row.result.now.pins_end))) (sym c.in-None.is)
+    ap (option_map (λ (driver : Driver). (driver.kind, slice_range own.lists.pins.items c.index-row.result.now.pins_start c.index-row.result.now.pins_end))) (sym c.in-None.is)
     ∙ (row.driven ∙ ap (λ x. gate_of x c.args.signal) c.self.view_is)
+
+pub returns-in-Some-clause-form : goal.returns-in-Some-clause-form
+returns-in-Some-clause-form c =
+    let own = c.self.inside in
+    let row = row_of own.circuit own.lists.pins.items own.lists.readers.items own.lists.rows.items c.args.signal c.index-row.result.now c.self.invariant
+    (subst (λ x. c.args.signal < length (names x)) (sym c.self.view_is) c.requires) c.index-row.ensures in
+    subst (λ o. IfSome o (λ (driver : Driver). IsFormOf driver.kind driver.form)) c.in-Some.is row.formed

@@ -1,0 +1,37 @@
+//! The kinds of gates in one form, so that a gate is evaluated without a choice by its kind.
+
+ghost use Rattle.std.specs.Prelude.{◌≡◌, Bool, List};
+ghost use Rattle.fault_model.specs.Solution.{value};
+ghost use Rattle.block_sim.specs.Forms.{IsFormOf};
+
+use bench_net::Kind;
+
+/// A gate as the AND or the XOR of what its pins read. An AND may turn each pin round, and either may
+/// be turned round as a whole: an OR is an AND with both.
+#[derive(Clone, Copy)]
+pub struct Form {
+    pub is_xor: bool,
+    pub turns_pins: bool,
+    pub turns: bool,
+}
+
+impl Form {
+    /// The form of a kind.
+    pub fn of(kind: Kind) -> Form
+        ensures { IsFormOf kind result }
+    {
+        let (is_xor, turns_pins, turns) = match kind {
+            Kind::And => (false, false, false),
+            Kind::Nand => (false, false, true),
+            Kind::Or | Kind::Buff => (false, true, true),
+            Kind::Nor | Kind::Not => (false, true, false),
+            Kind::Xor => (true, false, false),
+            Kind::Xnor => (true, false, true),
+        };
+        Form {
+            is_xor,
+            turns_pins,
+            turns,
+        }
+    }
+}
