@@ -5,6 +5,8 @@ use Rattle.std.proofs.lemmas.List.Elements.{Contains-get_or}
 use Rattle.std.specs.Int.{bit_at}
 use Rattle.std.proofs.lemmas.List.{length-append, length-map}
 use Rattle.bench_net.specs.declared.Kind.{Kind}
+use Rattle.bench_net.specs.declared.Kind.TheVariants.{And, Nand, Or, Nor, Xor, Xnor, Not, Buff}
+use Rattle.bench_net.specs.Reading.{HasArity}
 use Rattle.bench_net.specs.Statement.{Name, Statement, Input, Output, Gate, Dff, read}
 use Rattle.bench_net.specs.Scan.{names, signal, name_of, definition, gate_of, gate_line, inputs, cells, sources}
 use Rattle.bench_net.specs.Circuit.{IsWellFormed, IsCircuit, max_sinks, sink_count}
@@ -85,6 +87,26 @@ pins_few c s kind pins circuit e = go (gate_at c s kind pins e)
         let h : length g.args ≤ sink_count c = read_counted c (Gate g.name kind g.args) g.stands in
         let same : length pins ≡ length g.args = ap length (sym g.reads) ∙ length-map g.args (signal c) in
         omega (arith, h, same, circuit.sinks)
+
+-- a gate has a pin
+arity_some : (kind : Kind) (args : List Name) → HasArity kind args → 0 < length args
+arity_some And args h = h
+arity_some Nand args h = h
+arity_some Or args h = h
+arity_some Nor args h = h
+arity_some Xor args h = h
+arity_some Xnor args h = h
+arity_some Not args h = omega (arith, h)
+arity_some Buff args h = omega (arith, h)
+
+pub pins_some : (c : List Statement) (s : ℕ) (kind : Kind) (pins : List ℕ) → IsCircuit c → gate_of c s ≡ Some (kind, pins) → 0 < length pins
+pins_some c s kind pins circuit e = go (gate_at c s kind pins e)
+  where
+    go : GateAt c s kind pins → 0 < length pins
+    go g =
+        let h : 0 < length g.args = arity_some kind g.args (circuit.arities g.name kind g.args (contained c (Gate g.name kind g.args) g.stands)) in
+        let same : length pins ≡ length g.args = ap length (sym g.reads) ∙ length-map g.args (signal c) in
+        omega (arith, h, same)
 
 module _ (c : List Statement) (s : ℕ) (well : IsWellFormed c) (within : s < length (names c)) where
   -- a signal that is no gate's is a source, at one place

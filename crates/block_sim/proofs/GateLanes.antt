@@ -1,7 +1,8 @@
 -- A gate on words: in each lane, the folds over the pins' words are the folds over the bits that the pins see.
-use Rattle.std.proofs.Common.{◌≡◌, ◌<◌, ◌≤◌, ℕ, zero, suc, ◌+◌, refl, sym, ◌∙◌, ap, Bool, true, false, not, List, [], ◌∷◌, ◌++◌, length, take, arith, inl, inr, ◌⊎◌}
-use Rattle.std.specs.Prelude.{Option, map, slice_index_or, bit_and, bit_xor, if◌then◌else◌}
+use Rattle.std.proofs.Common.{◌≡◌, ◌<◌, ◌≤◌, ℕ, zero, suc, ◌+◌, ◌-◌, ◌≢◌, refl, sym, ◌∙◌, ap, subst, Bool, true, false, not, ◌&&◌, List, [], ◌∷◌, ◌++◌, length, take, arith, inl, inr, ◌⊎◌}
+use Rattle.std.specs.Prelude.{Option, map, slice_index_or, bit_and, bit_xor, nat_lt, if◌then◌else◌}
 use Rattle.std.specs.List.{enumerate_from, list_all}
+use Rattle.std.proofs.lemmas.Bool.{cases_eq, lt-ltb}
 use Rattle.std.proofs.lemmas.List.{take_all, take_more}
 use Rattle.std.proofs.lemmas.List.Folds.{list_all_more}
 use Rattle.bench_net.specs.declared.Kind.{Kind}
@@ -56,6 +57,14 @@ turned_there true false = refl
 turned_there false true = refl
 turned_there false false = refl
 
+-- where a loop from 1 to the last of n pins ends
+pub at_last : (n i : ℕ) → 0 < i → i ≤ n → n - 1 ≤ i → (1 ≤ n - 1 → i ≤ n - 1) → (i ≡ n - 1) ⊎ ((i ≡ 1) × (n - 1 ≡ 0))
+at_last n i started within passed at = go (cases_eq (n - 1) 0)
+  where
+    go : (n - 1 ≡ 0) ⊎ (n - 1 ≢ 0) → (i ≡ n - 1) ⊎ ((i ≡ 1) × (n - 1 ≡ 0))
+    go (inl none) = inr (omega (arith, none, started, within), none)
+    go (inr some) = let le = at (omega (arith, some)) in inl (omega (arith, le, passed))
+
 -- In each lane: whether the bits that the first pins see, turned round or not, are all 1, and an odd number of them 1.
 pub record AreFolds (f : Option Fault) (gate : ℕ) (pins words delta : List ℕ) (turn : Bool) (i all odd : ℕ) : Type 0 where
   pub all_is : (k : ℕ) → k < 64 → lane all k ≡ list_all (λ b. turned turn b) (take i (pin_bits f gate pins words delta k))
@@ -87,19 +96,87 @@ module _ (f : Option Fault) (gate : ℕ) (pins words delta : List ℕ) where
       bit : (k : ℕ) → k < 64 → lane word k ≡ slice_index_or (pin_bits f gate pins words delta k) i false
       bit k below = is k below ∙ sym (pin_at f gate pins words delta k i lt)
 
+  -- the first pin
+  pub folds_first : (turn : Bool) (flips word : ℕ) → 0 < length pins → ((k : ℕ) → k < 64 → lane flips k ≡ turn)
+      → ((k : ℕ) → k < 64 → lane word k ≡ under f (line.Pin gate 0) (lane (overlaid words delta (slice_index_or pins 0 0)) k))
+      → AreFolds f gate pins words delta turn 1 (bit_xor word flips) word
+  folds_first turn flips word some flip is =
+      let h = folds_more turn flips 0 18446744073709551615 0 word some flip (folds_none turn) is in
+      record {
+        all_is = λ k lt. sym (lane_and 18446744073709551615 (bit_xor word flips) k ∙ rw (lane_ones 64 k lt) refl) ∙ h.all_is k lt;
+        odd_is = λ k lt. sym (lane_xor 0 word k ∙ rw (lane_zero k) refl) ∙ h.odd_is k lt;
+      }
+
+  -- the last pin, which of one pin is the first again
+  pub folds_last : (turn : Bool) (flips i last all odd word other : ℕ) → length pins ≡ last + 1 → ((i ≡ last) ⊎ ((i ≡ 1) × (last ≡ 0))) → ((k : ℕ) → k < 64 → lane flips k ≡ turn)
+      → ((k : ℕ) → k < 64 → lane other k ≡ nat_lt 0 last) → AreFolds f gate pins words delta turn i all odd
+      → ((k : ℕ) → k < 64 → lane word k ≡ under f (line.Pin gate last) (lane (overlaid words delta (slice_index_or pins last 0)) k))
+      → 0 < i → AreFolds f gate pins words delta turn (length pins) (bit_and all (bit_xor word flips)) (bit_xor odd (bit_and word other))
+  folds_last turn flips i last all odd word other count (inl e) flip others h is more = record {
+    all_is = λ k lt. whole.all_is k lt ∙ ap (λ n. list_all (λ b. turned turn b) (take n (pin_bits f gate pins words delta k))) long;
+    odd_is = λ k lt.
+        lane_xor odd (bit_and word other) k ∙ (ap (unlike (lane odd k)) (lane_and word other k ∙ rw (others k lt, some) (all_true (lane word k)))
+        ∙ (sym (lane_xor odd word k) ∙ (whole.odd_is k lt ∙ ap (λ n. is_odd (take n (pin_bits f gate pins words delta k))) long)));
+  }
+    where
+      long : i + 1 ≡ length pins
+      long = omega (arith, e, count)
+
+      some : nat_lt 0 last ≡ true
+      some = lt-ltb 0 last (omega (arith, e, more))
+
+      all_true : (b : Bool) → (b && true) ≡ b
+      all_true true = refl
+      all_true false = refl
+
+      whole : AreFolds f gate pins words delta turn (i + 1) (bit_and all (bit_xor word flips)) (bit_xor odd word)
+      whole = folds_more turn flips i all odd word (omega (arith, e, count)) flip h (λ k lt. subst (λ j. lane word k ≡ under f (line.Pin gate j) (lane (overlaid words delta (slice_index_or pins j 0)) k)) (sym e) (is k lt))
+  folds_last turn flips i last all odd word other count (inr (one, none)) flip others h is more = record {
+    all_is = λ k lt. lane_and all (bit_xor word flips) k ∙ (rw (h.all_is k lt, same k lt) (twice _) ∙ ap (λ n. list_all (λ b. turned turn b) (take n (pin_bits f gate pins words delta k))) long);
+    odd_is = λ k lt.
+        lane_xor odd (bit_and word other) k ∙ (ap (unlike (lane odd k)) (lane_and word other k ∙ rw (others k lt, none) (none_true (lane word k)))
+        ∙ (unlike_false (lane odd k) ∙ (h.odd_is k lt ∙ ap (λ n. is_odd (take n (pin_bits f gate pins words delta k))) long)));
+  }
+    where
+      long : i ≡ length pins
+      long = omega (arith, one, none, count)
+
+      none_true : (b : Bool) → (b && false) ≡ false
+      none_true true = refl
+      none_true false = refl
+
+      unlike_false : (b : Bool) → unlike b false ≡ b
+      unlike_false true = refl
+      unlike_false false = refl
+
+      twice : (b : Bool) → (b && b) ≡ b
+      twice true = refl
+      twice false = refl
+
+      only : AreFolds f gate pins words delta turn 1 (bit_xor word flips) word
+      only = folds_first turn flips word (omega (arith, count)) flip (λ k lt. subst (λ j. lane word k ≡ under f (line.Pin gate j) (lane (overlaid words delta (slice_index_or pins j 0)) k)) none (is k lt))
+
+      same : (k : ℕ) → k < 64 → lane (bit_xor word flips) k ≡ list_all (λ b. turned turn b) (take i (pin_bits f gate pins words delta k))
+      same k lt = only.all_is k lt ∙ ap (λ n. list_all (λ b. turned turn b) (take n (pin_bits f gate pins words delta k))) (sym one)
+
   -- and so of all pins
-  whole : (i k : ℕ) → length pins ≤ i → take i (pin_bits f gate pins words delta k) ≡ pin_bits f gate pins words delta k
-  whole i k le = let e : length (pin_bits f gate pins words delta k) ≡ length pins = pins_counted f gate pins words delta k in take_all i (pin_bits f gate pins words delta k) (omega (arith, e, le))
+  whole : (k : ℕ) → take (length pins) (pin_bits f gate pins words delta k) ≡ pin_bits f gate pins words delta k
+  whole k = let e : length (pin_bits f gate pins words delta k) ≡ length pins = pins_counted f gate pins words delta k in take_all (length pins) (pin_bits f gate pins words delta k) (omega (arith, e))
 
-  -- the word of a form
-  module _ (form : Form) (i all odd core flips : ℕ) (le : length pins ≤ i) (h : AreFolds f gate pins words delta form.turns_pins i all odd) (flip : (k : ℕ) → k < 64 → lane flips k ≡ form.turns) where
-    core_bit : (k : ℕ) → k < 64 → ((form.is_xor ≡ true) × (core ≡ odd)) ⊎ ((form.is_xor ≡ false) × (core ≡ all))
-        → lane core k ≡ (if form.is_xor then is_odd (pin_bits f gate pins words delta k) else list_all (λ b. turned form.turns_pins b) (pin_bits f gate pins words delta k))
-    core_bit k lt (inl (xor, e)) = ap (λ w. lane w k) e ∙ (h.odd_is k lt ∙ (ap is_odd (whole i k le) ∙ rw xor refl))
-    core_bit k lt (inr (and, e)) = ap (λ w. lane w k) e ∙ (h.all_is k lt ∙ (ap (list_all (λ b. turned form.turns_pins b)) (whole i k le) ∙ rw and refl))
+  module _ (turn : Bool) (all odd : ℕ) (h : AreFolds f gate pins words delta turn (length pins) all odd) where
+    pub folds_all : (k : ℕ) → k < 64 → lane all k ≡ list_all (λ b. turned turn b) (pin_bits f gate pins words delta k)
+    folds_all k lt = h.all_is k lt ∙ ap (list_all (λ b. turned turn b)) (whole k)
 
-    pub folds_value : (kind : Kind) (k : ℕ) → k < 64 → IsFormOf kind form → ((form.is_xor ≡ true) × (core ≡ odd)) ⊎ ((form.is_xor ≡ false) × (core ≡ all))
-        → lane (bit_xor core flips) k ≡ value kind (pin_bits f gate pins words delta k)
-    folds_value kind k lt formed chosen =
-        lane_xor core flips k ∙ (ap (unlike (lane core k)) (flip k lt) ∙ (turned_there (lane core k) form.turns
-        ∙ (ap (turned form.turns) (core_bit k lt chosen) ∙ formed (pin_bits f gate pins words delta k))))
+    pub folds_odd : (k : ℕ) → k < 64 → lane odd k ≡ is_odd (pin_bits f gate pins words delta k)
+    folds_odd k lt = h.odd_is k lt ∙ ap is_odd (whole k)
+
+-- the word of a form
+pub form_lane : (kind : Kind) (form : Form) (bits : List Bool) (all odd core flips k : ℕ) → IsFormOf kind form → lane flips k ≡ form.turns
+    → lane all k ≡ list_all (λ b. turned form.turns_pins b) bits → lane odd k ≡ is_odd bits → ((form.is_xor ≡ true) × (core ≡ odd)) ⊎ ((form.is_xor ≡ false) × (core ≡ all))
+    → lane (bit_xor core flips) k ≡ value kind bits
+form_lane kind form bits all odd core flips k formed flip all_is odd_is chosen =
+    lane_xor core flips k ∙ (ap (unlike (lane core k)) flip ∙ (turned_there (lane core k) form.turns ∙ (ap (turned form.turns) (go chosen) ∙ formed bits)))
+  where
+    go : ((form.is_xor ≡ true) × (core ≡ odd)) ⊎ ((form.is_xor ≡ false) × (core ≡ all)) → lane core k ≡ (if form.is_xor then is_odd bits else list_all (λ b. turned form.turns_pins b) bits)
+    go (inl (xor, e)) = ap (λ w. lane w k) e ∙ (odd_is ∙ rw xor refl)
+    go (inr (and, e)) = ap (λ w. lane w k) e ∙ (all_is ∙ rw and refl)

@@ -3,13 +3,15 @@
 //! Bit `k` of a word is the bit of test `64 * block + k`. A gate is evaluated on a whole word at once
 //! (parallel-pattern simulation: Bushnell and Agrawal, Essentials of Electronic Testing).
 
-ghost use Rattle.std.specs.Prelude.{◌≡◌, ℕ, ◌+◌, ◌-◌, ◌^◌, ◌<◌, ◌≤◌, All, min, length, None, slice_get};
+ghost use Rattle.std.specs.Prelude.{◌≡◌, ℕ, ◌+◌, ◌-◌, ◌^◌, ◌<◌, ◌≤◌, All, min, length, None, slice_get, slice_index_or};
+ghost use Rattle.std.specs.List.{list_all};
 ghost use Rattle.bench_net.specs.Scan.{names, sources, name_of, gate_of};
 ghost use Rattle.bench_net.specs.Circuit.{IsCircuit, max_sinks};
-ghost use Rattle.fault_model.specs.Solution.{value, under};
+ghost use Rattle.fault_model.specs.declared.Line.TheVariants.{Pin};
+ghost use Rattle.fault_model.specs.Solution.{is_odd, value, under};
 ghost use Rattle.patterns.specs.Tests.{IsWord, blocks};
-ghost use Rattle.block_sim.specs.Forms.{IsFormOf};
-ghost use Rattle.block_sim.specs.Words.{lane, pin_bits, AreWords, IsSignalWord};
+ghost use Rattle.block_sim.specs.Forms.{IsFormOf, turned};
+ghost use Rattle.block_sim.specs.Words.{lane, overlaid, pin_bits, AreWords, IsSignalWord};
 ghost use Rattle.block_sim.specs.Stuck.{fault_of};
 
 use crate::block_lanes::in_each_lane;
@@ -49,8 +51,71 @@ fn seen(fault: Option<Stuck>, own: Line, word: u64) -> u64
     }
 }
 
-/// Evaluates a gate on a word, and counts it. A pin reads the word of its signal turned in the lanes in
-/// which that differs, or the stuck bit where the fault is on the pin. No other function evaluates a gate.
+/// The word that a pin of a gate reads: that of its signal, turned in the lanes in which that differs,
+/// or the stuck bit where the fault is on the pin.
+#[inline(always)]
+fn pin_word(
+    line: Gate<'_>,
+    gate: u32,
+    place: usize,
+    fault: Option<Stuck>,
+    words: &[u64],
+    delta: &[u64],
+) -> u64
+    requires place { place < length line.pins.now }
+    requires pins_in { All (λ p. p < length words.now) line.pins.now }
+    requires same { length words.now ≤ length delta.now }
+    requires few { length line.pins.now ≤ max_sinks }
+    ensures { (k : ℕ) → k < 64 → lane result k ≡ under (fault_of fault) (Pin gate place)
+        (lane (overlaid words.now delta.now (slice_index_or line.entry.pins.now place 0)) k) }
+{
+    let own = Line::Pin {
+        gate,
+        pin: place as u32,
+    };
+    let signal = line.pins[place] as usize;
+    seen(fault, own, words[signal] ^ delta[signal])
+}
+
+/// What the words of a gate's pins come to: their AND, of each turned where the form asks for that, and
+/// their XOR.
+#[derive(Clone, Copy)]
+struct Folds {
+    all: u64,
+    odd: u64,
+}
+
+/// What the words of a gate's pins come to. The first and the last are read apart, so that a gate of one
+/// pin or two, as most are, takes no turn of the loop: which of the two it is isn't asked.
+#[inline(always)]
+fn folds_of(line: Gate<'_>, gate: u32, fault: Option<Stuck>, words: &[u64], delta: &[u64]) -> Folds
+    requires some { 0 < length line.pins.now }
+    requires pins_in { All (λ p. p < length words.now) line.pins.now }
+    requires same { length words.now ≤ length delta.now }
+    requires few { length line.pins.now ≤ max_sinks }
+    ensures all { (k : ℕ) → k < 64 → lane result.all k ≡ list_all (λ b. turned line.entry.form.turns_pins b)
+        (pin_bits (fault_of fault) gate line.entry.pins.now words.now delta.now k) }
+    ensures odd { (k : ℕ) → k < 64 → lane result.odd k
+        ≡ is_odd (pin_bits (fault_of fault) gate line.entry.pins.now words.now delta.now k) }
+{
+    let turned = in_each_lane(line.form.turns_pins);
+    let last = line.pins.len() - 1;
+    let first = pin_word(line, gate, 0, fault, words, delta);
+    let mut all = first ^ turned;
+    let mut odd = first;
+    for place in 1..last {
+        let word = pin_word(line, gate, place, fault, words, delta);
+        all &= word ^ turned;
+        odd ^= word;
+    }
+    let word = pin_word(line, gate, last, fault, words, delta);
+    Folds {
+        all: all & (word ^ turned),
+        odd: odd ^ (word & in_each_lane(last > 0)),
+    }
+}
+
+/// Evaluates a gate on a word, and counts it. No other function evaluates a gate.
 #[inline(always)]
 pub fn evaluate_gate(
     line: Gate<'_>,
@@ -61,6 +126,7 @@ pub fn evaluate_gate(
     evaluations: &mut u64,
 ) -> u64
     requires form { IsFormOf line.kind line.form }
+    requires some { 0 < length line.pins.now }
     requires pins_in { All (λ p. p < length words.now) line.pins.now }
     requires same { length words.now ≤ length delta.now }
     requires few { length line.pins.now ≤ max_sinks }
@@ -71,20 +137,12 @@ pub fn evaluate_gate(
     ensures counted { evaluations.new ≡ min (evaluations.old + 1) (2 ^ 64 - 1) }
 {
     *evaluations = evaluations.saturating_add(1);
-    let turned = in_each_lane(line.form.turns_pins);
-    let mut all = !0u64;
-    let mut odd = 0u64;
-    for (place, signal) in line.pins.iter().enumerate() {
-        let own = Line::Pin {
-            gate,
-            pin: place as u32,
-        };
-        let signal = *signal as usize;
-        let word = seen(fault, own, words[signal] ^ delta[signal]);
-        all &= word ^ turned;
-        odd ^= word;
-    }
-    let word = if line.form.is_xor { odd } else { all };
+    let folds = folds_of(line, gate, fault, words, delta);
+    let word = if line.form.is_xor {
+        folds.odd
+    } else {
+        folds.all
+    };
     word ^ in_each_lane(line.form.turns)
 }
 

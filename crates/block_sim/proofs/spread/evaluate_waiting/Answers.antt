@@ -6,7 +6,7 @@ use Rattle.fault_model.specs.Solution.{value}
 use Rattle.block_sim.specs.Events.{level_at, AreWoken}
 use Rattle.block_sim.specs.Spreading.{IsSpreading, HasTouched, AreSeen, ahead}
 use Rattle.block_sim.specs.Words.{lane, pin_bits}
-use Rattle.block_sim.proofs.Equations.{pins_within, pins_few}
+use Rattle.block_sim.proofs.Equations.{pins_within, pins_few, pins_some}
 use Rattle.block_sim.proofs.Ahead.{ahead_skipped}
 use Rattle.block_sim.proofs.Rises.{reads_rise}
 use Rattle.block_sim.proofs.Seen.{seen_changed, seen_like, with_none}
@@ -19,6 +19,10 @@ evaluate_gate-word-requires-clause-pins_in c =
     λ k d lt.
     let within = pins_within c.args.circuit.now c.args.gate c.in-Some.line.kind c.in-Some.line.pins.now c.requires.circuit.well_formed (sym c.in-Some.ensures.gate) k d lt in
     omega (arith, within, c.requires.good)
+
+pub evaluate_gate-word-requires-clause-some : goal.evaluate_gate-word-requires-clause-some
+evaluate_gate-word-requires-clause-some c =
+    pins_some c.args.circuit.now c.args.gate c.in-Some.line.kind c.in-Some.line.pins.now c.requires.circuit (sym c.in-Some.ensures.gate)
 
 pub evaluate_gate-word-requires-clause-few : goal.evaluate_gate-word-requires-clause-few
 evaluate_gate-word-requires-clause-few c =

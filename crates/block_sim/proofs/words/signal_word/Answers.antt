@@ -2,7 +2,7 @@ use Rattle.std.proofs.Common.{◌∙◌, ap, refl, sym, arith}
 use Rattle.std.specs.Prelude.{None, slice_get}
 use Rattle.bench_net.specs.Scan.{sources, name_of}
 use Rattle.event_queue.proofs.Public.{index_zero}
-use Rattle.block_sim.proofs.Equations.{pins_within, pins_few, source_equation, gate_equation}
+use Rattle.block_sim.proofs.Equations.{pins_within, pins_few, pins_some, source_equation, gate_equation}
 use Rattle.block_sim.proofs.words.signal_word.Goals as goal
 
 pub evaluate_gate-requires-clause-pins_in : goal.evaluate_gate-requires-clause-pins_in
@@ -10,6 +10,10 @@ evaluate_gate-requires-clause-pins_in c =
     λ k d lt.
     let within = pins_within c.args.circuit.now c.args.signal c.in-Some.gate.kind c.in-Some.gate.pins.now c.requires.circuit.well_formed (sym c.in-Some.ensures.gate) k d lt in
     omega (arith, within, c.requires.words)
+
+pub evaluate_gate-requires-clause-some : goal.evaluate_gate-requires-clause-some
+evaluate_gate-requires-clause-some c =
+    pins_some c.args.circuit.now c.args.signal c.in-Some.gate.kind c.in-Some.gate.pins.now c.requires.circuit (sym c.in-Some.ensures.gate)
 
 pub evaluate_gate-requires-clause-few : goal.evaluate_gate-requires-clause-few
 evaluate_gate-requires-clause-few c =
