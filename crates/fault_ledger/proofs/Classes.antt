@@ -44,6 +44,14 @@ none_found s h p n clear none = any_none-below (λ b. is_hit (entry (piece_at s 
     go k l true e = ap is_hit (clear k (ltb-true k n e))
     go k l false e = none k (ltb-false k n e) l
 
+-- from the next on, and so from here on
+pub none_from : (f : ℕ → Bool) (n m : ℕ) → f n ≡ false → ((k : ℕ) → n + 1 ≤ k → k < m → f k ≡ false) → (k : ℕ) → n ≤ k → k < m → f k ≡ false
+none_from f n m here later k l o = go (nat_lt n k) refl
+  where
+    go : (b : Bool) → nat_lt n k ≡ b → f k ≡ false
+    go true e = let a = ltb-true n k e in later k (omega arith) o
+    go false e = let a = ltb-false n k e in let q : n ≡ k = omega arith in ap f (sym q) ∙ here
+
 pub hit_found : (s : Shape) (h : History) (p n : ℕ) → n < block_of s p → is_hit (entry (piece_at s (class_of s p) n) h) ≡ true → has_earlier_hit s h p ≡ true
 hit_found s h p n l hit = any_at-below (λ b. is_hit (entry (piece_at s (class_of s p) b) h)) (block_of s p) n l hit
 

@@ -2,7 +2,6 @@
 use Rattle.std.proofs.Common.{List, [], ◌++◌, add-one, ◌≡◌, ◌≢◌, ℕ, zero, suc, ◌+◌, ◌<◌, ◌≤◌, Bool, true, false, ◌||◌, ◌∷◌, map, set, length, replicate, get_or, slice_index, refl, sym, ap, ◌∙◌, arith}
 use Rattle.std.specs.List.{list_any}
 use Rattle.patterns.specs.Least.{from_up, below}
-use Rattle.patterns.proofs.Public.{length-map-below, get_or-map-below, map-below_same}
 
 -- a place of a list is given what stands there
 pub set_same : (xs : List ℕ) (i : ℕ) → set xs i (slice_index xs i) ≡ xs

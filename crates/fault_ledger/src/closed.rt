@@ -1,42 +1,63 @@
 //! What is left of a shared ledger once it is closed.
 
-ghost use Rattle.std.specs.Prelude.{◌≡◌, ◌<◌, None};
+ghost use Rattle.std.specs.Prelude.{◌≡◌, ◌<◌, count_by, map, IfOk, None};
 ghost use Rattle.fault_ledger.specs.History.{History, block_count, entry, piece_at};
 ghost use Rattle.fault_ledger.specs.Answer.{IsLegal};
-ghost use Rattle.fault_ledger.specs.Settled.{status, finish};
+ghost use Rattle.fault_ledger.specs.Settled.{status, finish, is_skipped};
 ghost use Rattle.fault_ledger.specs.Face.{shape_fault};
+ghost use Rattle.fault_ledger.specs.Heads.{IsHead, state_in};
 ghost use Rattle.fault_ledger.specs.Seats.{AreStates, closed_face, closed_of};
+ghost use Rattle.fault_ledger.specs.Words as rule;
 
-use crate::states::{finish_in, status_in};
+use crate::words::{SKIPPED, state_at};
 use crate::{Finish, PieceState, Shape, Status};
+use patterns::BLOCK_SIZE;
+use std::alloc::{AllocError, Global};
 use std::marker::Model;
 
 /// A closed ledger: what became of each piece.
 #[derive(Debug, Drop)]
 pub struct Closed {
     shape: Shape,
-    states: Vec<PieceState>,
+    // The code of each piece's state, as it stood in its word.
+    codes: Vec<u8>,
+    // For each class how many of its first blocks are clear.
+    clear_blocks: Vec<u32>,
 }
 
 impl Model for Closed {
-    ghost use Rattle.std.specs.Prelude.{◌≡◌, None};
+    ghost use Rattle.std.specs.Prelude.{◌≡◌, map, None};
     ghost use Rattle.fault_ledger.specs.Face.{shape_fault};
-    ghost use Rattle.fault_ledger.specs.Seats.{ClosedFace, AreStates};
+    ghost use Rattle.fault_ledger.specs.Heads.{AreHeads};
+    ghost use Rattle.fault_ledger.specs.Seats.{ClosedFace, AreStates, closed_of};
+    ghost use Rattle.fault_ledger.specs.Words as rule;
 
     ghost Value = { ClosedFace };
 
-    ghost view = { λ c. record { shape = c.shape; states = c.states.items } };
+    ghost view = { λ c. closed_of c.shape (map rule.state_at c.codes.items) };
 
-    ghost invariant = { λ c. (shape_fault c.shape ≡ None) × AreStates c.shape c.states.items };
+    ghost invariant = { λ c. (shape_fault c.shape ≡ None)
+        × AreStates c.shape (map rule.state_at c.codes.items)
+        × AreHeads c.shape (map rule.state_at c.codes.items) c.clear_blocks.items };
 }
 
 impl Closed {
-    /// The states of all pieces of a ledger of this shape.
-    pub(crate) fn of(shape: Shape, states: Vec<PieceState>) -> Closed
-        requires { (shape_fault shape ≡ None) × AreStates shape states.items }
-        ensures { result ≡ closed_of shape states.items }
+    /// The states of all pieces of a ledger of this shape, by their codes.
+    pub(crate) fn of(alloc: Global, shape: Shape, codes: Vec<u8>) -> Result<Closed, AllocError>
+        requires limits { shape_fault shape ≡ None }
+        requires states { AreStates shape (map rule.state_at codes.items) }
+        ensures { IfOk result (λ closed.
+            closed ≡ closed_of shape (map rule.state_at codes.items)) }
     {
-        Closed { shape, states }
+        let mut clear_blocks = Vec::with_capacity(alloc, shape.classes as usize)?;
+        for class in 0..shape.classes {
+            clear_blocks.push(clear_head(shape, &codes, class))?;
+        }
+        Ok(Closed {
+            shape,
+            codes,
+            clear_blocks,
+        })
     }
 
     /// What became of a piece.
@@ -46,18 +67,29 @@ impl Closed {
         ensures entry { (h : History) → self.now ≡ closed_face self.now.shape h
             → result ≡ entry (piece_at self.now.shape class block) h }
     {
-        self.states[(class + self.shape.classes * block) as usize]
+        state_of(self.shape, &self.codes, class, block)
     }
 
-    /// Whether a class is settled, and at which test, else the block that it waits for. It takes at
-    /// most the time of a look at each block of the class.
+    /// Whether a class is settled, and at which test, else the block that it waits for. It takes
+    /// constant time.
     pub fn status(&self, class: u32) -> Status
         requires { class < self.now.shape.classes }
         ensures states { AreStates self.now.shape self.now.states }
         ensures status { (h : History) → IsLegal self.now.shape h
             → self.now ≡ closed_face self.now.shape h → result ≡ status self.now.shape h class }
     {
-        status_in(self.shape, &self.states, class)
+        let clear = self.clear_blocks[class as usize];
+        if clear == self.shape.blocks() {
+            return Status::Settled(None);
+        }
+        match state_of(self.shape, &self.codes, class, clear) {
+            PieceState::Hit(test) => Status::Settled(Some(BLOCK_SIZE * clear + test)),
+            PieceState::Open => Status::Waiting(clear),
+            // The block isn't clear.
+            PieceState::Clear => unreachable!(),
+            // A skipped piece stands behind a hit of its class.
+            PieceState::Skipped => unreachable!(),
+        }
     }
 
     /// Whether all classes are settled, else the lowest class that isn't, with the block that it
@@ -68,6 +100,52 @@ impl Closed {
         ensures finish { (h : History) → IsLegal self.now.shape h
             → self.now ≡ closed_face self.now.shape h → result ≡ finish self.now.shape h }
     {
-        finish_in(self.shape, &self.states)
+        for class in 0..self.shape.classes {
+            if let Status::Waiting(block) = self.status(class) {
+                return Finish::Waiting { class, block };
+            }
+        }
+        Finish::Finished
     }
+
+    /// The number of pieces that were dropped. It takes the time of a look at each piece.
+    pub fn skipped(&self) -> u32
+        ensures { result ≡ count_by is_skipped self.now.states }
+    {
+        let mut skipped = 0;
+        for piece in 0..self.codes.len() {
+            if u64::from(self.codes[piece]) == SKIPPED {
+                skipped += 1;
+            }
+        }
+        skipped
+    }
+}
+
+/// The state of the piece of a class and a block, by the codes of all pieces.
+fn state_of(shape: Shape, codes: &[u8], class: u32, block: u32) -> PieceState
+    requires limits { shape_fault shape ≡ None }
+    requires states { AreStates shape (map rule.state_at codes.now) }
+    requires range { (class < shape.classes) × (block < block_count shape) }
+    ensures { result ≡ state_in shape (map rule.state_at codes.now) class block }
+{
+    let piece = class + shape.classes * block;
+    let code = codes[piece as usize];
+    state_at(u64::from(code))
+}
+
+/// How many of the first blocks of a class are clear, by the codes of all pieces.
+fn clear_head(shape: Shape, codes: &[u8], class: u32) -> u32
+    requires limits { shape_fault shape ≡ None }
+    requires states { AreStates shape (map rule.state_at codes.now) }
+    requires range { class < shape.classes }
+    ensures { IsHead shape (map rule.state_at codes.now) class result }
+{
+    let blocks = shape.blocks();
+    for block in 0..blocks {
+        let PieceState::Clear = state_of(shape, codes, class, block) else {
+            return block;
+        };
+    }
+    blocks
 }

@@ -253,7 +253,13 @@ impl SharedLedger {
         let class = piece % self.shape.classes;
         let end = piece / self.shape.classes;
         let head = self.passes_clear(seat, class, end);
-        self.finds_hit(&mut seat.token, class, head.clear, end)
+        let Some(next) = head.next else {
+            return false;
+        };
+        if let PieceState::Hit(_) = next {
+            return true;
+        }
+        self.finds_hit(&mut seat.token, class, head.clear + 1, end)
     }
 
     /// Looks at blocks of a class, from this one up and below an end, until it sees a hit.
@@ -400,8 +406,9 @@ impl SharedLedger {
     {
         let SharedLedger { words, shape } = self;
         let group = group_of(&words, seats);
-        let states = words.close(alloc, group, shape.pieces() as usize)?;
-        Ok(Closed::of(shape, states))
+        let codes = words.close(alloc, group, shape.pieces() as usize)?;
+        let closed = Closed::of(alloc, shape, codes)?;
+        Ok(closed)
     }
 }
 

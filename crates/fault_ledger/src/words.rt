@@ -40,7 +40,7 @@ const OPEN: u64 = 0;
 const CLEAR: u64 = 1;
 
 /// The code of a skipped piece.
-const SKIPPED: u64 = 2;
+pub(crate) const SKIPPED: u64 = 2;
 
 /// The code of a hit at test 0 of its block; that of a hit at test k is `HIT + k`.
 const HIT: u64 = 128;
@@ -329,44 +329,43 @@ impl Words {
         second.badge = parted.into_badge();
     }
 
-    /// What became of each piece.
+    /// The code of the state of each piece.
     pub(crate) fn close(
         self,
         alloc: Global,
         group: Group,
         pieces: usize,
-    ) -> Result<Vec<PieceState>, AllocError>
+    ) -> Result<Vec<u8>, AllocError>
         requires place { group.place ≡ self }
         requires pieces { pieces ≡ piece_count self.shape }
-        ensures { IfOk result (λ states. (h : History) × IsLegal self.shape h
+        ensures { IfOk result (λ codes. (h : History) × IsLegal self.shape h
             × ForEach (λ p. ContinuesWithout p.worker h p.seen) group.posts
-            × (states.items ≡ states_of self.shape h)) }
+            × (map rule.state_at codes.items ≡ states_of self.shape h)) }
     {
         let Words { table } = self;
         let Group { seat } = group;
         let closed = table.close_with(seat);
-        let states = read_states(alloc, &closed, pieces);
+        let codes = read_codes(alloc, &closed, pieces);
         closed.free();
-        states
+        codes
     }
 }
 
-/// The states of all pieces in the words of a closed table.
-fn read_states(
+/// What stands in the fields of all pieces in the words of a closed table.
+fn read_codes(
     alloc: Global,
     closed: &ClosedTable<u8, Global>,
     pieces: usize,
-) -> Result<Vec<PieceState>, AllocError>
+) -> Result<Vec<u8>, AllocError>
     requires { (slots_len closed.now.words ≡ (pieces + 7) / 8 + 1) × IsFull closed.now.words }
-    ensures { IfOk result (λ states. states.items
-        ≡ map (λ piece. rule.state_at (rule.field_in (slots_items closed.now.words) piece))
-        (below pieces)) }
+    ensures { IfOk result (λ codes. codes.items
+        ≡ map (rule.field_in (slots_items closed.now.words)) (below pieces)) }
 {
-    let mut states = Vec::with_capacity(alloc, pieces)?;
+    let mut codes = Vec::with_capacity(alloc, pieces)?;
     for piece in 0..pieces {
-        states.push(state_at(field_of(piece, closed.word(word_with(piece)))))?;
+        codes.push(field_of(piece, closed.word(word_with(piece))) as u8)?;
     }
-    Ok(states)
+    Ok(codes)
 }
 
 /// The number of the word in which a piece stands.
@@ -409,7 +408,7 @@ fn code_of(outcome: Outcome) -> u64
 }
 
 /// The state of a piece by its code.
-fn state_at(code: u64) -> PieceState
+pub(crate) fn state_at(code: u64) -> PieceState
     ensures { result ≡ rule.state_at code }
 {
     match code {

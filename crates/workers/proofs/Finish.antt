@@ -18,7 +18,8 @@ use Rattle.fault_ledger.specs.Settled.{status, status_from, finish, finish_from}
 use Rattle.fault_ledger.specs.Seats.{ClosedFace, Closes, Place, Sitter, HoldsAll, closed_face}
 use Rattle.fault_ledger.proofs.Public.{held_goes_on, claims_past, legal_claims, ClearBelow, skipped_not_first}
 use Rattle.workers.specs.Settling.{AreSettled, IsShapeOf, shape_for}
-use Rattle.workers.specs.Work.{AreBack, IsOfHistory, is_skipped, ReportsTruly, Returns}
+use Rattle.fault_ledger.specs.Settled.{is_skipped}
+use Rattle.workers.specs.Work.{AreBack, IsOfHistory, ReportsTruly, Returns}
 use Rattle.workers.proofs.Closing.{none_open, all_settled, settled_goes_on, settled_finished, finished_settled}
 use Rattle.workers.specs.Verdict.{AreFirsts, VerdictList, verdicts}
 use Rattle.lists.proofs.Places.{within_place}

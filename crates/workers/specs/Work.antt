@@ -1,14 +1,13 @@
 -- What a worker's seat has done with a job, and how its work ends.
-use Rattle.std.specs.Prelude.{◌≡◌, ◌⊎◌, ℕ, Bool, true, false, count_by, List, [], ◌∷◌, ◌++◌, length, slice_get, Option, Some, None}
+use Rattle.std.specs.Prelude.{◌≡◌, ◌⊎◌, ℕ, true, count_by, List, [], ◌∷◌, ◌++◌, length, slice_get, Option, Some, None}
 use Rattle.patterns.specs.declared.Outcome.{Outcome}
 use Rattle.block_sim.specs.First.{IsTrueOutcome}
 use Rattle.block_sim.specs.Parts.{Parts}
 use Rattle.fault_ledger.specs.declared.Event.{Event}
 use Rattle.fault_ledger.specs.declared.Shape.{Shape}
-use Rattle.fault_ledger.specs.declared.PieceState.{PieceState}
-use Rattle.fault_ledger.specs.declared.PieceState.TheVariants as state
 use Rattle.fault_ledger.specs.History.{History, piece_count, class_of, block_of, claims, held, states_of}
 use Rattle.fault_ledger.specs.Answer.{IsLegal}
+use Rattle.fault_ledger.specs.Settled.{is_skipped}
 use Rattle.fault_ledger.specs.Seats.{Place, Sitter}
 use Rattle.workers.specs.declared.worker.End.{End}
 use Rattle.workers.specs.declared.worker.End.TheVariants.{Exhausted, AllSettled, Stopped}
@@ -74,10 +73,6 @@ pub record AreBack (job : Parts) (place : Place) (passing : Type 0)
   pub count : length seats ≡ place.shape.workers
   pub each : (w : ℕ) (seat : Sitter) → slice_get seats w ≡ Some seat
       → Returns job place w passing seat
-
-abbrev pub is_skipped : PieceState → Bool
-is_skipped state.Skipped = true
-is_skipped _ = false
 
 -- The verdicts are those of some legal history of the job's ledger, and so is the number of
 -- pieces that it says are Skipped.

@@ -1,20 +1,19 @@
 //! A run of workers in threads of their own.
 
-ghost use Rattle.std.specs.Prelude.{◌≡◌, ◌⊎◌, ◌<◌, ◌≤◌, All, count_by, map, IfOk, IfErr, OnOk};
+ghost use Rattle.std.specs.Prelude.{◌≡◌, ◌⊎◌, ◌<◌, ◌≤◌, All, map, IfOk, IfErr, OnOk};
 ghost use Rattle.block_sim.specs.Parts.{BelongTogether, HasRoom};
 ghost use Rattle.fault_ledger.specs.Answer.{IsLegal};
-ghost use Rattle.fault_ledger.specs.History.{History, states_of};
-ghost use Rattle.fault_ledger.specs.Seats.{closed_face, newcomer, newcomers};
+ghost use Rattle.fault_ledger.specs.Seats.{newcomer, newcomers};
 ghost use Rattle.workers.specs.Refused.{IsRunFault};
 ghost use Rattle.workers.specs.Settling.{IsShapeOf, shape_for};
 ghost use Rattle.workers.specs.Verdict.{AreFirsts};
-ghost use Rattle.workers.specs.Work.{AreBack, IsOfHistory, Returns, is_skipped};
+ghost use Rattle.workers.specs.Work.{AreBack, IsOfHistory, Returns};
 
 use crate::verdicts::verdicts_of;
 use crate::worker::{Gate, work};
 use crate::{RunFault, Verdicts, check_workers};
 use block_sim::{Job, Workspace};
-use fault_ledger::{Closed, Finish, PieceState, Seat, SharedLedger};
+use fault_ledger::{Finish, Seat, SharedLedger};
 use std::alloc::{AllocError, Global};
 use std::snapshot::Snapshot;
 use std::sync::Wait;
@@ -146,22 +145,6 @@ fn share_ledger(
     }
 }
 
-/// The number of pieces that were skipped.
-fn skipped_in(job: &Job, closed: &Closed) -> u32
-    requires { IsShapeOf job.now closed.now.shape }
-    ensures { (h : History) → closed.now ≡ closed_face closed.now.shape h
-        → result ≡ count_by is_skipped (states_of closed.now.shape h) }
-{
-    let classes = job.classes().count();
-    let mut skipped = 0;
-    for piece in 0..classes * job.tests().blocks() {
-        if let PieceState::Skipped = closed.entry(piece % classes, piece / classes) {
-            skipped += 1;
-        }
-    }
-    skipped
-}
-
 /// Runs a job by workers in threads of their own, numbered from 0, which share one ledger without
 /// a lock: each claims a piece, asks the gate whether it may go on, drops the piece where an
 /// earlier block of its class detects, else simulates it and reports. The verdicts are the first
@@ -199,7 +182,6 @@ pub fn run<G: Gate + Sync, R: Threads + Wait>(
     if let Finish::Waiting { class, block } = closed.finished() {
         return Err(RunFault::Unfinished { class, block });
     }
-    let skipped = skipped_in(job, &closed);
-    let verdicts = verdicts_of(job, &closed, skipped, firsts)?;
+    let verdicts = verdicts_of(job, &closed, closed.skipped(), firsts)?;
     Ok(verdicts)
 }

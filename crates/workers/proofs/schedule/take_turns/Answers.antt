@@ -1,4 +1,4 @@
-use Rattle.std.proofs.Common.{◌≡◌, ◌∙◌, ◌<◌, ◌+◌, ℕ, Bool, List, All, true, false, refl, sym, ap, subst, arith}
+use Rattle.std.proofs.Common.{◌≡◌, ◌∙◌, ◌<◌, ◌+◌, ℕ, Bool, List, All, refl, sym, ap, subst, arith}
 use Rattle.patterns.specs.Least.{below}
 use Rattle.block_sim.proofs.Public.{true_table}
 use Rattle.fault_ledger.specs.declared.Shape.{Shape}

@@ -1,4 +1,7 @@
-use Rattle.std.proofs.Common.{◌∙◌}
+use Rattle.std.proofs.Common.{ap, ◌∙◌}
+use Rattle.std.specs.Prelude.{count_by}
+use Rattle.fault_ledger.specs.Settled.{is_skipped}
+use Rattle.fault_ledger.specs.Seats.{ClosedFace}
 use Rattle.workers.proofs.Finish.{back_placed, closed_waiting, closed_settled, closed_firsts, closed_history}
 use Rattle.workers.proofs.threads.run.Goals as goal
 
@@ -27,4 +30,4 @@ pub returns-clause-history : goal.returns-clause-history
 returns-clause-history g c =
     closed_history c.args.job.now c.args.workers c.in_ok-ledger.ledger (g.G.Gate.passing c.args.gate.now) c.in_ok-seats.seats.items c.in-Ok.closed
     c.in_ok-ledger.ensures.ledger c.in_ok-check_workers.ensures.in_range.0 c.in_ok-seats.ensures.back c.in-Ok.ensures.closed c.in_ok-verdicts.verdicts
-    c.in_ok-verdicts.ensures.firsts (λ h e. c.in_ok-verdicts.ensures.skipped ∙ c.skipped_in-skipped.ensures h e)
+    c.in_ok-verdicts.ensures.firsts (λ h e. c.in_ok-verdicts.ensures.skipped ∙ c.skipped.ensures ∙ ap (λ (f : ClosedFace). count_by is_skipped f.states) e)

@@ -1,22 +1,22 @@
-use Rattle.std.proofs.Common.{◌≡◌, ap, sym, ◌∙◌, subst}
+use Rattle.std.proofs.Common.{◌≡◌, map, ap, sym, ◌∙◌, subst}
 use Rattle.fault_ledger.specs.declared.Shape.{Shape}
 use Rattle.fault_ledger.specs.declared.words.Post.{Post}
 use Rattle.fault_ledger.specs.History.{ContinuesWithout, states_of}
 use Rattle.fault_ledger.specs.Answer.{IsLegal}
 use Rattle.fault_ledger.specs.Seats.{Place, closed_of}
-use Rattle.fault_ledger.specs.Words.{ForEach}
+use Rattle.fault_ledger.specs.Words.{ForEach, state_at}
 use Rattle.fault_ledger.proofs.Deals.{of_each}
 use Rattle.fault_ledger.proofs.shared.SharedLedger.close.Goals as goal
 
 pub returns-clause-closed : goal.returns-clause-closed
 returns-clause-closed c =
     let s = c.args.self.shape in
-    let e = c.in_ok-states.ensures in
+    let e = c.in_ok-codes.ensures in
     let h = e.0 in
     let same : c.self.inside.words.shape ≡ s = ap (λ (x : Place). x.shape) c.self.view_is in
     let P : Post → Type 0 = λ p. ContinuesWithout p.worker h p.seen in (
       h,
       subst (λ (x : Shape). IsLegal x h) same e.1,
       of_each P c.args.seats.items (subst (ForEach P) c.group_of-group.ensures.1 e.2),
-      c.of.ensures ∙ ap (λ (x : Shape). closed_of x c.in_ok-states.states.items) (sym c.self.invariant ∙ same) ∙ ap (closed_of s) (e.3 ∙ ap (λ (x : Shape). states_of x h) same),
+      c.in_ok-closed.ensures ∙ ap (λ (x : Shape). closed_of x (map state_at c.in_ok-codes.codes.items)) (sym c.self.invariant ∙ same) ∙ ap (closed_of s) (e.3 ∙ ap (λ (x : Shape). states_of x h) same),
     )

@@ -1,16 +1,39 @@
-use Rattle.std.proofs.Common.{◌≡◌, ℕ, ◌/◌, ◌%◌, ◌<◌, ◌≤◌, Bool, true, false, refl, sym, ap, ◌∙◌, subst, arith}
+use Rattle.std.proofs.Common.{◌≡◌, ℕ, ◌+◌, ◌/◌, ◌%◌, ◌<◌, ◌≤◌, Bool, true, false, refl, sym, ap, ◌∙◌, subst, arith}
 use Rattle.fault_ledger.specs.declared.Shape.{Shape}
 use Rattle.fault_ledger.specs.History.{ContinuesWithout, class_of, block_of, piece_at, entry}
 use Rattle.fault_ledger.specs.Answer.{is_hit}
 use Rattle.fault_ledger.specs.Seats.{Place, Sitter, Sees, EndsClear}
 use Rattle.fault_ledger.proofs.Sits.{seated_sees, sees_twice}
-use Rattle.fault_ledger.proofs.Classes.{none_found, hit_found}
+use Rattle.fault_ledger.proofs.Classes.{none_found, none_from, not_hit, hit_found}
 use Rattle.fault_ledger.proofs.shared.SharedLedger.finds_earlier_hit.Goals as goal
+use Rattle.fault_ledger.proofs.shared.SharedLedger.finds_earlier_hit.Goals.{After-passes_clear-head}
+use Rattle.fault_ledger.proofs.Histories.{goes_on_same}
 
 pub invariant_of-seat : goal.invariant_of-seat
 invariant_of-seat c =
     let i = c.seat.inside in
     seated_sees i.token c.finds_hit.new.token i.worker i.told i.classes i.piece i.clear_blocks.items c.seat.invariant c.finds_hit.ensures.sees
+
+-- where the clear blocks of the piece's class end
+head : (c : After-passes_clear-head) → EndsClear c.args.self.now.shape c.passes_clear-head.new.seat.seen (class_of c.args.self.now.shape c.args.piece) (block_of c.args.self.now.shape c.args.piece) c.passes_clear-head.result.clear c.passes_clear-head.result.next
+head c =
+    let s = c.args.self.now.shape in
+    let p = c.args.piece in
+    let is : c.self.inside.shape ≡ s = sym c.self.invariant ∙ ap (λ (x : Place). x.shape) c.self.view_is in
+    subst (λ (x : Shape). EndsClear s c.passes_clear-head.new.seat.seen (class_of x p) (block_of x p) c.passes_clear-head.result.clear c.passes_clear-head.result.next) is c.passes_clear-head.ensures.head
+
+pub returns-in_default-clause-missed : goal.returns-in_default-clause-missed
+returns-in_default-clause-missed c = λ _.
+    let b = c.passes_clear-head.new.seat in
+    let e = head (goal.at.returns-in_default-clause-missed c).After-passes_clear-head in
+    let end = e.none c.in_default.is in
+    (b.seen, c.passes_clear-head.ensures.sees.newer, goes_on_same c.args.seat.now.worker b.seen, none_found c.args.self.now.shape b.seen c.args.piece c.passes_clear-head.result.clear e.clear (λ k l m. absurd (omega arith)))
+
+pub returns-in-Hit-clause-found : goal.returns-in-Hit-clause-found
+returns-in-Hit-clause-found c = λ _.
+    let e = head (goal.at.returns-in-Hit-clause-found c).After-passes_clear-head in
+    let x = e.some c.in-Some.next c.in-Some.is in
+    hit_found c.args.self.now.shape c.passes_clear-head.new.seat.seen c.args.piece c.passes_clear-head.result.clear x.0 (ap is_hit (x.2 ∙ c.in-Hit.is))
 
 not_found : (b : Bool) → (b ≡ true → ⊥) → b ≡ false
 not_found true f = absurd (f refl)
@@ -27,11 +50,13 @@ returns c =
     let is : c.self.inside.shape ≡ s = sym c.self.invariant ∙ ap (λ (x : Place). x.shape) c.self.view_is in
     let first = c.passes_clear-head.ensures.sees in
     let then = subst (λ (x : Sitter). Sees x x.told d) c.seat.view_is c.finds_hit.ensures.sees in
-    let head = subst (λ (x : Shape). EndsClear s b.seen (class_of x p) (block_of x p) n c.passes_clear-head.result.next) is c.passes_clear-head.ensures.head in
+    let e = head (goal.at.returns c).After-passes_clear-head in
+    let x = e.some c.in-Some.next c.in-Some.is in
+    let here : is_hit (entry (piece_at s (class_of s p) n) b.seen) ≡ false = not_hit _ (λ k hit. c.in_default-next.not-Hit k (sym x.2 ∙ hit)) in
     record {
       sees = sees_twice a b d first then;
-      block_zero = λ e.
-          let none = subst (λ (x : Shape). block_of x p ≡ 0) (sym is) e in (
+      block_zero = λ z.
+          let none = subst (λ (x : Shape). block_of x p ≡ 0) (sym is) z in (
             not_found c.finds_hit.result (λ t. let f = c.finds_hit.ensures.found t in let l = f.1 in omega arith),
             c.finds_hit.ensures.unmoved none ∙ c.seat.view_is ∙ c.passes_clear-head.ensures.unmoved none,
           );
@@ -39,7 +64,7 @@ returns c =
           let f = subst (λ (x : Shape). (k : ℕ) × (k < block_of x p) × (is_hit (entry (piece_at s (class_of x p) k) d.seen) ≡ true)) is (c.finds_hit.ensures.found t) in
           hit_found s d.seen p f.0 f.1 f.2;
       missed = λ t.
-          let none = subst (λ (x : Sitter). (k : ℕ) → n ≤ k → k < p / c.self.inside.shape.classes → is_hit (entry (piece_at s (p % c.self.inside.shape.classes) k) x.seen) ≡ false) c.seat.view_is (c.finds_hit.ensures.missed t) in
-          let all = subst (λ (x : Shape). (k : ℕ) → n ≤ k → k < block_of x p → is_hit (entry (piece_at s (class_of x p) k) b.seen) ≡ false) is none in
-          (b.seen, first.newer, subst (λ w. ContinuesWithout w d.seen b.seen) (ap (λ (x : Sitter). x.worker) first.seat) then.newer, none_found s b.seen p n head.clear all);
+          let none = subst (λ (x : Sitter). (k : ℕ) → n + 1 ≤ k → k < p / c.self.inside.shape.classes → is_hit (entry (piece_at s (p % c.self.inside.shape.classes) k) x.seen) ≡ false) c.seat.view_is (c.finds_hit.ensures.missed t) in
+          let all = subst (λ (x : Shape). (k : ℕ) → n + 1 ≤ k → k < block_of x p → is_hit (entry (piece_at s (class_of x p) k) b.seen) ≡ false) is none in
+          (b.seen, first.newer, subst (λ w. ContinuesWithout w d.seen b.seen) (ap (λ (x : Sitter). x.worker) first.seat) then.newer, none_found s b.seen p n e.clear (none_from (λ k. is_hit (entry (piece_at s (class_of s p) k) b.seen)) n (block_of s p) here all));
     }

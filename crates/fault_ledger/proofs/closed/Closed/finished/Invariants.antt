@@ -1,0 +1,5 @@
+use Rattle.fault_ledger.proofs.Finishes.{SettledBelow}
+use Rattle.fault_ledger.proofs.closed.Closed.finished.Given as goal
+
+abbrev pub invariant-loop-class : goal.invariant-loop-class
+invariant-loop-class l = SettledBelow l.self.shape l.self.states l.class
