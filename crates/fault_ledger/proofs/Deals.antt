@@ -1,16 +1,16 @@
 -- The seats of all workers, one by one.
-use Rattle.std.proofs.Common.{◌≡◌, ℕ, suc, ◌+◌, ◌-◌, ◌<◌, false, true≢false, List, [], ◌∷◌, ◌++◌, map, length, replicate, slice_index, get_or, All, None, refl, sym, ap, ◌∙◌, subst, arith, add-one, length-append}
+use Rattle.std.proofs.Common.{◌≡◌, ℕ, zero, suc, ◌+◌, ◌-◌, ◌<◌, false, true≢false, List, [], ◌∷◌, ◌++◌, map, length, replicate, slice_index_or, get_or, All, None, refl, sym, ap, ◌∙◌, subst, arith, add-one, length-append}
 use Rattle.std.proofs.Math.Seq.{get_or-append_seam}
 use Rattle.std.proofs.lemmas.List.Elements.{All-nil, All-cons, All-map}
 use Rattle.patterns.specs.Least.{below}
 use Rattle.fault_ledger.specs.declared.Shape.{Shape}
 use Rattle.fault_ledger.specs.declared.words.Post.{Post}
-use Rattle.fault_ledger.specs.Settled.{AreClear}
 use Rattle.fault_ledger.specs.Face.{shape_fault}
-use Rattle.fault_ledger.specs.Seats.{Place, Sitter, IsSeated, newcomer, newcomers}
+use Rattle.fault_ledger.specs.declared.shared.Remembered.{Remembered}
+use Rattle.fault_ledger.specs.Seats.{Place, Sitter, IsSeated, Recalls, nothing_seen, newcomer, newcomers}
 use Rattle.fault_ledger.specs.Words.{post, post_of, newcomer_posts, first_post, others, ForEach}
 use Rattle.fault_ledger.proofs.Tables.{more_below}
-use Rattle.fault_ledger.proofs.Groups.{zeros_at}
+use Rattle.fault_ledger.proofs.Sits.{nothing_recalled}
 
 -- the first of the workers from w on
 pub newcomers_first : (w n : ℕ) → w < n → newcomer_posts w (n - w) ≡ post w false [] ∷ newcomer_posts (w + 1) (n - (w + 1))
@@ -27,8 +27,13 @@ deal_first p w n posts rest a l is parts at =
 pub deal_others : (w n : ℕ) (posts rest : List Post) (a : Sitter) → w < n → posts ≡ newcomer_posts w (n - w) → posts ≡ post_of a ∷ rest → rest ≡ newcomer_posts (w + 1) (n - (w + 1))
 deal_others w n posts rest a l is parts = ap others (sym parts ∙ is ∙ newcomers_first w n l)
 
+blanks_at : (n i : ℕ) → slice_index_or (replicate n nothing_seen) i nothing_seen ≡ nothing_seen
+blanks_at zero i = refl
+blanks_at (suc n) zero = refl
+blanks_at (suc n) (suc i) = blanks_at n i
+
 -- what the seat of a newcomer keeps, who remembers nothing
-pub deal_seat : (p : Place) (s : Shape) (w n : ℕ) (clear : List ℕ) (a : Sitter) → a ≡ newcomer p w → p.shape ≡ s → shape_fault s ≡ None → w < s.workers → clear ≡ replicate n 0
+pub deal_seat : (p : Place) (s : Shape) (w n : ℕ) (clear : List Remembered) (a : Sitter) → a ≡ newcomer p w → p.shape ≡ s → shape_fault s ≡ None → w < s.workers → clear ≡ replicate n nothing_seen
     → IsSeated a w false s.classes None clear
 deal_seat p s w n clear a e is limits l blank = subst (λ (x : Sitter). IsSeated x w false s.classes None clear) (sym e) (record {
   sitter = record {
@@ -41,7 +46,7 @@ deal_seat p s w n clear a e is limits l blank = subst (λ (x : Sitter). IsSeated
   told_is = refl;
   classes_is = ap (λ (x : Shape). x.classes) (sym is);
   piece_is = refl;
-  remembers = λ class. subst (AreClear p.shape [] class) (sym (ap (λ (x : List ℕ). slice_index x class) blank ∙ zeros_at n class)) (λ k m. absurd (omega arith));
+  remembers = λ class. subst (Recalls p.shape [] class) (sym (ap (λ (x : List Remembered). slice_index_or x class nothing_seen) blank ∙ blanks_at n class)) (nothing_recalled p.shape [] class);
 })
 
 pub deal_more : (p : Place) (w : ℕ) (seats now : List Sitter) (a : Sitter) → a ≡ newcomer p w → seats ≡ map (newcomer p) (below w) → now ≡ seats ++ a ∷ [] → now ≡ map (newcomer p) (below (w + 1))

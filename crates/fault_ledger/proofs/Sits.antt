@@ -1,18 +1,19 @@
 -- What a step of a seat's token means for the seat.
-use Rattle.std.proofs.Common.{◌≡◌, ℕ, zero, suc, ◌<◌, ◌≤◌, Bool, true, false, true≢false, if◌then◌else◌, eqb, eqb-true, eq-eqb, List, [], ◌∷◌, set, slice_index, Option, Some, None, refl, sym, ap, ◌∙◌, subst, arith, lt-ltb, le-ltb}
+use Rattle.std.proofs.Common.{◌≡◌, ℕ, zero, suc, ◌<◌, ◌≤◌, Bool, true, false, true≢false, if◌then◌else◌, eqb, eqb-true, eq-eqb, List, [], ◌∷◌, set, slice_index_or, Option, Some, None, refl, sym, ap, ◌∙◌, subst, arith, lt-ltb, le-ltb}
 use Rattle.std.proofs.lemmas.List.{get_or-set_other}
 use Rattle.patterns.specs.declared.Outcome.{Outcome}
 use Rattle.fault_ledger.specs.declared.Shape.{Shape}
 use Rattle.fault_ledger.specs.declared.Event.{Event}
+use Rattle.fault_ledger.specs.declared.shared.Remembered.{Remembered}
 use Rattle.fault_ledger.specs.declared.Refusal.TheVariants.{NoSuchWorker, NoEarlierHit}
 use Rattle.fault_ledger.specs.declared.Claim.TheVariants as claim_is
 use Rattle.fault_ledger.specs.declared.Call.TheVariants as call
 use Rattle.fault_ledger.specs.declared.Reply.{Reply}
 use Rattle.fault_ledger.specs.declared.Reply.TheVariants.{Claimed, Done, Refused}
 use Rattle.fault_ledger.specs.History.{History, claims, held, piece_at, piece_count, class_of, block_of, ContinuesWithout}
-use Rattle.fault_ledger.specs.Answer.{answer, has_earlier_hit, claim_reply, drop_reply, IsLegal}
+use Rattle.fault_ledger.specs.Answer.{answer, has_earlier_hit, is_hit, claim_reply, drop_reply, IsLegal}
 use Rattle.fault_ledger.specs.Settled.{AreClear}
-use Rattle.fault_ledger.specs.Seats.{Sitter, IsSitter, RemembersClear, IsSeated, Sees, Makes, FindsNoHit}
+use Rattle.fault_ledger.specs.Seats.{Sitter, IsSitter, Recalls, Remembers, nothing_seen, IsSeated, Sees, Makes, FindsNoHit}
 use Rattle.fault_ledger.proofs.Histories.{claims_past, entry_past, entry_goes_on, held_goes_on, goes_on_twice, goes_on_same}
 use Rattle.fault_ledger.proofs.Legal.{legal_claims, held_piece}
 
@@ -35,31 +36,46 @@ clear_after s class n e h clear k l =
     entry_past (piece_at s class k) (e ∷ []) h (λ o. absurd (cc)) ∙ x
 
 -- and stays remembered
-pub remembers_sees : (a b : Sitter) (told : Bool) (clear : List ℕ) → Sees a told b → RemembersClear a clear → RemembersClear b clear
+pub recalls_goes_on : (s : Shape) (w class : ℕ) (known : Remembered) (later earlier : History) → ContinuesWithout w later earlier → Recalls s earlier class known → Recalls s later class known
+recalls_goes_on s w class known later earlier c r = record {
+  clear = clear_goes_on s w class known.clear later earlier c r.clear;
+  hit = λ t. let e = r.hit t in ap is_hit (entry_goes_on w (piece_at s class known.clear) later earlier c (λ o. true≢false (sym e ∙ ap is_hit o))) ∙ e;
+}
+
+recalls_after : (s : Shape) (class : ℕ) (known : Remembered) (e : Event) (h : History) → Recalls s h class known → Recalls s (e ∷ h) class known
+recalls_after s class known e h r = record {
+  clear = clear_after s class known.clear e h r.clear;
+  hit = λ t. let x = r.hit t in ap is_hit (entry_past (piece_at s class known.clear) (e ∷ []) h (λ o. true≢false (sym x ∙ ap is_hit o))) ∙ x;
+}
+
+pub remembers_sees : (a b : Sitter) (told : Bool) (clear : List Remembered) → Sees a told b → Remembers a clear → Remembers b clear
 remembers_sees a b told clear s r =
     let h = b.seen in
-    subst (λ (x : Sitter). RemembersClear x clear) (sym s.seat)
-    (λ class. clear_goes_on a.place.shape a.worker class (slice_index clear class) h a.seen s.newer (r class))
+    subst (λ (x : Sitter). Remembers x clear) (sym s.seat)
+    (λ class. recalls_goes_on a.place.shape a.worker class (slice_index_or clear class nothing_seen) h a.seen s.newer (r class))
 
-pub remembers_makes : (a b : Sitter) (e : Event) (reply : Reply) (clear : List ℕ) → Makes a e reply b → RemembersClear a clear → RemembersClear b clear
+pub remembers_makes : (a b : Sitter) (e : Event) (reply : Reply) (clear : List Remembered) → Makes a e reply b → Remembers a clear → Remembers b clear
 remembers_makes a b e reply clear m r =
-    subst (λ (x : Sitter). RemembersClear x clear) (sym m.seat)
-    (λ class. let n = slice_index clear class in clear_after a.place.shape class n e m.before (clear_goes_on a.place.shape a.worker class n m.before a.seen m.newer (r class)))
+    subst (λ (x : Sitter). Remembers x clear) (sym m.seat)
+    (λ class. let n = slice_index_or clear class nothing_seen in recalls_after a.place.shape class n e m.before (recalls_goes_on a.place.shape a.worker class n m.before a.seen m.newer (r class)))
 
-at_set : (P : ℕ → Type 0) (l : List ℕ) (i n : ℕ) → P 0 → P n → P (slice_index (set l i n) i)
-at_set P [] i n z p = z
-at_set P (x ∷ xs) zero n z p = p
-at_set P (x ∷ xs) (suc i) n z p = at_set P xs i n z p
+at_set : {X : Type 0} (P : X → Type 0) (d : X) (l : List X) (i : ℕ) (n : X) → P d → P n → P (slice_index_or (set l i n) i d)
+at_set P d [] i n z p = z
+at_set P d (x ∷ xs) zero n z p = p
+at_set P d (x ∷ xs) (suc i) n z p = at_set P d xs i n z p
 
-pub remembers_set : (a : Sitter) (clear : List ℕ) (class n : ℕ) → RemembersClear a clear → AreClear a.place.shape a.seen class n → RemembersClear a (set clear class n)
+pub nothing_recalled : (s : Shape) (h : History) (class : ℕ) → Recalls s h class nothing_seen
+nothing_recalled s h class = record { clear = λ k l. absurd (omega arith); hit = λ t. absurd (true≢false (sym t)) }
+
+pub remembers_set : (a : Sitter) (clear : List Remembered) (class : ℕ) (n : Remembered) → Remembers a clear → Recalls a.place.shape a.seen class n → Remembers a (set clear class n)
 remembers_set a clear class n r now other = go (eqb other class) refl
   where
-    go : (b : Bool) → eqb other class ≡ b → AreClear a.place.shape a.seen other (slice_index (set clear class n) other)
+    go : (b : Bool) → eqb other class ≡ b → Recalls a.place.shape a.seen other (slice_index_or (set clear class n) other nothing_seen)
     go true e =
-        subst (λ k. AreClear a.place.shape a.seen k (slice_index (set clear class n) k)) (sym (eqb-true other class e))
-        (at_set (AreClear a.place.shape a.seen class) clear class n (λ k l. absurd (omega arith)) now)
+        subst (λ k. Recalls a.place.shape a.seen k (slice_index_or (set clear class n) k nothing_seen)) (sym (eqb-true other class e))
+        (at_set (Recalls a.place.shape a.seen class) nothing_seen clear class n (nothing_recalled a.place.shape a.seen class) now)
     go false e =
-        subst (AreClear a.place.shape a.seen other) (sym (get_or-set_other clear class other n 0 (λ q. true≢false (sym (eq-eqb other class q) ∙ e))))
+        subst (Recalls a.place.shape a.seen other) (sym (get_or-set_other clear class other n nothing_seen (λ q. true≢false (sym (eq-eqb other class q) ∙ e))))
         (r other)
 
 -- a seat that sees more
@@ -73,7 +89,7 @@ sitter_sees a b i s =
       ended = λ t. (held_goes_on a.worker h a.seen s.newer ∙ (i.ended t).0, all_claimed a.place.shape a.worker h a.seen s.newer s.legal (i.ended t).1);
     })
 
-pub seated_sees : (a b : Sitter) (worker : ℕ) (told : Bool) (classes : ℕ) (piece : Option ℕ) (clear : List ℕ) → IsSeated a worker told classes piece clear → Sees a a.told b → IsSeated b worker told classes piece clear
+pub seated_sees : (a b : Sitter) (worker : ℕ) (told : Bool) (classes : ℕ) (piece : Option ℕ) (clear : List Remembered) → IsSeated a worker told classes piece clear → Sees a a.told b → IsSeated b worker told classes piece clear
 seated_sees a b worker told classes piece clear i s = record {
   sitter = sitter_sees a b i.sitter s;
   worker_is = i.worker_is ∙ ap (λ (x : Sitter). x.worker) (sym s.seat);
@@ -84,7 +100,7 @@ seated_sees a b worker told classes piece clear i s = record {
 }
 
 -- a seat that is told that all pieces are claimed
-pub seated_ends : (a b : Sitter) (worker : ℕ) (told : Bool) (classes : ℕ) (piece : Option ℕ) (clear : List ℕ) → IsSeated a worker told classes piece clear → piece ≡ None → Sees a true b → claims b.seen ≡ piece_count a.place.shape
+pub seated_ends : (a b : Sitter) (worker : ℕ) (told : Bool) (classes : ℕ) (piece : Option ℕ) (clear : List Remembered) → IsSeated a worker told classes piece clear → piece ≡ None → Sees a true b → claims b.seen ≡ piece_count a.place.shape
     → IsSeated b worker true classes piece clear
 seated_ends a b worker told classes piece clear i none s all =
     let h = b.seen in
@@ -95,11 +111,11 @@ seated_ends a b worker told classes piece clear i none s all =
       told_is = refl;
       classes_is = i.classes_is;
       piece_is = i.piece_is ∙ sym same;
-      remembers = λ class. clear_goes_on a.place.shape a.worker class (slice_index clear class) h a.seen s.newer (i.remembers class);
+      remembers = λ class. recalls_goes_on a.place.shape a.worker class (slice_index_or clear class nothing_seen) h a.seen s.newer (i.remembers class);
     })
 
 -- a seat that holds a piece was not told that all are claimed
-pub untold : (a : Sitter) (worker : ℕ) (told : Bool) (classes : ℕ) (piece : Option ℕ) (clear : List ℕ) (p : ℕ) → IsSeated a worker told classes piece clear → piece ≡ Some p → a.told ≡ false
+pub untold : (a : Sitter) (worker : ℕ) (told : Bool) (classes : ℕ) (piece : Option ℕ) (clear : List Remembered) (p : ℕ) → IsSeated a worker told classes piece clear → piece ≡ Some p → a.told ≡ false
 untold a worker told classes piece clear p i e = go a.told refl
   where
     go : (b : Bool) → a.told ≡ b → b ≡ false
@@ -107,7 +123,7 @@ untold a worker told classes piece clear p i e = go a.told refl
     go true t = let q : Some p ≡ None = sym e ∙ i.piece_is ∙ (i.sitter.ended t).0 in absurd (cc)
 
 -- a seat after an event of its own
-pub seated_makes : (a b : Sitter) (e : Event) (r : Reply) (worker : ℕ) (told : Bool) (classes : ℕ) (piece now : Option ℕ) (clear : List ℕ)
+pub seated_makes : (a b : Sitter) (e : Event) (r : Reply) (worker : ℕ) (told : Bool) (classes : ℕ) (piece now : Option ℕ) (clear : List Remembered)
     → IsSeated a worker told classes piece clear → a.told ≡ false → Makes a e r b → held a.worker b.seen ≡ now → IsSeated b worker told classes now clear
 seated_makes a b e r worker told classes piece now clear i free m holds =
     subst (λ (x : Sitter). IsSeated x worker told classes now clear) (sym m.seat) (record {
@@ -116,7 +132,7 @@ seated_makes a b e r worker told classes piece now clear i free m holds =
       told_is = i.told_is;
       classes_is = i.classes_is;
       piece_is = sym holds ∙ ap (λ (x : Sitter). held a.worker x.seen) m.seat;
-      remembers = subst (λ (x : Sitter). RemembersClear x clear) m.seat (remembers_makes a b e r clear m i.remembers);
+      remembers = subst (λ (x : Sitter). Remembers x clear) m.seat (remembers_makes a b e r clear m i.remembers);
     })
 
 -- after a report or a drop it holds nothing
@@ -129,11 +145,11 @@ dropped_free a b r m =
     ap (λ (x : Sitter). held a.worker x.seen) m.seat ∙ ap (λ y. if y then None else held a.worker m.before) (eq-eqb a.worker a.worker refl)
 
 -- a piece that a seat holds is one of the pieces
-pub seated_piece : (a : Sitter) (worker : ℕ) (told : Bool) (classes : ℕ) (piece : Option ℕ) (clear : List ℕ) (p : ℕ) → IsSeated a worker told classes piece clear → piece ≡ Some p → p < piece_count a.place.shape
+pub seated_piece : (a : Sitter) (worker : ℕ) (told : Bool) (classes : ℕ) (piece : Option ℕ) (clear : List Remembered) (p : ℕ) → IsSeated a worker told classes piece clear → piece ≡ Some p → p < piece_count a.place.shape
 seated_piece a worker told classes piece clear p i e = held_piece a.place.shape a.worker p a.seen i.sitter.legal (sym i.piece_is ∙ e)
 
 -- the piece that a seat holds is one
-pub seated_same : (a b : Sitter) (worker : ℕ) (told : Bool) (classes : ℕ) (piece : Option ℕ) (clear : List ℕ)
+pub seated_same : (a b : Sitter) (worker : ℕ) (told : Bool) (classes : ℕ) (piece : Option ℕ) (clear : List Remembered)
     (p q : ℕ) → IsSeated a worker told classes piece clear → a ≡ b → piece ≡ Some p → held b.worker b.seen ≡ Some q → q ≡ p
 seated_same a b worker told classes piece clear p q i view is holds =
     let e : Some q ≡ Some p =

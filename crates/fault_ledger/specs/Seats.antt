@@ -1,18 +1,19 @@
 -- How clients see a shared ledger, its seats, and what a call on a seat does.
-use Rattle.std.specs.Prelude.{◌≡◌, ◌≢◌, ◌<◌, ◌≤◌, ℕ, Bool, true, false, List, [], ◌∷◌, All, map, slice_index, Option, Some, None}
+use Rattle.std.specs.Prelude.{◌≡◌, ◌≢◌, ◌<◌, ◌≤◌, ℕ, Bool, true, false, List, [], ◌∷◌, All, map, slice_index_or, Option, Some, None}
 use Rattle.atomic_table.specs.Seated.{TableId}
 use Rattle.patterns.specs.Least.{below}
 use Rattle.fault_ledger.specs.declared.Shape.{Shape}
 use Rattle.fault_ledger.specs.declared.PieceState.{PieceState}
 use Rattle.fault_ledger.specs.declared.PieceState.TheVariants.{Clear}
 use Rattle.fault_ledger.specs.declared.Event.{Event}
+use Rattle.fault_ledger.specs.declared.shared.Remembered.{Remembered}
 use Rattle.fault_ledger.specs.declared.Refusal.TheVariants.{NoEarlierHit}
 use Rattle.fault_ledger.specs.declared.Call.{Call}
 use Rattle.fault_ledger.specs.declared.Call.TheVariants as call
 use Rattle.fault_ledger.specs.declared.Reply.{Reply}
 use Rattle.fault_ledger.specs.declared.Reply.TheVariants.{Refused}
 use Rattle.fault_ledger.specs.History.{History, piece_count, piece_at, class_of, block_of, claims, held, entry, ContinuesWithout, states_of}
-use Rattle.fault_ledger.specs.Answer.{answer, call_of, IsLegal}
+use Rattle.fault_ledger.specs.Answer.{answer, call_of, is_hit, IsLegal}
 use Rattle.fault_ledger.specs.Settled.{AreClear}
 use Rattle.fault_ledger.specs.Face.{shape_fault}
 
@@ -38,21 +39,29 @@ pub record IsSitter (a : Sitter) : Type 0 where
   pub ended : a.told ≡ true
       → (held a.worker a.seen ≡ None) × (claims a.seen ≡ piece_count a.place.shape)
 
--- the blocks that are remembered as clear, so many first ones of each class, are so in what was
--- seen
-abbrev pub RemembersClear : Sitter → List ℕ → Type 0
-RemembersClear a blocks = (class : ℕ)
-    → AreClear a.place.shape a.seen class (slice_index blocks class)
+-- what is remembered of a class is so in a history: so many first blocks are Clear, and the one
+-- behind them is a Hit where it is known to be
+pub record Recalls (shape : Shape) (h : History) (class : ℕ) (known : Remembered) : Type 0 where
+  pub clear : AreClear shape h class known.clear
+  pub hit : known.hit ≡ true → is_hit (entry (piece_at shape class known.clear) h) ≡ true
+
+abbrev pub nothing_seen : Remembered
+nothing_seen = record { clear = 0; hit = false }
+
+-- what is remembered of each class is so in what was seen
+abbrev pub Remembers : Sitter → List Remembered → Type 0
+Remembers a remembered = (class : ℕ)
+    → Recalls a.place.shape a.seen class (slice_index_or remembered class nothing_seen)
 
 -- what a seat keeps beside its token
 pub record IsSeated (a : Sitter) (worker : ℕ) (told : Bool) (classes : ℕ) (piece : Option ℕ)
-    (clear : List ℕ) : Type 0 where
+    (remembered : List Remembered) : Type 0 where
   pub sitter : IsSitter a
   pub worker_is : worker ≡ a.worker
   pub told_is : told ≡ a.told
   pub classes_is : classes ≡ a.place.shape.classes
   pub piece_is : piece ≡ held a.worker a.seen
-  pub remembers : RemembersClear a clear
+  pub remembers : Remembers a remembered
 
 -- The clear blocks at the head of a class, below an end: so many, and then a block in this state,
 -- which isn't Clear, or the end.

@@ -19,7 +19,8 @@ mod words;
 
 ghost use Rattle.std.specs.Prelude.{◌≡◌, ◌<◌};
 ghost use Rattle.patterns.specs.Tests.{size_of};
-ghost use Rattle.fault_ledger.specs.History.{block_count, piece_count, state_of};
+ghost use Rattle.fault_ledger.specs.Answer.{fits_size};
+ghost use Rattle.fault_ledger.specs.History.{block_count, block_of, piece_count, state_of};
 ghost use Rattle.fault_ledger.specs.Face.{shape_fault};
 
 pub use calls::replay;
@@ -212,6 +213,17 @@ impl Shape {
         ensures { result ≡ size_of self.tests block }
     {
         (self.tests - BLOCK_SIZE * block).min(BLOCK_SIZE)
+    }
+
+    /// Whether the block of a piece has the test that an outcome names.
+    pub(crate) fn takes(self, piece: u32, outcome: Outcome) -> bool
+        requires { piece < piece_count self }
+        ensures { result ≡ fits_size (size_of self.tests (block_of self piece)) outcome }
+    {
+        match outcome {
+            Outcome::Clear => true,
+            Outcome::Hit(test) => test < self.size_of(piece / self.classes),
+        }
     }
 
     /// Why there is no ledger of this shape, but for want of memory.

@@ -210,7 +210,7 @@ fn held_by(holding: &[Option<u32>], worker: u32) -> Result<u32, Refusal>
 }
 
 /// Whether a block of this size has the test that an outcome names.
-pub(crate) fn fits(size: u32, outcome: Outcome) -> bool
+fn fits(size: u32, outcome: Outcome) -> bool
     ensures { result ≡ fits_size size outcome }
 {
     match outcome {

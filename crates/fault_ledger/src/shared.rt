@@ -1,6 +1,6 @@
 //! The ledger that threads share, without a lock.
 
-ghost use Rattle.std.specs.Prelude.{◌≡◌, ◌⊎◌, ◌<◌, ◌≤◌, ℕ, true, false, All, map, set, length, slice_index, IfOk, IfErr, OnErr, Ok, Err, Some, None};
+ghost use Rattle.std.specs.Prelude.{◌≡◌, ◌⊎◌, ◌<◌, ◌≤◌, ℕ, true, false, All, map, set, length, slice_index_or, IfOk, IfErr, OnErr, Ok, Err, Some, None};
 ghost use Rattle.std.specs.Option.{option_map};
 ghost use Rattle.fault_ledger.specs.declared.Call.TheVariants as call;
 ghost use Rattle.fault_ledger.specs.declared.Event.{Event};
@@ -9,17 +9,16 @@ ghost use Rattle.fault_ledger.specs.History.{History, ContinuesWithout, block_co
 ghost use Rattle.fault_ledger.specs.Answer.{answer, claim_reply_of, done_reply_of, has_earlier_hit, is_hit};
 ghost use Rattle.fault_ledger.specs.Settled.{status, finish, AreClear};
 ghost use Rattle.fault_ledger.specs.Face.{shape_fault, shape_of};
-ghost use Rattle.fault_ledger.specs.Seats.{Closes, EndsClear, FindsNoHit, IsSitter, Keeps, Makes, Meets, Sees, Stays, class_and_block, newcomers};
+ghost use Rattle.fault_ledger.specs.Seats.{Closes, EndsClear, FindsNoHit, IsSitter, Keeps, Makes, Meets, Sees, Stays, class_and_block, newcomers, nothing_seen};
 ghost use Rattle.fault_ledger.specs.Words.{newcomer_posts, post_of};
 
-use crate::sequential::fits;
 use crate::words::{Group, Token, Words};
 use crate::{Claim, Closed, Finish, LedgerFault, PieceState, Refusal, Shape, Status};
 use patterns::{BLOCK_SIZE, Outcome};
 use std::alloc::{AllocError, Global};
 use std::marker::Model;
 
-/// How many classes a seat remembers the clear blocks of, the first ones, at 4 bytes a class.
+/// How many classes a seat remembers what it has seen of, the first ones, at 8 bytes a class.
 const REMEMBERED_CLASSES: u32 = 65_536;
 
 /// A ledger that threads share.
@@ -58,9 +57,24 @@ pub struct Seat {
     told: bool,
     classes: u32,
     piece: Option<u32>,
-    // For each of the first classes, how many of its first blocks were seen clear, and so stay it.
-    clear_blocks: Vec<u32>,
+    // For each of the first classes what was seen of it, and so stays.
+    remembered: Vec<Remembered>,
 }
+
+/// What a seat has seen of a class.
+#[derive(Clone, Copy)]
+pub(crate) struct Remembered {
+    /// So many of its first blocks are clear.
+    pub(crate) clear: u32,
+    /// Whether the block behind them is known to be a hit.
+    pub(crate) hit: bool,
+}
+
+/// What a seat remembers of a class that it has seen nothing of.
+const NOTHING_SEEN: Remembered = Remembered {
+    clear: 0,
+    hit: false,
+};
 
 impl Model for Seat {
     ghost use Rattle.fault_ledger.specs.Seats.{Sitter, IsSeated};
@@ -69,7 +83,7 @@ impl Model for Seat {
 
     ghost view = { λ s. s.token };
 
-    ghost invariant = { λ s. IsSeated s.token s.worker s.told s.classes s.piece s.clear_blocks.items };
+    ghost invariant = { λ s. IsSeated s.token s.worker s.told s.classes s.piece s.remembered.items };
 }
 
 impl Seat {
@@ -189,8 +203,7 @@ impl SharedLedger {
         let Some(piece) = seat.piece else {
             return Err(Refusal::NothingHeld);
         };
-        let size = self.shape.size_of(piece / self.shape.classes);
-        if !fits(size, outcome) {
+        if !self.shape.takes(piece, outcome) {
             return Err(Refusal::BadOutcome);
         }
         self.words.report(&mut seat.token, piece, outcome);
@@ -252,6 +265,10 @@ impl SharedLedger {
     {
         let class = piece % self.shape.classes;
         let end = piece / self.shape.classes;
+        let known = remembered_of(&seat.remembered, class);
+        if known.hit && known.clear < end {
+            return true;
+        }
         let head = self.passes_clear(seat, class, end);
         let Some(next) = head.next else {
             return false;
@@ -293,9 +310,11 @@ impl SharedLedger {
         ensures unmoved { end ≡ 0 → seat.new ≡ seat.old }
         ensures head { EndsClear self.now.shape seat.new.seen class end result.clear result.next }
     {
-        let from = clear_blocks_of(&seat.clear_blocks, class);
-        let head = self.passes_clear_from(&mut seat.token, class, from, end);
-        remember(&mut seat.clear_blocks, class, head.clear);
+        let known = remembered_of(&seat.remembered, class);
+        let head = self.passes_clear_from(&mut seat.token, class, known.clear, end);
+        let clear = head.clear;
+        let hit = ends_in_hit(head);
+        remember(&mut seat.remembered, class, Remembered { clear, hit });
         head
     }
 
@@ -421,22 +440,32 @@ struct ClearHead {
     next: Option<PieceState>,
 }
 
-/// How many first blocks of a class are remembered as clear.
-fn clear_blocks_of(clear_blocks: &[u32], class: u32) -> u32
-    ensures { result ≡ slice_index clear_blocks.now class }
+/// What is remembered of a class.
+fn remembered_of(remembered: &[Remembered], class: u32) -> Remembered
+    ensures { result ≡ slice_index_or remembered.now class nothing_seen }
 {
-    match clear_blocks.get(class as usize) {
-        Some(blocks) => *blocks,
-        None => 0,
+    match remembered.get(class as usize) {
+        Some(known) => *known,
+        None => NOTHING_SEEN,
     }
 }
 
-/// Remembers how many first blocks of a class are clear, where the class is one of the first.
-fn remember(clear_blocks: &mut Vec<u32>, class: u32, blocks: u32)
-    ensures { clear_blocks.new.items ≡ set clear_blocks.old.items class blocks }
+/// Remembers this of a class, where it is one of the first.
+fn remember(remembered: &mut Vec<Remembered>, class: u32, known: Remembered)
+    ensures { remembered.new.items ≡ set remembered.old.items class known }
 {
-    if (class as usize) < clear_blocks.len() {
-        clear_blocks[class as usize] = blocks;
+    if (class as usize) < remembered.len() {
+        remembered[class as usize] = known;
+    }
+}
+
+/// Whether the block behind the clear ones is a hit.
+fn ends_in_hit(head: ClearHead) -> bool
+    ensures { result ≡ true → (test : ℕ) × (head.next ≡ Some (PieceState.Hit test)) }
+{
+    match head.next {
+        Some(PieceState::Hit(_)) => true,
+        _ => false,
     }
 }
 
@@ -455,15 +484,15 @@ fn seats_of(
     for worker in 0..shape.workers {
         let (token, rest) = words.part(group);
         group = rest;
-        let remembered = shape.classes.min(REMEMBERED_CLASSES);
-        let clear_blocks = vec![in alloc; 0; remembered as usize]?;
+        let count = shape.classes.min(REMEMBERED_CLASSES);
+        let remembered = vec![in alloc; NOTHING_SEEN; count as usize]?;
         seats.push(Seat {
             token,
             worker,
             told: false,
             classes: shape.classes,
             piece: None,
-            clear_blocks,
+            remembered,
         })?;
     }
     Ok(seats)
@@ -495,7 +524,7 @@ fn token_of(seat: Seat) -> Token
         told: _,
         classes: _,
         piece: _,
-        clear_blocks: _,
+        remembered: _,
     } = seat;
     token
 }

@@ -17,8 +17,8 @@ invariant_of-push c =
     let e = c.part-token.ensures in
     let a = c.part-token.result.0 in
     let first = deal_first p w c.args.shape.workers c.loop-worker.group.posts c.part-token.result.1.posts a c.loop-worker-test.true i.posts e.posts e.place.0 in
-    deal_seat p c.args.shape w c.min-remembered.result c.in_ok-clear_blocks.clear_blocks.items a first c.requires.shape.0 c.requires.shape.1 c.loop-worker-test.true
-    (c.in_ok-clear_blocks.ensures.items_if_clones_equal (λ y is. is))
+    deal_seat p c.args.shape w c.min-count.result c.in_ok-remembered.remembered.items a first c.requires.shape.0 c.requires.shape.1 c.loop-worker-test.true
+    (c.in_ok-remembered.ensures.items_if_clones_equal (λ y is. is))
 
 pub loop-worker-preserved : goal.loop-worker-preserved
 loop-worker-preserved c =

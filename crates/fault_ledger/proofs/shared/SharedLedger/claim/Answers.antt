@@ -29,7 +29,7 @@ pub invariant_of-seat : goal.invariant_of-seat
 invariant_of-seat c =
     let i = c.seat.inside in
     let e = ends c in
-    seated_ends i.token c.claim-piece.new.token i.worker i.told i.classes i.piece i.clear_blocks.items c.seat.invariant e.0 e.1 e.2
+    seated_ends i.token c.claim-piece.new.token i.worker i.told i.classes i.piece i.remembered.items c.seat.invariant e.0 e.1 e.2
 
 pub returns-then-piece-pieces-clause-exhausted : goal.returns-then-piece-pieces-clause-exhausted
 returns-then-piece-pieces-clause-exhausted c = λ _ _.
@@ -50,5 +50,5 @@ invariant_of-seat-2 c =
     let at : i.token.place ≡ s.words = ap (λ (a : Sitter). a.place) c.seat.view_is ∙ c.requires ∙ sym c.self.view_is in
     let some : c.claim-piece.result < piece_count s.shape = (let a = c.pieces.ensures in let b = c.if-piece-pieces.false in omega arith) in
     let within = subst (λ (x : Shape). c.claim-piece.result < piece_count x) (sym c.self.invariant) some in
-    seated_makes i.token now (Event.Claim i.token.worker) _ i.worker i.told i.classes i.piece (Some c.claim-piece.result) i.clear_blocks.items c.seat.invariant
+    seated_makes i.token now (Event.Claim i.token.worker) _ i.worker i.told i.classes i.piece (Some c.claim-piece.result) i.remembered.items c.seat.invariant
     (sym c.seat.invariant.told_is ∙ c.if-seat.false) (c.claim-piece.ensures.piece within) (c.claim-piece.ensures.held within)
