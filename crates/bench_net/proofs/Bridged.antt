@@ -1,154 +1,124 @@
 -- From the lines of a text to its acceptance or refusal.
-use Rattle.std.proofs.Common.{◌≡◌, ◌≢◌, ◌<◌, ℕ, zero, suc, sym, ◌∙◌, ap, subst, refl, List, [], ◌∷◌, ◌++◌, map, length, arith, inl, inr, ◌⊎◌}
-use Rattle.std.specs.Prelude.{Option, Some, None, slice_get, slice_index_or, Contains, AllPairs}
-use Rattle.std.proofs.lemmas.Option.{slice_get-get_or}
+use Rattle.std.proofs.Common.{◌≡◌, ◌<◌, ◌≤◌, ◌+◌, ℕ, zero, suc, sym, ◌∙◌, ap, subst, refl, List, [], ◌∷◌, map, length, arith, inl, inr, ◌⊎◌}
+use Rattle.std.specs.Prelude.{Option, Some, None, slice_get, AllPairs, option_map}
+use Rattle.std.specs.List.{All}
+use Rattle.std.proofs.lemmas.List.{length-map}
+use Rattle.std.proofs.lemmas.List.Kept.{AllPairs-cons}
+use Rattle.std.proofs.lemmas.List.Elements.{All-nil, All-cons, All-weaker}
+use Rattle.std.proofs.lemmas.Option.{slice_get-map}
 use Rattle.bench_net.specs.declared.BenchFault.{BenchFault}
 use Rattle.bench_net.specs.declared.BenchFault.TheVariants as fault
 use Rattle.bench_net.specs.declared.line.Line.{Line}
 use Rattle.bench_net.specs.declared.line.Line.TheVariants as line
-use Rattle.bench_net.specs.Statement.{Name, Statement, Input, Output, Gate, Dff, defined}
+use Rattle.bench_net.specs.Statement.{Name, Statement, Input, Output, Gate, Dff}
 use Rattle.bench_net.specs.Reading.{statements}
 use Rattle.bench_net.specs.Scan.{names}
 use Rattle.bench_net.specs.Circuit.{HaveArities, IsCircuit, IsStuck, sink_count}
-use Rattle.bench_net.specs.Refusal.{Defines, IsRedefinition, NoLine, IsCyclic, IsAccepted, IsRefused}
+use Rattle.bench_net.specs.Entries.{Entry, numbered_from}
+use Rattle.bench_net.specs.Refusal.{at_line, IsCyclic, IsAccepted, IsRefused}
 use Rattle.bench_net.specs.Stored.{name_at, statement_of, statements_of, AreLinesOf, AreStatements, IsCyclicLine, AreRefused}
-use Rattle.lists.proofs.Members.{Among, contained}
+use Rattle.lists.proofs.Places.{from_mapped}
+use Rattle.bench_net.proofs.Answered.{first_same}
 use Rattle.bench_net.proofs.Arities.{arities_of_text}
+use Rattle.bench_net.proofs.Entries.{statements_numbered}
 
--- ---- where no line redefines a name, each name stands once
+-- the numbers of entries rise
+all_above : (line : ℕ) (stated : List (Option Statement)) → All (λ n. line ≤ n) (map (λ entry. entry.0) (numbered_from line stated))
+all_above line [] = All-nil (λ n. line ≤ n)
+all_above line (None ∷ stated) = All-weaker (λ n. suc line ≤ n) (λ n. line ≤ n) (λ n h. omega (arith, h)) (map (λ entry. entry.0) (numbered_from (suc line) stated)) (all_above (suc line) stated)
+all_above line (Some s ∷ stated) =
+    All-cons (λ n. line ≤ n) line (map (λ entry. entry.0) (numbered_from (suc line) stated)) (omega arith)
+    (All-weaker (λ n. suc line ≤ n) (λ n. line ≤ n) (λ n h. omega (arith, h)) (map (λ entry. entry.0) (numbered_from (suc line) stated)) (all_above (suc line) stated))
 
--- what a later line defines
-defines_later : (x : Option Statement) (stated : List (Option Statement)) (l : ℕ) (n : Name) → Defines stated l n → Defines (x ∷ stated) (suc l) n
-defines_later x stated zero n d = let bad : None ≡ Some (Some d.0) = d.1 in cc
-defines_later x stated (suc l) n d = d
+numbers_rise : (line : ℕ) (stated : List (Option Statement)) → AllPairs (λ m n. m < n) (map (λ entry. entry.0) (numbered_from line stated))
+numbers_rise line [] = λ i j d lt below. absurd (omega (arith, below))
+numbers_rise line (None ∷ stated) = numbers_rise (suc line) stated
+numbers_rise line (Some s ∷ stated) =
+    AllPairs-cons (λ m n. m < n) line (map (λ entry. entry.0) (numbered_from (suc line) stated)) (all_above (suc line) stated) (numbers_rise (suc line) stated)
 
--- the line that defines a name
-name_line : (stated : List (Option Statement)) (n : Name) → Among n (names (statements stated)) → (l : ℕ) × Defines stated l n
-name_line [] n a = absurd a
-name_line (None ∷ stated) n a = let found = name_line stated n a in (suc found.0, defines_later None stated found.0 n found.1)
-name_line (Some s ∷ stated) n a = go (name_line stated n) (parts (defined s) (names (statements stated)) a)
-  where
-    parts : (xs ys : List Name) → Among n (xs ++ ys) → Among n xs ⊎ Among n ys
-    parts [] ys b = inr b
-    parts (x ∷ xs) ys (inl e) = inl (inl e)
-    parts (x ∷ xs) ys (inr b) = later (parts xs ys b)
-      where
-        later : Among n xs ⊎ Among n ys → Among n (x ∷ xs) ⊎ Among n ys
-        later (inl c) = inl (inr c)
-        later (inr c) = inr c
+-- an entry stands for what its line states
+abbrev HasEntry : ℕ → List (Option Statement) → ℕ → Statement → Type 0
+HasEntry line stated n s = (i : ℕ) × (slice_get (numbered_from line stated) i ≡ Some (n, s))
 
-    go : (Among n (names (statements stated)) → (l : ℕ) × Defines stated l n) → Among n (defined s) ⊎ Among n (names (statements stated)) → (l : ℕ) × Defines (Some s ∷ stated) l n
-    go later (inl b) = (1, (s, refl, contained (defined s) n b))
-    go later (inr b) = let found = later b in (suc found.0, defines_later (Some s) stated found.0 n found.1)
+entry_line : (line : ℕ) (stated : List (Option Statement)) (i n : ℕ) (s : Statement) → slice_get (numbered_from line stated) i ≡ Some (n, s) → (j : ℕ) × (n ≡ line + j) × (slice_get stated j ≡ Some (Some s))
+entry_line line [] i n s e = let bad : ◌≡◌ {A = Option Entry} None (Some (n, s)) = e in cc
+entry_line line (None ∷ stated) i n s e = let p = entry_line (suc line) stated i n s e in (suc p.0, omega (arith, p.1), p.2)
+entry_line line (Some t ∷ stated) zero n s e =
+    let pair : ◌≡◌ {A = Entry} (line, t) (n, s) = cc in (0, omega (arith, ap (λ p. p.0) pair), ap (λ p. Some (Some p.1)) pair)
+entry_line line (Some t ∷ stated) (suc i) n s e = let p = entry_line (suc line) stated i n s e in (suc p.0, omega (arith, p.1), p.2)
 
-no_redefinition_later : (x : Option Statement) (stated : List (Option Statement)) → NoLine (IsRedefinition (x ∷ stated)) → NoLine (IsRedefinition stated)
-no_redefinition_later x stated none l redefined =
-    none (suc l) (redefined.0, suc redefined.1, defines_later x stated l redefined.0 redefined.2, omega (arith, redefined.3), defines_later x stated redefined.1 redefined.0 redefined.4)
+line_entry : (line : ℕ) (stated : List (Option Statement)) (j n : ℕ) (s : Statement) → n ≡ line + j → slice_get stated j ≡ Some (Some s) → HasEntry line stated n s
+line_entry line [] j n s k e = let bad : None ≡ Some (Some s) = e in cc
+line_entry line (None ∷ stated) zero n s k e = let bad : Some None ≡ Some (Some s) = e in cc
+line_entry line (None ∷ stated) (suc j) n s k e = line_entry (suc line) stated j n s (omega (arith, k)) e
+line_entry line (Some t ∷ stated) zero n s k e = let same : t ≡ s = cc in let number : line ≡ n = omega (arith, k) in (0, cc)
+line_entry line (Some t ∷ stated) (suc j) n s k e = let p = line_entry (suc line) stated j n s (omega (arith, k)) e in (suc p.0, p.1)
 
-distinct_cons : (n : Name) (ns : List Name) → ¬ Among n ns → AllPairs (λ m o. m ≢ o) ns → AllPairs (λ m o. m ≢ o) (n ∷ ns)
-distinct_cons n ns new once zero zero d lt in_range = absurd (omega (arith, lt))
-distinct_cons n ns new once (suc i) zero d lt in_range = absurd (omega (arith, lt))
-distinct_cons n ns new once (suc i) (suc j) d lt in_range = once i j d (omega (arith, lt)) (omega (arith, in_range))
-distinct_cons n ns new once zero (suc j) d lt in_range = λ same. new (subst (λ x. Among x ns) (sym same) (at ns j (omega (arith, in_range))))
-  where
-    at : (xs : List Name) (k : ℕ) → k < length xs → Among (slice_index_or xs k d) xs
-    at [] k h = absurd (omega (arith, h))
-    at (x ∷ xs) zero h = inl refl
-    at (x ∷ xs) (suc k) h = inr (at xs k (omega (arith, h)))
+module _ (text : List ℕ) (ns : List Name) (lines : List Line) (at : List ℕ) (of : AreLinesOf text ns lines at) where
+  same : statements_of ns lines ≡ statements of.stated
+  same = of.lines_are ∙ statements_numbered 1 of.stated
 
-pub distinct_names : (stated : List (Option Statement)) → NoLine (IsRedefinition stated) → AllPairs (λ m n. m ≢ n) (names (statements stated))
-distinct_names [] none = λ i j d lt in_range. absurd (omega (arith, in_range))
-distinct_names (None ∷ stated) none = distinct_names stated (no_redefinition_later None stated none)
-distinct_names (Some s ∷ stated) none = go s none (distinct_names stated (no_redefinition_later (Some s) stated none))
-  where
-    new : (t : Statement) (n : Name) → defined t ≡ n ∷ [] → NoLine (IsRedefinition (Some t ∷ stated)) → ¬ Among n (names (statements stated))
-    new t n is none a =
-        let found = name_line stated n a in
-        let l : ℕ = found.0 in
-        let first : Defines (Some t ∷ stated) 1 n = (t, refl, subst (λ xs. Contains xs n) (sym is) (contained (n ∷ []) n (inl refl))) in
-        none (suc l) (n, 1, defines_later (Some t) stated l n found.1, above l found.1, first)
-      where
-        above : (l : ℕ) → Defines stated l n → 1 < suc l
-        above zero d = let bad : None ≡ Some (Some d.0) = d.1 in cc
-        above (suc l) d = omega arith
+  names_same : names (statements of.stated) ≡ ns
+  names_same = sym (ap names same) ∙ of.numbered.names_are
 
-    go : (t : Statement) → NoLine (IsRedefinition (Some t ∷ stated)) → AllPairs (λ m n. m ≢ n) (names (statements stated)) → AllPairs (λ m n. m ≢ n) (defined t ++ names (statements stated))
-    go (Input n) none once = distinct_cons n (names (statements stated)) (new (Input n) n refl none) once
-    go (Output n) none once = once
-    go (Gate n kind args) none once = distinct_cons n (names (statements stated)) (new (Gate n kind args) n refl none) once
-    go (Dff q d) none once = distinct_cons q (names (statements stated)) (new (Dff q d) q refl none) once
+  -- the lines of a text are numbered statements within the limits
+  pub statements_are : AreStatements ns lines at
+  statements_are = record {
+    numbered = of.numbered;
+    once = of.once;
+    arities = subst HaveArities (sym same) (arities_of_text text of.stated of.within.each);
+    signals = omega (arith, ap length names_same, of.within.signals);
+    sinks = omega (arith, ap sink_count same, of.within.sinks);
+    line_count = omega (arith, ap length of.at_are, ap length of.lines_are, length-map (numbered_from 1 of.stated) (λ entry. entry.0), length-map (numbered_from 1 of.stated) (λ entry. entry.1), length-map lines (statement_of ns));
+    rising = subst (AllPairs (λ m n. m < n)) (sym of.at_are) (numbers_rise 1 of.stated);
+  }
 
--- ---- the lines of a text are numbered statements within the limits
+  -- accepted, or refused
+  pub accepted : (c : List Statement) → c ≡ statements_of ns lines → IsCircuit c → IsAccepted text c
+  accepted c is circuit = (of.stated, of.within, is ∙ same, circuit.well_formed)
 
-pub statements_are : (text : List ℕ) (ns : List Name) (lines : List Line) (at : List ℕ) → AreLinesOf text ns lines at → AreStatements ns lines at
-statements_are text ns lines at of = record {
-  numbered = of.numbered;
-  once = subst (AllPairs (λ m n. m ≢ n)) names_same (distinct_names of.stated of.no_redefinition);
-  arities = subst HaveArities (sym of.same) (arities_of_text text of.stated of.within.each);
-  signals = omega (arith, ap length names_same, of.within.signals);
-  sinks = omega (arith, ap sink_count of.same, of.within.sinks);
-  line_count = of.line_count;
-  rising = of.rising;
-}
-  where
-    names_same : names (statements of.stated) ≡ ns
-    names_same = sym (ap names of.same) ∙ of.numbered.names_are
+  to_cyclic : (number : ℕ) → IsCyclicLine ns lines at number → IsCyclic of.stated number
+  to_cyclic number h =
+      let s : Statement = statement_of ns (line.Gate h.1 h.2) in
+      let n = from_mapped (λ entry. entry.0) (numbered_from 1 of.stated) h.0 number (ap (λ ks. slice_get ks h.0) (sym of.at_are) ∙ h.3) in
+      let stands = from_mapped (λ entry. entry.1) (numbered_from 1 of.stated) h.0 s (ap (λ c. slice_get c h.0) (sym of.lines_are) ∙ slice_get-map (statement_of ns) lines h.0 ∙ ap (option_map (statement_of ns)) h.4) in
+      let whole : Some n.0 ≡ Some stands.0 = sym n.1 ∙ stands.1 in
+      let one : n.0 ≡ stands.0 = cc in
+      let entry : n.0 ≡ (number, s) = λ i. (n.2 i, (ap (λ e. e.1) one ∙ stands.2) i) in
+      let l = entry_line 1 of.stated h.0 number s (n.1 ∙ ap Some entry) in
+      let is : suc l.0 ≡ number = omega (arith, l.1) in
+      (name_at ns h.1, h.2.kind, map (name_at ns) h.2.pins.items, subst (λ k. at_line of.stated k ≡ Some (Some s)) is l.2, subst (λ c. IsStuck c (name_at ns h.1)) same h.5)
 
--- ---- accepted, or refused
+  from_cyclic : (number : ℕ) → IsCyclic of.stated number → IsCyclicLine ns lines at number
+  from_cyclic zero h = let bad : None ≡ Some (Some (Gate h.0 h.1 h.2)) = h.3 in cc
+  from_cyclic (suc j) h = by_line l.0 l.1 l.2
+    where
+      entry : HasEntry 1 of.stated (suc j) (Gate h.0 h.1 h.2)
+      entry = line_entry 1 of.stated j (suc j) (Gate h.0 h.1 h.2) (omega arith) h.3
 
-pub accepted : (text : List ℕ) (ns : List Name) (lines : List Line) (at : List ℕ) (c : List Statement) → AreLinesOf text ns lines at → c ≡ statements_of ns lines → IsCircuit c → IsAccepted text c
-accepted text ns lines at c of is circuit = (of.stated, of.within, is ∙ of.same, circuit.well_formed)
+      l : (l : Line) × (slice_get lines entry.0 ≡ Some l) × (statement_of ns l ≡ Gate h.0 h.1 h.2)
+      l = from_mapped (statement_of ns) lines entry.0 (Gate h.0 h.1 h.2) (ap (λ c. slice_get c entry.0) of.lines_are ∙ slice_get-map (λ e. e.1) (numbered_from 1 of.stated) entry.0 ∙ ap (option_map (λ e. e.1)) entry.1)
 
-cyclic_from : (text : List ℕ) (ns : List Name) (lines : List Line) (at : List ℕ) (number : ℕ) → (of : AreLinesOf text ns lines at) → IsCyclicLine ns lines at number → IsCyclic of.stated number
-cyclic_from text ns lines at number of cyclic =
-    (name_at ns cyclic.1, cyclic.2.kind, map (name_at ns) cyclic.2.pins.items, of.line_at cyclic.0 number (line.Gate cyclic.1 cyclic.2) cyclic.3 cyclic.4, subst (λ c. IsStuck c (name_at ns cyclic.1)) of.same cyclic.5)
+      by_line : (l : Line) → slice_get lines entry.0 ≡ Some l → statement_of ns l ≡ Gate h.0 h.1 h.2 → IsCyclicLine ns lines at (suc j)
+      by_line (line.Input s) e is = let bad : Input (name_at ns s) ≡ Gate h.0 h.1 h.2 = is in cc
+      by_line (line.Output s) e is = let bad : Output (name_at ns s) ≡ Gate h.0 h.1 h.2 = is in cc
+      by_line (line.Dff q d) e is = let bad : Dff (name_at ns q) (name_at ns d) ≡ Gate h.0 h.1 h.2 = is in cc
+      by_line (line.Gate s g) e is =
+          let whole : Gate (name_at ns s) g.kind (map (name_at ns) g.pins.items) ≡ Gate h.0 h.1 h.2 = is in
+          let name : h.0 ≡ name_at ns s = cc in
+          (entry.0, s, g, ap (λ ks. slice_get ks entry.0) of.at_are ∙ slice_get-map (λ e. e.0) (numbered_from 1 of.stated) entry.0 ∙ ap (option_map (λ e. e.0)) entry.1, e,
+           subst (λ n. IsStuck (statements_of ns lines) n) name (subst (λ c. IsStuck c h.0) (sym same) h.4))
 
-cyclic_line : (text : List ℕ) (ns : List Name) (lines : List Line) (at : List ℕ) (number : ℕ) → (of : AreLinesOf text ns lines at) → IsCyclic of.stated number → IsCyclicLine ns lines at number
-cyclic_line text ns lines at number of cyclic = go (slice_get lines i) refl
-  where
-    place : Contains at number
-    place = of.each_at number (Gate cyclic.0 cyclic.1 cyclic.2) cyclic.3
+  refused : (f : BenchFault) → AreRefused ns lines at f → IsRefused text f
+  refused (fault.Empty) r = (of.stated, of.within, sym same ∙ ap (statements_of ns) r)
+  refused (fault.Cycle number) r =
+      (of.stated, of.within, of.no_redefinition, of.no_undefined, first_same (IsCyclicLine ns lines at) (IsCyclic of.stated) (Some number) to_cyclic from_cyclic r)
+  refused (fault.TooLarge limit) r = absurd r
+  refused (fault.Syntax l) r = absurd r
+  refused (fault.Redefined l) r = absurd r
+  refused (fault.Undefined l) r = absurd r
+  refused (fault.Memory) r = absurd r
 
-    i : ℕ
-    i = place.0
-
-    at_i : slice_get at place.0 ≡ Some number
-    at_i = slice_get-get_or at place.0 number place.1 ∙ ap Some place.2
-
-    stuck : IsStuck (statements_of ns lines) cyclic.0
-    stuck = subst (λ c. IsStuck c cyclic.0) (sym of.same) cyclic.4
-
-    go : (o : Option Line) → slice_get lines place.0 ≡ o → IsCyclicLine ns lines at number
-    go None e = absurd (some lines place.0 (omega (arith, place.1, of.line_count)) e)
-      where
-        some : (xs : List Line) (k : ℕ) → k < length xs → slice_get xs k ≡ None → ⊥
-        some [] k h n = omega (arith, h)
-        some (x ∷ xs) zero h n = let bad : Some x ≡ None = n in cc
-        some (x ∷ xs) (suc k) h n = some xs k (omega (arith, h)) n
-    go (Some l) e = by_line l e (same_statement l (sym (of.line_at place.0 number l at_i e) ∙ cyclic.3))
-      where
-        same_statement : (l : Line) → Some (Some (statement_of ns l)) ≡ Some (Some (Gate cyclic.0 cyclic.1 cyclic.2)) → statement_of ns l ≡ Gate cyclic.0 cyclic.1 cyclic.2
-        same_statement l h = cc
-
-        by_line : (l : Line) → slice_get lines place.0 ≡ Some l → statement_of ns l ≡ Gate cyclic.0 cyclic.1 cyclic.2 → IsCyclicLine ns lines at number
-        by_line (line.Input s) e h = let bad : Input (name_at ns s) ≡ Gate cyclic.0 cyclic.1 cyclic.2 = h in cc
-        by_line (line.Output s) e h = let bad : Output (name_at ns s) ≡ Gate cyclic.0 cyclic.1 cyclic.2 = h in cc
-        by_line (line.Dff q d) e h = let bad : Dff (name_at ns q) (name_at ns d) ≡ Gate cyclic.0 cyclic.1 cyclic.2 = h in cc
-        by_line (line.Gate s g) e h =
-            let whole : Gate (name_at ns s) g.kind (map (name_at ns) g.pins.items) ≡ Gate cyclic.0 cyclic.1 cyclic.2 = h in
-            let name : name_at ns s ≡ cyclic.0 = cc in
-            (place.0, s, g, at_i, e, subst (IsStuck (statements_of ns lines)) (sym name) stuck)
-
-pub refused : (text : List ℕ) (ns : List Name) (lines : List Line) (at : List ℕ) (f : BenchFault) → AreLinesOf text ns lines at → AreRefused ns lines at f → IsRefused text f
-refused text ns lines at (fault.TooLarge limit) of r = absurd r
-refused text ns lines at (fault.Syntax l) of r = absurd r
-refused text ns lines at (fault.Redefined l) of r = absurd r
-refused text ns lines at (fault.Undefined l) of r = absurd r
-refused text ns lines at (fault.Memory) of r = absurd r
-refused text ns lines at (fault.Empty) of r = (of.stated, of.within, sym of.same ∙ ap (statements_of ns) r)
-refused text ns lines at (fault.Cycle number) of r =
-    (of.stated, of.within, of.no_redefinition, of.no_undefined, (cyclic_from text ns lines at number of r.0, λ lower lt cyclic. r.1 lower lt (cyclic_line text ns lines at lower of cyclic)))
-
-pub fault_of : (text : List ℕ) (ns : List Name) (lines : List Line) (at : List ℕ) (f : BenchFault) → AreLinesOf text ns lines at → (f ≡ fault.Memory) ⊎ AreRefused ns lines at f → (f ≡ fault.Memory) ⊎ IsRefused text f
-fault_of text ns lines at f of (inl e) = inl e
-fault_of text ns lines at f of (inr r) = inr (refused text ns lines at f of r)
+  pub fault_of : (f : BenchFault) → (f ≡ fault.Memory) ⊎ AreRefused ns lines at f → (f ≡ fault.Memory) ⊎ IsRefused text f
+  fault_of f (inl e) = inl e
+  fault_of f (inr r) = inr (refused f r)

@@ -1,69 +1,69 @@
 -- Steps of the passes over the lines: names counted, names defined, names read.
-use Rattle.std.proofs.Common.{◌≡◌, ◌<◌, ◌≤◌, ◌+◌, ℕ, suc, refl, sym, ◌∙◌, ap, subst, Bool, true, false, List, [], ◌∷◌, ◌++◌, length, take, drop, arith, get_or, length-append, take-append-drop, append-nil}
-use Rattle.std.specs.Prelude.{Contains, AllPairs, ◌≢◌, flat_map, not, bytes_eq, if◌then◌else◌}
+use Rattle.std.proofs.Common.{◌≡◌, ◌<◌, ◌≤◌, ◌+◌, ℕ, suc, refl, sym, ◌∙◌, ap, Bool, true, false, List, [], ◌∷◌, ◌++◌, length, take, drop, arith, get_or, add-one, length-append, take-append-drop, append-nil}
+use Rattle.std.specs.Prelude.{Some, None, flat_map, bytes_eq, ◌||◌}
 use Rattle.std.specs.List.{list_any}
-use Rattle.std.proofs.lemmas.List.{take_more, map_push}
-use Rattle.std.proofs.lemmas.List.Concat.{flat_map-append}
-use Rattle.std.proofs.lemmas.List.Elements.{Contains-get_or}
-use Rattle.std.proofs.lemmas.List.Quantifiers.{all_pairs_push}
-use Rattle.std.proofs.Math.Seq.{drop-cons}
-use Rattle.bench_net.specs.Statement.{Name, Statement, Input, Output, Gate, Dff, defined, defines}
 use Rattle.std.specs.Borrow.{Bor}
-use Rattle.indexmap.specs.IndexSet.{insert_key}
-use Rattle.bench_net.specs.Parsed.{names_of}
-use Rattle.bench_net.specs.Entries.{IsAddition}
-use Rattle.bench_net.proofs.Checked.{in_contained, among_in}
-use Rattle.bench_net.proofs.Answer.{is_in}
-use Rattle.lists.proofs.Members.{among}
+use Rattle.std.proofs.Math.Bool.{or-false}
+use Rattle.std.proofs.lemmas.Bool.{cond-true, cond-false}
+use Rattle.std.proofs.lemmas.List.{take_more}
+use Rattle.std.proofs.lemmas.List.Concat.{flat_map-append}
+use Rattle.std.proofs.Math.Seq.{drop-cons}
+use Rattle.bench_net.specs.declared.number.StatedLine.{StatedLine}
+use Rattle.bench_net.specs.Statement.{Name, Statement, defined}
+use Rattle.bench_net.specs.Parsed.{names_of, stands_for}
+use Rattle.bench_net.specs.Entries.{entries_of, names_in, defined_of, is_in, redefines, first_line}
 
--- a list at one of its elements
-pub at_item : {A : Type 0} (xs : List A) (i : ℕ) (x : A) → i < length xs → x ≡ get_or xs i x → xs ≡ take i xs ++ (x ∷ drop (suc i) xs)
-at_item xs i x h e = sym (take-append-drop i xs) ∙ ap (λ ys. take i xs ++ ys) (drop-cons xs i x h ∙ ap (λ y. y ∷ drop (suc i) xs) (sym e))
+-- no line before this place has the fault of a test
+abbrev pub NoneBefore : (List Name → Statement → Bool) → List StatedLine → ℕ → Type 0
+NoneBefore test stated i =
+    first_line test [] (entries_of stated)
+    ≡ first_line test (names_in (take i stated)) (entries_of (drop i stated))
 
--- the names of one more line
-pub names_more : {A : Type 0} (f : A → List Name) (xs : List A) (i : ℕ) (x : A) → i < length xs → x ≡ get_or xs i x → flat_map f (take (i + 1) xs) ≡ flat_map f (take i xs) ++ f x
-names_more f xs i x h e =
-    ap (flat_map f) (take_more xs i x h ∙ ap (λ y. take i xs ++ y ∷ []) (sym e)) ∙ flat_map-append f (take i xs) (x ∷ []) ∙ ap (λ ys. flat_map f (take i xs) ++ ys) (append-nil (f x))
+module _ {A : Type 0} (xs : List A) (i : ℕ) (x : A) (h : i < length xs) (e : x ≡ get_or xs i x) where
+  -- a list from one of its elements on
+  from_item : drop i xs ≡ x ∷ drop (suc i) xs
+  from_item = drop-cons xs i x h ∙ ap (λ y. y ∷ drop (suc i) xs) (sym e)
 
--- the names so far and those of this line are no more than all
-pub names_fit : {A : Type 0} (f : A → List Name) (xs : List A) (i : ℕ) (x : A) → i < length xs → x ≡ get_or xs i x → length (flat_map f (take i xs)) + length (f x) ≤ length (flat_map f xs)
-names_fit f xs i x h e =
-    let whole = ap (λ ys. length (flat_map f ys)) (at_item xs i x h e) in
-    let parts = ap length (flat_map-append f (take i xs) (x ∷ drop (suc i) xs)) in
-    omega (arith, whole, parts, length-append (flat_map f (take i xs)) (f x ++ flat_map f (drop (suc i) xs)), length-append (f x) (flat_map f (drop (suc i) xs)))
+  pub at_item : xs ≡ take i xs ++ (x ∷ drop (suc i) xs)
+  at_item = sym (take-append-drop i xs) ∙ ap (λ ys. take i xs ++ ys) from_item
 
-pub defines_one : (s : Statement) → defines s ≡ true → length (defined s) ≡ 1
-defines_one (Input n) e = refl
-defines_one (Output n) e = cc
-defines_one (Gate n kind args) e = refl
-defines_one (Dff q d) e = refl
+  -- the names of one more line
+  pub names_more : (f : A → List Name) → flat_map f (take (i + 1) xs) ≡ flat_map f (take i xs) ++ f x
+  names_more f =
+      ap (flat_map f) (take_more xs i x h ∙ ap (λ y. take i xs ++ y ∷ []) (sym e))
+      ∙ flat_map-append f (take i xs) (x ∷ []) ∙ ap (λ ys. flat_map f (take i xs) ++ ys) (append-nil (f x))
 
--- a new name behind distinct ones
-pub distinct_push : (ns : List Name) (n : Name) → AllPairs (λ m o. m ≢ o) ns → ¬ Contains ns n → AllPairs (λ m o. m ≢ o) (ns ++ n ∷ [])
-distinct_push ns n once new = all_pairs_push (λ m o. m ≢ o) ns n once (λ k d h same. new (subst (Contains ns) same (Contains-get_or ns k d h)))
+  -- the names so far and those of this line are no more than all
+  pub names_fit : (f : A → List Name) → length (flat_map f (take i xs)) + length (f x) ≤ length (flat_map f xs)
+  names_fit f =
+      let parts = ap (λ ys. length (flat_map f ys)) at_item in
+      omega (arith, parts, ap length (flat_map-append f (take i xs) (x ∷ drop (suc i) xs)),
+      length-append (flat_map f (take i xs)) (f x ++ flat_map f (drop (suc i) xs)), length-append (f x) (flat_map f (drop (suc i) xs)))
 
--- a key that is looked for by its bytes
-any_names : (eq : Bor Name → Bor Name → Bool) → ((x y : Bor Name) → eq x y ≡ bytes_eq x.now y.now) → (ks : List (Bor Name)) (x : Bor Name) → list_any (eq x) ks ≡ is_in (names_of ks) x.now
-any_names eq same [] x = refl
-any_names eq same (k ∷ ks) x = rw (same x k, any_names eq same ks x) refl
+module _ (test : List Name → Statement → Bool) (stated : List StatedLine) (i : ℕ) (line : StatedLine)
+    (h : i < length stated) (e : line ≡ get_or stated i line) (so_far : NoneBefore test stated i) where
+  here : first_line test [] (entries_of stated)
+      ≡ first_line test (names_in (take i stated)) (entries_of (line ∷ drop (suc i) stated))
+  here = so_far ∙ ap (λ ls. first_line test (names_in (take i stated)) (entries_of ls)) (from_item stated i line h e)
 
--- a key that is inserted into a set
-pub addition : (eq : Bor Name → Bor Name → Bool) → ((x y : Bor Name) → eq x y ≡ bytes_eq x.now y.now) → (ks new : List (Bor Name)) (x : Bor Name) (added : Bool)
-    → added ≡ not (list_any (eq x) ks) → new ≡ insert_key eq ks x → IsAddition (names_of ks) x.now added (names_of new)
-addition eq same ks new x added e n = go (is_in (names_of ks) x.now) refl
-  where
-    go : (b : Bool) → is_in (names_of ks) x.now ≡ b → IsAddition (names_of ks) x.now added (names_of new)
-    go true h =
-        let found : list_any (eq x) ks ≡ true = any_names eq same ks x ∙ h in
-        subst (λ a. IsAddition (names_of ks) x.now a (names_of new)) (sym (e ∙ ap not found)) (in_contained (names_of ks) x.now h)
-    go false h =
-        let found : list_any (eq x) ks ≡ false = any_names eq same ks x ∙ h in
-        let keys : new ≡ ks ++ x ∷ [] = n ∙ ap (λ b. if b then ks else ks ++ x ∷ []) found in
-        subst (λ a. IsAddition (names_of ks) x.now a (names_of new)) (sym (e ∙ ap not found))
-        (ap names_of keys ∙ map_push (λ a. a.now) ks x, λ inside. let yes : is_in (names_of ks) x.now ≡ true = among_in (names_of ks) x.now (among (names_of ks) x.now inside) in let bad : true ≡ false = sym yes ∙ h in cc)
+  pub pass_ends : test (names_in (take i stated)) (stands_for line.statement) ≡ true
+      → first_line test [] (entries_of stated) ≡ Some line.number
+  pass_ends on = here ∙ cond-true _ _ _ on
 
-pub not_added : (old : List Name) (name : Name) (b : Bool) (new : List Name) → IsAddition old name b new → b ≡ false → Contains old name
-not_added old name b new h e = subst (λ x. IsAddition old name x new) e h
+  pub pass_on : test (names_in (take i stated)) (stands_for line.statement) ≡ false → NoneBefore test stated (i + 1)
+  pass_on off =
+      here ∙ cond-false _ _ _ off
+      ∙ ap (λ ns. first_line test ns (entries_of (drop (suc i) stated))) (sym (names_more stated i line h e defined_of))
+      ∙ ap (λ k. first_line test (names_in (take (i + 1) stated)) (entries_of (drop k stated))) (sym (add-one i))
 
-pub is_added : (old : List Name) (name : Name) (b : Bool) (new : List Name) → IsAddition old name b new → b ≡ true → (new ≡ old ++ name ∷ []) × ¬ Contains old name
-is_added old name b new h e = subst (λ x. IsAddition old name x new) e h
+-- a key is looked for by its bytes
+pub key_in : (ks : List (Bor Name)) (n : Name) → list_any (λ k. bytes_eq n k.now) ks ≡ is_in (names_of ks) n
+key_in [] n = refl
+key_in (k ∷ ks) n = ap (λ more. bytes_eq n k.now || more) (key_in ks n)
+
+-- whether a statement that defines one name, or none, defines one of these
+pub redefines_one : (before : List Name) (s : Statement) (n : Name) → defined s ≡ n ∷ [] → redefines before s ≡ is_in before n
+redefines_one before s n e = ap (list_any (is_in before)) e ∙ or-false (is_in before n)
+
+pub redefines_none : (before : List Name) (s : Statement) → defined s ≡ [] → redefines before s ≡ false
+redefines_none before s e = ap (list_any (is_in before)) e

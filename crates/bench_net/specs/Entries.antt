@@ -1,10 +1,11 @@
--- The statements of a text, each with the number of its line.
-use Rattle.std.specs.Prelude.{◌≡◌, ◌≢◌, ℕ, suc, List, [], ◌∷◌, ◌++◌, map, Option, Some, None, AllPairs, Contains, flat_map, Bool, true, false}
-use Rattle.std.specs.List.{AllZip}
+-- The statements of a text, each with the number of its line, and the first of them at fault.
+use Rattle.std.specs.Prelude.{◌≡◌, ◌⊎◌, ℕ, suc, Bool, not, List, [], ◌∷◌, ◌++◌, map, flat_map, Option, Some, None, if◌then◌else◌, bytes_eq}
+use Rattle.std.specs.List.{list_all, list_any}
+use Rattle.bench_net.specs.declared.BenchFault.{BenchFault}
+use Rattle.bench_net.specs.declared.BenchFault.TheVariants.{Memory}
 use Rattle.bench_net.specs.declared.number.StatedLine.{StatedLine}
-use Rattle.bench_net.specs.Text.{lines}
 use Rattle.bench_net.specs.Statement.{Name, Statement, defined, read}
-use Rattle.bench_net.specs.Reading.{States}
+use Rattle.bench_net.specs.Plain.{stated_of}
 use Rattle.bench_net.specs.Parsed.{stands_for}
 
 -- a statement beside the number of its line
@@ -17,21 +18,48 @@ entry_of line = (line.number, stands_for line.statement)
 abbrev pub entries_of : List StatedLine → List Entry
 entries_of lines = map entry_of lines
 
--- the statements of entries
-abbrev pub stated_by : List Entry → List Statement
-stated_by entries = map (λ entry. entry.1) entries
-
 -- the entries of what lines state, where the first has this number
 abbrev pub numbered_from : ℕ → List (Option Statement) → List Entry
 numbered_from line [] = []
 numbered_from line (None ∷ stated) = numbered_from (suc line) stated
 numbered_from line (Some s ∷ stated) = (line, s) ∷ numbered_from (suc line) stated
 
+-- the statements of entries
+abbrev pub stated_by : List Entry → List Statement
+stated_by entries = map (λ entry. entry.1) entries
+
 -- the lines state these entries, counted from 1
 pub record HaveEntries (lines : List (List ℕ)) (entries : List Entry) : Type 0 where
   pub stated : List (Option Statement)
-  pub each : AllZip States lines stated
+  pub each : map stated_of lines ≡ map Some stated
   pub same : entries ≡ numbered_from 1 stated
+
+-- the first line that states nothing that a line may state, where the first has this number
+abbrev pub unread : ℕ → List (Option (Option Statement)) → Option ℕ
+unread line [] = None
+unread line (None ∷ found) = Some line
+unread line (Some s ∷ found) = unread (suc line) found
+
+-- the line of the first entry at which a test passes, of the names that are defined before it and of its statement
+abbrev pub first_line : (List Name → Statement → Bool) → List Name → List Entry → Option ℕ
+first_line test before [] = None
+first_line test before (entry ∷ entries) =
+    if test before entry.1 then Some entry.0 else first_line test (before ++ defined entry.1) entries
+
+-- whether a name is one of these
+abbrev pub is_in : List Name → Name → Bool
+is_in ns n = list_any (bytes_eq n) ns
+
+-- whether a statement defines a name that is defined before it, and whether it reads one that is none of these
+abbrev pub redefines : List Name → Statement → Bool
+redefines before s = list_any (is_in before) (defined s)
+
+abbrev pub reads_unknown : List Name → List Name → Statement → Bool
+reads_unknown ns before s = not (list_all (is_in ns) (read s))
+
+-- a pass over the lines ends at the first with its fault, or for want of memory
+abbrev pub EndsPass : (ℕ → BenchFault) → Option ℕ → BenchFault → Type 0
+EndsPass refusal first fault = (fault ≡ Memory) ⊎ ((line : ℕ) × (first ≡ Some line) × (fault ≡ refusal line))
 
 -- the names that a line defines, and those that it reads
 abbrev pub defined_of : StatedLine → List Name
@@ -46,36 +74,3 @@ names_in lines = flat_map defined_of lines
 
 abbrev pub reads_in : List StatedLine → List Name
 reads_in lines = flat_map read_of lines
-
--- no two of the names are equal
-abbrev pub AreDistinct : List Name → Type 0
-AreDistinct ns = AllPairs (λ m n. m ≢ n) ns
-
--- a name that was not among the others stands behind them now; one that was among them changes nothing
-abbrev pub IsAddition : List Name → Name → Bool → List Name → Type 0
-IsAddition old name true new = (new ≡ old ++ name ∷ []) × ¬ Contains old name
-IsAddition old name false new = Contains old name
-
--- the line of this number is the first that defines a name which a line before it defines
-pub record IsFirstRedefinition (lines : List StatedLine) (number : ℕ) : Type 0 where
-  pub front : List StatedLine
-  pub line : StatedLine
-  pub back : List StatedLine
-  pub name : Name
-  pub same : lines ≡ front ++ (line ∷ back)
-  pub number_is : line.number ≡ number
-  pub defines : defined_of line ≡ name ∷ []
-  pub before : Contains (names_in front) name
-  pub distinct : AreDistinct (names_in front)
-
--- the line of this number is the first that reads a name which is not among these
-pub record IsFirstUndefined (ns : List Name) (lines : List StatedLine) (number : ℕ) : Type 0 where
-  pub front : List StatedLine
-  pub line : StatedLine
-  pub back : List StatedLine
-  pub name : Name
-  pub same : lines ≡ front ++ (line ∷ back)
-  pub number_is : line.number ≡ number
-  pub reads : Contains (read_of line) name
-  pub missing : ¬ Contains ns name
-  pub others : (n : Name) → Contains (reads_in front) n → Contains ns n

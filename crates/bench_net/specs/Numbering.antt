@@ -1,6 +1,6 @@
 -- What the functions that number names answer.
-use Rattle.std.specs.Prelude.{◌≡◌, ◌<◌, ℕ, List, map, flat_map, length, Some, Contains, slice_get}
-use Rattle.std.specs.List.{All}
+use Rattle.std.specs.Prelude.{◌≡◌, ◌<◌, ℕ, List, map, flat_map, length}
+use Rattle.std.specs.List.{All, range_with_len}
 use Rattle.bench_net.specs.declared.line.Line.{Line}
 use Rattle.bench_net.specs.declared.number.StatedLine.{StatedLine}
 use Rattle.bench_net.specs.Statement.{Name, Statement, defined}
@@ -8,13 +8,9 @@ use Rattle.bench_net.specs.Parsed.{stands_for}
 use Rattle.bench_net.specs.Entries.{names_in}
 use Rattle.bench_net.specs.Stored.{name_at, statement_of, statements_of, defined_numbers, read_numbers}
 
--- some of these names is not among the defined ones
-abbrev pub LacksOneOf : List Name → List Name → Type 0
-LacksOneOf ns wanted = (n : Name) × Contains wanted n × ¬ Contains ns n
-
 -- the number is that of the name that the statement defines, if it defines one
 abbrev pub IsNextFor : List Name → ℕ → Statement → Type 0
-IsNextFor ns next s = (n : Name) → Contains (defined s) n → name_at ns next ≡ n
+IsNextFor ns next s = map (λ n. name_at ns next) (defined s) ≡ defined s
 
 -- the stored line stands for the statement, whose own name has this number
 pub record IsNumberedLine (ns : List Name) (next : ℕ) (s : Statement) (line : Line) : Type 0 where
@@ -29,6 +25,5 @@ statements_in stated = map (λ line. stands_for line.statement) stated
 -- the stored lines stand for the statements of these lines; own numbers go in order, and each number has a name
 pub record AreNumberedLines (ns : List Name) (stated : List StatedLine) (lines : List Line) : Type 0 where
   pub stand : statements_of ns lines ≡ statements_in stated
-  pub in_order : (i number : ℕ) → slice_get (flat_map defined_numbers lines) i ≡ Some number → number ≡ i
-  pub own_count : length (flat_map defined_numbers lines) ≡ length (names_in stated)
+  pub own : flat_map defined_numbers lines ≡ range_with_len 0 (length (names_in stated))
   pub in_range : All (λ number. number < length ns) (flat_map read_numbers lines)

@@ -1,15 +1,15 @@
 //! The names of statements as numbers.
 
-ghost use Rattle.std.specs.Prelude.{◌≡◌, ◌⊎◌, ◌<◌, ◌≤◌, ◌+◌, ℕ, length, map, IfOk, IfErr, option_map, Contains, string_bytes};
-ghost use Rattle.std.specs.List.{All};
+ghost use Rattle.std.specs.Prelude.{◌≡◌, ◌<◌, ◌≤◌, ◌+◌, false, not, None, [], ◌∷◌, ◌++◌, length, map, IfOk, IfErr, option_map, if◌then◌else◌, string_bytes};
+ghost use Rattle.std.specs.List.{All, list_all};
 ghost use Rattle.std.specs.Str.{IsUtf8};
 ghost use Rattle.bench_net.specs.Circuit.{max_signals};
 ghost use Rattle.bench_net.specs.Stored.{name_at};
-ghost use Rattle.bench_net.specs.Numbering.{LacksOneOf, IsNextFor, IsNumberedLine, AreNumberedLines};
+ghost use Rattle.bench_net.specs.Numbering.{IsNextFor, IsNumberedLine, AreNumberedLines};
 ghost use Rattle.std.specs.Option.{option_to_list};
 ghost use Rattle.bench_net.specs.Statement.{defined, read};
 ghost use Rattle.bench_net.specs.Parsed.{stands_for, names_of};
-ghost use Rattle.bench_net.specs.Entries.{names_in, AreDistinct, IsAddition, IsFirstRedefinition, IsFirstUndefined};
+ghost use Rattle.bench_net.specs.Entries.{entries_of, names_in, is_in, redefines, reads_unknown, first_line, EndsPass};
 
 use crate::fault::LineFault;
 use crate::line::Line;
@@ -31,7 +31,7 @@ pub struct StatedLine<'a> {
 pub type Names<'a> = IndexSet<&'a [u8]>;
 
 /// The name that a statement defines.
-fn defined<'a>(statement: &Stated<'a>) -> Option<&'a [u8]>
+pub fn defined<'a>(statement: &Stated<'a>) -> Option<&'a [u8]>
     ensures { defined (stands_for statement.now) ≡ option_to_list (option_map (λ n. n.now) result) }
 {
     match statement {
@@ -44,7 +44,8 @@ fn defined<'a>(statement: &Stated<'a>) -> Option<&'a [u8]>
 
 /// Adds a name behind the others, and says whether it is new.
 fn add_name<'a>(names: &mut Names<'a>, name: &'a [u8]) -> Result<bool, BenchFault>
-    ensures added { IfOk result (λ added. IsAddition (names_of names.old.keys) name.now added (names_of names.new.keys)) }
+    ensures added { IfOk result (λ added. added ≡ not (is_in (names_of names.old.keys) name.now)) }
+    ensures names { IfOk result (λ added. names_of names.new.keys ≡ names_of names.old.keys ++ (if added then name.now ∷ [] else [])) }
     ensures refused { IfErr result (λ fault. fault ≡ BenchFault.Memory) }
 {
     let (_, added) = names.insert_full(name)?;
@@ -54,8 +55,8 @@ fn add_name<'a>(names: &mut Names<'a>, name: &'a [u8]) -> Result<bool, BenchFaul
 /// Numbers the defined names in the order of their lines.
 pub fn number_names<'a>(alloc: Global, stated: &[StatedLine<'a>]) -> Result<Names<'a>, BenchFault>
     ensures numbered { IfOk result (λ names. names_of names.keys ≡ names_in stated.now) }
-    ensures distinct { IfOk result (λ names. AreDistinct (names_in stated.now)) }
-    ensures refused { IfErr result (λ fault. (fault ≡ BenchFault.Memory) ⊎ ((line : ℕ) × (fault ≡ BenchFault.Redefined line) × IsFirstRedefinition stated.now line)) }
+    ensures once { IfOk result (λ names. first_line redefines [] (entries_of stated.now) ≡ None) }
+    ensures refused { IfErr result (EndsPass BenchFault.Redefined (first_line redefines [] (entries_of stated.now))) }
 {
     let mut names = IndexSet::new(alloc);
     for line in stated {
@@ -75,7 +76,7 @@ fn number_of(names: &Names, name: &[u8]) -> Result<u32, LineFault>
     ensures within { IfOk result (λ number. number < length (names_of names.now.keys)) }
     ensures named { IfOk result (λ number. name_at (names_of names.now.keys) number ≡ name.now) }
     ensures refused { IfErr result (λ fault. fault ≡ LineFault.Refused) }
-    ensures missing { IfErr result (λ fault. ¬ Contains (names_of names.now.keys) name.now) }
+    ensures missing { IfErr result (λ fault. is_in (names_of names.now.keys) name.now ≡ false) }
 {
     match names.get_index_of(name) {
         Some(index) => Ok(index as u32),
@@ -92,7 +93,7 @@ fn number_pins(
     requires { length names.now.keys ≤ max_signals }
     ensures within { IfOk result (λ pins. All (λ number. number < length (names_of names.now.keys)) pins.items) }
     ensures named { IfOk result (λ pins. map (name_at (names_of names.now.keys)) pins.items ≡ names_of arguments.now) }
-    ensures refused { IfErr result (λ fault. fault ≡ LineFault.Refused → LacksOneOf (names_of names.now.keys) (names_of arguments.now)) }
+    ensures refused { IfErr result (λ fault. fault ≡ LineFault.Refused → list_all (is_in (names_of names.now.keys)) (names_of arguments.now) ≡ false) }
 {
     let mut pins = SmallVec::new(alloc);
     for argument in arguments {
@@ -112,7 +113,7 @@ fn number_line(
     requires few { length names.now.keys ≤ max_signals }
     requires own { IsNextFor (names_of names.now.keys) next (stands_for statement.now) }
     ensures numbered { IfOk result (IsNumberedLine (names_of names.now.keys) next (stands_for statement.now)) }
-    ensures refused { IfErr result (λ fault. fault ≡ LineFault.Refused → LacksOneOf (names_of names.now.keys) (read (stands_for statement.now))) }
+    ensures refused { IfErr result (λ fault. fault ≡ LineFault.Refused → list_all (is_in (names_of names.now.keys)) (read (stands_for statement.now)) ≡ false) }
 {
     match statement {
         Stated::Input(_) => Ok(Line::Input(next)),
@@ -137,11 +138,10 @@ fn number_behind(next: u32, statement: &Stated) -> u32
     requires { next + length (defined (stands_for statement.now)) ≤ max_signals }
     ensures { result ≡ next + length (defined (stands_for statement.now)) }
 {
-    match statement {
-        Stated::Input(_) => next + 1,
-        Stated::Output(_) => next,
-        Stated::Gate(_, _, _) => next + 1,
-        Stated::Dff(_, _) => next + 1,
+    if defined(statement).is_some() {
+        next + 1
+    } else {
+        next
     }
 }
 
@@ -154,7 +154,8 @@ pub fn number_lines(
     requires few { length names.now.keys ≤ max_signals }
     requires own { names_of names.now.keys ≡ names_in stated.now }
     ensures numbered { IfOk result (λ lines. AreNumberedLines (names_of names.now.keys) stated.now lines.items) }
-    ensures refused { IfErr result (λ fault. (fault ≡ BenchFault.Memory) ⊎ ((line : ℕ) × (fault ≡ BenchFault.Undefined line) × IsFirstUndefined (names_of names.now.keys) stated.now line)) }
+    ensures known { IfOk result (λ lines. first_line (reads_unknown (names_of names.now.keys)) [] (entries_of stated.now) ≡ None) }
+    ensures refused { IfErr result (EndsPass BenchFault.Undefined (first_line (reads_unknown (names_of names.now.keys)) [] (entries_of stated.now))) }
 {
     let mut lines = Vec::with_capacity(alloc, stated.len())?;
     let mut next = 0;

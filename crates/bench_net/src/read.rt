@@ -10,13 +10,14 @@ ghost use Rattle.std.specs.Str.Lines.{strip_carriage_return};
 ghost use Rattle.bench_net.specs.Text.{lines};
 ghost use Rattle.bench_net.specs.Circuit.{max_bytes, max_signals, max_sinks};
 ghost use Rattle.bench_net.specs.Refusal.{IsRefused};
-ghost use Rattle.bench_net.specs.Entries.{entries_of, names_in, reads_in, HaveEntries};
+ghost use Rattle.bench_net.specs.Entries.{entries_of, names_in, reads_in, unread, EndsPass, HaveEntries};
+ghost use Rattle.bench_net.specs.Plain.{stated_of};
 ghost use Rattle.bench_net.specs.Parsed.{stands_for};
-ghost use Rattle.bench_net.specs.Statement.{defines, read};
+ghost use Rattle.bench_net.specs.Statement.{read};
 ghost use Rattle.bench_net.specs.Stored.{AreLinesOf};
 
 use crate::line::Line;
-use crate::number::{StatedLine, line_numbers, number_lines, number_names, own_names};
+use crate::number::{StatedLine, defined, line_numbers, number_lines, number_names, own_names};
 use crate::statement::{Stated, read_line};
 use crate::{BenchFault, Limit};
 use std::alloc::Global;
@@ -53,7 +54,7 @@ fn without_return<'a>(line: &'a [u8]) -> &'a [u8]
 fn read_statements<'a>(alloc: Global, text: &'a [u8]) -> Result<Vec<StatedLine<'a>>, BenchFault>
     requires { length text.now ≤ max_bytes }
     ensures ok { IfOk result (λ stated. HaveEntries (lines text.now) (entries_of stated.items)) }
-    ensures refused { IfErr result (λ fault. (fault ≡ BenchFault.Memory) ⊎ IsRefused text.now fault) }
+    ensures refused { IfErr result (EndsPass BenchFault.Syntax (unread 1 (map stated_of (lines text.now)))) }
 {
     let mut stated = Vec::new(alloc);
     let mut number = 0;
@@ -68,13 +69,6 @@ fn read_statements<'a>(alloc: Global, text: &'a [u8]) -> Result<Vec<StatedLine<'
         }
     }
     Ok(stated)
-}
-
-/// Whether a statement defines a name.
-fn defines(statement: &Stated) -> bool
-    ensures { result ≡ defines (stands_for statement.now) }
-{
-    !matches!(statement, Stated::Output(_))
 }
 
 /// How many names a statement reads.
@@ -95,7 +89,7 @@ fn signals_fit(stated: &[StatedLine]) -> bool
 {
     let mut count = 0;
     for line in stated {
-        if defines(&line.statement) {
+        if defined(&line.statement).is_some() {
             if count == MAX_SIGNALS {
                 return false;
             }

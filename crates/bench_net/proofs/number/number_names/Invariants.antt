@@ -1,7 +1,8 @@
 use Rattle.std.proofs.Common.{◌≡◌, take}
 use Rattle.bench_net.specs.Parsed.{names_of}
-use Rattle.bench_net.specs.Entries.{names_in, AreDistinct}
+use Rattle.bench_net.specs.Entries.{names_in, redefines}
+use Rattle.bench_net.proofs.Passes.{NoneBefore}
 use Rattle.bench_net.proofs.number.number_names.Given as goal
 
 abbrev pub invariant-loop-line : goal.invariant-loop-line
-invariant-loop-line l = (names_of l.names.keys ≡ names_in (take l.line-index l.stated)) × AreDistinct (names_in (take l.line-index l.stated))
+invariant-loop-line l = (names_of l.names.keys ≡ names_in (take l.line-index l.stated)) × NoneBefore redefines l.stated l.line-index

@@ -1,40 +1,38 @@
-use Rattle.std.proofs.Common.{◌+◌, ◌==◌, map, rules, arith, ap, sym, subst, [], ◌∷◌, ◌++◌}
+use Rattle.std.proofs.Common.{◌+◌, ◌==◌, map, rules, arith, ap, sym, refl}
 use Rattle.std.proofs.lemmas.List.{length_push}
 use Rattle.std.proofs.lemmas.Iterator.Splits.{YieldsList-from_slice_split}
 use Rattle.std.proofs.lemmas.Iterator.Consumers.{YieldsList-turn, YieldsList-end, YieldsList-so_far}
 use Rattle.std.specs.Str.Lines.{strip_carriage_return}
 use borrow.Author.Tests.{tests}
-use Rattle.bench_net.specs.declared.BenchFault.TheVariants.{Syntax}
 use Rattle.bench_net.specs.Entries.{entries_of, HaveEntries}
-use Rattle.bench_net.proofs.Entries.{given, given_nothing, given_one, refused_line, by_fault, line_refused}
+use Rattle.bench_net.proofs.Entries.{given_nothing, given_one, refused_line, line_refused}
+use Rattle.bench_net.proofs.Numbering.{ends_pass}
 use Rattle.bench_net.proofs.read.read_statements.Goals as goal
 
 pub loop-line-preserved-in-Ok-None : goal.loop-line-preserved-in-Ok-None
 loop-line-preserved-in-Ok-None c =
     let n = length_push c.loop-line.yielded c.in-Some.line in
     let read = rw c.in-Ok-None.field-0-is at c.in-Ok-None.ensures in
-    (omega arith, given_nothing c.loop-line.yielded c.in-Some.line c.without_return.result.now _ c.without_return.ensures c.loop-line.invariant.1 read)
+    (omega arith, given_nothing c.loop-line.yielded c.in-Some.line c.without_return.result.now c.without_return.ensures _ c.loop-line.invariant.1 read)
 
 pub loop-line-preserved : goal.loop-line-preserved
 loop-line-preserved c =
     let n = length_push c.loop-line.yielded c.in-Some.line in
-    let read = rw c.in-Ok-Some.field-0-is at c.in-Ok-Some.ensures in (
-      omega arith,
-      subst (λ stated. HaveEntries (given (c.loop-line.yielded ++ c.in-Some.line ∷ [])) (entries_of stated)) (sym c.in_ok-push-in-Ok-Some.ensures.items)
-          (given_one c.loop-line.yielded c.in-Some.line c.without_return.result.now c.loop-line.stated.items (c.loop-line.number + 1) c.in-Ok-Some.statement c.without_return.ensures c.loop-line.invariant.1 read (omega arith)),
-    )
+    let read = rw c.in-Ok-Some.field-0-is at c.in-Ok-Some.ensures in
+    (omega arith, rw (c.in_ok-push-in-Ok-Some.ensures.items, c.loop-line.invariant.0)
+        (given_one c.loop-line.yielded c.in-Some.line c.without_return.result.now c.without_return.ensures c.loop-line.stated.items c.in-Ok-Some.statement c.loop-line.invariant.1 read))
 
 pub returns-in-Err-clause-refused : goal.returns-in-Err-clause-refused
 returns-in-Err-clause-refused c =
     let road = YieldsList-from_slice_split _ (λ b. b == 10) c.args.text.now (cc) (cc) (cc) (λ x r q k. search (rules, tests)) in
     let turn = YieldsList-turn road c.loop-line.yielded _ c.loop-line.yielded_by _ _ c.in-Some.line c.in-Some.is c.next.ensures.steps in
     let front = YieldsList-so_far road c.loop-line.yielded _ c.loop-line.yielded_by in
-    by_fault c.in-Err.fault (Syntax (c.loop-line.number + 1)) c.or_refusal.result c.args.text.now c.or_refusal.ensures
-    (λ e. refused_line c.args.text.now c.loop-line.yielded c.in-Some.line c.without_return.result.now (entries_of c.loop-line.stated.items) (c.loop-line.number + 1) c.requires
-    front turn c.without_return.ensures (ap (λ k. k + 1) c.loop-line.invariant.0) c.loop-line.invariant.1 (line_refused _ c.in-Err.fault c.in-Err.ensures e))
+    ends_pass c.in-Err.fault _ _ (c.loop-line.number + 1) c.or_refusal.result c.or_refusal.ensures
+    (λ e. rw c.loop-line.invariant.0 (refused_line c.loop-line.yielded c.in-Some.line c.without_return.result.now c.without_return.ensures c.args.text.now
+        (entries_of c.loop-line.stated.items) front turn.0 turn.1 c.loop-line.invariant.1 (line_refused _ c.in-Err.fault c.in-Err.ensures e)))
 
 pub returns-clause-ok : goal.returns-clause-ok
 returns-clause-ok c =
     let road = YieldsList-from_slice_split _ (λ b. b == 10) c.args.text.now (cc) (cc) (cc) (λ x r q k. search (rules, tests)) in
     let t = YieldsList-end road c.loop-line.yielded _ c.loop-line.yielded_by _ _ c.in-None.is c.next.ensures.steps in
-    subst (λ ls. HaveEntries ls (entries_of c.loop-line.stated.items)) (ap (map strip_carriage_return) t.0) c.loop-line.invariant.1
+    rw (ap (map strip_carriage_return) t.0) at c.loop-line.invariant.1
