@@ -2,8 +2,8 @@
 use Rattle.std.proofs.Common.{◌≡◌, ◌<◌, ◌≤◌, ◌+◌, ℕ, zero, suc, refl, sym, ◌∙◌, ap, subst, Bool, true, false, not, List, [], ◌∷◌, ◌++◌, length, take, arith, inl, inr, ◌⊎◌, append-nil, ◌-◌}
 use Rattle.std.proofs.lemmas.List.{append_assoc}
 use Rattle.std.proofs.Math.Nat.{zero-add, suc-add}
-use Rattle.std.specs.Prelude.{◌≢◌, Contains, AllPairs, Option, Some, None, Result, Ok, Err, slice_get, map, filter_map, flat_map, nat_lt, option_map, IsTrue, if◌then◌else◌}
-use Rattle.std.specs.List.{list_all, list_any, AllZip}
+use Rattle.std.specs.Prelude.{◌≢◌, Contains, Option, Some, None, Result, Ok, Err, slice_get, map, filter_map, flat_map, nat_lt, option_map, IsTrue, if◌then◌else◌}
+use Rattle.std.specs.List.{list_all, AllZip}
 use Rattle.std.proofs.lemmas.Bool.{both_ways, cond_both, cond-true, cond-false, cases_order, ltb-true, ltb-false, lt-ltb, le-ltb, not-true, true_from_ne_false, false_from_ne_true}
 use Rattle.std.proofs.lemmas.Option.{slice_get-map}
 use Rattle.bench_net.specs.declared.Limit.TheVariants.{Bytes, Signals, Sinks}
@@ -13,7 +13,7 @@ use Rattle.bench_net.specs.Text.{lines}
 use Rattle.bench_net.specs.Statement.{Name, Statement, Input, Output, Gate, Dff, defined, read}
 use Rattle.bench_net.specs.Reading.{States, LinesState, statements}
 use Rattle.bench_net.specs.Scan.{names}
-use Rattle.bench_net.specs.Circuit.{IsWellFormed, IsNumbering, IsStuckSet, IsStuck, max_bytes, max_signals, max_sinks, sink_count}
+use Rattle.bench_net.specs.Circuit.{IsWellFormed, IsStuckSet, IsStuck, max_bytes, max_signals, max_sinks, sink_count}
 use Rattle.bench_net.specs.Refusal.{at_line, IsLowest, NoLine, IsWithin, IsSyntaxFault, IsRedefinition, IsUndefined, IsCyclic, IsAccepted, IsRefused}
 use Rattle.bench_net.specs.Entries.{numbered_from, unread, first_line, redefines, reads_unknown}
 use Rattle.bench_net.proofs.Reader.{stated_of, sound_states, complete_states}
@@ -107,9 +107,9 @@ fails_first test before line (Some x ∷ stated) =
     cond_both (test before x) (Some line) (first_line test (before ++ defined x) (numbered_from (suc line) stated)) (IsFirst (Fails test before line (Some x ∷ stated)))
     (λ h. ((0, x, omega arith, refl, rw append-nil h), λ l lt bad. absurd (omega (arith, lt, bad.2))))
     (λ h. first_same (Fails test (before ++ defined x) (suc line) stated) (Fails test before line (Some x ∷ stated))
-        (first_line test (before ++ defined x) (numbered_from (suc line) stated))
-        (λ l f. (suc f.0, f.1, omega (arith, f.2), f.3, rw append_assoc at f.4)) (λ l f. later h l f.0 f.1 f.2 f.3 f.4)
-        (fails_first test (before ++ defined x) (suc line) stated))
+    (first_line test (before ++ defined x) (numbered_from (suc line) stated))
+    (λ l f. (suc f.0, f.1, omega (arith, f.2), f.3, rw append_assoc at f.4)) (λ l f. later h l f.0 f.1 f.2 f.3 f.4)
+    (fails_first test (before ++ defined x) (suc line) stated))
   where
     later : test before x ≡ false → (l i : ℕ) (s : Statement) → l ≡ line + i → slice_get (Some x ∷ stated) i ≡ Some (Some s)
         → test (before ++ names (statements (take i (Some x ∷ stated)))) s ≡ true → Fails test (before ++ defined x) (suc line) stated l
@@ -187,13 +187,22 @@ undefined_first stated =
     to l f =
         let found = some_not (is_in (names (statements stated))) (read f.1) (not-true (list_all (is_in (names (statements stated))) (read f.1)) f.4) in
         let is : suc f.0 ≡ l = omega (arith, f.2) in
-        subst (IsUndefined stated) is (found.0, (f.1, f.3, contained (read f.1) found.0 found.1),
-          λ has. both_ways (is_in (names (statements stated)) found.0) found.2 (among_in (names (statements stated)) found.0 (among (names (statements stated)) found.0 has)))
+        subst (IsUndefined stated) is (
+          found.0,
+          (f.1, f.3, contained (read f.1) found.0 found.1),
+          λ has. both_ways (is_in (names (statements stated)) found.0) found.2 (among_in (names (statements stated)) found.0 (among (names (statements stated)) found.0 has)),
+        )
 
     from : (l : ℕ) → IsUndefined stated l → Fails (reads_unknown (names (statements stated))) [] 1 stated l
     from zero bad = let none : None ≡ Some (Some bad.1.0) = bad.1.1 in cc
-    from (suc i) bad = (i, bad.1.0, omega arith, bad.1.1, ap not (false_from_ne_true (list_all (is_in (names (statements stated))) (read bad.1.0))
-        (λ all. bad.2 (in_contained (names (statements stated)) bad.0 (each_passes (is_in (names (statements stated))) (read bad.1.0) bad.0 all bad.1.2)))))
+    from (suc i) bad = (
+      i,
+      bad.1.0,
+      omega arith,
+      bad.1.1,
+      ap not (false_from_ne_true (list_all (is_in (names (statements stated))) (read bad.1.0))
+          (λ all. bad.2 (in_contained (names (statements stated)) bad.0 (each_passes (is_in (names (statements stated))) (read bad.1.0) bad.0 all bad.1.2)))),
+    )
 
 -- ---- a gate on a cycle or fed by one
 
@@ -234,12 +243,16 @@ cyclic_first stated =
 
     from : (l : ℕ) → IsCyclic stated l → Fails (is_unsettled (statements stated)) [] 1 stated l
     from zero bad = let none : None ≡ Some (Some (Gate bad.0 bad.1 bad.2)) = bad.3 in cc
-    from (suc i) bad = (i, Gate bad.0 bad.1 bad.2, omega arith, bad.3, ap not (false_from_ne_true (settled (statements stated) (rounds_enough (statements stated)) bad.0)
-        (λ on. settled_free (statements stated) (rounds_enough (statements stated)) bad.0 on bad.4)))
+    from (suc i) bad = (
+      i,
+      Gate bad.0 bad.1 bad.2,
+      omega arith,
+      bad.3,
+      ap not (false_from_ne_true (settled (statements stated) (rounds_enough (statements stated)) bad.0)
+          (λ on. settled_free (statements stated) (rounds_enough (statements stated)) bad.0 on bad.4)),
+    )
 
 -- ---- no line has a fault exactly where the statements are well-formed
-
-
 
 pub distinct_first : (before : List Name) (line : ℕ) (stated : List Stated) → Distinct before
     → first_line redefines before (numbered_from line stated) ≡ None → Distinct (before ++ names (statements stated))
@@ -291,8 +304,11 @@ well stated some once known acyclic = record {
     all_known n has =
         let r = joined_from read (statements stated) n (among (flat_map read (statements stated)) n has) in
         let l = stated_at stated r.0 r.1 in
-        in_contained (names (statements stated)) n (true_from_ne_false (is_in (names (statements stated)) n) (λ off. known (suc l.0) (n, (r.0, l.1, contained (read r.0) n r.2),
-          λ inside. both_ways (is_in (names (statements stated)) n) off (among_in (names (statements stated)) n (among (names (statements stated)) n inside)))))
+        in_contained (names (statements stated)) n (true_from_ne_false (is_in (names (statements stated)) n) (λ off. known (suc l.0) (
+          n,
+          (r.0, l.1, contained (read r.0) n r.2),
+          λ inside. both_ways (is_in (names (statements stated)) n) off (among_in (names (statements stated)) n (among (names (statements stated)) n inside)),
+        )))
 
     free : (members : Name → Bool) → IsStuckSet (statements stated) members → (n : Name) → ¬ IsTrue (members n)
     free members set n inside =
@@ -334,11 +350,11 @@ by_limits text stated bytes each =
     cond_both (nat_lt max_signals (length (names (statements stated)))) (Err (TooLarge Signals)) sized (IsAnswer text)
     (λ e. (bytes, stated, each, ltb-true max_signals (length (names (statements stated))) e))
     (λ f. cond_both (nat_lt max_sinks (sink_count (statements stated))) (Err (TooLarge Sinks)) (answer_within (statements stated) (numbered_from 1 stated)) (IsAnswer text)
-        (λ e. (bytes, stated, each, ltb-false max_signals (length (names (statements stated))) f, ltb-true max_sinks (sink_count (statements stated)) e))
-        (λ e. late text stated (first_line redefines [] (numbered_from 1 stated)) (first_line (reads_unknown (names (statements stated))) [] (numbered_from 1 stated))
-            (first_line (is_unsettled (statements stated)) [] (numbered_from 1 stated))
-            (record { bytes = bytes; each = each; signals = ltb-false max_signals (length (names (statements stated))) f; sinks = ltb-false max_sinks (sink_count (statements stated)) e })
-            (redefined_first stated) (undefined_first stated) (cyclic_first stated) (statements stated) refl))
+    (λ e. (bytes, stated, each, ltb-false max_signals (length (names (statements stated))) f, ltb-true max_sinks (sink_count (statements stated)) e))
+    (λ e. late text stated (first_line redefines [] (numbered_from 1 stated)) (first_line (reads_unknown (names (statements stated))) [] (numbered_from 1 stated))
+    (first_line (is_unsettled (statements stated)) [] (numbered_from 1 stated))
+    (record { bytes = bytes; each = each; signals = ltb-false max_signals (length (names (statements stated))) f; sinks = ltb-false max_sinks (sink_count (statements stated)) e })
+    (redefined_first stated) (undefined_first stated) (cyclic_first stated) (statements stated) refl))
   where
     sized : Result (List Statement) BenchFault
     sized = if nat_lt max_sinks (sink_count (statements stated)) then Err (TooLarge Sinks) else answer_within (statements stated) (numbered_from 1 stated)
@@ -404,9 +420,11 @@ module _ (text : List ℕ) (stated : List Stated) (within : IsWithin text stated
       → answer_text text ≡ line_or Redefined r (line_or Undefined u (line_or Cycle y (statements_or (statements stated))))
   answer_is r u y once known acyclic =
       stated_answer text stated within.bytes (found_by (lines text) stated within.each) ∙ within_answer (statements stated) stated within.signals within.sinks
-      ∙ rw (first_one (IsRedefinition stated) (first_line redefines [] (numbered_from 1 stated)) r (redefined_first stated) once,
-          first_one (IsUndefined stated) (first_line (reads_unknown (names (statements stated))) [] (numbered_from 1 stated)) u (undefined_first stated) known,
-          first_one (IsCyclic stated) (first_line (is_unsettled (statements stated)) [] (numbered_from 1 stated)) y (cyclic_first stated) acyclic) refl
+      ∙ rw (
+        first_one (IsRedefinition stated) (first_line redefines [] (numbered_from 1 stated)) r (redefined_first stated) once,
+        first_one (IsUndefined stated) (first_line (reads_unknown (names (statements stated))) [] (numbered_from 1 stated)) u (undefined_first stated) known,
+        first_one (IsCyclic stated) (first_line (is_unsettled (statements stated)) [] (numbered_from 1 stated)) y (cyclic_first stated) acyclic,
+      ) refl
 
   no_line : statements stated ≡ [] → (line : ℕ) (s : Statement) → at_line stated line ≡ Some (Some s) → ⊥
   no_line none line s at = subst (Among s) none (line_among stated line s at)

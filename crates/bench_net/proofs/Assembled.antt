@@ -1,6 +1,6 @@
 -- What the passes over the lines say of the text.
-use Rattle.std.proofs.Common.{◌≡◌, ◌<◌, ◌≤◌, ◌+◌, ℕ, zero, suc, refl, sym, ◌∙◌, ap, subst, List, [], ◌∷◌, ◌++◌, length, map, arith, inl, inr, ◌⊎◌}
-use Rattle.std.specs.Prelude.{Contains, Option, Some, None, slice_get, slice_index_or, flat_map}
+use Rattle.std.proofs.Common.{◌≡◌, ◌<◌, ◌≤◌, ℕ, refl, sym, ◌∙◌, ap, subst, List, [], ◌∷◌, ◌++◌, length, map, arith, inl, inr, ◌⊎◌}
+use Rattle.std.specs.Prelude.{Option, Some, None, slice_get, slice_index_or, flat_map}
 use Rattle.std.specs.List.{All, range_with_len}
 use Rattle.std.specs.Str.{IsUtf8}
 use Rattle.std.proofs.lemmas.List.Elements.{All-contains, Contains-get_or}
@@ -22,7 +22,7 @@ use Rattle.bench_net.specs.Plain.{stated_of}
 use Rattle.bench_net.specs.Entries.{entries_of, stated_by, numbered_from, unread, first_line, redefines, reads_unknown, names_in, reads_in, HaveEntries, EndsPass}
 use Rattle.bench_net.specs.Numbering.{statements_in, AreNumberedLines}
 use Rattle.lists.proofs.Members.{Among, among}
-use Rattle.bench_net.proofs.Answer.{answer_text, answer_entries, answer_within, answer_read}
+use Rattle.bench_net.proofs.Answer.{answer_text, answer_within}
 use Rattle.bench_net.proofs.Answered.{IsFirst, distinct_first, no_redefinition, undefined_first, stated_answer, within_answer, read_answer, refused_by}
 use Rattle.bench_net.proofs.Checked.{lines_state, pairs_distinct}
 use Rattle.bench_net.proofs.Entries.{statements_numbered}

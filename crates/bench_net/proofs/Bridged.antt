@@ -1,5 +1,5 @@
 -- From the lines of a text to its acceptance or refusal.
-use Rattle.std.proofs.Common.{◌≡◌, ◌<◌, ◌≤◌, ◌+◌, ℕ, zero, suc, sym, ◌∙◌, ap, subst, refl, List, [], ◌∷◌, map, length, arith, inl, inr, ◌⊎◌}
+use Rattle.std.proofs.Common.{◌≡◌, ◌<◌, ◌≤◌, ◌+◌, ℕ, zero, suc, sym, ◌∙◌, ap, subst, List, [], ◌∷◌, map, length, arith, inl, inr, ◌⊎◌}
 use Rattle.std.specs.Prelude.{Option, Some, None, slice_get, AllPairs, option_map}
 use Rattle.std.specs.List.{All}
 use Rattle.std.proofs.lemmas.List.{length-map}
@@ -105,9 +105,14 @@ module _ (text : List ℕ) (ns : List Name) (lines : List Line) (at : List ℕ) 
       by_line (line.Dff q d) e is = let bad : Dff (name_at ns q) (name_at ns d) ≡ Gate h.0 h.1 h.2 = is in cc
       by_line (line.Gate s g) e is =
           let whole : Gate (name_at ns s) g.kind (map (name_at ns) g.pins.items) ≡ Gate h.0 h.1 h.2 = is in
-          let name : h.0 ≡ name_at ns s = cc in
-          (entry.0, s, g, ap (λ ks. slice_get ks entry.0) of.at_are ∙ slice_get-map (λ e. e.0) (numbered_from 1 of.stated) entry.0 ∙ ap (option_map (λ e. e.0)) entry.1, e,
-           subst (λ n. IsStuck (statements_of ns lines) n) name (subst (λ c. IsStuck c h.0) (sym same) h.4))
+          let name : h.0 ≡ name_at ns s = cc in (
+            entry.0,
+            s,
+            g,
+            ap (λ ks. slice_get ks entry.0) of.at_are ∙ slice_get-map (λ e. e.0) (numbered_from 1 of.stated) entry.0 ∙ ap (option_map (λ e. e.0)) entry.1,
+            e,
+            subst (λ n. IsStuck (statements_of ns lines) n) name (subst (λ c. IsStuck c h.0) (sym same) h.4),
+          )
 
   refused : (f : BenchFault) → AreRefused ns lines at f → IsRefused text f
   refused (fault.Empty) r = (of.stated, of.within, sym same ∙ ap (statements_of ns) r)

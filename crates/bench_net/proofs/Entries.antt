@@ -66,9 +66,15 @@ module _ (parts : List (Bor (List ℕ))) (x : Bor (List ℕ)) (l : List ℕ) (li
       → length parts < length (slice_split (λ b. b == 10) text) → x.now ≡ get_or (slice_split (λ b. b == 10) text) (length parts) x.now
       → HaveEntries (given parts) entries → stated_of l ≡ None → unread 1 (map stated_of (lines text)) ≡ Some (length parts + 1)
   refused_line text entries so_far below turn h none =
-      rw (at_item (slice_split (λ b. b == 10) text) (length parts) x.now below turn, ← so_far,
-          map-append strip_carriage_return (map (λ y. y.now) parts) (x.now ∷ drop (suc (length parts)) (slice_split (λ b. b == 10) text)), ← line_is,
-          map-append stated_of (given parts) (l ∷ map strip_carriage_return (drop (suc (length parts)) (slice_split (λ b. b == 10) text))), none, h.each)
+      rw (
+        at_item (slice_split (λ b. b == 10) text) (length parts) x.now below turn,
+        ← so_far,
+        map-append strip_carriage_return (map (λ y. y.now) parts) (x.now ∷ drop (suc (length parts)) (slice_split (λ b. b == 10) text)),
+        ← line_is,
+        map-append stated_of (given parts) (l ∷ map strip_carriage_return (drop (suc (length parts)) (slice_split (λ b. b == 10) text))),
+        none,
+        h.each,
+      )
       (unread_at 1 h.stated (map stated_of (map strip_carriage_return (drop (suc (length parts)) (slice_split (λ b. b == 10) text)))) ∙ ap Some count)
     where
       count : 1 + length h.stated ≡ length parts + 1

@@ -1,10 +1,10 @@
 -- Names and their numbers: what is found, and how lines are numbered one after another.
-use Rattle.std.proofs.Common.{◌≡◌, ◌<◌, ◌≤◌, ◌+◌, ℕ, zero, suc, refl, sym, ◌∙◌, ap, subst, true, List, [], ◌∷◌, ◌++◌, length, take, drop, map, arith, get_or, add-one, inl, inr, ◌⊎◌, length-append, append-nil}
-use Rattle.std.specs.Prelude.{Contains, Option, Some, slice_index_or, flat_map, Result, Ok, Err, IfErr}
+use Rattle.std.proofs.Common.{◌≡◌, ◌<◌, ◌+◌, ℕ, zero, suc, refl, sym, ◌∙◌, ap, subst, true, List, [], ◌∷◌, ◌++◌, length, take, drop, map, arith, get_or, add-one, inl, inr, ◌⊎◌, length-append, append-nil}
+use Rattle.std.specs.Prelude.{Contains, Option, Some, flat_map, Result, Ok, Err, IfErr}
 use Rattle.std.specs.List.{All, list_all, range_with_len}
 use Rattle.std.specs.Str.{IsUtf8}
 use Rattle.std.proofs.lemmas.Bool.{and_from}
-use Rattle.std.proofs.lemmas.List.{length-map, map-append, map_push, take_more}
+use Rattle.std.proofs.lemmas.List.{map-append, map_push, take_more}
 use Rattle.std.proofs.lemmas.List.Concat.{flat_map-append}
 use Rattle.std.proofs.lemmas.List.Elements.{All-append, All-contains, All-head, All-tail, Contains-append_right, Contains-get_or}
 use Rattle.bench_net.specs.declared.line.Line.{Line}
@@ -13,8 +13,7 @@ use Rattle.bench_net.specs.declared.number.StatedLine.{StatedLine}
 use Rattle.bench_net.specs.declared.fault.LineFault.{LineFault}
 use Rattle.bench_net.specs.declared.fault.LineFault.TheVariants as stop
 use Rattle.bench_net.specs.declared.BenchFault.{BenchFault}
-use Rattle.bench_net.specs.declared.BenchFault.TheVariants.{Memory}
-use Rattle.bench_net.specs.Statement.{Name, Statement, defined, read}
+use Rattle.bench_net.specs.Statement.{Name, Statement, read}
 use Rattle.bench_net.specs.Parsed.{stands_for, or_refusal}
 use Rattle.bench_net.specs.Entries.{is_in, names_in, defined_of, EndsPass}
 use Rattle.bench_net.specs.Stored.{name_at, statement_of, statements_of, defined_numbers, read_numbers}

@@ -1,6 +1,6 @@
 -- Steps of the passes over the lines: names counted, names defined, names read.
 use Rattle.std.proofs.Common.{◌≡◌, ◌<◌, ◌≤◌, ◌+◌, ℕ, suc, refl, sym, ◌∙◌, ap, Bool, true, false, List, [], ◌∷◌, ◌++◌, length, take, drop, arith, get_or, add-one, length-append, take-append-drop, append-nil}
-use Rattle.std.specs.Prelude.{Some, None, flat_map, bytes_eq, ◌||◌}
+use Rattle.std.specs.Prelude.{Some, flat_map, bytes_eq, ◌||◌}
 use Rattle.std.specs.List.{list_any}
 use Rattle.std.specs.Borrow.{Bor}
 use Rattle.std.proofs.Math.Bool.{or-false}
@@ -37,8 +37,13 @@ module _ {A : Type 0} (xs : List A) (i : ℕ) (x : A) (h : i < length xs) (e : x
   pub names_fit : (f : A → List Name) → length (flat_map f (take i xs)) + length (f x) ≤ length (flat_map f xs)
   names_fit f =
       let parts = ap (λ ys. length (flat_map f ys)) at_item in
-      omega (arith, parts, ap length (flat_map-append f (take i xs) (x ∷ drop (suc i) xs)),
-      length-append (flat_map f (take i xs)) (f x ++ flat_map f (drop (suc i) xs)), length-append (f x) (flat_map f (drop (suc i) xs)))
+      omega (
+        arith,
+        parts,
+        ap length (flat_map-append f (take i xs) (x ∷ drop (suc i) xs)),
+        length-append (flat_map f (take i xs)) (f x ++ flat_map f (drop (suc i) xs)),
+        length-append (f x) (flat_map f (drop (suc i) xs)),
+      )
 
 module _ (test : List Name → Statement → Bool) (stated : List StatedLine) (i : ℕ) (line : StatedLine)
     (h : i < length stated) (e : line ≡ get_or stated i line) (so_far : NoneBefore test stated i) where

@@ -1,8 +1,6 @@
-use Rattle.std.proofs.Common.{◌≡◌, ◌∙◌, sym, inr, true, false, arith, map, string_bytes}
+use Rattle.std.proofs.Common.{◌≡◌, ◌∙◌, sym, inr, true, false, arith}
 use Rattle.std.proofs.lemmas.Result.{err_from_is_err_and}
-use Rattle.bench_net.specs.Text.{lines}
 use Rattle.bench_net.specs.Parsed.{names_of}
-use Rattle.bench_net.specs.Entries.{entries_of, HaveEntries}
 use Rattle.bench_net.proofs.Assembled.{syntax, too_many_signals, too_many_sinks, redefined, undefined, all_utf8, assembled}
 use Rattle.bench_net.proofs.read.read_lines.Goals as goal
 
@@ -25,14 +23,14 @@ pub returns-in_err-numbers-clause-refused : goal.returns-in_err-numbers-clause-r
 returns-in_err-numbers-clause-refused c =
     let p = err_from_is_err_and c.from_residual-in_err-numbers.result c.from_residual-in_err-numbers.ensures.1 in
     rw (p.1, p.2) (redefined c.args.text.now c.as_slice-stated.result.now (rw c.as_slice-stated.ensures.value c.in_ok-read.ensures.ok) (omega arith)
-        (c.signals_fit.ensures.0 c.if-not-signals_fit.false) (c.sinks_fit.ensures.0 c.if-not-sinks_fit.false) c.in_err-numbers.field-0.0 c.in_err-numbers.ensures.refused)
+    (c.signals_fit.ensures.0 c.if-not-signals_fit.false) (c.sinks_fit.ensures.0 c.if-not-sinks_fit.false) c.in_err-numbers.field-0.0 c.in_err-numbers.ensures.refused)
 
 pub returns-in_err-lines-clause-refused : goal.returns-in_err-lines-clause-refused
 returns-in_err-lines-clause-refused c =
     let p = err_from_is_err_and c.from_residual-in_err-lines.result c.from_residual-in_err-lines.ensures.1 in
     rw (p.1, p.2) (undefined c.args.text.now c.as_slice-stated.result.now (rw c.as_slice-stated.ensures.value c.in_ok-read.ensures.ok) (omega arith)
-        (c.signals_fit.ensures.0 c.if-not-signals_fit.false) (c.sinks_fit.ensures.0 c.if-not-sinks_fit.false) c.in_ok-numbers.ensures.once
-        (names_of c.in_ok-numbers.numbers.keys) c.in_ok-numbers.ensures.numbered c.in_err-lines.field-0.0 c.in_err-lines.ensures.refused)
+    (c.signals_fit.ensures.0 c.if-not-signals_fit.false) (c.sinks_fit.ensures.0 c.if-not-sinks_fit.false) c.in_ok-numbers.ensures.once
+    (names_of c.in_ok-numbers.numbers.keys) c.in_ok-numbers.ensures.numbered c.in_err-lines.field-0.0 c.in_err-lines.ensures.refused)
 
 pub own_names-requires : goal.own_names-requires
 own_names-requires c =

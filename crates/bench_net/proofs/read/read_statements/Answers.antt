@@ -1,10 +1,10 @@
-use Rattle.std.proofs.Common.{◌+◌, ◌==◌, map, rules, arith, ap, sym, refl}
+use Rattle.std.proofs.Common.{◌+◌, ◌==◌, map, rules, arith, ap}
 use Rattle.std.proofs.lemmas.List.{length_push}
 use Rattle.std.proofs.lemmas.Iterator.Splits.{YieldsList-from_slice_split}
 use Rattle.std.proofs.lemmas.Iterator.Consumers.{YieldsList-turn, YieldsList-end, YieldsList-so_far}
 use Rattle.std.specs.Str.Lines.{strip_carriage_return}
 use borrow.Author.Tests.{tests}
-use Rattle.bench_net.specs.Entries.{entries_of, HaveEntries}
+use Rattle.bench_net.specs.Entries.{entries_of}
 use Rattle.bench_net.proofs.Entries.{given_nothing, given_one, refused_line, line_refused}
 use Rattle.bench_net.proofs.Numbering.{ends_pass}
 use Rattle.bench_net.proofs.read.read_statements.Goals as goal
@@ -18,9 +18,11 @@ loop-line-preserved-in-Ok-None c =
 pub loop-line-preserved : goal.loop-line-preserved
 loop-line-preserved c =
     let n = length_push c.loop-line.yielded c.in-Some.line in
-    let read = rw c.in-Ok-Some.field-0-is at c.in-Ok-Some.ensures in
-    (omega arith, rw (c.in_ok-push-in-Ok-Some.ensures.items, c.loop-line.invariant.0)
-        (given_one c.loop-line.yielded c.in-Some.line c.without_return.result.now c.without_return.ensures c.loop-line.stated.items c.in-Ok-Some.statement c.loop-line.invariant.1 read))
+    let read = rw c.in-Ok-Some.field-0-is at c.in-Ok-Some.ensures in (
+      omega arith,
+      rw (c.in_ok-push-in-Ok-Some.ensures.items, c.loop-line.invariant.0)
+          (given_one c.loop-line.yielded c.in-Some.line c.without_return.result.now c.without_return.ensures c.loop-line.stated.items c.in-Ok-Some.statement c.loop-line.invariant.1 read),
+    )
 
 pub returns-in-Err-clause-refused : goal.returns-in-Err-clause-refused
 returns-in-Err-clause-refused c =
@@ -29,7 +31,7 @@ returns-in-Err-clause-refused c =
     let front = YieldsList-so_far road c.loop-line.yielded _ c.loop-line.yielded_by in
     ends_pass c.in-Err.fault _ _ (c.loop-line.number + 1) c.or_refusal.result c.or_refusal.ensures
     (λ e. rw c.loop-line.invariant.0 (refused_line c.loop-line.yielded c.in-Some.line c.without_return.result.now c.without_return.ensures c.args.text.now
-        (entries_of c.loop-line.stated.items) front turn.0 turn.1 c.loop-line.invariant.1 (line_refused _ c.in-Err.fault c.in-Err.ensures e)))
+    (entries_of c.loop-line.stated.items) front turn.0 turn.1 c.loop-line.invariant.1 (line_refused _ c.in-Err.fault c.in-Err.ensures e)))
 
 pub returns-clause-ok : goal.returns-clause-ok
 returns-clause-ok c =
