@@ -2,7 +2,7 @@
 use Rattle.std.proofs.Common.{◌≡◌, ◌<◌, ◌≤◌, ◌+◌, ℕ, zero, suc, refl, sym, ◌∙◌, ap, subst, Bool, true, false, not, List, [], ◌∷◌, ◌++◌, length, take, arith, inl, inr, ◌⊎◌, append-nil, ◌-◌}
 use Rattle.std.proofs.lemmas.List.{append_assoc}
 use Rattle.std.proofs.Math.Nat.{zero-add, suc-add}
-use Rattle.std.specs.Prelude.{◌≢◌, Contains, Option, Some, None, Result, Ok, Err, slice_get, map, filter_map, flat_map, nat_lt, option_map, IsTrue, if◌then◌else◌}
+use Rattle.std.specs.Prelude.{◌≢◌, Contains, Option, Some, None, ◌↔◌, Result, Ok, Err, slice_get, map, filter_map, flat_map, nat_lt, option_map, IsTrue, if◌then◌else◌}
 use Rattle.std.specs.List.{list_all, AllZip}
 use Rattle.std.proofs.lemmas.Bool.{both_ways, cond_both, cond-true, cond-false, cases_order, ltb-true, ltb-false, lt-ltb, le-ltb, not-true, true_from_ne_false, false_from_ne_true}
 use Rattle.std.proofs.lemmas.Option.{slice_get-map}
@@ -27,6 +27,17 @@ use Rattle.bench_net.proofs.Settled.{some_not, settled_argument, settled_later, 
 abbrev Stated : Type 0
 Stated = Option Statement
 
+-- the names that lines define, and whether a name is one of them
+abbrev names_of : List Stated → List Name
+names_of stated = names (statements stated)
+
+abbrev is_known : List Stated → Name → Bool
+is_known stated = is_in (names_of stated)
+
+-- the first line at which a test passes
+abbrev first : (List Name → Statement → Bool) → List Stated → Option ℕ
+first test stated = first_line test [] (numbered_from 1 stated)
+
 -- ---- the first line with a fault
 
 -- the first line with a fault, or None where no line has it
@@ -34,18 +45,19 @@ abbrev pub IsFirst : (ℕ → Type 0) → Option ℕ → Type 0
 IsFirst Faulty None = NoLine Faulty
 IsFirst Faulty (Some line) = IsLowest Faulty line
 
-pub first_one : (Faulty : ℕ → Type 0) (o p : Option ℕ) → IsFirst Faulty o → IsFirst Faulty p → o ≡ p
-first_one Faulty None None a b = refl
-first_one Faulty None (Some l) a b = absurd (a l b.0)
-first_one Faulty (Some k) None a b = absurd (b k a.0)
-first_one Faulty (Some k) (Some l) a b = go (cases_order k l)
+first_one : (F : ℕ → Type 0) (o p : Option ℕ) → IsFirst F o → IsFirst F p → o ≡ p
+first_one F None None a b = refl
+first_one F None (Some l) a b = absurd (a l b.0)
+first_one F (Some k) None a b = absurd (b k a.0)
+first_one F (Some k) (Some l) a b = go (cases_order k l)
   where
     go : (k ≡ l) ⊎ ((k < l) ⊎ (l < k)) → Some k ≡ Some l
     go (inl e) = ap Some e
     go (inr (inl h)) = absurd (b.1 k h a.0)
     go (inr (inr h)) = absurd (a.1 l h b.0)
 
-pub first_same : (F G : ℕ → Type 0) (o : Option ℕ) → ((l : ℕ) → F l → G l) → ((l : ℕ) → G l → F l) → IsFirst F o → IsFirst G o
+pub first_same : (F G : ℕ → Type 0) (o : Option ℕ)
+    → ((l : ℕ) → F l → G l) → ((l : ℕ) → G l → F l) → IsFirst F o → IsFirst G o
 first_same F G None to from h = λ l g. h l (from l g)
 first_same F G (Some l) to from h = (to l h.0, λ k lt g. h.1 k lt (from k g))
 
@@ -54,155 +66,163 @@ first_same F G (Some l) to from h = (to l h.0, λ k lt g. h.1 k lt (from k g))
 abbrev IsUnread : ℕ → List (Option Stated) → ℕ → Type 0
 IsUnread line found l = (i : ℕ) × (l ≡ line + i) × (slice_get found i ≡ Some None)
 
-unread_first : (line : ℕ) (found : List (Option Stated)) → IsFirst (IsUnread line found) (unread line found)
+unread_first : (line : ℕ) (found : List (Option Stated))
+    → IsFirst (IsUnread line found) (unread line found)
 unread_first line [] = λ l bad. let e : None ≡ Some None = bad.2 in cc
-unread_first line (None ∷ found) = ((0, omega arith, refl), λ l lt bad. absurd (omega (arith, lt, bad.1)))
+unread_first line (None ∷ found) =
+    ((0, omega arith, refl), λ l lt bad. absurd (omega (arith, lt, bad.1)))
 unread_first line (Some s ∷ found) =
-    first_same (IsUnread (suc line) found) (IsUnread line (Some s ∷ found)) (unread (suc line) found)
-    (λ l f. (suc f.0, omega (arith, f.1), f.2)) (λ l f. later l f.0 f.1 f.2) (unread_first (suc line) found)
+    first_same _ _ _ (λ l f. (suc f.0, omega (arith, f.1), f.2)) (λ l f. later l f.0 f.1 f.2)
+    (unread_first (suc line) found)
   where
-    later : (l i : ℕ) → l ≡ line + i → slice_get (Some s ∷ found) i ≡ Some None → IsUnread (suc line) found l
+    later : (l i : ℕ) → l ≡ line + i → slice_get (Some s ∷ found) i ≡ Some None
+        → IsUnread (suc line) found l
     later l zero e at = let bad : Some (Some s) ≡ Some None = at in cc
     later l (suc i) e at = (i, omega (arith, e), at)
 
-syntax_first : (text : List ℕ) → IsFirst (IsSyntaxFault text) (unread 1 (map stated_of (lines text)))
-syntax_first text =
-    first_same (IsUnread 1 (map stated_of (lines text))) (IsSyntaxFault text) (unread 1 (map stated_of (lines text))) to from
-    (unread_first 1 (map stated_of (lines text)))
+syntax_first : (text : List ℕ)
+    → IsFirst (IsSyntaxFault text) (unread 1 (map stated_of (lines text)))
+syntax_first text = first_same _ _ _ to from (unread_first 1 (map stated_of (lines text)))
   where
     to : (l : ℕ) → IsUnread 1 (map stated_of (lines text)) l → IsSyntaxFault text l
     to l f =
         let at = from_mapped stated_of (lines text) f.0 None f.2 in
         let is : suc f.0 ≡ l = omega (arith, f.1) in
-        subst (IsSyntaxFault text) is (at.0, at.1, λ s h. let bad : None ≡ Some s = sym at.2 ∙ complete_states at.0 s h in cc)
+        let none : (s : Stated) → ¬ States at.0 s =
+            λ s h. let bad : None ≡ Some s = sym at.2 ∙ complete_states _ _ h in cc in
+        subst (IsSyntaxFault text) is (at.0, at.1, none)
 
     from : (l : ℕ) → IsSyntaxFault text l → IsUnread 1 (map stated_of (lines text)) l
     from zero bad = let none : None ≡ Some bad.0 = bad.1 in cc
-    from (suc i) bad = (i, omega arith, slice_get-map stated_of (lines text) i ∙ ap (option_map stated_of) bad.1 ∙ ap Some (go (stated_of bad.0) refl))
+    from (suc i) bad =
+        let at = slice_get-map stated_of (lines text) i ∙ ap (option_map stated_of) bad.1 in
+        (i, omega arith, at ∙ ap Some (go (stated_of bad.0) refl))
       where
         go : (o : Option Stated) → stated_of bad.0 ≡ o → stated_of bad.0 ≡ None
         go None e = e
-        go (Some s) e = absurd (bad.2 s (sound_states bad.0 s e))
+        go (Some s) e = absurd (bad.2 s (sound_states _ _ e))
 
--- ---- a line whose statement does not pass a test
+-- ---- a line at which a test passes, of the names before it and of its statement
 
--- the test passes at this line, of the names that are defined before it and of its statement
 abbrev Fails : (List Name → Statement → Bool) → List Name → ℕ → List Stated → ℕ → Type 0
 Fails test before line stated l =
     (i : ℕ) × (s : Statement) × (l ≡ line + i) × (slice_get stated i ≡ Some (Some s))
-    × (test (before ++ names (statements (take i stated))) s ≡ true)
+    × (test (before ++ names_of (take i stated)) s ≡ true)
 
-fails_first : (test : List Name → Statement → Bool) (before : List Name) (line : ℕ) (stated : List Stated)
+fails_first : (test : List Name → Statement → Bool) (before : List Name) (line : ℕ)
+    (stated : List Stated)
     → IsFirst (Fails test before line stated) (first_line test before (numbered_from line stated))
 fails_first test before line [] = λ l bad. let e : None ≡ Some (Some bad.1) = bad.3 in cc
 fails_first test before line (None ∷ stated) =
-    first_same (Fails test before (suc line) stated) (Fails test before line (None ∷ stated)) (first_line test before (numbered_from (suc line) stated))
-    (λ l f. (suc f.0, f.1, omega (arith, f.2), f.3, f.4)) (λ l f. later l f.0 f.1 f.2 f.3 f.4) (fails_first test before (suc line) stated)
+    first_same _ _ _ (λ l f. (suc f.0, f.1, omega (arith, f.2), f.3, f.4))
+    (λ l f. later l f.0 f.1 f.2 f.3 f.4) (fails_first test before (suc line) stated)
   where
     later : (l i : ℕ) (s : Statement) → l ≡ line + i → slice_get (None ∷ stated) i ≡ Some (Some s)
-        → test (before ++ names (statements (take i (None ∷ stated)))) s ≡ true → Fails test before (suc line) stated l
+        → test (before ++ names_of (take i (None ∷ stated))) s ≡ true
+        → Fails test before (suc line) stated l
     later l zero s e at t = let bad : Some None ≡ Some (Some s) = at in cc
     later l (suc i) s e at t = (i, s, omega (arith, e), at, t)
 fails_first test before line (Some x ∷ stated) =
-    cond_both (test before x) (Some line) (first_line test (before ++ defined x) (numbered_from (suc line) stated)) (IsFirst (Fails test before line (Some x ∷ stated)))
-    (λ h. ((0, x, omega arith, refl, rw append-nil h), λ l lt bad. absurd (omega (arith, lt, bad.2))))
-    (λ h. first_same (Fails test (before ++ defined x) (suc line) stated) (Fails test before line (Some x ∷ stated))
-    (first_line test (before ++ defined x) (numbered_from (suc line) stated))
-    (λ l f. (suc f.0, f.1, omega (arith, f.2), f.3, rw append_assoc at f.4)) (λ l f. later h l f.0 f.1 f.2 f.3 f.4)
+    cond_both _ _ _ (IsFirst (Fails test before line (Some x ∷ stated)))
+    (λ h. (
+      (0, x, omega arith, refl, rw append-nil h),
+      λ l lt bad. absurd (omega (arith, lt, bad.2)),
+    ))
+    (λ h. first_same _ _ _ (λ l f. (suc f.0, f.1, omega (arith, f.2), f.3, rw append_assoc at f.4))
+    (λ l f. later h l f.0 f.1 f.2 f.3 f.4)
     (fails_first test (before ++ defined x) (suc line) stated))
   where
-    later : test before x ≡ false → (l i : ℕ) (s : Statement) → l ≡ line + i → slice_get (Some x ∷ stated) i ≡ Some (Some s)
-        → test (before ++ names (statements (take i (Some x ∷ stated)))) s ≡ true → Fails test (before ++ defined x) (suc line) stated l
+    later : test before x ≡ false → (l i : ℕ) (s : Statement) → l ≡ line + i
+        → slice_get (Some x ∷ stated) i ≡ Some (Some s)
+        → test (before ++ names_of (take i (Some x ∷ stated))) s ≡ true
+        → Fails test (before ++ defined x) (suc line) stated l
     later h l zero s e at t =
         let same : x ≡ s = cc in
         let here : test before s ≡ true = rw append-nil at t in
-        absurd (both_ways (test before s) (subst (λ y. test before y ≡ false) same h) here)
+        absurd (both_ways _ (rw same at h) here)
     later h l (suc i) s e at t = (i, s, omega (arith, e), at, rw append_assoc t)
 
 -- what a line states is among the statements, and the other way round
-pub stated_among : (stated : List Stated) (i : ℕ) (s : Statement) → slice_get stated i ≡ Some (Some s) → Among s (statements stated)
+stated_among : (stated : List Stated) (i : ℕ) (s : Statement)
+    → slice_get stated i ≡ Some (Some s) → Among s (statements stated)
 stated_among [] i s e = let bad : None ≡ Some (Some s) = e in cc
 stated_among (None ∷ stated) zero s e = let bad : Some None ≡ Some (Some s) = e in cc
 stated_among (None ∷ stated) (suc i) s e = stated_among stated i s e
 stated_among (Some t ∷ stated) zero s e = let same : t ≡ s = cc in inl same
 stated_among (Some t ∷ stated) (suc i) s e = inr (stated_among stated i s e)
 
-pub stated_at : (stated : List Stated) (s : Statement) → Among s (statements stated) → (i : ℕ) × (slice_get stated i ≡ Some (Some s))
+pub stated_at : (stated : List Stated) (s : Statement) → Among s (statements stated)
+    → (i : ℕ) × (slice_get stated i ≡ Some (Some s))
 stated_at [] s a = absurd a
 stated_at (None ∷ stated) s a = let f = stated_at stated s a in (suc f.0, f.1)
 stated_at (Some t ∷ stated) s (inl e) = (0, ap (λ x. Some (Some x)) e)
 stated_at (Some t ∷ stated) s (inr a) = let f = stated_at stated s a in (suc f.0, f.1)
 
 -- what stands in the front of a list
-in_front : (stated : List Stated) (k i : ℕ) (s : Stated) → slice_get (take k stated) i ≡ Some s → (i < k) × (slice_get stated i ≡ Some s)
-in_front [] zero i s e = let bad : None ≡ Some s = e in cc
-in_front [] (suc k) i s e = let bad : None ≡ Some s = e in cc
-in_front (x ∷ stated) zero i s e = let bad : None ≡ Some s = e in cc
-in_front (x ∷ stated) (suc k) zero s e = (omega arith, e)
-in_front (x ∷ stated) (suc k) (suc i) s e = let f = in_front stated k i s e in (omega (arith, f.0), f.1)
+in_front : (stated : List Stated) (k i : ℕ) (s : Stated)
+    → (slice_get (take k stated) i ≡ Some s) ↔ ((i < k) × (slice_get stated i ≡ Some s))
+in_front [] zero i s = (λ e. let bad : None ≡ Some s = e in cc, λ h. h.1)
+in_front [] (suc k) i s = (λ e. let bad : None ≡ Some s = e in cc, λ h. h.1)
+in_front (x ∷ stated) zero i s =
+    (λ e. let bad : None ≡ Some s = e in cc, λ h. absurd (omega (arith, h.0)))
+in_front (x ∷ stated) (suc k) zero s = (λ e. (omega arith, e), λ h. h.1)
+in_front (x ∷ stated) (suc k) (suc i) s =
+    let f = in_front stated k i s in
+    (λ e. (omega (arith, (f.0 e).0), (f.0 e).1), λ h. f.1 (omega (arith, h.0), h.1))
 
-front_has : (stated : List Stated) (k i : ℕ) (s : Stated) → i < k → slice_get stated i ≡ Some s → slice_get (take k stated) i ≡ Some s
-front_has [] k i s lt e = let bad : None ≡ Some s = e in cc
-front_has (x ∷ stated) zero i s lt e = absurd (omega (arith, lt))
-front_has (x ∷ stated) (suc k) zero s lt e = e
-front_has (x ∷ stated) (suc k) (suc i) s lt e = front_has stated k i s (omega (arith, lt)) e
-
-pub redefined_first : (stated : List Stated) → IsFirst (IsRedefinition stated) (first_line redefines [] (numbered_from 1 stated))
-redefined_first stated =
-    first_same (Fails redefines [] 1 stated) (IsRedefinition stated) (first_line redefines [] (numbered_from 1 stated)) to from (fails_first redefines [] 1 stated)
+pub redefined_first : (stated : List Stated)
+    → IsFirst (IsRedefinition stated) (first redefines stated)
+redefined_first stated = first_same _ _ _ to from (fails_first redefines [] 1 stated)
   where
     to : (l : ℕ) → Fails redefines [] 1 stated l → IsRedefinition stated l
     to l f =
-        let ns : List Name = names (statements (take f.0 stated)) in
-        let found = some_passes (is_in ns) (defined f.1) f.4 in
+        let found = some_passes (is_known (take f.0 stated)) (defined f.1) f.4 in
         let n : Name = found.0 in
-        let before = joined_from defined (statements (take f.0 stated)) n (among ns n (in_contained ns n found.2)) in
+        let front = among (names_of (take f.0 stated)) n (in_contained _ n found.2) in
+        let before = joined_from defined (statements (take f.0 stated)) n front in
         let place = stated_at (take f.0 stated) before.0 before.1 in
-        let earlier = in_front stated f.0 place.0 (Some before.0) place.1 in
+        let j = (in_front stated f.0 place.0 (Some before.0)).0 place.1 in
         let is : suc f.0 ≡ l = omega (arith, f.2) in
+        let t : Contains (defined before.0) n = contained _ n before.2 in
         subst (IsRedefinition stated) is
-        (n, suc place.0, (f.1, f.3, found.1), omega (arith, earlier.0), (before.0, earlier.1, contained (defined before.0) n before.2))
+        (n, suc place.0, (f.1, f.3, found.1), omega (arith, j.0), (before.0, j.1, t))
 
     from : (l : ℕ) → IsRedefinition stated l → Fails redefines [] 1 stated l
     from zero bad = let none : None ≡ Some (Some bad.2.0) = bad.2.1 in cc
     from (suc i) bad = go bad.1 bad.3 bad.4.1
       where
-        go : (k : ℕ) → k < suc i → at_line stated k ≡ Some (Some bad.4.0) → Fails redefines [] 1 stated (suc i)
+        go : (k : ℕ) → k < suc i → at_line stated k ≡ Some (Some bad.4.0)
+            → Fails redefines [] 1 stated (suc i)
         go zero lt at = let none : None ≡ Some (Some bad.4.0) = at in cc
         go (suc j) lt at =
             let n : Name = bad.0 in
             let t : Statement = bad.4.0 in
-            let there = stated_among (take i stated) j t (front_has stated i j (Some t) (omega (arith, lt)) at) in
-            let before = among_joined defined (statements (take i stated)) t n there (among (defined t) n bad.4.2) in
-            (i, bad.2.0, omega arith, bad.2.1, any_true (is_in (names (statements (take i stated)))) (defined bad.2.0) n (among (defined bad.2.0) n bad.2.2) (among_in (names (statements (take i stated))) n before))
+            let at_j = (in_front stated i j (Some t)).1 (omega (arith, lt), at) in
+            let there : Among t (statements (take i stated)) = stated_among _ j t at_j in
+            let before = among_joined defined _ t n there (among _ n bad.4.2) in
+            let on = any_true (is_known (take i stated)) (defined bad.2.0) n (among _ n bad.2.2) in
+            (i, bad.2.0, omega arith, bad.2.1, on (among_in _ n before))
 
-pub undefined_first : (stated : List Stated) → IsFirst (IsUndefined stated) (first_line (reads_unknown (names (statements stated))) [] (numbered_from 1 stated))
+pub undefined_first : (stated : List Stated)
+    → IsFirst (IsUndefined stated) (first (reads_unknown (names_of stated)) stated)
 undefined_first stated =
-    first_same (Fails (reads_unknown ns) [] 1 stated) (IsUndefined stated) (first_line (reads_unknown ns) [] (numbered_from 1 stated)) to from (fails_first (reads_unknown ns) [] 1 stated)
+    first_same _ _ _ to from (fails_first (reads_unknown (names_of stated)) [] 1 stated)
   where
-    ns : List Name
-    ns = names (statements stated)
-
-    to : (l : ℕ) → Fails (reads_unknown (names (statements stated))) [] 1 stated l → IsUndefined stated l
+    to : (l : ℕ) → Fails (reads_unknown (names_of stated)) [] 1 stated l → IsUndefined stated l
     to l f =
-        let found = some_not (is_in (names (statements stated))) (read f.1) (not-true (list_all (is_in (names (statements stated))) (read f.1)) f.4) in
+        let found = some_not (is_known stated) (read f.1) (not-true _ f.4) in
+        let n : Name = found.0 in
         let is : suc f.0 ≡ l = omega (arith, f.2) in
-        subst (IsUndefined stated) is (
-          found.0,
-          (f.1, f.3, contained (read f.1) found.0 found.1),
-          λ has. both_ways (is_in (names (statements stated)) found.0) found.2 (among_in (names (statements stated)) found.0 (among (names (statements stated)) found.0 has)),
-        )
+        let none : ¬ Contains (names_of stated) n =
+            λ has. both_ways _ found.2 (among_in _ n (among _ n has)) in
+        subst (IsUndefined stated) is (n, (f.1, f.3, contained (read f.1) n found.1), none)
 
-    from : (l : ℕ) → IsUndefined stated l → Fails (reads_unknown (names (statements stated))) [] 1 stated l
+    from : (l : ℕ) → IsUndefined stated l → Fails (reads_unknown (names_of stated)) [] 1 stated l
     from zero bad = let none : None ≡ Some (Some bad.1.0) = bad.1.1 in cc
-    from (suc i) bad = (
-      i,
-      bad.1.0,
-      omega arith,
-      bad.1.1,
-      ap not (false_from_ne_true (list_all (is_in (names (statements stated))) (read bad.1.0))
-          (λ all. bad.2 (in_contained (names (statements stated)) bad.0 (each_passes (is_in (names (statements stated))) (read bad.1.0) bad.0 all bad.1.2)))),
-    )
+    from (suc i) bad =
+        let known = each_passes (is_known stated) (read bad.1.0) bad.0 in
+        let off = false_from_ne_true _ (λ all. bad.2 (in_contained _ _ (known all bad.1.2))) in
+        (i, bad.1.0, omega arith, bad.1.1, ap not off)
 
 -- ---- a gate on a cycle or fed by one
 
@@ -210,123 +230,146 @@ settled_free : (c : List Statement) (k : ℕ) (n : Name) → settled c k n ≡ t
 settled_free c zero n e stuck = let bad : false ≡ true = e in cc
 settled_free c (suc k) n e stuck =
     let next = stuck.1 n stuck.2 in
-    settled_free c k next.0 (settled_argument c k n next.0 next.1 e) (stuck.0, stuck.1, next.2)
+    let e = settled_argument c k n next.0 next.1 e in
+    settled_free c k next.0 e (stuck.0, stuck.1, next.2)
 
-settled_by : (c : List Statement) (n : Name) (k d : ℕ) → settled c k n ≡ true → settled c (d + k) n ≡ true
+settled_by : (c : List Statement) (n : Name) (k d : ℕ)
+    → settled c k n ≡ true → settled c (d + k) n ≡ true
 settled_by c n k zero e = rw zero-add e
 settled_by c n k (suc d) e = rw suc-add (settled_later c (d + k) n (settled_by c n k d e))
 
 unsettled : (c : List Statement) (n : Name) → settled c (rounds_enough c) n ≡ false → IsStuck c n
-unsettled c n off = (λ m. not (settled c (suc last.0) m), unsettled_stuck c last.0 last.2, ap not (false_from_ne_true (settled c (suc last.0) n) on))
+unsettled c n off = (
+  λ m. not (settled c (suc last.0) m),
+  unsettled_stuck c last.0 last.2,
+  ap not (false_from_ne_true _ on),
+)
   where
-    last : (k : ℕ) × (k < 0 + (length (flat_map arguments_of c) + 1)) × (round_count c k ≡ round_count c (suc k))
+    last : (k : ℕ) × (k < 0 + (length (flat_map arguments_of c) + 1))
+        × (round_count c k ≡ round_count c (suc k))
     last = last_round c (length (flat_map arguments_of c) + 1) 0 (omega arith)
 
     on : settled c (suc last.0) n ≡ true → ⊥
     on e =
-        let gap : (rounds_enough c - suc last.0) + suc last.0 ≡ rounds_enough c = omega (arith, last.1) in
-        both_ways (settled c (rounds_enough c) n) off (subst (λ k. settled c k n ≡ true) gap (settled_by c n (suc last.0) (rounds_enough c - suc last.0) e))
+        let gap : (rounds_enough c - suc last.0) + suc last.0 ≡ rounds_enough c =
+            omega (arith, last.1) in
+        both_ways _ off (rw gap at (settled_by c n (suc last.0) (rounds_enough c - suc last.0) e))
 
-cyclic_first : (stated : List Stated) → IsFirst (IsCyclic stated) (first_line (is_unsettled (statements stated)) [] (numbered_from 1 stated))
+cyclic_first : (stated : List Stated)
+    → IsFirst (IsCyclic stated) (first (is_unsettled (statements stated)) stated)
 cyclic_first stated =
-    first_same (Fails (is_unsettled (statements stated)) [] 1 stated) (IsCyclic stated) (first_line (is_unsettled (statements stated)) [] (numbered_from 1 stated))
-    (λ l f. to l f.0 f.1 f.2 f.3 f.4) from (fails_first (is_unsettled (statements stated)) [] 1 stated)
+    first_same _ _ _ (λ l f. to l f.0 f.1 f.2 f.3 f.4) from
+    (fails_first (is_unsettled (statements stated)) [] 1 stated)
   where
     to : (l i : ℕ) (s : Statement) → l ≡ 1 + i → slice_get stated i ≡ Some (Some s)
-        → is_unsettled (statements stated) (names (statements (take i stated))) s ≡ true → IsCyclic stated l
+        → is_unsettled (statements stated) (names_of (take i stated)) s ≡ true → IsCyclic stated l
     to l i (Input n) e at t = let bad : false ≡ true = t in cc
     to l i (Output n) e at t = let bad : false ≡ true = t in cc
     to l i (Dff q d) e at t = let bad : false ≡ true = t in cc
     to l i (Gate n kind args) e at t =
         let is : suc i ≡ l = omega (arith, e) in
-        subst (IsCyclic stated) is (n, kind, args, at, unsettled (statements stated) n (not-true (settled (statements stated) (rounds_enough (statements stated)) n) t))
+        let stuck = unsettled (statements stated) n (not-true _ t) in
+        subst (IsCyclic stated) is (n, kind, args, at, stuck)
 
     from : (l : ℕ) → IsCyclic stated l → Fails (is_unsettled (statements stated)) [] 1 stated l
     from zero bad = let none : None ≡ Some (Some (Gate bad.0 bad.1 bad.2)) = bad.3 in cc
-    from (suc i) bad = (
-      i,
-      Gate bad.0 bad.1 bad.2,
-      omega arith,
-      bad.3,
-      ap not (false_from_ne_true (settled (statements stated) (rounds_enough (statements stated)) bad.0)
-          (λ on. settled_free (statements stated) (rounds_enough (statements stated)) bad.0 on bad.4)),
-    )
+    from (suc i) bad =
+        let c = statements stated in
+        let off = false_from_ne_true _ (λ on. settled_free c (rounds_enough c) bad.0 on bad.4) in
+        (i, Gate bad.0 bad.1 bad.2, omega arith, bad.3, ap not off)
 
 -- ---- no line has a fault exactly where the statements are well-formed
 
 pub distinct_first : (before : List Name) (line : ℕ) (stated : List Stated) → Distinct before
-    → first_line redefines before (numbered_from line stated) ≡ None → Distinct (before ++ names (statements stated))
+    → first_line redefines before (numbered_from line stated) ≡ None
+    → Distinct (before ++ names_of stated)
 distinct_first before line [] d e = rw append-nil d
 distinct_first before line (None ∷ stated) d e = distinct_first before (suc line) stated d e
 distinct_first before line (Some s ∷ stated) d e =
-    go (redefines before s) refl e (λ more. distinct_first (before ++ defined s) (suc line) stated more)
+    go (redefines before s) _ refl e (distinct_first (before ++ defined s) (suc line) stated)
   where
-    more : redefines before s ≡ false → (defined s ≡ []) ⊎ ((n : Name) × (defined s ≡ n ∷ [])) → Distinct (before ++ defined s)
+    more : redefines before s ≡ false → (defined s ≡ []) ⊎ ((n : Name) × (defined s ≡ n ∷ []))
+        → Distinct (before ++ defined s)
     more h (inl none) = rw (none, append-nil) d
-    more h (inr one) = rw one.1 (distinct_between before [] one.0 (rw append-nil d) (λ a. both_ways (redefines before s) h
-        (any_true (is_in before) (defined s) one.0 (rw one.1 (inl refl)) (among_in before one.0 (rw append-nil at a)))))
+    more h (inr one) =
+        let n : Name = one.0 in
+        let here : Among n (defined s) = rw one.1 (inl refl) in
+        let new : Among n (before ++ []) → ⊥ = λ a. both_ways _ h
+            (any_true (is_in before) _ n here (among_in before n (rw append-nil at a))) in
+        rw one.1 (distinct_between before [] n (rw append-nil d) new)
 
-    go : (b : Bool) → redefines before s ≡ b → (if b then Some line else first_line redefines (before ++ defined s) (numbered_from (suc line) stated)) ≡ None
-        → (Distinct (before ++ defined s) → first_line redefines (before ++ defined s) (numbered_from (suc line) stated) ≡ None → Distinct ((before ++ defined s) ++ names (statements stated)))
-        → Distinct (before ++ (defined s ++ names (statements stated)))
-    go true h e later = let bad : Some line ≡ None = e in cc
-    go false h e later = rw append_assoc at (later (more h (defined_few s)) e)
+    go : (b : Bool) (rest : Option ℕ) → redefines before s ≡ b
+        → (if b then Some line else rest) ≡ None → (Distinct (before ++ defined s) → rest ≡ None
+        → Distinct ((before ++ defined s) ++ names_of stated))
+        → Distinct (before ++ (defined s ++ names_of stated))
+    go true rest h e later = let bad : Some line ≡ None = e in cc
+    go false rest h e later = rw append_assoc at (later (more h (defined_few s)) e)
 
-distinct_apart : (xs ys : List Name) (n : Name) → Distinct (xs ++ ys) → Among n xs → Among n ys → ⊥
+distinct_apart : (xs ys : List Name) (n : Name)
+    → Distinct (xs ++ ys) → Among n xs → Among n ys → ⊥
 distinct_apart [] ys n d a b = a
-distinct_apart (x ∷ xs) ys n d (inl e) b = d.0 (among_right xs ys x (subst (λ m. Among m ys) (sym e) b))
+distinct_apart (x ∷ xs) ys n d (inl e) b = d.0 (among_right xs ys x (rw (← e) at b))
 distinct_apart (x ∷ xs) ys n d (inr a) b = distinct_apart xs ys n d.1 a b
 
-first_distinct : (before : List Name) (line : ℕ) (stated : List Stated) → Distinct (before ++ names (statements stated))
+first_distinct : (before : List Name) (line : ℕ) (stated : List Stated)
+    → Distinct (before ++ names_of stated)
     → first_line redefines before (numbered_from line stated) ≡ None
 first_distinct before line [] d = refl
 first_distinct before line (None ∷ stated) d = first_distinct before (suc line) stated d
 first_distinct before line (Some s ∷ stated) d =
-    cond-false (redefines before s) (Some line) (first_line redefines (before ++ defined s) (numbered_from (suc line) stated)) (false_from_ne_true (redefines before s) twice)
+    cond-false _ _ _ (false_from_ne_true (redefines before s) twice)
     ∙ first_distinct (before ++ defined s) (suc line) stated (rw append_assoc d)
   where
     twice : redefines before s ≡ true → ⊥
     twice e =
         let f = some_passes (is_in before) (defined s) e in
-        distinct_apart before (defined s ++ names (statements stated)) f.0 d (among before f.0 (in_contained before f.0 f.2))
-        (among_left (defined s) (names (statements stated)) f.0 (among (defined s) f.0 f.1))
+        distinct_apart before _ f.0 d (among _ f.0 (in_contained _ f.0 f.2))
+        (among_left (defined s) (names_of stated) f.0 (among _ f.0 f.1))
 
-well : (stated : List Stated) → statements stated ≢ [] → NoLine (IsRedefinition stated) → NoLine (IsUndefined stated) → NoLine (IsCyclic stated) → IsWellFormed (statements stated)
+well : (stated : List Stated) → statements stated ≢ [] → NoLine (IsRedefinition stated)
+    → NoLine (IsUndefined stated) → NoLine (IsCyclic stated) → IsWellFormed (statements stated)
 well stated some once known acyclic = record {
   some = some;
-  once = pairs_distinct (names (statements stated))
-      (distinct_first [] 1 stated tt (first_one (IsRedefinition stated) (first_line redefines [] (numbered_from 1 stated)) None (redefined_first stated) once));
+  once =
+      let none = first_one (IsRedefinition stated) _ None (redefined_first stated) once in
+      pairs_distinct _ (distinct_first [] 1 stated tt none);
   all_defined = all_known;
   acyclic = numbering (statements stated) free;
 }
   where
-    all_known : (n : Name) → Contains (flat_map read (statements stated)) n → Contains (names (statements stated)) n
+    all_known : (n : Name) → Contains (flat_map read (statements stated)) n
+        → Contains (names_of stated) n
     all_known n has =
-        let r = joined_from read (statements stated) n (among (flat_map read (statements stated)) n has) in
+        let r = joined_from read (statements stated) n (among _ n has) in
         let l = stated_at stated r.0 r.1 in
-        in_contained (names (statements stated)) n (true_from_ne_false (is_in (names (statements stated)) n) (λ off. known (suc l.0) (
-          n,
-          (r.0, l.1, contained (read r.0) n r.2),
-          λ inside. both_ways (is_in (names (statements stated)) n) off (among_in (names (statements stated)) n (among (names (statements stated)) n inside)),
-        )))
+        let reads : Contains (read r.0) n = contained _ n r.2 in
+        let on : is_known stated n ≡ false → ⊥ =
+            λ off. known (suc l.0) (n, (r.0, l.1, reads),
+            λ inside. both_ways _ off (among_in _ n (among _ n inside))) in
+        in_contained _ n (true_from_ne_false _ on)
 
-    free : (members : Name → Bool) → IsStuckSet (statements stated) members → (n : Name) → ¬ IsTrue (members n)
+    free : (members : Name → Bool) → IsStuckSet (statements stated) members
+        → (n : Name) → ¬ IsTrue (members n)
     free members set n inside =
         let a = (set n inside).1 in
-        let l = stated_at stated (Gate n a.0 a.1) (among (statements stated) (Gate n a.0 a.1) a.2) in
+        let l = stated_at stated (Gate n a.0 a.1) (among _ _ a.2) in
         acyclic (suc l.0) (n, a.0, a.1, l.1, (members, set, inside))
 
--- a line with a statement, and a name that it reads
-line_among : (stated : List Stated) (line : ℕ) (s : Statement) → at_line stated line ≡ Some (Some s) → Among s (statements stated)
+-- what a line states is among the statements
+line_among : (stated : List Stated) (line : ℕ) (s : Statement)
+    → at_line stated line ≡ Some (Some s) → Among s (statements stated)
 line_among stated zero s e = let bad : None ≡ Some (Some s) = e in cc
 line_among stated (suc i) s e = stated_among stated i s e
 
-pub no_undefined : (stated : List Stated) → ((n : Name) → Contains (flat_map read (statements stated)) n → Contains (names (statements stated)) n) → NoLine (IsUndefined stated)
+no_undefined : (stated : List Stated)
+    → ((n : Name) → Contains (flat_map read (statements stated)) n → Contains (names_of stated) n)
+    → NoLine (IsUndefined stated)
 no_undefined stated known line bad =
-    bad.2 (known bad.0 (contained (flat_map read (statements stated)) bad.0 (among_joined read (statements stated) bad.1.0 bad.0
-    (line_among stated line bad.1.0 bad.1.1) (among (read bad.1.0) bad.0 bad.1.2))))
+    let s = line_among stated line bad.1.0 bad.1.1 in
+    bad.2 (known bad.0 (contained _ _ (among_joined read _ bad.1.0 _ s (among _ _ bad.1.2))))
 
-pub no_redefinition : (stated : List Stated) → first_line redefines [] (numbered_from 1 stated) ≡ None → NoLine (IsRedefinition stated)
+pub no_redefinition : (stated : List Stated) → first redefines stated ≡ None
+    → NoLine (IsRedefinition stated)
 no_redefinition stated e = subst (IsFirst (IsRedefinition stated)) e (redefined_first stated)
 
 -- ---- the answers
@@ -335,67 +378,82 @@ abbrev IsAnswer : List ℕ → Result (List Statement) BenchFault → Type 0
 IsAnswer text (Ok c) = IsAccepted text c
 IsAnswer text (Err fault) = IsRefused text fault
 
--- past the limits
-late : (text : List ℕ) (stated : List Stated) (r u y : Option ℕ) → IsWithin text stated → IsFirst (IsRedefinition stated) r → IsFirst (IsUndefined stated) u → IsFirst (IsCyclic stated) y
-    → (c : List Statement) → c ≡ statements stated → IsAnswer text (line_or Redefined r (line_or Undefined u (line_or Cycle y (statements_or c))))
-late text stated (Some l) u y within once known acyclic c e = (stated, within, once)
-late text stated None (Some l) y within once known acyclic c e = (stated, within, once, known)
-late text stated None None (Some l) within once known acyclic c e = (stated, within, once, known, acyclic)
-late text stated None None None within once known acyclic [] e = (stated, within, sym e)
-late text stated None None None within once known acyclic (s ∷ c) e =
-    (stated, within, e, subst IsWellFormed (sym e) (well stated (λ none. let bad : s ∷ c ≡ [] = e ∙ none in cc) once known acyclic))
+-- the answer past the limits, from the first line with each fault
+abbrev answer_by : Option ℕ → Option ℕ → Option ℕ → List Statement
+    → Result (List Statement) BenchFault
+answer_by r u y c = line_or Redefined r (line_or Undefined u (line_or Cycle y (statements_or c)))
 
-by_limits : (text : List ℕ) (stated : List Stated) → length text ≤ max_bytes → LinesState text stated → IsAnswer text (answer_stated stated)
+late : (text : List ℕ) (stated : List Stated) (r u y : Option ℕ) → IsWithin text stated
+    → IsFirst (IsRedefinition stated) r → IsFirst (IsUndefined stated) u
+    → IsFirst (IsCyclic stated) y → (c : List Statement) → c ≡ statements stated
+    → IsAnswer text (answer_by r u y c)
+late text stated (Some l) u y within once known free c e = (stated, within, once)
+late text stated None (Some l) y within once known free c e = (stated, within, once, known)
+late text stated None None (Some l) within once known free c e =
+    (stated, within, once, known, free)
+late text stated None None None within once known free [] e = (stated, within, sym e)
+late text stated None None None within once known free (s ∷ c) e =
+    let some : statements stated ≢ [] = λ none. let bad : s ∷ c ≡ [] = e ∙ none in cc in
+    (stated, within, e, rw e (well stated some once known free))
+
+by_limits : (text : List ℕ) (stated : List Stated) → length text ≤ max_bytes
+    → LinesState text stated → IsAnswer text (answer_stated stated)
 by_limits text stated bytes each =
-    cond_both (nat_lt max_signals (length (names (statements stated)))) (Err (TooLarge Signals)) sized (IsAnswer text)
-    (λ e. (bytes, stated, each, ltb-true max_signals (length (names (statements stated))) e))
-    (λ f. cond_both (nat_lt max_sinks (sink_count (statements stated))) (Err (TooLarge Sinks)) (answer_within (statements stated) (numbered_from 1 stated)) (IsAnswer text)
-    (λ e. (bytes, stated, each, ltb-false max_signals (length (names (statements stated))) f, ltb-true max_sinks (sink_count (statements stated)) e))
-    (λ e. late text stated (first_line redefines [] (numbered_from 1 stated)) (first_line (reads_unknown (names (statements stated))) [] (numbered_from 1 stated))
-    (first_line (is_unsettled (statements stated)) [] (numbered_from 1 stated))
-    (record { bytes = bytes; each = each; signals = ltb-false max_signals (length (names (statements stated))) f; sinks = ltb-false max_sinks (sink_count (statements stated)) e })
-    (redefined_first stated) (undefined_first stated) (cyclic_first stated) (statements stated) refl))
+    cond_both _ _ _ (IsAnswer text) (λ e. (bytes, stated, each, ltb-true _ _ e))
+    (λ f. cond_both _ _ _ (IsAnswer text)
+    (λ e. (bytes, stated, each, ltb-false _ _ f, ltb-true _ _ e))
+    (λ e. late text stated _ _ _ (within (ltb-false _ _ f) (ltb-false _ _ e))
+    (redefined_first stated) (undefined_first stated) (cyclic_first stated) _ refl))
   where
-    sized : Result (List Statement) BenchFault
-    sized = if nat_lt max_sinks (sink_count (statements stated)) then Err (TooLarge Sinks) else answer_within (statements stated) (numbered_from 1 stated)
+    within : length (names_of stated) ≤ max_signals → sink_count (statements stated) ≤ max_sinks
+        → IsWithin text stated
+    within signals sinks = record { bytes = bytes; each = each; signals = signals; sinks = sinks }
 
 -- where each line states something
-all_read : (line : ℕ) (found : List (Option Stated)) → unread line found ≡ None → found ≡ map Some (filter_map (λ s. s) found)
+all_read : (line : ℕ) (found : List (Option Stated)) → unread line found ≡ None
+    → found ≡ map Some (filter_map (λ s. s) found)
 all_read line [] e = refl
 all_read line (None ∷ found) e = let bad : Some line ≡ None = e in cc
 all_read line (Some s ∷ found) e = ap (λ more. Some s ∷ more) (all_read (suc line) found e)
 
-read_all : (line : ℕ) (stated : List Stated) → (unread line (map Some stated) ≡ None) × (filter_map (λ s. s) (map Some stated) ≡ stated)
+read_all : (line : ℕ) (stated : List Stated) → (unread line (map Some stated) ≡ None)
+    × (filter_map (λ s. s) (map Some stated) ≡ stated)
 read_all line [] = (refl, refl)
-read_all line (s ∷ stated) = let more = read_all (suc line) stated in (more.0, ap (λ xs. s ∷ xs) more.1)
+read_all line (s ∷ stated) =
+    let more = read_all (suc line) stated in (more.0, ap (λ xs. s ∷ xs) more.1)
 
 -- the plain reader's answer is that of the relations
 answered : (text : List ℕ) → IsAnswer text (answer_text text)
 answered text =
-    cond_both (nat_lt max_bytes (length text)) (Err (TooLarge Bytes)) (answer_read (map stated_of (lines text))) (IsAnswer text)
-    (λ e. ltb-true max_bytes (length text) e) (λ e. go (ltb-false max_bytes (length text) e) (unread 1 (map stated_of (lines text))) refl)
+    cond_both _ _ _ (IsAnswer text) (λ e. ltb-true _ _ e)
+    (λ e. go (ltb-false _ _ e) (unread 1 (map stated_of (lines text))) refl)
   where
     go : length text ≤ max_bytes → (o : Option ℕ) → unread 1 (map stated_of (lines text)) ≡ o
-        → IsAnswer text (line_or Syntax o (answer_stated (filter_map (λ s. s) (map stated_of (lines text)))))
-    go bytes None e = by_limits text (filter_map (λ s. s) (map stated_of (lines text))) bytes (lines_state text (filter_map (λ s. s) (map stated_of (lines text))) (all_read 1 (map stated_of (lines text)) e))
+        → IsAnswer text
+        (line_or Syntax o (answer_stated (filter_map (λ s. s) (map stated_of (lines text)))))
+    go bytes None e = by_limits text _ bytes (lines_state text _ (all_read 1 _ e))
     go bytes (Some l) e = (bytes, subst (IsFirst (IsSyntaxFault text)) e (syntax_first text))
 
 pub accepted_by : (text : List ℕ) (c : List Statement) → answer_text text ≡ Ok c → IsAccepted text c
 accepted_by text c e = subst (IsAnswer text) e (answered text)
 
-pub refused_by : (text : List ℕ) (fault : BenchFault) → answer_text text ≡ Err fault → IsRefused text fault
+pub refused_by : (text : List ℕ) (fault : BenchFault) → answer_text text ≡ Err fault
+    → IsRefused text fault
 refused_by text fault e = subst (IsAnswer text) e (answered text)
 
-pub some_answer : (text : List ℕ) → ((c : List Statement) × IsAccepted text c) ⊎ ((fault : BenchFault) × IsRefused text fault)
+pub some_answer : (text : List ℕ)
+    → ((c : List Statement) × IsAccepted text c) ⊎ ((fault : BenchFault) × IsRefused text fault)
 some_answer text = go (answer_text text) (answered text)
   where
-    go : (r : Result (List Statement) BenchFault) → IsAnswer text r → ((c : List Statement) × IsAccepted text c) ⊎ ((fault : BenchFault) × IsRefused text fault)
+    go : (r : Result (List Statement) BenchFault) → IsAnswer text r
+        → ((c : List Statement) × IsAccepted text c) ⊎ ((fault : BenchFault) × IsRefused text fault)
     go (Ok c) a = inl (c, a)
     go (Err fault) a = inr (fault, a)
 
 -- ---- and the relations' answer is that of the plain reader, so there is one
 
-found_by : (ls : List (List ℕ)) (stated : List Stated) → AllZip States ls stated → map stated_of ls ≡ map Some stated
+found_by : (ls : List (List ℕ)) (stated : List Stated) → AllZip States ls stated
+    → map stated_of ls ≡ map Some stated
 found_by [] [] all = refl
 found_by [] (s ∷ stated) all = absurd all
 found_by (l ∷ ls) [] all = absurd all
@@ -404,49 +462,61 @@ found_by (l ∷ ls) (s ∷ stated) all =
     let more = found_by ls stated all.1 in
     cc
 
-pub read_answer : (text : List ℕ) → length text ≤ max_bytes → answer_text text ≡ answer_read (map stated_of (lines text))
-read_answer text bytes = cond-false (nat_lt max_bytes (length text)) (Err (TooLarge Bytes)) (answer_read (map stated_of (lines text))) (le-ltb max_bytes (length text) bytes)
+pub read_answer : (text : List ℕ) → length text ≤ max_bytes
+    → answer_text text ≡ answer_read (map stated_of (lines text))
+read_answer text bytes = cond-false _ _ _ (le-ltb _ _ bytes)
 
-pub stated_answer : (text : List ℕ) (stated : List Stated) → length text ≤ max_bytes → map stated_of (lines text) ≡ map Some stated → answer_text text ≡ answer_stated stated
+pub stated_answer : (text : List ℕ) (stated : List Stated) → length text ≤ max_bytes
+    → map stated_of (lines text) ≡ map Some stated → answer_text text ≡ answer_stated stated
 stated_answer text stated bytes each =
     let both = read_all 1 stated in
     read_answer text bytes ∙ ap answer_read each ∙ rw (both.0, both.1) refl
 
-pub within_answer : (c : List Statement) (stated : List Stated) → length (names c) ≤ max_signals → sink_count c ≤ max_sinks → answer_entries c (numbered_from 1 stated) ≡ answer_within c (numbered_from 1 stated)
-within_answer c stated signals sinks = rw (le-ltb max_signals (length (names c)) signals, le-ltb max_sinks (sink_count c) sinks) refl
+pub within_answer : (c : List Statement) (stated : List Stated) → length (names c) ≤ max_signals
+    → sink_count c ≤ max_sinks
+    → answer_entries c (numbered_from 1 stated) ≡ answer_within c (numbered_from 1 stated)
+within_answer c stated signals sinks =
+    rw (le-ltb _ (length (names c)) signals, le-ltb _ (sink_count c) sinks) refl
 
-module _ (text : List ℕ) (stated : List Stated) (within : IsWithin text stated) where
-  answer_is : (r u y : Option ℕ) → IsFirst (IsRedefinition stated) r → IsFirst (IsUndefined stated) u → IsFirst (IsCyclic stated) y
-      → answer_text text ≡ line_or Redefined r (line_or Undefined u (line_or Cycle y (statements_or (statements stated))))
-  answer_is r u y once known acyclic =
-      stated_answer text stated within.bytes (found_by (lines text) stated within.each) ∙ within_answer (statements stated) stated within.signals within.sinks
-      ∙ rw (
-        first_one (IsRedefinition stated) (first_line redefines [] (numbered_from 1 stated)) r (redefined_first stated) once,
-        first_one (IsUndefined stated) (first_line (reads_unknown (names (statements stated))) [] (numbered_from 1 stated)) u (undefined_first stated) known,
-        first_one (IsCyclic stated) (first_line (is_unsettled (statements stated)) [] (numbered_from 1 stated)) y (cyclic_first stated) acyclic,
-      ) refl
+answer_is : (text : List ℕ) (stated : List Stated) → IsWithin text stated → (r u y : Option ℕ)
+    → IsFirst (IsRedefinition stated) r → IsFirst (IsUndefined stated) u
+    → IsFirst (IsCyclic stated) y → answer_text text ≡ answer_by r u y (statements stated)
+answer_is text stated within r u y once known free =
+    stated_answer text stated within.bytes (found_by (lines text) stated within.each)
+    ∙ within_answer (statements stated) stated within.signals within.sinks
+    ∙ ap (λ o. answer_by o (first (reads_unknown (names_of stated)) stated)
+        (first (is_unsettled (statements stated)) stated) (statements stated))
+        (first_one (IsRedefinition stated) _ r (redefined_first stated) once)
+    ∙ ap (λ o. answer_by r o (first (is_unsettled (statements stated)) stated) (statements stated))
+        (first_one (IsUndefined stated) _ u (undefined_first stated) known)
+    ∙ ap (λ o. answer_by r u o (statements stated))
+        (first_one (IsCyclic stated) _ y (cyclic_first stated) free)
 
-  no_line : statements stated ≡ [] → (line : ℕ) (s : Statement) → at_line stated line ≡ Some (Some s) → ⊥
-  no_line none line s at = subst (Among s) none (line_among stated line s at)
-
-exact : (text : List ℕ) (r : Result (List Statement) BenchFault) → IsAnswer text r → answer_text text ≡ r
-exact text (Err (TooLarge Bytes)) h = cond-true (nat_lt max_bytes (length text)) (Err (TooLarge Bytes)) (answer_read (map stated_of (lines text))) (lt-ltb max_bytes (length text) h)
+exact : (text : List ℕ) (r : Result (List Statement) BenchFault) → IsAnswer text r
+    → answer_text text ≡ r
+exact text (Err (TooLarge Bytes)) h = cond-true _ _ _ (lt-ltb _ _ h)
 exact text (Err (Syntax l)) h =
-    read_answer text h.0 ∙ ap (λ o. line_or Syntax o (answer_stated (filter_map (λ s. s) (map stated_of (lines text)))))
-    (first_one (IsSyntaxFault text) (unread 1 (map stated_of (lines text))) (Some l) (syntax_first text) h.1)
+    read_answer text h.0
+    ∙ rw (first_one (IsSyntaxFault text) (unread 1 _) (Some l) (syntax_first text) h.1) refl
 exact text (Err (TooLarge Signals)) h =
-    stated_answer text h.1 h.0 (found_by (lines text) h.1 h.2) ∙ rw (lt-ltb max_signals (length (names (statements h.1))) h.3) refl
+    stated_answer text h.1 h.0 (found_by _ _ h.2) ∙ rw (lt-ltb _ (length (names_of h.1)) h.3) refl
 exact text (Err (TooLarge Sinks)) h =
-    stated_answer text h.1 h.0 (found_by (lines text) h.1 h.2)
-    ∙ rw (le-ltb max_signals (length (names (statements h.1))) h.3, lt-ltb max_sinks (sink_count (statements h.1)) h.4) refl
-exact text (Err (Redefined l)) h = answer_is text h.0 h.1 (Some l) _ _ h.2 (undefined_first h.0) (cyclic_first h.0)
-exact text (Err (Undefined l)) h = answer_is text h.0 h.1 None (Some l) _ h.2 h.3 (cyclic_first h.0)
+    stated_answer text h.1 h.0 (found_by _ _ h.2)
+    ∙ rw (le-ltb _ (length (names_of h.1)) h.3, lt-ltb _ (sink_count (statements h.1)) h.4) refl
+exact text (Err (Redefined l)) h =
+    answer_is text h.0 h.1 (Some l) _ _ h.2 (undefined_first h.0) (cyclic_first h.0)
+exact text (Err (Undefined l)) h =
+    answer_is text h.0 h.1 None (Some l) _ h.2 h.3 (cyclic_first h.0)
 exact text (Err (Cycle l)) h = answer_is text h.0 h.1 None None (Some l) h.2 h.3 h.4
 exact text (Err Empty) h =
-    answer_is text h.0 h.1 None None None (λ l bad. no_line text h.0 h.1 h.2 l bad.2.0 bad.2.1) (λ l bad. no_line text h.0 h.1 h.2 l bad.1.0 bad.1.1)
-    (λ l bad. no_line text h.0 h.1 h.2 l (Gate bad.0 bad.1 bad.2) bad.3) ∙ ap statements_or h.2
+    answer_is text h.0 h.1 None None None (λ l bad. none l bad.2.0 bad.2.1)
+    (λ l bad. none l bad.1.0 bad.1.1) (λ l bad. none l _ bad.3)
+    ∙ ap statements_or h.2
+  where
+    none : (line : ℕ) (s : Statement) → at_line h.0 line ≡ Some (Some s) → ⊥
+    none line s at = subst (Among s) h.2 (line_among h.0 line s at)
 exact text (Err Memory) h = absurd h
-exact text (Ok c) h = subst (λ d. IsWellFormed d → answer_text text ≡ Ok d) (sym h.2) go h.3
+exact text (Ok c) h = rw h.2 (go (rw h.2 at h.3))
   where
     some : (d : List Statement) → d ≢ [] → statements_or d ≡ Ok d
     some [] ne = absurd (ne refl)
@@ -454,11 +524,13 @@ exact text (Ok c) h = subst (λ d. IsWellFormed d → answer_text text ≡ Ok d)
 
     go : IsWellFormed (statements h.0) → answer_text text ≡ Ok (statements h.0)
     go well =
-        answer_is text h.0 h.1 None None None
-        (no_redefinition h.0 (first_distinct [] 1 h.0 (distinct_from_pairs (names (statements h.0)) well.once)))
+        let once = first_distinct [] 1 h.0 (distinct_from_pairs _ well.once) in
+        let number = well.acyclic in
+        answer_is text h.0 h.1 None None None (no_redefinition h.0 once)
         (no_undefined h.0 well.all_defined)
-        (λ l bad. none_stuck (statements h.0) well.acyclic.0 well.acyclic.1 bad.4.0 bad.4.1 bad.0 bad.4.2)
+        (λ l bad. none_stuck _ number.0 number.1 bad.4.0 bad.4.1 bad.0 bad.4.2)
         ∙ some (statements h.0) well.some
 
-pub one_answer : (text : List ℕ) (r s : Result (List Statement) BenchFault) → IsAnswer text r → IsAnswer text s → r ≡ s
+pub one_answer : (text : List ℕ) (r s : Result (List Statement) BenchFault)
+    → IsAnswer text r → IsAnswer text s → r ≡ s
 one_answer text r s a b = sym (exact text r a) ∙ exact text s b
