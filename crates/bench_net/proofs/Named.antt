@@ -14,10 +14,10 @@ use Rattle.bench_net.specs.Scan.{signal, name_of, inputs, outputs, cells, source
 use Rattle.bench_net.specs.Stored.{name_at, statement_of, statements_of, defined_numbers, AreNumbered}
 use Rattle.bench_net.specs.Tables.{input_number, output_number, cell_numbers, defined_number, defines_number, AreDefinitions}
 use Rattle.bench_net.specs.Marks.{gate_pins, line_pins}
-use Rattle.lists.proofs.Members.{Among, contained}
+use Rattle.lists.proofs.Members.{Among, contained, among_filter}
 use Rattle.bench_net.proofs.Checked.{same_bytes, bytes_refl}
 use Rattle.bench_net.proofs.Numbers.{signal-name_of}
-use Rattle.lists.proofs.Places.{placed, within_place}
+use Rattle.lists.proofs.Places.{placed, within_place, at_place, from_mapped}
 
 -- names that are numbered, each once
 pub record AreNamed (ns : List Name) (lines : List Line) : Type 0 where
@@ -108,50 +108,42 @@ definers_are ns (line.Output s ∷ lines) = definers_are ns lines
 definers_are ns (line.Gate s g ∷ lines) = ap (λ xs. Gate (name_at ns s) g.kind (map (name_at ns) g.pins.items) ∷ xs) (definers_are ns lines)
 definers_are ns (line.Dff q d ∷ lines) = ap (λ xs. Dff (name_at ns q) (name_at ns d) ∷ xs) (definers_are ns lines)
 
+numbers_of : (lines : List Line)
+    → map defined_number (filter defines_number lines) ≡ map Some (flat_map defined_numbers lines)
+numbers_of [] = refl
+numbers_of (line.Input s ∷ lines) = ap (λ xs. Some s ∷ xs) (numbers_of lines)
+numbers_of (line.Output s ∷ lines) = numbers_of lines
+numbers_of (line.Gate s g ∷ lines) = ap (λ xs. Some s ∷ xs) (numbers_of lines)
+numbers_of (line.Dff q d ∷ lines) = ap (λ xs. Some q ∷ xs) (numbers_of lines)
+
 definer_count : (lines : List Line) → length (filter defines_number lines) ≡ length (flat_map defined_numbers lines)
-definer_count [] = refl
-definer_count (line.Input s ∷ lines) = ap suc (definer_count lines)
-definer_count (line.Output s ∷ lines) = definer_count lines
-definer_count (line.Gate s g ∷ lines) = ap suc (definer_count lines)
-definer_count (line.Dff q d ∷ lines) = ap suc (definer_count lines)
+definer_count lines =
+    sym (length-map (filter defines_number lines) defined_number) ∙ ap length (numbers_of lines)
+    ∙ length-map (flat_map defined_numbers lines) Some
 
 -- a line that defines a signal stands at that signal's place among those that do
-definer_at : (lines : List Line) (i s : ℕ) (l : Line) → slice_get (filter defines_number lines) i ≡ Some l → slice_get (flat_map defined_numbers lines) i ≡ Some s → defined_number l ≡ Some s
-definer_at [] i s l e d = let bad : None ≡ Some l = e in cc
-definer_at (line.Input t ∷ lines) zero s l e d = let both : Some (line.Input t) ≡ Some l = e in let is : line.Input t ≡ l = cc in let num : Some t ≡ Some s = d in sym (ap defined_number is) ∙ num
-definer_at (line.Input t ∷ lines) (suc i) s l e d = definer_at lines i s l e d
-definer_at (line.Output t ∷ lines) i s l e d = definer_at lines i s l e d
-definer_at (line.Gate t g ∷ lines) zero s l e d = let both : Some (line.Gate t g) ≡ Some l = e in let is : line.Gate t g ≡ l = cc in let num : Some t ≡ Some s = d in sym (ap defined_number is) ∙ num
-definer_at (line.Gate t g ∷ lines) (suc i) s l e d = definer_at lines i s l e d
-definer_at (line.Dff q d' ∷ lines) zero s l e d = let both : Some (line.Dff q d') ≡ Some l = e in let is : line.Dff q d' ≡ l = cc in let num : Some q ≡ Some s = d in sym (ap defined_number is) ∙ num
-definer_at (line.Dff q d' ∷ lines) (suc i) s l e d = definer_at lines i s l e d
-
--- a line that defines a signal is among those that do
-definer_among : (lines : List Line) (l : Line) (s : ℕ) → Among l lines → defined_number l ≡ Some s → Among l (filter defines_number lines)
-definer_among [] l s a d = absurd a
-definer_among (m ∷ lines) l s (inl e) d = rw (ap (λ x. is_some (defined_number x)) e ∙ ap is_some d) (inl e)
-definer_among (line.Input t ∷ lines) l s (inr a) d = inr (definer_among lines l s a d)
-definer_among (line.Output t ∷ lines) l s (inr a) d = definer_among lines l s a d
-definer_among (line.Gate t g ∷ lines) l s (inr a) d = inr (definer_among lines l s a d)
-definer_among (line.Dff q d' ∷ lines) l s (inr a) d = inr (definer_among lines l s a d)
+pub number_place : (ns : List Name) (lines : List Line) (i : ℕ) (l : Line) → AreNumbered ns lines
+    → slice_get (filter defines_number lines) i ≡ Some l → defined_number l ≡ Some i
+number_place ns lines i l numbered e =
+    let at = slice_get-map defined_number (filter defines_number lines) i ∙ ap (option_map defined_number) e in
+    let n = from_mapped Some (flat_map defined_numbers lines) i (defined_number l)
+        (ap (λ xs. slice_get xs i) (sym (numbers_of lines)) ∙ at) in
+    sym n.2 ∙ ap Some (numbered.in_order i n.0 n.1)
 
 -- the line of each signal, and the signal of each line
-pub line_of : (ns : List Name) (lines : List Line) (s : ℕ) → AreNumbered ns lines → s < length ns → (l : Line) × (slice_get (filter defines_number lines) s ≡ Some l) × (defined_number l ≡ Some s)
+pub line_of : (ns : List Name) (lines : List Line) (s : ℕ) → AreNumbered ns lines → s < length ns
+    → (l : Line) × (slice_get (filter defines_number lines) s ≡ Some l) × (defined_number l ≡ Some s)
 line_of ns lines s numbered lt =
     let l = within_place (filter defines_number lines) s (omega (arith, lt, definer_count lines, numbered.count)) in
-    let n = within_place (flat_map defined_numbers lines) s (omega (arith, lt, numbered.count)) in
-    (l.0, l.1, definer_at lines s n.0 l.0 l.1 n.1 ∙ ap Some (numbered.in_order s n.0 n.1))
+    (l.0, l.1, number_place ns lines s l.0 numbered l.1)
 
-pub only_line : (ns : List Name) (lines : List Line) (l : Line) (s : ℕ) → AreNumbered ns lines → Among l lines → defined_number l ≡ Some s → slice_get (filter defines_number lines) s ≡ Some l
+pub only_line : (ns : List Name) (lines : List Line) (l : Line) (s : ℕ) → AreNumbered ns lines
+    → Among l lines → defined_number l ≡ Some s → slice_get (filter defines_number lines) s ≡ Some l
 only_line ns lines l s numbered a d =
-    let at = placed (filter defines_number lines) l (definer_among lines l s a d) in
-    let i : ℕ = at.0 in
-    let lt : i < length (filter defines_number lines) = slice_get_within (filter defines_number lines) i l at.1 in
-    let n = within_place (flat_map defined_numbers lines) i (omega (arith, lt, definer_count lines)) in
-    let both : Some n.0 ≡ Some s = sym (definer_at lines i n.0 l at.1 n.1) ∙ d in
-    let same : n.0 ≡ s = cc in
-    let place : s ≡ i = sym same ∙ numbered.in_order i n.0 n.1 in
-    ap (slice_get (filter defines_number lines)) place ∙ at.1
+    let at = placed (filter defines_number lines) l (among_filter defines_number lines l a (ap is_some d)) in
+    let both : Some at.0 ≡ Some s = sym (number_place ns lines at.0 l numbered at.1) ∙ d in
+    let same : at.0 ≡ s = cc in
+    rw same at at.1
 
 -- a defined number is below the number of names
 pub defined_below : (ns : List Name) (lines : List Line) (l : Line) (s : ℕ) → AreNumbered ns lines → Among l lines → defined_number l ≡ Some s → s < length ns
@@ -160,12 +152,6 @@ defined_below ns lines l s numbered a d =
 
 -- ---- the table of definitions
 
-some_same : {X : Type 0} (o : Option X) (p : Option X) → option_map Some o ≡ option_map Some p → o ≡ p
-some_same None None e = refl
-some_same None (Some y) e = let bad : None ≡ Some (Some y) = e in cc
-some_same (Some x) None e = let bad : Some (Some x) ≡ None = e in cc
-some_same (Some x) (Some y) e = let both : Some (Some x) ≡ Some (Some y) = e in cc
-
 pub definition_count : (ns : List Name) (lines : List Line) (places : List ℕ) → AreNumbered ns lines → AreDefinitions lines places → length places ≡ length ns
 definition_count ns lines places numbered are =
     sym (length-map places (slice_get lines)) ∙ (ap length are ∙ (length-map (filter defines_number lines) Some ∙ (definer_count lines ∙ numbered.count)))
@@ -173,14 +159,10 @@ definition_count ns lines places numbered are =
 -- the line at the place of a signal's definition
 pub placed_line : (lines : List Line) (places : List ℕ) (s : ℕ) → AreDefinitions lines places → s < length places → slice_get lines (slice_index places s) ≡ slice_get (filter defines_number lines) s
 placed_line lines places s are lt =
-    let left : slice_get (map (slice_get lines) places) s ≡ Some (slice_get lines (slice_index places s)) = slice_get-map (slice_get lines) places s ∙ ap (option_map (slice_get lines)) (slice_get-get_or places s 0 lt) in
-    let right : slice_get (map Some (filter defines_number lines)) s ≡ option_map Some (slice_get (filter defines_number lines) s) = slice_get-map Some (filter defines_number lines) s in
-    let both : Some (slice_get lines (slice_index places s)) ≡ option_map Some (slice_get (filter defines_number lines) s) = sym left ∙ (ap (λ xs. slice_get xs s) are ∙ right) in
-    go (slice_get (filter defines_number lines) s) both
-  where
-    go : (o : Option Line) → Some (slice_get lines (slice_index places s)) ≡ option_map Some o → slice_get lines (slice_index places s) ≡ o
-    go None e = let bad : Some (slice_get lines (slice_index places s)) ≡ None = e in cc
-    go (Some l) e = let same : Some (slice_get lines (slice_index places s)) ≡ Some (Some l) = e in cc
+    let e = slice_get-map (slice_get lines) places s ∙ ap (option_map (slice_get lines)) (slice_get-get_or places s 0 lt) in
+    let p = from_mapped Some (filter defines_number lines) s (slice_get lines (slice_index places s))
+        (ap (λ xs. slice_get xs s) (sym are) ∙ e) in
+    sym p.2 ∙ sym p.1
 
 -- the line that defines a signal, by the table
 pub line_at : (ns : List Name) (lines : List Line) (places : List ℕ) (s : ℕ) → AreNumbered ns lines → AreDefinitions lines places → s < length ns
@@ -202,24 +184,26 @@ no_pins ns lines places s l numbered are a d none =
     ap line_pins (placed_line lines places s are (omega (arith, lt, definition_count ns lines places numbered are)) ∙ only_line ns lines l s numbered a d) ∙ none
 
 -- the gate line of a signal with pins
-pub gate_at : (ns : List Name) (lines : List Line) (places : List ℕ) (s : ℕ) (pins : List ℕ) → AreNumbered ns lines → AreDefinitions lines places → s < length ns → gate_pins lines places s ≡ Some pins
-    → (gate : GateLine) × Among (line.Gate s gate) lines × (gate.pins.items ≡ pins)
-gate_at ns lines places s pins numbered are lt is =
+pub gate_line_at : (ns : List Name) (lines : List Line) (places : List ℕ) (s : ℕ) (pins : List ℕ)
+    → AreNumbered ns lines → AreDefinitions lines places → s < length ns → gate_pins lines places s ≡ Some pins
+    → (gate : GateLine) × (slice_get lines (slice_index places s) ≡ Some (line.Gate s gate)) × (gate.pins.items ≡ pins)
+gate_line_at ns lines places s pins numbered are lt is =
     let l = line_at ns lines places s numbered are lt in
     go l.0 l.1 l.2 (sym (ap line_pins l.1) ∙ is)
   where
-    go : (l : Line) → slice_get lines (slice_index places s) ≡ Some l → defined_number l ≡ Some s → line_pins (Some l) ≡ Some pins → (gate : GateLine) × Among (line.Gate s gate) lines × (gate.pins.items ≡ pins)
+    go : (l : Line) → slice_get lines (slice_index places s) ≡ Some l → defined_number l ≡ Some s → line_pins (Some l) ≡ Some pins
+        → (gate : GateLine) × (slice_get lines (slice_index places s) ≡ Some (line.Gate s gate)) × (gate.pins.items ≡ pins)
     go (line.Input t) e d p = let bad : None ≡ Some pins = p in cc
     go (line.Output t) e d p = let bad : None ≡ Some pins = p in cc
     go (line.Dff q t) e d p = let bad : None ≡ Some pins = p in cc
     go (line.Gate t g) e d p =
-        let num : Some t ≡ Some s = d in
         let t_is : t ≡ s = cc in
-        let both : Some g.pins.items ≡ Some pins = p in
         let same : g.pins.items ≡ pins = cc in
-        (g, subst (λ u. Among (line.Gate u g) lines) t_is (in_list lines (slice_index places s) (line.Gate t g) e), same)
-      where
-        in_list : (xs : List Line) (i : ℕ) (x : Line) → slice_get xs i ≡ Some x → Among x xs
-        in_list [] i x h = let bad : None ≡ Some x = h in cc
-        in_list (y ∷ xs) zero x h = let both : Some y ≡ Some x = h in let same : y ≡ x = cc in inl same
-        in_list (y ∷ xs) (suc i) x h = inr (in_list xs i x h)
+        (g, e ∙ ap (λ u. Some (line.Gate u g)) t_is, same)
+
+pub gate_at : (ns : List Name) (lines : List Line) (places : List ℕ) (s : ℕ) (pins : List ℕ)
+    → AreNumbered ns lines → AreDefinitions lines places → s < length ns → gate_pins lines places s ≡ Some pins
+    → (gate : GateLine) × Among (line.Gate s gate) lines × (gate.pins.items ≡ pins)
+gate_at ns lines places s pins numbered are lt is =
+    let g = gate_line_at ns lines places s pins numbered are lt is in
+    (g.0, at_place lines (slice_index places s) (line.Gate s g.0) g.1, g.2)
