@@ -30,23 +30,32 @@ use Rattle.bench_net.proofs.Words.{names_utf8}
 
 -- the refusal of a pass is that of the text
 pass_refused : (text : List ℕ) (refusal : ℕ → BenchFault) (first : Option ℕ) (fault : BenchFault)
-    → ((line : ℕ) → first ≡ Some line → IsRefused text (refusal line)) → EndsPass refusal first fault → (fault ≡ Memory) ⊎ IsRefused text fault
+    → ((line : ℕ) → first ≡ Some line → IsRefused text (refusal line))
+        → EndsPass refusal first fault → (fault ≡ Memory) ⊎ IsRefused text fault
 pass_refused text refusal first fault h (inl e) = inl e
 pass_refused text refusal first fault h (inr p) = inr (rw p.2 (h p.0 p.1))
 
-pub syntax : (text : List ℕ) → length text ≤ 16777216 → (fault : BenchFault) → EndsPass Syntax (unread 1 (map stated_of (lines text))) fault → (fault ≡ Memory) ⊎ IsRefused text fault
-syntax text bytes fault = pass_refused text Syntax (unread 1 (map stated_of (lines text))) fault (λ line e. refused_by text (Syntax line) (read_answer text bytes ∙ rw e refl))
+pub syntax : (text : List ℕ) → length text ≤ 16777216 → (fault : BenchFault)
+    → EndsPass Syntax (unread 1 (map stated_of (lines text))) fault
+    → (fault ≡ Memory) ⊎ IsRefused text fault
+syntax text bytes fault =
+    pass_refused text Syntax (unread 1 (map stated_of (lines text))) fault
+    (λ line e. refused_by text (Syntax line) (read_answer text bytes ∙ rw e refl))
 
 -- the names that statements give
-names_by : (f : Statement → List Name) (stated : List StatedLine) → flat_map (λ line. f (stands_for line.statement)) stated ≡ flat_map f (stated_by (entries_of stated))
+names_by : (f : Statement → List Name) (stated : List StatedLine)
+    → flat_map (λ line. f (stands_for line.statement)) stated ≡ flat_map f
+    (stated_by (entries_of stated))
 names_by f [] = refl
 names_by f (l ∷ stated) = ap (λ ns. f (stands_for l.statement) ++ ns) (names_by f stated)
 
-module _ (text : List ℕ) (stated : List StatedLine) (h : HaveEntries (lines text) (entries_of stated)) (bytes : length text ≤ 16777216) where
+module _ (text : List ℕ) (stated : List StatedLine)
+    (h : HaveEntries (lines text) (entries_of stated)) (bytes : length text ≤ 16777216) where
   same_statements : stated_by (entries_of stated) ≡ statements h.stated
   same_statements = ap stated_by h.same ∙ statements_numbered 1 h.stated
 
-  same : (f : Statement → List Name) → flat_map (λ line. f (stands_for line.statement)) stated ≡ flat_map f (statements h.stated)
+  same : (f : Statement → List Name)
+      → flat_map (λ line. f (stands_for line.statement)) stated ≡ flat_map f (statements h.stated)
   same f = names_by f stated ∙ ap (flat_map f) same_statements
 
   each : LinesState text h.stated
@@ -56,47 +65,75 @@ module _ (text : List ℕ) (stated : List StatedLine) (h : HaveEntries (lines te
   pub too_many_signals : ¬ (length (names_in stated) ≤ 1000000) → IsRefused text (TooLarge Signals)
   too_many_signals more = (bytes, h.stated, each, omega (arith, more, ap length (same defined)))
 
-  pub too_many_sinks : length (names_in stated) ≤ 1000000 → ¬ (length (reads_in stated) ≤ 4000000) → IsRefused text (TooLarge Sinks)
-  too_many_sinks signals more = (bytes, h.stated, each, omega (arith, signals, ap length (same defined)), omega (arith, more, ap length (same read)))
+  pub too_many_sinks : length (names_in stated) ≤ 1000000 → ¬ (length (reads_in stated) ≤ 4000000)
+      → IsRefused text (TooLarge Sinks)
+  too_many_sinks signals more =
+      (bytes, h.stated, each, omega (arith, signals, ap length (same
+      defined)), omega (arith, more, ap length (same read)))
 
   -- the defined names are UTF-8
   pub all_utf8 : (ns : List Name) → ns ≡ names_in stated → All IsUtf8 ns
   all_utf8 ns all k d below =
       names_utf8 (lines text) h.stated each (slice_index_or ns k d)
-      (subst (Among (slice_index_or ns k d)) (all ∙ same defined) (among ns (slice_index_or ns k d) (Contains-get_or ns k d below)))
+      (subst (Among (slice_index_or ns k d)) (all ∙ same defined)
+          (among _ _ (Contains-get_or ns k d below)))
 
-  module _ (signals : length (names_in stated) ≤ 1000000) (sinks : length (reads_in stated) ≤ 4000000) where
+  module _ (signals : length (names_in stated) ≤ 1000000)
+      (sinks : length (reads_in stated) ≤ 4000000) where
     within : IsWithin text h.stated
-    within = record { bytes = bytes; each = each; signals = omega (arith, signals, ap length (same defined)); sinks = omega (arith, sinks, ap length (same read)) }
+    within =
+        record { bytes = bytes; each = each; signals =
+        omega (arith, signals, ap length (same defined)); sinks =
+        omega (arith, sinks, ap length (same read)) }
 
     answer : answer_text text ≡ answer_within (statements h.stated) (entries_of stated)
     answer =
-        stated_answer text h.stated bytes h.each ∙ within_answer (statements h.stated) h.stated within.signals within.sinks
+        stated_answer text h.stated bytes h.each
+            ∙ within_answer (statements h.stated) h.stated within.signals within.sinks
         ∙ ap (answer_within (statements h.stated)) (sym h.same)
 
-    pub redefined : (fault : BenchFault) → EndsPass Redefined (first_line redefines [] (entries_of stated)) fault → (fault ≡ Memory) ⊎ IsRefused text fault
-    redefined fault = pass_refused text Redefined (first_line redefines [] (entries_of stated)) fault (λ line e. refused_by text (Redefined line) (answer ∙ rw e refl))
+    pub redefined : (fault : BenchFault)
+        → EndsPass Redefined (first_line redefines [] (entries_of stated)) fault
+        → (fault ≡ Memory) ⊎ IsRefused text fault
+    redefined fault =
+        pass_refused text Redefined (first_line redefines [] (entries_of stated)) fault
+        (λ line e. refused_by text (Redefined line) (answer ∙ rw e refl))
 
-    module _ (once : first_line redefines [] (entries_of stated) ≡ None) (ns : List Name) (all : ns ≡ names_in stated) where
-      pub undefined : (fault : BenchFault) → EndsPass Undefined (first_line (reads_unknown ns) [] (entries_of stated)) fault → (fault ≡ Memory) ⊎ IsRefused text fault
-      undefined fault = pass_refused text Undefined (first_line (reads_unknown ns) [] (entries_of stated)) fault
-          (λ line e. refused_by text (Undefined line) (answer ∙ rw (once, ← same defined, ← all, e) refl))
+    module _ (once : first_line redefines [] (entries_of stated) ≡ None) (ns : List Name)
+        (all : ns ≡ names_in stated) where
+      pub undefined : (fault : BenchFault)
+          → EndsPass Undefined (first_line (reads_unknown ns) [] (entries_of stated)) fault
+          → (fault ≡ Memory) ⊎ IsRefused text fault
+      undefined fault =
+          pass_refused text Undefined (first_line (reads_unknown ns) [] (entries_of stated)) fault
+          (λ line e. refused_by text (Undefined line)
+              (answer ∙ rw (once, ← same defined, ← all, e) refl))
 
       -- the numbered lines are those of the text
-      pub assembled : first_line (reads_unknown ns) [] (entries_of stated) ≡ None → (ls : List Line) (at : List ℕ) → AreNumberedLines ns stated ls → at ≡ map (λ line. line.number) stated
+      pub assembled : first_line (reads_unknown ns) [] (entries_of stated) ≡ None
+          → (ls : List Line) (at : List ℕ) → AreNumberedLines ns stated ls
+          → at ≡ map (λ line. line.number) stated
           → AreLinesOf text ns ls at
       assembled known ls at numbered numbers = record {
         stated = h.stated;
         within = within;
         no_redefinition = no_redefinition h.stated none;
-        no_undefined = subst (IsFirst (IsUndefined h.stated)) none_unknown (undefined_first h.stated);
+        no_undefined =
+            subst (IsFirst (IsUndefined h.stated)) none_unknown (undefined_first h.stated);
         numbered = record {
-          in_order = λ i s e. let e = subst (λ xs. slice_get xs i ≡ Some s) numbered.own e in in_order (length (names_in stated)) i s e;
-          count = ap length numbered.own ∙ length-range_with_len 0 (length (names_in stated)) ∙ sym (ap length all);
-          in_range = λ s inside. All-contains (λ number. number < length ns) (flat_map read_numbers ls) s numbered.in_range inside;
-          names_are = ap (flat_map defined) (numbered.stand ∙ by_entries stated) ∙ sym (names_by defined stated) ∙ sym all;
+          in_order = λ i s e. let e = subst (λ xs. slice_get xs i ≡ Some s) numbered.own e in
+              in_order (length (names_in stated)) i s e;
+          count =
+              ap length numbered.own ∙ length-range_with_len 0 (length (names_in stated))
+              ∙ sym (ap length all);
+          in_range =
+              λ s inside. All-contains (λ number. number < length ns)
+              (flat_map read_numbers ls) s numbered.in_range inside;
+          names_are =
+              ap (flat_map defined) (numbered.stand ∙ by_entries stated)
+              ∙ sym (names_by defined stated) ∙ sym all;
         };
-        once = rw (all, same defined) (pairs_distinct (names (statements h.stated)) (distinct_first [] 1 h.stated tt none));
+        once = rw (all, same defined) (pairs_distinct _ (distinct_first [] 1 h.stated tt none));
         lines_are = numbered.stand ∙ by_entries stated ∙ ap stated_by h.same;
         at_are = numbers ∙ numbers_by stated ∙ ap (map (λ entry. entry.0)) h.same;
       }
@@ -104,18 +141,21 @@ module _ (text : List ℕ) (stated : List StatedLine) (h : HaveEntries (lines te
           none : first_line redefines [] (numbered_from 1 h.stated) ≡ None
           none = rw h.same at once
 
-          none_unknown : first_line (reads_unknown (names (statements h.stated))) [] (numbered_from 1 h.stated) ≡ None
+          none_unknown : first_line (reads_unknown (names (statements h.stated))) []
+              (numbered_from 1 h.stated) ≡ None
           none_unknown = rw (← h.same, ← same defined, ← all) known
 
           in_order : (n i s : ℕ) → slice_get (range_with_len 0 n) i ≡ Some s → s ≡ i
           in_order n i s e =
               let below = slice_get_within (range_with_len 0 n) i s e in
-              omega (arith, below, length-range_with_len 0 n, get_or_from_slice_get (range_with_len 0 n) i s 0 e, get_or-range_with_len 0 n i 0)
+              omega (arith, below, length-range_with_len 0 n, get_or_from_slice_get (range_with_len
+                  0 n) i s 0 e, get_or-range_with_len 0 n i 0)
 
           by_entries : (ls : List StatedLine) → statements_in ls ≡ stated_by (entries_of ls)
           by_entries [] = refl
           by_entries (l ∷ ls) = ap (λ c. stands_for l.statement ∷ c) (by_entries ls)
 
-          numbers_by : (ls : List StatedLine) → map (λ line. line.number) ls ≡ map (λ entry. entry.0) (entries_of ls)
+          numbers_by : (ls : List StatedLine)
+              → map (λ line. line.number) ls ≡ map (λ entry. entry.0) (entries_of ls)
           numbers_by [] = refl
           numbers_by (l ∷ ls) = ap (λ ns. l.number ∷ ns) (numbers_by ls)

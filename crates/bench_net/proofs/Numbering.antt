@@ -3,6 +3,7 @@ use Rattle.std.proofs.Common.{◌≡◌, ◌<◌, ◌+◌, ℕ, zero, suc, refl,
 use Rattle.std.specs.Prelude.{Contains, Option, Some, flat_map, Result, Ok, Err, IfErr}
 use Rattle.std.specs.List.{All, list_all, range_with_len}
 use Rattle.std.specs.Str.{IsUtf8}
+use Rattle.std.proofs.Math.Nat.{zero-add}
 use Rattle.std.proofs.lemmas.Bool.{and_from}
 use Rattle.std.proofs.lemmas.List.{map-append, map_push, take_more}
 use Rattle.std.proofs.lemmas.List.Concat.{flat_map-append}
@@ -28,8 +29,10 @@ if_err (Ok x) P h = tt
 if_err (Err e) P h = h e
 
 -- a fault of a line is want of memory, or ends the pass
-pub ends_pass : (f : LineFault) (refusal : ℕ → BenchFault) (first : Option ℕ) (line : ℕ) (answer : BenchFault)
-    → answer ≡ or_refusal f (refusal line) → (f ≡ stop.Refused → first ≡ Some line) → EndsPass refusal first answer
+pub ends_pass : (f : LineFault) (refusal : ℕ → BenchFault) (first : Option ℕ) (line : ℕ)
+    (answer : BenchFault)
+    → answer ≡ or_refusal f (refusal line) → (f ≡ stop.Refused → first ≡ Some line)
+        → EndsPass refusal first answer
 ends_pass stop.Refused refusal first line answer e h = inr (line, h refl, e)
 ends_pass stop.Memory refusal first line answer e h = inl e
 
@@ -39,17 +42,24 @@ name_behind [] back n = refl
 name_behind (m ∷ front) back n = name_behind front back n
 
 -- the number of the name that a line defines is that of the names before it
-pub next_for : (stated : List StatedLine) (i : ℕ) (line : StatedLine) → i < length stated → line ≡ get_or stated i line
+pub next_for : (stated : List StatedLine) (i : ℕ) (line : StatedLine) → i < length stated
+    → line ≡ get_or stated i line
     → IsNextFor (names_in stated) (length (names_in (take i stated))) (stands_for line.statement)
 next_for stated i line h e = go (defined_few (stands_for line.statement))
   where
-    whole : names_in stated ≡ names_in (take i stated) ++ (defined_of line ++ names_in (drop (suc i) stated))
-    whole = ap names_in (at_item stated i line h e) ∙ flat_map-append defined_of (take i stated) (line ∷ drop (suc i) stated)
+    whole : names_in stated ≡ names_in (take i stated) ++
+        (defined_of line ++ names_in (drop (suc i) stated))
+    whole =
+        ap names_in (at_item stated i line h e)
+        ∙ flat_map-append defined_of (take i stated) (line ∷ drop (suc i) stated)
 
     go : (defined_of line ≡ []) ⊎ ((n : Name) × (defined_of line ≡ n ∷ []))
-        → IsNextFor (names_in stated) (length (names_in (take i stated))) (stands_for line.statement)
+        → IsNextFor (names_in stated) (length (names_in (take i stated)))
+            (stands_for line.statement)
     go (inl none) = rw none refl
-    go (inr one) = rw (whole, one.1) (ap (λ n. n ∷ []) (name_behind (names_in (take i stated)) (names_in (drop (suc i) stated)) one.0))
+    go (inr one) =
+        rw (whole, one.1) (ap (λ n. n ∷ [])
+        (name_behind (names_in (take i stated)) (names_in (drop (suc i) stated)) one.0))
 
 range_more : (a n : ℕ) → range_with_len a (n + 1) ≡ range_with_len a n ++ (a + n) ∷ []
 range_more a n = rw (add-one n) (go a n)
@@ -60,49 +70,72 @@ range_more a n = rw (add-one n) (go a n)
         ap (λ xs. a ∷ xs) (go (a + 1) n ∙ ap (λ k. range_with_len (a + 1) n ++ k ∷ []) e)
 
 -- one more line, numbered
-pub numbered_more : (ns : List Name) (stated : List StatedLine) (lines : List Line) (i : ℕ) (new : StatedLine) (l : Line) (next : ℕ)
-    → i < length stated → new ≡ get_or stated i new → AreNumberedLines ns (take i stated) lines → next ≡ length (names_in (take i stated))
-    → IsNumberedLine ns next (stands_for new.statement) l → AreNumberedLines ns (take (i + 1) stated) (lines ++ l ∷ [])
+pub numbered_more : (ns : List Name) (stated : List StatedLine) (lines : List Line) (i : ℕ)
+    (new : StatedLine) (l : Line) (next : ℕ) → i < length stated → new ≡ get_or stated i new
+    → AreNumberedLines ns (take i stated) lines → next ≡ length (names_in (take i stated))
+    → IsNumberedLine ns next (stands_for new.statement) l
+    → AreNumberedLines ns (take (i + 1) stated) (lines ++ l ∷ [])
 numbered_more ns stated lines i new l next h e so_far count one = record {
-  stand = map_push (statement_of ns) lines l ∙ rw (so_far.stand, one.stands) (sym (ap (map (λ x. stands_for x.statement)) items ∙ map_push (λ x. stands_for x.statement) (take i stated) new));
-  own = flat_map-append defined_numbers lines (l ∷ []) ∙ rw (append-nil (defined_numbers l), so_far.own, one.own, count) (go (defined_few (stands_for new.statement)));
-  in_range = subst (All (λ number. number < length ns)) (sym (flat_map-append read_numbers lines (l ∷ []) ∙ ap (λ ks. flat_map read_numbers lines ++ ks) (append-nil (read_numbers l))))
-      (All-append (λ number. number < length ns) (flat_map read_numbers lines) (read_numbers l) so_far.in_range one.in_range);
+  stand = map_push (statement_of ns) lines l ∙ rw (so_far.stand, one.stands, items)
+      (sym (map_push (λ x. stands_for x.statement) (take i stated) new));
+  own =
+      more defined_numbers ∙ rw (so_far.own, one.own) (go (defined_few (stands_for new.statement)));
+  in_range = rw (more read_numbers) (All-append below _ _ so_far.in_range one.in_range);
 }
   where
+    below : ℕ → Type 0
+    below number = number < length ns
+
     items : take (i + 1) stated ≡ take i stated ++ new ∷ []
     items = take_more stated i new h ∙ ap (λ x. take i stated ++ x ∷ []) (sym e)
 
+    more : (f : Line → List ℕ) → flat_map f (lines ++ l ∷ []) ≡ flat_map f lines ++ f l
+    more f =
+        flat_map-append f lines (l ∷ []) ∙ ap (λ ks. flat_map f lines ++ ks) (append-nil (f l))
+
     go : (defined_of new ≡ []) ⊎ ((n : Name) × (defined_of new ≡ n ∷ []))
-        → range_with_len 0 (length (names_in (take i stated))) ++ map (λ n. length (names_in (take i stated))) (defined_of new) ≡ range_with_len 0 (length (names_in (take (i + 1) stated)))
-    go (inl none) = rw (names_more stated i new h e defined_of, none, append-nil, append-nil) refl
+        → range_with_len 0 (length (names_in (take i stated))) ++ map (λ n. next) (defined_of new)
+        ≡ range_with_len 0 (length (names_in (take (i + 1) stated)))
+    go (inl none) =
+        rw (names_more stated i new h e defined_of, none) (rw append-nil (rw append-nil refl))
     go (inr some) =
-        rw (names_more stated i new h e defined_of, some.1, length-append (names_in (take i stated)) (some.0 ∷ []), range_more 0 (length (names_in (take i stated))))
-        (let z : length (names_in (take i stated)) ≡ 0 + length (names_in (take i stated)) = omega arith in ap (λ j. range_with_len 0 (length (names_in (take i stated))) ++ j ∷ []) z)
+        rw (names_more stated i new h e defined_of, some.1, length-append, range_more, count,
+            zero-add) refl
 
 -- the names that a stored line reads are those of its numbers
-reads_of : (ns : List Name) (l : Line) → read (statement_of ns l) ≡ map (name_at ns) (read_numbers l)
+reads_of : (ns : List Name) (l : Line)
+    → read (statement_of ns l) ≡ map (name_at ns) (read_numbers l)
 reads_of ns (line.Input s) = refl
 reads_of ns (line.Output s) = refl
 reads_of ns (line.Gate s gate) = refl
 reads_of ns (line.Dff q d) = refl
 
-pub reads_numbers : (ns : List Name) (lines : List Line) → flat_map read (statements_of ns lines) ≡ map (name_at ns) (flat_map read_numbers lines)
+pub reads_numbers : (ns : List Name) (lines : List Line)
+    → flat_map read (statements_of ns lines) ≡ map (name_at ns) (flat_map read_numbers lines)
 reads_numbers ns [] = refl
-reads_numbers ns (l ∷ lines) = rw (reads_of ns l, reads_numbers ns lines) (sym (map-append (name_at ns) (read_numbers l) (flat_map read_numbers lines)))
+reads_numbers ns (l ∷ lines) =
+    rw (reads_of ns l, reads_numbers ns lines)
+    (sym (map-append (name_at ns) (read_numbers l) (flat_map read_numbers lines)))
 
 -- each name that a numbered line reads is among the names
-pub all_known : (ns : List Name) (next : ℕ) (s : Statement) (l : Line) → IsNumberedLine ns next s l → list_all (is_in ns) (read s) ≡ true
+pub all_known : (ns : List Name) (next : ℕ) (s : Statement) (l : Line) → IsNumberedLine ns next s l
+    → list_all (is_in ns) (read s) ≡ true
 all_known ns next s l h = rw (← h.stands, reads_of ns l) (go (read_numbers l) h.in_range)
   where
-    go : (ks : List ℕ) → All (λ k. k < length ns) ks → list_all (is_in ns) (map (name_at ns) ks) ≡ true
+    go : (ks : List ℕ) → All (λ k. k < length ns) ks
+        → list_all (is_in ns) (map (name_at ns) ks) ≡ true
     go [] all = refl
     go (k ∷ ks) all =
-        and_from (is_in ns (name_at ns k)) (list_all (is_in ns) (map (name_at ns) ks))
-        (among_in ns (name_at ns k) (among ns (name_at ns k) (Contains-get_or ns k [] (All-head (λ m. m < length ns) k ks all))))
+        and_from _ _
+        (among_in ns (name_at ns k)
+            (among ns (name_at ns k)
+            (Contains-get_or ns k [] (All-head (λ m. m < length ns) k ks all))))
         (go ks (All-tail (λ m. m < length ns) k ks all))
 
 -- a name that is still to come
-pub utf8_in_rest : (done ns : List Name) (n : Name) (rest : List Name) → done ++ (n ∷ rest) ≡ ns → All IsUtf8 ns → IsUtf8 n
+pub utf8_in_rest : (done ns : List Name) (n : Name) (rest : List Name) → done ++ (n ∷ rest) ≡ ns
+    → All IsUtf8 ns → IsUtf8 n
 utf8_in_rest done ns n rest e all =
-    All-contains IsUtf8 ns n all (subst (λ ms. Contains ms n) e (Contains-append_right done (n ∷ rest) n (0, omega arith, refl)))
+    All-contains IsUtf8 ns n all
+        (subst (λ ms. Contains ms n) e
+        (Contains-append_right done (n ∷ rest) n (0, omega arith, refl)))

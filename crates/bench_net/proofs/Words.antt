@@ -29,17 +29,22 @@ all_ascii (b ∷ w) e =
     All-cons (λ c. c < 128) b w (word_ascii b p.0) (all_ascii w p.1)
 
 -- the name that a statement of a line defines is a word of the line
-defined_word : (line : List ℕ) (s : Statement) (n : Name) → States line (Some s) → Among n (defined s) → list_all is_word_byte n ≡ true
-defined_word line (Input m) n h (inl e) = let spells = subst (Spells line) h.2.2 h.1 in rw e at spells.6.6.4.1
-defined_word line (Gate m kind args) n h (inl e) = let spells = subst (Spells line) h.2.3 h.1 in rw e at spells.4.1
-defined_word line (Dff q d) n h (inl e) = let spells = subst (Spells line) h.2.2 h.1 in rw e at spells.4.1
+defined_word : (line : List ℕ) (s : Statement) (n : Name) → States line (Some s)
+    → Among n (defined s) → list_all is_word_byte n ≡ true
+defined_word line (Input m) n h (inl e) = let spells = subst (Spells line) h.2.2 h.1 in
+    rw e at spells.6.6.4.1
+defined_word line (Gate m kind args) n h (inl e) = let spells = subst (Spells line) h.2.3 h.1 in
+    rw e at spells.4.1
+defined_word line (Dff q d) n h (inl e) = let spells = subst (Spells line) h.2.2 h.1 in
+    rw e at spells.4.1
 defined_word line (Input m) n h (inr a) = absurd a
 defined_word line (Output m) n h a = absurd a
 defined_word line (Gate m kind args) n h (inr a) = absurd a
 defined_word line (Dff q d) n h (inr a) = absurd a
 
 -- the line that states something
-states_at : (ls : List (List ℕ)) (stated : List (Option Statement)) (i : ℕ) (s : Option Statement) → AllZip States ls stated → slice_get stated i ≡ Some s
+states_at : (ls : List (List ℕ)) (stated : List (Option Statement)) (i : ℕ) (s : Option Statement)
+    → AllZip States ls stated → slice_get stated i ≡ Some s
     → (line : List ℕ) × States line s
 states_at ls [] i s all at = let bad : None ≡ Some s = at in cc
 states_at [] (t ∷ stated) i s all at = absurd all
@@ -47,7 +52,8 @@ states_at (l ∷ ls) (t ∷ stated) zero s all at = let e : t ≡ s = cc in (l, 
 states_at (l ∷ ls) (t ∷ stated) (suc i) s all at = states_at ls stated i s all.1 at
 
 -- each name that the lines define is UTF-8
-pub names_utf8 : (ls : List (List ℕ)) (stated : List (Option Statement)) → AllZip States ls stated → (n : Name) → Among n (names (statements stated)) → IsUtf8 n
+pub names_utf8 : (ls : List (List ℕ)) (stated : List (Option Statement)) → AllZip States ls stated
+    → (n : Name) → Among n (names (statements stated)) → IsUtf8 n
 names_utf8 ls stated each n inside =
     let s = joined_from defined (statements stated) n inside in
     let place = stated_at stated s.0 s.1 in
