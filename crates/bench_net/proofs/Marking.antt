@@ -1,20 +1,22 @@
--- Marks of signals: how a search for levels begins, and what keeps them right.
-use Rattle.std.proofs.Common.{◌≡◌, ◌≢◌, ◌<◌, ◌≤◌, ◌+◌, ℕ, zero, suc, max, sym, ◌∙◌, ap, subst, refl, cond, Bool, false, List, [], ◌∷◌, map, length, get_or, set, arith, inl, inr, ◌⊎◌}
-use Rattle.std.specs.Prelude.{Option, Some, None, slice_get, Contains, count_by, fold, unwrap_or}
-use Rattle.std.proofs.lemmas.Bool.{cases_eq}
-use Rattle.std.proofs.lemmas.List.{get_or-set_same, length-set, set-get_or}
-use Rattle.std.proofs.lemmas.List.Sums.{sum_by-set}
-use Rattle.std.proofs.lemmas.Option.{slice_get-get_or, slice_get_within}
-use Rattle.bench_net.specs.declared.line.Line.{Line}
+-- Levels, and the marks of a search for them.
+use Rattle.std.proofs.Common.{◌≡◌, ◌≢◌, ◌<◌, ◌≤◌, ◌+◌, ℕ, zero, suc, max, sym, ◌∙◌, ap, subst, refl, cond, true, not, List, [], ◌∷◌, ◌++◌, map, length, get_or, set, filter, arith, inl, inr, ◌⊎◌}
+use Rattle.std.specs.Prelude.{Option, Some, None, slice_get, slice_index, Contains, count_by, fold, unwrap_or}
+use Rattle.std.specs.List.{enumerate_from}
+use Rattle.std.proofs.lemmas.Bool.{cases_eq, cases_lt}
+use Rattle.std.proofs.lemmas.List.{same_lists, length-map, length-set, length_push, get_or-map, get_or_append_left, get_or_push, get_or_default}
+use Rattle.std.proofs.lemmas.List.Sums.{fold_push, sum_by-set, count_by-le-length}
+use Rattle.std.proofs.lemmas.List.Elements.{Contains-get_or, Contains-push_cases}
+use Rattle.std.proofs.lemmas.Option.{slice_get_within, get_or_from_slice_get, slice_get-get_or}
 use Rattle.bench_net.specs.declared.levels.Mark.{Mark}
-use Rattle.bench_net.specs.declared.levels.Mark.TheVariants.{Unvisited, Open, Level}
+use Rattle.bench_net.specs.declared.levels.Mark.TheVariants.{Waits, Level}
+use Rattle.bench_net.specs.declared.levels.LevelFault.{LevelFault}
+use Rattle.bench_net.specs.declared.levels.LevelFault.TheVariants.{Memory, Cycle}
+use Rattle.bench_net.specs.declared.Sink.{Sink}
+use Rattle.bench_net.specs.declared.Sink.TheVariants.{Pin}
 use Rattle.bench_net.specs.Level.{greatest}
-use Rattle.bench_net.specs.Marks.{line_pins, mark_from, level_of_mark, marked_level, has_level, IsLevelled, level_or_zero, level_from, PinsLevelled, AreMarks, NoneOpen, KeepsLevels}
-use Rattle.lists.proofs.Members.{Among, contained}
-
--- the mark of the line at a place, before any gate is followed
-abbrev pub first_mark : List Line → ℕ → Mark
-first_mark lines place = mark_from (line_pins (slice_get lines place))
+use Rattle.bench_net.specs.Marks.{mark_from, HavePins, level_from, AreLevelsOf, HasPinIn, IsLevelFault, AreReaders, row_of, HasLevelAt, of_source, of_gate, HaveLevelsUpTo, IsMark, has_level, height, AreMarks, IsLevelled, WaitsAt, IsSearch, IsNextMark, IsFirstWaiting}
+use Rattle.lists.proofs.Members.{Among, among, contained, among_filter, filtered_from, among_map, mapped_from}
+use Rattle.lists.proofs.Places.{among_numbered, numbered_at, within_place}
 
 -- ---- the greatest of some numbers
 
@@ -25,233 +27,6 @@ fold_max a (x ∷ xs) = omega (arith, fold_max (max a x) xs, fold_max (max 0 x) 
 pub greatest-cons : (x : ℕ) (xs : List ℕ) → greatest (x ∷ xs) ≡ max x (greatest xs)
 greatest-cons x xs = omega (arith, fold_max (max 0 x) xs)
 
-pub greatest-above : (f : ℕ → ℕ) (xs : List ℕ) (x : ℕ) → Among x xs → f x ≤ greatest (map f xs)
-greatest-above f [] x a = absurd a
-greatest-above f (y ∷ xs) x (inl e) = omega (arith, greatest-cons (f y) (map f xs), ap f e)
-greatest-above f (y ∷ xs) x (inr a) = omega (arith, greatest-cons (f y) (map f xs), greatest-above f xs x a)
-
-pub greatest-least : (f : ℕ → ℕ) (xs : List ℕ) (m : ℕ) → ((x : ℕ) → Among x xs → f x ≤ m) → greatest (map f xs) ≤ m
-greatest-least f [] m h = omega arith
-greatest-least f (y ∷ xs) m h =
-    omega (arith, greatest-cons (f y) (map f xs), h y (inl refl), greatest-least f xs m (λ x a. h x (inr a)))
-
-pub map-same : (f g : ℕ → ℕ) (xs : List ℕ) → ((x : ℕ) → Among x xs → f x ≡ g x) → map f xs ≡ map g xs
-map-same f g [] h = refl
-map-same f g (x ∷ xs) h = let first = h x (inl refl) in let rest = map-same f g xs (λ y a. h y (inr a)) in cc
-
--- ---- what a mark says
-
-pub marked_is : (marks : List Mark) (i : ℕ) → i < length marks → marked_level marks i ≡ level_of_mark (Some (get_or marks i Unvisited))
-marked_is marks i h = ap level_of_mark (slice_get-get_or marks i Unvisited h)
-
-pub marked_within : (marks : List Mark) (s k : ℕ) → marked_level marks s ≡ Some k → s < length marks
-marked_within [] s k e = let bad : None ≡ Some k = e in cc
-marked_within (m ∷ marks) zero k e = omega arith
-marked_within (m ∷ marks) (suc s) k e = omega (arith, marked_within marks s k e)
-
--- the mark of a signal with a level
-pub marked_at : (marks : List Mark) (s k : ℕ) → marked_level marks s ≡ Some k → get_or marks s Unvisited ≡ Level k
-marked_at [] s k e = let bad : None ≡ Some k = e in cc
-marked_at (Unvisited ∷ marks) zero k e = let bad : None ≡ Some k = e in cc
-marked_at (Open ∷ marks) zero k e = let bad : None ≡ Some k = e in cc
-marked_at (Level j ∷ marks) zero k e = let same : Some j ≡ Some k = e in let is : j ≡ k = cc in ap Level is
-marked_at (m ∷ marks) (suc s) k e = marked_at marks s k e
-
-pub unmarked_at : (m : Mark) → level_of_mark (Some m) ≡ None → has_level m ≡ false
-unmarked_at Unvisited e = refl
-unmarked_at Open e = refl
-unmarked_at (Level k) e = let bad : Some k ≡ None = e in cc
-
--- the mark of a signal after a write
-pub marked_set : (marks : List Mark) (g : ℕ) (m : Mark) → g < length marks → marked_level (set marks g m) g ≡ level_of_mark (Some m)
-marked_set marks g m h =
-    marked_is (set marks g m) g (omega (arith, length-set marks g m)) ∙ ap (λ x. level_of_mark (Some x)) (get_or-set_same marks g m Unvisited h)
-
-pub read_set : (marks : List Mark) (g : ℕ) (m : Mark) (s : ℕ) → s ≢ g → slice_get (set marks g m) s ≡ slice_get marks s
-read_set [] g m s ne = refl
-read_set (x ∷ marks) zero m zero ne = absurd (ne refl)
-read_set (x ∷ marks) zero m (suc s) ne = refl
-read_set (x ∷ marks) (suc g) m zero ne = refl
-read_set (x ∷ marks) (suc g) m (suc s) ne = read_set marks g m s (λ e. ne (ap suc e))
-
-level_from-same : (marks later : List Mark) (o : Option (List ℕ)) → KeepsLevels marks later → PinsLevelled marks o → level_from (level_or_zero later) o ≡ level_from (level_or_zero marks) o
-level_from-same marks later None keeps levelled = refl
-level_from-same marks later (Some pins) keeps levelled =
-    ap (λ ls. 1 + greatest ls) (map-same (level_or_zero later) (level_or_zero marks) pins (λ p a. one p (levelled p (contained pins p a))))
-  where
-    one : (p : ℕ) → IsLevelled marks p → level_or_zero later p ≡ level_or_zero marks p
-    one p l = ap (λ o. unwrap_or o 0) (keeps p l.0 l.1 ∙ sym l.1)
-
-levelled_later : (marks later : List Mark) (o : Option (List ℕ)) → KeepsLevels marks later → PinsLevelled marks o → PinsLevelled later o
-levelled_later marks later None keeps levelled = tt
-levelled_later marks later (Some pins) keeps levelled = λ p c. let l = levelled p c in (l.0, keeps p l.0 l.1)
-
--- a level of the later marks is one of the earlier, or the level of this gate, whose pins have levels
-abbrev WasOrIs : (ℕ → Option (List ℕ)) → List Mark → ℕ → ℕ → ℕ → Type 0
-WasOrIs pins marks g s k = (marked_level marks s ≡ Some k) ⊎ ((s ≡ g) × (k ≡ level_from (level_or_zero marks) (pins g)) × PinsLevelled marks (pins g))
-
-later_marks : (pins : ℕ → Option (List ℕ)) (n : ℕ) (marks later : List Mark) (g : ℕ) → AreMarks pins n marks → KeepsLevels marks later → length later ≡ n
-    → ((s k : ℕ) → marked_level later s ≡ Some k → WasOrIs pins marks g s k)
-    → ((s k : ℕ) → marked_level later s ≡ Some k → k ≤ count_by has_level later)
-    → ((s : ℕ) → marked_level later s ≡ None → marked_level marks s ≡ None) → AreMarks pins n later
-later_marks pins n marks later g are keeps len was small none = record {
-  count = len;
-  pins_levelled = λ s l. levelled_later marks later (pins s) keeps (pins_of s l.0 (was s l.0 l.1));
-  levels = λ s k e. level_is s k (was s k e);
-  small = small;
-  gates = λ s lt e. are.gates s lt (none s e);
-}
-  where
-    pins_of : (s k : ℕ) → WasOrIs pins marks g s k → PinsLevelled marks (pins s)
-    pins_of s k (inl e) = are.pins_levelled s (k, e)
-    pins_of s k (inr h) = subst (λ x. PinsLevelled marks (pins x)) (sym h.0) h.2
-
-    level_is : (s k : ℕ) → WasOrIs pins marks g s k → k ≡ level_from (level_or_zero later) (pins s)
-    level_is s k (inl e) = are.levels s k e ∙ sym (level_from-same marks later (pins s) keeps (are.pins_levelled s (k, e)))
-    level_is s k (inr h) = h.1 ∙ (sym (level_from-same marks later (pins g) keeps h.2) ∙ ap (λ x. level_from (level_or_zero later) (pins x)) (sym h.0))
-
-abbrev pub one_if : Bool → ℕ
-one_if b = cond b 1 0
-
--- how many have a level after a write
-pub count_set : (test : Mark → Bool) (marks : List Mark) (g : ℕ) (m : Mark) → g < length marks
-    → count_by test (set marks g m) + one_if (test (get_or marks g Unvisited)) ≡ count_by test marks + one_if (test m)
-count_set test marks g m h = sum_by-set (λ x. cond (test x) 1 0) marks g m Unvisited h
-
--- ---- opening a gate with no level changes no level
-
-pub open_keeps : (marks : List Mark) (g s : ℕ) → g < length marks → marked_level marks g ≡ None → marked_level (set marks g Open) s ≡ marked_level marks s
-open_keeps marks g s h none = go (cases_eq s g)
-  where
-    go : (s ≡ g) ⊎ (s ≡ g → ⊥) → marked_level (set marks g Open) s ≡ marked_level marks s
-    go (inl e) = rw e (marked_set marks g Open h ∙ sym none)
-    go (inr ne) = ap level_of_mark (read_set marks g Open s ne)
-
-pub opened : (pins : ℕ → Option (List ℕ)) (n : ℕ) (marks : List Mark) (g : ℕ) → AreMarks pins n marks → g < n → marked_level marks g ≡ None → AreMarks pins n (set marks g Open)
-opened pins n marks g are lt none =
-    let within : g < length marks = omega (arith, are.count) in
-    let same = λ (s : ℕ). open_keeps marks g s within none in
-    let off : has_level (get_or marks g Unvisited) ≡ false = unmarked_at (get_or marks g Unvisited) (sym (marked_is marks g within) ∙ none) in
-    let counts : count_by has_level (set marks g Open) ≡ count_by has_level marks = omega (arith, count_set has_level marks g Open within, ap one_if off) in
-    later_marks pins n marks (set marks g Open) g are (λ s k e. same s ∙ e) (length-set marks g Open ∙ are.count)
-    (λ s k e. inl (sym (same s) ∙ e))
-    (λ s k e. omega (arith, counts, are.small s k (sym (same s) ∙ e)))
-    (λ s e. sym (same s) ∙ e)
-
--- ---- giving a gate its level
-
--- the level of a gate whose pins have levels
-pub level_small : (pins : ℕ → Option (List ℕ)) (n : ℕ) (marks : List Mark) (read : List ℕ) → AreMarks pins n marks → ((p : ℕ) → Contains read p → IsLevelled marks p)
-    → greatest (map (level_or_zero marks) read) ≤ count_by has_level marks
-level_small pins n marks read are levelled =
-    greatest-least (level_or_zero marks) read (count_by has_level marks) (λ p a. one p (levelled p (contained read p a)))
-  where
-    one : (p : ℕ) → IsLevelled marks p → level_or_zero marks p ≤ count_by has_level marks
-    one p l = omega (arith, ap (λ o. unwrap_or o 0) l.1, are.small p l.0 l.1)
-
-finish_new : (pins : ℕ → Option (List ℕ)) (n : ℕ) (marks : List Mark) (g k : ℕ) (read : List ℕ) → AreMarks pins n marks → g < n → pins g ≡ Some read
-    → ((p : ℕ) → Contains read p → IsLevelled marks p) → k ≡ 1 + greatest (map (level_or_zero marks) read) → marked_level marks g ≡ None
-    → AreMarks pins n (set marks g (Level k)) × KeepsLevels marks (set marks g (Level k))
-finish_new pins n marks g k read are lt is levelled level none = (later_marks pins n marks later g are keeps (length-set marks g (Level k) ∙ are.count) was small gone, keeps)
-  where
-    later : List Mark
-    later = set marks g (Level k)
-
-    within : g < length marks
-    within = omega (arith, are.count)
-
-    here : marked_level (set marks g (Level k)) g ≡ Some k
-    here = marked_set marks g (Level k) within
-
-    keeps : KeepsLevels marks (set marks g (Level k))
-    keeps s j e = ap level_of_mark (read_set marks g (Level k) s (λ same. let bad : Some j ≡ None = sym e ∙ (ap (marked_level marks) same ∙ none) in cc)) ∙ e
-
-    all : PinsLevelled marks (pins g)
-    all = rw is levelled
-
-    is_level : k ≡ level_from (level_or_zero marks) (pins g)
-    is_level = rw is level
-
-    was : (s j : ℕ) → marked_level (set marks g (Level k)) s ≡ Some j → WasOrIs pins marks g s j
-    was s j e = go (cases_eq s g)
-      where
-        go : (s ≡ g) ⊎ (s ≡ g → ⊥) → WasOrIs pins marks g s j
-        go (inl same) = let both : Some k ≡ Some j = sym here ∙ (ap (marked_level (set marks g (Level k))) (sym same) ∙ e) in let eq : j ≡ k = cc in inr (same, eq ∙ is_level, all)
-        go (inr ne) = inl (sym (ap level_of_mark (read_set marks g (Level k) s ne)) ∙ e)
-
-    counts : count_by has_level (set marks g (Level k)) ≡ count_by has_level marks + 1
-    counts =
-        let off : has_level (get_or marks g Unvisited) ≡ false = unmarked_at (get_or marks g Unvisited) (sym (marked_is marks g within) ∙ none) in
-        omega (arith, count_set has_level marks g (Level k) within, ap one_if off)
-
-    small : (s j : ℕ) → marked_level (set marks g (Level k)) s ≡ Some j → j ≤ count_by has_level (set marks g (Level k))
-    small s j e = go (was s j e)
-      where
-        go : WasOrIs pins marks g s j → j ≤ count_by has_level (set marks g (Level k))
-        go (inl old) = omega (arith, counts, are.small s j old)
-        go (inr h) = omega (arith, counts, level, h.1, is_level, level_small pins n marks read are levelled)
-
-    gone : (s : ℕ) → marked_level (set marks g (Level k)) s ≡ None → marked_level marks s ≡ None
-    gone s e = go (cases_eq s g)
-      where
-        go : (s ≡ g) ⊎ (s ≡ g → ⊥) → marked_level marks s ≡ None
-        go (inl same) = ap (marked_level marks) same ∙ none
-        go (inr ne) = sym (ap level_of_mark (read_set marks g (Level k) s ne)) ∙ e
-
-pub finished : (pins : ℕ → Option (List ℕ)) (n : ℕ) (marks : List Mark) (g k : ℕ) (read : List ℕ) → AreMarks pins n marks → g < n → pins g ≡ Some read
-    → ((p : ℕ) → Contains read p → IsLevelled marks p) → k ≡ 1 + greatest (map (level_or_zero marks) read)
-    → AreMarks pins n (set marks g (Level k)) × KeepsLevels marks (set marks g (Level k))
-finished pins n marks g k read are lt is levelled level = go (marked_level marks g) refl
-  where
-    go : (o : Option ℕ) → marked_level marks g ≡ o → AreMarks pins n (set marks g (Level k)) × KeepsLevels marks (set marks g (Level k))
-    go None e = finish_new pins n marks g k read are lt is levelled level e
-    go (Some j) e =
-        let same : j ≡ k = are.levels g j e ∙ (ap (level_from (level_or_zero marks)) is ∙ sym level) in
-        let at : get_or marks g Unvisited ≡ Level k = marked_at marks g j e ∙ ap Level same in
-        let whole : set marks g (Level k) ≡ marks = ap (set marks g) (sym at) ∙ set-get_or marks g Unvisited in
-        (subst (AreMarks pins n) (sym whole) are, λ s i h. ap (λ ms. marked_level ms s) whole ∙ h)
-
--- ---- the first marks
-
-pub first_are : (pins : ℕ → Option (List ℕ)) (n : ℕ) (marks : List Mark) → length marks ≡ n → ((s : ℕ) → s < n → slice_get marks s ≡ Some (mark_from (pins s))) → AreMarks pins n marks
-first_are pins n marks len at = record {
-  count = len;
-  pins_levelled = λ s l. levelled s l.0 (pins s) (is s l.0 l.1);
-  levels = λ s k e. level s k (pins s) (is s k e);
-  small = λ s k e. small s k (pins s) (is s k e) (in_range s k e) e;
-  gates = λ s lt e. gate s (pins s) refl (sym (ap level_of_mark (at s lt)) ∙ e);
-}
-  where
-    in_range : (s k : ℕ) → marked_level marks s ≡ Some k → s < n
-    in_range s k e = omega (arith, len, marked_within marks s k e)
-
-    is : (s k : ℕ) → marked_level marks s ≡ Some k → level_of_mark (Some (mark_from (pins s))) ≡ Some k
-    is s k e = sym (ap level_of_mark (at s (in_range s k e))) ∙ e
-
-    levelled : (s k : ℕ) (o : Option (List ℕ)) → level_of_mark (Some (mark_from o)) ≡ Some k → PinsLevelled marks o
-    levelled s k None e = tt
-    levelled s k (Some read) e = let bad : None ≡ Some k = e in cc
-
-    level : (s k : ℕ) (o : Option (List ℕ)) → level_of_mark (Some (mark_from o)) ≡ Some k → k ≡ level_from (level_or_zero marks) o
-    level s k None e = let same : Some 0 ≡ Some k = e in cc
-    level s k (Some read) e = let bad : None ≡ Some k = e in cc
-
-    small : (s k : ℕ) (o : Option (List ℕ)) → level_of_mark (Some (mark_from o)) ≡ Some k → s < n → marked_level marks s ≡ Some k → k ≤ count_by has_level marks
-    small s k None e lt m = let same : Some 0 ≡ Some k = e in let none : 0 ≡ k = cc in omega arith
-    small s k (Some read) e lt m = let bad : None ≡ Some k = e in cc
-
-    gate : (s : ℕ) (o : Option (List ℕ)) → o ≡ o → level_of_mark (Some (mark_from o)) ≡ None → (read : List ℕ) × (o ≡ Some read)
-    gate s None r e = let bad : ◌≡◌ {A = Option ℕ} (Some 0) None = e in cc
-    gate s (Some read) r e = (read, refl)
-
-pub first_closed : (pins : ℕ → Option (List ℕ)) (n : ℕ) (marks : List Mark) → length marks ≡ n → ((s : ℕ) → s < n → slice_get marks s ≡ Some (mark_from (pins s))) → NoneOpen marks
-first_closed pins n marks len at s e = go (pins s) (sym (at s (omega (arith, len, slice_get_within marks s Open e))) ∙ e)
-  where
-    go : (o : Option (List ℕ)) → Some (mark_from o) ≡ Some Open → ⊥
-    go None h = cc
-    go (Some read) h = cc
-
--- the greatest of some numbers, by their places
 pub greatest-at : (xs : List ℕ) (i : ℕ) → i < length xs → get_or xs i 0 ≤ greatest xs
 greatest-at [] i h = absurd (omega (arith, h))
 greatest-at (x ∷ xs) zero h = omega (arith, greatest-cons x xs)
@@ -259,4 +34,292 @@ greatest-at (x ∷ xs) (suc i) h = omega (arith, greatest-cons x xs, greatest-at
 
 pub greatest-within : (xs : List ℕ) (m : ℕ) → ((i : ℕ) → i < length xs → get_or xs i 0 ≤ m) → greatest xs ≤ m
 greatest-within [] m h = omega arith
-greatest-within (x ∷ xs) m h = omega (arith, greatest-cons x xs, h 0 (omega arith), greatest-within xs m (λ i lt. h (suc i) (omega (arith, lt))))
+greatest-within (x ∷ xs) m h =
+    omega (arith, greatest-cons x xs, h 0 (omega arith), greatest-within xs m (λ i lt. h (suc i) (omega (arith, lt))))
+
+module _ (pins : ℕ → Option (List ℕ)) where
+  -- ---- a signal has at most one level, and none if it is stuck
+
+  source_level : (s k : ℕ) → HasLevelAt pins s k → pins s ≡ None → k ≡ 0
+  source_level s k (of_source _ _ none is) e = is
+  source_level s k (of_gate _ _ read levels has count each is) e = let bad : None ≡ Some read = sym e ∙ has in cc
+
+  gate_level : (s k : ℕ) (read : List ℕ) → HasLevelAt pins s k → pins s ≡ Some read
+      → (levels : List ℕ) × (length levels ≡ length read) × ((i : ℕ) → i < length read → HasLevelAt pins (slice_index read i) (slice_index levels i)) × (k ≡ 1 + greatest levels)
+  gate_level s k read (of_source _ _ none is) e = let bad : None ≡ Some read = sym none ∙ e in cc
+  gate_level s k read (of_gate _ _ other levels has count each is) e =
+      let both : Some other ≡ Some read = sym has ∙ e in
+      let same : other ≡ read = cc in
+      subst (λ r. (levels : List ℕ) × (length levels ≡ length r) × ((i : ℕ) → i < length r → HasLevelAt pins (slice_index r i) (slice_index levels i)) × (k ≡ 1 + greatest levels)) same (levels, count, each, is)
+
+  pub one_level : (s j k : ℕ) → HasLevelAt pins s j → HasLevelAt pins s k → j ≡ k
+  one_level s j k (of_source _ _ none is) other = is ∙ sym (source_level s k other none)
+  one_level s j k (of_gate _ _ read levels has count each is) other =
+      let o = gate_level s k read other has in
+      let same : levels ≡ o.0 = same_lists levels o.0 (count ∙ sym o.1) (λ i d lt. sym (get_or_default levels i 0 d lt)
+      ∙ (one_level (slice_index read i) (slice_index levels i) (slice_index o.0 i) (each i (omega (arith, lt, count))) (o.2 i (omega (arith, lt, count)))
+      ∙ get_or_default o.0 i 0 d (omega (arith, lt, count, o.1)))) in
+      is ∙ (ap (λ ls. 1 + greatest ls) same ∙ sym o.3)
+
+  pub not_stuck : (members : List ℕ) → ((m : ℕ) → Contains members m → HasPinIn pins members m) → (s k : ℕ) → HasLevelAt pins s k → Contains members s → ⊥
+  not_stuck members stuck s k (of_source _ _ none is) has =
+      let next = stuck s has in
+      let bad : None ≡ Some next.0 = sym none ∙ next.2 in cc
+  not_stuck members stuck s k (of_gate _ _ read levels reads count each is) has =
+      let next = stuck s has in
+      let both : Some next.0 ≡ Some read = sym next.2 ∙ reads in
+      let same : next.0 ≡ read = cc in
+      let at : Contains read next.1 = subst (λ r. Contains r next.1) same next.3 in
+      let p : slice_index read at.0 ≡ next.1 = get_or_default read at.0 0 next.1 at.1 ∙ at.2 in
+      not_stuck members stuck (slice_index read at.0) (slice_index levels at.0) (each at.0 at.1) (subst (Contains members) (sym p) next.4)
+
+  -- signals that all have a level
+  pub levels_are : (n : ℕ) (levels : List ℕ) → ((s p : ℕ) (read : List ℕ) → s < n → pins s ≡ Some read → Contains read p → p < n)
+      → length levels ≡ n → ((s : ℕ) → s < n → HasLevelAt pins s (slice_index levels s)) → AreLevelsOf pins n levels
+  levels_are n levels below count at = record { count = count; each = λ s lt. each s lt (pins s) refl }
+    where
+      each : (s : ℕ) → s < n → (o : Option (List ℕ)) → pins s ≡ o → slice_index levels s ≡ level_from (slice_index levels) (pins s)
+      each s lt None e = source_level s (slice_index levels s) (at s lt) e ∙ sym (ap (level_from (slice_index levels)) e)
+      each s lt (Some read) e =
+          let l = gate_level s (slice_index levels s) read (at s lt) e in
+          let same : l.0 ≡ map (slice_index levels) read = same_lists l.0 (map (slice_index levels) read) (l.1 ∙ sym (length-map read (slice_index levels))) (λ i d i_lt.
+          let in_read : i < length read = omega (arith, i_lt, l.1) in
+          let p : ℕ = slice_index read i in
+          sym (get_or_default l.0 i 0 d i_lt) ∙ (one_level p (slice_index l.0 i) (slice_index levels p) (l.2 i in_read) (at p (below s p read lt e (Contains-get_or read i 0 in_read)))
+          ∙ sym (get_or-map (slice_index levels) read i 0 d in_read))) in
+          l.3 ∙ (ap (λ ls. 1 + greatest ls) same ∙ sym (ap (level_from (slice_index levels)) e))
+
+  -- ---- the pins before a pin
+
+  pub up_to_none : (read : List ℕ) → HaveLevelsUpTo pins read 0 0
+  up_to_none read = record { levels = []; count = refl; each = λ i lt. absurd (omega (arith, lt)); is_greatest = refl }
+
+  pub up_to_more : (read : List ℕ) (pin above k : ℕ) → HaveLevelsUpTo pins read pin above → HasLevelAt pins (slice_index read pin) k → HaveLevelsUpTo pins read (pin + 1) (max above k)
+  up_to_more read pin above k up has = record {
+    levels = up.levels ++ k ∷ [];
+    count = length_push up.levels k ∙ ap (λ n. n + 1) up.count;
+    each = λ i lt. each i lt (cases_lt i pin);
+    is_greatest = ap (λ a. max a k) up.is_greatest ∙ sym (fold_push max 0 up.levels k);
+  }
+    where
+      each : (i : ℕ) → i < pin + 1 → (i < pin) ⊎ (pin ≤ i) → HasLevelAt pins (slice_index read i) (slice_index (up.levels ++ k ∷ []) i)
+      each i lt (inl before) = subst (HasLevelAt pins (slice_index read i)) (sym (get_or_append_left up.levels (k ∷ []) 0 i (omega (arith, before, up.count)))) (up.each i before)
+      each i lt (inr after) =
+          let here : pin ≡ i = omega arith in
+          subst (HasLevelAt pins (slice_index read i)) (sym (get_or_push up.levels k 0 i (up.count ∙ here))) (subst (λ j. HasLevelAt pins (slice_index read j) k) here has)
+
+  -- the marks before any gate is told of a level
+  pub first_are : (n : ℕ) (marks : List Mark) → length marks ≡ n → ((s : ℕ) → s < n → slice_get marks s ≡ Some (mark_from (pins s))) → HavePins pins n → AreMarks pins n marks
+  first_are n marks count at have = record {
+    count = count;
+    each = λ s m e. let lt : s < n = omega (arith, slice_get_within marks s m e, count) in (mark s m lt (pins s) refl (sym (at s lt) ∙ e)).0;
+    small = λ s m e. let lt : s < n = omega (arith, slice_get_within marks s m e, count) in omega (arith, (mark s m lt (pins s) refl (sym (at s lt) ∙ e)).1);
+  }
+    where
+      mark : (s : ℕ) (m : Mark) → s < n → (o : Option (List ℕ)) → pins s ≡ o → Some (mark_from (pins s)) ≡ Some m → IsMark pins s m × (height m ≡ 0)
+      mark s m lt None e is =
+          let both : Some (Level 0) ≡ Some m = sym (ap (λ o. Some (mark_from o)) e) ∙ is in
+          let same : Level 0 ≡ m = cc both in
+          subst (λ x. IsMark pins s x × (height x ≡ 0)) same (of_source s 0 e refl, refl)
+      mark s m lt (Some []) e is = absurd (have s lt e)
+      mark s m lt (Some (p ∷ read)) e is =
+          let both : Some (Waits 0 0) ≡ Some m = sym (ap (λ o. Some (mark_from o)) e) ∙ is in
+          let same : Waits 0 0 ≡ m = cc both in
+          subst (λ x. IsMark pins s x × (height x ≡ 0)) same ((p ∷ read, e, omega arith, up_to_none (p ∷ read)), refl)
+
+  -- what a waiting gate reads
+  pub waits_on : (n : ℕ) (marks : List Mark) (g pin above : ℕ) (read : List ℕ) → AreMarks pins n marks → slice_get marks g ≡ Some (Waits pin above) → read ≡ unwrap_or (pins g) []
+      → (pins g ≡ Some read) × (pin < length read) × HaveLevelsUpTo pins read pin above
+  waits_on n marks g pin above read are waits is =
+      let mark : IsMark pins g (Waits pin above) = are.each g (Waits pin above) waits in
+      let same : mark.0 ≡ read = sym (is ∙ ap (λ o. unwrap_or o []) mark.1) in
+      subst (λ r. (pins g ≡ Some r) × (pin < length r) × HaveLevelsUpTo pins r pin above) same (mark.1, mark.2, mark.3)
+
+  -- ---- a mark is changed
+
+  abbrev pub one_if_level : Mark → ℕ
+  one_if_level m = cond (has_level m) 1 0
+
+  -- how many have a level after a gate that waited has its next mark
+  count_next : (marks : List Mark) (g pin above : ℕ) (m : Mark) → slice_get marks g ≡ Some (Waits pin above) → count_by has_level (set marks g m) ≡ count_by has_level marks + one_if_level m
+  count_next marks g pin above m waits =
+      let old : one_if_level (get_or marks g (Level 0)) ≡ 0 = ap one_if_level (get_or_from_slice_get marks g (Waits pin above) (Level 0) waits) in
+      omega (arith, sum_by-set one_if_level marks g m (Level 0) (slice_get_within marks g (Waits pin above) waits), old)
+
+  pub waits_next : (marks : List Mark) (g pin above at most : ℕ) (read : List ℕ) → slice_get marks g ≡ Some (Waits pin above) → pins g ≡ Some read → at < length read → HaveLevelsUpTo pins read at most
+      → most ≤ count_by has_level marks → (¬ IsLevelled marks (slice_index read at)) → IsNextMark pins marks g (Waits at most)
+  waits_next marks g pin above at most read waits is lt up small none = record {
+    is_mark = (read, is, lt, up);
+    small = omega (arith, count_next marks g pin above (Waits at most) waits);
+    waits = λ i a other e has.
+        let pin_same : at ≡ i = cc in
+        let both : Some read ≡ Some other = sym is ∙ has in
+        let same : read ≡ other = cc in
+        λ l. none (subst (IsLevelled marks) (ap (λ r. slice_index r i) (sym same) ∙ ap (slice_index read) (sym pin_same)) l);
+  }
+
+  pub levelled_next : (marks : List Mark) (g pin above most : ℕ) (read : List ℕ) → slice_get marks g ≡ Some (Waits pin above) → pins g ≡ Some read → HaveLevelsUpTo pins read (length read) most
+      → most ≤ count_by has_level marks → IsNextMark pins marks g (Level (most + 1))
+  levelled_next marks g pin above most read waits is up small = record {
+    is_mark = of_gate g (most + 1) read up.levels is up.count up.each (omega (arith, up.is_greatest));
+    small = omega (arith, count_next marks g pin above (Level (most + 1)) waits);
+    waits = λ i a other e has. let bad : Level (most + 1) ≡ Waits i a = e in cc;
+  }
+
+  -- what stands at a place after a write
+  marked : (marks : List Mark) (g : ℕ) (m : Mark) (s : ℕ) (x : Mark) → slice_get (set marks g m) s ≡ Some x → ((s ≡ g) × (x ≡ m)) ⊎ ((s ≢ g) × (slice_get marks s ≡ Some x))
+  marked [] g m s x e = let bad : None ≡ Some x = e in cc
+  marked (y ∷ marks) zero m zero x e = let both : Some m ≡ Some x = e in let same : x ≡ m = cc in inl (refl, same)
+  marked (y ∷ marks) zero m (suc s) x e = inr ((λ h. omega (arith, h)), e)
+  marked (y ∷ marks) (suc g) m zero x e = inr ((λ h. omega (arith, h)), e)
+  marked (y ∷ marks) (suc g) m (suc s) x e = later (marked marks g m s x e)
+    where
+      later : ((s ≡ g) × (x ≡ m)) ⊎ ((s ≢ g) × (slice_get marks s ≡ Some x)) → ((suc s ≡ suc g) × (x ≡ m)) ⊎ ((suc s ≢ suc g) × (slice_get marks s ≡ Some x))
+      later (inl h) = inl (ap suc h.0, h.1)
+      later (inr h) = inr ((λ same. h.0 (omega (arith, same))), h.1)
+
+  marks_next : (n : ℕ) (marks : List Mark) (g pin above : ℕ) (m : Mark) → AreMarks pins n marks → slice_get marks g ≡ Some (Waits pin above) → IsNextMark pins marks g m → AreMarks pins n (set marks g m)
+  marks_next n marks g pin above m are waits next = record {
+    count = length-set marks g m ∙ are.count;
+    each = λ s x e. each s x (marked marks g m s x e);
+    small = λ s x e. small s x (marked marks g m s x e);
+  }
+    where
+      each : (s : ℕ) (x : Mark) → ((s ≡ g) × (x ≡ m)) ⊎ ((s ≢ g) × (slice_get marks s ≡ Some x)) → IsMark pins s x
+      each s x (inl h) = rw (h.0, h.1) next.is_mark
+      each s x (inr h) = are.each s x h.1
+
+      small : (s : ℕ) (x : Mark) → ((s ≡ g) × (x ≡ m)) ⊎ ((s ≢ g) × (slice_get marks s ≡ Some x)) → height x ≤ count_by has_level (set marks g m)
+      small s x (inl h) = omega (arith, next.small, ap height h.1)
+      small s x (inr h) = omega (arith, are.small s x h.1, count_next marks g pin above m waits)
+
+  -- ---- the search goes on
+
+  -- a sink with no gate that waits for it
+  pub passed : (n : ℕ) (marks : List Mark) (ready : List ℕ) (row : List Sink) (sink : Sink) → IsSearch pins n marks ready (sink ∷ row)
+      → ((g pin above : ℕ) → sink ≡ Pin g pin → slice_get marks g ≡ Some (Waits pin above) → ⊥) → IsSearch pins n marks ready row
+  passed n marks ready row sink state none = record {
+    marks_are = state.marks_are;
+    ready_below = state.ready_below;
+    row_below = λ g i c. state.row_below g i (contained (sink ∷ row) (Pin g i) (inr (among row (Pin g i) c)));
+    told = λ g i p w l. told g i p w (state.told g i p w l);
+  }
+    where
+      told : (g i p : ℕ) → WaitsAt pins marks g i p → Contains ready p ⊎ Contains (sink ∷ row) (Pin g i) → Contains ready p ⊎ Contains row (Pin g i)
+      told g i p w (inl c) = inl c
+      told g i p w (inr c) = at (among (sink ∷ row) (Pin g i) c)
+        where
+          at : Among (Pin g i) (sink ∷ row) → Contains ready p ⊎ Contains row (Pin g i)
+          at (inl e) = absurd (none g i w.0 e w.2)
+          at (inr a) = inr (contained row (Pin g i) a)
+
+  -- a gate that waited has its next mark, and is ready if that is a level
+  pub moved : (n : ℕ) (marks : List Mark) (ready later : List ℕ) (row : List Sink) (g pin above : ℕ) (m : Mark) → IsSearch pins n marks ready (Pin g pin ∷ row) → slice_get marks g ≡ Some (Waits pin above)
+      → IsNextMark pins marks g m → ((s : ℕ) → Contains ready s → Contains later s) → ((s : ℕ) → Contains later s → s < n) → (has_level m ≡ true → Contains later g) → IsSearch pins n (set marks g m) later row
+  moved n marks ready later row g pin above m state waits next grows below has = record {
+    marks_are = marks_next n marks g pin above m state.marks_are waits next;
+    ready_below = below;
+    row_below = λ h i c. state.row_below h i (contained (Pin g pin ∷ row) (Pin h i) (inr (among row (Pin h i) c)));
+    told = λ h i p w l. level h i p w l.0 (marked marks g m p (Level l.0) l.1);
+  }
+    where
+      listed : (h i p : ℕ) → h ≢ g → Contains ready p ⊎ Contains (Pin g pin ∷ row) (Pin h i) → Contains later p ⊎ Contains row (Pin h i)
+      listed h i p ne (inl c) = inl (grows p c)
+      listed h i p ne (inr c) = at (among (Pin g pin ∷ row) (Pin h i) c)
+        where
+          at : Among (Pin h i) (Pin g pin ∷ row) → Contains later p ⊎ Contains row (Pin h i)
+          at (inl e) = let same : h ≡ g = cc in absurd (ne same)
+          at (inr a) = inr (contained row (Pin h i) a)
+
+      wait : (h i p : ℕ) (w : WaitsAt pins (set marks g m) h i p) → IsLevelled marks p → ((h ≡ g) × (Waits i w.0 ≡ m)) ⊎ ((h ≢ g) × (slice_get marks h ≡ Some (Waits i w.0))) → Contains later p ⊎ Contains row (Pin h i)
+      wait h i p w l (inl same) = absurd (next.waits i w.0 w.1 (sym same.1) (ap pins (sym same.0) ∙ w.3) (subst (IsLevelled marks) (sym w.4) l))
+      wait h i p w l (inr old) = listed h i p old.0 (state.told h i p (w.0, w.1, old.1, w.3, w.4) l)
+
+      level : (h i p : ℕ) → WaitsAt pins (set marks g m) h i p → (k : ℕ) → ((p ≡ g) × (Level k ≡ m)) ⊎ ((p ≢ g) × (slice_get marks p ≡ Some (Level k))) → Contains later p ⊎ Contains row (Pin h i)
+      level h i p w k (inl same) = inl (subst (Contains later) (sym same.0) (has (ap has_level (sym same.1))))
+      level h i p w k (inr old) = wait h i p w (k, old.1) (marked marks g m h (Waits i w.0) w.2)
+
+  -- a ready signal is taken to tell its row
+  pub taken : (n : ℕ) (marks : List Mark) (ready rest : List ℕ) (s : ℕ) (starts : List ℕ) (sinks : List Sink) → AreReaders pins n starts sinks → IsSearch pins n marks ready [] → ready ≡ rest ++ s ∷ []
+      → IsSearch pins n marks rest (row_of starts sinks s)
+  taken n marks ready rest s starts sinks readers state is = record {
+    marks_are = state.marks_are;
+    ready_below = λ p c. state.ready_below p (all p (inl (among rest p c)));
+    row_below = λ g i c. readers.gates_below s g i (state.ready_below s (all s (inr refl))) c;
+    told = λ g i p w l. told g i p w (state.told g i p w l);
+  }
+    where
+      all : (p : ℕ) → Among p rest ⊎ (s ≡ p) → Contains ready p
+      all p a = subst (λ xs. Contains xs p) (sym is) (contained (rest ++ s ∷ []) p (put rest a))
+        where
+          put : (xs : List ℕ) → Among p xs ⊎ (s ≡ p) → Among p (xs ++ s ∷ [])
+          put [] (inl b) = absurd b
+          put [] (inr e) = inl e
+          put (x ∷ xs) (inl (inl e)) = inl e
+          put (x ∷ xs) (inl (inr b)) = inr (put xs (inl b))
+          put (x ∷ xs) (inr e) = inr (put xs (inr e))
+
+      told : (g i p : ℕ) → WaitsAt pins marks g i p → Contains ready p ⊎ Contains [] (Pin g i) → Contains rest p ⊎ Contains (row_of starts sinks s) (Pin g i)
+      told g i p w (inr c) = absurd (omega (arith, c.1))
+      told g i p w (inl c) = go (Contains-push_cases rest s p (subst (λ xs. Contains xs p) is c))
+        where
+          in_read : i < length w.1
+          in_read =
+              let mark : IsMark pins g (Waits i w.0) = state.marks_are.each g (Waits i w.0) w.2 in
+              let both : Some mark.0 ≡ Some w.1 = sym mark.1 ∙ w.3 in
+              let same : mark.0 ≡ w.1 = cc both in
+              omega (arith, mark.2, ap length same)
+
+          go : Contains rest p ⊎ (s ≡ p) → Contains rest p ⊎ Contains (row_of starts sinks s) (Pin g i)
+          go (inl old) = inl old
+          go (inr e) = inr (subst (λ q. Contains (row_of starts sinks q) (Pin g i)) (w.4 ∙ sym e) (readers.pins_listed g i w.1 (omega (arith, slice_get_within marks g (Waits i w.0) w.2, state.marks_are.count)) w.3 in_read))
+
+  -- ---- the search is done
+
+  -- the signals whose gates wait
+  waiting : List Mark → List ℕ
+  waiting marks = map (λ at. at.0) (filter (λ at. not (has_level at.1)) (enumerate_from 0 marks))
+
+  in_waiting : (marks : List Mark) (s i a : ℕ) → slice_get marks s ≡ Some (Waits i a) → Among s (waiting marks)
+  unfolding waiting
+  in_waiting marks s i a e = among_map (λ at. at.0) (filter (λ at. not (has_level at.1)) (enumerate_from 0 marks)) (s, Waits i a) (among_filter (λ at. not (has_level at.1)) (enumerate_from 0 marks) (s, Waits i a) (among_numbered marks s (Waits i a) e) refl)
+
+  waits_in : (marks : List Mark) (s : ℕ) → Among s (waiting marks) → (i a : ℕ) × (slice_get marks s ≡ Some (Waits i a))
+  unfolding waiting
+  waits_in marks s b =
+      let at = mapped_from (λ at. at.0) (filter (λ at. not (has_level at.1)) (enumerate_from 0 marks)) s b in
+      let kept = filtered_from (λ at. not (has_level at.1)) (enumerate_from 0 marks) at.0 at.1 in
+      go at.0.1 kept.1 (ap (slice_get marks) (sym at.2) ∙ numbered_at marks at.0 kept.0)
+    where
+      go : (m : Mark) → not (has_level m) ≡ true → slice_get marks s ≡ Some m → (i a : ℕ) × (slice_get marks s ≡ Some (Waits i a))
+      go (Waits i a) off e = (i, a, e)
+      go (Level k) off e = cc
+
+  pub lowest_fault : (n : ℕ) (marks : List Mark) (fault : LevelFault) → ((s p : ℕ) (read : List ℕ) → s < n → pins s ≡ Some read → Contains read p → p < n)
+      → IsSearch pins n marks [] [] → IsFirstWaiting marks fault → IsLevelFault pins n fault
+  lowest_fault n marks Memory below state first = tt
+  lowest_fault n marks (Cycle s) below state first =
+      (omega (arith, first.0, state.marks_are.count), ((waiting marks, stuck, contained (waiting marks) s (here s first.0 first.1)), λ low lt at. free low (first.2 low lt) at))
+    where
+      here : (p : ℕ) → p < length marks → (¬ IsLevelled marks p) → Among p (waiting marks)
+      here p lt none = let m = within_place marks p lt in go m.0 m.1
+        where
+          go : (m : Mark) → slice_get marks p ≡ Some m → Among p (waiting marks)
+          go (Waits i a) e = in_waiting marks p i a e
+          go (Level k) e = absurd (none (k, e))
+
+      stuck : (m : ℕ) → Contains (waiting marks) m → HasPinIn pins (waiting marks) m
+      stuck m c =
+          let w = waits_in marks m (among (waiting marks) m c) in
+          let mark : IsMark pins m (Waits w.0 w.1) = state.marks_are.each m (Waits w.0 w.1) w.2 in
+          let p : ℕ = slice_index mark.0 w.0 in
+          let reads : Contains mark.0 p = Contains-get_or mark.0 w.0 0 mark.2 in
+          let m_lt : m < n = omega (arith, slice_get_within marks m (Waits w.0 w.1) w.2, state.marks_are.count) in
+          (mark.0, p, mark.1, reads, contained (waiting marks) p (here p (omega (arith, below m p mark.0 m_lt mark.1 reads, state.marks_are.count)) (λ l. nowhere (state.told m w.0 p (w.1, mark.0, w.2, mark.1, refl) l))))
+        where
+          nowhere : {A B : Type 0} {x : A} {y : B} → Contains [] x ⊎ Contains [] y → ⊥
+          nowhere (inl c) = omega (arith, c.1)
+          nowhere (inr c) = omega (arith, c.1)
+
+      free : (low : ℕ) → IsLevelled marks low → (at : (members : List ℕ) × ((m : ℕ) → Contains members m → HasPinIn pins members m) × Contains members low) → ⊥
+      free low l at = not_stuck at.0 at.1 low l.0 (state.marks_are.each low (Level l.0) l.1) at.2

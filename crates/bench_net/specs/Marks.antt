@@ -1,11 +1,13 @@
 -- Gates by the numbers of their signals, their levels, and the marks of a search for levels.
-use Rattle.std.specs.Prelude.{◌≡◌, ◌≢◌, ℕ, ◌+◌, ◌<◌, ◌≤◌, ◌^◌, List, map, length, Contains, Option, Some, None, slice_get, slice_index, unwrap_or, count_by, Bool, true, false}
+use Rattle.std.specs.Prelude.{◌≡◌, ℕ, ◌+◌, ◌<◌, ◌≤◌, ◌^◌, List, [], ◌∷◌, ◌++◌, map, length, Contains, Option, Some, None, slice_get, slice_index, slice_range, count_by, set, Bool, true, false, ◌⊎◌}
 use Rattle.bench_net.specs.declared.line.Line.{Line}
 use Rattle.bench_net.specs.declared.line.Line.TheVariants as line
 use Rattle.bench_net.specs.declared.levels.Mark.{Mark}
-use Rattle.bench_net.specs.declared.levels.Mark.TheVariants.{Unvisited, Open, Level}
+use Rattle.bench_net.specs.declared.levels.Mark.TheVariants.{Waits, Level}
 use Rattle.bench_net.specs.declared.levels.LevelFault.{LevelFault}
 use Rattle.bench_net.specs.declared.levels.LevelFault.TheVariants.{Memory, Cycle}
+use Rattle.bench_net.specs.declared.Sink.{Sink}
+use Rattle.bench_net.specs.declared.Sink.TheVariants.{Pin}
 use Rattle.bench_net.specs.Level.{greatest}
 
 -- the numbers that the pins of a gate line read, and None for every other line
@@ -50,51 +52,88 @@ abbrev pub IsLevelFault : (ℕ → Option (List ℕ)) → ℕ → LevelFault →
 IsLevelFault pins signals Memory = Unit {0}
 IsLevelFault pins signals (Cycle s) = (s < signals) × IsLowestStuck pins s
 
--- a cycle is the answer only at this signal, which is stuck
-abbrev pub IsRootFault : (ℕ → Option (List ℕ)) → ℕ → LevelFault → Type 0
-IsRootFault pins root Memory = Unit {0}
-IsRootFault pins root (Cycle s) = (s ≡ root) × IsStuckAt pins root
+-- each gate has a pin
+abbrev pub HavePins : (ℕ → Option (List ℕ)) → ℕ → Type 0
+HavePins pins signals = (s : ℕ) → s < signals → (pins s ≡ Some []) → ⊥
 
--- the level that a mark gives
-abbrev pub level_of_mark : Option Mark → Option ℕ
-level_of_mark (Some (Level k)) = Some k
-level_of_mark _ = None
+-- the readers of a signal
+abbrev pub row_of : List ℕ → List Sink → ℕ → List Sink
+row_of starts sinks s = slice_range sinks (slice_index starts s) (slice_index starts (s + 1))
 
--- the mark of a signal by the pins of its gate, before any gate is followed
-abbrev pub mark_from : Option (List ℕ) → Mark
-mark_from None = Level 0
-mark_from (Some pins) = Unvisited
+-- rows of the readers of signals: each pin stands in the row of the signal that it reads, and each row has pins of gates alone
+pub record AreReaders (pins : ℕ → Option (List ℕ)) (signals : ℕ) (starts : List ℕ) (sinks : List Sink) : Type 0 where
+  pub starts_count : length starts ≡ signals + 1
+  pub in_order : (s : ℕ) → s < signals → slice_index starts s ≤ slice_index starts (s + 1)
+  pub within : (s : ℕ) → s < signals → slice_index starts (s + 1) ≤ length sinks
+  pub pins_listed : (g i : ℕ) (read : List ℕ) → g < signals → pins g ≡ Some read → i < length read → Contains (row_of starts sinks (slice_index read i)) (Pin g i)
+  pub gates_below : (s g i : ℕ) → s < signals → Contains (row_of starts sinks s) (Pin g i) → g < signals
 
-abbrev pub marked_level : List Mark → ℕ → Option ℕ
-marked_level marks s = level_of_mark (slice_get marks s)
+-- a signal has this level: 0 without a gate, and with one more than the greatest level of the signals that its pins read
+pub data HasLevelAt (pins : ℕ → Option (List ℕ)) : ℕ → ℕ → Type 0 where
+  of_source : (s k : ℕ) → pins s ≡ None → k ≡ 0 → HasLevelAt pins s k
+  of_gate : (s k : ℕ) (read levels : List ℕ) → pins s ≡ Some read → length levels ≡ length read
+      → ((i : ℕ) → i < length read → HasLevelAt pins (slice_index read i) (slice_index levels i)) → k ≡ 1 + greatest levels → HasLevelAt pins s k
+
+-- the pins before this one have levels, and this is the greatest
+pub record HaveLevelsUpTo (pins : ℕ → Option (List ℕ)) (read : List ℕ) (pin above : ℕ) : Type 0 where
+  pub levels : List ℕ
+  pub count : length levels ≡ pin
+  pub each : (i : ℕ) → i < pin → HasLevelAt pins (slice_index read i) (slice_index levels i)
+  pub is_greatest : above ≡ greatest levels
+
+-- what a mark says of a signal
+abbrev pub IsMark : (ℕ → Option (List ℕ)) → ℕ → Mark → Type 0
+IsMark pins s (Waits pin above) = (read : List ℕ) × (pins s ≡ Some read) × (pin < length read) × HaveLevelsUpTo pins read pin above
+IsMark pins s (Level k) = HasLevelAt pins s k
 
 abbrev pub has_level : Mark → Bool
+has_level (Waits pin above) = false
 has_level (Level k) = true
-has_level _ = false
 
-abbrev pub IsLevelled : List Mark → ℕ → Type 0
-IsLevelled marks s = (k : ℕ) × (marked_level marks s ≡ Some k)
+-- the level in a mark
+abbrev pub height : Mark → ℕ
+height (Waits pin above) = above
+height (Level k) = k
 
-abbrev pub level_or_zero : List Mark → ℕ → ℕ
-level_or_zero marks s = unwrap_or (marked_level marks s) 0
-
--- all pins of a gate have levels
-abbrev pub PinsLevelled : List Mark → Option (List ℕ) → Type 0
-PinsLevelled marks None = Unit {0}
-PinsLevelled marks (Some pins) = (p : ℕ) → Contains pins p → IsLevelled marks p
-
--- The marked levels are levels of the signals, none above their number; a signal with none is a gate's.
+-- the marks are right, and no level is above the number of signals that have one
 pub record AreMarks (pins : ℕ → Option (List ℕ)) (signals : ℕ) (marks : List Mark) : Type 0 where
   pub count : length marks ≡ signals
-  pub pins_levelled : (s : ℕ) → IsLevelled marks s → PinsLevelled marks (pins s)
-  pub levels : (s k : ℕ) → marked_level marks s ≡ Some k → k ≡ level_from (level_or_zero marks) (pins s)
-  pub small : (s k : ℕ) → marked_level marks s ≡ Some k → k ≤ count_by has_level marks
-  pub gates : (s : ℕ) → s < signals → marked_level marks s ≡ None → (read : List ℕ) × (pins s ≡ Some read)
+  pub each : (s : ℕ) (m : Mark) → slice_get marks s ≡ Some m → IsMark pins s m
+  pub small : (s : ℕ) (m : Mark) → slice_get marks s ≡ Some m → height m ≤ count_by has_level marks
 
--- no gate is being followed
-abbrev pub NoneOpen : List Mark → Type 0
-NoneOpen marks = (s : ℕ) → slice_get marks s ≢ Some Open
+-- the signal is marked with a level
+abbrev pub IsLevelled : List Mark → ℕ → Type 0
+IsLevelled marks s = (k : ℕ) × (slice_get marks s ≡ Some (Level k))
 
--- what has a level keeps it
-abbrev pub KeepsLevels : List Mark → List Mark → Type 0
-KeepsLevels old new = (s k : ℕ) → marked_level old s ≡ Some k → marked_level new s ≡ Some k
+-- the gate waits at this pin, which reads this signal
+abbrev pub WaitsAt : (ℕ → Option (List ℕ)) → List Mark → ℕ → ℕ → ℕ → Type 0
+WaitsAt pins marks g pin p = (above : ℕ) × (read : List ℕ) × (slice_get marks g ≡ Some (Waits pin above)) × (pins g ≡ Some read) × (slice_index read pin ≡ p)
+
+-- A search for levels: a gate that waits for a signal with a level is still to be told, since the signal
+-- is ready to tell its readers or the pin is in the row whose readers are being told.
+pub record IsSearch (pins : ℕ → Option (List ℕ)) (signals : ℕ) (marks : List Mark) (ready : List ℕ) (row : List Sink) : Type 0 where
+  pub marks_are : AreMarks pins signals marks
+  pub ready_below : (s : ℕ) → Contains ready s → s < signals
+  pub row_below : (g i : ℕ) → Contains row (Pin g i) → g < signals
+  pub told : (g i p : ℕ) → WaitsAt pins marks g i p → IsLevelled marks p → Contains ready p ⊎ Contains row (Pin g i)
+
+-- the next mark of a gate: it has a level, or waits for a signal without one
+pub record IsNextMark (pins : ℕ → Option (List ℕ)) (marks : List Mark) (g : ℕ) (m : Mark) : Type 0 where
+  pub is_mark : IsMark pins g m
+  pub small : height m ≤ count_by has_level (set marks g m)
+  pub waits : (pin above : ℕ) (read : List ℕ) → m ≡ Waits pin above → pins g ≡ Some read → ¬ IsLevelled marks (slice_index read pin)
+
+-- the mark of a signal by the pins of its gate, before any gate is told of a level
+abbrev pub mark_from : Option (List ℕ) → Mark
+mark_from None = Level 0
+mark_from (Some pins) = Waits 0 0
+
+-- the levels that all signals are marked with
+pub record AreMarkedLevels (marks : List Mark) (levels : List ℕ) : Type 0 where
+  pub count : length levels ≡ length marks
+  pub each : (s : ℕ) → s < length marks → slice_get marks s ≡ Some (Level (slice_index levels s))
+
+-- a cycle is the answer only at the lowest signal without a level
+abbrev pub IsFirstWaiting : List Mark → LevelFault → Type 0
+IsFirstWaiting marks Memory = Unit {0}
+IsFirstWaiting marks (Cycle s) = (s < length marks) × (¬ IsLevelled marks s) × ((lower : ℕ) → lower < s → IsLevelled marks lower)

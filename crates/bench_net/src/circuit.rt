@@ -112,10 +112,7 @@ impl Circuit {
         requires { signal < length (names self.now) }
         ensures { (n : List ℕ) → name_of self.now signal ≡ Some n → result.now ≡ sinks self.now n }
     {
-        let rows = &self.tables.sinks;
-        let start = rows.starts[signal as usize] as usize;
-        let end = rows.starts[signal as usize + 1] as usize;
-        &rows.sinks[start..end]
+        self.tables.sinks.row(signal)
     }
 
     /// The level of a signal: 0 for a source, and for a gate one more than the greatest level of the
@@ -155,7 +152,7 @@ pub fn circuit_of(alloc: Global, lines: Lines) -> Result<Circuit, BenchFault>
         return Err(BenchFault::Empty);
     }
     let tables = tables_of(alloc, &lines, names.len())?;
-    match levels_of(alloc, &lines, &tables.definitions) {
+    match levels_of(alloc, &lines, &tables.definitions, &tables.sinks) {
         Ok(levels) => Ok(Circuit {
             names,
             lines,

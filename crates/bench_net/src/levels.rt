@@ -1,14 +1,17 @@
 //! The levels of signals, or a gate that has none: on a cycle of gates or fed by one.
 
-ghost use Rattle.std.specs.Prelude.{◌≡◌, ◌+◌, ◌^◌, ◌<◌, ◌≤◌, ℕ, List, length, map, slice_index, slice_get, unwrap_or, Contains, Some, [], IfOk, IfErr, OnOk, MatchOption};
+ghost use Rattle.std.specs.Prelude.{◌≡◌, ◌≢◌, ◌+◌, ◌^◌, ◌<◌, ◌≤◌, ℕ, List, length, slice_index, slice_get, unwrap_or, count_by, Contains, Some, None, [], ◌∷◌, IfOk, IfErr, OnOk};
 ghost use Rattle.bench_net.specs.Level.{greatest};
 ghost use Rattle.bench_net.specs.Rows.{AreRows};
-ghost use Rattle.bench_net.specs.Marks.{gate_pins, IsGraph, AreLevelsOf, IsLevelFault, IsRootFault, IsLevelled, level_or_zero, AreMarks, NoneOpen, KeepsLevels, level_of_mark, mark_from, line_pins};
+ghost use Rattle.bench_net.specs.Marks.{gate_pins, IsGraph, HavePins, AreReaders, AreLevelsOf, IsLevelFault, AreMarks, IsSearch, IsNextMark, IsLevelled, AreMarkedLevels, IsFirstWaiting, has_level, line_pins, mark_from};
 ghost use Rattle.bench_net.specs.declared.levels.Mark.{Mark};
+ghost use Rattle.bench_net.specs.declared.Sink.{Sink};
 ghost use Rattle.bench_net.specs.declared.levels.LevelFault.TheVariants.{Memory};
 
+use crate::Sink;
 use crate::line::Line;
 use crate::rows::rows_of;
+use crate::sinks::SinkRows;
 use std::alloc::{AllocError, AllocFailed, Global};
 
 /// The level of each signal, the signals in the order of their levels, and the greatest level.
@@ -42,19 +45,12 @@ impl<T: Drop> From<AllocFailed<T>> for LevelFault {
     }
 }
 
-/// What is known of a signal's level. An `Open` gate is one whose pins are being followed.
+/// What is known of a signal: its level, or that its gate waits for the signal of a pin, where `above` is
+/// the greatest level of the pins before it.
 #[derive(Clone, Copy, Debug, PartialEq, Eq)]
 enum Mark {
-    Unvisited,
-    Open,
+    Waits { pin: u32, above: u32 },
     Level(u32),
-}
-
-/// A gate whose pins are being followed: those before `pin` have levels.
-#[derive(Clone, Copy)]
-struct Step {
-    gate: u32,
-    pin: u32,
 }
 
 /// The signals that the pins of a gate read; none for a source.
@@ -69,109 +65,106 @@ fn pins_of<'a>(lines: &'a [Line], definitions: &[u32], signal: u32) -> &'a [u32]
     }
 }
 
-/// The level of a mark, and 0 where it has none.
-fn level_of(mark: &Mark) -> u32
-    ensures { result ≡ unwrap_or (level_of_mark (Some mark.now)) 0 }
-{
-    match mark {
-        Mark::Level(level) => *level,
-        Mark::Unvisited | Mark::Open => 0,
-    }
-}
-
-/// The first pin from `from` on whose signal has no level yet.
-fn first_without_level(marks: &[Mark], pins: &[u32], from: usize) -> Option<usize>
-    requires { (p : ℕ) → Contains pins.now p → p < length marks.now }
-    ensures { MatchOption result
-        ((i : ℕ) → from ≤ i → i < length pins.now → IsLevelled marks.now (slice_index pins.now i))
-        (λ pin. (from ≤ pin) × (pin < length pins.now) × (¬ IsLevelled marks.now (slice_index pins.now pin))
-        × ((i : ℕ) → from ≤ i → i < pin → IsLevelled marks.now (slice_index pins.now i))) }
-{
-    for pin in from..pins.len() {
-        match marks[pins[pin] as usize] {
-            Mark::Level(_) => {}
-            Mark::Unvisited | Mark::Open => return Some(pin),
-        }
-    }
-    None
-}
-
-/// One more than the greatest level of the signals.
-fn level_above(marks: &[Mark], pins: &[u32]) -> u32
-    requires below { (p : ℕ) → Contains pins.now p → p < length marks.now }
-    requires small { (p : ℕ) → Contains pins.now p → level_or_zero marks.now p + 1 < 2 ^ 32 }
-    ensures { result ≡ 1 + greatest (map (level_or_zero marks.now) pins.now) }
-{
-    let mut greatest = 0;
-    for pin in pins {
-        greatest = greatest.max(level_of(&marks[*pin as usize]));
-    }
-    greatest + 1
-}
-
-/// Gives the gate `root` its level, and on the way each gate that feeds it. Gates are followed back by
-/// a path that is kept in a list, so a deep circuit takes no stack.
-fn level_gate(
+/// The next mark of a gate that waits at `pin`: it goes on to the first pin whose signal has no level.
+fn next_mark(
     lines: &[Line],
     definitions: &[u32],
+    marks: &[Mark],
+    gate: u32,
+    pin: u32,
+    mut above: u32,
+) -> Mark
+    requires few { length definitions.now < 2 ^ 31 }
+    requires graph { IsGraph lines.now definitions.now }
+    requires marks { AreMarks (gate_pins lines.now definitions.now) (length definitions.now) marks.now }
+    requires waits { slice_get marks.now gate ≡ Some (Mark.Waits pin above) }
+    ensures { IsNextMark (gate_pins lines.now definitions.now) marks.now gate result }
+{
+    let pins = pins_of(lines, definitions, gate);
+    for at in pin as usize..pins.len() {
+        match marks[pins[at] as usize] {
+            Mark::Level(level) => above = above.max(level),
+            Mark::Waits { .. } => {
+                return Mark::Waits {
+                    pin: at as u32,
+                    above,
+                };
+            }
+        }
+    }
+    Mark::Level(above + 1)
+}
+
+/// Tells a gate that the signal of a pin has a level. If the gate waits there, it goes on, and it is
+/// ready to tell its own readers if all its pins have levels.
+fn tell_gate(
+    lines: &[Line],
+    definitions: &[u32],
+    gate: u32,
+    pin: u32,
     marks: &mut Vec<Mark>,
-    path: &mut Vec<Step>,
-    root: u32,
-) -> Result<(), LevelFault>
+    ready: &mut Vec<u32>,
+) -> Result<(), AllocError>
     requires few { length definitions.now < 2 ^ 31 }
     requires graph { IsGraph lines.now definitions.now }
     requires marks { AreMarks (gate_pins lines.now definitions.now) (length definitions.now) marks.old.items }
-    requires closed { NoneOpen marks.old.items }
-    requires path { path.old.items ≡ [] }
-    requires root { slice_get marks.old.items root ≡ Some Mark.Unvisited }
-    ensures marks { OnOk result (AreMarks (gate_pins lines.now definitions.now) (length definitions.now) marks.new.items) }
-    ensures closed { OnOk result (NoneOpen marks.new.items) }
-    ensures path { OnOk result (path.new.items ≡ []) }
-    ensures keeps { OnOk result (KeepsLevels marks.old.items marks.new.items) }
-    ensures root { OnOk result (IsLevelled marks.new.items root) }
-    ensures fault { IfErr result (IsRootFault (gate_pins lines.now definitions.now) root) }
+    requires gate { gate < length definitions.now }
+    ensures search { OnOk result ((row : List Sink)
+        → IsSearch (gate_pins lines.now definitions.now) (length definitions.now) marks.old.items ready.old.items (Sink.Pin gate pin ∷ row)
+        → IsSearch (gate_pins lines.now definitions.now) (length definitions.now) marks.new.items ready.new.items row) }
+    ensures count { OnOk result (length ready.new.items + count_by has_level marks.old.items ≡ length ready.old.items + count_by has_level marks.new.items) }
 {
-    path.push(Step { gate: root, pin: 0 })?;
-    marks[root as usize] = Mark::Open;
-    while let Some(step) = path.pop() {
-        let pins = pins_of(lines, definitions, step.gate);
-        match first_without_level(marks, pins, step.pin as usize) {
-            None => marks[step.gate as usize] = Mark::Level(level_above(marks, pins)),
-            Some(pin) => {
-                let signal = pins[pin];
-                if let Mark::Open = marks[signal as usize] {
-                    return Err(LevelFault::Cycle(root));
-                }
-                path.push(Step {
-                    gate: step.gate,
-                    pin: pin as u32,
-                })?;
-                path.push(Step {
-                    gate: signal,
-                    pin: 0,
-                })?;
-                marks[signal as usize] = Mark::Open;
-            }
+    let Mark::Waits { pin: at, above } = marks[gate as usize] else {
+        return Ok(());
+    };
+    if at != pin {
+        return Ok(());
+    }
+    let mark = next_mark(lines, definitions, marks, gate, pin, above);
+    marks[gate as usize] = mark;
+    if let Mark::Level(_) = mark {
+        ready.push(gate)?;
+    }
+    Ok(())
+}
+
+/// Tells the readers of a signal that it has a level.
+fn tell_readers(
+    lines: &[Line],
+    definitions: &[u32],
+    row: &[Sink],
+    marks: &mut Vec<Mark>,
+    ready: &mut Vec<u32>,
+) -> Result<(), AllocError>
+    requires few { length definitions.now < 2 ^ 31 }
+    requires graph { IsGraph lines.now definitions.now }
+    requires search { IsSearch (gate_pins lines.now definitions.now) (length definitions.now) marks.old.items ready.old.items row.now }
+    ensures search { OnOk result (IsSearch (gate_pins lines.now definitions.now) (length definitions.now) marks.new.items ready.new.items []) }
+    ensures count { OnOk result (length ready.new.items + count_by has_level marks.old.items ≡ length ready.old.items + count_by has_level marks.new.items) }
+{
+    for sink in row {
+        if let Sink::Pin { gate, pin } = sink {
+            tell_gate(lines, definitions, *gate, *pin, marks, ready)?;
         }
     }
     Ok(())
 }
 
-/// The mark of a line's signal before any gate is followed: a source has level 0.
+/// The mark of a line's signal before any gate is told of a level: a source has level 0.
 fn first_mark(line: &Line) -> Mark
     ensures { result ≡ mark_from (line_pins (Some line.now)) }
 {
     match line {
-        Line::Gate(_, _) => Mark::Unvisited,
+        Line::Gate(_, _) => Mark::Waits { pin: 0, above: 0 },
         _ => Mark::Level(0),
     }
 }
 
-/// The marks before any gate is followed.
+/// The marks before any gate is told of a level.
 fn first_marks(alloc: Global, lines: &[Line], definitions: &[u32]) -> Result<Vec<Mark>, AllocError>
     requires graph { IsGraph lines.now definitions.now }
-    ensures marks { IfOk result (λ marks. AreMarks (gate_pins lines.now definitions.now) (length definitions.now) marks.items) }
-    ensures closed { IfOk result (λ marks. NoneOpen marks.items) }
+    requires pins { HavePins (gate_pins lines.now definitions.now) (length definitions.now) }
+    ensures { IfOk result (λ marks. AreMarks (gate_pins lines.now definitions.now) (length definitions.now) marks.items) }
 {
     let mut marks = Vec::with_capacity(alloc, definitions.len())?;
     for place in definitions {
@@ -180,31 +173,66 @@ fn first_marks(alloc: Global, lines: &[Line], definitions: &[u32]) -> Result<Vec
     Ok(marks)
 }
 
-/// The levels of marks that all have one.
-fn marked_levels(alloc: Global, marks: &[Mark]) -> Result<Vec<u32>, AllocError>
-    ensures { IfOk result (λ levels. levels.items ≡ map (λ mark. unwrap_or (level_of_mark (Some mark)) 0) marks.now) }
+/// The signals that have a level.
+fn levelled(alloc: Global, marks: &[Mark]) -> Result<Vec<u32>, AllocError>
+    requires { length marks.now < 2 ^ 32 }
+    ensures below { IfOk result (λ ready. (s : ℕ) → Contains ready.items s → s < length marks.now) }
+    ensures all { IfOk result (λ ready. (s : ℕ) → IsLevelled marks.now s → Contains ready.items s) }
 {
-    marks.iter().map(|mark| level_of(mark)).collect(alloc)
+    let mut ready = Vec::new(alloc);
+    for signal in 0..marks.len() {
+        if let Mark::Level(_) = marks[signal] {
+            ready.push(signal as u32)?;
+        }
+    }
+    Ok(ready)
+}
+
+/// The levels of marks that all have one; else the lowest signal that has none is at fault.
+fn marked_levels(alloc: Global, marks: &[Mark]) -> Result<Vec<u32>, LevelFault>
+    requires { length marks.now < 2 ^ 32 }
+    ensures levels { IfOk result (λ levels. AreMarkedLevels marks.now levels.items) }
+    ensures fault { IfErr result (IsFirstWaiting marks.now) }
+{
+    let mut levels = Vec::with_capacity(alloc, marks.len())?;
+    for (signal, mark) in marks.iter().enumerate() {
+        match mark {
+            Mark::Level(level) => levels.push(*level)?,
+            Mark::Waits { .. } => return Err(LevelFault::Cycle(signal as u32)),
+        }
+    }
+    Ok(levels)
 }
 
 /// The level of each signal: 0 for a source, and for a gate one more than the greatest of its pins'
-/// signals. The gates are followed in the order of their numbers, so the first that can't be given a
-/// level is the lowest.
-fn signal_levels(alloc: Global, lines: &[Line], definitions: &[u32]) -> Result<Vec<u32>, LevelFault>
+/// signals. A signal with a level is taken once to tell its readers, each of which waits at one pin at a
+/// time, so this takes time in the number of pins. The gates that wait at the end wait for one another.
+fn signal_levels(
+    alloc: Global,
+    lines: &[Line],
+    definitions: &[u32],
+    sinks: &SinkRows,
+) -> Result<Vec<u32>, LevelFault>
     requires few { length definitions.now < 2 ^ 31 }
     requires graph { IsGraph lines.now definitions.now }
+    requires pins { HavePins (gate_pins lines.now definitions.now) (length definitions.now) }
+    requires readers { AreReaders (gate_pins lines.now definitions.now) (length definitions.now) sinks.now.starts.items sinks.now.sinks.items }
     ensures levels { IfOk result (λ levels. AreLevelsOf (gate_pins lines.now definitions.now) (length definitions.now) levels.items) }
     ensures small { IfOk result (λ levels. (s : ℕ) → s < length levels.items → slice_index levels.items s ≤ length levels.items) }
     ensures fault { IfErr result (IsLevelFault (gate_pins lines.now definitions.now) (length definitions.now)) }
 {
     let mut marks = first_marks(alloc, lines, definitions)?;
-    let mut path = Vec::new(alloc);
-    for signal in 0..definitions.len() {
-        if let Mark::Unvisited = marks[signal] {
-            level_gate(lines, definitions, &mut marks, &mut path, signal as u32)?;
-        }
+    let mut ready = levelled(alloc, &marks)?;
+    while let Some(signal) = ready.pop() {
+        tell_readers(
+            lines,
+            definitions,
+            sinks.row(signal),
+            &mut marks,
+            &mut ready,
+        )?;
     }
-    Ok(marked_levels(alloc, &marks)?)
+    marked_levels(alloc, &marks)
 }
 
 /// The greatest of some levels, and 0 where there is none.
@@ -218,16 +246,23 @@ fn greatest(levels: &[u32]) -> u32
     greatest
 }
 
-/// The levels of lines whose definitions stand at these places.
-pub fn levels_of(alloc: Global, lines: &[Line], definitions: &[u32]) -> Result<Levels, LevelFault>
+/// The levels of lines whose definitions stand at these places, and whose signals have these readers.
+pub fn levels_of(
+    alloc: Global,
+    lines: &[Line],
+    definitions: &[u32],
+    sinks: &SinkRows,
+) -> Result<Levels, LevelFault>
     requires few { length definitions.now < 2 ^ 31 }
     requires graph { IsGraph lines.now definitions.now }
+    requires pins { HavePins (gate_pins lines.now definitions.now) (length definitions.now) }
+    requires readers { AreReaders (gate_pins lines.now definitions.now) (length definitions.now) sinks.now.starts.items sinks.now.sinks.items }
     ensures levels { IfOk result (λ l. AreLevelsOf (gate_pins lines.now definitions.now) (length definitions.now) l.levels.items) }
     ensures order { IfOk result (λ l. (starts : List ℕ) × AreRows l.levels.items (l.depth + 1) starts l.order.items) }
     ensures depth { IfOk result (λ l. l.depth ≡ greatest l.levels.items) }
     ensures fault { IfErr result (IsLevelFault (gate_pins lines.now definitions.now) (length definitions.now)) }
 {
-    let levels = signal_levels(alloc, lines, definitions)?;
+    let levels = signal_levels(alloc, lines, definitions, sinks)?;
     let depth = greatest(&levels);
     let order = rows_of(alloc, &levels, depth as usize + 1)?.places;
     Ok(Levels {

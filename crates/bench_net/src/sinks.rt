@@ -1,7 +1,8 @@
 //! The sinks of each signal.
 
-ghost use Rattle.std.specs.Prelude.{◌≡◌, ◌++◌, ◌^◌, ◌<◌, ◌+◌, ℕ, map, length, slice_get, slice_index, Contains, Some, option_map, OnOk, IfOk};
+ghost use Rattle.std.specs.Prelude.{◌≡◌, ◌++◌, ◌^◌, ◌<◌, ◌+◌, ℕ, map, length, slice_get, slice_index, ◌≤◌, Contains, Some, option_map, OnOk, IfOk};
 ghost use Rattle.bench_net.specs.Tables.{pin_readers, output_readers, line_readers, all_readers, AreSinkRows, PinsFit};
+ghost use Rattle.bench_net.specs.Marks.{row_of};
 ghost use Rattle.bench_net.specs.declared.line.Line.{Line};
 ghost use Rattle.bench_net.specs.declared.sinks.Reader.{Reader};
 
@@ -22,6 +23,20 @@ struct Reader {
 pub struct SinkRows {
     pub starts: Vec<u32>,
     pub sinks: Vec<Sink>,
+}
+
+impl SinkRows {
+    /// The sinks of a signal.
+    pub fn row(&self, signal: u32) -> &[Sink]
+        requires starts { signal + 1 < length self.now.starts.items }
+        requires in_order { slice_index self.now.starts.items signal ≤ slice_index self.now.starts.items (signal + 1) }
+        requires within { slice_index self.now.starts.items (signal + 1) ≤ length self.now.sinks.items }
+        ensures { result.now ≡ row_of self.now.starts.items self.now.sinks.items signal }
+    {
+        let start = self.starts[signal as usize] as usize;
+        let end = self.starts[signal as usize + 1] as usize;
+        &self.sinks[start..end]
+    }
 }
 
 /// Adds the pins of a gate, in order.

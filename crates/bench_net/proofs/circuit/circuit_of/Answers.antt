@@ -9,6 +9,7 @@ use Rattle.bench_net.specs.declared.line.Line.{Line}
 use Rattle.bench_net.specs.declared.levels.LevelFault.TheVariants.{Cycle}
 use Rattle.bench_net.proofs.Named.{AreNamed, definition_count, line_at}
 use Rattle.bench_net.proofs.Accepted.{table_lines, graph, circuit}
+use Rattle.bench_net.proofs.PinRows.{readers_are, have_pins}
 use Rattle.bench_net.proofs.Refused.{lowest_line}
 use Rattle.bench_net.proofs.circuit.circuit_of.Goals as goal
 
@@ -39,6 +40,26 @@ levels_of-requires-clause-graph c =
     let tables = subst (λ ls. AreTables ls (length ns) c.in_ok-tables.tables) c.deref.ensures.value (subst (λ n. AreTables c.deref.result.now n c.in_ok-tables.tables) (sym count) c.in_ok-tables.ensures) in
     let place_count : length places ≡ length ns = definition_count ns lines places c.requires.numbered tables.definitions_are in
     subst (IsGraph c.deref-2.result.now) (sym c.deref-3.ensures.value) (subst (λ ls. IsGraph ls places) (sym c.deref-2.ensures.value) (graph ns lines at places c.requires tables.definitions_are))
+
+pub levels_of-requires-clause-pins : goal.levels_of-requires-clause-pins
+levels_of-requires-clause-pins c =
+    let ns = map string_bytes c.args.lines.names.items in
+    let lines = c.args.lines.lines.items in
+    let places = c.in_ok-tables.tables.definitions.items in
+    let count : length ns ≡ c.len.result = omega (arith, length-map c.args.lines.names.items string_bytes, c.len.ensures) in
+    let tables = subst (λ ls. AreTables ls (length ns) c.in_ok-tables.tables) c.deref.ensures.value (subst (λ n. AreTables c.deref.result.now n c.in_ok-tables.tables) (sym count) c.in_ok-tables.ensures) in
+    let place_count : length places ≡ length ns = definition_count ns lines places c.requires.numbered tables.definitions_are in
+    rw (c.deref-2.ensures.value, c.deref-3.ensures.value, place_count) (have_pins ns lines places c.requires.numbered tables.definitions_are c.requires.arities)
+
+pub levels_of-requires-clause-readers : goal.levels_of-requires-clause-readers
+levels_of-requires-clause-readers c =
+    let ns = map string_bytes c.args.lines.names.items in
+    let lines = c.args.lines.lines.items in
+    let places = c.in_ok-tables.tables.definitions.items in
+    let count : length ns ≡ c.len.result = omega (arith, length-map c.args.lines.names.items string_bytes, c.len.ensures) in
+    let tables = subst (λ ls. AreTables ls (length ns) c.in_ok-tables.tables) c.deref.ensures.value (subst (λ n. AreTables c.deref.result.now n c.in_ok-tables.tables) (sym count) c.in_ok-tables.ensures) in
+    let place_count : length places ≡ length ns = definition_count ns lines places c.requires.numbered tables.definitions_are in
+    rw (c.deref-2.ensures.value, c.deref-3.ensures.value, place_count) (readers_are ns lines places c.in_ok-tables.tables.sinks.starts.items c.in_ok-tables.tables.sinks.sinks.items c.requires.numbered tables.definitions_are tables.sinks_are)
 
 -- lines whose number is not 0
 not_empty : (lines : List Line) (n : ℕ) → n ≡ length lines → false ≡ (n == 0) → lines ≢ []

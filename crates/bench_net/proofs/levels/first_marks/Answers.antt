@@ -1,34 +1,23 @@
-use Rattle.std.proofs.Common.{◌≡◌, ◌<◌, ℕ, get_or, arith, List, [], ◌∷◌, ◌++◌, length, map, take, ap, sym, refl, ◌∙◌}
+use Rattle.std.proofs.Common.{◌≡◌, ◌<◌, ◌∙◌, ◌++◌, ◌∷◌, [], ℕ, ap, sym, refl, arith, get_or, length, map, take}
 use Rattle.std.specs.Prelude.{Some, slice_get, option_map}
 use Rattle.std.proofs.lemmas.List.{length-map, map_more, take_all}
 use Rattle.std.proofs.lemmas.Option.{slice_get-map, slice_get-get_or, slice_get_read}
-use Rattle.bench_net.specs.declared.line.Line.{Line}
-use Rattle.bench_net.specs.declared.levels.Mark.{Mark}
 use Rattle.bench_net.specs.Marks.{gate_pins, mark_from, line_pins}
-use Rattle.bench_net.proofs.Marking.{first_mark, first_are, first_closed}
+use Rattle.bench_net.proofs.Marking.{first_are}
 use Rattle.bench_net.proofs.levels.first_marks.Goals as goal
-
--- the mark of each signal
-each_mark : (lines : List Line) (definitions : List ℕ) (marks : List Mark) → marks ≡ map (first_mark lines) definitions → (s : ℕ) → s < length definitions → slice_get marks s ≡ Some (mark_from (gate_pins lines definitions s))
-each_mark lines definitions marks e s h =
-    ap (λ ms. slice_get ms s) e ∙ (slice_get-map (first_mark lines) definitions s ∙ ap (option_map (first_mark lines)) (slice_get-get_or definitions s 0 h))
-
-pub returns-clause-marks : goal.returns-clause-marks
-returns-clause-marks c =
-    let all : c.loop-place.marks.items ≡ map (first_mark c.args.lines.now) c.args.definitions.now = c.loop-place.invariant ∙ ap (map (first_mark c.args.lines.now)) (take_all c.loop-place.place-index c.args.definitions.now (omega arith)) in
-    first_are (gate_pins c.args.lines.now c.args.definitions.now) (length c.args.definitions.now) c.loop-place.marks.items (ap length all ∙ length-map c.args.definitions.now (first_mark c.args.lines.now)) (each_mark c.args.lines.now c.args.definitions.now c.loop-place.marks.items all)
-
-pub returns-clause-closed : goal.returns-clause-closed
-returns-clause-closed c =
-    let all : c.loop-place.marks.items ≡ map (first_mark c.args.lines.now) c.args.definitions.now = c.loop-place.invariant ∙ ap (map (first_mark c.args.lines.now)) (take_all c.loop-place.place-index c.args.definitions.now (omega arith)) in
-    first_closed (gate_pins c.args.lines.now c.args.definitions.now) (length c.args.definitions.now) c.loop-place.marks.items (ap length all ∙ length-map c.args.definitions.now (first_mark c.args.lines.now)) (each_mark c.args.lines.now c.args.definitions.now c.loop-place.marks.items all)
 
 pub loop-place-preserved : goal.loop-place-preserved
 loop-place-preserved c =
-    let lines = c.args.lines.now in
     let place : ℕ = get_or c.args.definitions.now c.loop-place.place-index 0 in
-    let below : place < length lines = c.requires.graph.has_line c.loop-place.place-index (omega arith) in
-    let read : slice_get lines place ≡ Some c.index-lines-place.result = slice_get_read lines (length lines) place c.index-lines-place.result refl below c.index-lines-place.is in
-    let mark : c.first_mark.result ≡ first_mark lines place = c.first_mark.ensures ∙ ap (λ o. mark_from (line_pins o)) (sym read) in
-    let before : c.loop-place.marks.items ≡ map (first_mark lines) (take c.loop-place.place-index c.args.definitions.now) = c.loop-place.invariant in
-    c.in_ok-push.ensures.items ∙ (ap (λ ms. ms ++ c.first_mark.result ∷ []) before ∙ (ap (λ m. map (first_mark lines) (take c.loop-place.place-index c.args.definitions.now) ++ m ∷ []) mark ∙ sym (map_more (first_mark lines) c.args.definitions.now c.loop-place.place-index 0 (omega arith))))
+    let read = slice_get_read c.args.lines.now (length c.args.lines.now) place c.index-lines-place.result refl (c.requires.graph.has_line c.loop-place.place-index (omega arith)) c.index-lines-place.is in
+    let mark = c.first_mark.ensures ∙ ap (λ o. mark_from (line_pins o)) (sym read) in
+    let more = map_more (λ p. mark_from (line_pins (slice_get c.args.lines.now p))) c.args.definitions.now c.loop-place.place-index 0 (omega arith) in
+    cc (c.in_ok-push.ensures.items, mark, more, c.loop-place.invariant)
+
+pub returns : goal.returns
+returns c =
+    let first = λ (p : ℕ). mark_from (line_pins (slice_get c.args.lines.now p)) in
+    let places = c.args.definitions.now in
+    let all : c.loop-place.marks.items ≡ map first places = c.loop-place.invariant ∙ ap (map first) (take_all c.loop-place.place-index places (omega arith)) in
+    first_are (gate_pins c.args.lines.now places) (length places) c.loop-place.marks.items (ap length all ∙ length-map places first)
+    (λ s lt. ap (λ ms. slice_get ms s) all ∙ (slice_get-map first places s ∙ ap (option_map first) (slice_get-get_or places s 0 lt))) c.requires.pins

@@ -1,0 +1,51 @@
+use Rattle.std.proofs.Common.{◌≡◌, ◌<◌, ◌+◌, ◌∙◌, ◌++◌, ◌∷◌, [], ℕ, List, ap, sym, subst, arith, get_or, inl, inr, ◌⊎◌}
+use Rattle.std.specs.Prelude.{Some, slice_get, Contains}
+use Rattle.std.proofs.lemmas.Bool.{cases_eq}
+use Rattle.std.proofs.lemmas.List.Elements.{Contains-append_left, Contains-push, Contains-push_cases}
+use Rattle.std.proofs.lemmas.Option.{slice_get_within, get_or_from_slice_get}
+use Rattle.bench_net.specs.declared.levels.Mark.{Mark}
+use Rattle.bench_net.specs.declared.levels.Mark.TheVariants.{Waits, Level}
+use Rattle.bench_net.specs.Marks.{IsLevelled}
+use Rattle.bench_net.proofs.levels.levelled.Goals as goal
+use Rattle.bench_net.proofs.levels.levelled.Goals.{in-Level+in_ok-push, in_default}
+
+-- the signals with a level that were met so far, and one more
+below_more : (ready : List ℕ) (i s : ℕ) → ((t : ℕ) → Contains ready t → t < i) → Contains (ready ++ i ∷ []) s → s < i + 1
+below_more ready i s before has = go (Contains-push_cases ready i s has)
+  where
+    go : Contains ready s ⊎ (i ≡ s) → s < i + 1
+    go (inl h) = omega (arith, before s h)
+    go (inr e) = omega (arith, e)
+
+all_more : (marks : List Mark) (ready : List ℕ) (i s : ℕ) → ((t : ℕ) → t < i → IsLevelled marks t → Contains ready t) → s < i + 1 → IsLevelled marks s → Contains (ready ++ i ∷ []) s
+all_more marks ready i s before lt l = go (cases_eq s i)
+  where
+    go : (s ≡ i) ⊎ (s ≡ i → ⊥) → Contains (ready ++ i ∷ []) s
+    go (inl e) = subst (Contains (ready ++ i ∷ [])) (sym e) (Contains-push ready i)
+    go (inr ne) = Contains-append_left ready (i ∷ []) s (before s (omega (arith, lt)) l)
+
+all_same : (marks : List Mark) (ready : List ℕ) (i s : ℕ) → ((t : ℕ) → t < i → IsLevelled marks t → Contains ready t) → ((k : ℕ) → get_or marks i (Waits 0 0) ≡ Level k → ⊥) → s < i + 1 → IsLevelled marks s → Contains ready s
+all_same marks ready i s before none lt l = go (cases_eq s i)
+  where
+    go : (s ≡ i) ⊎ (s ≡ i → ⊥) → Contains ready s
+    go (inl e) = absurd (none l.0 (get_or_from_slice_get marks i (Level l.0) (Waits 0 0) (ap (slice_get marks) (sym e) ∙ l.1)))
+    go (inr ne) = before s (omega (arith, lt)) l
+
+pub loop-signal-preserved : goal.loop-signal-preserved
+loop-signal-preserved c =
+    elim c.match-marks-signal.branch [
+      | in-Level+in_ok-push w ↦ rw (w.ready-is, w.in_ok-push.ensures.items) (record {
+        below = λ s has. below_more c.loop-signal.ready.items c.loop-signal.signal s c.loop-signal.invariant.below has;
+        all = λ s lt l. all_more c.args.marks.now c.loop-signal.ready.items c.loop-signal.signal s c.loop-signal.invariant.all lt l;
+      })
+      | in_default w ↦ rw w.ready-is (record {
+        below = λ s has. omega (arith, c.loop-signal.invariant.below s has);
+        all = λ s lt l. all_same c.args.marks.now c.loop-signal.ready.items c.loop-signal.signal s c.loop-signal.invariant.all w.in_default.not-Level lt l;
+      })
+    ]
+
+pub returns-clause-below : goal.returns-clause-below
+returns-clause-below c = λ s has. omega (arith, c.loop-signal.invariant.below s has)
+
+pub returns-clause-all : goal.returns-clause-all
+returns-clause-all c = λ s l. c.loop-signal.invariant.all s (omega (arith, slice_get_within c.args.marks.now s (Level l.0) l.1)) l
