@@ -19,7 +19,8 @@ AreDistinct (x ∷ xs) = (Stands x xs → ⊥) × AreDistinct xs
 -- the gates that are reached from a head
 abbrev pub IsChain : List ℕ → ℕ → List ℕ → Type 0
 IsChain next head [] = head ≡ 0
-IsChain next head (gate ∷ gates) = (head ≡ gate + 1) × (gate < length next) × IsChain next (slice_index_or next gate 0) gates
+IsChain next head (gate ∷ gates) = (head ≡ gate + 1) × (gate < length next)
+    × IsChain next (slice_index_or next gate 0) gates
 
 -- the chain from a head has the gates that wait at a level, each once
 pub record IsBucket (at next : List ℕ) (level head : ℕ) : Type 0 where
@@ -35,4 +36,5 @@ pub record AreBuckets (at next heads : List ℕ) (waiting : ℕ) : Type 0 where
   pub levels : length heads < 2 ^ 32
   pub counted : waiting + zeros at ≡ length at
   pub below : (gate : ℕ) → slice_index_or at gate 0 ≤ length heads
-  pub bucket : (level : ℕ) → level < length heads → IsBucket at next level (slice_index_or heads level 0)
+  pub bucket : (level : ℕ) → level < length heads
+      → IsBucket at next level (slice_index_or heads level 0)

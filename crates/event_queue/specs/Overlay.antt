@@ -2,9 +2,11 @@
 use Rattle.std.specs.Prelude.{◌≡◌, ◌≢◌, ℕ, ◌+◌, ◌<◌, List, length, slice_index_or}
 use Rattle.event_queue.specs.Zeros.{zeros}
 
--- The first entries of the list, as many as the count, name the words that are not 0. The count and the words that are 0 are as many as the words.
+-- The first entries of the list, as many as the count, name the words that are not 0. The count and
+-- the words that are 0 are as many as the words.
 pub record IsOverlay (words changed : List ℕ) (count : ℕ) : Type 0 where
   pub room : length changed ≡ length words
   pub counted : count + zeros words ≡ length words
   pub within : (j : ℕ) → j < count → slice_index_or changed j 0 < length words
-  pub listed : (s : ℕ) → slice_index_or words s 0 ≢ 0 → (j : ℕ) × (j < count) × (slice_index_or changed j 0 ≡ s)
+  pub listed : (s : ℕ) → slice_index_or words s 0 ≢ 0 → (j : ℕ) × (j < count)
+      × (slice_index_or changed j 0 ≡ s)

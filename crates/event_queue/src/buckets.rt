@@ -5,8 +5,8 @@ ghost use Rattle.std.specs.Prelude.{◌≡◌, ◌≢◌, ◌↔◌, ℕ, ◌+�
 use std::alloc::{AllocError, Global};
 use std::marker::Model;
 
-/// The gates that wait. A bucket is a chain of gates: its head and each gate's next are a gate's number
-/// and 1, or 0 at the end.
+/// The gates that wait. A bucket is a chain of gates: its head and each gate's next are a gate's
+/// number and 1, or 0 at the end.
 #[derive(Drop)]
 pub struct Buckets {
     /// For each gate 0, or the level at which it waits and 1.
@@ -90,8 +90,11 @@ impl Buckets {
     #[inline(always)]
     pub fn take(&mut self, level: u32) -> Option<u32>
         requires { level < self.old.levels }
-        ensures none { IfNone result ((self.new.at ≡ self.old.at) × ((gate : ℕ) → slice_index_or self.old.at gate 0 ≢ level + 1)) }
-        ensures some { IfSome result (λ gate. (gate < length self.old.at) × (slice_index_or self.old.at gate 0 ≡ level + 1) × (self.new.at ≡ slice_set self.old.at gate 0)) }
+        ensures none { IfNone result ((self.new.at ≡ self.old.at)
+            × ((gate : ℕ) → slice_index_or self.old.at gate 0 ≢ level + 1)) }
+        ensures some { IfSome result (λ gate. (gate < length self.old.at)
+            × (slice_index_or self.old.at gate 0 ≡ level + 1)
+            × (self.new.at ≡ slice_set self.old.at gate 0)) }
         ensures levels { self.new.levels ≡ self.old.levels }
     {
         let head = self.heads[level as usize];

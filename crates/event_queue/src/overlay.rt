@@ -75,7 +75,8 @@ impl Overlay {
 #[inline(always)]
 fn erase(words: &mut [u64], listed: &[u32])
     requires within { All (λ s. s < length words.old) listed.now }
-    requires all { (s : ℕ) → slice_index_or words.old s 0 ≢ 0 → (j : ℕ) × (j < length listed.now) × (slice_index_or listed.now j 0 ≡ s) }
+    requires all { (s : ℕ) → slice_index_or words.old s 0 ≢ 0 → (j : ℕ) × (j < length listed.now)
+        × (slice_index_or listed.now j 0 ≡ s) }
     ensures room { length words.new ≡ length words.old }
     ensures clear { All (λ word. word ≡ 0) words.new }
 {

@@ -24,25 +24,31 @@ carried c (line.Out output) = slice_get (outputs c) output
 
 -- without a fault a test gives the line this bit
 abbrev pub HasBit : List Statement → Test → Line → Bool → Type 0
-HasBit c t l b = (v : Name → Bool) × (n : Name) × Solves c t None v × (carried c l ≡ Some n) × (v n ≡ b)
+HasBit c t l b = (v : Name → Bool) × (n : Name) × Solves c t None v × (carried c l ≡ Some n)
+    × (v n ≡ b)
 
--- what the test before has to be for a test of this number: nothing of a stuck-at fault; of a transition fault one that
--- gives the line the bit that it is slow to leave, and the first test has none before it
+-- what the test before has to be for a test of this number: nothing of a stuck-at fault; of a
+-- transition fault one that gives the line the bit that it is slow to leave, and the first test has
+-- none before it
 abbrev pub LooksBack : List Statement → List Test → Model → Line → Bool → ℕ → Type 0
 LooksBack c tests StuckAt l b t = ⊤
 LooksBack c tests Transition l b zero = ⊥
-LooksBack c tests Transition l b (suc t) = (before : Test) × (slice_get tests t ≡ Some before) × HasBit c before l b
+LooksBack c tests Transition l b (suc t) = (before : Test) × (slice_get tests t ≡ Some before)
+    × HasBit c before l b
 
--- The test of this number detects the fault. A transition fault is detected where the line has its bit under the test before
--- and this test detects the line stuck at that bit.
+-- The test of this number detects the fault. A transition fault is detected where the line has its
+-- bit under the test before and this test detects the line stuck at that bit.
 abbrev pub DetectsAt : List Statement → List Test → Fault → ℕ → Type 0
-DetectsAt c tests f t = (test : Test) × (slice_get tests t ≡ Some test) × Detects c test f × LooksBack c tests f.model f.line f.stuck t
+DetectsAt c tests f t = (test : Test) × (slice_get tests t ≡ Some test) × Detects c test f
+    × LooksBack c tests f.model f.line f.stuck t
 
 -- two faults of one class are detected at the same numbers of every list of tests
 abbrev pub ClassesDetectedSame : List Statement → Type 0
-ClassesDetectedSame c = (f g : Fault) (tests : List Test) (t : ℕ) → AreEquivalent c f g → DetectsAt c tests f t ↔ DetectsAt c tests g t
+ClassesDetectedSame c = (f g : Fault) (tests : List Test) (t : ℕ) → AreEquivalent c f g
+    → DetectsAt c tests f t ↔ DetectsAt c tests g t
 
 -- a fault is detected exactly where the representative of its class is
 abbrev pub DetectedAsRepresentative : List Statement → Type 0
-DetectedAsRepresentative c = (m : Model) (f r : Fault) (class : ℕ) (tests : List Test) (t : ℕ) → IsClassOf m c f class → slice_get (representatives m c) class ≡ Some r
+DetectedAsRepresentative c = (m : Model) (f r : Fault) (class : ℕ) (tests : List Test) (t : ℕ)
+    → IsClassOf m c f class → slice_get (representatives m c) class ≡ Some r
     → DetectsAt c tests f t ↔ DetectsAt c tests r t

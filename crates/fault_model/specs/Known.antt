@@ -22,19 +22,23 @@ IsInCircuit c _ = Unit {0}
 
 -- a table of classes has the class of the fault at this place
 abbrev pub HasClassAt : Model → List Statement → List ℕ → ℕ → Type 0
-HasClassAt m c class_of i = (f : Fault) → slice_get (faults m c) i ≡ Some f → (k : ℕ) × (slice_get class_of i ≡ Some k) × IsClassOf m c f k
+HasClassAt m c class_of i = (f : Fault) → slice_get (faults m c) i ≡ Some f → (k : ℕ)
+    × (slice_get class_of i ≡ Some k) × IsClassOf m c f k
 
 -- it has the class of each fault without a next
 abbrev pub HasEnds : Model → List Statement → List ℕ → Type 0
-HasEnds m c class_of = (i : ℕ) (f : Fault) → slice_get (faults m c) i ≡ Some f → next c f ≡ None → HasClassAt m c class_of i
+HasEnds m c class_of = (i : ℕ) (f : Fault) → slice_get (faults m c) i ≡ Some f → next c f ≡ None
+    → HasClassAt m c class_of i
 
 -- it has the class of the next fault of the fault at this place
 abbrev pub HasNext : Model → List Statement → List ℕ → ℕ → Type 0
-HasNext m c class_of i = (j : ℕ) (f g : Fault) → slice_get (faults m c) i ≡ Some f → next c f ≡ Some g → slice_get (faults m c) j ≡ Some g → HasClassAt m c class_of j
+HasNext m c class_of i = (j : ℕ) (f g : Fault) → slice_get (faults m c) i ≡ Some f
+    → next c f ≡ Some g → slice_get (faults m c) j ≡ Some g → HasClassAt m c class_of j
 
 -- it has the class of each fault on a stem
 abbrev pub HasStems : Model → List Statement → List ℕ → Type 0
-HasStems m c class_of = (i s : ℕ) (b : Bool) → slice_get (faults m c) i ≡ Some (record { model = m; line = line.Stem s; stuck = b }) → HasClassAt m c class_of i
+HasStems m c class_of = (i s : ℕ) (b : Bool) → slice_get (faults m c) i ≡ Some
+    (record { model = m; line = line.Stem s; stuck = b }) → HasClassAt m c class_of i
 
 -- what is known of one table is known of the other
 abbrev pub KeepsClasses : Model → List Statement → List ℕ → List ℕ → Type 0

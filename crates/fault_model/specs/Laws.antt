@@ -14,16 +14,19 @@ HasSolutions c = (t : Test) (f : Option Fault) → (v : Name → Bool) × Solves
 
 -- two valuations that solve give each signal the same bit
 abbrev pub HasOneSolution : List Statement → Type 0
-HasOneSolution c = (t : Test) (f : Option Fault) (v w : Name → Bool) (n : Name) → Solves c t f v → Solves c t f w → Contains (names c) n → v n ≡ w n
+HasOneSolution c = (t : Test) (f : Option Fault) (v w : Name → Bool) (n : Name) → Solves c t f v
+    → Solves c t f w → Contains (names c) n → v n ≡ w n
 
 -- each fault of the list has a representative, which is a fault of the list, and no second one
 abbrev pub HasRepresentatives : List Statement → Type 0
 HasRepresentatives c = (m : Model) (f : Fault) → Contains (faults m c) f
-    → (r : Fault) × Contains (faults m c) r × Represents c f r × ((s : Fault) → Represents c f s → s ≡ r)
+    → (r : Fault) × Contains (faults m c) r × Represents c f r
+    × ((s : Fault) → Represents c f s → s ≡ r)
 
 -- each fault of the list has a class, and no second one
 abbrev pub HasClasses : List Statement → Type 0
-HasClasses c = (m : Model) (f : Fault) → Contains (faults m c) f → (k : ℕ) × IsClassOf m c f k × ((j : ℕ) → IsClassOf m c f j → j ≡ k)
+HasClasses c = (m : Model) (f : Fault) → Contains (faults m c) f → (k : ℕ) × IsClassOf m c f k
+    × ((j : ℕ) → IsClassOf m c f j → j ≡ k)
 
 -- two faults of one class are detected by the same tests
 abbrev pub ClassesDetectSame : List Statement → Type 0
@@ -31,9 +34,14 @@ ClassesDetectSame c = (f g : Fault) (t : Test) → AreEquivalent c f g → Detec
 
 -- a test detects a fault exactly where it detects the representative of the fault's class
 abbrev pub RepresentativesDetectSame : List Statement → Type 0
-RepresentativesDetectSame c = (m : Model) (f r : Fault) (class : ℕ) (t : Test) → IsClassOf m c f class → slice_get (representatives m c) class ≡ Some r → Detects c t f ↔ Detects c t r
+RepresentativesDetectSame c = (m : Model) (f r : Fault) (class : ℕ) (t : Test)
+    → IsClassOf m c f class → slice_get (representatives m c) class ≡ Some r
+    → Detects c t f ↔ Detects c t r
 
--- whichever valuations solve, a fault is detected exactly where these two show different bits to some observer
+-- whichever valuations solve, a fault is detected exactly where these two show different bits to
+-- some observer
 abbrev pub DetectionIsOfAnySolution : List Statement → Type 0
-DetectionIsOfAnySolution c = (f : Fault) (t : Test) (v w : Name → Bool) → Solves c t None v → Solves c t (Some f) w
-    → Detects c t f ↔ ((observer : Sink × Name) × Contains (observers c) observer × (shows None v observer ≢ shows (Some f) w observer))
+DetectionIsOfAnySolution c = (f : Fault) (t : Test) (v w : Name → Bool) → Solves c t None v
+    → Solves c t (Some f) w
+    → Detects c t f ↔ ((observer : Sink × Name) × Contains (observers c) observer
+    × (shows None v observer ≢ shows (Some f) w observer))

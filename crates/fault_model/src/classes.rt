@@ -13,8 +13,8 @@ use bench_net::{Circuit, Kind, Sink};
 use std::alloc::{AllocError, Global};
 use std::marker::Model;
 
-/// The classes of equivalent faults of a circuit, numbered from 0 in the order of their representatives
-/// in the fault list.
+/// The classes of equivalent faults of a circuit, numbered from 0 in the order of their
+/// representatives in the fault list.
 ///
 /// No call takes memory or more time than a look-up.
 #[derive(Drop)]
@@ -29,7 +29,8 @@ impl Model for Classes {
 
     ghost Value = { Collapsed };
 
-    ghost view = { λ a. record { class_of = a.class_of.items; representative = a.representative.items } };
+    ghost view = { λ a. record { class_of = a.class_of.items; representative
+        = a.representative.items } };
 
     ghost invariant = { λ a. vec_len a.representative < 2 ^ 32 };
 }
@@ -59,10 +60,11 @@ impl Classes {
     }
 }
 
-/// The bit at which the output of a gate is stuck where a pin of it that is stuck at a bit fixes it: a
-/// controlling value fixes an AND, NAND, OR or NOR, and either value the one input of a NOT or BUFF. No
-/// value of one input fixes an XOR or XNOR. Of transition faults the rows of NOT and BUFF alone hold: of a
-/// gate with more inputs the bit of one of them under the test before doesn't follow from the output's.
+/// The bit at which the output of a gate is stuck where a pin of it that is stuck at a bit fixes
+/// it: a controlling value fixes an AND, NAND, OR or NOR, and either value the one input of a NOT
+/// or BUFF. No value of one input fixes an XOR or XNOR. Of transition faults the rows of NOT and
+/// BUFF alone hold: of a gate with more inputs the bit of one of them under the test before doesn't
+/// follow from the output's.
 fn next_stuck(model: crate::Model, kind: Kind, stuck: bool) -> Option<bool>
     ensures { result ≡ next_stuck model kind stuck }
 {
@@ -101,12 +103,14 @@ fn reading_gate(circuit: &Circuit, line: Line) -> Option<u32>
     }
 }
 
-/// The number of a fault's next fault, which no test tells apart from it, if it has one: where a gate's
-/// pin is all that reads the fault's line, the fault on the gate's stem that the table gives.
+/// The number of a fault's next fault, which no test tells apart from it, if it has one: where a
+/// gate's pin is all that reads the fault's line, the fault on the gate's stem that the table
+/// gives.
 fn next_fault(circuit: &Circuit, list: &Faults, fault: u32) -> Option<u32>
     requires same { list.now.list ≡ faults list.now.model circuit.now }
     requires in_range { fault < length list.now.list }
-    ensures { option_map (slice_get list.now.list) result ≡ option_map Some (option_and_then (next circuit.now) (slice_get list.now.list fault)) }
+    ensures { option_map (slice_get list.now.list) result ≡ option_map Some
+        (option_and_then (next circuit.now) (slice_get list.now.list fault)) }
 {
     let gate = reading_gate(circuit, list.line_of(fault))?;
     let kind = circuit.gate_of(gate)?.kind;
@@ -128,7 +132,9 @@ fn number_ends(alloc: Global, circuit: &Circuit, list: &Faults) -> Result<Ends, 
     ensures count { IfOk result (λ ends. length ends.class_of.items ≡ length list.now.list) }
     ensures few { IfOk result (λ ends. length ends.representative.items ≤ length list.now.list) }
     ensures classes { IfOk result (λ ends. HasEnds list.now.model circuit.now ends.class_of.items) }
-    ensures representatives { IfOk result (λ ends. map (slice_get list.now.list) ends.representative.items ≡ map Some (representatives list.now.model circuit.now)) }
+    ensures representatives { IfOk result
+        (λ ends. map (slice_get list.now.list) ends.representative.items ≡ map Some
+        (representatives list.now.model circuit.now)) }
 {
     let mut class_of = Vec::new(alloc);
     let mut representative = Vec::new(alloc);
@@ -159,8 +165,8 @@ fn follow(circuit: &Circuit, list: &Faults, class_of: &mut [u32], fault: u32)
     }
 }
 
-/// The classes of the faults on stems. Signals go from the highest level down, since a next fault is on
-/// the stem of a signal of a higher level.
+/// The classes of the faults on stems. Signals go from the highest level down, since a next fault
+/// is on the stem of a signal of a higher level.
 fn follow_stems(circuit: &Circuit, list: &Faults, class_of: &mut [u32])
     requires same { list.now.list ≡ faults list.now.model circuit.now }
     requires count { length class_of.old ≡ length list.now.list }
@@ -183,7 +189,8 @@ fn follow_all(circuit: &Circuit, list: &Faults, class_of: &mut [u32])
     requires count { length class_of.old ≡ length list.now.list }
     requires ends { HasEnds list.now.model circuit.now class_of.old }
     requires stems { HasStems list.now.model circuit.now class_of.old }
-    ensures { (i : ℕ) → i < length list.now.list → HasClassAt list.now.model circuit.now class_of.new i }
+    ensures { (i : ℕ) → i < length list.now.list
+        → HasClassAt list.now.model circuit.now class_of.new i }
 {
     for fault in 0..list.count() {
         follow(circuit, list, class_of, fault);
@@ -195,16 +202,17 @@ fn follow_chains(circuit: &Circuit, list: &Faults, class_of: &mut [u32])
     requires same { list.now.list ≡ faults list.now.model circuit.now }
     requires count { length class_of.old ≡ length list.now.list }
     requires ends { HasEnds list.now.model circuit.now class_of.old }
-    ensures known { (i : ℕ) → i < length list.now.list → HasClassAt list.now.model circuit.now class_of.new i }
+    ensures known { (i : ℕ) → i < length list.now.list
+        → HasClassAt list.now.model circuit.now class_of.new i }
     ensures circuit { IsCircuit circuit.now }
 {
     follow_stems(circuit, list, class_of);
     follow_all(circuit, list, class_of);
 }
 
-/// The classes of the faults of a circuit. A fault whose line is read by one gate pin alone goes with
-/// the fault on the gate's stem that no test tells apart from it, and so on along the gates. The end of
-/// this chain is the representative, and the faults with one representative are a class.
+/// The classes of the faults of a circuit. A fault whose line is read by one gate pin alone goes
+/// with the fault on the gate's stem that no test tells apart from it, and so on along the gates.
+/// The end of this chain is the representative, and the faults with one representative are a class.
 ///
 /// The list is that of the circuit. Time and memory are linear in the number of sinks.
 ///

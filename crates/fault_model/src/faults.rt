@@ -10,9 +10,9 @@ use bench_net::{Circuit, Sink};
 use std::alloc::{AllocError, Global};
 use std::marker::Model;
 
-/// The faults of a circuit, numbered from 0 in this order: for each signal its stem stuck at 0 and stuck
-/// at 1, and then, where two or more sinks read the signal, each branch stuck at 0 and stuck at 1. The
-/// branches go in the order of [`Circuit::sinks_of`].
+/// The faults of a circuit, numbered from 0 in this order: for each signal its stem stuck at 0 and
+/// stuck at 1, and then, where two or more sinks read the signal, each branch stuck at 0 and stuck
+/// at 1. The branches go in the order of [`Circuit::sinks_of`].
 ///
 /// No call takes memory or more time than a look-up.
 #[derive(Drop)]
@@ -33,7 +33,8 @@ impl Model for Faults {
 
     ghost view = { λ a. record { model = a.model; list = flat_map (both a.model) a.lines.items } };
 
-    ghost invariant = { λ a. AreStemsOf a.lines.items a.stems.items × IsWithinLimits a.lines.items };
+    ghost invariant = { λ a. AreStemsOf a.lines.items a.stems.items
+        × IsWithinLimits a.lines.items };
 }
 
 impl Faults {
@@ -59,14 +60,14 @@ impl Faults {
         self.lines[(fault / 2) as usize]
     }
 
-    /// Whether a fault, whose number is below [`Faults::count`], is stuck at 1, or slow to fall: the second
-    /// of its line.
+    /// Whether a fault, whose number is below [`Faults::count`], is stuck at 1, or slow to fall:
+    /// the second of its line.
     pub fn stuck_of(&self, fault: u32) -> bool
         requires { fault < length self.now.list }
         ensures { IfSome (slice_get self.now.list fault) (λ f. result ≡ f.stuck) }
     {
-        // The fault of bit 0 goes first. The number alone decides; the borrow lets the proof see of which
-        // lines the list is made.
+        // The fault of bit 0 goes first. The number alone decides; the borrow lets the proof see of
+        // which lines the list is made.
         let _lines = &self.lines;
         fault % 2 == 1
     }
@@ -74,8 +75,10 @@ impl Faults {
     /// The number of the fault on the stem of a signal, whose number is below that of the circuit's
     /// signals.
     pub fn stem_fault(&self, signal: u32, stuck: bool) -> u32
-        requires { Contains self.now.list (record { model = self.now.model; line = line.Stem signal; stuck = stuck }) }
-        ensures { slice_get self.now.list result ≡ Some (record { model = self.now.model; line = line.Stem signal; stuck = stuck }) }
+        requires { Contains self.now.list (record
+            { model = self.now.model; line = line.Stem signal; stuck = stuck }) }
+        ensures { slice_get self.now.list result ≡ Some
+            (record { model = self.now.model; line = line.Stem signal; stuck = stuck }) }
     {
         let at_zero = 2 * self.stems[signal as usize];
         if stuck { at_zero + 1 } else { at_zero }
@@ -93,8 +96,8 @@ pub fn list_faults(alloc: Global, circuit: &Circuit) -> Result<Faults, AllocErro
     list_faults_in(alloc, circuit, crate::Model::StuckAt)
 }
 
-/// The faults of a circuit under a model: signals in their order, of each the stem and then its branches in
-/// the order of the sinks, and of each line the fault of bit 0 and then that of bit 1.
+/// The faults of a circuit under a model: signals in their order, of each the stem and then its
+/// branches in the order of the sinks, and of each line the fault of bit 0 and then that of bit 1.
 ///
 /// # Errors
 ///
@@ -122,7 +125,8 @@ pub fn list_faults_in(
 
 /// The branches of a stem that these sinks read: none where there is one sink or no sink.
 fn push_branches(lines: &mut Vec<Line>, sinks: &[Sink]) -> Result<(), AllocError>
-    ensures { OnOk result (lines.new.items ≡ lines.old.items ++ map branch (if nat_le 2 (length sinks.now) then sinks.now else [])) }
+    ensures { OnOk result (lines.new.items ≡ lines.old.items
+        ++ map branch (if nat_le 2 (length sinks.now) then sinks.now else [])) }
 {
     if sinks.len() < 2 {
         return Ok(());

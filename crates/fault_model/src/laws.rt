@@ -1,6 +1,7 @@
 //! Laws of the fault model, on every circuit: what crates that simulate faults stand on.
 //!
-//! A law is a function without a body. Its clause is the law, and a proof names the function to use it.
+//! A law is a function without a body. Its clause is the law, and a proof names the function to use
+//! it.
 
 ghost use Rattle.std.specs.Prelude.{List};
 ghost use Rattle.bench_net.specs.Statement.{Statement};
@@ -9,8 +10,8 @@ ghost use Rattle.fault_model.specs.Collapse.{ClassesShowSame};
 ghost use Rattle.fault_model.specs.Detection.{ClassesDetectedSame, DetectedAsRepresentative};
 ghost use Rattle.fault_model.specs.Laws.{HasSolutions, HasOneSolution, HasRepresentatives, HasClasses, ClassesDetectSame, RepresentativesDetectSame, DetectionIsOfAnySolution};
 
-/// A circuit without cycles has exactly one solution under each test, without a fault and under each
-/// single stuck-at fault.
+/// A circuit without cycles has exactly one solution under each test, without a fault and under
+/// each single stuck-at fault.
 pub fn solutions()
     ensures exist { (c : List Statement) → IsWellFormed c → HasSolutions c }
     ensures are_one { (c : List Statement) → IsWellFormed c → HasOneSolution c }
@@ -22,15 +23,19 @@ pub fn collapsing()
     ensures classes { (c : List Statement) → IsWellFormed c → HasClasses c }
 {}
 
-/// Equivalent faults: two faults of one class show the same bits to every observer under every test, and
-/// so the same tests detect them (Bushnell and Agrawal, Essentials of Electronic Testing, on fault
-/// equivalence).
+/// Equivalent faults: two faults of one class show the same bits to every observer under every
+/// test, and so the same tests detect them (Bushnell and Agrawal, Essentials of Electronic Testing,
+/// on fault equivalence).
 pub fn equivalence()
     ensures show_same { (c : List Statement) → IsWellFormed c → HaveArities c → ClassesShowSame c }
-    ensures detected_by_same { (c : List Statement) → IsWellFormed c → HaveArities c → ClassesDetectSame c }
-    ensures detected_at_same { (c : List Statement) → IsWellFormed c → HaveArities c → ClassesDetectedSame c }
-    ensures detected_as_representative { (c : List Statement) → IsWellFormed c → HaveArities c → DetectedAsRepresentative c }
-    ensures as_representative { (c : List Statement) → IsWellFormed c → HaveArities c → RepresentativesDetectSame c }
+    ensures detected_by_same { (c : List Statement) → IsWellFormed c → HaveArities c
+        → ClassesDetectSame c }
+    ensures detected_at_same { (c : List Statement) → IsWellFormed c → HaveArities c
+        → ClassesDetectedSame c }
+    ensures detected_as_representative { (c : List Statement) → IsWellFormed c → HaveArities c
+        → DetectedAsRepresentative c }
+    ensures as_representative { (c : List Statement) → IsWellFormed c → HaveArities c
+        → RepresentativesDetectSame c }
 {}
 
 /// A simulator may take whichever solutions it finds: these decide detection.

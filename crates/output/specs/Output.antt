@@ -11,7 +11,8 @@ is_refusal (Err e) piece = true
 abbrev pub fails_after : ℕ → Bool → ℕ
 fails_after fails failed = if failed then min (fails + 1) (2 ^ 64 - 1) else fails
 
--- what contracts see of an output: the bytes that it has taken, where it tells them, and how many of its calls failed
+-- what contracts see of an output: the bytes that it has taken, where it tells them, and how many
+-- of its calls failed
 pub record Output : Type 0 where
   pub bytes : Option (List ℕ)
   pub fails : ℕ
@@ -26,7 +27,8 @@ TakesAll old new text = Appends old.bytes new.bytes text × (new.fails ≡ old.f
 
 -- a beginning of the text was taken, and a failure was counted
 abbrev pub TakesFront : Output → Output → List ℕ → Type 0
-TakesFront old new text = (front rest : List ℕ) × (text ≡ front ++ rest) × Appends old.bytes new.bytes front × HasFailed old.fails new.fails
+TakesFront old new text = (front rest : List ℕ) × (text ≡ front ++ rest)
+    × Appends old.bytes new.bytes front × HasFailed old.fails new.fails
 
 -- a call that writes a text: an Ok took all of it, an Err a beginning
 abbrev pub Writes : {T E : Type 0} → Result T E → Output → Output → List ℕ → Type 0

@@ -1,5 +1,5 @@
-//! Where bytes go: outputs that say how much of a piece they took and count how often they failed, and
-//! calls that put whole texts.
+//! Where bytes go: outputs that say how much of a piece they took and count how often they failed,
+//! and calls that put whole texts.
 #![tactic(auto)]
 
 ghost use Rattle.std.specs.List.{flat_map};
@@ -18,8 +18,8 @@ pub struct OutFailed;
 
 /// Something that takes bytes, and counts how often it failed to.
 pub trait Out {
-    // The bytes that it has taken, where it tells them, and how many of its calls failed, or took nothing
-    // of a piece that isn't empty. The number stays at the greatest u64.
+    // The bytes that it has taken, where it tells them, and how many of its calls failed, or took
+    // nothing of a piece that isn't empty. The number stays at the greatest u64.
     ghost seen: { Self → Output };
 
     /// Takes a front part of the piece and says how long it is; an error took nothing.
@@ -30,8 +30,8 @@ pub trait Out {
             ≡ fails_after (seen self.old).fails (is_refusal result piece.now) };
 }
 
-/// The output over a writer of std, by one `write` a call. It tells the bytes that the writer tells: over
-/// a vector, those that the vector holds.
+/// The output over a writer of std, by one `write` a call. It tells the bytes that the writer
+/// tells: over a vector, those that the vector holds.
 #[derive(Drop)]
 pub struct Plain<W> {
     writer: W,
@@ -74,7 +74,8 @@ impl<W: Write> Out for Plain<W> {
     }
 }
 
-/// Puts the whole piece, in as many calls as the output needs. A call that takes nothing is a failure.
+/// Puts the whole piece, in as many calls as the output needs. A call that takes nothing is a
+/// failure.
 pub fn put_all<W: Out>(piece: &[u8], out: &mut W) -> Result<(), OutFailed>
     ensures { Writes result (W.seen out.old) (W.seen out.new) piece.now }
 {

@@ -1,5 +1,5 @@
--- How the words of a list of tests lie: for each block of 64 tests a word for each source, in which bit k is
--- that of the block's test k.
+-- How the words of a list of tests lie: for each block of 64 tests a word for each source, in which
+-- bit k is that of the block's test k.
 use Rattle.std.specs.Prelude.{◌≡◌, ℕ, ◌+◌, ◌*◌, ◌/◌, ◌%◌, ◌<◌, ◌≤◌, All, Bool, ◌==◌, List, [], map, length, slice_index, slice_index_or}
 use Rattle.std.specs.Int.{bit_at}
 use Rattle.patterns.specs.Tests.{max_tests, blocks}
@@ -15,11 +15,14 @@ bit_of words test source = bit_at (word_at words (test / 64) source) (test % 64)
 
 -- the tests that the words hold
 unfoldable pub tests_of : ℕ → ℕ → List (List ℕ) → List (List Bool)
-tests_of width count words = map (λ test. map (λ source. bit_of words test source) (below width)) (below count)
+tests_of width count words = map (λ test. map (λ source. bit_of words test source) (below width))
+    (below count)
 
--- the words are those of this number of tests of this width, within the limit, and the bits past the last test are 0
+-- the words are those of this number of tests of this width, within the limit, and the bits past
+-- the last test are 0
 pub record AreWords (width count : ℕ) (words : List (List ℕ)) : Type 0 where
   pub limit : count ≤ max_tests
   pub block_count : length words ≡ blocks count
   pub each : All (λ block. length block ≡ width) words
-  pub idle : (block source k : ℕ) → count ≤ 64 * block + k → k < 64 → bit_at (word_at words block source) k ≡ 0
+  pub idle : (block source k : ℕ) → count ≤ 64 * block + k → k < 64
+      → bit_at (word_at words block source) k ≡ 0

@@ -21,34 +21,41 @@ use Rattle.report.specs.declared.text.SimFault.TheVariants as fault
 use Rattle.output.specs.Output.{Output, TakesAll, TakesFront}
 use Rattle.report.specs.Report.{report, listing}
 
--- the bytes are the report of a bench text and a test text under a model: each fault has the first test that detects it, or none
+-- the bytes are the report of a bench text and a test text under a model: each fault has the first
+-- test that detects it, or none
 abbrev pub IsReportOf : Model → List ℕ → List ℕ → Bool → List ℕ → Type 0
-IsReportOf m bench text list bytes = (c : List Statement) × (tests : TestList) × (firsts : List (Option ℕ)) × IsAccepted bench c
-    × HasTests text (length (sources c)) tests × AreFirsts m c tests.tests firsts × (bytes ≡ report m c firsts list)
+IsReportOf m bench text list bytes = (c : List Statement) × (tests : TestList)
+    × (firsts : List (Option ℕ)) × IsAccepted bench c
+    × HasTests text (length (sources c)) tests × AreFirsts m c tests.tests firsts
+    × (bytes ≡ report m c firsts list)
 
 -- the bytes are the listing of a bench text under a model
 abbrev pub IsListingOf : Model → List ℕ → List ℕ → Type 0
 IsListingOf m bench bytes = (c : List Statement) × (classes : Collapsed) × IsAccepted bench c
-    × AreClassesOf m c classes × (bytes ≡ listing m c classes.class_of (length classes.representative))
+    × AreClassesOf m c classes × (bytes ≡ listing m c classes.class_of
+    (length classes.representative))
 
--- What a call wrote whose text is of this kind: the whole text, and nothing else; a beginning of it, where the
--- output failed; or nothing, where anything else was refused.
+-- What a call wrote whose text is of this kind: the whole text, and nothing else; a beginning of
+-- it, where the output failed; or nothing, where anything else was refused.
 abbrev pub WritesOneOf : (List ℕ → Type 0) → Result (Unit {0}) SimFault → Output → Output → Type 0
 WritesOneOf IsText (Ok u) old new = (text : List ℕ) × IsText text × TakesAll old new text
-WritesOneOf IsText (Err (fault.Report f)) old new = (text : List ℕ) × IsText text × TakesFront old new text
+WritesOneOf IsText (Err (fault.Report f)) old new = (text : List ℕ) × IsText text
+    × TakesFront old new text
 WritesOneOf IsText (Err _) old new = new ≡ old
 
--- When each fault of the listing comes. Want of memory, and an output that takes nothing more, may come any time.
+-- When each fault of the listing comes. Want of memory, and an output that takes nothing more, may
+-- come any time.
 abbrev pub IsListingFault : List ℕ → SimFault → Type 0
 IsListingFault bench (fault.Bench f) = (f ≡ bench_fault.Memory) ⊎ IsRefused bench f
 IsListingFault bench fault.Memory = ⊤
 IsListingFault bench (fault.Report f) = ⊤
 IsListingFault bench _ = ⊥
 
--- the job of a bench text and a test text under a model: the circuit and the tests of the texts, with the circuit's faults and
--- classes
+-- the job of a bench text and a test text under a model: the circuit and the tests of the texts,
+-- with the circuit's faults and classes
 abbrev pub IsJobOf : Model → List ℕ → List ℕ → Parts → Type 0
-IsJobOf m bench text job = IsAccepted bench job.circuit × HasTests text (length (sources job.circuit)) job.tests × BelongTogether job
+IsJobOf m bench text job = IsAccepted bench job.circuit
+    × HasTests text (length (sources job.circuit)) job.tests × BelongTogether job
     × (job.list.model ≡ m)
 
 -- the tests are tests for the circuit

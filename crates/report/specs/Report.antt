@@ -23,7 +23,8 @@ line_text c (Pin gate pin) = codes "pin " ++ signal_text c gate ++ codes " " ++ 
 line_text c (Data cell) = codes "data " ++ cell_text c cell
 line_text c (Out output) = codes "out " ++ decimal (output + 1)
 
--- what is wrong with a line: it is stuck at 0 or at 1, slow to rise (to leave 0) or slow to fall (to leave 1)
+-- what is wrong with a line: it is stuck at 0 or at 1, slow to rise (to leave 0) or slow to fall
+-- (to leave 1)
 abbrev pub defect_text : Model → Bool → List ℕ
 defect_text StuckAt false = codes " sa0"
 defect_text StuckAt true = codes " sa1"
@@ -43,11 +44,13 @@ first_text (Some t) = decimal t
 abbrev pub two_digits : ℕ → List ℕ
 two_digits n = (48 + n / 10) ∷ (48 + n % 10) ∷ []
 
--- `D of T (P.PP%)`: with h = 10000 D div T, the whole part is h div 100 and the decimals are h mod 100
+-- `D of T (P.PP%)`: with h = 10000 D div T, the whole part is h div 100 and the decimals are h mod
+-- 100
 abbrev pub coverage_line : ℕ → ℕ → List ℕ
 coverage_line found total =
     let h : ℕ = 10000 * found / total in
-    decimal found ++ codes " of " ++ decimal total ++ codes " (" ++ decimal (h / 100) ++ codes "." ++ two_digits (h % 100) ++ codes "%)\n"
+    decimal found ++ codes " of " ++ decimal total ++ codes " (" ++ decimal (h / 100) ++ codes "."
+    ++ two_digits (h % 100) ++ codes "%)\n"
 
 -- a fault line: `FAULT FIRST`
 abbrev pub first_line : List Statement → Fault × Option ℕ → List ℕ
@@ -59,7 +62,8 @@ fault_lines m c firsts = flat_map (first_line c) (zip (faults m c) firsts)
 
 -- the report: the fault lines where they are asked for, and the coverage line
 abbrev pub report : Model → List Statement → List (Option ℕ) → Bool → List ℕ
-report m c firsts list = (if list then fault_lines m c firsts else []) ++ coverage_line (detected firsts) (length firsts)
+report m c firsts list = (if list then fault_lines m c firsts else [])
+    ++ coverage_line (detected firsts) (length firsts)
 
 -- a line of the listing: `FAULT class N`
 abbrev pub class_line : List Statement → Fault × ℕ → List ℕ
@@ -68,9 +72,12 @@ class_line c at = fault_text c at.0 ++ (codes " class " ++ decimal at.1 ++ codes
 -- the listing: a line for each fault in order, then `T faults in C classes`
 abbrev pub listing : Model → List Statement → List ℕ → ℕ → List ℕ
 listing m c class_of class_count =
-    flat_map (class_line c) (zip (faults m c) class_of) ++ (decimal (length (faults m c)) ++ codes " faults in " ++ decimal class_count ++ codes " classes\n")
+    flat_map (class_line c) (zip (faults m c) class_of)
+    ++ (decimal (length (faults m c)) ++ codes " faults in " ++ decimal class_count
+    ++ codes " classes\n")
 
--- the line's numbers are those of signals, pins, cells and outputs that the circuit has, as far as its text needs them
+-- the line's numbers are those of signals, pins, cells and outputs that the circuit has, as far as
+-- its text needs them
 abbrev pub IsLineOf : List Statement → Line → Type 0
 IsLineOf c (Stem s) = s < length (names c)
 IsLineOf c (Pin gate pin) = gate < length (names c)

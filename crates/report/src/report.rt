@@ -16,7 +16,8 @@ use itoa::Buffer;
 use thiserror::Error;
 use workers::Verdicts;
 
-/// Writes a line of another kind than a pin, and what is said of it: the kind, its name or number, the rest.
+/// Writes a line of another kind than a pin, and what is said of it: the kind, its name or number,
+/// the rest.
 fn put_named<'a, W: Out>(
     kind: &'a str,
     name: &'a str,
@@ -62,7 +63,8 @@ fn defect(model: Model, bit: bool) -> &'static str
     }
 }
 
-/// Writes a line of the circuit, and what is said of it. Pins and OUTPUT lines count from 1 in the text.
+/// Writes a line of the circuit, and what is said of it. Pins and OUTPUT lines count from 1 in the
+/// text.
 fn put_line<'a, W: Out>(
     circuit: &Circuit,
     line: Line,
@@ -149,7 +151,8 @@ fn put_fault_line<'a, W: Out>(
     put_named(before, said, "\n", out)
 }
 
-/// Writes the line of the report for a fault: the fault, and the first test that detects it or `none`.
+/// Writes the line of the report for a fault: the fault, and the first test that detects it or
+/// `none`.
 fn put_first_line<W: Out>(
     circuit: &Circuit,
     list: &Faults,
@@ -266,7 +269,8 @@ pub fn write_report<W: Out>(
     Ok(())
 }
 
-/// Writes the listing: each fault with its class, then how many there are of both. It takes no memory.
+/// Writes the listing: each fault with its class, then how many there are of both. It takes no
+/// memory.
 pub fn write_listing<W: Out>(
     circuit: &Circuit,
     list: &Faults,
@@ -276,7 +280,8 @@ pub fn write_listing<W: Out>(
     requires list { list.now.list ≡ faults list.now.model circuit.now }
     requires classes { AreClassesOf list.now.model circuit.now classes.now }
     ensures { Writes result (W.seen out.old) (W.seen out.new)
-        (listing list.now.model circuit.now classes.now.class_of (length classes.now.representative)) }
+        (listing list.now.model circuit.now classes.now.class_of
+        (length classes.now.representative)) }
 {
     put_classes(circuit, list, classes, out)?;
     put_counts(list.count(), classes.count(), out)?;

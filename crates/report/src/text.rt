@@ -123,8 +123,8 @@ impl From<AllocError> for SimFault {
     }
 }
 
-/// Reads a circuit and tests for it, and writes the report of the stuck-at faults: [`simulate_text_in`]
-/// under [`Model::StuckAt`].
+/// Reads a circuit and tests for it, and writes the report of the stuck-at faults:
+/// [`simulate_text_in`] under [`Model::StuckAt`].
 pub fn simulate_text<R: Threads + Wait, W: Out>(
     rt: &R,
     alloc: Global,
@@ -142,10 +142,10 @@ pub fn simulate_text<R: Threads + Wait, W: Out>(
     simulate_text_in(rt, alloc, Model::StuckAt, bench, tests, workers, list, out)
 }
 
-/// Reads a circuit and tests for it, and writes the report of the faults of a model: with `list` the
-/// first test that detects each fault, and then the coverage. The work is done by workers in threads
-/// of their own, which are joined before this returns, and the report is the same whatever their
-/// number.
+/// Reads a circuit and tests for it, and writes the report of the faults of a model: with `list`
+/// the first test that detects each fault, and then the coverage. The work is done by workers in
+/// threads of their own, which are joined before this returns, and the report is the same whatever
+/// their number.
 ///
 /// The bench text is read before the tests, then the number of pieces is looked at, and then the
 /// number of workers; nothing is written before the verdicts are there.
@@ -170,8 +170,8 @@ pub fn simulate_text_in<R: Threads + Wait, W: Out>(
     Ok(())
 }
 
-/// Reads a circuit, tests for it and an order of moves, and writes the report of the stuck-at faults:
-/// [`schedule_text_in`] under [`Model::StuckAt`].
+/// Reads a circuit, tests for it and an order of moves, and writes the report of the stuck-at
+/// faults: [`schedule_text_in`] under [`Model::StuckAt`].
 pub fn schedule_text<W: Out>(
     alloc: Global,
     bench: &[u8],
@@ -201,12 +201,13 @@ pub fn schedule_text<W: Out>(
 }
 
 /// Reads a circuit, tests for it and an order of moves, and writes the report of the faults of a
-/// model, as [`simulate_text_in`] does and with the same bytes. The work is done by one thread, which
-/// makes the moves of the workers in the order that the text gives, and then lets all move in turn.
+/// model, as [`simulate_text_in`] does and with the same bytes. The work is done by one thread,
+/// which makes the moves of the workers in the order that the text gives, and then lets all move in
+/// turn.
 ///
-/// The bench text is read before the tests, and the tests before the order; then the number of pieces
-/// is looked at, and then the number of workers. Where there are to be no workers, each row of an
-/// order text is at fault already. Nothing is written before the verdicts are there.
+/// The bench text is read before the tests, and the tests before the order; then the number of
+/// pieces is looked at, and then the number of workers. Where there are to be no workers, each row
+/// of an order text is at fault already. Nothing is written before the verdicts are there.
 pub fn schedule_text_in<W: Out>(
     alloc: Global,
     model: Model,
@@ -299,15 +300,16 @@ pub fn faults_text<W: Out>(alloc: Global, bench: &[u8], out: &mut W) -> Result<(
     faults_text_in(alloc, Model::StuckAt, bench, out)
 }
 
-/// Reads a circuit, and writes the listing of the faults of a model: each fault with its class, and how
-/// many there are of both.
+/// Reads a circuit, and writes the listing of the faults of a model: each fault with its class, and
+/// how many there are of both.
 pub fn faults_text_in<W: Out>(
     alloc: Global,
     model: Model,
     bench: &[u8],
     out: &mut W,
 ) -> Result<(), SimFault>
-    ensures written { WritesOneOf (IsListingOf model bench.now) result (W.seen out.old) (W.seen out.new) }
+    ensures written { WritesOneOf (IsListingOf model bench.now) result (W.seen out.old)
+        (W.seen out.new) }
     ensures refused { IfErr result (IsListingFault bench.now) }
 {
     let circuit = read_bench(alloc, bench)?;

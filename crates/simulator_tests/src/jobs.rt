@@ -16,8 +16,8 @@ pub fn job_of(alloc: Global, bench: &[u8], tests: &[u8], model: Model) -> Result
     Ok(Job::new(alloc, circuit, faults, classes, tests)?)
 }
 
-/// Numbers that look random, always the same (a linear congruential generator: Knuth, The Art of Computer
-/// Programming, volume 2).
+/// Numbers that look random, always the same (a linear congruential generator: Knuth, The Art of
+/// Computer Programming, volume 2).
 #[derive(Drop)]
 pub struct Numbers {
     state: u64,
@@ -42,8 +42,8 @@ impl Numbers {
     }
 }
 
-/// A bench text of this many inputs and gates. A gate reads of the 30 signals before it, so that paths meet
-/// again. The last 12 signals are outputs, and 4 cells read others.
+/// A bench text of this many inputs and gates. A gate reads of the 30 signals before it, so that
+/// paths meet again. The last 12 signals are outputs, and 4 cells read others.
 pub fn random_bench(
     alloc: Global,
     numbers: &mut Numbers,

@@ -1,5 +1,5 @@
-//! Tests of the simulator on worked circuits, and against a plain evaluation that is written apart: one
-//! fault, one test and one gate at a time.
+//! Tests of the simulator on worked circuits, and against a plain evaluation that is written apart:
+//! one fault, one test and one gate at a time.
 #![tactic(auto)]
 
 #[cfg(test)]

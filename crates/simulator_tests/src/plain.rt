@@ -1,5 +1,5 @@
-//! A plain evaluation: every gate under one test at a time, on bits, with the rules of faults written out
-//! again.
+//! A plain evaluation: every gate under one test at a time, on bits, with the rules of faults
+//! written out again.
 
 use bench_net::{Circuit, Kind};
 use block_sim::Job;

@@ -96,8 +96,8 @@ fn c17_with_4096_tests_stays_within_the_bound(rt: HostRuntime) -> Result<(), Fai
     Ok(())
 }
 
-/// A circuit with tests: as many rows `0` as `zeros`, and then `tests`. For each fault of the list the first
-/// test that detects it.
+/// A circuit with tests: as many rows `0` as `zeros`, and then `tests`. For each fault of the list
+/// the first test that detects it.
 #[derive(Clone, Copy)]
 struct Worked {
     name: &'static str,

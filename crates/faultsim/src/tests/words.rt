@@ -65,7 +65,8 @@ pub static MISUSED: [(&str, &str); 18] = [
 ];
 
 /// What help tells: the version, each option with the name of its value, the defaults, the range of
-/// the workers, a worked example and the status. The outputs of the examples are cases of their own.
+/// the workers, a worked example and the status. The outputs of the examples are cases of their
+/// own.
 pub static HELP: [(&str, &str); 18] = [
     ("faultsim --version", "faultsim 0.2.0\n"),
     ("faultsim --help", "6 of 6 (100.00%)"),
