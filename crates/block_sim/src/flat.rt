@@ -16,8 +16,8 @@ use bench_net::{Circuit, Kind, Sink};
 use std::alloc::{AllocError, Global};
 use std::marker::Model;
 
-/// A gate that drives a signal: its kind with the form of that, and the signal that each of its pins
-/// reads, in order.
+/// A gate that drives a signal: its kind with the form of that, and the signal that each of its
+/// pins reads, in order.
 #[derive(Clone, Copy)]
 pub struct Gate<'a> {
     pub kind: Kind,

@@ -6,8 +6,8 @@ ghost use Rattle.block_sim.specs.Forms.{IsFormOf};
 
 use bench_net::Kind;
 
-/// A gate as the AND or the XOR of what its pins read. An AND may turn each pin round, and either may
-/// be turned round as a whole: an OR is an AND with both.
+/// A gate as the AND or the XOR of what its pins read. An AND may turn each pin round, and either
+/// may be turned round as a whole: an OR is an AND with both.
 #[derive(Clone, Copy)]
 pub struct Form {
     pub is_xor: bool,

@@ -3,7 +3,8 @@
 //! Bit `k` of a word is the bit of test `64 * block + k`. A gate is evaluated on a whole word at once
 //! (parallel-pattern simulation: Bushnell and Agrawal, Essentials of Electronic Testing).
 
-ghost use Rattle.std.specs.Prelude.{◌≡◌, ℕ, ◌+◌, ◌-◌, ◌^◌, ◌<◌, ◌≤◌, All, min, length, None, slice_get, slice_index_or};
+ghost use Rattle.std.specs.Prelude.{◌≡◌, ℕ, ◌+◌, ◌-◌, ◌^◌, ◌<◌, ◌≤◌, All, min, length, None};
+ghost use Rattle.std.specs.Prelude.{slice_get, slice_index_or};
 ghost use Rattle.std.specs.List.{list_all};
 ghost use Rattle.bench_net.specs.Scan.{names, sources, name_of, gate_of};
 ghost use Rattle.bench_net.specs.Circuit.{IsCircuit, max_sinks};
@@ -51,8 +52,8 @@ fn seen(fault: Option<Stuck>, own: Line, word: u64) -> u64
     }
 }
 
-/// The word that a pin of a gate reads: that of its signal, turned in the lanes in which that differs,
-/// or the stuck bit where the fault is on the pin.
+/// The word that a pin of a gate reads: that of its signal, turned in the lanes in which that
+/// differs, or the stuck bit where the fault is on the pin.
 #[inline(always)]
 fn pin_word(
     line: Gate<'_>,
@@ -77,23 +78,24 @@ fn pin_word(
     seen(fault, own, words[signal] ^ delta[signal])
 }
 
-/// What the words of a gate's pins come to: their AND, of each turned where the form asks for that, and
-/// their XOR.
+/// What the words of a gate's pins come to: their AND, of each turned where the form asks for that,
+/// and their XOR.
 #[derive(Clone, Copy)]
 struct Folds {
     all: u64,
     odd: u64,
 }
 
-/// What the words of a gate's pins come to. The first and the last are read apart, so that a gate of one
-/// pin or two, as most are, takes no turn of the loop: which of the two it is isn't asked.
+/// What the words of a gate's pins come to. The first and the last are read apart, so that a gate of
+/// one pin or two, as most are, takes no turn of the loop: which of the two it is isn't asked.
 #[inline(always)]
 fn folds_of(line: Gate<'_>, gate: u32, fault: Option<Stuck>, words: &[u64], delta: &[u64]) -> Folds
     requires some { 0 < length line.pins.now }
     requires pins_in { All (λ p. p < length words.now) line.pins.now }
     requires same { length words.now ≤ length delta.now }
     requires few { length line.pins.now ≤ max_sinks }
-    ensures all { (k : ℕ) → k < 64 → lane result.all k ≡ list_all (λ b. turned line.entry.form.turns_pins b)
+    ensures all { (k : ℕ) → k < 64
+        → lane result.all k ≡ list_all (λ b. turned line.entry.form.turns_pins b)
         (pin_bits (fault_of fault) gate line.entry.pins.now words.now delta.now k) }
     ensures odd { (k : ℕ) → k < 64 → lane result.odd k
         ≡ is_odd (pin_bits (fault_of fault) gate line.entry.pins.now words.now delta.now k) }
