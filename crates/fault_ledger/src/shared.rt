@@ -113,7 +113,7 @@ impl SharedLedger {
     /// It is refused, in this order, with [`LedgerFault::NoWorkers`], with
     /// [`LedgerFault::TooManyWorkers`] above 64 workers, with [`LedgerFault::TooManyPieces`] above
     /// 16,777,216 pieces, and with [`LedgerFault::Memory`]. It takes a byte a piece, twice for a
-    /// moment, and for each seat 4 bytes a class, for the first 65,536 classes.
+    /// moment, and for each seat 8 bytes a class, for the first 65,536 classes.
     #[tactic(auto, using(crate::proofs::Deals::newcomers_placed))]
     pub fn new(
         alloc: Global,
@@ -216,9 +216,10 @@ impl SharedLedger {
     /// step.
     ///
     /// The looks begin at the first block that the seat hasn't seen clear, which it remembers for
-    /// the first 65,536 classes; for any other class they begin at block 0. It takes at most the
-    /// time of two looks at each block from there to the piece's, so constant time where the seat
-    /// has seen all earlier blocks clear, or all up to a hit.
+    /// the first 65,536 classes; for any other class they begin at block 0. Where it remembers that
+    /// block as a hit it takes no look. It takes at most the time of two looks at each block from
+    /// there to the piece's, so constant time where the seat has seen all earlier blocks clear, or
+    /// all up to a hit.
     ///
     /// It is refused with [`Refusal::NothingHeld`], without a step, else, after the looks, with
     /// [`Refusal::NoEarlierHit`] where no earlier block of the class was a hit at the first of

@@ -205,7 +205,8 @@ fn a_hit_of_block_zero_drops_block_one(rt: HostRuntime) -> Result<(), Fail> {
         (Call::Status(1), Reply::Refused(Refusal::NoSuchClass)),
         (Call::Finished, ALL_FINISHED),
     ];
-    both_reply(&rt, rt.alloc(), shape(1, 65, 1), &steps)?;
+    let closed = both_reply(&rt, rt.alloc(), shape(1, 65, 1), &steps)?;
+    assert_eq!(rt; closed.skipped(), 1);
     Ok(())
 }
 
