@@ -19,7 +19,7 @@ use Rattle.bench_net.specs.Refusal.{at_line, IsCyclic, IsAccepted, IsRefused}
 use Rattle.bench_net.specs.Stored.{name_at, statement_of, statements_of, AreLinesOf, AreStatements, IsCyclicLine, AreRefused}
 use Rattle.lists.proofs.Places.{from_mapped}
 use Rattle.bench_net.proofs.Answered.{first_same}
-use Rattle.bench_net.proofs.Arities.{arities_of_text}
+use Rattle.bench_net.proofs.Words.{arities_of_text}
 use Rattle.bench_net.proofs.Entries.{statements_numbered}
 
 -- the numbers of entries, which rise, and their statements

@@ -2,7 +2,7 @@
 -- Proofs of the crates above cite these alone.
 pub use Rattle.bench_net.proofs.Answer.{answer_text, is_in}
 pub use Rattle.bench_net.proofs.Answered.{accepted_by, refused_by}
-pub use Rattle.bench_net.proofs.Checked.{accepted, bytes_refl, same_bytes, stuck, well_formed}
+pub use Rattle.bench_net.proofs.Checked.{bytes_refl, same_bytes, stuck}
 pub use Rattle.bench_net.proofs.Numbers.{at_position, definition_defines, name_of-signal, signal-name_of}
 pub use Rattle.bench_net.proofs.Reader.{complete_states}
 pub use Rattle.bench_net.proofs.SignalsCount.{sinks_counted, sum_over}

@@ -1,4 +1,4 @@
--- The names that a text defines are words, so they are UTF-8.
+-- What a line spells, of its statement: a defined name is a word, so it is UTF-8, and a gate has the arity of its kind.
 use Rattle.std.proofs.Common.{◌≡◌, ◌<◌, ◌≤◌, ℕ, zero, suc, subst, true, not, ◌&&◌, List, [], ◌∷◌, arith, inl, inr, leb}
 use Rattle.std.specs.Prelude.{Option, None, Some, slice_get, ◌==◌}
 use Rattle.std.specs.List.{All, AllZip, list_all}
@@ -8,11 +8,12 @@ use Rattle.std.proofs.lemmas.Bool.{leb-true, and_parts}
 use Rattle.std.proofs.lemmas.List.Elements.{All-cons, All-nil}
 use Rattle.std.proofs.lemmas.Str.{IsUtf8-from_ascii}
 use Rattle.std.proofs.lemmas.Str.Ascii.{IsAscii-from_all}
-use Rattle.bench_net.specs.Text.{is_word_byte, is_mark, Spells}
+use Rattle.bench_net.specs.Text.{is_word_byte, is_mark, Spells, lines}
 use Rattle.bench_net.specs.Statement.{Name, Statement, Input, Output, Gate, Dff, defined}
-use Rattle.bench_net.specs.Reading.{States, statements}
+use Rattle.bench_net.specs.Reading.{States, LinesState, statements}
 use Rattle.bench_net.specs.Scan.{names}
-use Rattle.lists.proofs.Members.{Among, joined_from}
+use Rattle.bench_net.specs.Circuit.{HaveArities}
+use Rattle.lists.proofs.Members.{Among, among, joined_from}
 use Rattle.bench_net.proofs.Answered.{stated_at}
 
 word_ascii : (b : ℕ) → is_word_byte b ≡ true → b < 128
@@ -59,3 +60,10 @@ names_utf8 ls stated each n inside =
     let place = stated_at stated s.0 s.1 in
     let line = states_at ls stated place.0 (Some s.0) each place.1 in
     IsUtf8-from_ascii n (IsAscii-from_all n (all_ascii n (defined_word line.0 s.0 n line.1 s.2)))
+
+-- the statements of a text have the arities of their kinds
+pub arities_of_text : (text : List ℕ) (stated : List (Option Statement)) → LinesState text stated
+    → HaveArities (statements stated)
+arities_of_text text stated each n kind args at =
+    let place = stated_at stated (Gate n kind args) (among _ _ at) in
+    (states_at (lines text) stated place.0 (Some (Gate n kind args)) each place.1).1.2.2

@@ -2,6 +2,7 @@
 use Rattle.std.specs.Prelude.{◌≡◌, ◌≢◌, ℕ, ◌+◌, ◌<◌, ◌≤◌, ◌^◌, ◌==◌, Bool, List, [], ◌∷◌, ◌++◌, map, flat_map, filter, length, Contains, Option, Some, None, is_some, slice_get, slice_index, slice_range}
 use Rattle.std.specs.List.{enumerate_from, filter_map}
 use Rattle.bench_net.specs.declared.tables.Tables.{Tables}
+pub use Rattle.bench_net.specs.Stored.{defined_number}
 use Rattle.bench_net.specs.Stored.{defined_numbers, read_numbers}
 use Rattle.bench_net.specs.declared.line.Line.{Line}
 use Rattle.bench_net.specs.declared.line.Line.TheVariants as line
@@ -25,14 +26,7 @@ abbrev pub cell_numbers : Line → Option ScanCell
 cell_numbers (line.Dff q d) = Some (record { q = q; d = d })
 cell_numbers _ = None
 
--- the number that a line defines
-abbrev pub defined_number : Line → Option ℕ
-defined_number (line.Input s) = Some s
-defined_number (line.Output s) = None
-defined_number (line.Gate s gate) = Some s
-defined_number (line.Dff q d) = Some q
-
--- every line but an OUTPUT line defines a signal
+-- a line defines a signal
 abbrev pub defines_number : Line → Bool
 defines_number l = is_some (defined_number l)
 

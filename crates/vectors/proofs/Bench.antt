@@ -9,8 +9,8 @@ use Rattle.bench_net.proofs.Public.{answer_text, accepted_by, refused_by}
 use Rattle.vectors.proofs.Circuits.{c17, and_of_two, inverter_loop, buffer, output_and_inverter, xor_of_one, scan_cell, cell_of_itself}
 
 -- records, so that text and circuit or fault are read off the statement
-record Accepts (text : List ℕ) (c : List Statement) : Type 0 where
-  accepted : IsAccepted text c
+pub record Accepts (text : List ℕ) (c : List Statement) : Type 0 where
+  pub accepted : IsAccepted text c
 
 record Refuses (text : List ℕ) (fault : BenchFault) : Type 0 where
   refused : IsRefused text fault
@@ -21,13 +21,13 @@ accepts {text} {c} e = record { accepted = accepted_by text c e }
 refuses : {text : List ℕ} {fault : BenchFault} → answer_text text ≡ Err fault → Refuses text fault
 refuses {text} {fault} e = record { refused = refused_by text fault e }
 
-c17_text : Accepts (codes "INPUT(G1)" ++ (10 ∷ []) ++ codes "INPUT(G2)" ++ (10 ∷ []) ++ codes "INPUT(G3)" ++ (10 ∷ []) ++ codes "INPUT(G6)" ++ (10 ∷ []) ++ codes "INPUT(G7)" ++ (10 ∷ []) ++ codes "OUTPUT(G22)" ++ (10 ∷ []) ++ codes "OUTPUT(G23)" ++ (10 ∷ []) ++ codes "G10 = NAND(G1, G3)" ++ (10 ∷ []) ++ codes "G11 = NAND(G3, G6)" ++ (10 ∷ []) ++ codes "G16 = NAND(G2, G11)" ++ (10 ∷ []) ++ codes "G19 = NAND(G11, G7)" ++ (10 ∷ []) ++ codes "G22 = NAND(G10, G16)" ++ (10 ∷ []) ++ codes "G23 = NAND(G16, G19)" ++ (10 ∷ [])) c17
+pub c17_text : Accepts (codes "INPUT(G1)" ++ (10 ∷ []) ++ codes "INPUT(G2)" ++ (10 ∷ []) ++ codes "INPUT(G3)" ++ (10 ∷ []) ++ codes "INPUT(G6)" ++ (10 ∷ []) ++ codes "INPUT(G7)" ++ (10 ∷ []) ++ codes "OUTPUT(G22)" ++ (10 ∷ []) ++ codes "OUTPUT(G23)" ++ (10 ∷ []) ++ codes "G10 = NAND(G1, G3)" ++ (10 ∷ []) ++ codes "G11 = NAND(G3, G6)" ++ (10 ∷ []) ++ codes "G16 = NAND(G2, G11)" ++ (10 ∷ []) ++ codes "G19 = NAND(G11, G7)" ++ (10 ∷ []) ++ codes "G22 = NAND(G10, G16)" ++ (10 ∷ []) ++ codes "G23 = NAND(G16, G19)" ++ (10 ∷ [])) c17
 c17_text = accepts refl
 
 and_of_two_text : Accepts (codes "INPUT(a)" ++ (10 ∷ []) ++ codes "INPUT(b)" ++ (10 ∷ []) ++ codes "OUTPUT(z)" ++ (10 ∷ []) ++ codes "z = AND(a, b)" ++ (10 ∷ [])) and_of_two
 and_of_two_text = accepts refl
 
-inverter_loop_text : Accepts (codes "q = DFF(d)" ++ (10 ∷ []) ++ codes "d = NOT(q)" ++ (10 ∷ [])) inverter_loop
+pub inverter_loop_text : Accepts (codes "q = DFF(d)" ++ (10 ∷ []) ++ codes "d = NOT(q)" ++ (10 ∷ [])) inverter_loop
 inverter_loop_text = accepts refl
 
 output_and_inverter_text : Accepts (codes "INPUT(a)" ++ (10 ∷ []) ++ codes "OUTPUT(a)" ++ (10 ∷ []) ++ codes "OUTPUT(z)" ++ (10 ∷ []) ++ codes "z = NOT(a)" ++ (10 ∷ [])) output_and_inverter
@@ -36,7 +36,7 @@ output_and_inverter_text = accepts refl
 xor_of_one_text : Accepts (codes "INPUT(a)" ++ (10 ∷ []) ++ codes "OUTPUT(z)" ++ (10 ∷ []) ++ codes "z = XOR(a, a)" ++ (10 ∷ [])) xor_of_one
 xor_of_one_text = accepts refl
 
-scan_cell_text : Accepts (codes "INPUT(a)" ++ (10 ∷ []) ++ codes "OUTPUT(y)" ++ (10 ∷ []) ++ codes "q = DFF(y)" ++ (10 ∷ []) ++ codes "y = AND(a, q)" ++ (10 ∷ [])) scan_cell
+pub scan_cell_text : Accepts (codes "INPUT(a)" ++ (10 ∷ []) ++ codes "OUTPUT(y)" ++ (10 ∷ []) ++ codes "q = DFF(y)" ++ (10 ∷ []) ++ codes "y = AND(a, q)" ++ (10 ∷ [])) scan_cell
 scan_cell_text = accepts refl
 
 two_gate_cycle : Refuses (codes "a = NOT(b)" ++ (10 ∷ []) ++ codes "b = NOT(a)" ++ (10 ∷ [])) (Cycle 1)
@@ -72,10 +72,10 @@ undefined_output = refuses refl
 syntax_first : Refuses (codes "OUTPUT(z)" ++ (10 ∷ []) ++ codes ")" ++ (10 ∷ [])) (Syntax 2)
 syntax_first = refuses refl
 
-odd_spelling : Accepts (codes "input( a )" ++ (13 ∷ []) ++ (10 ∷ []) ++ codes "Output(z)" ++ (13 ∷ []) ++ (10 ∷ []) ++ (13 ∷ []) ++ (10 ∷ []) ++ codes "z=buf(a) # x") buffer
+pub odd_spelling : Accepts (codes "input( a )" ++ (13 ∷ []) ++ (10 ∷ []) ++ codes "Output(z)" ++ (13 ∷ []) ++ (10 ∷ []) ++ (13 ∷ []) ++ (10 ∷ []) ++ codes "z=buf(a) # x") buffer
 odd_spelling = accepts refl
 
-self_cell : Accepts (codes "z = DFF(z)" ++ (10 ∷ [])) cell_of_itself
+pub self_cell : Accepts (codes "z = DFF(z)" ++ (10 ∷ [])) cell_of_itself
 self_cell = accepts refl
 
 fed_by_cycle : Refuses (codes "INPUT(a)" ++ (10 ∷ []) ++ codes "b = NOT(c)" ++ (10 ∷ []) ++ codes "c = AND(a, d)" ++ (10 ∷ []) ++ codes "d = BUFF(c)" ++ (10 ∷ [])) (Cycle 2)

@@ -10,40 +10,33 @@ use Rattle.bench_net.specs.Text.{Spells, Open, Word}
 use Rattle.bench_net.specs.Scan.{signal, sinks}
 use Rattle.bench_net.specs.Circuit.{IsWellFormed, IsStuck}
 use Rattle.bench_net.specs.Refusal.{IsAccepted, IsRefused, IsSyntaxFault}
-use Rattle.bench_net.proofs.Public.{complete_states, is_in, well_formed, stuck, accepted}
+use Rattle.bench_net.proofs.Public.{complete_states, is_in, stuck}
 use Rattle.fault_model.specs.declared.Model.TheVariants.{StuckAt}
 use Rattle.fault_model.specs.declared.Line.TheVariants as line
 use Rattle.fault_model.specs.Solution.{Solves, Detects}
 use Rattle.fault_model.specs.Collapse.{Represents}
 use Rattle.fault_model.proofs.Public.{bit_within, rep_represents, solves, detects}
+use Rattle.vectors.proofs.Bench.{c17_text, inverter_loop_text, scan_cell_text, self_cell, odd_spelling}
 use Rattle.vectors.proofs.Circuits.{c17, inverter_loop, buffer, output_and_inverter, xor_of_one, scan_cell, cell_of_itself, cycle_with_tail}
 
 abbrev number_in : List Name → Name → ℕ
 number_in order n = position_or_len (bytes_eq n) order
 
--- in c17 the order of the lines is a numbering
+-- the circuit of a text that is accepted is well-formed
 c17_well_formed : IsWellFormed c17
-c17_well_formed = well_formed c17 (signal c17) (λ e. cc) refl refl refl
+c17_well_formed = c17_text.accepted.3
 
 inverter_loop_well_formed : IsWellFormed inverter_loop
-inverter_loop_well_formed = well_formed inverter_loop (signal inverter_loop) (λ e. cc) refl refl refl
+inverter_loop_well_formed = inverter_loop_text.accepted.3
 
 scan_cell_well_formed : IsWellFormed scan_cell
-scan_cell_well_formed = well_formed scan_cell (signal scan_cell) (λ e. cc) refl refl refl
+scan_cell_well_formed = scan_cell_text.accepted.3
 
 cell_of_itself_well_formed : IsWellFormed cell_of_itself
-cell_of_itself_well_formed = well_formed cell_of_itself (signal cell_of_itself) (λ e. cc) refl refl refl
+cell_of_itself_well_formed = self_cell.accepted.3
 
 buffer_well_formed : IsWellFormed buffer
-buffer_well_formed = well_formed buffer (signal buffer) (λ e. cc) refl refl refl
-
--- `input( a )`, `Output(z)`, an empty line, `z=buf(a) # x`, with carriage returns and no line end at the last
-abbrev odd_text : List ℕ
-odd_text = codes "input( a )" ++ 13 ∷ 10 ∷ codes "Output(z)" ++ 13 ∷ 10 ∷ 13 ∷ 10 ∷ codes "z=buf(a) # x"
-
-odd_accepted : IsAccepted odd_text buffer
-odd_accepted = accepted odd_text (Some (Input (codes "a")) ∷ Some (Output (codes "z")) ∷ None ∷ Some (Gate (codes "z") Buff (codes "a" ∷ [])) ∷ [])
-    refl (lit≤ tt) (lit≤ tt) (lit≤ tt) buffer_well_formed
+buffer_well_formed = odd_spelling.accepted.3
 
 -- a line by hand: the tokens of ` a )` and the comment
 by_hand : Spells (codes "(a # x") (Open ∷ Word (codes "a") ∷ [])
