@@ -78,11 +78,7 @@ pub key_in : (ks : List (Bor Name)) (n : Name)
 key_in [] n = refl
 key_in (k ∷ ks) n = ap (λ more. bytes_eq n k.now || more) (key_in ks n)
 
--- whether a statement that defines one name, or none, defines one of these
+-- whether a statement that defines one name defines one of these
 pub redefines_one : (before : List Name) (s : Statement) (n : Name) → defined s ≡ n ∷ []
     → redefines before s ≡ is_in before n
 redefines_one before s n e = ap (list_any (is_in before)) e ∙ or-false (is_in before n)
-
-pub redefines_none : (before : List Name) (s : Statement) → defined s ≡ []
-    → redefines before s ≡ false
-redefines_none before s e = ap (list_any (is_in before)) e

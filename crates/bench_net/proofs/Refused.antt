@@ -63,8 +63,8 @@ stuck_name ns lines places s named are lt stuck =
 -- the numbers below n
 below_among : (n m : ℕ) → m < n → Among m (range_with_len 0 n)
 below_among n m lt =
-    among (range_with_len 0 n) m
-        (m, omega (arith, lt, length-range_with_len 0 n), get_or-range_with_len 0 n m m lt ∙ omega arith)
+    let at = get_or-range_with_len 0 n m m lt ∙ omega arith in
+    among (range_with_len 0 n) m (m, omega (arith, lt, length-range_with_len 0 n), at)
 
 among_below : (n m : ℕ) → Among m (range_with_len 0 n) → m < n
 among_below n m a =
@@ -185,7 +185,8 @@ pub lowest_line : (ns : List Name) (lines : List Line) (places at : List ℕ) (s
     → IsLowestStuck (gate_pins lines places) s → slice_get at (slice_index places s) ≡ Some number
         → IsLowest (IsCyclicLine ns lines at) number
 lowest_line ns lines places at s number named are rising lt lowest is =
-    ((slice_index places s, s, line_is.0, is, line_is.1, stuck_name ns lines places s named are lt lowest.0), none)
+    let stuck = stuck_name ns lines places s named are lt lowest.0 in
+    ((slice_index places s, s, line_is.0, is, line_is.1, stuck), none)
   where
     stuck_here : HasPinIn (gate_pins lines places) lowest.0.0 s
     stuck_here = lowest.0.1 s lowest.0.2

@@ -44,7 +44,8 @@ unread line (Some s ∷ found) = unread (suc line) found
 abbrev pub first_line : (List Name → Statement → Bool) → List Name → List Entry → Option ℕ
 first_line test before [] = None
 first_line test before (entry ∷ entries) =
-    if test before entry.1 then Some entry.0 else first_line test (before ++ defined entry.1) entries
+    if test before entry.1 then Some entry.0
+    else first_line test (before ++ defined entry.1) entries
 
 -- whether a name is one of these
 abbrev pub is_in : List Name → Name → Bool
@@ -59,7 +60,8 @@ reads_unknown ns before s = not (list_all (is_in ns) (read s))
 
 -- a pass over the lines ends at the first with its fault, or for want of memory
 abbrev pub EndsPass : (ℕ → BenchFault) → Option ℕ → BenchFault → Type 0
-EndsPass refusal first fault = (fault ≡ Memory) ⊎ ((line : ℕ) × (first ≡ Some line) × (fault ≡ refusal line))
+EndsPass refusal first fault =
+    (fault ≡ Memory) ⊎ ((line : ℕ) × (first ≡ Some line) × (fault ≡ refusal line))
 
 -- the names that a line defines, and those that it reads
 abbrev pub defined_of : StatedLine → List Name

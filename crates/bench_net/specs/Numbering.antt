@@ -23,7 +23,8 @@ abbrev pub statements_in : List StatedLine → List Statement
 statements_in stated = map (λ line. stands_for line.statement) stated
 
 -- the stored lines stand for the statements of these lines; own numbers go in order, and each number has a name
-pub record AreNumberedLines (ns : List Name) (stated : List StatedLine) (lines : List Line) : Type 0 where
+pub record AreNumberedLines (ns : List Name) (stated : List StatedLine)
+    (lines : List Line) : Type 0 where
   pub stand : statements_of ns lines ≡ statements_in stated
   pub own : flat_map defined_numbers lines ≡ range_with_len 0 (length (names_in stated))
   pub in_range : All (λ number. number < length ns) (flat_map read_numbers lines)

@@ -46,5 +46,6 @@ loop-line-preserved c =
               (stands_for line.statement) c.in-Ok.numbered c.in-Ok.ensures.numbered));
       next =
           c.number_behind-next.ensures
-          ∙ rw (names_more c.args.stated.now i line below c.line-item.is defined_of, length-append (names_in (take i c.args.stated.now)) (defined_of line), c.loop-line.invariant.next) refl;
+          ∙ rw (names_more c.args.stated.now i line below c.line-item.is defined_of)
+          (rw (length-append, c.loop-line.invariant.next) refl);
     }

@@ -25,11 +25,13 @@ loop-line-preserved c =
     let n = c.in-Some.name.now in
     let one : defined_of line ≡ n ∷ [] =
         c.defined.ensures ∙ ap (λ o. option_to_list (option_map (λ m. m.now) o)) c.in-Some.is in
+    let more = names_more c.args.stated.now c.loop-line.line-index line (omega arith)
+        c.line-item.is defined_of in
     let new : is_in (names_in (take c.loop-line.line-index c.args.stated.now)) n ≡ false =
     ap (λ ns. is_in ns n) (sym c.loop-line.invariant.0)
         ∙ not-true _ (sym c.in_ok-add_name.ensures.added ∙ c.if-not-branch.false) in (
       c.in_ok-add_name.ensures.names
-          ∙ rw (c.if-not-branch.false, c.loop-line.invariant.0, names_more c.args.stated.now c.loop-line.line-index line (omega arith) c.line-item.is defined_of, one) refl,
+          ∙ rw (c.if-not-branch.false, c.loop-line.invariant.0, more, one) refl,
       pass_on redefines c.args.stated.now c.loop-line.line-index line
           (omega arith) c.line-item.is c.loop-line.invariant.1
           (redefines_one _ (stands_for line.statement) n one ∙ new),

@@ -13,7 +13,9 @@ pub loop-line-preserved-in-Ok-None : goal.loop-line-preserved-in-Ok-None
 loop-line-preserved-in-Ok-None c =
     let n = length_push c.loop-line.yielded c.in-Some.line in
     let read = rw c.in-Ok-None.field-0-is at c.in-Ok-None.ensures in
-    (omega arith, given_nothing c.loop-line.yielded c.in-Some.line c.without_return.result.now c.without_return.ensures _ c.loop-line.invariant.1 read)
+    let more = given_nothing c.loop-line.yielded c.in-Some.line c.without_return.result.now
+        c.without_return.ensures _ c.loop-line.invariant.1 read in
+    (omega arith, more)
 
 pub loop-line-preserved : goal.loop-line-preserved
 loop-line-preserved c =

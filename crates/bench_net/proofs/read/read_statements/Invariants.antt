@@ -4,4 +4,5 @@ use Rattle.bench_net.proofs.Entries.{given}
 use Rattle.bench_net.proofs.read.read_statements.Given as goal
 
 abbrev pub invariant-loop-line : goal.invariant-loop-line
-invariant-loop-line l = (l.number ≡ length l.yielded) × HaveEntries (given l.yielded) (entries_of l.stated.items)
+invariant-loop-line l =
+    (l.number ≡ length l.yielded) × HaveEntries (given l.yielded) (entries_of l.stated.items)
