@@ -2,8 +2,8 @@
 use Rattle.std.proofs.Common.{◌≡◌, ◌<◌, ◌≤◌, ◌+◌, ℕ, zero, suc, refl, sym, ◌∙◌, ap, subst, Bool, true, false, not, List, [], ◌∷◌, ◌++◌, length, take, arith, inl, inr, ◌⊎◌, append-nil, ◌-◌}
 use Rattle.std.proofs.lemmas.List.{append_assoc}
 use Rattle.std.proofs.Math.Nat.{zero-add, suc-add}
-use Rattle.std.specs.Prelude.{◌≢◌, Contains, Option, Some, None, ◌↔◌, Result, Ok, Err, slice_get, map, filter_map, flat_map, nat_lt, option_map, IsTrue, if◌then◌else◌}
-use Rattle.std.specs.List.{list_all, AllZip}
+use Rattle.std.specs.Prelude.{◌≢◌, Contains, Option, Some, None, ◌↔◌, Result, Ok, Err, slice_get, map, filter_map, flat_map, option_map, IsTrue, if◌then◌else◌}
+use Rattle.std.specs.List.{AllZip}
 use Rattle.std.proofs.lemmas.Bool.{both_ways, cond_both, cond-true, cond-false, cases_order, ltb-true, ltb-false, lt-ltb, le-ltb, not-true, true_from_ne_false, false_from_ne_true}
 use Rattle.std.proofs.lemmas.Option.{slice_get-map}
 use Rattle.bench_net.specs.declared.Limit.TheVariants.{Bytes, Signals, Sinks}
@@ -89,7 +89,7 @@ syntax_first text = first_same _ _ _ to from (unread_first 1 (map stated_of (lin
         let at = from_mapped stated_of (lines text) f.0 None f.2 in
         let is : suc f.0 ≡ l = omega (arith, f.1) in
         let none : (s : Stated) → ¬ States at.0 s =
-            λ s h. let bad : None ≡ Some s = sym at.2 ∙ complete_states _ _ h in cc in
+        λ s h. let bad : None ≡ Some s = sym at.2 ∙ complete_states _ _ h in cc in
         subst (IsSyntaxFault text) is (at.0, at.1, none)
 
     from : (l : ℕ) → IsSyntaxFault text l → IsUnread 1 (map stated_of (lines text)) l
@@ -214,7 +214,7 @@ undefined_first stated =
         let n : Name = found.0 in
         let is : suc f.0 ≡ l = omega (arith, f.2) in
         let none : ¬ Contains (names_of stated) n =
-            λ has. both_ways _ found.2 (among_in _ n (among _ n has)) in
+        λ has. both_ways _ found.2 (among_in _ n (among _ n has)) in
         subst (IsUndefined stated) is (n, (f.1, f.3, contained (read f.1) n found.1), none)
 
     from : (l : ℕ) → IsUndefined stated l → Fails (reads_unknown (names_of stated)) [] 1 stated l
@@ -252,7 +252,7 @@ unsettled c n off = (
     on : settled c (suc last.0) n ≡ true → ⊥
     on e =
         let gap : (rounds_enough c - suc last.0) + suc last.0 ≡ rounds_enough c =
-            omega (arith, last.1) in
+        omega (arith, last.1) in
         both_ways _ off (rw gap at (settled_by c n (suc last.0) (rounds_enough c - suc last.0) e))
 
 cyclic_first : (stated : List Stated)
@@ -295,7 +295,7 @@ distinct_first before line (Some s ∷ stated) d e =
         let n : Name = one.0 in
         let here : Among n (defined s) = rw one.1 (inl refl) in
         let new : Among n (before ++ []) → ⊥ = λ a. both_ways _ h
-            (any_true (is_in before) _ n here (among_in before n (rw append-nil at a))) in
+        (any_true (is_in before) _ n here (among_in before n (rw append-nil at a))) in
         rw one.1 (distinct_between before [] n (rw append-nil d) new)
 
     go : (b : Bool) (rest : Option ℕ) → redefines before s ≡ b
@@ -344,8 +344,11 @@ well stated some once known acyclic = record {
         let l = stated_at stated r.0 r.1 in
         let reads : Contains (read r.0) n = contained _ n r.2 in
         let on : is_known stated n ≡ false → ⊥ =
-            λ off. known (suc l.0) (n, (r.0, l.1, reads),
-            λ inside. both_ways _ off (among_in _ n (among _ n inside))) in
+        λ off. known (suc l.0) (
+          n,
+          (r.0, l.1, reads),
+          λ inside. both_ways _ off (among_in _ n (among _ n inside)),
+        ) in
         in_contained _ n (true_from_ne_false _ on)
 
     free : (members : Name → Bool) → IsStuckSet (statements stated) members
@@ -485,12 +488,12 @@ answer_is text stated within r u y once known free =
     stated_answer text stated within.bytes (found_by (lines text) stated within.each)
     ∙ within_answer (statements stated) stated within.signals within.sinks
     ∙ ap (λ o. answer_by o (first (reads_unknown (names_of stated)) stated)
-        (first (is_unsettled (statements stated)) stated) (statements stated))
-        (first_one (IsRedefinition stated) _ r (redefined_first stated) once)
+    (first (is_unsettled (statements stated)) stated) (statements stated))
+    (first_one (IsRedefinition stated) _ r (redefined_first stated) once)
     ∙ ap (λ o. answer_by r o (first (is_unsettled (statements stated)) stated) (statements stated))
-        (first_one (IsUndefined stated) _ u (undefined_first stated) known)
+    (first_one (IsUndefined stated) _ u (undefined_first stated) known)
     ∙ ap (λ o. answer_by r u o (statements stated))
-        (first_one (IsCyclic stated) _ y (cyclic_first stated) free)
+    (first_one (IsCyclic stated) _ y (cyclic_first stated) free)
 
 exact : (text : List ℕ) (r : Result (List Statement) BenchFault) → IsAnswer text r
     → answer_text text ≡ r

@@ -31,7 +31,7 @@ use Rattle.bench_net.proofs.Words.{names_utf8}
 -- the refusal of a pass is that of the text
 pass_refused : (text : List ℕ) (refusal : ℕ → BenchFault) (first : Option ℕ) (fault : BenchFault)
     → ((line : ℕ) → first ≡ Some line → IsRefused text (refusal line))
-        → EndsPass refusal first fault → (fault ≡ Memory) ⊎ IsRefused text fault
+    → EndsPass refusal first fault → (fault ≡ Memory) ⊎ IsRefused text fault
 pass_refused text refusal first fault h (inl e) = inl e
 pass_refused text refusal first fault h (inr p) = inr (rw p.2 (h p.0 p.1))
 
@@ -67,29 +67,43 @@ module _ (text : List ℕ) (stated : List StatedLine)
 
   pub too_many_sinks : length (names_in stated) ≤ 1000000 → ¬ (length (reads_in stated) ≤ 4000000)
       → IsRefused text (TooLarge Sinks)
-  too_many_sinks signals more =
-      (bytes, h.stated, each, omega (arith, signals, ap length (same
-      defined)), omega (arith, more, ap length (same read)))
+  too_many_sinks signals more = (
+    bytes,
+    h.stated,
+    each,
+    omega (
+      arith,
+      signals,
+      ap length (same
+          defined),
+    ),
+    omega (arith, more, ap length (same read)),
+  )
 
   -- the defined names are UTF-8
   pub all_utf8 : (ns : List Name) → ns ≡ names_in stated → All IsUtf8 ns
   all_utf8 ns all k d below =
       names_utf8 (lines text) h.stated each (slice_index_or ns k d)
       (subst (Among (slice_index_or ns k d)) (all ∙ same defined)
-          (among _ _ (Contains-get_or ns k d below)))
+      (among _ _ (Contains-get_or ns k d below)))
 
   module _ (signals : length (names_in stated) ≤ 1000000)
       (sinks : length (reads_in stated) ≤ 4000000) where
     within : IsWithin text h.stated
     within =
-        record { bytes = bytes; each = each; signals =
-        omega (arith, signals, ap length (same defined)); sinks =
-        omega (arith, sinks, ap length (same read)) }
+        record {
+          bytes = bytes;
+          each = each;
+          signals =
+              omega (arith, signals, ap length (same defined));
+          sinks =
+              omega (arith, sinks, ap length (same read));
+        }
 
     answer : answer_text text ≡ answer_within (statements h.stated) (entries_of stated)
     answer =
         stated_answer text h.stated bytes h.each
-            ∙ within_answer (statements h.stated) h.stated within.signals within.sinks
+        ∙ within_answer (statements h.stated) h.stated within.signals within.sinks
         ∙ ap (answer_within (statements h.stated)) (sym h.same)
 
     pub redefined : (fault : BenchFault)
@@ -107,7 +121,7 @@ module _ (text : List ℕ) (stated : List StatedLine)
       undefined fault =
           pass_refused text Undefined (first_line (reads_unknown ns) [] (entries_of stated)) fault
           (λ line e. refused_by text (Undefined line)
-              (answer ∙ rw (once, ← same defined, ← all, e) refl))
+          (answer ∙ rw (once, ← same defined, ← all, e) refl))
 
       -- the numbered lines are those of the text
       pub assembled : first_line (reads_unknown ns) [] (entries_of stated) ≡ None
@@ -148,8 +162,14 @@ module _ (text : List ℕ) (stated : List StatedLine)
           in_order : (n i s : ℕ) → slice_get (range_with_len 0 n) i ≡ Some s → s ≡ i
           in_order n i s e =
               let below = slice_get_within (range_with_len 0 n) i s e in
-              omega (arith, below, length-range_with_len 0 n, get_or_from_slice_get (range_with_len
-                  0 n) i s 0 e, get_or-range_with_len 0 n i 0)
+              omega (
+                arith,
+                below,
+                length-range_with_len 0 n,
+                get_or_from_slice_get (range_with_len
+                    0 n) i s 0 e,
+                get_or-range_with_len 0 n i 0,
+              )
 
           by_entries : (ls : List StatedLine) → statements_in ls ≡ stated_by (entries_of ls)
           by_entries [] = refl

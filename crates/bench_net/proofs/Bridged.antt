@@ -105,10 +105,10 @@ module _ (text : List ℕ) (ns : List Name) (lines : List Line) (at : List ℕ)
   to_cyclic number h =
       let s : Statement = statement_of ns (line.Gate h.1 h.2) in
       let stands =
-          slice_get-map (statement_of ns) lines h.0 ∙ ap (option_map (statement_of ns)) h.4 in
+      slice_get-map (statement_of ns) lines h.0 ∙ ap (option_map (statement_of ns)) h.4 in
       let there = ap (λ ks. slice_get ks h.0) (sym of.at_are) ∙ h.3 in
       let l = entry_line 1 of.stated h.0 number s there
-          (ap (λ c. slice_get c h.0) (sym of.lines_are) ∙ stands) in
+      (ap (λ c. slice_get c h.0) (sym of.lines_are) ∙ stands) in
       let is : suc l.0 ≡ number = omega (arith, l.1) in
       let there = subst (λ k. at_line of.stated k ≡ Some (Some s)) is l.2 in
       let stuck = subst (λ c. IsStuck c (name_at ns h.1)) same h.5 in
@@ -119,7 +119,7 @@ module _ (text : List ℕ) (ns : List Name) (lines : List Line) (at : List ℕ)
   from_cyclic (suc j) h =
       let p = line_entry 1 of.stated j (Gate h.0 h.1 h.2) h.3 in
       let l = from_mapped (statement_of ns) lines p.0 (Gate h.0 h.1 h.2)
-          (ap (λ c. slice_get c p.0) of.lines_are ∙ p.2) in
+      (ap (λ c. slice_get c p.0) of.lines_are ∙ p.2) in
       let there = ap (λ ks. slice_get ks p.0) of.at_are ∙ p.1 ∙ ap Some (omega arith) in
       by_line p.0 there l.0 l.1 l.2
     where

@@ -45,9 +45,16 @@ given parts = map strip_carriage_return (map (λ x. x.now) parts)
 given_count : (parts : List (Bor (List ℕ))) (stated : List (Option Statement))
     → map stated_of (given parts) ≡ map Some stated → length stated ≡ length parts
 given_count parts stated e =
-    omega (arith, ap length e, length-map (given
-        parts) stated_of, length-map stated Some, length-map
-        (map (λ x. x.now) parts) strip_carriage_return, length-map parts (λ x. x.now))
+    omega (
+      arith,
+      ap length e,
+      length-map (given
+          parts) stated_of,
+      length-map stated Some,
+      length-map
+          (map (λ x. x.now) parts) strip_carriage_return,
+      length-map parts (λ x. x.now),
+    )
 
 module _ (parts : List (Bor (List ℕ))) (x : Bor (List ℕ)) (l : List ℕ)
     (line_is : l ≡ strip_carriage_return x.now) where
@@ -57,12 +64,19 @@ module _ (parts : List (Bor (List ℕ))) (x : Bor (List ℕ)) (l : List ℕ)
   given_more entries o h e = record {
     stated = h.stated ++ o ∷ [];
     each =
-        rw (map_push (λ y. y.now) parts x, map_push strip_carriage_return (map
-        (λ y. y.now) parts) x.now, ← line_is, map_push stated_of (given parts) l, e, h.each)
+        rw (
+          map_push (λ y. y.now) parts x,
+          map_push strip_carriage_return (map
+              (λ y. y.now) parts) x.now,
+          ← line_is,
+          map_push stated_of (given parts) l,
+          e,
+          h.each,
+        )
         (sym (map_push Some h.stated o));
     same = let count = given_count parts h.stated h.each in
         ap (λ es. es ++ entry_if (length parts + 1) o) h.same
-            ∙ sym (push 1 h.stated o (length parts + 1) (omega arith));
+        ∙ sym (push 1 h.stated o (length parts + 1) (omega arith));
   }
 
   pub given_nothing : (entries : List Entry) → HaveEntries (given parts) entries
@@ -72,18 +86,18 @@ module _ (parts : List (Bor (List ℕ))) (x : Bor (List ℕ)) (l : List ℕ)
   pub given_one : (stated : List StatedLine) (s : Stated)
       → HaveEntries (given parts) (entries_of stated) → stated_of l ≡ Some (Some (stands_for s))
       → HaveEntries (given (parts ++ x ∷ []))
-          (entries_of (stated ++ record { number = length parts + 1; statement = s } ∷ []))
+      (entries_of (stated ++ record { number = length parts + 1; statement = s } ∷ []))
   given_one stated s h e =
       rw (map_push entry_of stated (record { number = length parts + 1; statement = s }))
-          (given_more (entries_of stated) (Some (stands_for s)) h e)
+      (given_more (entries_of stated) (Some (stands_for s)) h e)
 
   -- the first line that states nothing that a line may state
   pub refused_line : (text : List ℕ) (entries : List Entry)
       → map (λ y. y.now) parts ≡ take (length parts) (slice_split (λ b. b == 10) text)
       → length parts < length (slice_split (λ b. b == 10) text)
-          → x.now ≡ get_or (slice_split (λ b. b == 10) text) (length parts) x.now
+      → x.now ≡ get_or (slice_split (λ b. b == 10) text) (length parts) x.now
       → HaveEntries (given parts) entries → stated_of l ≡ None
-          → unread 1 (map stated_of (lines text)) ≡ Some (length parts + 1)
+      → unread 1 (map stated_of (lines text)) ≡ Some (length parts + 1)
   refused_line text entries so_far below turn h none =
       rw (
         at_item (slice_split (λ b. b == 10) text) (length parts) x.now below turn,
@@ -98,8 +112,8 @@ module _ (parts : List (Bor (List ℕ))) (x : Bor (List ℕ)) (l : List ℕ)
         h.each,
       )
       (unread_at 1 h.stated
-          (map stated_of (map strip_carriage_return
-          (drop (suc (length parts)) (slice_split (λ b. b == 10) text)))) ∙ ap Some count)
+      (map stated_of (map strip_carriage_return
+      (drop (suc (length parts)) (slice_split (λ b. b == 10) text)))) ∙ ap Some count)
     where
       count : 1 + length h.stated ≡ length parts + 1
       count = let same = given_count parts h.stated h.each in omega arith

@@ -1,6 +1,6 @@
 -- Numbers and names: what stored lines say by numbers, and their statements by names.
 use Rattle.std.proofs.Common.{◌≡◌, ◌≢◌, ◌<◌, ◌==◌, ℕ, zero, suc, sym, ◌∙◌, ap, subst, refl, List, [], ◌∷◌, ◌++◌, map, length, filter, arith, inl, inr, ◌⊎◌}
-use Rattle.std.specs.Prelude.{Option, Some, None, slice_get, slice_index, Contains, AllPairs, flat_map, bytes_eq, option_map, is_some}
+use Rattle.std.specs.Prelude.{Some, None, slice_get, slice_index, Contains, AllPairs, flat_map, bytes_eq, option_map, is_some}
 use Rattle.std.specs.List.{filter_map}
 use Rattle.std.proofs.lemmas.Bool.{eq-eqb, ne_eqb, cases_eq, false_from_ne_true}
 use Rattle.std.proofs.lemmas.List.{map-append, length-map}
@@ -41,9 +41,9 @@ pub signal_at : (ns : List Name) (lines : List Line) (s : ℕ) → AreNamed ns l
 signal_at ns lines s named lt =
     let same = named.numbered.names_are in
     signal-name_of (statements_of ns lines) s (name_at ns s)
-        (subst (AllPairs (λ m n. m ≢ n)) (sym same) named.once) (name_of_at ns lines s named lt)
+    (subst (AllPairs (λ m n. m ≢ n)) (sym same) named.once) (name_of_at ns lines s named lt)
     (subst (λ xs. Contains xs (name_at ns s)) (sym same)
-        (contained ns (name_at ns s) (at_among ns s lt)))
+    (contained ns (name_at ns s) (at_among ns s lt)))
 
 -- two numbers have one name only where they are one
 pub same_number : (ns : List Name) (lines : List Line) (s t : ℕ) → AreNamed ns lines → s < length ns
@@ -120,10 +120,10 @@ pub sources_are : (ns : List Name) (lines : List Line)
 sources_are ns lines =
     ap (λ xs. xs ++ map (λ cell. cell.0) (cells (statements_of ns lines))) (inputs_are ns lines)
     ∙ (ap (λ xs. map (name_at ns) (filter_map input_number lines) ++ xs)
-        (ap (map (λ cell. cell.0)) (cells_are ns lines)
-        ∙ q_names ns (filter_map cell_numbers lines))
+    (ap (map (λ cell. cell.0)) (cells_are ns lines)
+    ∙ q_names ns (filter_map cell_numbers lines))
     ∙ sym (map-append (name_at ns) (filter_map input_number lines)
-        (map (λ cell. cell.q) (filter_map cell_numbers lines))))
+    (map (λ cell. cell.q) (filter_map cell_numbers lines))))
 
 -- ---- definitions
 
@@ -158,28 +158,28 @@ pub number_place : (ns : List Name) (lines : List Line) (i : ℕ) (l : Line) →
     → slice_get (filter defines_number lines) i ≡ Some l → defined_number l ≡ Some i
 number_place ns lines i l numbered e =
     let at =
-        slice_get-map defined_number (filter defines_number lines) i
-        ∙ ap (option_map defined_number) e in
+    slice_get-map defined_number (filter defines_number lines) i
+    ∙ ap (option_map defined_number) e in
     let n = from_mapped Some (flat_map defined_numbers lines) i (defined_number l)
-        (ap (λ xs. slice_get xs i) (sym (numbers_of lines)) ∙ at) in
+    (ap (λ xs. slice_get xs i) (sym (numbers_of lines)) ∙ at) in
     sym n.2 ∙ ap Some (numbered.in_order i n.0 n.1)
 
 -- the line of each signal, and the signal of each line
 pub line_of : (ns : List Name) (lines : List Line) (s : ℕ) → AreNumbered ns lines → s < length ns
     → (l : Line) × (slice_get (filter defines_number lines) s ≡ Some l) ×
-        (defined_number l ≡ Some s)
+    (defined_number l ≡ Some s)
 line_of ns lines s numbered lt =
     let l =
-        within_place (filter defines_number lines) s
-        (omega (arith, lt, definer_count lines, numbered.count)) in
+    within_place (filter defines_number lines) s
+    (omega (arith, lt, definer_count lines, numbered.count)) in
     (l.0, l.1, number_place ns lines s l.0 numbered l.1)
 
 pub only_line : (ns : List Name) (lines : List Line) (l : Line) (s : ℕ) → AreNumbered ns lines
     → Among l lines → defined_number l ≡ Some s → slice_get (filter defines_number lines) s ≡ Some l
 only_line ns lines l s numbered a d =
     let at =
-        placed (filter defines_number lines) l
-        (among_filter defines_number lines l a (ap is_some d)) in
+    placed (filter defines_number lines) l
+    (among_filter defines_number lines l a (ap is_some d)) in
     let both : Some at.0 ≡ Some s = sym (number_place ns lines at.0 l numbered at.1) ∙ d in
     let same : at.0 ≡ s = cc in
     rw same at at.1
@@ -188,8 +188,13 @@ only_line ns lines l s numbered a d =
 pub defined_below : (ns : List Name) (lines : List Line) (l : Line) (s : ℕ) → AreNumbered ns lines
     → Among l lines → defined_number l ≡ Some s → s < length ns
 defined_below ns lines l s numbered a d =
-    omega (arith, slice_get_within (filter defines_number lines) s l (only_line ns lines l s
-        numbered a d), definer_count lines, numbered.count)
+    omega (
+      arith,
+      slice_get_within (filter defines_number lines) s l (only_line ns lines l s
+          numbered a d),
+      definer_count lines,
+      numbered.count,
+    )
 
 -- ---- the table of definitions
 
@@ -197,8 +202,8 @@ pub definition_count : (ns : List Name) (lines : List Line) (places : List ℕ) 
     → AreDefinitions lines places → length places ≡ length ns
 definition_count ns lines places numbered are =
     sym (length-map places (slice_get lines))
-        ∙ (ap length are ∙ (length-map (filter defines_number lines) Some
-        ∙ (definer_count lines ∙ numbered.count)))
+    ∙ (ap length are ∙ (length-map (filter defines_number lines) Some
+    ∙ (definer_count lines ∙ numbered.count)))
 
 -- the line at the place of a signal's definition
 pub placed_line : (lines : List Line) (places : List ℕ) (s : ℕ) → AreDefinitions lines places
@@ -206,22 +211,26 @@ pub placed_line : (lines : List Line) (places : List ℕ) (s : ℕ) → AreDefin
     (filter defines_number lines) s
 placed_line lines places s are lt =
     let e =
-        slice_get-map (slice_get lines) places s
-        ∙ ap (option_map (slice_get lines)) (slice_get-get_or places s 0 lt) in
+    slice_get-map (slice_get lines) places s
+    ∙ ap (option_map (slice_get lines)) (slice_get-get_or places s 0 lt) in
     let p =
-        from_mapped Some (filter defines_number lines) s (slice_get lines (slice_index places s))
-        (ap (λ xs. slice_get xs s) (sym are) ∙ e) in
+    from_mapped Some (filter defines_number lines) s (slice_get lines (slice_index places s))
+    (ap (λ xs. slice_get xs s) (sym are) ∙ e) in
     sym p.2 ∙ sym p.1
 
 -- the line that defines a signal, by the table
 pub line_at : (ns : List Name) (lines : List Line) (places : List ℕ) (s : ℕ) → AreNumbered ns lines
     → AreDefinitions lines places → s < length ns
     → (l : Line) × (slice_get lines (slice_index places s) ≡ Some l) × (defined_number l ≡ Some s) ×
-        (slice_get (filter defines_number lines) s ≡ Some l)
+    (slice_get (filter defines_number lines) s ≡ Some l)
 line_at ns lines places s numbered are lt =
-    let l = line_of ns lines s numbered lt in
-    (l.0, placed_line lines places s are (omega
-        (arith, lt, definition_count ns lines places numbered are)) ∙ l.1, l.2, l.1)
+    let l = line_of ns lines s numbered lt in (
+      l.0,
+      placed_line lines places s are (omega
+          (arith, lt, definition_count ns lines places numbered are)) ∙ l.1,
+      l.2,
+      l.1,
+    )
 
 -- the gate line of a signal gives its pins
 pub pins_of_line : (ns : List Name) (lines : List Line) (places : List ℕ) (s : ℕ) (gate : GateLine)
@@ -230,8 +239,8 @@ pub pins_of_line : (ns : List Name) (lines : List Line) (places : List ℕ) (s :
 pins_of_line ns lines places s gate numbered are a =
     let lt = defined_below ns lines (line.Gate s gate) s numbered a refl in
     ap line_pins (placed_line lines places s are
-        (omega (arith, lt, definition_count ns lines places numbered are))
-        ∙ only_line ns lines (line.Gate s gate) s numbered a refl)
+    (omega (arith, lt, definition_count ns lines places numbered are))
+    ∙ only_line ns lines (line.Gate s gate) s numbered a refl)
 
 -- a line that is no gate's gives none
 pub no_pins : (ns : List Name) (lines : List Line) (places : List ℕ) (s : ℕ) (l : Line)
@@ -240,15 +249,15 @@ pub no_pins : (ns : List Name) (lines : List Line) (places : List ℕ) (s : ℕ)
 no_pins ns lines places s l numbered are a d none =
     let lt = defined_below ns lines l s numbered a d in
     ap line_pins (placed_line lines places s are
-        (omega (arith, lt, definition_count ns lines places numbered are))
-        ∙ only_line ns lines l s numbered a d) ∙ none
+    (omega (arith, lt, definition_count ns lines places numbered are))
+    ∙ only_line ns lines l s numbered a d) ∙ none
 
 -- the gate line of a signal with pins
 pub gate_line_at : (ns : List Name) (lines : List Line) (places : List ℕ) (s : ℕ) (pins : List ℕ)
     → AreNumbered ns lines → AreDefinitions lines places → s < length ns
-        → gate_pins lines places s ≡ Some pins
+    → gate_pins lines places s ≡ Some pins
     → (gate : GateLine) × (slice_get lines (slice_index places s) ≡ Some (line.Gate s gate)) ×
-        (gate.pins.items ≡ pins)
+    (gate.pins.items ≡ pins)
 gate_line_at ns lines places s pins numbered are lt is =
     let l = line_at ns lines places s numbered are lt in
     go l.0 l.1 l.2 (sym (ap line_pins l.1) ∙ is)
@@ -256,7 +265,7 @@ gate_line_at ns lines places s pins numbered are lt is =
     go : (l : Line) → slice_get lines (slice_index places s) ≡ Some l → defined_number l ≡ Some s
         → line_pins (Some l) ≡ Some pins
         → (gate : GateLine) × (slice_get lines (slice_index places s) ≡ Some (line.Gate s gate)) ×
-            (gate.pins.items ≡ pins)
+        (gate.pins.items ≡ pins)
     go (line.Input t) e d p = let bad : None ≡ Some pins = p in cc
     go (line.Output t) e d p = let bad : None ≡ Some pins = p in cc
     go (line.Dff q t) e d p = let bad : None ≡ Some pins = p in cc
@@ -267,7 +276,7 @@ gate_line_at ns lines places s pins numbered are lt is =
 
 pub gate_at : (ns : List Name) (lines : List Line) (places : List ℕ) (s : ℕ) (pins : List ℕ)
     → AreNumbered ns lines → AreDefinitions lines places → s < length ns
-        → gate_pins lines places s ≡ Some pins
+    → gate_pins lines places s ≡ Some pins
     → (gate : GateLine) × Among (line.Gate s gate) lines × (gate.pins.items ≡ pins)
 gate_at ns lines places s pins numbered are lt is =
     let g = gate_line_at ns lines places s pins numbered are lt is in

@@ -32,7 +32,7 @@ if_err (Err e) P h = h e
 pub ends_pass : (f : LineFault) (refusal : ℕ → BenchFault) (first : Option ℕ) (line : ℕ)
     (answer : BenchFault)
     → answer ≡ or_refusal f (refusal line) → (f ≡ stop.Refused → first ≡ Some line)
-        → EndsPass refusal first answer
+    → EndsPass refusal first answer
 ends_pass stop.Refused refusal first line answer e h = inr (line, h refl, e)
 ends_pass stop.Memory refusal first line answer e h = inl e
 
@@ -55,7 +55,7 @@ next_for stated i line h e = go (defined_few (stands_for line.statement))
 
     go : (defined_of line ≡ []) ⊎ ((n : Name) × (defined_of line ≡ n ∷ []))
         → IsNextFor (names_in stated) (length (names_in (take i stated)))
-            (stands_for line.statement)
+        (stands_for line.statement)
     go (inl none) = rw none refl
     go (inr one) =
         rw (whole, one.1) (ap (λ n. n ∷ [])
@@ -99,8 +99,14 @@ numbered_more ns stated lines i new l next h e so_far count one = record {
     go (inl none) =
         rw (names_more stated i new h e defined_of, none) (rw append-nil (rw append-nil refl))
     go (inr some) =
-        rw (names_more stated i new h e defined_of, some.1, length-append, range_more, count,
-            zero-add) refl
+        rw (
+          names_more stated i new h e defined_of,
+          some.1,
+          length-append,
+          range_more,
+          count,
+          zero-add,
+        ) refl
 
 -- the names that a stored line reads are those of its numbers
 reads_of : (ns : List Name) (l : Line)
@@ -128,8 +134,8 @@ all_known ns next s l h = rw (← h.stands, reads_of ns l) (go (read_numbers l) 
     go (k ∷ ks) all =
         and_from _ _
         (among_in ns (name_at ns k)
-            (among ns (name_at ns k)
-            (Contains-get_or ns k [] (All-head (λ m. m < length ns) k ks all))))
+        (among ns (name_at ns k)
+        (Contains-get_or ns k [] (All-head (λ m. m < length ns) k ks all))))
         (go ks (All-tail (λ m. m < length ns) k ks all))
 
 -- a name that is still to come
@@ -137,5 +143,5 @@ pub utf8_in_rest : (done ns : List Name) (n : Name) (rest : List Name) → done 
     → All IsUtf8 ns → IsUtf8 n
 utf8_in_rest done ns n rest e all =
     All-contains IsUtf8 ns n all
-        (subst (λ ms. Contains ms n) e
-        (Contains-append_right done (n ∷ rest) n (0, omega arith, refl)))
+    (subst (λ ms. Contains ms n) e
+    (Contains-append_right done (n ∷ rest) n (0, omega arith, refl)))

@@ -34,7 +34,7 @@ module _ {A : Type 0} (xs : List A) (i : ℕ) (x : A) (h : i < length xs)
   names_more f =
       ap (flat_map f) (take_more xs i x h ∙ ap (λ y. take i xs ++ y ∷ []) (sym e))
       ∙ flat_map-append f (take i xs) (x ∷ [])
-          ∙ ap (λ ys. flat_map f (take i xs) ++ ys) (append-nil (f x))
+      ∙ ap (λ ys. flat_map f (take i xs) ++ ys) (append-nil (f x))
 
   -- the names so far and those of this line are no more than all
   pub names_fit : (f : A → List Name)
@@ -52,7 +52,7 @@ module _ {A : Type 0} (xs : List A) (i : ℕ) (x : A) (h : i < length xs)
 module _ (test : List Name → Statement → Bool) (stated : List StatedLine) (i : ℕ)
     (line : StatedLine)
     (h : i < length stated) (e : line ≡ get_or stated i line)
-        (so_far : NoneBefore test stated i) where
+    (so_far : NoneBefore test stated i) where
   here : first_line test [] (entries_of stated)
       ≡ first_line test (names_in (take i stated)) (entries_of (line ∷ drop (suc i) stated))
   here =
@@ -68,9 +68,9 @@ module _ (test : List Name → Statement → Bool) (stated : List StatedLine) (i
   pass_on off =
       here ∙ cond-false _ _ _ off
       ∙ ap (λ ns. first_line test ns (entries_of (drop (suc i) stated)))
-          (sym (names_more stated i line h e defined_of))
+      (sym (names_more stated i line h e defined_of))
       ∙ ap (λ k. first_line test (names_in (take (i + 1) stated)) (entries_of (drop k stated)))
-          (sym (add-one i))
+      (sym (add-one i))
 
 -- a key is looked for by its bytes
 pub key_in : (ks : List (Bor Name)) (n : Name)

@@ -1,8 +1,8 @@
 -- Stuck signals are stuck names, and the lowest stuck signal has the lowest line.
-use Rattle.std.proofs.Common.{◌≡◌, ◌<◌, ◌≤◌, ◌+◌, ℕ, zero, suc, sym, ◌∙◌, ap, subst, refl, Bool, true, false, ◌&&◌, List, [], ◌∷◌, map, length, take, get_or, filter, arith, inl, inr, ◌⊎◌}
-use Rattle.std.specs.Prelude.{Some, None, slice_get, slice_index, Contains, AllPairs, flat_map, bytes_eq, nat_lt, is_some}
+use Rattle.std.proofs.Common.{◌≡◌, ◌<◌, ℕ, zero, suc, sym, ◌∙◌, ap, subst, refl, Bool, true, false, ◌&&◌, List, [], ◌∷◌, map, length, take, get_or, filter, arith, inl, inr, ◌⊎◌}
+use Rattle.std.specs.Prelude.{Some, None, slice_get, slice_index, Contains, AllPairs, bytes_eq, nat_lt, is_some}
 use Rattle.std.specs.List.{list_any, range_with_len}
-use Rattle.std.proofs.lemmas.Bool.{cases_order, lt-ltb, ltb-true, and_parts, and_from, both_ways, cond-true}
+use Rattle.std.proofs.lemmas.Bool.{cases_order, lt-ltb, ltb-true, and_parts, and_from}
 use Rattle.std.proofs.lemmas.List.FromFn.{length-range_with_len, get_or-range_with_len}
 use Rattle.std.proofs.lemmas.Option.{slice_get_within, get_or_from_slice_get}
 use Rattle.bench_net.specs.declared.GateLine.{GateLine}
@@ -11,7 +11,7 @@ use Rattle.bench_net.specs.declared.line.Line.TheVariants as line
 use Rattle.bench_net.specs.Statement.{Name, Gate}
 use Rattle.bench_net.specs.Circuit.{IsStuckSet, IsStuck}
 use Rattle.bench_net.specs.Refusal.{IsLowest}
-use Rattle.bench_net.specs.Stored.{name_at, statement_of, statements_of, read_numbers, AreNumbered, IsCyclicLine}
+use Rattle.bench_net.specs.Stored.{name_at, statement_of, statements_of, AreNumbered, IsCyclicLine}
 use Rattle.bench_net.specs.Tables.{defined_number, defines_number, AreDefinitions}
 use Rattle.bench_net.specs.Marks.{gate_pins, HasPinIn, IsStuckAt, IsLowestStuck}
 use Rattle.lists.proofs.Members.{Among, among, contained, some_passes, among_map, among_filter, filtered_from}
@@ -46,15 +46,15 @@ stuck_name ns lines places s named are lt stuck =
         let next = stuck.1 m found.1 in
         let p : ℕ = next.1 in
         let gate =
-            gate_at ns lines places m next.0 named.numbered are (ltb-true _ _ parts.0) next.2 in
+        gate_at ns lines places m next.0 named.numbered are (ltb-true _ _ parts.0) next.2 in
         let args : List Name = map (name_at ns) gate.0.pins.items in
         let in_pins : Among p gate.0.pins.items = rw gate.2 (among next.0 p next.3) in
         let reads = contained _ p (pins_read lines m gate.0 p gate.1 in_pins) in
         let states : Among (Gate n gate.0.kind args) (statements_of ns lines) =
-            subst (λ x. Among (Gate x gate.0.kind args) (statements_of ns lines)) m_name
-            (among_map (statement_of ns) lines (line.Gate m gate.0) gate.1) in
+        subst (λ x. Among (Gate x gate.0.kind args) (statements_of ns lines)) m_name
+        (among_map (statement_of ns) lines (line.Gate m gate.0) gate.1) in
         let reads_p : Contains args (name_at ns p) =
-            contained _ _ (among_map (name_at ns) _ p in_pins) in
+        contained _ _ (among_map (name_at ns) _ p in_pins) in
         let member = named_member ns stuck.0 p (named.numbered.in_range p reads) next.4 in
         (name_at ns p, (gate.0.kind, args, contained _ _ states, reads_p), member)
 
@@ -90,30 +90,35 @@ stuck_number ns lines places s named are lt stuck =
     each : (m : ℕ) → Contains
         (filter (λ m. stuck.0 (name_at ns m)) (range_with_len 0 (length ns))) m
         → HasPinIn (gate_pins lines places)
-            (filter (λ m. stuck.0 (name_at ns m)) (range_with_len 0 (length ns))) m
+        (filter (λ m. stuck.0 (name_at ns m)) (range_with_len 0 (length ns))) m
     each m has =
         let at =
-            filtered_from (λ m. stuck.0 (name_at ns m)) (range_with_len 0 (length ns)) m
-            (among _ m has) in
+        filtered_from (λ m. stuck.0 (name_at ns m)) (range_with_len 0 (length ns)) m
+        (among _ m has) in
         let next = stuck.1 (name_at ns m) at.1 in
         let a : Name = next.0 in
         let argument = next.1 in
         let found =
-            gate_statement ns lines (name_at ns m) argument.0 argument.1 (among _ _ argument.2) in
+        gate_statement ns lines (name_at ns m) argument.0 argument.1 (among _ _ argument.2) in
         let g : ℕ = found.0 in
         let pins : List ℕ = found.1.pins.items in
         let g_lt = defined_below ns lines (line.Gate g found.1) g named.numbered found.2 refl in
         let same : g ≡ m =
-            same_number ns lines g m named g_lt (among_below (length ns) m at.0) found.3 in
+        same_number ns lines g m named g_lt (among_below (length ns) m at.0) found.3 in
         let pin = named_among ns pins a (rw (← found.5) at (among argument.1 a argument.3)) in
         let p : ℕ = pin.0 in
         let p_lt =
-            named.numbered.in_range p (contained _ p (pins_read lines g found.1 p found.2 pin.1)) in
+        named.numbered.in_range p (contained _ p (pins_read lines g found.1 p found.2 pin.1)) in
         let read =
-            ap (gate_pins lines places) (sym same)
-            ∙ pins_of_line ns lines places g found.1 named.numbered are found.2 in
-        (pins, p, read, contained pins p pin.1, contained _ p (member p p_lt
-            (ap stuck.0 pin.2 ∙ next.2)))
+        ap (gate_pins lines places) (sym same)
+        ∙ pins_of_line ns lines places g found.1 named.numbered are found.2 in (
+          pins,
+          p,
+          read,
+          contained pins p pin.1,
+          contained _ p (member p p_lt
+              (ap stuck.0 pin.2 ∙ next.2)),
+        )
 
 -- ---- the order of lines is the order of the signals that they define
 
@@ -121,7 +126,7 @@ stuck_number ns lines places s named are lt stuck =
 filter_place : (lines : List Line) (i : ℕ) (l : Line) → slice_get lines i ≡ Some l
     → defines_number l ≡ true
     → slice_get (filter defines_number lines)
-        (length (filter defines_number (take i lines))) ≡ Some l
+    (length (filter defines_number (take i lines))) ≡ Some l
 filter_place [] i l e d = let bad : None ≡ Some l = e in cc
 filter_place (x ∷ lines) zero l e d = let same : x ≡ l = cc in rw (ap defines_number same ∙ d) e
 filter_place (x ∷ lines) (suc i) l e d = go (defines_number x) refl (filter_place lines i l e d)
@@ -130,7 +135,7 @@ filter_place (x ∷ lines) (suc i) l e d = go (defines_number x) refl (filter_pl
         → slice_get (filter defines_number lines)
         (length (filter defines_number (take i lines))) ≡ Some l
         → slice_get (filter defines_number (x ∷ lines))
-            (length (filter defines_number (take (suc i) (x ∷ lines)))) ≡ Some l
+        (length (filter defines_number (take (suc i) (x ∷ lines)))) ≡ Some l
     go true h later = rw h later
     go false h later = rw h later
 
@@ -148,14 +153,14 @@ filter_rise (x ∷ lines) (suc i) (suc j) l e d lt =
         → length (filter defines_number (take i lines)) < length
         (filter defines_number (take j lines))
         → length (filter defines_number (take (suc i) (x ∷ lines))) < length
-            (filter defines_number (take (suc j) (x ∷ lines)))
+        (filter defines_number (take (suc j) (x ∷ lines)))
     go true h later = rw h (omega (arith, later))
     go false h later = rw h later
 
 earlier_signal : (ns : List Name) (lines : List Line) (i j s t : ℕ) (l m : Line)
     → AreNumbered ns lines
     → slice_get lines i ≡ Some l → defined_number l ≡ Some s → slice_get lines j ≡ Some m
-        → defined_number m ≡ Some t → i < j → s < t
+    → defined_number m ≡ Some t → i < j → s < t
 earlier_signal ns lines i j s t l m numbered at_i d at_j e lt =
     let first = number_place ns lines _ l numbered (filter_place lines i l at_i (ap is_some d)) in
     let second = number_place ns lines _ m numbered (filter_place lines j m at_j (ap is_some e)) in
@@ -183,7 +188,7 @@ earlier_place at i j m n rising at_i at_j lt = go (cases_order i j)
 pub lowest_line : (ns : List Name) (lines : List Line) (places at : List ℕ) (s number : ℕ)
     → AreNamed ns lines → AreDefinitions lines places → AllPairs (λ x y. x < y) at → s < length ns
     → IsLowestStuck (gate_pins lines places) s → slice_get at (slice_index places s) ≡ Some number
-        → IsLowest (IsCyclicLine ns lines at) number
+    → IsLowest (IsCyclicLine ns lines at) number
 lowest_line ns lines places at s number named are rising lt lowest is =
     let stuck = stuck_name ns lines places s named are lt lowest.0 in
     ((slice_index places s, s, line_is.0, is, line_is.1, stuck), none)
@@ -200,9 +205,9 @@ lowest_line ns lines places at s number named are rising lt lowest is =
         let i : ℕ = cyclic.0 in
         let t : ℕ = cyclic.1 in
         let before : i < slice_index places s =
-            earlier_place at i (slice_index places s) lower number rising cyclic.3 is less in
+        earlier_place at i (slice_index places s) lower number rising cyclic.3 is less in
         let earlier : t < s =
-            earlier_signal ns lines i (slice_index places s) t s (line.Gate t cyclic.2)
-            (line.Gate s line_is.0) named.numbered cyclic.4 refl line_is.1 refl before in
+        earlier_signal ns lines i (slice_index places s) t s (line.Gate t cyclic.2)
+        (line.Gate s line_is.0) named.numbered cyclic.4 refl line_is.1 refl before in
         lowest.1 t earlier (stuck_number ns lines places t named are
-            (omega (arith, earlier, lt)) cyclic.5)
+        (omega (arith, earlier, lt)) cyclic.5)

@@ -14,11 +14,11 @@ returns-clause-added c =
 -- the names of the keys after a key was looked for and put behind them where it was not found
 put : (ks : List (Bor Name)) (x : Bor Name) (found added : Bool) → added ≡ not found
     → names_of (if found then ks else ks ++ x ∷ []) ≡ names_of ks ++
-        (if added then x.now ∷ [] else [])
+    (if added then x.now ∷ [] else [])
 put ks x true added e = rw (e, append-nil) refl
 put ks x false added e = rw e (map_push (λ a. a.now) ks x)
 
 pub returns-clause-names : goal.returns-clause-names
 returns-clause-names c =
     ap names_of c.in_ok-added.ensures.keys
-        ∙ put c.args.names.now.keys c.args.name _ c.in_ok-added.added c.in_ok-added.ensures.added
+    ∙ put c.args.names.now.keys c.args.name _ c.in_ok-added.added c.in_ok-added.ensures.added

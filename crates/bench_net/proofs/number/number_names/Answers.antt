@@ -11,25 +11,29 @@ returns-then-not-branch-clause-refused c =
     let line = c.line-item.result in
     let n = c.in-Some.name.now in
     let one : defined_of line ≡ n ∷ [] =
-        c.defined.ensures ∙ ap (λ o. option_to_list (option_map (λ m. m.now) o)) c.in-Some.is in
+    c.defined.ensures ∙ ap (λ o. option_to_list (option_map (λ m. m.now) o)) c.in-Some.is in
     let before : is_in (names_in (take c.loop-line.line-index c.args.stated.now)) n ≡ true =
     ap (λ ns. is_in ns n) (sym c.loop-line.invariant.0)
-        ∙ not-false _ (sym c.in_ok-add_name.ensures.added ∙ c.if-not-branch.true) in
-    inr (line.number, pass_ends redefines c.args.stated.now c.loop-line.line-index line (omega
-        arith) c.line-item.is c.loop-line.invariant.1
-        (redefines_one _ (stands_for line.statement) n one ∙ before), refl)
+    ∙ not-false _ (sym c.in_ok-add_name.ensures.added ∙ c.if-not-branch.true) in
+    inr (
+      line.number,
+      pass_ends redefines c.args.stated.now c.loop-line.line-index line (omega
+          arith) c.line-item.is c.loop-line.invariant.1
+          (redefines_one _ (stands_for line.statement) n one ∙ before),
+      refl,
+    )
 
 pub loop-line-preserved : goal.loop-line-preserved
 loop-line-preserved c =
     let line = c.line-item.result in
     let n = c.in-Some.name.now in
     let one : defined_of line ≡ n ∷ [] =
-        c.defined.ensures ∙ ap (λ o. option_to_list (option_map (λ m. m.now) o)) c.in-Some.is in
+    c.defined.ensures ∙ ap (λ o. option_to_list (option_map (λ m. m.now) o)) c.in-Some.is in
     let more = names_more c.args.stated.now c.loop-line.line-index line (omega arith)
-        c.line-item.is defined_of in
+    c.line-item.is defined_of in
     let new : is_in (names_in (take c.loop-line.line-index c.args.stated.now)) n ≡ false =
     ap (λ ns. is_in ns n) (sym c.loop-line.invariant.0)
-        ∙ not-true _ (sym c.in_ok-add_name.ensures.added ∙ c.if-not-branch.false) in (
+    ∙ not-true _ (sym c.in_ok-add_name.ensures.added ∙ c.if-not-branch.false) in (
       c.in_ok-add_name.ensures.names
           ∙ rw (c.if-not-branch.false, c.loop-line.invariant.0, more, one) refl,
       pass_on redefines c.args.stated.now c.loop-line.line-index line

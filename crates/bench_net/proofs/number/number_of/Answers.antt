@@ -10,7 +10,7 @@ returns-in-Some-clause-named c =
     let keys = c.args.names.now.keys in
     let p = position-Some _ keys c.in-Some.index c.args.name (sym c.in-Some.ensures.index) in
     get_or-map (λ x. x.now) keys c.in-Some.index c.args.name [] p.0
-        ∙ sym (same_bytes c.args.name.now _ p.1)
+    ∙ sym (same_bytes c.args.name.now _ p.1)
 
 pub returns-in-None-clause-missing : goal.returns-in-None-clause-missing
 returns-in-None-clause-missing c =

@@ -10,4 +10,4 @@ returns-in_err-number-clause-refused c =
     let known = is_in (names_of c.args.names.now.keys) in
     if_err c.from_residual.result _ (λ fault e. list_all-map known (λ a. a.now) c.args.arguments.now
     ∙ list_all_at (λ a. known a.now) c.args.arguments.now c.loop-argument.argument-index _
-        (omega arith) c.in_err-number.ensures.missing)
+    (omega arith) c.in_err-number.ensures.missing)

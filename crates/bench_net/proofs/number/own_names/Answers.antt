@@ -8,9 +8,9 @@ use Rattle.bench_net.proofs.number.own_names.Goals as goal
 pub own_name-requires : goal.own_name-requires
 own_name-requires c =
     let rest =
-        rest_more deref c.loop-name.name-iterator _ c.next.result c.in-Some.name c.in-Some.is
-        c.next.ensures.steps in
+    rest_more deref c.loop-name.name-iterator _ c.next.result c.in-Some.name c.in-Some.is
+    c.next.ensures.steps in
     utf8_in_rest (map string_bytes c.loop-name.owned.items)
-        (names_of c.args.names.now.keys) c.in-Some.name.now.now _
+    (names_of c.args.names.now.keys) c.in-Some.name.now.now _
     (sym (ap (λ ks. map string_bytes c.loop-name.owned.items ++ names_of ks) rest)
-        ∙ c.loop-name.invariant) c.requires
+    ∙ c.loop-name.invariant) c.requires

@@ -14,7 +14,7 @@ loop-line-preserved-in-Ok-None c =
     let n = length_push c.loop-line.yielded c.in-Some.line in
     let read = rw c.in-Ok-None.field-0-is at c.in-Ok-None.ensures in
     let more = given_nothing c.loop-line.yielded c.in-Some.line c.without_return.result.now
-        c.without_return.ensures _ c.loop-line.invariant.1 read in
+    c.without_return.ensures _ c.loop-line.invariant.1 read in
     (omega arith, more)
 
 pub loop-line-preserved : goal.loop-line-preserved
@@ -24,32 +24,32 @@ loop-line-preserved c =
       omega arith,
       rw (c.in_ok-push-in-Ok-Some.ensures.items, c.loop-line.invariant.0)
           (given_one c.loop-line.yielded c.in-Some.line c.without_return.result.now
-              c.without_return.ensures c.loop-line.stated.items c.in-Ok-Some.statement
-              c.loop-line.invariant.1 read),
+          c.without_return.ensures c.loop-line.stated.items c.in-Ok-Some.statement
+          c.loop-line.invariant.1 read),
     )
 
 pub returns-in-Err-clause-refused : goal.returns-in-Err-clause-refused
 returns-in-Err-clause-refused c =
     let road =
-        YieldsList-from_slice_split _ (λ b. b == 10) c.args.text.now (cc) (cc) (cc)
-        (λ x r q k. search (rules, tests)) in
+    YieldsList-from_slice_split _ (λ b. b == 10) c.args.text.now (cc) (cc) (cc)
+    (λ x r q k. search (rules, tests)) in
     let turn =
-        YieldsList-turn road c.loop-line.yielded _ c.loop-line.yielded_by _ _ c.in-Some.line
-        c.in-Some.is c.next.ensures.steps in
+    YieldsList-turn road c.loop-line.yielded _ c.loop-line.yielded_by _ _ c.in-Some.line
+    c.in-Some.is c.next.ensures.steps in
     let front = YieldsList-so_far road c.loop-line.yielded _ c.loop-line.yielded_by in
     ends_pass c.in-Err.fault _ _ (c.loop-line.number + 1) c.or_refusal.result c.or_refusal.ensures
     (λ e. rw c.loop-line.invariant.0
-        (refused_line c.loop-line.yielded c.in-Some.line c.without_return.result.now
-        c.without_return.ensures c.args.text.now
+    (refused_line c.loop-line.yielded c.in-Some.line c.without_return.result.now
+    c.without_return.ensures c.args.text.now
     (entries_of c.loop-line.stated.items) front turn.0 turn.1 c.loop-line.invariant.1
-        (line_refused _ c.in-Err.fault c.in-Err.ensures e)))
+    (line_refused _ c.in-Err.fault c.in-Err.ensures e)))
 
 pub returns-clause-ok : goal.returns-clause-ok
 returns-clause-ok c =
     let road =
-        YieldsList-from_slice_split _ (λ b. b == 10) c.args.text.now (cc) (cc) (cc)
-        (λ x r q k. search (rules, tests)) in
+    YieldsList-from_slice_split _ (λ b. b == 10) c.args.text.now (cc) (cc) (cc)
+    (λ x r q k. search (rules, tests)) in
     let t =
-        YieldsList-end road c.loop-line.yielded _ c.loop-line.yielded_by _ _ c.in-None.is
-        c.next.ensures.steps in
+    YieldsList-end road c.loop-line.yielded _ c.loop-line.yielded_by _ _ c.in-None.is
+    c.next.ensures.steps in
     rw (ap (map strip_carriage_return) t.0) at c.loop-line.invariant.1

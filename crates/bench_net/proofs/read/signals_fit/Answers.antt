@@ -15,7 +15,7 @@ one None e = cc
 pub returns-then-count-eq-MAX_SIGNALS : goal.returns-then-count-eq-MAX_SIGNALS
 returns-then-count-eq-MAX_SIGNALS c =
     let fit =
-        names_fit c.args.stated.now c.loop-line.line-index c.line-item.result
-        (omega arith) c.line-item.is defined_of in
+    names_fit c.args.stated.now c.loop-line.line-index c.line-item.result
+    (omega arith) c.line-item.is defined_of in
     let defines = one c.defined.result (sym c.is_some.ensures ∙ c.if-is_some.true) in
     (λ e. cc, λ h. absurd (omega (arith, fit, ap length c.defined.ensures, defines)))

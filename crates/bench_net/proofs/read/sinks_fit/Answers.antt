@@ -6,6 +6,6 @@ use Rattle.bench_net.proofs.read.sinks_fit.Goals as goal
 pub returns-then-more-count : goal.returns-then-more-count
 returns-then-more-count c =
     let fit =
-        names_fit c.args.stated.now c.loop-line.line-index c.line-item.result
-        (omega arith) c.line-item.is read_of in
+    names_fit c.args.stated.now c.loop-line.line-index c.line-item.result
+    (omega arith) c.line-item.is read_of in
     (λ e. cc, λ h. absurd (omega (arith, fit)))
