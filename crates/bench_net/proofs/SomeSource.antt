@@ -6,7 +6,7 @@ use Rattle.bench_net.specs.Statement.{Name, Statement, Input, Output, Gate, Dff,
 use Rattle.bench_net.specs.Scan.{names, inputs, cells, sources}
 use Rattle.bench_net.specs.Circuit.{IsWellFormed, IsCircuit}
 use Rattle.lists.proofs.Members.{Among, among, contained}
-use Rattle.bench_net.proofs.SignalsDefined.{read_named}
+use Rattle.bench_net.proofs.Numbers.{read_named}
 use Rattle.bench_net.proofs.Reader.{some_args}
 
 -- a well-formed list defines a name

@@ -9,12 +9,12 @@ use Rattle.bench_net.specs.Statement.{Name, Statement, Gate}
 use Rattle.bench_net.specs.Scan.{names, signal, name_of, inputs, cells, sources}
 use Rattle.bench_net.specs.Circuit.{IsWellFormed}
 use Rattle.lists.proofs.Members.{Among, among, contained, among_left, among_right}
-use Rattle.bench_net.proofs.Public.{name_of-signal, signal-name_of, defined_among, source_named, read_named}
+use Rattle.bench_net.proofs.Public.{name_of-signal, signal-name_of, read_named}
 use Rattle.lists.proofs.Places.{at_place, placed, place_within}
 use Rattle.fault_model.specs.declared.Line.TheVariants as line
 use Rattle.fault_model.specs.Fault.{Fault}
 use Rattle.fault_model.specs.Solution.{Test, Solves, value, under, sees, pins_see}
-use Rattle.fault_model.proofs.Public.{Driven, driven, pins_agree, solution, solution_solves}
+use Rattle.fault_model.proofs.Public.{Driven, driven, pins_agree, solution, solution_solves, defined_among, source_named}
 use Rattle.block_sim.specs.Words.{lane, lane_bits, overlaid, test_of, AreWords, IsSignalWord, pin_bits}
 use Rattle.block_sim.proofs.Lanes.{lane_xor, lane_zero, unlike}
 

@@ -8,12 +8,12 @@ use Rattle.bench_net.specs.Statement.{Name, Statement, Input, Output, Gate, Dff}
 use Rattle.bench_net.specs.Scan.{names, signal, definition, gate_of, gate_line, sources}
 use Rattle.bench_net.specs.Circuit.{IsWellFormed}
 use Rattle.lists.proofs.Members.{Among, among, contained}
-use Rattle.bench_net.proofs.Public.{name_of-signal, IsSource, definition-signal, defined_among, source_definition, source_named}
+use Rattle.bench_net.proofs.Public.{name_of-signal}
 use Rattle.lists.proofs.Places.{at_place, place_within}
 use Rattle.fault_model.specs.declared.Line.TheVariants as line
 use Rattle.fault_model.specs.Fault.{Fault}
 use Rattle.fault_model.specs.Solution.{Test, Solves, under, value, sees, pins_see}
-use Rattle.fault_model.proofs.Public.{pins_agree, under_other}
+use Rattle.fault_model.proofs.Public.{pins_agree, under_other, IsSource, definition-signal, defined_among, source_definition, source_named}
 use Rattle.block_sim.specs.Words.{lane, overlaid, pin_bits}
 use Rattle.block_sim.specs.Events.{bits_of, HasEquation, Reads, IsElsewhere}
 use Rattle.block_sim.proofs.Equations.{nothing}

@@ -11,12 +11,12 @@ use Rattle.bench_net.specs.Statement.{Name, Statement, Input, Output, Gate, Dff,
 use Rattle.bench_net.specs.Scan.{names, signal, name_of, definition, gate_of, gate_line, inputs, cells, sources}
 use Rattle.bench_net.specs.Circuit.{IsWellFormed, IsCircuit, max_sinks, sink_count}
 use Rattle.lists.proofs.Members.{Among, among, contained, among_left, among_right}
-use Rattle.bench_net.proofs.Public.{definition_defines, name_of-signal, signal-name_of, IsSource, definition-signal, source_definition, source_place, read_named}
+use Rattle.bench_net.proofs.Public.{definition_defines, name_of-signal, signal-name_of, read_named}
 use Rattle.lists.proofs.Places.{at_place, placed, place_within, within_place}
 use Rattle.fault_model.specs.declared.Line.TheVariants as line
 use Rattle.fault_model.specs.Fault.{Fault}
 use Rattle.fault_model.specs.Solution.{Test, value, under}
-use Rattle.fault_model.proofs.Public.{Driven, driven}
+use Rattle.fault_model.proofs.Public.{Driven, driven, IsSource, definition-signal, source_definition, source_place}
 use Rattle.patterns.specs.Tests.{IsWord, as_number, bit}
 use Rattle.block_sim.specs.Words.{lane, pin_bits, IsSignalWord}
 use Rattle.block_sim.proofs.Bridge.{pins_named}

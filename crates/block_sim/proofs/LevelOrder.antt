@@ -10,9 +10,9 @@ use Rattle.bench_net.specs.Scan.{names, signal, sources, inputs, cells}
 use Rattle.bench_net.specs.Circuit.{IsWellFormed}
 use Rattle.bench_net.specs.Level.{AreLevels, HasLevel, IsLevelOrder, GoesBefore, greatest}
 use Rattle.lists.proofs.Members.{Among, among, contained, among_append, among_left, among_right, among_map}
-use Rattle.bench_net.proofs.Public.{name_of-signal, defined_among, read_named, signal_apart}
+use Rattle.bench_net.proofs.Public.{name_of-signal, read_named}
 use Rattle.lists.proofs.Places.{place_within}
-use Rattle.fault_model.proofs.Public.{Driven, driven, below_fold}
+use Rattle.fault_model.proofs.Public.{Driven, driven, below_fold, defined_among, signal_apart}
 
 -- an element stands between two lists
 split_at : (xs : List ℕ) (x : ℕ) → Among x xs → (ys zs : List ℕ) × (xs ≡ ys ++ x ∷ zs)

@@ -12,14 +12,14 @@ use Rattle.bench_net.specs.Statement.{Name, Statement, Gate}
 use Rattle.bench_net.specs.Scan.{names, signal, definition, gate_of, sources, observers, outputs, cells}
 use Rattle.bench_net.specs.Circuit.{IsWellFormed}
 use Rattle.lists.proofs.Members.{Among, among, contained, among_append, among_left, among_right, among_map, mapped_from}
-use Rattle.bench_net.proofs.Public.{name_of-signal, defined_among, definition-signal, source_named}
+use Rattle.bench_net.proofs.Public.{name_of-signal}
 use Rattle.lists.proofs.Places.{among_numbered, numbered_at, at_place, within_place}
 use Rattle.fault_model.specs.declared.Line.{Line}
 use Rattle.fault_model.specs.declared.Line.TheVariants as line
 use Rattle.fault_model.specs.Detection.{argument, carried}
 use Rattle.fault_model.specs.Fault.{Fault, branch, same_line}
 use Rattle.fault_model.specs.Solution.{Test, Solves, sees, under, value}
-use Rattle.fault_model.proofs.Public.{has_solutions, same_lines, under_other, under_own, observes}
+use Rattle.fault_model.proofs.Public.{has_solutions, same_lines, under_other, under_own, observes, defined_among, definition-signal, source_named}
 use Rattle.patterns.specs.Tests.{size_of}
 use Rattle.block_sim.specs.Words.{lane, lane_bits, overlaid, pin_bits, test_of, AreWords}
 use Rattle.block_sim.specs.Stirred.{IsStirred, IsStirredBy}

@@ -10,9 +10,9 @@ use Rattle.bench_net.specs.Scan.{names, signal, name_of, sinks, cells}
 use Rattle.bench_net.specs.Circuit.{IsWellFormed}
 use Rattle.bench_net.specs.Level.{AreLevels, HasLevel}
 use Rattle.lists.proofs.Members.{Among, contained}
-use Rattle.bench_net.proofs.Public.{name_of-signal, signal-name_of, data_reads, out_reads}
+use Rattle.bench_net.proofs.Public.{name_of-signal, signal-name_of}
 use Rattle.lists.proofs.Places.{at_place, placed, place_within, within_place}
-use Rattle.fault_model.proofs.Public.{observes}
+use Rattle.fault_model.proofs.Public.{observes, data_reads, out_reads}
 use Rattle.block_sim.specs.declared.flat.Reader.{Reader}
 use Rattle.block_sim.specs.Events.{Reads, IsObserved, AreWoken, level_at}
 use Rattle.block_sim.specs.Flat.{AreReaders}

@@ -8,7 +8,10 @@ use Rattle.bench_net.specs.Scan.{names, name_of, cell, cells, sinks, definition}
 use Rattle.bench_net.specs.Circuit.{IsWellFormed}
 use Rattle.lists.proofs.Members.{Among, contained}
 use Rattle.lists.proofs.Places.{at_place, from_mapped}
-use Rattle.bench_net.proofs.Public.{definition-signal, cell_in, pin_reads, data_reads, out_reads, q_among, at_position}
+use Rattle.bench_net.proofs.Public.{at_position}
+use Rattle.fault_model.proofs.SignalsDefined.{definition-signal, cell_in}
+use Rattle.fault_model.proofs.SignalsSinks.{pin_reads}
+use Rattle.fault_model.proofs.SignalsOnce.{data_reads, out_reads, q_among}
 use Rattle.fault_model.specs.declared.Line.TheVariants as line
 use Rattle.fault_model.specs.declared.Model.{Model}
 use Rattle.fault_model.specs.Fault.{Fault, faults, branch}

@@ -7,7 +7,8 @@ use Rattle.bench_net.specs.Statement.{Name, Statement, Gate}
 use Rattle.bench_net.specs.Scan.{names, signal, name_of, sinks}
 use Rattle.bench_net.specs.Circuit.{IsWellFormed}
 use Rattle.lists.proofs.Members.{Among, among, contained, among_filter}
-use Rattle.bench_net.proofs.Public.{name_of-signal, defined_among, read_named}
+use Rattle.bench_net.proofs.Public.{name_of-signal, read_named}
+use Rattle.fault_model.proofs.SignalsDefined.{defined_among}
 use Rattle.lists.proofs.Places.{at_place, placed}
 use Rattle.lists.proofs.Distinct.{one_place_of}
 use Rattle.fault_model.specs.declared.Line.{Line}

@@ -6,7 +6,8 @@ use Rattle.bench_net.specs.Statement.{Name, Statement, Input, Output, Gate, Dff}
 use Rattle.bench_net.specs.Scan.{names, sources, signal, definition}
 use Rattle.bench_net.specs.Circuit.{IsWellFormed}
 use Rattle.lists.proofs.Members.{Among, among, contained}
-use Rattle.bench_net.proofs.Public.{definition_defines, name_of-signal, definition-signal, IsSource, source_definition, source_place, read_named}
+use Rattle.bench_net.proofs.Public.{definition_defines, name_of-signal, read_named}
+use Rattle.fault_model.proofs.SignalsDefined.{definition-signal, IsSource, source_definition, source_place}
 use Rattle.lists.proofs.Places.{at_place}
 use Rattle.fault_model.specs.declared.Line.TheVariants as line
 use Rattle.fault_model.specs.Fault.{Fault}

@@ -6,7 +6,8 @@ use Rattle.bench_net.specs.Scan.{names, signal, name_of, inputs, cells, sources}
 use Rattle.bench_net.specs.Circuit.{IsWellFormed}
 use Rattle.bench_net.specs.Level.{greatest, AreLevels, HasLevel, GoesBefore, IsLevelOrder}
 use Rattle.lists.proofs.Members.{Among, among, contained, among_left, among_right, among_map}
-use Rattle.bench_net.proofs.Public.{name_of-signal, read_named, signal_apart}
+use Rattle.bench_net.proofs.Public.{name_of-signal, read_named}
+use Rattle.fault_model.proofs.SignalsDefined.{signal_apart}
 use Rattle.lists.proofs.Places.{at_place, place_within, within_place}
 use Rattle.fault_model.specs.Fault.{Fault}
 use Rattle.fault_model.proofs.Unique.{Driven, driven}

@@ -12,7 +12,8 @@ use Rattle.bench_net.specs.Circuit.{IsWellFormed, IsCircuit, sink_count, max_sig
 use Rattle.lists.proofs.Members.{Among, joined_from, mapped_from, filtered_from}
 use Rattle.lists.proofs.Distinct.{Distinct, distinct_from_pairs, one_place_of, distinct_append, distinct_map}
 use Rattle.lists.proofs.Places.{numbered_from, at_place}
-use Rattle.bench_net.proofs.Public.{sum_over, sinks_counted, sinks_once, one_read}
+use Rattle.fault_model.proofs.SignalsOnce.{sinks_once, one_read}
+use Rattle.fault_model.proofs.SignalsCount.{sum_over, sinks_counted}
 use Rattle.fault_model.specs.declared.Line.{Line}
 use Rattle.fault_model.specs.declared.Line.TheVariants as line
 use Rattle.fault_model.specs.declared.Model.{Model}

@@ -10,7 +10,8 @@ use Rattle.bench_net.specs.Reading.{HasArity}
 use Rattle.bench_net.specs.Scan.{names, signal, sinks}
 use Rattle.bench_net.specs.Circuit.{IsWellFormed, HaveArities}
 use Rattle.lists.proofs.Members.{Among, contained, among_map}
-use Rattle.bench_net.proofs.Public.{name_of-signal, definition-signal}
+use Rattle.bench_net.proofs.Public.{name_of-signal}
+use Rattle.fault_model.proofs.SignalsDefined.{definition-signal}
 use Rattle.lists.proofs.Places.{among_numbered}
 use Rattle.fault_model.specs.declared.Line.TheVariants as line
 use Rattle.fault_model.specs.declared.Model.{Model}

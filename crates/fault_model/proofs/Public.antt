@@ -1,4 +1,4 @@
--- Lemmas on faults: lists, classes, solutions and what shows a fault.
+-- Lemmas on circuits and faults: what defines and reads a name, lists, classes, solutions and what shows a fault.
 -- Proofs of the crates above cite these alone.
 pub use Rattle.fault_model.proofs.Carries.{carries}
 pub use Rattle.fault_model.proofs.Checked.{detects, is_solved, same_bit, slow_at, solves}
@@ -9,4 +9,7 @@ pub use Rattle.fault_model.proofs.Listed.{IsOn, branch_among, listed_model, list
 pub use Rattle.fault_model.proofs.LookBack.{classes_detected_same}
 pub use Rattle.fault_model.proofs.Plain.{bit_within, class_of, first_within, rep, rep_represents}
 pub use Rattle.fault_model.proofs.Shown.{observes}
+pub use Rattle.fault_model.proofs.SignalsDefined.{IsSource, defined_among, definition-signal, signal_apart, source_definition, source_named, source_place}
+pub use Rattle.fault_model.proofs.SignalsOnce.{data_reads, out_reads}
+pub use Rattle.fault_model.proofs.SignalsSinks.{pin_among, pin_reads}
 pub use Rattle.fault_model.proofs.Unique.{Driven, agree, driven, pins_agree}

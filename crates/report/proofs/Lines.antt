@@ -7,12 +7,12 @@ use Rattle.bench_net.specs.declared.Sink.TheVariants as sink
 use Rattle.bench_net.specs.Statement.{Name, Statement, Input, Output, Gate, Dff}
 use Rattle.bench_net.specs.Scan.{names, signal, cell, cells, sinks, name_of}
 use Rattle.lists.proofs.Members.{Among, contained}
-use Rattle.bench_net.proofs.Public.{name_of-signal, at_position, defined_among, pin_reads, data_reads}
+use Rattle.bench_net.proofs.Public.{name_of-signal, at_position}
 use Rattle.lists.proofs.Places.{place_within, within_place, at_place}
 use Rattle.fault_model.specs.declared.Line.{Line}
 use Rattle.fault_model.specs.declared.Model.{Model}
 use Rattle.fault_model.specs.Fault.{Fault, branch, faults}
-use Rattle.fault_model.proofs.Public.{listed_on, listed_model, branch_among, IsOn}
+use Rattle.fault_model.proofs.Public.{listed_on, listed_model, branch_among, IsOn, defined_among, pin_reads, data_reads}
 use Rattle.report.specs.Report.{IsLineOf}
 
 among_cells : (c : List Statement) (q d : Name) → Among (Dff q d) c → Among q (map (λ qd. qd.0) (cells c))

@@ -8,7 +8,7 @@ use Rattle.bench_net.specs.Statement.{Name, Statement, Input, Output, Gate, Dff,
 use Rattle.bench_net.specs.Scan.{names, signal, outputs, cell, places, pins_of, sinks}
 use Rattle.bench_net.specs.Circuit.{IsWellFormed, sink_count}
 use Rattle.lists.proofs.Members.{Among}
-use Rattle.bench_net.proofs.Checked.{same_bytes}
+use Rattle.bench_net.proofs.Public.{same_bytes}
 use Rattle.lists.proofs.Distinct.{Distinct, distinct_from_pairs}
 
 -- how often a name stands in a list

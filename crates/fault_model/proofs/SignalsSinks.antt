@@ -7,7 +7,7 @@ use Rattle.bench_net.specs.declared.Sink.TheVariants.{Pin, Data, Out}
 use Rattle.bench_net.specs.Statement.{Name, Statement, Input, Output, Gate, Dff}
 use Rattle.bench_net.specs.Scan.{signal, outputs, cell, places, pins_of, sinks}
 use Rattle.lists.proofs.Members.{Among, among_left, among_right, among_append, among_joined, joined_from, among_map, mapped_from, among_filter, filtered_from}
-use Rattle.bench_net.proofs.Checked.{same_bytes, bytes_refl}
+use Rattle.bench_net.proofs.Public.{same_bytes, bytes_refl}
 use Rattle.lists.proofs.Places.{among_numbered, numbered_at}
 
 -- the places of a name in a list

@@ -9,12 +9,11 @@ use Rattle.bench_net.specs.Statement.{Name, Statement, Input, Output, Gate, Dff}
 use Rattle.bench_net.specs.Scan.{names, signal, outputs, cells, cell, places, pins_of, sinks}
 use Rattle.bench_net.specs.Circuit.{IsWellFormed}
 use Rattle.lists.proofs.Members.{Among, contained, among_append, mapped_from, joined_from, filtered_from}
-use Rattle.bench_net.proofs.Checked.{same_bytes}
-use Rattle.bench_net.proofs.Numbers.{at_position}
+use Rattle.bench_net.proofs.Public.{same_bytes, at_position}
 use Rattle.lists.proofs.Distinct.{Distinct, distinct_from_pairs, distinct_append, distinct_map}
 use Rattle.lists.proofs.Places.{numbered_from}
-use Rattle.bench_net.proofs.SignalsDefined.{signal_apart, one_definition, defined_among}
-use Rattle.bench_net.proofs.SignalsSinks.{pin_reads, places_are}
+use Rattle.fault_model.proofs.SignalsDefined.{signal_apart, one_definition, defined_among}
+use Rattle.fault_model.proofs.SignalsSinks.{pin_reads, places_are}
 
 -- the places of a name are apart
 places_from : (n : Name) (ns : List Name) (from : ℕ) → Distinct (map (λ at. at.0) (filter (λ at. bytes_eq n at.1) (enumerate_from from ns)))

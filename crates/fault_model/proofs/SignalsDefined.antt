@@ -7,8 +7,7 @@ use Rattle.bench_net.specs.Statement.{Name, Statement, Input, Output, Gate, Dff,
 use Rattle.bench_net.specs.Scan.{names, signal, name_of, definition, inputs, outputs, cells, sources}
 use Rattle.bench_net.specs.Circuit.{IsWellFormed}
 use Rattle.lists.proofs.Members.{Among, among, contained, among_append, among_joined}
-use Rattle.bench_net.proofs.Checked.{same_bytes, bytes_refl}
-use Rattle.bench_net.proofs.Numbers.{at_position, name_of-signal}
+use Rattle.bench_net.proofs.Public.{same_bytes, bytes_refl, at_position, name_of-signal}
 use Rattle.lists.proofs.Distinct.{Distinct, distinct_from_pairs, distinct_between, one_place_of}
 use Rattle.lists.proofs.Places.{at_place}
 
@@ -140,7 +139,3 @@ pub source_place : (c : List Statement) (i : ℕ) (n : Name) → IsWellFormed c 
 source_place c i n well e =
     one_place_of (sources c) (position_or_len (bytes_eq n) (sources c)) i n (distinct_sources c (distinct_from_pairs (names c) well.once))
     (at_position (sources c) n (at_place (sources c) i n e)) e
-
--- what a statement reads is defined
-pub read_named : (c : List Statement) (st : Statement) (n : Name) → IsWellFormed c → Among st c → Among n (read st) → Contains (names c) n
-read_named c st n well a h = well.all_defined n (contained (flat_map read c) n (among_joined read c st n a h))
