@@ -22,7 +22,8 @@ pub struct Levels {
     pub depth: u32,
 }
 
-/// Why there are no levels: want of memory, or the lowest signal that is on a cycle of gates or fed by one.
+/// Why there are no levels: want of memory, or the lowest signal that is on a cycle of gates or fed
+/// by one.
 #[derive(Clone, Copy, Debug, PartialEq, Eq)]
 pub enum LevelFault {
     Memory,
@@ -45,8 +46,8 @@ impl<T: Drop> From<AllocFailed<T>> for LevelFault {
     }
 }
 
-/// What is known of a signal: its level, or that its gate waits for the signal of a pin, where `above` is
-/// the greatest level of the pins before it.
+/// What is known of a signal: its level, or that its gate waits for the signal of a pin, where
+/// `above` is the greatest level of the pins before it.
 #[derive(Clone, Copy, Debug, PartialEq, Eq)]
 enum Mark {
     Waits { pin: u32, above: u32 },
@@ -65,7 +66,8 @@ fn pins_of<'a>(lines: &'a [Line], definitions: &[u32], signal: u32) -> &'a [u32]
     }
 }
 
-/// The next mark of a gate that waits at `pin`: it goes on to the first pin whose signal has no level.
+/// The next mark of a gate that waits at `pin`: it goes on to the first pin whose signal has no
+/// level.
 fn next_mark(
     lines: &[Line],
     definitions: &[u32],
@@ -76,7 +78,8 @@ fn next_mark(
 ) -> Mark
     requires few { length definitions.now < 2 ^ 31 }
     requires graph { IsGraph lines.now definitions.now }
-    requires marks { AreMarks (gate_pins lines.now definitions.now) (length definitions.now) marks.now }
+    requires marks { AreMarks (gate_pins lines.now definitions.now) (length definitions.now)
+        marks.now }
     requires waits { slice_get marks.now gate ≡ Some (Mark.Waits pin above) }
     ensures { IsNextMark (gate_pins lines.now definitions.now) marks.now gate result }
 {
@@ -95,8 +98,8 @@ fn next_mark(
     Mark::Level(above + 1)
 }
 
-/// Tells a gate that the signal of a pin has a level. If the gate waits there, it goes on, and it is
-/// ready to tell its own readers if all its pins have levels.
+/// Tells a gate that the signal of a pin has a level. If the gate waits there, it goes on, and it
+/// is ready to tell its own readers if all its pins have levels.
 fn tell_gate(
     lines: &[Line],
     definitions: &[u32],
@@ -107,12 +110,16 @@ fn tell_gate(
 ) -> Result<(), AllocError>
     requires few { length definitions.now < 2 ^ 31 }
     requires graph { IsGraph lines.now definitions.now }
-    requires marks { AreMarks (gate_pins lines.now definitions.now) (length definitions.now) marks.old.items }
+    requires marks { AreMarks (gate_pins lines.now definitions.now) (length definitions.now)
+        marks.old.items }
     requires gate { gate < length definitions.now }
     ensures search { OnOk result ((row : List Sink)
-        → IsSearch (gate_pins lines.now definitions.now) (length definitions.now) marks.old.items ready.old.items (Sink.Pin gate pin ∷ row)
-        → IsSearch (gate_pins lines.now definitions.now) (length definitions.now) marks.new.items ready.new.items row) }
-    ensures count { OnOk result (length ready.new.items + count_by has_level marks.old.items ≡ length ready.old.items + count_by has_level marks.new.items) }
+        → IsSearch (gate_pins lines.now definitions.now) (length definitions.now)
+        marks.old.items ready.old.items (Sink.Pin gate pin ∷ row)
+        → IsSearch (gate_pins lines.now definitions.now) (length definitions.now)
+        marks.new.items ready.new.items row) }
+    ensures count { OnOk result (length ready.new.items + count_by has_level marks.old.items
+        ≡ length ready.old.items + count_by has_level marks.new.items) }
 {
     let Mark::Waits { pin: at, above } = marks[gate as usize] else {
         return Ok(());
@@ -138,9 +145,12 @@ fn tell_readers(
 ) -> Result<(), AllocError>
     requires few { length definitions.now < 2 ^ 31 }
     requires graph { IsGraph lines.now definitions.now }
-    requires search { IsSearch (gate_pins lines.now definitions.now) (length definitions.now) marks.old.items ready.old.items row.now }
-    ensures search { OnOk result (IsSearch (gate_pins lines.now definitions.now) (length definitions.now) marks.new.items ready.new.items []) }
-    ensures count { OnOk result (length ready.new.items + count_by has_level marks.old.items ≡ length ready.old.items + count_by has_level marks.new.items) }
+    requires search { IsSearch (gate_pins lines.now definitions.now) (length definitions.now)
+        marks.old.items ready.old.items row.now }
+    ensures search { OnOk result (IsSearch (gate_pins lines.now definitions.now) (length definitions.now)
+        marks.new.items ready.new.items []) }
+    ensures count { OnOk result (length ready.new.items + count_by has_level marks.old.items
+        ≡ length ready.old.items + count_by has_level marks.new.items) }
 {
     for sink in row {
         if let Sink::Pin { gate, pin } = sink {
@@ -164,7 +174,8 @@ fn first_mark(line: &Line) -> Mark
 fn first_marks(alloc: Global, lines: &[Line], definitions: &[u32]) -> Result<Vec<Mark>, AllocError>
     requires graph { IsGraph lines.now definitions.now }
     requires pins { HavePins (gate_pins lines.now definitions.now) (length definitions.now) }
-    ensures { IfOk result (λ marks. AreMarks (gate_pins lines.now definitions.now) (length definitions.now) marks.items) }
+    ensures { IfOk result (λ marks. AreMarks
+        (gate_pins lines.now definitions.now) (length definitions.now) marks.items) }
 {
     let mut marks = Vec::with_capacity(alloc, definitions.len())?;
     for place in definitions {
@@ -205,8 +216,9 @@ fn marked_levels(alloc: Global, marks: &[Mark]) -> Result<Vec<u32>, LevelFault>
 }
 
 /// The level of each signal: 0 for a source, and for a gate one more than the greatest of its pins'
-/// signals. A signal with a level is taken once to tell its readers, each of which waits at one pin at a
-/// time, so this takes time in the number of pins. The gates that wait at the end wait for one another.
+/// signals. A signal with a level is taken once to tell its readers, and a gate goes past each of
+/// its pins once, so the time is linear in the number of pins. The gates that wait at the end wait
+/// for one another.
 fn signal_levels(
     alloc: Global,
     lines: &[Line],
@@ -216,10 +228,14 @@ fn signal_levels(
     requires few { length definitions.now < 2 ^ 31 }
     requires graph { IsGraph lines.now definitions.now }
     requires pins { HavePins (gate_pins lines.now definitions.now) (length definitions.now) }
-    requires readers { AreReaders (gate_pins lines.now definitions.now) (length definitions.now) sinks.now.starts.items sinks.now.sinks.items }
-    ensures levels { IfOk result (λ levels. AreLevelsOf (gate_pins lines.now definitions.now) (length definitions.now) levels.items) }
-    ensures small { IfOk result (λ levels. (s : ℕ) → s < length levels.items → slice_index levels.items s ≤ length levels.items) }
-    ensures fault { IfErr result (IsLevelFault (gate_pins lines.now definitions.now) (length definitions.now)) }
+    requires readers { AreReaders (gate_pins lines.now definitions.now) (length definitions.now)
+        sinks.now.starts.items sinks.now.sinks.items }
+    ensures levels { IfOk result (λ levels. AreLevelsOf
+        (gate_pins lines.now definitions.now) (length definitions.now) levels.items) }
+    ensures small { IfOk result (λ levels. (s : ℕ) → s < length levels.items
+        → slice_index levels.items s ≤ length levels.items) }
+    ensures fault { IfErr result (IsLevelFault
+        (gate_pins lines.now definitions.now) (length definitions.now)) }
 {
     let mut marks = first_marks(alloc, lines, definitions)?;
     let mut ready = levelled(alloc, &marks)?;
@@ -246,7 +262,8 @@ fn greatest(levels: &[u32]) -> u32
     greatest
 }
 
-/// The levels of lines whose definitions stand at these places, and whose signals have these readers.
+/// The levels of lines whose definitions stand at these places, and whose signals have these
+/// readers.
 pub fn levels_of(
     alloc: Global,
     lines: &[Line],
@@ -256,11 +273,15 @@ pub fn levels_of(
     requires few { length definitions.now < 2 ^ 31 }
     requires graph { IsGraph lines.now definitions.now }
     requires pins { HavePins (gate_pins lines.now definitions.now) (length definitions.now) }
-    requires readers { AreReaders (gate_pins lines.now definitions.now) (length definitions.now) sinks.now.starts.items sinks.now.sinks.items }
-    ensures levels { IfOk result (λ l. AreLevelsOf (gate_pins lines.now definitions.now) (length definitions.now) l.levels.items) }
-    ensures order { IfOk result (λ l. (starts : List ℕ) × AreRows l.levels.items (l.depth + 1) starts l.order.items) }
+    requires readers { AreReaders (gate_pins lines.now definitions.now) (length definitions.now)
+        sinks.now.starts.items sinks.now.sinks.items }
+    ensures levels { IfOk result (λ l. AreLevelsOf
+        (gate_pins lines.now definitions.now) (length definitions.now) l.levels.items) }
+    ensures order { IfOk result (λ l. (starts : List ℕ)
+        × AreRows l.levels.items (l.depth + 1) starts l.order.items) }
     ensures depth { IfOk result (λ l. l.depth ≡ greatest l.levels.items) }
-    ensures fault { IfErr result (IsLevelFault (gate_pins lines.now definitions.now) (length definitions.now)) }
+    ensures fault { IfErr result (IsLevelFault
+        (gate_pins lines.now definitions.now) (length definitions.now)) }
 {
     let levels = signal_levels(alloc, lines, definitions, sinks)?;
     let depth = greatest(&levels);

@@ -29,8 +29,10 @@ impl SinkRows {
     /// The sinks of a signal.
     pub fn row(&self, signal: u32) -> &[Sink]
         requires starts { signal + 1 < length self.now.starts.items }
-        requires in_order { slice_index self.now.starts.items signal ≤ slice_index self.now.starts.items (signal + 1) }
-        requires within { slice_index self.now.starts.items (signal + 1) ≤ length self.now.sinks.items }
+        requires in_order { slice_index self.now.starts.items signal
+            ≤ slice_index self.now.starts.items (signal + 1) }
+        requires within { slice_index self.now.starts.items (signal + 1)
+            ≤ length self.now.sinks.items }
         ensures { result.now ≡ row_of self.now.starts.items self.now.sinks.items signal }
     {
         let start = self.starts[signal as usize] as usize;
@@ -98,7 +100,8 @@ fn add_lines(readers: &mut Vec<Reader>, lines: &[Line]) -> Result<(), AllocError
 /// The sinks of the readers at these places.
 fn sinks_of(alloc: Global, readers: &[Reader], places: &[u32]) -> Result<Vec<Sink>, AllocError>
     requires { (i : ℕ) → i < length places.now → slice_index places.now i < length readers.now }
-    ensures { IfOk result (λ sinks. map Some sinks.items ≡ map (λ place. option_map (λ reader. reader.sink) (slice_get readers.now place)) places.now) }
+    ensures { IfOk result (λ sinks. map Some sinks.items
+        ≡ map (λ place. option_map (λ reader. reader.sink) (slice_get readers.now place)) places.now) }
 {
     let mut sinks = Vec::with_capacity(alloc, places.len())?;
     for place in places {
@@ -140,8 +143,10 @@ pub fn sink_rows(
     requires few_outputs { length outputs.now < 2 ^ 32 }
     requires few_readers { length (all_readers lines.now outputs.now) < 2 ^ 32 }
     requires pins { (l : Line) → Contains lines.now l → PinsFit l }
-    requires below { (reader : Reader) → Contains (all_readers lines.now outputs.now) reader → reader.signal < signals }
-    ensures { IfOk result (λ rows. AreSinkRows (all_readers lines.now outputs.now) signals rows.starts.items rows.sinks.items) }
+    requires below { (reader : Reader) → Contains (all_readers lines.now outputs.now) reader
+        → reader.signal < signals }
+    ensures { IfOk result (λ rows. AreSinkRows (all_readers lines.now outputs.now) signals
+        rows.starts.items rows.sinks.items) }
 {
     let readers = readers_of(alloc, lines, outputs)?;
     let keys = signals_of(alloc, &readers)?;
