@@ -22,10 +22,6 @@ use Rattle.bench_net.proofs.Counted.{outputs_read}
 use Rattle.bench_net.proofs.Named.{AreNamed, signal_at, bytes_at, outputs_are, cells_are, q_names}
 use Rattle.lists.proofs.Places.{placed}
 
--- the sinks of a signal among readers
-abbrev sinks_from : List Reader → ℕ → List Sink
-sinks_from readers s = map (λ reader. reader.sink) (filter (λ reader. reader.signal == s) readers)
-
 sinks-append : (xs ys : List Reader) (s : ℕ) → sinks_at (xs ++ ys) s ≡ sinks_at xs s ++ sinks_at ys s
 sinks-append xs ys s =
     ap (map (λ reader. reader.sink)) (filter-append (λ reader. reader.signal == s) xs ys)
@@ -54,10 +50,6 @@ position_after ns lines (x ∷ before) after q named lt below =
     let less : x < q = below x (inl refl) in
     let other : bytes_eq (name_at ns q) (name_at ns x) ≡ false = bytes_at ns lines q x named lt (omega (arith, less, lt)) ∙ ne_eqb x q (λ e. omega (arith, less, e)) in
     rw other (ap (λ n. 1 + n) (position_after ns lines before after q named lt (λ y a. below y (inr a))) ∙ one-add (length before))
-
--- the numbers of the cells' q
-abbrev q_numbers : List Line → List ℕ
-q_numbers lines = map (λ cell. cell.q) (filter_map cell_numbers lines)
 
 cell_number : (ns : List Name) (lines : List Line) (before after : List ℕ) (q : ℕ) → AreNamed ns lines → q < length ns → ((x : ℕ) → Among x before → x < q)
     → map (λ cell. cell.q) (filter_map cell_numbers lines) ≡ before ++ q ∷ after → cell (statements_of ns lines) (name_at ns q) ≡ length before

@@ -1,5 +1,5 @@
 -- What a search for levels needs of gates and of the rows of readers.
-use Rattle.std.proofs.Common.{◌≡◌, ◌<◌, ◌≤◌, ◌+◌, ◌==◌, ℕ, sym, ◌∙◌, ap, subst, refl, List, [], ◌∷◌, ◌++◌, map, length, filter, arith, inl, inr, ◌⊎◌}
+use Rattle.std.proofs.Common.{◌≡◌, ◌<◌, ◌+◌, ◌==◌, ℕ, sym, ◌∙◌, ap, subst, refl, List, [], ◌∷◌, map, length, filter, arith, inl, inr, ◌⊎◌}
 use Rattle.std.specs.Prelude.{Some, slice_get, slice_index, Contains, flat_map}
 use Rattle.std.specs.List.{enumerate_from, filter_map}
 use Rattle.std.proofs.lemmas.Bool.{eq-eqb}

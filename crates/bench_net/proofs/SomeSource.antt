@@ -10,15 +10,12 @@ use Rattle.bench_net.proofs.Numbers.{read_named}
 use Rattle.bench_net.proofs.Reader.{some_args}
 
 -- a well-formed list defines a name
-names_of_output : (c : List Statement) (n : Name) → Contains (names c) n → 0 < length (names c)
-names_of_output c n at = omega (arith, at.1)
-
 pub some_signal : (c : List Statement) → IsWellFormed c → 0 < length (names c)
 some_signal [] well = absurd (well.some refl)
 some_signal (Input n ∷ c) well = omega arith
 some_signal (Gate n kind args ∷ c) well = omega arith
 some_signal (Dff q d ∷ c) well = omega arith
-some_signal (Output n ∷ c) well = names_of_output (Output n ∷ c) n (well.all_defined n (contained (flat_map read (Output n ∷ c)) n (inl refl)))
+some_signal (Output n ∷ c) well = let at = well.all_defined n (contained (flat_map read (Output n ∷ c)) n (inl refl)) in omega (arith, at.1)
 
 -- a name is a source's, or a gate's
 IsDriven : List Statement → Name → Type 0
@@ -30,9 +27,6 @@ source_more ins cs n = omega arith
 cell_more : (ins : List Name) (cs : List Name) (n : Name) → 1 ≤ length (ins ++ (n ∷ cs))
 cell_more [] cs n = omega arith
 cell_more (i ∷ ins) cs n = omega arith
-
-cell_kept : (ins : List Name) (cs : List Name) (n : Name) → 1 ≤ length (ins ++ cs) → 1 ≤ length (ins ++ (n ∷ cs))
-cell_kept ins cs n h = cell_more ins cs n
 
 driven : (c : List Statement) (n : Name) → Among n (names c) → IsDriven c n
 unfolding IsDriven

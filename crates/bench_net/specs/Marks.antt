@@ -1,5 +1,5 @@
 -- Gates by the numbers of their signals, their levels, and the marks of a search for levels.
-use Rattle.std.specs.Prelude.{◌≡◌, ℕ, ◌+◌, ◌<◌, ◌≤◌, ◌^◌, List, [], ◌∷◌, ◌++◌, map, length, Contains, Option, Some, None, slice_get, slice_index, slice_range, count_by, set, Bool, true, false, ◌⊎◌}
+use Rattle.std.specs.Prelude.{◌≡◌, ℕ, ◌+◌, ◌<◌, ◌≤◌, ◌^◌, List, [], map, length, Contains, Option, Some, None, slice_get, slice_index, slice_range, count_by, set, Bool, true, false, ◌⊎◌}
 use Rattle.bench_net.specs.declared.line.Line.{Line}
 use Rattle.bench_net.specs.declared.line.Line.TheVariants as line
 use Rattle.bench_net.specs.declared.levels.Mark.{Mark}

@@ -31,9 +31,7 @@ facts names lines seen n tables numbered lines_are count are =
 
 pub levels_of-requires-clause-few : goal.levels_of-requires-clause-few
 levels_of-requires-clause-few c =
-    let ns = map string_bytes c.args.lines.names.items in
     let lines = c.args.lines.lines.items in
-    let places = c.in_ok-tables.tables.definitions.items in
     let tables = facts c.args.lines.names.items lines c.deref.result.now c.len.result c.in_ok-tables.tables c.requires.numbered c.deref.ensures.value (omega (arith, c.len.ensures)) c.in_ok-tables.ensures in
     omega (arith, tables.1, ap length c.deref-3.ensures.value, c.requires.signals)
 

@@ -1,4 +1,4 @@
-use Rattle.std.proofs.Common.{◌≡◌, ◌<◌, ◌≤◌, ◌+◌, ◌∙◌, ◌++◌, ◌∷◌, [], ℕ, List, ap, sym, subst, arith, length, inl}
+use Rattle.std.proofs.Common.{◌<◌, ◌≤◌, ◌∙◌, [], ℕ, ap, sym, subst, arith, length, inl}
 use Rattle.std.specs.Prelude.{Contains, slice_index}
 use Rattle.std.proofs.lemmas.List.{nil_from_length}
 use Rattle.std.proofs.lemmas.Result.{IfOk-weaker, IfErr-weaker}
@@ -11,7 +11,6 @@ use Rattle.bench_net.proofs.levels.signal_levels.Goals as goal
 
 pub loop-signal-init : goal.loop-signal-init
 loop-signal-init c =
-    let marks = c.in_ok-marks.marks.items in
     record {
       marks_are = c.in_ok-marks.ensures;
       ready_below = λ s has. omega (arith, c.in_ok-ready.ensures.below s has, ap length c.deref.ensures.value, c.in_ok-marks.ensures.count);

@@ -1,4 +1,4 @@
-use Rattle.std.proofs.Common.{◌≡◌, ◌<◌, ◌+◌, ◌∙◌, ℕ, arith, ap, sym, length, map, string_bytes}
+use Rattle.std.proofs.Common.{◌≡◌, ◌<◌, ◌∙◌, ℕ, arith, ap, sym, length, map, string_bytes}
 use Rattle.std.specs.Prelude.{Some}
 use Rattle.bench_net.specs.Scan.{names, name_of, sinks}
 use Rattle.bench_net.specs.Stored.{name_at}
