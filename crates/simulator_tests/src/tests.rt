@@ -197,6 +197,22 @@ static WORKED: [Worked; 8] = [
     },
 ];
 
+/// A workspace of a job of this circuit without tests.
+fn workspace_of(alloc: Global, bench: &str) -> Result<Workspace, Fail> {
+    let job = job_of(alloc, bench.as_bytes(), b"", Model::StuckAt)?;
+    Ok(Workspace::new(alloc, &job)?)
+}
+
+#[test]
+fn a_workspace_fits_jobs_of_as_many_signals(rt: HostRuntime) -> Result<(), Fail> {
+    for (room, fits) in [(BUFFER, false), (C17, true)] {
+        let workspace = workspace_of(rt.alloc(), room)?;
+        let job = job_of(rt.alloc(), C17.as_bytes(), b"", Model::StuckAt)?;
+        assert_eq!(rt; workspace.fits(&job), fits, "{room}");
+    }
+    Ok(())
+}
+
 /// The first test of a class's first hit, out of the outcomes of all classes and blocks.
 fn first_of(outcomes: &[Outcome], blocks: u32, class: u32) -> Option<u32> {
     for block in 0..blocks {
