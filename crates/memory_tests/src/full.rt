@@ -5,29 +5,51 @@ use crate::parts::{C17, tests_of_c17};
 use crate::runs::is_right;
 use crate::texts::Screen;
 use block_sim::{Job, Workspace, first_hit, simulate};
-use fault_ledger::{Claim, Finish, Ledger, SharedLedger};
+use fault_ledger::{Claim, Finish, Ledger, Seat, SharedLedger};
 use fault_model::Model;
 use report::{RunFault, job_of, listing_bytes, report_bytes, write_listing, write_report};
+use std::alloc::Global;
+use std::process::Abort;
+use std::sync::Wait;
 use std::test::Fail;
+use std::thread::Threads;
 use workers::{End, OpenGate, run, run_schedule, work};
+
+/// Writes a report and a listing with no memory left, and compares them with these.
+fn writes<R: Abort>(
+    rt: &R,
+    alloc: Global,
+    job: &Job,
+    report: &[u8],
+    listing: &[u8],
+) -> Result<(), Fail> {
+    let verdicts = run_schedule(alloc, job, 2, &[])?;
+    assert_eq!(rt; verdicts.total(), job.faults().count());
+    let (mut first, mut second) = (Screen::new(), Screen::new());
+    let ballast = Ballast::all(alloc)?;
+    let is_reported = write_report(job, &verdicts, true, &mut first).is_ok();
+    let is_listed = write_listing(job.circuit(), job.faults(), job.classes(), &mut second).is_ok();
+    drop(ballast);
+    assert!(rt; is_reported && first.text() == report);
+    assert!(rt; is_listed && second.text() == listing);
+    Ok(())
+}
 
 #[test]
 fn reports_are_written(rt: HostRuntime) -> Result<(), Fail> {
     let tests = tests_of_c17(rt.alloc())?;
-    let tests = tests.as_slice();
-    let report = report_bytes(&rt, rt.alloc(), Model::StuckAt, C17, tests, 1, true)?;
+    let report = report_bytes(
+        &rt,
+        rt.alloc(),
+        Model::StuckAt,
+        C17,
+        tests.as_slice(),
+        1,
+        true,
+    )?;
     let listing = listing_bytes(rt.alloc(), Model::StuckAt, C17)?;
-    let job = job_of(rt.alloc(), Model::StuckAt, C17, tests)?;
-    let verdicts = run_schedule(rt.alloc(), &job, 2, &[])?;
-    assert_eq!(rt; verdicts.total(), job.faults().count());
-    let (mut first, mut second) = (Screen::new(), Screen::new());
-    let ballast = Ballast::all(rt.alloc())?;
-    write_report(&job, &verdicts, true, &mut first)?;
-    write_listing(job.circuit(), job.faults(), job.classes(), &mut second)?;
-    drop(ballast);
-    assert_eq!(rt; first.text(), report.as_slice());
-    assert_eq!(rt; second.text(), listing.as_slice());
-    Ok(())
+    let job = job_of(rt.alloc(), Model::StuckAt, C17, tests.as_slice())?;
+    writes(&rt, rt.alloc(), &job, report.as_slice(), listing.as_slice())
 }
 
 /// Claims a piece, and drops it, else simulates it twice and reports. Says whether all went well.
@@ -46,19 +68,46 @@ fn step(job: &Job, ledger: &mut Ledger, workspace: &mut Workspace) -> bool {
     whole == early && ledger.report(0, early).is_ok()
 }
 
+/// Simulates all pieces of a job with no memory left.
+fn simulates_all<R: Abort>(rt: &R, alloc: Global, job: &Job) -> Result<(), Fail> {
+    let mut ledger = Ledger::new(alloc, 22, 65, 1)?;
+    let mut workspace = Workspace::new(alloc, job)?;
+    let ballast = Ballast::all(alloc)?;
+    for piece in 0..44 {
+        assert!(rt; step(job, &mut ledger, &mut workspace), "piece {piece}");
+    }
+    drop(ballast);
+    assert_eq!(rt; ledger.finished(), Finish::Finished);
+    assert!(rt; workspace.gate_evaluations() > 0);
+    Ok(())
+}
+
 #[test]
 fn pieces_are_simulated(rt: HostRuntime) -> Result<(), Fail> {
     let tests = tests_of_c17(rt.alloc())?;
     let job = job_of(rt.alloc(), Model::StuckAt, C17, tests.as_slice())?;
-    let mut ledger = Ledger::new(rt.alloc(), 22, 65, 1)?;
-    let mut workspace = Workspace::new(rt.alloc(), &job)?;
-    let ballast = Ballast::all(rt.alloc())?;
-    for piece in 0..44 {
-        assert!(rt; step(&job, &mut ledger, &mut workspace), "piece {piece}");
-    }
-    assert_eq!(rt; ledger.finished(), Finish::Finished);
-    assert!(rt; workspace.gate_evaluations() > 0);
+    simulates_all(&rt, rt.alloc(), &job)
+}
+
+/// One worker works with no memory left. Says whether it finished the job.
+fn finishes(job: &Job, ledger: &SharedLedger, workspace: &mut Workspace, seat: &mut Seat) -> bool {
+    let is_free = seat.held().is_none();
+    let end = work(job, ledger, workspace, seat, &OpenGate);
+    is_free && end != End::Stopped && ledger.finished(seat) == Finish::Finished
+}
+
+/// Lets one worker work.
+fn works<R: Abort>(rt: &R, alloc: Global, job: &Job) -> Result<(), Fail> {
+    let (classes, count) = (job.classes().count(), job.tests().count());
+    let (ledger, mut seats) = SharedLedger::new(alloc, classes, count, 1)?;
+    let mut workspace = Workspace::new(alloc, job)?;
+    let Some(mut seat) = seats.pop() else {
+        return Err(Fail::new("no seat"));
+    };
+    let ballast = Ballast::all(alloc)?;
+    let is_finished = finishes(job, &ledger, &mut workspace, &mut seat);
     drop(ballast);
+    assert!(rt; is_finished);
     Ok(())
 }
 
@@ -66,18 +115,18 @@ fn pieces_are_simulated(rt: HostRuntime) -> Result<(), Fail> {
 fn a_worker_works(rt: HostRuntime) -> Result<(), Fail> {
     let tests = tests_of_c17(rt.alloc())?;
     let job = job_of(rt.alloc(), Model::StuckAt, C17, tests.as_slice())?;
-    let (classes, count) = (job.classes().count(), job.tests().count());
-    let (ledger, mut seats) = SharedLedger::new(rt.alloc(), classes, count, 1)?;
-    let mut workspace = Workspace::new(rt.alloc(), &job)?;
-    let Some(mut seat) = seats.pop() else {
-        return Err(Fail::new("no seat"));
-    };
-    let ballast = Ballast::all(rt.alloc())?;
-    assert!(rt; seat.held().is_none());
-    let end = work(&job, &ledger, &mut workspace, &mut seat, &OpenGate);
-    assert!(rt; end != End::Stopped);
-    assert_eq!(rt; ledger.finished(&mut seat), Finish::Finished);
+    works(&rt, rt.alloc(), &job)
+}
+
+/// Lets 64 workers start where few find room for a stack, and then where all do.
+fn starts<R: Threads + Wait + Abort>(rt: &R, alloc: Global, job: &Job) -> Result<(), Fail> {
+    // No stack of a thread finds room, but for those that are kept from threads that ended.
+    let ballast = Ballast::large(alloc, 20)?;
+    let refused = run(rt, alloc, job, 64, &OpenGate).err();
     drop(ballast);
+    assert_eq!(rt; refused, Some(RunFault::Threads));
+    let verdicts = run(rt, alloc, job, 64, &OpenGate)?;
+    assert!(rt; is_right(&verdicts));
     Ok(())
 }
 
@@ -85,12 +134,5 @@ fn a_worker_works(rt: HostRuntime) -> Result<(), Fail> {
 fn starts_of_threads(rt: HostRuntime) -> Result<(), Fail> {
     let tests = tests_of_c17(rt.alloc())?;
     let job = job_of(rt.alloc(), Model::StuckAt, C17, tests.as_slice())?;
-    // No stack of a thread finds room, but for those that are kept from threads that ended.
-    let ballast = Ballast::large(rt.alloc(), 20)?;
-    let refused = run(&rt, rt.alloc(), &job, 64, &OpenGate).err();
-    assert_eq!(rt; refused, Some(RunFault::Threads));
-    drop(ballast);
-    let verdicts = run(&rt, rt.alloc(), &job, 64, &OpenGate)?;
-    assert!(rt; is_right(&verdicts));
-    Ok(())
+    starts(&rt, rt.alloc(), &job)
 }

@@ -4,13 +4,15 @@
 use crate::parts::{C17, MEANS, Making, PARTS, Setting, tests_of_c17};
 use crate::runs::{Scheduled, Threaded};
 use crate::sweep::once;
-use crate::texts::{TextCall, Written};
+use crate::texts::{TextCall, Written, text_of};
 use block_sim::Job;
 use fault_model::Model;
 use report::{job_of, listing_bytes, report_bytes};
 use std::alloc::Global;
 use std::process::Abort;
+use std::sync::Wait;
 use std::test::Fail;
+use std::thread::Threads;
 
 /// The parts of a job.
 fn make_parts<R: Abort>(rt: &R, alloc: Global, job: &Job, tests: &[u8]) {
@@ -26,6 +28,32 @@ fn make_means<R: Abort>(rt: &R, alloc: Global, job: &Job) {
     }
 }
 
+/// The text calls, and what they write.
+fn write_texts<R: Threads + Wait + Abort>(
+    rt: &R,
+    alloc: Global,
+    tests: &[u8],
+    report: &[u8],
+    listing: &[u8],
+) {
+    for call in [TextCall::Simulate, TextCall::Schedule, TextCall::Faults] {
+        let text = text_of(call, report, listing);
+        let written = Written {
+            rt,
+            call,
+            tests,
+            text,
+        };
+        once(rt, alloc, &written);
+    }
+}
+
+/// The runs of a job.
+fn make_runs<R: Threads + Wait + Abort>(rt: &R, alloc: Global, job: &Job) {
+    once(rt, alloc, &Scheduled { job });
+    once(rt, alloc, &Threaded { rt, job });
+}
+
 #[test]
 fn each_call_that_was_refused_succeeds_again(rt: HostRuntime) -> Result<(), Fail> {
     let alloc = rt.alloc();
@@ -33,23 +61,10 @@ fn each_call_that_was_refused_succeeds_again(rt: HostRuntime) -> Result<(), Fail
     let tests = tests.as_slice();
     let report = report_bytes(&rt, alloc, Model::StuckAt, C17, tests, 1, true)?;
     let listing = listing_bytes(alloc, Model::StuckAt, C17)?;
+    write_texts(&rt, alloc, tests, report.as_slice(), listing.as_slice());
     let job = job_of(alloc, Model::StuckAt, C17, tests)?;
     make_parts(&rt, alloc, &job, tests);
     make_means(&rt, alloc, &job);
-    once(&rt, alloc, &Scheduled { job: &job });
-    once(&rt, alloc, &Threaded { rt: &rt, job: &job });
-    for (call, text) in [
-        (TextCall::Simulate, report.as_slice()),
-        (TextCall::Schedule, report.as_slice()),
-        (TextCall::Faults, listing.as_slice()),
-    ] {
-        let written = Written {
-            rt: &rt,
-            call,
-            tests,
-            text,
-        };
-        once(&rt, alloc, &written);
-    }
+    make_runs(&rt, alloc, &job);
     Ok(())
 }

@@ -10,6 +10,7 @@ use report::{
     simulate_text,
 };
 use std::alloc::Global;
+use std::process::Abort;
 use std::sync::Wait;
 use std::test::Fail;
 use std::thread::Threads;
@@ -63,6 +64,14 @@ pub(crate) enum TextCall {
     Faults,
 }
 
+/// What a text call on C17 writes, of its report and its listing.
+pub(crate) fn text_of<'a>(call: TextCall, report: &'a [u8], listing: &'a [u8]) -> &'a [u8] {
+    match call {
+        TextCall::Simulate | TextCall::Schedule => report,
+        TextCall::Faults => listing,
+    }
+}
+
 /// A text call on C17, and what it writes.
 #[derive(Drop)]
 pub(crate) struct Written<'a, R> {
@@ -100,24 +109,45 @@ impl<R: Threads + Wait> Trial for Written<'_, R> {
     }
 }
 
-#[test]
-fn nothing_is_written_without_memory(rt: HostRuntime) -> Result<(), Fail> {
-    let tests = tests_of_c17(rt.alloc())?;
-    let tests = tests.as_slice();
-    let report = report_bytes(&rt, rt.alloc(), Model::StuckAt, C17, tests, 1, true)?;
-    let listing = listing_bytes(rt.alloc(), Model::StuckAt, C17)?;
-    for (call, text) in [
-        (TextCall::Simulate, report.as_slice()),
-        (TextCall::Schedule, report.as_slice()),
-        (TextCall::Faults, listing.as_slice()),
-    ] {
+/// The text calls on C17, each tried with no memory and then with more and more.
+fn sweep_texts<R: Threads + Wait + Abort>(
+    rt: &R,
+    alloc: Global,
+    tests: &[u8],
+    report: &[u8],
+    listing: &[u8],
+) -> Result<(), Fail> {
+    for call in [TextCall::Simulate, TextCall::Schedule, TextCall::Faults] {
+        let text = text_of(call, report, listing);
         let written = Written {
-            rt: &rt,
+            rt,
             call,
             tests,
             text,
         };
-        sweep(&rt, rt.alloc(), &written)?;
+        sweep(rt, alloc, &written)?;
     }
     Ok(())
+}
+
+#[test]
+fn nothing_is_written_without_memory(rt: HostRuntime) -> Result<(), Fail> {
+    let tests = tests_of_c17(rt.alloc())?;
+    let report = report_bytes(
+        &rt,
+        rt.alloc(),
+        Model::StuckAt,
+        C17,
+        tests.as_slice(),
+        1,
+        true,
+    )?;
+    let listing = listing_bytes(rt.alloc(), Model::StuckAt, C17)?;
+    sweep_texts(
+        &rt,
+        rt.alloc(),
+        tests.as_slice(),
+        report.as_slice(),
+        listing.as_slice(),
+    )
 }
