@@ -10,6 +10,8 @@ mod once;
 #[cfg(test)]
 mod parts;
 #[cfg(test)]
+mod reads;
+#[cfg(test)]
 mod runs;
 #[cfg(test)]
 mod sweep;

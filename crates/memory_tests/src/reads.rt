@@ -1,0 +1,147 @@
+//! Calls that only read, and seats that look and meet: they answer where no memory is left as they
+//! do where there is some.
+
+ghost use Rattle.std.specs.Prelude.{◌≡◌, ◌<◌, length};
+ghost use Rattle.bench_net.specs.Scan.{names};
+
+use crate::ballast::Ballast;
+use crate::parts::{C17, tests_of_c17};
+use bench_net::Circuit;
+use block_sim::Job;
+use fault_ledger::{Finish, PieceState, Seat, SharedLedger, Status};
+use fault_model::{Faults, Line, Model};
+use patterns::{Outcome, Tests};
+use report::job_of;
+use std::test::Fail;
+use workers::{Verdicts, run_schedule};
+
+/// A sum of answers, in which their order counts.
+#[derive(Clone, Copy, Debug, PartialEq, Eq)]
+struct Sum(u64);
+
+impl Sum {
+    fn add(&mut self, answer: u64) {
+        self.0 = self.0.rotate_left(5) ^ answer;
+    }
+}
+
+/// What the calls of a circuit answer for a signal.
+fn add_signal(sum: &mut Sum, circuit: &Circuit, signal: u32)
+    requires { signal < length (names circuit.now) }
+{
+    sum.add(u64::from(circuit.level_of(signal)));
+    sum.add(u64::from(circuit.source_of(signal).unwrap_or(u32::MAX)));
+    sum.add(circuit.name_of(signal).len() as u64);
+    sum.add(circuit.gate_of(signal).is_some() as u64);
+    sum.add(circuit.sinks_of(signal).len() as u64);
+}
+
+/// What the calls of a circuit answer.
+fn add_circuit(sum: &mut Sum, circuit: &Circuit) {
+    sum.add(u64::from(circuit.sources()));
+    sum.add(u64::from(circuit.depth()));
+    sum.add(circuit.inputs().len() as u64);
+    sum.add(circuit.outputs().len() as u64);
+    sum.add(circuit.scan_cells().len() as u64);
+    sum.add(circuit.in_level_order().len() as u64);
+    for signal in 0..circuit.signals() {
+        add_signal(sum, circuit, signal);
+    }
+}
+
+/// What the calls of a fault list answer.
+fn add_faults(sum: &mut Sum, faults: &Faults) {
+    sum.add((faults.model() == Model::StuckAt) as u64);
+    for fault in 0..faults.count() {
+        sum.add(faults.stuck_of(fault) as u64);
+        if let Line::Stem(signal) = faults.line_of(fault) {
+            sum.add(u64::from(signal));
+        }
+    }
+}
+
+/// What the calls of the classes answer.
+fn add_classes(sum: &mut Sum, job: &Job) {
+    let classes = job.classes();
+    for class in 0..classes.count() {
+        sum.add(u64::from(classes.representative(class)));
+    }
+    for fault in 0..job.faults().count() {
+        sum.add(u64::from(classes.class_of(fault)));
+    }
+}
+
+/// What the calls of the tests answer.
+fn add_tests(sum: &mut Sum, tests: &Tests) {
+    sum.add(u64::from(tests.count()));
+    for block in 0..tests.blocks() {
+        sum.add(u64::from(tests.size_of(block)));
+        for source in 0..tests.width() {
+            sum.add(tests.word(block, source));
+        }
+    }
+}
+
+/// What the calls of the verdicts answer.
+fn add_verdicts(sum: &mut Sum, verdicts: &Verdicts) {
+    sum.add(u64::from(verdicts.detected()));
+    sum.add(u64::from(verdicts.skipped()));
+    for fault in 0..verdicts.total() {
+        sum.add(u64::from(verdicts.first(fault).unwrap_or(u32::MAX)));
+    }
+}
+
+/// What all calls answer that only read.
+fn sum_of(job: &Job, verdicts: &Verdicts) -> Sum {
+    let mut sum = Sum(0);
+    add_circuit(&mut sum, job.circuit());
+    add_faults(&mut sum, job.faults());
+    add_classes(&mut sum, job);
+    add_tests(&mut sum, job.tests());
+    add_verdicts(&mut sum, verdicts);
+    sum
+}
+
+#[test]
+fn calls_that_read(rt: HostRuntime) -> Result<(), Fail> {
+    let tests = tests_of_c17(rt.alloc())?;
+    let job = job_of(rt.alloc(), Model::StuckAt, C17, tests.as_slice())?;
+    let verdicts = run_schedule(rt.alloc(), &job, 2, &[])?;
+    let with_memory = sum_of(&job, &verdicts);
+    let ballast = Ballast::all(rt.alloc())?;
+    let without = sum_of(&job, &verdicts);
+    drop(ballast);
+    assert_eq!(rt; without, with_memory);
+    Ok(())
+}
+
+/// Whether two seats of a ledger of one class and two blocks find what is right, where the first
+/// reports a hit at the first block and the second drops the other.
+fn seats_answer(ledger: &SharedLedger, first: &mut Seat, second: &mut Seat) -> bool
+    requires shape { (ledger.now.shape.classes ≡ 1) × (ledger.now.shape.tests ≡ 65) }
+    requires seats { (first.old.place ≡ ledger.now) × (second.old.place ≡ ledger.now) }
+    ensures seats { (first.new.place ≡ ledger.now) × (second.new.place ≡ ledger.now) }
+{
+    let claimed = ledger.claim(first).is_ok() && ledger.claim(second).is_ok();
+    let reported = ledger.report(first, Outcome::Hit(5)).is_ok();
+    let dropped = ledger.drop_piece(second).is_ok();
+    ledger.meet(first, second);
+    let seen = ledger.look(first, 0, 1) == PieceState::Skipped;
+    let status = ledger.status(first, 0) == Status::Settled(Some(5));
+    let finished = ledger.finished(second) == Finish::Finished;
+    let seated = (first.worker(), second.worker()) == (0, 1) && first.held().is_none();
+    claimed && reported && dropped && seen && status && finished && seated
+}
+
+#[test]
+fn seats_that_look_and_meet(rt: HostRuntime) -> Result<(), Fail> {
+    let (ledger, mut seats) = SharedLedger::new(rt.alloc(), 1, 65, 2)?;
+    let (Some(mut second), Some(mut first)) = (seats.pop(), seats.pop()) else {
+        return Err(Fail::new("no seats"));
+    };
+    let ballast = Ballast::all(rt.alloc())?;
+    let answered = seats_answer(&ledger, &mut first, &mut second);
+    drop(ballast);
+    assert!(rt; answered);
+    Ok(())
+}
