@@ -5,7 +5,7 @@ use crate::parts::{C17, tests_of_c17};
 use crate::runs::is_right;
 use crate::texts::Screen;
 use block_sim::{Job, Workspace, first_hit, simulate};
-use fault_ledger::{Claim, Finish, Ledger, Seat, SharedLedger};
+use fault_ledger::{Claim, Finish, Ledger, SharedLedger};
 use fault_model::Model;
 use report::{RunFault, job_of, listing_bytes, report_bytes, write_listing, write_report};
 use std::alloc::Global;
@@ -89,14 +89,7 @@ fn pieces_are_simulated(rt: HostRuntime) -> Result<(), Fail> {
     simulates_all(&rt, rt.alloc(), &job)
 }
 
-/// One worker works with no memory left. Says whether it finished the job.
-fn finishes(job: &Job, ledger: &SharedLedger, workspace: &mut Workspace, seat: &mut Seat) -> bool {
-    let is_free = seat.held().is_none();
-    let end = work(job, ledger, workspace, seat, &OpenGate);
-    is_free && end != End::Stopped && ledger.finished(seat) == Finish::Finished
-}
-
-/// Lets one worker work.
+/// Lets one worker work with no memory left.
 fn works<R: Abort>(rt: &R, alloc: Global, job: &Job) -> Result<(), Fail> {
     let (classes, count) = (job.classes().count(), job.tests().count());
     let (ledger, mut seats) = SharedLedger::new(alloc, classes, count, 1)?;
@@ -105,9 +98,11 @@ fn works<R: Abort>(rt: &R, alloc: Global, job: &Job) -> Result<(), Fail> {
         return Err(Fail::new("no seat"));
     };
     let ballast = Ballast::all(alloc)?;
-    let is_finished = finishes(job, &ledger, &mut workspace, &mut seat);
+    let is_free = seat.held().is_none();
+    let end = work(job, &ledger, &mut workspace, &mut seat, &OpenGate);
+    let finish = ledger.finished(&mut seat);
     drop(ballast);
-    assert!(rt; is_finished);
+    assert!(rt; is_free && end != End::Stopped && finish == Finish::Finished);
     Ok(())
 }
 

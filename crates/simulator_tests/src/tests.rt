@@ -1,6 +1,7 @@
 //! Counts and outcomes on worked circuits, and outcomes against those of a plain evaluation.
 
-ghost use Rattle.std.specs.Prelude.{◌≤◌};
+ghost use Rattle.std.specs.Prelude.{◌<◌, ◌≤◌, length};
+ghost use Rattle.patterns.specs.Tests.{blocks};
 ghost use Rattle.block_sim.specs.Parts.{HasRoom};
 
 use crate::jobs::{Numbers, job_of, random_bench, random_tests};
@@ -46,25 +47,57 @@ struct Both {
     evaluations: u64,
 }
 
+/// Which of the two calls is asked.
+#[derive(Clone, Copy, Debug, PartialEq, Eq)]
+enum Asked {
+    Simulate,
+    FirstHit,
+}
+
+/// The outcome of a piece by one of the two calls.
+fn outcome_by(job: &Job, workspace: &mut Workspace, asked: Asked, class: u32, block: u32) -> Outcome
+    requires class { class < length job.now.classes.representative }
+    requires block { block < blocks (length job.now.tests.tests) }
+    requires fits { HasRoom workspace.old job.now }
+    ensures fits { HasRoom workspace.new job.now }
+{
+    match asked {
+        Asked::Simulate => simulate(job, workspace, class, block),
+        Asked::FirstHit => first_hit(job, workspace, class, block),
+    }
+}
+
+/// Puts the outcomes of a class on all blocks behind others.
+fn push_outcomes(
+    job: &Job,
+    workspace: &mut Workspace,
+    asked: Asked,
+    class: u32,
+    outcomes: &mut Vec<Outcome>,
+) -> Result<(), AllocError>
+    requires class { class < length job.now.classes.representative }
+    requires fits { HasRoom workspace.old job.now }
+    ensures fits { HasRoom workspace.new job.now }
+{
+    for block in 0..job.tests().blocks() {
+        outcomes.push(outcome_by(job, workspace, asked, class, block))?;
+    }
+    Ok(())
+}
+
 /// The outcomes of all classes and blocks by one of the two calls.
 fn outcomes_by(
     alloc: Global,
     job: &Job,
     workspace: &mut Workspace,
-    until_hit: bool,
+    asked: Asked,
 ) -> Result<Vec<Outcome>, AllocError>
     requires { HasRoom workspace.old job.now }
     ensures { HasRoom workspace.new job.now }
 {
     let mut outcomes = Vec::new(alloc);
     for class in 0..job.classes().count() {
-        for block in 0..job.tests().blocks() {
-            outcomes.push(if until_hit {
-                first_hit(job, workspace, class, block)
-            } else {
-                simulate(job, workspace, class, block)
-            })?;
-        }
+        push_outcomes(job, workspace, asked, class, &mut outcomes)?;
     }
     Ok(outcomes)
 }
@@ -72,9 +105,9 @@ fn outcomes_by(
 /// The outcomes of a job.
 fn outcomes_of(alloc: Global, job: &Job) -> Result<Both, AllocError> {
     let mut workspace = Workspace::new(alloc, job)?;
-    let whole = outcomes_by(alloc, job, &mut workspace, false)?;
+    let whole = outcomes_by(alloc, job, &mut workspace, Asked::Simulate)?;
     let evaluations = workspace.gate_evaluations();
-    let first = outcomes_by(alloc, job, &mut workspace, true)?;
+    let first = outcomes_by(alloc, job, &mut workspace, Asked::FirstHit)?;
     Ok(Both {
         whole,
         first,

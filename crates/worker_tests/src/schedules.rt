@@ -47,18 +47,24 @@ fn numbers_of_workers_go_before_moves(rt: HostRuntime) -> Result<(), Fail> {
     Ok(())
 }
 
+/// Sixty moves of seven workers, and the seed of the next.
+fn random_moves(seed: &mut u32) -> [u32; 60] {
+    let mut moves = [0; 60];
+    for place in 0..60 {
+        // The generator of Numerical Recipes.
+        *seed = seed.wrapping_mul(1_664_525).wrapping_add(1_013_904_223);
+        moves[place] = (*seed >> 16) % 7;
+    }
+    moves
+}
+
 #[test]
 fn c17_in_a_hundred_orders(rt: HostRuntime) -> Result<(), Fail> {
     let job = job_of(rt.alloc(), Model::StuckAt, C17, &[("11111", 1)])?;
     let mut seed: u32 = 1;
     for _ in 0..100 {
-        let mut moves = Vec::new(rt.alloc());
-        for _ in 0..60 {
-            // The generator of Numerical Recipes.
-            seed = seed.wrapping_mul(1_664_525).wrapping_add(1_013_904_223);
-            moves.push((seed >> 16) % 7)?;
-        }
-        let verdicts = run_schedule(rt.alloc(), &job, 7, moves.as_slice())?;
+        let moves = random_moves(&mut seed);
+        let verdicts = run_schedule(rt.alloc(), &job, 7, &moves)?;
         check(&rt, &verdicts, &C17_FIRSTS);
     }
     Ok(())

@@ -4,6 +4,3 @@ use Rattle.simulator_tests.proofs.tests.outcomes_by.Given as goal
 -- the workspace fits the job
 abbrev pub invariant-loop-class : goal.invariant-loop-class
 invariant-loop-class l = HasRoom l.workspace l.job
-
-abbrev pub invariant-loop-block : goal.invariant-loop-block
-invariant-loop-block l = HasRoom l.workspace l.job
