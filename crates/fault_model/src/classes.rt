@@ -29,8 +29,10 @@ impl Model for Classes {
 
     ghost Value = { Collapsed };
 
-    ghost view = { λ a. record { class_of = a.class_of.items; representative
-        = a.representative.items } };
+    ghost view = { λ a. record {
+      class_of = a.class_of.items;
+      representative = a.representative.items;
+    } };
 
     ghost invariant = { λ a. vec_len a.representative < 2 ^ 32 };
 }

@@ -8,11 +8,11 @@ ghost use Rattle.fault_model.specs.Collapse.{AreClassesOf};
 ghost use Rattle.output.specs.Output.{Writes};
 ghost use Rattle.report.specs.Report.{IsLineOf, cell_text, first_line, class_line, line_text, defect_text, fault_text, fault_lines, coverage_line, report, listing};
 
-use output::{Out, OutFailed, put_pieces};
 use bench_net::Circuit;
 use block_sim::Job;
 use fault_model::{Classes, Faults, Line, Model};
 use itoa::Buffer;
+use output::{Out, OutFailed, put_pieces};
 use thiserror::Error;
 use workers::Verdicts;
 

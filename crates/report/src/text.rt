@@ -8,11 +8,11 @@ ghost use Rattle.patterns.specs.Tests.{HasTests, max_pieces};
 ghost use Rattle.block_sim.specs.Parts.{piece_count};
 ghost use Rattle.report.specs.EndToEnd.{WritesOneOf, AreTestsFor, IsReportOf, IsReportFault, IsScheduleTextFault, HasSomeMoves, IsListingOf, IsListingFault, IsJobOf, IsJobFor, IsJobFault, IsInputFault, IsPiecesFault};
 
-use output::{Out, Plain};
 use crate::report::{ReportFault, write_listing, write_report};
 use bench_net::{BenchFault, Circuit, read_bench};
 use block_sim::{Job, JobFault};
 use fault_model::{Model, collapse, list_faults_in};
+use output::{Out, Plain};
 use patterns::{OrderFault, TestFault, Tests, read_order, read_tests};
 use std::alloc::{AllocError, Global};
 use std::sync::Wait;
