@@ -44,10 +44,6 @@ zeros_le (x ∷ xs) =
     let le = zeros_le xs in
     omega (arith, h, w, le)
 
-pub zeros_replicate : (n : ℕ) → zeros (replicate n 0) ≡ n
-zeros_replicate zero = refl
-zeros_replicate (suc n) = sum_by-cons zero_weight 0 (replicate n 0) ∙ (let h = zeros_replicate n in omega (arith, h))
-
 -- all are 0 exactly where all are counted
 pub all_zero : (xs : List ℕ) → zeros xs ≡ length xs → All (λ x. x ≡ 0) xs
 all_zero [] e i d lt = absurd (omega (arith, lt))

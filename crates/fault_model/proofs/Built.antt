@@ -38,9 +38,6 @@ numbered_place (y ∷ xs) from (suc i) x e = let far : from + 1 + i ≡ from + s
 numbered_place_0 : {X : Type 0} (xs : List X) (i : ℕ) (x : X) → slice_get xs i ≡ Some x → slice_get (enumerate_from 0 xs) i ≡ Some (i, x)
 numbered_place_0 xs i x e = let zero_more : 0 + i ≡ i = omega arith in numbered_place xs 0 i x e ∙ ap (λ k. Some (k, x)) zero_more
 
-pub built_none : (c : List Statement) → Built c 0 [] []
-built_none c = record { lines_are = refl; stem_count = refl; each_stem = λ s lt. absurd (omega (arith, lt)) }
-
 pub built_more : (c : List Statement) (k : ℕ) (n : Name) (ls : List Line) (stems : List ℕ) → slice_get (names c) k ≡ Some n → Built c k ls stems
     → Built c (k + 1) ((ls ++ line.Stem k ∷ []) ++ map branch (branches c n)) (stems ++ length ls ∷ [])
 built_more c k n ls stems named b = record { lines_are = more; stem_count = counted; each_stem = each }

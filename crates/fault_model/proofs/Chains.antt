@@ -107,21 +107,21 @@ one_end {c} {s = s} (onward {g = g} e p) end (onward {g = h} d q) last =
     let same : Some h ≡ Some g = sym d ∙ e in
     one_end p end (subst (λ x. Reaches c x s) (ap (λ o. unwrap_or o g) same) q) last
 
-pub representative_of : (m : Model) (c : List Statement) (f : Fault) → IsWellFormed c → Contains (faults m c) f → (r : Fault) × Contains (faults m c) r × Represents c f r
+representative_of : (m : Model) (c : List Statement) (f : Fault) → IsWellFormed c → Contains (faults m c) f → (r : Fault) × Contains (faults m c) r × Represents c f r
 representative_of m c f well at = ends c well m (suc (2 * total well.acyclic.0 (names c) + 1)) f at (omega arith)
 
-pub one_representative : (c : List Statement) (f r s : Fault) → Represents c f r → Represents c f s → s ≡ r
+one_representative : (c : List Statement) (f r s : Fault) → Represents c f r → Represents c f s → s ≡ r
 one_representative c f r s p q = one_end p.0 p.1 q.0 q.1
 
 pub has_representatives : (c : List Statement) → IsWellFormed c → HasRepresentatives c
 has_representatives c well m f at = let p = representative_of m c f well at in (p.0, p.1, p.2, λ s q. one_representative c f p.0 s p.2 q)
 
 -- a fault of the list without a next is among the representatives
-pub among_representatives : (m : Model) (c : List Statement) (r : Fault) → Contains (faults m c) r → next c r ≡ None → Among r (representatives m c)
+among_representatives : (m : Model) (c : List Statement) (r : Fault) → Contains (faults m c) r → next c r ≡ None → Among r (representatives m c)
 among_representatives m c r at e = among_filter (λ f. is_none (next c f)) (faults m c) r (among (faults m c) r at) (ap is_none e)
 
 -- two classes of one fault are one
-pub one_class : (m : Model) (c : List Statement) (f : Fault) (j k : ℕ) → IsWellFormed c → IsClassOf m c f j → IsClassOf m c f k → j ≡ k
+one_class : (m : Model) (c : List Statement) (f : Fault) (j k : ℕ) → IsWellFormed c → IsClassOf m c f j → IsClassOf m c f k → j ≡ k
 one_class m c f j k well p q =
     let same : p.0 ≡ q.0 = one_representative c f q.0 p.0 q.2 p.2 in
     one_place_of (representatives m c) j k q.0 (distinct_filter (λ r. is_none (next c r)) (faults m c) (distinct_faults m c well)) (p.3 ∙ ap Some same) q.3

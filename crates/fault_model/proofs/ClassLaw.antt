@@ -24,23 +24,23 @@ pub has_one_solution : (c : List Statement) → IsWellFormed c → HasOneSolutio
 has_one_solution c well t f v w n p q at = agree c t f v w well p q n at
 
 -- two solutions under one fault show the same
-pub one_shows : (c : List Statement) (t : Test) (f : Option Fault) (v w : Name → Bool) (o : Sink × Name) → IsWellFormed c → Solves c t f v → Solves c t f w
+one_shows : (c : List Statement) (t : Test) (f : Option Fault) (v w : Name → Bool) (o : Sink × Name) → IsWellFormed c → Solves c t f v → Solves c t f w
     → Contains (observers c) o → shows f v o ≡ shows f w o
 one_shows c t f v w o well p q at = ap (under f (branch o.0)) (agree c t f v w well p q o.1 (observes c o well at).named)
 
-pub same_itself : (c : List Statement) (f : Fault) → IsWellFormed c → ShowSame c f f
+same_itself : (c : List Statement) (f : Fault) → IsWellFormed c → ShowSame c f f
 same_itself c f well t v w o p q at = one_shows c t (Some f) v w o well p q at
 
-pub same_turned : (c : List Statement) (f g : Fault) → ShowSame c f g → ShowSame c g f
+same_turned : (c : List Statement) (f g : Fault) → ShowSame c f g → ShowSame c g f
 same_turned c f g same t v w o p q at = sym (same t w v o q p at)
 
-pub same_through : (c : List Statement) (f g h : Fault) → IsWellFormed c → ShowSame c f g → ShowSame c g h → ShowSame c f h
+same_through : (c : List Statement) (f g h : Fault) → IsWellFormed c → ShowSame c f g → ShowSame c g h → ShowSame c f h
 same_through c f g h well first then t v w o p q at =
     let u = has_solutions c well t (Some g) in
     first t v u.0 o p u.1 at ∙ then t u.0 w o u.1 q at
 
 -- a fault shows the same as each fault that is reached from it
-pub along : (m : Model) {c : List Statement} {f r : Fault} → IsWellFormed c → HaveArities c → Contains (faults m c) f → Reaches c f r → ShowSame c f r
+along : (m : Model) {c : List Statement} {f r : Fault} → IsWellFormed c → HaveArities c → Contains (faults m c) f → Reaches c f r → ShowSame c f r
 along m {c} {f} well arities at here = same_itself c f well
 along m {c} {f} {r} well arities at (onward {g = g} e p) =
     same_through c f g r well (step_shows_same m c f g well arities at e) (along m well arities (next_listed m c f g well at e) p)
@@ -55,7 +55,7 @@ classes_show_same c well arities f g both =
     same_through c f q.0 g well from (same_turned c g q.0 (along both.0 well arities q.1 q.2.0))
 
 -- what shows the same is detected by the same tests
-pub detects_too : (c : List Statement) (f g : Fault) (t : Test) → IsWellFormed c → ShowSame c f g → Detects c t f → Detects c t g
+detects_too : (c : List Statement) (f g : Fault) (t : Test) → IsWellFormed c → ShowSame c f g → Detects c t f → Detects c t g
 detects_too c f g t well same d =
     let u = has_solutions c well t (Some g) in
     (d.0, u.0, d.2, d.3, u.1, d.5, λ e. d.6 (e ∙ sym (same t d.1 u.0 d.2 d.4 u.1 d.5)))

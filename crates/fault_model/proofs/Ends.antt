@@ -102,10 +102,6 @@ module _ (m : Model) (c : List Statement) (k : ℕ) (f : Fault) (class_of reps :
               let same : f ≡ g = cc in
               let bad : Some h ≡ None = sym some ∙ (ap (next c) same ∙ ends) in cc
 
--- before the first fault nothing is numbered
-pub numbered_none : (m : Model) (c : List Statement) → Numbered m c 0 [] []
-numbered_none m c = record { counted = refl; few = omega arith; reps_are = refl; each_end = λ i f lt at e. absurd (omega (arith, lt)) }
-
 -- what the answer says: the place of the next fault, or none
 pub answer_none : (m : Model) (c : List Statement) (k : ℕ) (f : Fault) (r : Option ℕ) → slice_get (faults m c) k ≡ Some f
     → option_map (slice_get (faults m c)) r ≡ option_map Some (option_and_then (next c) (slice_get (faults m c) k)) → is_none r ≡ true → next c f ≡ None
@@ -129,7 +125,7 @@ pub answer_is_some : (m : Model) (c : List Statement) (k : ℕ) (f : Fault) (r :
 answer_is_some m c k f None there e answer = let bad : true ≡ false = answer in cc
 answer_is_some m c k f (Some j) there e answer = let p = answer_some m c k j f there e in (p.0, p.1)
 
-pub all_ends : (m : Model) (c : List Statement) → ends_below m c (length (faults m c)) ≡ representatives m c
+all_ends : (m : Model) (c : List Statement) → ends_below m c (length (faults m c)) ≡ representatives m c
 all_ends m c = ap (filter (λ f. is_none (next c f))) (take_all (faults m c))
 
 pub numbered_ends : (m : Model) (c : List Statement) (class_of reps : List ℕ) → Numbered m c (length (faults m c)) class_of reps → HasEnds m c class_of

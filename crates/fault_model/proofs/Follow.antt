@@ -12,7 +12,7 @@ use Rattle.fault_model.specs.Known.{HasClassAt, HasEnds, HasNext, KeepsClasses}
 use Rattle.fault_model.proofs.Ends.{answer_some, answer_none}
 
 -- the class of a next fault is that of the fault
-pub class_onward : (m : Model) (c : List Statement) (f g : Fault) (k : ℕ) → Contains (faults m c) f → next c f ≡ Some g → IsClassOf m c g k → IsClassOf m c f k
+class_onward : (m : Model) (c : List Statement) (f g : Fault) (k : ℕ) → Contains (faults m c) f → next c f ≡ Some g → IsClassOf m c g k → IsClassOf m c f k
 class_onward m c f g k at e p = (p.0, at, (onward e p.2.0, p.2.1), p.3)
 
 -- reading a list at another place than was written, and at the place
@@ -78,11 +78,6 @@ follow_some m c class_of i j x f count at has found read = record { known = know
             let k = known g here in
             (k.0, subst (λ q. slice_get (set class_of i x) q ≡ Some k.0) (sym e) k.1, k.2)
         go (inr n) = let k = has_p g there in (k.0, get_other class_of p i x n ∙ k.1, k.2)
-
--- where the fault has no next, the table has its class already
-pub follow_none : (m : Model) (c : List Statement) (class_of : List ℕ) (i : ℕ) (f : Fault) → slice_get (faults m c) i ≡ Some f → HasEnds m c class_of
-    → option_map (slice_get (faults m c)) None ≡ option_map Some (option_and_then (next c) (slice_get (faults m c) i)) → HasClassAt m c class_of i
-follow_none m c class_of i f at ends found = ends i f at (answer_none m c i f None at found refl)
 
 pub ends_kept : (m : Model) (c : List Statement) (before after : List ℕ) → HasEnds m c before → KeepsClasses m c before after → HasEnds m c after
 ends_kept m c before after ends kept i f at e = kept i (ends i f at e)

@@ -61,7 +61,7 @@ step_rises c f g s level p =
     omega (arith, most, is)
 
 -- the gate of a step doesn't go before the name that its pin reads, nor is it that name
-pub not_before : (c : List Statement) (f g : Fault) → IsWellFormed c → (s : Step c f g) → GoesBefore c (signal c s.name) (signal c s.read) → ⊥
+not_before : (c : List Statement) (f g : Fault) → IsWellFormed c → (s : Step c f g) → GoesBefore c (signal c s.name) (signal c s.read) → ⊥
 not_before c f g well s b = go b.2 b.3 b.4
   where
     named : (m n : Name) → Among m (names c) → name_of c (signal c m) ≡ Some n → n ≡ m

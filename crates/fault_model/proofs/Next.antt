@@ -31,11 +31,8 @@ next_over_is c m stuck (sink.Out i ∷ rs) = refl
 next_over_is c m stuck (sink.Pin gate pin ∷ r ∷ rs) = refl
 next_over_is c m stuck (sink.Pin gate pin ∷ []) = refl
 
-pub next_is : (c : List Statement) (f : Fault) → next c f ≡ option_and_then (λ gate. by_table f.model gate f.stuck (kind_of c gate)) (only_gate (readers c f.line))
+next_is : (c : List Statement) (f : Fault) → next c f ≡ option_and_then (λ gate. by_table f.model gate f.stuck (kind_of c gate)) (only_gate (readers c f.line))
 next_is c f = next_over_is c f.model f.stuck (readers c f.line)
-
-pub next_without_gate : (c : List Statement) (f : Fault) → only_gate (readers c f.line) ≡ None → next c f ≡ None
-next_without_gate c f e = next_is c f ∙ ap (option_and_then (λ gate. by_table f.model gate f.stuck (kind_of c gate))) e
 
 pub next_at_gate : (c : List Statement) (f : Fault) (gate : ℕ) → only_gate (readers c f.line) ≡ Some gate → next c f ≡ by_table f.model gate f.stuck (kind_of c gate)
 next_at_gate c f gate e = next_is c f ∙ ap (option_and_then (λ g. by_table f.model g f.stuck (kind_of c g))) e

@@ -49,7 +49,7 @@ only_one (b ∷ []) a one (inr h) = absurd h
 only_one (b ∷ d ∷ bits) a one h = absurd (omega (arith, one))
 
 -- a pin at this bit fixes the output, as the table says
-pub fixed : (m : Model) (kind : Kind) (a b : Bool) (args : List Name) (bits : List Bool) → next_stuck m kind a ≡ Some b → HasArity kind args → length bits ≡ length args → Among a bits
+fixed : (m : Model) (kind : Kind) (a b : Bool) (args : List Name) (bits : List Bool) → next_stuck m kind a ≡ Some b → HasArity kind args → length bits ≡ length args → Among a bits
     → value kind bits ≡ b
 fixed StuckAt And false b args bits e arity len h = all_with_false bits h ∙ ap (λ o. unwrap_or o b) e
 fixed StuckAt And true b args bits e arity len h = let bad : None ≡ Some b = e in cc

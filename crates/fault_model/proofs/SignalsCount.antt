@@ -12,7 +12,7 @@ use Rattle.bench_net.proofs.Public.{same_bytes}
 use Rattle.lists.proofs.Distinct.{Distinct, distinct_from_pairs}
 
 -- how often a name stands in a list
-abbrev pub count : Name → List Name → ℕ
+abbrev count : Name → List Name → ℕ
 count n [] = 0
 count n (m ∷ ns) = if bytes_eq n m then 1 + count n ns else count n ns
 
@@ -34,7 +34,7 @@ length_kept n from (m ∷ ns) = go (bytes_eq n m) refl (length_kept n (from + 1)
     go true e h = rw e (omega (arith, h))
     go false e h = rw e h
 
-pub length_places : (n : Name) (ns : List Name) → length (places n ns) ≡ count n ns
+length_places : (n : Name) (ns : List Name) → length (places n ns) ≡ count n ns
 length_places n ns = length-map (filter (λ at. bytes_eq n at.1) (enumerate_from 0 ns)) (λ at. at.0) ∙ length_kept n 0 ns
 
 -- the readers of a name are the places that read it
@@ -61,7 +61,7 @@ read_by c (Dff q d ∷ cs) n = go (bytes_eq n d) (read_by c cs n)
     go true e = omega (arith, e)
     go false e = e
 
-pub length_sinks : (c : List Statement) (n : Name) → length (sinks c n) ≡ count n (flat_map read c)
+length_sinks : (c : List Statement) (n : Name) → length (sinks c n) ≡ count n (flat_map read c)
 length_sinks c n =
     let both : length (flat_map (pins_of c n) c ++ map Out (places n (outputs c))) ≡ length (flat_map (pins_of c n) c) + length (map Out (places n (outputs c)))
     = length-append (flat_map (pins_of c n) c) (map Out (places n (outputs c))) in

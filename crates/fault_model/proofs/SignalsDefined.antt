@@ -12,7 +12,7 @@ use Rattle.lists.proofs.Distinct.{Distinct, distinct_from_pairs, distinct_betwee
 use Rattle.lists.proofs.Places.{at_place}
 
 -- a name other than n is no n for the test of bytes
-pub bytes_differ : (n m : Name) → m ≢ n → bytes_eq n m ≡ false
+bytes_differ : (n m : Name) → m ≢ n → bytes_eq n m ≡ false
 bytes_differ n m other = go (bytes_eq n m) refl
   where
     go : (b : Bool) → bytes_eq n m ≡ b → bytes_eq n m ≡ false
@@ -33,7 +33,7 @@ defined_among c st n a e = among_joined defined c st n a (rw e (inl refl))
 head_is : (m n : Name) (st : Statement) → defined st ≡ m ∷ [] → defined st ≡ n ∷ [] → m ≡ n
 head_is m n st e g = let h : m ∷ [] ≡ n ∷ [] = sym e ∙ g in cc
 
-pub definition_in : (c : List Statement) (st : Statement) (n : Name) → Distinct (names c) → Among st c → defined st ≡ n ∷ [] → definition c (signal c n) ≡ Some st
+definition_in : (c : List Statement) (st : Statement) (n : Name) → Distinct (names c) → Among st c → defined st ≡ n ∷ [] → definition c (signal c n) ≡ Some st
 definition_in [] st n d a e = absurd a
 definition_in (Output m ∷ c) st n d (inl h) e = let bad : [] ≡ n ∷ [] = ap defined h ∙ e in cc
 definition_in (Output m ∷ c) st n d (inr a) e = definition_in c st n d a e
@@ -64,7 +64,7 @@ signal_apart c m n p q e =
     ap (λ o. unwrap_or o n) same
 
 -- what an input and a cell define
-pub input_in : (c : List Statement) (n : Name) → Among n (inputs c) → Among (Input n) c
+input_in : (c : List Statement) (n : Name) → Among n (inputs c) → Among (Input n) c
 input_in [] n a = absurd a
 input_in (Input m ∷ c) n (inl e) = inl (ap Input e)
 input_in (Input m ∷ c) n (inr a) = inr (input_in c n a)
@@ -89,7 +89,7 @@ cell_in (Gate m kind args ∷ c) at a = inr (cell_in c at a)
 cell_in (Output m ∷ c) at a = inr (cell_in c at a)
 
 -- a name of the cells' q is that of a cell
-pub driven_by_cell : (c : List Statement) (n : Name) → Among n (map (λ cell. cell.0) (cells c)) → (d : Name) × Among (Dff n d) c
+driven_by_cell : (c : List Statement) (n : Name) → Among n (map (λ cell. cell.0) (cells c)) → (d : Name) × Among (Dff n d) c
 driven_by_cell [] n a = absurd a
 driven_by_cell (Dff q d ∷ c) n (inl e) = (d, inl (ap (λ x. Dff x d) e))
 driven_by_cell (Dff q d ∷ c) n (inr a) = let p = driven_by_cell c n a in (p.0, inr p.1)
@@ -98,7 +98,7 @@ driven_by_cell (Gate m kind args ∷ c) n a = let p = driven_by_cell c n a in (p
 driven_by_cell (Output m ∷ c) n a = let p = driven_by_cell c n a in (p.0, inr p.1)
 
 -- a source is an input or the q of a cell
-pub source_by : (c : List Statement) (n : Name) → Among n (sources c) → Among (Input n) c ⊎ ((d : Name) × Among (Dff n d) c)
+source_by : (c : List Statement) (n : Name) → Among n (sources c) → Among (Input n) c ⊎ ((d : Name) × Among (Dff n d) c)
 source_by c n a = go (among_append (inputs c) (map (λ cell. cell.0) (cells c)) n a)
   where
     go : Among n (inputs c) ⊎ Among n (map (λ cell. cell.0) (cells c)) → Among (Input n) c ⊎ ((d : Name) × Among (Dff n d) c)

@@ -34,7 +34,7 @@ places_from n (m ∷ ns) from = go (bytes_eq n m) refl (places_from n ns (from +
     go true e d = rw e (later, d)
     go false e d = rw e d
 
-pub distinct_places : (n : Name) (ns : List Name) → Distinct (places n ns)
+distinct_places : (n : Name) (ns : List Name) → Distinct (places n ns)
 distinct_places n ns = places_from n ns 0
 
 -- what a data pin or an output among the sinks of a name is

@@ -11,7 +11,7 @@ use Rattle.bench_net.proofs.Public.{same_bytes, bytes_refl}
 use Rattle.lists.proofs.Places.{among_numbered, numbered_at}
 
 -- the places of a name in a list
-pub among_places : (n : Name) (ns : List Name) (i : ℕ) → slice_get ns i ≡ Some n → Among i (places n ns)
+among_places : (n : Name) (ns : List Name) (i : ℕ) → slice_get ns i ≡ Some n → Among i (places n ns)
 among_places n ns i e =
     among_map (λ at. at.0) (filter (λ at. bytes_eq n at.1) (enumerate_from 0 ns)) (i, n)
     (among_filter (λ at. bytes_eq n at.1) (enumerate_from 0 ns) (i, n) (among_numbered ns i n e) (bytes_refl n))
@@ -51,7 +51,7 @@ pub record PinReads (c : List Statement) (n : Name) (gate pin : ℕ) : Type 0 wh
   pub number : signal c name ≡ gate
   pub reads : slice_get args pin ≡ Some n
 
-pub pin_of : (c : List Statement) (n : Name) (st : Statement) (gate pin : ℕ) → Among st c → Among (Pin gate pin) (pins_of c n st) → PinReads c n gate pin
+pin_of : (c : List Statement) (n : Name) (st : Statement) (gate pin : ℕ) → Among st c → Among (Pin gate pin) (pins_of c n st) → PinReads c n gate pin
 pin_of c n (Input m) gate pin a h = absurd h
 pin_of c n (Output m) gate pin a h = absurd h
 pin_of c n (Gate x kind args) gate pin a h =

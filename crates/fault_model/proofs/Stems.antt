@@ -27,11 +27,6 @@ pub record StemsFrom (m : Model) (c : List Statement) (order : List ℕ) (place 
   pub stems : (p s i : ℕ) (b : Bool) → place ≤ p → slice_get order p ≡ Some s → slice_get (faults m c) i ≡ Some (record { model = m; line = line.Stem s; stuck = b }) → HasClassAt m c after i
   pub kept : KeepsClasses m c before after
 
-pub stems_none : (m : Model) (c : List Statement) (order : List ℕ) (place : ℕ) (class_of : List ℕ) → length order ≤ place → HasEnds m c class_of → StemsFrom m c order place class_of class_of
-stems_none m c order place class_of past ends = record {
-  ends = ends;
-  stems = λ p s i b le at there. let lt : p < length order = place_within order p s at in absurd (omega (arith, past, le, lt));
-  kept = λ i h. h;
 }
 
 pub stems_kept : (m : Model) (c : List Statement) (order : List ℕ) (place : ℕ) (before after last : List ℕ) → StemsFrom m c order place before after → KeepsClasses m c after last → StemsFrom m c order place before last

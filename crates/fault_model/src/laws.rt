@@ -3,9 +3,13 @@
 //! A law is a function without a body. Its clause is the law, and a proof names the function to use
 //! it.
 
-ghost use Rattle.std.specs.Prelude.{List};
+ghost use Rattle.std.specs.Prelude.{◌<◌, ℕ, Bool, List, Contains, length};
 ghost use Rattle.bench_net.specs.Statement.{Statement};
+ghost use Rattle.bench_net.specs.Scan.{names};
 ghost use Rattle.bench_net.specs.Circuit.{IsWellFormed, HaveArities};
+ghost use Rattle.fault_model.specs.declared.Line.TheVariants as line;
+ghost use Rattle.fault_model.specs.declared.Model.{Model};
+ghost use Rattle.fault_model.specs.Fault.{faults};
 ghost use Rattle.fault_model.specs.Collapse.{ClassesShowSame};
 ghost use Rattle.fault_model.specs.Detection.{ClassesDetectedSame, DetectedAsRepresentative};
 ghost use Rattle.fault_model.specs.Laws.{HasSolutions, HasOneSolution, HasRepresentatives, HasClasses, ClassesDetectSame, RepresentativesDetectSame, DetectionIsOfAnySolution};
@@ -15,6 +19,15 @@ ghost use Rattle.fault_model.specs.Laws.{HasSolutions, HasOneSolution, HasRepres
 pub fn solutions()
     ensures exist { (c : List Statement) → IsWellFormed c → HasSolutions c }
     ensures are_one { (c : List Statement) → IsWellFormed c → HasOneSolution c }
+{}
+
+/// The list has both faults on the stem of each signal, so [`crate::Faults::stem_fault`] may be
+/// asked for them.
+pub fn stems()
+    ensures { (m : Model) (c : List Statement) (signal : ℕ) (stuck : Bool)
+        → signal < length (names c)
+        → Contains (faults m c) (record
+        { model = m; line = line.Stem signal; stuck = stuck }) }
 {}
 
 /// Collapsing ends: each fault of the list has exactly one representative, and so a class.

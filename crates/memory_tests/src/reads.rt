@@ -1,17 +1,21 @@
 //! Calls that only read, and seats that look and meet: they answer where no memory is left as they
 //! do where there is some.
 
-ghost use Rattle.std.specs.Prelude.{◌≡◌, ◌<◌, length};
+ghost use Rattle.std.specs.Prelude.{◌≡◌, ◌<◌, IfOk, length};
 ghost use Rattle.bench_net.specs.Scan.{names};
+ghost use Rattle.fault_ledger.specs.Face.{shape_of};
 
 use crate::ballast::Ballast;
 use crate::parts::{C17, tests_of_c17};
 use bench_net::Circuit;
 use block_sim::Job;
-use fault_ledger::{Finish, PieceState, Seat, SharedLedger, Status};
+use fault_ledger::{
+    Claim, Closed, Finish, Ledger, LedgerFault, PieceState, Seat, Shape, SharedLedger, Status,
+};
 use fault_model::{Faults, Line, Model};
 use patterns::{Outcome, Tests};
 use report::job_of;
+use std::alloc::Global;
 use std::test::Fail;
 use workers::{Verdicts, run_schedule};
 
@@ -60,6 +64,22 @@ fn add_faults(sum: &mut Sum, faults: &Faults) {
     }
 }
 
+/// What a fault list answers for the stem of a signal.
+fn add_stem(sum: &mut Sum, job: &Job, signal: u32)
+    requires { signal < length (names job.now.circuit) }
+{
+    let faults = job.faults();
+    sum.add(u64::from(faults.stem_fault(signal, false)));
+    sum.add(u64::from(faults.stem_fault(signal, true)));
+}
+
+/// What a fault list answers for the stems of a circuit.
+fn add_stems(sum: &mut Sum, job: &Job) {
+    for signal in 0..job.circuit().signals() {
+        add_stem(sum, job, signal);
+    }
+}
+
 /// What the calls of the classes answer.
 fn add_classes(sum: &mut Sum, job: &Job) {
     let classes = job.classes();
@@ -68,6 +88,22 @@ fn add_classes(sum: &mut Sum, job: &Job) {
     }
     for fault in 0..job.faults().count() {
         sum.add(u64::from(classes.class_of(fault)));
+    }
+}
+
+/// The bits of the tests at a source.
+fn add_bits(sum: &mut Sum, tests: &Tests, source: u32)
+    requires { source < tests.now.width }
+{
+    for test in 0..tests.count() {
+        sum.add(tests.bit(test, source) as u64);
+    }
+}
+
+/// The bits of the tests.
+fn add_all_bits(sum: &mut Sum, tests: &Tests) {
+    for source in 0..tests.width() {
+        add_bits(sum, tests, source);
     }
 }
 
@@ -96,8 +132,10 @@ fn sum_of(job: &Job, verdicts: &Verdicts) -> Sum {
     let mut sum = Sum(0);
     add_circuit(&mut sum, job.circuit());
     add_faults(&mut sum, job.faults());
+    add_stems(&mut sum, job);
     add_classes(&mut sum, job);
     add_tests(&mut sum, job.tests());
+    add_all_bits(&mut sum, job.tests());
     add_verdicts(&mut sum, verdicts);
     sum
 }
@@ -141,6 +179,81 @@ fn seats_that_look_and_meet(rt: HostRuntime) -> Result<(), Fail> {
     };
     let ballast = Ballast::all(rt.alloc())?;
     let answered = seats_answer(&ledger, &mut first, &mut second);
+    drop(ballast);
+    assert!(rt; answered);
+    Ok(())
+}
+
+/// A ledger of one class, two blocks and one worker.
+const SHAPE: Shape = Shape {
+    classes: 1,
+    tests: 65,
+    workers: 1,
+};
+
+/// Whether a ledger of this shape finds what is right, where the first piece is reported a hit and
+/// the second is held, and then dropped.
+fn ledger_answers(ledger: &mut Ledger) -> bool
+    requires { ledger.old.shape ≡ shape_of 1 65 1 }
+{
+    let claimed = ledger.claim(0) == Ok(Claim::Piece { class: 0, block: 0 });
+    let waits = ledger.status(0) == Status::Waiting(0);
+    let reported = ledger.report(0, Outcome::Hit(5)).is_ok() && ledger.claim(0).is_ok();
+    let held = ledger.held(0) == Some((0, 1));
+    let dropped = ledger.drop_piece(0).is_ok() && ledger.held(0).is_none();
+    let status = ledger.status(0) == Status::Settled(Some(5));
+    let finished = ledger.finished() == Finish::Finished;
+    claimed && waits && reported && held && dropped && status && finished && ledger.shape() == SHAPE
+}
+
+#[test]
+fn a_ledger_of_one_thread(rt: HostRuntime) -> Result<(), Fail> {
+    let mut ledger = Ledger::new(rt.alloc(), 1, 65, 1)?;
+    let ballast = Ballast::all(rt.alloc())?;
+    let answered = ledger_answers(&mut ledger);
+    drop(ballast);
+    assert!(rt; answered);
+    Ok(())
+}
+
+/// Reports a hit of the first piece, and drops the second.
+fn hit_and_drop(ledger: &SharedLedger, seat: &mut Seat)
+    requires { seat.old.place ≡ ledger.now }
+    ensures { seat.new.place ≡ ledger.now }
+{
+    let _reported = ledger.claim(seat).is_ok() && ledger.report(seat, Outcome::Hit(5)).is_ok();
+    let _dropped = ledger.claim(seat).is_ok() && ledger.drop_piece(seat).is_ok();
+}
+
+/// A closed ledger of that shape, where the first piece was reported a hit and the second dropped.
+fn closed_ledger(alloc: Global) -> Result<Closed, LedgerFault>
+    ensures { IfOk result (λ closed. closed.shape ≡ shape_of 1 65 1) }
+{
+    let (ledger, mut seats) = SharedLedger::new(alloc, 1, 65, 1)?;
+    let Some(mut seat) = seats.pop() else {
+        return Err(LedgerFault::NoWorkers);
+    };
+    hit_and_drop(&ledger, &mut seat);
+    seats.push(seat)?;
+    ledger.close(alloc, seats)
+}
+
+/// Whether a closed ledger of that shape finds what is right.
+fn closed_answers(closed: &Closed) -> bool
+    requires { closed.now.shape ≡ shape_of 1 65 1 }
+{
+    let first = closed.entry(0, 0) == PieceState::Hit(5);
+    let second = closed.entry(0, 1) == PieceState::Skipped;
+    let status = closed.status(0) == Status::Settled(Some(5));
+    let finished = closed.finished() == Finish::Finished;
+    first && second && status && finished && closed.skipped() == 1
+}
+
+#[test]
+fn a_closed_ledger(rt: HostRuntime) -> Result<(), Fail> {
+    let closed = closed_ledger(rt.alloc())?;
+    let ballast = Ballast::all(rt.alloc())?;
+    let answered = closed_answers(&closed);
     drop(ballast);
     assert!(rt; answered);
     Ok(())

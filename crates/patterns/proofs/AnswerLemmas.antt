@@ -14,13 +14,13 @@ use Rattle.patterns.proofs.FaultLemmas.{test_faults-not_memory, order_faults-not
 
 -- ---- tests
 
-pub test_faults-refusal : (text : List ℕ) (width : ℕ) (f : TestFault) → IsTestRefusal text width f → (more : List TestFault) × (test_faults text width ≡ f ∷ more)
+test_faults-refusal : (text : List ℕ) (width : ℕ) (f : TestFault) → IsTestRefusal text width f → (more : List TestFault) × (test_faults text width ≡ f ∷ more)
 test_faults-refusal text width fault.Memory is = absurd is
 test_faults-refusal text width (fault.BadByte line) is = is
 test_faults-refusal text width (fault.BadWidth line) is = is
 test_faults-refusal text width fault.TooMany is = is
 
-pub refusal-test_faults : (text : List ℕ) (width : ℕ) (f : TestFault) (more : List TestFault) → test_faults text width ≡ f ∷ more → IsTestRefusal text width f
+refusal-test_faults : (text : List ℕ) (width : ℕ) (f : TestFault) (more : List TestFault) → test_faults text width ≡ f ∷ more → IsTestRefusal text width f
 refusal-test_faults text width fault.Memory more is = test_faults-not_memory text width more is
 refusal-test_faults text width (fault.BadByte line) more is = (more, is)
 refusal-test_faults text width (fault.BadWidth line) more is = (more, is)
@@ -72,13 +72,13 @@ has_tests_list text width t has =
 
 -- ---- orders
 
-pub order_faults-refusal : (text : List ℕ) (workers : ℕ) (f : OrderFault) → IsOrderRefusal text workers f → (more : List OrderFault) × (order_faults text workers ≡ f ∷ more)
+order_faults-refusal : (text : List ℕ) (workers : ℕ) (f : OrderFault) → IsOrderRefusal text workers f → (more : List OrderFault) × (order_faults text workers ≡ f ∷ more)
 order_faults-refusal text workers order.Memory is = absurd is
 order_faults-refusal text workers (order.BadNumber line) is = is
 order_faults-refusal text workers (order.NoSuchWorker line) is = is
 order_faults-refusal text workers order.TooMany is = is
 
-pub refusal-order_faults : (text : List ℕ) (workers : ℕ) (f : OrderFault) (more : List OrderFault) → order_faults text workers ≡ f ∷ more → IsOrderRefusal text workers f
+refusal-order_faults : (text : List ℕ) (workers : ℕ) (f : OrderFault) (more : List OrderFault) → order_faults text workers ≡ f ∷ more → IsOrderRefusal text workers f
 refusal-order_faults text workers order.Memory more is = order_faults-not_memory text workers more is
 refusal-order_faults text workers (order.BadNumber line) more is = (more, is)
 refusal-order_faults text workers (order.NoSuchWorker line) more is = (more, is)

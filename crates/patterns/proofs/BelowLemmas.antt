@@ -22,9 +22,6 @@ get_or-map-below_past f n i d h = get_or_past _ i d (omega (arith, length-map-be
 pub map-below_more : {X : Type 0} (f : ℕ → X) (n : ℕ) → map f (below (n + 1)) ≡ map f (below n) ++ f n ∷ []
 map-below_more f n = map-range_with_len_more f 0 n n (omega arith)
 
-pub below_more : (n : ℕ) → below (n + 1) ≡ below n ++ n ∷ []
-below_more n = sym (map-id (below (n + 1))) ∙ map-below_more (λ (i : ℕ). i) n ∙ ap (λ front. front ++ n ∷ []) (map-id (below n))
-
 -- two functions that agree below n give one list
 pub map-below_same : {X : Type 0} (f g : ℕ → X) (n : ℕ) → ((i : ℕ) → i < n → f i ≡ g i) → map f (below n) ≡ map g (below n)
 map-below_same f g n same =

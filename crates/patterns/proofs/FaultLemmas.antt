@@ -17,7 +17,7 @@ nothing_first : {Y : Type 0} (o : Option Y) (rest : List Y) → cons_option o re
 nothing_first None rest e = (refl, e)
 nothing_first (Some y) rest e = absurd (cc)
 
-pub none_at : {X Y : Type 0} (h : X → Option Y) (xs : List X) → filter_map h xs ≡ [] → (i : ℕ) (d : X) → i < length xs → h (get_or xs i d) ≡ None
+none_at : {X Y : Type 0} (h : X → Option Y) (xs : List X) → filter_map h xs ≡ [] → (i : ℕ) (d : X) → i < length xs → h (get_or xs i d) ≡ None
 none_at h [] e i d within = absurd (omega arith)
 none_at h (x ∷ xs) e zero d within = (nothing_first (h x) (filter_map h xs) e).0
 none_at h (x ∷ xs) e (suc i) d within = none_at h xs (nothing_first (h x) (filter_map h xs) e).1 i d (omega arith)
@@ -27,7 +27,7 @@ first_or_later : {X Y : Type 0} (h : X → Option Y) (x : X) (y : Y) (o : Option
 first_or_later h x y None rest ys is e later = later e
 first_or_later h x y (Some w) rest ys is e later = let same : w ≡ y = cc in (x, is ∙ ap Some same)
 
-pub first_some : {X Y : Type 0} (h : X → Option Y) (xs : List X) (y : Y) (ys : List Y) → filter_map h xs ≡ y ∷ ys → (z : X) × (h z ≡ Some y)
+first_some : {X Y : Type 0} (h : X → Option Y) (xs : List X) (y : Y) (ys : List Y) → filter_map h xs ≡ y ∷ ys → (z : X) × (h z ≡ Some y)
 first_some h [] y ys e = absurd (cc)
 first_some h (x ∷ xs) y ys e = first_or_later h x y (h x) (filter_map h xs) ys refl e (λ later. first_some h xs y ys later)
 

@@ -72,7 +72,7 @@ found_from row first (suc n) = found_more row first n (row first) refl (found_fr
 -- ---- the least test over a table
 
 -- the blocks before one that is hit are Clear: the least test is that of the hit
-pub least-from_hit : (table : Table) (blocks class block lane : ℕ) → block < blocks → table class block ≡ Hit lane → AreClear table block class
+least-from_hit : (table : Table) (blocks class block lane : ℕ) → block < blocks → table class block ≡ Hit lane → AreClear table block class
     → least table blocks class ≡ Some (64 * block + lane)
 least-from_hit table blocks class block lane within hit earlier =
     first_hit-hit (table class) 0 blocks block lane (omega arith) (omega arith) hit (λ before from to. earlier before to)
@@ -85,7 +85,7 @@ pub least-from_clear : (table : Table) (blocks class : ℕ) → AreClear table b
 least-from_clear table blocks class clear = first_hit-clear (table class) 0 blocks (λ block from to. clear block (omega arith))
 
 -- some block is the first that is hit, or all are Clear
-pub least_cases : (table : Table) (blocks class : ℕ) → ((t : ℕ) × IsLeastHit table blocks class t) ⊎ AreClear table blocks class
+least_cases : (table : Table) (blocks class : ℕ) → ((t : ℕ) × IsLeastHit table blocks class t) ⊎ AreClear table blocks class
 least_cases table blocks class =
     ⊎_elim
     (λ found. inl (

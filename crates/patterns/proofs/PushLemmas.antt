@@ -46,7 +46,7 @@ word_at-push_zeros words width block source =
     (cases_eq (length words) block))
     (cases_lt block (length words))
 
-pub HaveRoom-in_next : (width count : ℕ) (words : List (List ℕ)) → count % 64 ≡ 0 → AreWords width count words
+HaveRoom-in_next : (width count : ℕ) (words : List (List ℕ)) → count % 64 ≡ 0 → AreWords width count words
     → HaveRoom width count words (words ++ replicate width 0 ∷ [])
 HaveRoom-in_next width count words full are =
     record {

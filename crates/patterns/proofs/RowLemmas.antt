@@ -21,9 +21,6 @@ rows_of_parts first parts =
     filter (λ row. not (length row.bytes == 0))
     (map (λ at. record { line = at.0; bytes = content at.1 }) (enumerate_from first (map strip_carriage_return parts)))
 
-pub rows_from-nil : (line : ℕ) → rows_from line [] ≡ []
-rows_from-nil line = refl
-
 -- the parts of a text are its first line and, where that is not the last, the parts of what follows
 parts_of : (text : List ℕ)
     → (slice_split ends_line text ≡ before_first ends_line text ∷ slice_split ends_line (after_first ends_line text))

@@ -20,17 +20,17 @@ pub word_lists-read : {Z : Type 0} (blocks : List (Vec ℕ Z)) (b : ℕ) (block 
     → get_or (word_lists blocks) b [] ≡ block.items
 word_lists-read blocks b block within read = get_or-map (λ v. v.items) blocks b block [] within ∙ sym (ap (λ v. v.items) read)
 
-pub length-tests_of : (width count : ℕ) (words : List (List ℕ)) → length (tests_of width count words) ≡ count
+length-tests_of : (width count : ℕ) (words : List (List ℕ)) → length (tests_of width count words) ≡ count
 unfolding tests_of
 length-tests_of width count words = length-map-below _ count
 
-pub bit-tests_of : (width count : ℕ) (words : List (List ℕ)) (test source : ℕ) → test < count → source < width
+bit-tests_of : (width count : ℕ) (words : List (List ℕ)) (test source : ℕ) → test < count → source < width
     → bit (tests_of width count words) test source ≡ bit_of words test source
 unfolding tests_of
 bit-tests_of width count words test source in_count in_width =
     ap (λ row. get_or row source false) (get_or-map-below _ count test [] in_count) ∙ get_or-map-below (bit_of words test) width source false in_width
 
-pub bit-tests_of_past : (width count : ℕ) (words : List (List ℕ)) (test source : ℕ) → count ≤ test
+bit-tests_of_past : (width count : ℕ) (words : List (List ℕ)) (test source : ℕ) → count ≤ test
     → bit (tests_of width count words) test source ≡ false
 unfolding tests_of
 bit-tests_of_past width count words test source past =
@@ -73,13 +73,6 @@ IsWord-from_words width count words block source are in_width k in_word =
     (λ (past : count ≤ 64 * block + k).
     are.idle block source k past in_word ∙ sym (ap as_number (bit-tests_of_past width count words (64 * block + k) source past)))
     (cases_lt (64 * block + k) count)
-
--- the bit that a word has at its lane
-pub bit-from_word : (tests : List (List Bool)) (test source word : ℕ) → IsWord tests (test / 64) source word
-    → (bit_at word (test % 64) == 1) ≡ bit tests test source
-bit-from_word tests test source word is =
-    let same : 64 * (test / 64) + test % 64 ≡ test = omega arith in
-    ap (λ n. n == 1) (is (test % 64) (omega arith) ∙ ap (λ t. as_number (bit tests t source)) same) ∙ as_number_one _
 
 pub IsTestList-from_words : (width count : ℕ) (words : List (List ℕ)) → AreWords width count words
     → IsTestList (record { width = width; tests = tests_of width count words })

@@ -67,7 +67,7 @@ job_refused J P job_fault.TooManyPieces h = inr (h.0 refl)
 job_refused J P job_fault.Memory h = inl refl
 
 -- moves of an order text are all of workers of its number
-pub no_other_worker : (order : List ℕ) (workers index : ℕ) (moves : List ℕ)
+no_other_worker : (order : List ℕ) (workers index : ℕ) (moves : List ℕ)
     → HasMoves order workers moves → position (λ worker. nat_le workers worker) moves ≡ Some index
     → ⊥
 no_other_worker order workers index moves has at =

@@ -25,7 +25,7 @@ cell_at (c ∷ cs) (r ∷ rs) f (suc i) d e h =
     rest e = cc
 
 -- a cell's q is a name of the circuit
-pub cell_is_named : (c : List Statement) (q : Name) → Among q (map (λ qd. qd.0) (cells c)) → Among q (names c)
+cell_is_named : (c : List Statement) (q : Name) → Among q (map (λ qd. qd.0) (cells c)) → Among q (names c)
 cell_is_named [] q a = absurd a
 cell_is_named (Input m ∷ c) q a = inr (cell_is_named c q a)
 cell_is_named (Output m ∷ c) q a = cell_is_named c q a
@@ -34,7 +34,7 @@ cell_is_named (Dff p d ∷ c) q (inl e) = inl e
 cell_is_named (Dff p d ∷ c) q (inr a) = inr (cell_is_named c q a)
 
 -- what stands at a place is within the list
-pub within : (ns : List Name) (i : ℕ) (n : Name) → slice_get ns i ≡ Some n → i < length ns
+within : (ns : List Name) (i : ℕ) (n : Name) → slice_get ns i ≡ Some n → i < length ns
 within [] i n e = let bad : None ≡ Some n = e in cc
 within (m ∷ ns) zero n e = omega arith
 within (m ∷ ns) (suc i) n e = omega (arith, within ns i n e)

@@ -43,7 +43,7 @@ sink_within c n (sink.Data i) a = let p = data_reads c n i a in subst (λ j. j <
 sink_within c n (sink.Out output) a = tt
 
 -- the line of a fault of the list is a line of the circuit
-pub listed_line : (m : Model) (c : List Statement) (f : Fault) → Contains (faults m c) f → IsLineOf c f.line
+listed_line : (m : Model) (c : List Statement) (f : Fault) → Contains (faults m c) f → IsLineOf c f.line
 listed_line m c f at = let p = listed_on m c f at in go p.0 p.1 p.2 p.3
   where
     go : (s : ℕ) (n : Name) → name_of c s ≡ Some n → IsOn c s n f.line → IsLineOf c f.line
