@@ -27,8 +27,6 @@ pub record StemsFrom (m : Model) (c : List Statement) (order : List ℕ) (place 
   pub stems : (p s i : ℕ) (b : Bool) → place ≤ p → slice_get order p ≡ Some s → slice_get (faults m c) i ≡ Some (record { model = m; line = line.Stem s; stuck = b }) → HasClassAt m c after i
   pub kept : KeepsClasses m c before after
 
-}
-
 pub stems_kept : (m : Model) (c : List Statement) (order : List ℕ) (place : ℕ) (before after last : List ℕ) → StemsFrom m c order place before after → KeepsClasses m c after last → StemsFrom m c order place before last
 stems_kept m c order place before after last from kept = record {
   ends = ends_kept m c after last from.ends kept;
