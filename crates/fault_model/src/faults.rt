@@ -73,7 +73,7 @@ impl Faults {
     }
 
     /// The number of the fault on the stem of a signal, whose number is below that of the circuit's
-    /// signals.
+    /// signals: [`crate::laws::stems`] says that the list then has it.
     pub fn stem_fault(&self, signal: u32, stuck: bool) -> u32
         requires { Contains self.now.list (record
             { model = self.now.model; line = line.Stem signal; stuck = stuck }) }

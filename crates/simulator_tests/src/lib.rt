@@ -3,8 +3,8 @@
 #![tactic(auto)]
 
 #[cfg(test)]
-mod jobs;
-#[cfg(test)]
 mod plain;
 #[cfg(test)]
 mod tests;
+#[cfg(test)]
+mod texts;

@@ -4,39 +4,53 @@ ghost use Rattle.std.specs.Prelude.{◌<◌, ◌≤◌, length};
 ghost use Rattle.patterns.specs.Tests.{blocks};
 ghost use Rattle.block_sim.specs.Parts.{HasRoom};
 
-use crate::jobs::{Numbers, job_of, random_bench, random_tests};
 use crate::plain::plain_outcome;
+use crate::texts::{Numbers, push_bench, push_rows};
 use block_sim::{Job, Workspace, first_hit, simulate};
 use fault_model::Model;
 use patterns::{BLOCK_SIZE, Outcome};
+use report::job_of;
 use std::alloc::{AllocError, Global};
+use std::process::Abort;
 use std::test::Fail;
 
-const C17: &str =
-    "INPUT(G1)\nINPUT(G2)\nINPUT(G3)\nINPUT(G6)\nINPUT(G7)\nOUTPUT(G22)\nOUTPUT(G23)\nG10 = NAND(G1, G3)\nG11 = NAND(G3, G6)\nG16 = NAND(G2, G11)\nG19 = NAND(G11, G7)\nG22 = NAND(G10, G16)\nG23 = NAND(G16, G19)\n";
+const C17: &[u8] =
+    b"INPUT(G1)\nINPUT(G2)\nINPUT(G3)\nINPUT(G6)\nINPUT(G7)\nOUTPUT(G22)\nOUTPUT(G23)\nG10 = NAND(G1, G3)\nG11 = NAND(G3, G6)\nG16 = NAND(G2, G11)\nG19 = NAND(G11, G7)\nG22 = NAND(G10, G16)\nG23 = NAND(G16, G19)\n";
 
 /// For each class of C17 the gates that it stirs under the test `11111`.
 const C17_STIRRED: [u64; 22] = [
     0, 0, 6, 0, 0, 0, 0, 0, 1, 0, 4, 3, 2, 2, 0, 0, 0, 0, 0, 0, 0, 0,
 ];
 
+/// The evaluations that a class of C17 takes on block 0.
+fn stirred_by(job: &Job, workspace: &mut Workspace, class: u32) -> u64 {
+    let before = workspace.gate_evaluations();
+    if class < job.classes().count() && job.tests().blocks() > 0 && workspace.fits(job) {
+        simulate(job, workspace, class, 0);
+    }
+    workspace.gate_evaluations().wrapping_sub(before)
+}
+
+/// Checks the evaluations of each class of C17.
+fn check_stirred<R: Abort>(rt: &R, alloc: Global, job: &Job) -> Result<(), Fail> {
+    let mut workspace = Workspace::new(alloc, job)?;
+    assert_eq!(rt; job.classes().count(), 22);
+    for class in 0..22u32 {
+        let stirred = stirred_by(job, &mut workspace, class);
+        assert_eq!(rt;
+            Some(&stirred),
+            C17_STIRRED.get(class as usize),
+            "class {class}"
+        );
+    }
+    assert_eq!(rt; workspace.gate_evaluations(), 18);
+    Ok(())
+}
+
 #[test]
 fn c17_evaluates_the_gates_that_are_stirred(rt: HostRuntime) -> Result<(), Fail> {
-    let job = job_of(rt.alloc(), C17.as_bytes(), b"11111\n", Model::StuckAt)?;
-    let mut workspace = Workspace::new(rt.alloc(), &job)?;
-    assert_eq!(rt; job.classes().count(), 22);
-    let mut before = 0;
-    for (class, stirred) in C17_STIRRED.iter().enumerate() {
-        let class = class as u32;
-        if class < job.classes().count() && job.tests().blocks() > 0 && workspace.fits(&job) {
-            simulate(&job, &mut workspace, class, 0);
-        }
-        let now = workspace.gate_evaluations();
-        assert_eq!(rt; now.wrapping_sub(before), *stirred, "class {class}");
-        before = now;
-    }
-    assert_eq!(rt; before, 18);
-    Ok(())
+    let job = job_of(rt.alloc(), Model::StuckAt, C17, b"11111\n")?;
+    check_stirred(&rt, rt.alloc(), &job)
 }
 
 /// The outcomes of all classes and blocks by both calls, and the evaluations of the first.
@@ -115,18 +129,34 @@ fn outcomes_of(alloc: Global, job: &Job) -> Result<Both, AllocError> {
     })
 }
 
-#[test]
-fn c17_with_4096_tests_stays_within_the_bound(rt: HostRuntime) -> Result<(), Fail> {
-    let mut tests = Vec::new(rt.alloc());
-    for _ in 0..4096 {
-        tests.extend_from_slice(b"11111\n")?;
+/// Adds a row so many times.
+fn push_times(text: &mut Vec<u8>, row: &[u8], times: u32) -> Result<(), AllocError> {
+    for _ in 0..times {
+        text.extend_from_slice(row)?;
     }
-    let job = job_of(rt.alloc(), C17.as_bytes(), &tests, Model::StuckAt)?;
-    let both = outcomes_of(rt.alloc(), &job)?;
+    Ok(())
+}
+
+/// Checks the evaluations of C17 on 64 blocks: at most 52 a block.
+fn check_bound<R: Abort>(rt: &R, alloc: Global, job: &Job) -> Result<(), Fail> {
+    let both = outcomes_of(alloc, job)?;
     assert!(rt; both.evaluations > 0);
     assert!(rt; both.evaluations <= 3328);
     assert!(rt; both.whole.as_slice() == both.first.as_slice());
     Ok(())
+}
+
+/// Checks the evaluations of C17 under these tests.
+fn check_bound_under<R: Abort>(rt: &R, alloc: Global, tests: &[u8]) -> Result<(), Fail> {
+    let job = job_of(alloc, Model::StuckAt, C17, tests)?;
+    check_bound(rt, alloc, &job)
+}
+
+#[test]
+fn c17_with_4096_tests_stays_within_the_bound(rt: HostRuntime) -> Result<(), Fail> {
+    let mut tests = Vec::new(rt.alloc());
+    push_times(&mut tests, b"11111\n", 4096)?;
+    check_bound_under(&rt, rt.alloc(), tests.as_slice())
 }
 
 /// A circuit with tests: as many rows `0` as `zeros`, and then `tests`. For each fault of the list
@@ -230,19 +260,28 @@ static WORKED: [Worked; 8] = [
     },
 ];
 
-/// A workspace of a job of this circuit without tests.
-fn workspace_of(alloc: Global, bench: &str) -> Result<Workspace, Fail> {
-    let job = job_of(alloc, bench.as_bytes(), b"", Model::StuckAt)?;
-    Ok(Workspace::new(alloc, &job)?)
+/// Whether a workspace fits the job of C17.
+fn fits_c17(alloc: Global, workspace: &Workspace) -> Result<bool, Fail> {
+    let job = job_of(alloc, Model::StuckAt, C17, b"")?;
+    Ok(workspace.fits(&job))
+}
+
+/// Whether a workspace of a job fits that of C17.
+fn job_fits_c17(alloc: Global, job: &Job) -> Result<bool, Fail> {
+    let workspace = Workspace::new(alloc, job)?;
+    fits_c17(alloc, &workspace)
+}
+
+/// Whether a workspace of the job of a circuit fits that of C17.
+fn room_fits_c17(alloc: Global, bench: &[u8]) -> Result<bool, Fail> {
+    let job = job_of(alloc, Model::StuckAt, bench, b"")?;
+    job_fits_c17(alloc, &job)
 }
 
 #[test]
 fn a_workspace_fits_jobs_of_as_many_signals(rt: HostRuntime) -> Result<(), Fail> {
-    for (room, fits) in [(BUFFER, false), (C17, true)] {
-        let workspace = workspace_of(rt.alloc(), room)?;
-        let job = job_of(rt.alloc(), C17.as_bytes(), b"", Model::StuckAt)?;
-        assert_eq!(rt; workspace.fits(&job), fits, "{room}");
-    }
+    assert!(rt; !room_fits_c17(rt.alloc(), BUFFER.as_bytes())?);
+    assert!(rt; room_fits_c17(rt.alloc(), C17)?);
     Ok(())
 }
 
@@ -257,55 +296,123 @@ fn first_of(outcomes: &[Outcome], blocks: u32, class: u32) -> Option<u32> {
     None
 }
 
+/// Checks the first test of each fault of a worked circuit.
+fn check_firsts<R: Abort>(rt: &R, worked: &Worked, job: &Job, outcomes: &[Outcome]) {
+    let name = worked.name;
+    assert_eq!(rt;
+        job.faults().count() as usize,
+        worked.firsts.len(),
+        "{name}"
+    );
+    for fault in 0..job.faults().count() {
+        let class = job.classes().class_of(fault);
+        let first = first_of(outcomes, job.tests().blocks(), class);
+        assert_eq!(rt;
+            worked.firsts.get(fault as usize),
+            Some(&first),
+            "{name}, fault {fault}"
+        );
+    }
+}
+
+/// Checks the outcomes of a worked circuit.
+fn check_worked<R: Abort>(rt: &R, alloc: Global, worked: &Worked, job: &Job) -> Result<(), Fail> {
+    let both = outcomes_of(alloc, job)?;
+    assert!(rt;
+        both.whole.as_slice() == both.first.as_slice(),
+        "{}",
+        worked.name
+    );
+    check_firsts(rt, worked, job, both.whole.as_slice());
+    Ok(())
+}
+
+/// Checks the outcomes of a worked circuit under these tests.
+fn check_under<R: Abort>(rt: &R, alloc: Global, worked: &Worked, tests: &[u8]) -> Result<(), Fail> {
+    let job = job_of(alloc, worked.model, worked.bench.as_bytes(), tests)?;
+    check_worked(rt, alloc, worked, &job)
+}
+
+/// Adds the tests of a worked circuit.
+fn push_tests(text: &mut Vec<u8>, worked: &Worked) -> Result<(), AllocError> {
+    push_times(text, b"0\n", worked.zeros)?;
+    text.extend_from_slice(worked.tests.as_bytes())
+}
+
 #[test]
 fn worked_circuits_have_their_first_tests(rt: HostRuntime) -> Result<(), Fail> {
     for worked in &WORKED {
-        let name = worked.name;
         let mut tests = Vec::new(rt.alloc());
-        for _ in 0..worked.zeros {
-            tests.extend_from_slice(b"0\n")?;
-        }
-        tests.extend_from_slice(worked.tests.as_bytes())?;
-        let job = job_of(rt.alloc(), worked.bench.as_bytes(), &tests, worked.model)?;
-        let both = outcomes_of(rt.alloc(), &job)?;
-        assert!(rt; both.whole.as_slice() == both.first.as_slice(), "{name}");
-        assert_eq!(rt;
-            job.faults().count() as usize,
-            worked.firsts.len(),
-            "{name}"
-        );
-        for (fault, first) in worked.firsts.iter().enumerate() {
-            let fault = fault as u32;
-            if fault < job.faults().count() {
-                let class = job.classes().class_of(fault);
-                let found = first_of(both.whole.as_slice(), job.tests().blocks(), class);
-                assert!(rt; found == *first, "{name}, fault {fault}");
-            }
-        }
+        push_tests(&mut tests, worked)?;
+        check_under(&rt, rt.alloc(), worked, tests.as_slice())?;
     }
     Ok(())
+}
+
+/// Checks the outcomes of a class on all blocks against those of plain evaluation.
+fn check_class<R: Abort>(
+    rt: &R,
+    alloc: Global,
+    job: &Job,
+    class: u32,
+    outcomes: &[Outcome],
+) -> Result<(), Fail> {
+    let blocks = job.tests().blocks();
+    for block in 0..blocks {
+        let plain = plain_outcome(alloc, job, class, block)?;
+        let place = class.saturating_mul(blocks).saturating_add(block);
+        let found = outcomes.get(place as usize);
+        assert_eq!(rt; found, Some(&plain), "class {class}, block {block}");
+    }
+    Ok(())
+}
+
+/// Checks the outcomes of a job against those of plain evaluation.
+fn check_plainly<R: Abort>(rt: &R, alloc: Global, job: &Job) -> Result<(), Fail> {
+    let both = outcomes_of(alloc, job)?;
+    assert!(rt; both.whole.as_slice() == both.first.as_slice());
+    for class in 0..job.classes().count() {
+        check_class(rt, alloc, job, class, both.whole.as_slice())?;
+    }
+    Ok(())
+}
+
+/// Checks the outcomes of texts under both models against those of plain evaluation.
+fn check_texts<R: Abort>(rt: &R, alloc: Global, bench: &[u8], tests: &[u8]) -> Result<(), Fail> {
+    for model in [Model::StuckAt, Model::Transition] {
+        check_model(rt, alloc, model, bench, tests)?;
+    }
+    Ok(())
+}
+
+/// Checks the outcomes of texts under a model against those of plain evaluation.
+fn check_model<R: Abort>(
+    rt: &R,
+    alloc: Global,
+    model: Model,
+    bench: &[u8],
+    tests: &[u8],
+) -> Result<(), Fail> {
+    let job = job_of(alloc, model, bench, tests)?;
+    check_plainly(rt, alloc, &job)
+}
+
+/// Makes random tests of a circuit, and checks the outcomes.
+fn check_circuit<R: Abort>(
+    rt: &R,
+    alloc: Global,
+    numbers: &mut Numbers,
+    bench: &[u8],
+) -> Result<(), Fail> {
+    let mut tests = Vec::new(alloc);
+    push_rows(&mut tests, numbers, 16, 70)?;
+    check_texts(rt, alloc, bench, tests.as_slice())
 }
 
 #[test]
 fn a_random_circuit_has_the_outcomes_of_plain_evaluation(rt: HostRuntime) -> Result<(), Fail> {
     let mut numbers = Numbers::new(7);
-    let bench = random_bench(rt.alloc(), &mut numbers, 12, 200)?;
-    let tests = random_tests(rt.alloc(), &mut numbers, 16, 70)?;
-    for model in [Model::StuckAt, Model::Transition] {
-        let job = job_of(rt.alloc(), bench.as_bytes(), &tests, model)?;
-        let both = outcomes_of(rt.alloc(), &job)?;
-        assert!(rt; both.whole.as_slice() == both.first.as_slice());
-        let mut place = 0usize;
-        for class in 0..job.classes().count() {
-            for block in 0..job.tests().blocks() {
-                let plain = plain_outcome(rt.alloc(), &job, class, block)?;
-                assert!(rt;
-                    both.whole.get(place) == Some(&plain),
-                    "class {class}, block {block}"
-                );
-                place = place.saturating_add(1);
-            }
-        }
-    }
-    Ok(())
+    let mut bench = Vec::new(rt.alloc());
+    push_bench(&mut bench, &mut numbers, 12, 200)?;
+    check_circuit(&rt, rt.alloc(), &mut numbers, bench.as_slice())
 }

@@ -1,9 +1,7 @@
 //! Jobs, and what is expected of their verdicts.
 
-use bench_net::read_bench;
 use block_sim::Job;
-use fault_model::{Model, collapse, list_faults_in};
-use patterns::read_tests;
+use fault_model::Model;
 use std::alloc::{AllocError, Global};
 use std::process::Abort;
 use std::test::Fail;
@@ -64,23 +62,31 @@ pub(crate) fn job_of(
     bench: &str,
     rows: &[(&str, u32)],
 ) -> Result<Job, Fail> {
-    let circuit = read_bench(alloc, bench.as_bytes())?;
-    let text = text_of(alloc, rows)?;
-    let tests = read_tests(alloc, text.as_slice(), circuit.sources())?;
-    let faults = list_faults_in(alloc, &circuit, model)?;
-    let classes = collapse(alloc, &circuit, &faults)?;
-    Ok(Job::new(alloc, circuit, faults, classes, tests)?)
+    let mut text = Vec::new(alloc);
+    push_all_rows(&mut text, rows)?;
+    job_under(alloc, model, bench, text.as_slice())
 }
 
-fn text_of(alloc: Global, rows: &[(&str, u32)]) -> Result<Vec<u8>, AllocError> {
-    let mut text = Vec::new(alloc);
+/// A job of a circuit and of a text of tests.
+fn job_under(alloc: Global, model: Model, bench: &str, tests: &[u8]) -> Result<Job, Fail> {
+    Ok(report::job_of(alloc, model, bench.as_bytes(), tests)?)
+}
+
+/// Adds rows of tests, each as often as it is to stand there.
+fn push_all_rows(text: &mut Vec<u8>, rows: &[(&str, u32)]) -> Result<(), AllocError> {
     for (row, count) in rows {
-        for _ in 0..*count {
-            text.extend_from_slice(row.as_bytes())?;
-            text.push(b'\n')?;
-        }
+        push_rows(text, row.as_bytes(), *count)?;
     }
-    Ok(text)
+    Ok(())
+}
+
+/// Adds a row of a test so many times.
+fn push_rows(text: &mut Vec<u8>, row: &[u8], count: u32) -> Result<(), AllocError> {
+    for _ in 0..count {
+        text.extend_from_slice(row)?;
+        text.push(b'\n')?;
+    }
+    Ok(())
 }
 
 /// Checks the verdicts of all faults.

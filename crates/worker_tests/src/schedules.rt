@@ -1,18 +1,40 @@
 //! Runs of one thread.
 
 use crate::fixtures::{BUFFER, C17, C17_FIRSTS, WIRE, check, job_of};
+use block_sim::Job;
 use fault_model::Model;
+use std::alloc::Global;
+use std::process::Abort;
 use std::test::Fail;
 use workers::{RunFault, run_schedule};
+
+/// Runs a job by moves, and checks the verdicts. Gives the number of pieces that were skipped.
+fn skipped_by<R: Abort>(
+    rt: &R,
+    alloc: Global,
+    job: &Job,
+    workers: u32,
+    moves: &[u32],
+    firsts: &[Option<u32>],
+) -> Result<u32, Fail> {
+    let verdicts = run_schedule(alloc, job, workers, moves)?;
+    check(rt, &verdicts, firsts);
+    Ok(verdicts.skipped())
+}
+
+/// How a run of a job by moves is refused.
+fn refusal(alloc: Global, job: &Job, workers: u32, moves: &[u32]) -> Option<RunFault> {
+    run_schedule(alloc, job, workers, moves).err()
+}
 
 #[test]
 fn worker_two_reports_block_one_before_block_zero(rt: HostRuntime) -> Result<(), Fail> {
     let job = job_of(rt.alloc(), Model::StuckAt, BUFFER, &[("0", 63), ("1", 2)])?;
     let orders: [(&[u32], u32); 2] = [(&[0, 1, 2, 3, 2, 3, 1, 0], 0), (&[], 2)];
     for (moves, skipped) in orders {
-        let verdicts = run_schedule(rt.alloc(), &job, 4, moves)?;
-        check(&rt, &verdicts, &[Some(63), Some(0), Some(63), Some(0)]);
-        assert_eq!(rt; verdicts.skipped(), skipped);
+        let firsts = [Some(63), Some(0), Some(63), Some(0)];
+        let found = skipped_by(&rt, rt.alloc(), &job, 4, moves, &firsts)?;
+        assert_eq!(rt; found, skipped);
     }
     Ok(())
 }
@@ -25,8 +47,8 @@ fn transitions_are_told_by_the_test_before(rt: HostRuntime) -> Result<(), Fail> 
         BUFFER,
         &[("0", 64), ("1", 1)],
     )?;
-    let verdicts = run_schedule(rt.alloc(), &job, 3, &[2, 2, 0])?;
-    check(&rt, &verdicts, &[Some(64), None, Some(64), None]);
+    let firsts = [Some(64), None, Some(64), None];
+    skipped_by(&rt, rt.alloc(), &job, 3, &[2, 2, 0], &firsts)?;
     Ok(())
 }
 
@@ -41,7 +63,7 @@ fn numbers_of_workers_go_before_moves(rt: HostRuntime) -> Result<(), Fail> {
         (65, &[70], RunFault::TooManyWorkers),
     ];
     for (workers, moves, fault) in schedules {
-        let refused = run_schedule(rt.alloc(), &job, workers, moves).err();
+        let refused = refusal(rt.alloc(), &job, workers, moves);
         assert_eq!(rt; refused, Some(fault));
     }
     Ok(())
@@ -64,8 +86,7 @@ fn c17_in_a_hundred_orders(rt: HostRuntime) -> Result<(), Fail> {
     let mut seed: u32 = 1;
     for _ in 0..100 {
         let moves = random_moves(&mut seed);
-        let verdicts = run_schedule(rt.alloc(), &job, 7, &moves)?;
-        check(&rt, &verdicts, &C17_FIRSTS);
+        skipped_by(&rt, rt.alloc(), &job, 7, &moves, &C17_FIRSTS)?;
     }
     Ok(())
 }

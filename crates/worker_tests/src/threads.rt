@@ -9,20 +9,47 @@ use block_sim::{Job, Workspace};
 use fault_ledger::{Finish, Seat, SharedLedger};
 use fault_model::Model;
 use std::alloc::{AllocError, Global};
+use std::process::Abort;
+use std::sync::Wait;
 use std::test::Fail;
 use std::thread;
 use std::thread::Threads;
+use std::time::Clock;
 use workers::{Gate, OpenGate, RunFault, run, work};
+
+/// Runs a job by workers in threads, and checks the verdicts.
+fn check_run<R: Threads + Wait + Abort, G: Gate + Sync>(
+    rt: &R,
+    alloc: Global,
+    job: &Job,
+    workers: u32,
+    gate: &G,
+    firsts: &[Option<u32>],
+) -> Result<(), Fail> {
+    let verdicts = run(rt, alloc, job, workers, gate)?;
+    check(rt, &verdicts, firsts);
+    Ok(())
+}
+
+/// How a run of a job by workers in threads is refused.
+fn refusal<R: Threads + Wait, G: Gate + Sync>(
+    rt: &R,
+    alloc: Global,
+    job: &Job,
+    workers: u32,
+    gate: &G,
+) -> Option<RunFault> {
+    run(rt, alloc, job, workers, gate).err()
+}
 
 #[test]
 fn c17_by_one_to_64_workers(rt: HostRuntime) -> Result<(), Fail> {
     let job = job_of(rt.alloc(), Model::StuckAt, C17, &[("11111", 1)])?;
     for workers in [1, 2, 3, 64] {
-        let verdicts = run(&rt, rt.alloc(), &job, workers, &OpenGate)?;
-        check(&rt, &verdicts, &C17_FIRSTS);
+        check_run(&rt, rt.alloc(), &job, workers, &OpenGate, &C17_FIRSTS)?;
     }
     for (workers, fault) in [(0, RunFault::NoWorkers), (65, RunFault::TooManyWorkers)] {
-        let refused = run(&rt, rt.alloc(), &job, workers, &OpenGate).err();
+        let refused = refusal(&rt, rt.alloc(), &job, workers, &OpenGate);
         assert_eq!(rt; refused, Some(fault));
     }
     Ok(())
@@ -31,11 +58,16 @@ fn c17_by_one_to_64_workers(rt: HostRuntime) -> Result<(), Fail> {
 #[test]
 fn a_stopped_worker_leaves_its_piece_open(rt: HostRuntime) -> Result<(), Fail> {
     let wire = job_of(rt.alloc(), Model::StuckAt, WIRE, &[("0", 1)])?;
-    let stopped = run(&rt, rt.alloc(), &wire, 1, &Shut).err();
+    let stopped = refusal(&rt, rt.alloc(), &wire, 1, &Shut);
     assert_eq!(rt; stopped, Some(RunFault::Unfinished { class: 0, block: 0 }));
+    Ok(())
+}
+
+#[test]
+fn one_of_two_workers_leaves_its_piece_open(rt: HostRuntime) -> Result<(), Fail> {
     let job = job_of(rt.alloc(), Model::StuckAt, BUFFER, &[("0", 64), ("1", 1)])?;
     for (class, block) in [(0, 0), (1, 0), (0, 1)] {
-        let stopped = run(&rt, rt.alloc(), &job, 2, &ShutFor { class, block }).err();
+        let stopped = refusal(&rt, rt.alloc(), &job, 2, &ShutFor { class, block });
         assert_eq!(rt; stopped, Some(RunFault::Unfinished { class, block }));
     }
     Ok(())
@@ -45,10 +77,22 @@ fn a_stopped_worker_leaves_its_piece_open(rt: HostRuntime) -> Result<(), Fail> {
 fn a_piece_behind_a_hit_may_stay_open(rt: HostRuntime) -> Result<(), Fail> {
     let job = job_of(rt.alloc(), Model::StuckAt, BUFFER, &[("0", 64), ("1", 1)])?;
     let gate = ShutFor { class: 1, block: 1 };
-    let verdicts = run(&rt, rt.alloc(), &job, 2, &gate)?;
-    check(&rt, &verdicts, &[Some(64), Some(0), Some(64), Some(0)]);
-    let verdicts = run(&rt, rt.alloc(), &job, 2, &OpenGate)?;
-    check(&rt, &verdicts, &[Some(64), Some(0), Some(64), Some(0)]);
+    check_run(
+        &rt,
+        rt.alloc(),
+        &job,
+        2,
+        &gate,
+        &[Some(64), Some(0), Some(64), Some(0)],
+    )?;
+    check_run(
+        &rt,
+        rt.alloc(),
+        &job,
+        2,
+        &OpenGate,
+        &[Some(64), Some(0), Some(64), Some(0)],
+    )?;
     Ok(())
 }
 
@@ -56,8 +100,7 @@ fn a_piece_behind_a_hit_may_stay_open(rt: HostRuntime) -> Result<(), Fail> {
 fn two_workers_hold_a_piece_at_once(rt: HostRuntime) -> Result<(), Fail> {
     let job = job_of(rt.alloc(), Model::StuckAt, WIRE, &[("0", 1)])?;
     let gate = Meeting::new(&rt, (0, 0), (1, 0), true);
-    let verdicts = run(&rt, rt.alloc(), &job, 2, &gate)?;
-    check(&rt, &verdicts, &[None, Some(0)]);
+    check_run(&rt, rt.alloc(), &job, 2, &gate, &[None, Some(0)])?;
     Ok(())
 }
 
@@ -65,8 +108,14 @@ fn two_workers_hold_a_piece_at_once(rt: HostRuntime) -> Result<(), Fail> {
 fn a_worker_goes_on_while_another_is_held(rt: HostRuntime) -> Result<(), Fail> {
     let job = job_of(rt.alloc(), Model::StuckAt, BUFFER, &[("0", 64), ("1", 1)])?;
     let gate = Meeting::new(&rt, (0, 0), (1, 1), false);
-    let verdicts = run(&rt, rt.alloc(), &job, 2, &gate)?;
-    check(&rt, &verdicts, &[Some(64), Some(0), Some(64), Some(0)]);
+    check_run(
+        &rt,
+        rt.alloc(),
+        &job,
+        2,
+        &gate,
+        &[Some(64), Some(0), Some(64), Some(0)],
+    )?;
     Ok(())
 }
 
@@ -79,8 +128,14 @@ fn a_worker_ends_where_all_classes_are_settled(rt: HostRuntime) -> Result<(), Fa
         &[("1", 1), ("0", 4_095)],
     )?;
     let gate = Counter::new();
-    let verdicts = run(&rt, rt.alloc(), &job, 1, &gate)?;
-    check(&rt, &verdicts, &[Some(0), Some(1), Some(0), Some(1)]);
+    check_run(
+        &rt,
+        rt.alloc(),
+        &job,
+        1,
+        &gate,
+        &[Some(0), Some(1), Some(0), Some(1)],
+    )?;
     assert_eq!(rt; gate.pieces(), 2);
     Ok(())
 }
@@ -130,19 +185,24 @@ fn in_threads<G: Gate + Sync, R: Threads + Sync>(
     )
 }
 
+/// Lets two threads of the caller's work at one ledger of a job.
+fn share_a_ledger<R: Threads + Sync + Clock + Abort>(
+    rt: &R,
+    alloc: Global,
+    job: &Job,
+) -> Result<(), Fail> {
+    let (classes, tests) = (job.classes().count(), job.tests().count());
+    let (ledger, seats) = SharedLedger::new(alloc, classes, tests, 2)?;
+    let gate = Meeting::new(rt, (0, 0), (1, 1), false);
+    let seats = in_threads(rt, alloc, job, &ledger, &gate, seats)?;
+    assert_eq!(rt; seats.len(), 2);
+    let closed = ledger.close(alloc, seats)?;
+    assert_eq!(rt; closed.finished(), Finish::Finished);
+    Ok(())
+}
+
 #[test]
 fn threads_of_a_caller_share_a_ledger(rt: HostRuntime) -> Result<(), Fail> {
     let job = job_of(rt.alloc(), Model::StuckAt, BUFFER, &[("0", 64), ("1", 1)])?;
-    let (ledger, seats) = SharedLedger::new(
-        rt.alloc(),
-        job.classes().count(),
-        job.tests().count(),
-        2,
-    )?;
-    let gate = Meeting::new(&rt, (0, 0), (1, 1), false);
-    let seats = in_threads(&rt, rt.alloc(), &job, &ledger, &gate, seats)?;
-    assert_eq!(rt; seats.len(), 2);
-    let closed = ledger.close(rt.alloc(), seats)?;
-    assert_eq!(rt; closed.finished(), Finish::Finished);
-    Ok(())
+    share_a_ledger(&rt, rt.alloc(), &job)
 }
