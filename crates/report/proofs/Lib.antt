@@ -3,3 +3,4 @@ pub mod Cells
 pub mod Texts
 pub mod Lines
 pub mod Accepted
+pub mod Runs

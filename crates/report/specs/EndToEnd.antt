@@ -127,3 +127,22 @@ IsScheduleTextFault m bench text order workers (fault.Report f) =
     (job : Parts) × IsJobWithin m bench text job
     × HasSomeMoves order workers × (0 < workers) × (workers ≤ 64)
 IsScheduleTextFault m bench text order workers f = IsInputFault bench text f
+
+-- the bytes are the report of a job
+abbrev pub IsReportOfJob : Parts → Bool → List ℕ → Type 0
+IsReportOfJob job list bytes = (firsts : List (Option ℕ))
+    × AreFirsts job.list.model job.circuit job.tests.tests firsts
+    × (bytes ≡ report job.list.model job.circuit firsts list)
+
+-- When each fault of the report of a job that is run in threads comes: those of the run, then an
+-- output that takes nothing more.
+abbrev pub IsRunReportFault : Parts → ℕ → SimFault → Type 0
+IsRunReportFault job workers (fault.Run f) = IsRunFault job workers ⊤ f
+IsRunReportFault job workers (fault.Report f) = (0 < workers) × (workers ≤ 64)
+IsRunReportFault job workers _ = ⊥
+
+-- the same for a job that is run by moves
+abbrev pub IsScheduleReportFault : List ℕ → ℕ → SimFault → Type 0
+IsScheduleReportFault moves workers (fault.Run f) = IsScheduleFault workers moves f
+IsScheduleReportFault moves workers (fault.Report f) = (0 < workers) × (workers ≤ 64)
+IsScheduleReportFault moves workers _ = ⊥

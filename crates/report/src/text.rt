@@ -5,8 +5,8 @@ ghost use Rattle.bench_net.specs.Refusal.{IsAccepted};
 ghost use Rattle.bench_net.specs.Scan.{sources};
 ghost use Rattle.fault_model.specs.declared.Model.TheVariants as model;
 ghost use Rattle.patterns.specs.Tests.{HasTests, max_pieces};
-ghost use Rattle.block_sim.specs.Parts.{piece_count};
-ghost use Rattle.report.specs.EndToEnd.{WritesOneOf, AreTestsFor, IsReportOf, IsReportFault, IsScheduleTextFault, HasSomeMoves, IsListingOf, IsListingFault, IsJobOf, IsJobFor, IsJobFault, IsInputFault, IsPiecesFault};
+ghost use Rattle.block_sim.specs.Parts.{BelongTogether, piece_count};
+ghost use Rattle.report.specs.EndToEnd.{WritesOneOf, AreTestsFor, IsReportOf, IsReportFault, IsScheduleTextFault, HasSomeMoves, IsListingOf, IsListingFault, IsJobOf, IsJobFor, IsJobFault, IsInputFault, IsPiecesFault, IsReportOfJob, IsRunReportFault, IsScheduleReportFault};
 
 use crate::report::{ReportFault, write_listing, write_report};
 use bench_net::{BenchFault, Circuit, read_bench};
@@ -165,8 +165,26 @@ pub fn simulate_text_in<R: Threads + Wait, W: Out>(
     ensures workers { OnOk result ((0 < workers) × (workers ≤ 64)) }
 {
     let job = job_of(alloc, model, bench, tests)?;
-    let verdicts = run(rt, alloc, &job, workers, &OpenGate)?;
-    write_report(&job, &verdicts, list, out)?;
+    report_run(rt, alloc, &job, workers, list, out)
+}
+
+/// Runs a job by workers in threads of their own, and writes its report.
+fn report_run<R: Threads + Wait, W: Out>(
+    rt: &R,
+    alloc: Global,
+    job: &Job,
+    workers: u32,
+    list: bool,
+    out: &mut W,
+) -> Result<(), SimFault>
+    requires { BelongTogether job.now }
+    ensures written { WritesOneOf (IsReportOfJob job.now list) result
+        (W.seen out.old) (W.seen out.new) }
+    ensures refused { IfErr result (IsRunReportFault job.now workers) }
+    ensures workers { OnOk result ((0 < workers) × (workers ≤ 64)) }
+{
+    let verdicts = run(rt, alloc, job, workers, &OpenGate)?;
+    write_report(job, &verdicts, list, out)?;
     Ok(())
 }
 
@@ -228,8 +246,26 @@ pub fn schedule_text_in<W: Out>(
     let (circuit, tests) = read_inputs(alloc, bench, tests)?;
     let moves = read_order(alloc, order, workers)?;
     let job = make_job(alloc, model, circuit, tests)?;
-    let verdicts = run_schedule(alloc, &job, workers, &moves)?;
-    write_report(&job, &verdicts, list, out)?;
+    report_schedule(alloc, &job, &moves, workers, list, out)
+}
+
+/// Runs a job by moves of workers on one thread, and writes its report.
+fn report_schedule<W: Out>(
+    alloc: Global,
+    job: &Job,
+    moves: &[u32],
+    workers: u32,
+    list: bool,
+    out: &mut W,
+) -> Result<(), SimFault>
+    requires { BelongTogether job.now }
+    ensures written { WritesOneOf (IsReportOfJob job.now list) result
+        (W.seen out.old) (W.seen out.new) }
+    ensures refused { IfErr result (IsScheduleReportFault moves.now workers) }
+    ensures workers { OnOk result ((0 < workers) × (workers ≤ 64)) }
+{
+    let verdicts = run_schedule(alloc, job, workers, moves)?;
+    write_report(job, &verdicts, list, out)?;
     Ok(())
 }
 

@@ -1,39 +1,19 @@
-use Rattle.std.proofs.Common.{refl, subst}
-use Rattle.std.proofs.lemmas.Result.{err_from_is_err_and}
-use Rattle.workers.specs.Verdict.{AreFirsts}
-use Rattle.report.specs.Report.{report}
-use Rattle.report.proofs.Accepted.{verdicts_counted}
+use Rattle.report.specs.EndToEnd.{IsReportOf, IsReportOfJob, IsReportFault, IsRunReportFault}
+use Rattle.report.proofs.Runs.{written_as, refused_as, report_of, run_fault}
 use Rattle.report.proofs.text.simulate_text_in.Goals as goal
 
-pub write_report-requires : goal.write_report-requires
-write_report-requires g c =
-    record { count = verdicts_counted c.in_ok-job.job c.in_ok-verdicts.verdicts.firsts c.in_ok-job.ensures.job.2 c.in_ok-verdicts.ensures.firsts }
-
-pub returns-in_err-verdicts-clause-refused : goal.returns-in_err-verdicts-clause-refused
-returns-in_err-verdicts-clause-refused g c =
-    let p = err_from_is_err_and c.from_residual-in_err-verdicts.result c.from_residual-in_err-verdicts.ensures.1 in
-    rw (p.1, p.2) (c.in_ok-job.job, (c.in_ok-job.ensures.job, c.in_ok-job.ensures.few), c.in_err-verdicts.ensures.refused)
-
-pub returns-in_err-write_report-clause-refused : goal.returns-in_err-write_report-clause-refused
-returns-in_err-write_report-clause-refused g c =
-    let p = err_from_is_err_and c.from_residual-in_err-write_report.result c.from_residual-in_err-write_report.ensures.1 in
-    rw (p.1, p.2) (c.in_ok-job.job, (c.in_ok-job.ensures.job, c.in_ok-job.ensures.few), c.in_ok-verdicts.ensures.workers.0, c.in_ok-verdicts.ensures.workers.1)
-
-pub returns-in_err-write_report-clause-written : goal.returns-in_err-write_report-clause-written
-returns-in_err-write_report-clause-written g c =
-    let p = err_from_is_err_and c.from_residual-in_err-write_report.result c.from_residual-in_err-write_report.ensures.1 in
-    let job = c.in_ok-job.job in
-    let read = c.in_ok-job.ensures.job in
-    let firsts = c.in_ok-verdicts.verdicts.firsts in
-    let are = subst (λ m. AreFirsts m job.circuit job.tests.tests firsts) read.3 c.in_ok-verdicts.ensures.firsts in
-    let wrote = rw (read.3) at c.in_err-write_report.ensures in
-    rw (p.1, p.2) (report c.args.model job.circuit firsts c.args.list, (job.circuit, job.tests, firsts, read.0, read.1, are, refl), wrote)
+pub report_run-requires : goal.report_run-requires
+report_run-requires g c = c.in_ok-job.ensures.job.2
 
 pub returns-clause-written : goal.returns-clause-written
 returns-clause-written g c =
     let job = c.in_ok-job.job in
-    let read = c.in_ok-job.ensures.job in
-    let firsts = c.in_ok-verdicts.verdicts.firsts in
-    let are = subst (λ m. AreFirsts m job.circuit job.tests.tests firsts) read.3 c.in_ok-verdicts.ensures.firsts in
-    let wrote = rw (read.3) at c.in_ok-write_report.ensures in
-    (report c.args.model job.circuit firsts c.args.list, (job.circuit, job.tests, firsts, read.0, read.1, are, refl), wrote)
+    written_as (IsReportOfJob job c.args.list) (IsReportOf c.args.model c.args.bench.now c.args.tests.now c.args.list)
+    c.report_run.result _ _ (report_of c.args.model c.args.bench.now c.args.tests.now c.args.list job c.in_ok-job.ensures.job) c.report_run.ensures.written
+
+pub returns-clause-refused : goal.returns-clause-refused
+returns-clause-refused g c =
+    let job = c.in_ok-job.job in
+    refused_as (IsRunReportFault job c.args.workers) (IsReportFault c.args.model c.args.bench.now c.args.tests.now c.args.workers)
+    c.report_run.result (run_fault c.args.model c.args.bench.now c.args.tests.now c.args.workers job (c.in_ok-job.ensures.job, c.in_ok-job.ensures.few))
+    c.report_run.ensures.refused

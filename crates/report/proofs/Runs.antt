@@ -1,0 +1,64 @@
+-- From the report of a job to that of the texts that the job was read from.
+use Rattle.std.proofs.Common.{◌≡◌, ◌∙◌, ℕ, ap, subst, List, Bool}
+use Rattle.std.specs.Prelude.{Option, Result, Ok, Err, IfErr}
+use Rattle.fault_model.specs.declared.Model.{Model}
+use Rattle.patterns.specs.Order.{HasMoves}
+use Rattle.block_sim.specs.Parts.{Parts}
+use Rattle.workers.specs.Verdict.{AreFirsts}
+use Rattle.output.specs.Output.{Output}
+use Rattle.report.specs.declared.text.SimFault.{SimFault}
+use Rattle.report.specs.declared.text.SimFault.TheVariants as fault
+use Rattle.report.specs.EndToEnd.{WritesOneOf, IsJobOf, IsJobWithin, IsReportOf, IsReportOfJob, IsReportFault, IsRunReportFault, IsScheduleReportFault, IsScheduleTextFault}
+use Rattle.report.specs.Report.{report}
+use Rattle.report.proofs.Accepted.{schedule_fault}
+
+-- a text of one kind is one of another
+pub written_as : (A B : List ℕ → Type 0) (r : Result (Unit {0}) SimFault) (old new : Output)
+    → ((text : List ℕ) → A text → B text) → WritesOneOf A r old new → WritesOneOf B r old new
+written_as A B (Ok u) old new into w = (w.0, into w.0 w.1, w.2)
+written_as A B (Err (fault.Report f)) old new into w = (w.0, into w.0 w.1, w.2)
+written_as A B (Err (fault.Bench f)) old new into w = w
+written_as A B (Err (fault.Tests f)) old new into w = w
+written_as A B (Err (fault.Order f)) old new into w = w
+written_as A B (Err (fault.Job f)) old new into w = w
+written_as A B (Err (fault.Run f)) old new into w = w
+written_as A B (Err fault.Memory) old new into w = w
+
+-- a fault of one kind is one of another
+pub refused_as : (A B : SimFault → Type 0) (r : Result (Unit {0}) SimFault)
+    → ((f : SimFault) → A f → B f) → IfErr r A → IfErr r B
+refused_as A B (Ok u) into w = w
+refused_as A B (Err f) into w = into f w
+
+-- the report of a job of texts is that of the texts
+pub report_of : (m : Model) (bench text : List ℕ) (list : Bool) (job : Parts)
+    → IsJobOf m bench text job → (bytes : List ℕ) → IsReportOfJob job list bytes
+    → IsReportOf m bench text list bytes
+report_of m bench text list job is bytes of_job =
+    let are = subst (λ k. AreFirsts k job.circuit job.tests.tests of_job.0) is.3 of_job.1 in
+    (job.circuit, job.tests, of_job.0, is.0, is.1, are, of_job.2 ∙ ap (λ k. report k job.circuit of_job.0 list) is.3)
+
+pub run_fault : (m : Model) (bench text : List ℕ) (workers : ℕ) (job : Parts)
+    → IsJobWithin m bench text job → (f : SimFault) → IsRunReportFault job workers f
+    → IsReportFault m bench text workers f
+run_fault m bench text workers job within (fault.Run f) h = (job, within, h)
+run_fault m bench text workers job within (fault.Report f) h = (job, within, h.0, h.1)
+run_fault m bench text workers job within (fault.Bench f) h = absurd h
+run_fault m bench text workers job within (fault.Tests f) h = absurd h
+run_fault m bench text workers job within (fault.Order f) h = absurd h
+run_fault m bench text workers job within (fault.Job f) h = absurd h
+run_fault m bench text workers job within fault.Memory h = absurd h
+
+pub moves_fault : (m : Model) (bench text order : List ℕ) (workers : ℕ) (job : Parts)
+    (moves : List ℕ) → IsJobWithin m bench text job → HasMoves order workers moves
+    → (f : SimFault) → IsScheduleReportFault moves workers f
+    → IsScheduleTextFault m bench text order workers f
+moves_fault m bench text order workers job moves within has (fault.Run f) h =
+    schedule_fault m bench text order workers job moves f within has h
+moves_fault m bench text order workers job moves within has (fault.Report f) h =
+    (job, within, (moves, has), h.0, h.1)
+moves_fault m bench text order workers job moves within has (fault.Bench f) h = absurd h
+moves_fault m bench text order workers job moves within has (fault.Tests f) h = absurd h
+moves_fault m bench text order workers job moves within has (fault.Order f) h = absurd h
+moves_fault m bench text order workers job moves within has (fault.Job f) h = absurd h
+moves_fault m bench text order workers job moves within has fault.Memory h = absurd h
