@@ -1,5 +1,5 @@
 -- Words that differ from the fault-free ones, and the equations of the signals one by one.
-use Rattle.std.specs.Prelude.{◌≡◌, ◌≢◌, ◌⊎◌, ℕ, ◌+◌, Bool, false, List, Contains, Option, Some, slice_get, slice_index_or}
+use Rattle.std.specs.Prelude.{◌≡◌, ◌≢◌, ◌⊎◌, ℕ, ◌+◌, ◌<◌, Bool, false, List, Contains, Option, Some, slice_get, slice_index_or}
 use Rattle.std.specs.Option.{option_map_or}
 use Rattle.bench_net.specs.declared.Kind.{Kind}
 use Rattle.bench_net.specs.declared.Sink.{Sink}
@@ -43,6 +43,11 @@ level_at c level s = option_map_or level (name_of c s) 0
 pub record AreWoken (c : List Statement) (lv : ℕ → ℕ) (s : ℕ) (before after : List ℕ) : Type 0 where
   pub readers : (r : ℕ) → Reads c r s → slice_index_or after r 0 ≢ 0
   pub only : (r : ℕ) → (slice_index_or after r 0 ≡ slice_index_or before r 0) ⊎ (Reads c r s × (slice_index_or before r 0 ≡ 0) × (slice_index_or after r 0 ≡ lv r + 1))
+
+-- a gate waits as before, or lies above the signal and waits at its level
+abbrev pub IsWokenAbove : (ℕ → ℕ) → ℕ → List ℕ → List ℕ → Type 0
+IsWokenAbove lv s before after = (r : ℕ) → (slice_index_or after r 0 ≡ slice_index_or before r 0)
+    ⊎ ((lv s < lv r) × (slice_index_or after r 0 ≡ lv r + 1))
 
 -- an observer observes the signal
 abbrev pub IsObserved : List Statement → ℕ → Type 0

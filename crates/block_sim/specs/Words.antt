@@ -1,10 +1,11 @@
 -- Words of 64 lanes: a block's bits side by side, one word a signal.
-use Rattle.std.specs.Prelude.{◌≡◌, ℕ, ◌+◌, ◌*◌, ◌<◌, ◌==◌, Bool, true, false, List, [], map, Contains, Option, Some, slice_get, slice_index_or, bit_xor}
+use Rattle.std.specs.Prelude.{◌≡◌, ℕ, ◌+◌, ◌*◌, ◌<◌, ◌==◌, Bool, true, false, List, [], length, map, Contains, Option, Some, slice_get, slice_index_or, bit_xor}
 use Rattle.std.specs.Int.{bit_at}
 use Rattle.std.specs.List.{enumerate_from}
 use Rattle.bench_net.specs.declared.Kind.{Kind}
 use Rattle.bench_net.specs.Statement.{Name, Statement, Gate}
-use Rattle.bench_net.specs.Scan.{signal, name_of, sources}
+use Rattle.bench_net.specs.Scan.{names, signal, name_of, sources}
+use Rattle.bench_net.specs.Circuit.{IsCircuit}
 use Rattle.fault_model.specs.declared.Line.TheVariants as line
 use Rattle.fault_model.specs.Fault.{Fault}
 use Rattle.fault_model.specs.Solution.{Test, Solves, under, value, pins_see}
@@ -28,6 +29,11 @@ test_of tests block k = slice_index_or tests (64 * block + k) []
 -- under the lane's test.
 abbrev pub AreWords : List Statement → List Test → ℕ → Option Fault → List ℕ → Type 0
 AreWords c tests block f words = (k : ℕ) → k < 64 → Solves c (test_of tests block k) f (lane_bits c words k)
+
+-- a circuit, and a word for each of its signals
+pub record HasWords (c : List Statement) (words : List ℕ) : Type 0 where
+  pub circuit : IsCircuit c
+  pub count : length words ≡ length (names c)
 
 -- The equation of one signal on words: in each lane a source has the bit of the lane's test and a gate's
 -- signal the bit that its kind gives for what its pins see in that lane, but for a fault on its stem.

@@ -9,11 +9,12 @@ ghost use Rattle.block_sim.specs.Parts.{HasRoom};
 ghost use Rattle.block_sim.specs.Stirred.{HasStirred};
 
 use crate::block_lanes::{lanes_below, least_lane};
+use crate::changes::Changes;
 use crate::effect::effect;
 use crate::job::Job;
 use crate::look_back::lanes_that_fit;
 use crate::spread::Extent;
-use event_queue::{Buckets, Overlay};
+use crate::view::BlockView;
 use patterns::Outcome;
 use std::alloc::{AllocError, Global};
 use std::marker::Model;
@@ -22,21 +23,22 @@ use std::marker::Model;
 /// again, and for any job with at most as many signals.
 #[derive(Drop)]
 pub struct Workspace {
-    overlay: Overlay,
-    buckets: Buckets,
-    evaluations: u64,
+    changes: Changes,
 }
 
 impl Model for Workspace {
     ghost use Rattle.std.specs.Prelude.{length};
     ghost use Rattle.block_sim.specs.Parts.{Room};
-    ghost use Rattle.block_sim.specs.Job.{IsAtRest};
+    ghost use Rattle.block_sim.specs.Changes.{IsAtRest};
 
     ghost Value = { Room };
 
-    ghost view = { λ w. record { signals = length w.overlay; evaluations = w.evaluations } };
+    ghost view = { λ w. record {
+      signals = length w.changes.overlay;
+      evaluations = w.changes.evaluations;
+    } };
 
-    ghost invariant = { λ w. IsAtRest w.overlay w.buckets };
+    ghost invariant = { λ w. IsAtRest w.changes };
 }
 
 impl Workspace {
@@ -45,28 +47,22 @@ impl Workspace {
         ensures fits { IfOk result (λ workspace. HasRoom workspace job.now) }
         ensures fresh { IfOk result (λ workspace. workspace.evaluations ≡ 0) }
     {
-        let signals = job.circuit().signals();
-        let overlay = Overlay::new(alloc, signals)?;
-        let buckets = Buckets::new(alloc, signals, signals + 1)?;
-        Ok(Workspace {
-            overlay,
-            buckets,
-            evaluations: 0,
-        })
+        let changes = Changes::new(alloc, job.circuit().signals())?;
+        Ok(Workspace { changes })
     }
 
     /// Whether the workspace is large enough for a job.
     pub fn fits(&self, job: &Job) -> bool
         ensures { IsTrue result ↔ HasRoom self.now job.now }
     {
-        job.circuit().signals() as usize <= self.overlay.words().len()
+        job.circuit().signals() as usize <= self.changes.overlay.words().len()
     }
 
     /// How often a gate was evaluated on a word since the workspace was made. It stays at the greatest u64.
     pub fn gate_evaluations(&self) -> u64
         ensures { result ≡ self.now.evaluations }
     {
-        self.evaluations
+        self.changes.evaluations
     }
 }
 
@@ -129,15 +125,10 @@ fn outcome(job: &Job, workspace: &mut Workspace, class: u32, block: u32, extent:
 {
     let fault = job.representative(class);
     let lanes = lanes_below(job.tests().size_of(block)) & lanes_that_fit(job, block, fault);
-    let seen = effect(
-        job.flat(),
-        job.fault_free(block),
-        fault,
-        extent,
+    let view = BlockView {
+        circuit: job.flat(),
+        good: job.fault_free(block),
         lanes,
-        &mut workspace.overlay,
-        &mut workspace.buckets,
-        &mut workspace.evaluations,
-    );
-    least_lane(seen)
+    };
+    least_lane(effect(view, fault, extent, &mut workspace.changes))
 }
