@@ -23,7 +23,8 @@ pub record IsClear (changes : Changes) : Type 0 where
   pub words : All (λ word. word ≡ 0) changes.overlay
   pub gates : All (λ at. at ≡ 0) changes.buckets.at
 
--- Between two calls no word differs and no gate waits. There is room for as many gates as signals, and for one level more.
+-- Between two calls no word differs and no gate waits. There is room for as many gates as signals,
+-- and for one level more.
 pub record IsAtRest (changes : Changes) : Type 0 where
   pub clear : IsClear changes
   pub gates : length changes.buckets.at ≡ length changes.overlay

@@ -9,9 +9,11 @@ use Rattle.block_sim.specs.Words.{AreWords}
 
 -- the words of the first blocks without a fault, one row of words a block
 abbrev pub AreFaultFree : List Statement → List Test → List (List ℕ) → Type 0
-AreFaultFree c tests rows = (block : ℕ) (row : List ℕ) → slice_get rows block ≡ Some row → (length row ≡ length (names c)) × AreWords c tests block None row
+AreFaultFree c tests rows = (block : ℕ) (row : List ℕ) → slice_get rows block ≡ Some row
+    → (length row ≡ length (names c)) × AreWords c tests block None row
 
--- the parts belong together, their pieces are within the limit, and the rows are the fault-free words of all blocks
+-- the parts belong together, their pieces are within the limit, and the rows are the fault-free
+-- words of all blocks
 pub record IsJob (parts : Parts) (rows : List (List ℕ)) : Type 0 where
   pub together : BelongTogether parts
   pub few : piece_count parts ≤ max_pieces

@@ -8,9 +8,9 @@ use Rattle.block_sim.specs.declared.changes.Changes.{Changes}
 use Rattle.block_sim.specs.Events.{level_at, IsElsewhere}
 use Rattle.block_sim.specs.Spreading.{IsSpreading, AreSeen, HasTouched, ahead}
 
--- What a simulation has at a moment: the lanes in which each signal differs; for each gate 0, or the
--- level at which it waits and 1; the evaluations that were counted; the level that it works at; the
--- lanes that are still followed, and those that were seen.
+-- What a simulation has at a moment: the lanes in which each signal differs; for each gate 0, or
+-- the level at which it waits and 1; the evaluations that were counted; the level that it works
+-- at; the lanes that are still followed, and those that were seen.
 pub record Moment : Type 0 where
   pub delta : List ℕ
   pub at : List ℕ
@@ -59,8 +59,9 @@ Spreads c good lanes case m = IsSpreading c case.tests case.block case.fault goo
 abbrev pub left : (c : List Statement) → Case c → Moment → List ℕ → ℕ
 left c case m gates = ahead (level_at c case.level) m.at m.level gates
 
--- From one moment to a later one: what is true in each case stays so, and where a list names each gate
--- that reads a signal that differs, no more gates of it were evaluated than were ahead and are no more.
+-- From one moment to a later one: what is true in each case stays so, and where a list names each
+-- gate that reads a signal that differs, no more gates of it were evaluated than were ahead and
+-- are no more.
 pub record Leads (c : List Statement) (good : List ℕ) (lanes : ℕ) (m n : Moment) : Type 0 where
   pub spreading : (case : Case c) → Spreads c good lanes case m → Spreads c good lanes case n
   pub counted : (case : Case c) (gates : List ℕ) → Spreads c good lanes case m

@@ -1,5 +1,5 @@
-//! The effect of one fault on a block of tests: where it turns its line, the first signal that it changes,
-//! and the lanes in which an observer shows it.
+//! The effect of one fault on a block of tests: where it turns its line, the first signal that it
+//! changes, and the lanes in which an observer shows it.
 
 ghost use Rattle.std.specs.Prelude.{◌≡◌, ℕ, ◌+◌, ◌<◌, ◌≤◌, Contains, List, None, Some, true};
 ghost use Rattle.std.specs.Prelude.{length, bit_xor, slice_index_or};
@@ -20,9 +20,9 @@ use crate::view::BlockView;
 use crate::words::{Stuck, evaluate_gate};
 use fault_model::Line;
 
-/// Of the lanes that are asked for those in which some observer shows another bit with the fault than
-/// without it; where the first hit is asked for, some of them with the least. No gate is evaluated where
-/// the fault turns its line in none of the lanes.
+/// Of the lanes that are asked for those in which some observer shows another bit with the fault
+/// than without it; where the first hit is asked for, some of them with the least. No gate is
+/// evaluated where the fault turns its line in none of the lanes.
 pub fn effect(view: BlockView<'_>, fault: Stuck, extent: Extent, changes: &mut Changes) -> u64
     requires view { HasWords view.circuit.now view.good.now }
     requires words { (tests : List Test) × (block : ℕ)
@@ -32,7 +32,8 @@ pub fn effect(view: BlockView<'_>, fault: Stuck, extent: Extent, changes: &mut C
     requires clear { IsClear changes.old }
     ensures shown { (tests : List Test) (block : ℕ)
         → AreWords view.entry.circuit.now tests block None view.entry.good.now
-        → AreShown view.entry.circuit.now tests block (stuck_fault fault) view.entry.good.now view.entry.lanes result }
+        → AreShown view.entry.circuit.now tests block (stuck_fault fault) view.entry.good.now
+        view.entry.lanes result }
     ensures counted { (tests : List Test) (block : ℕ) (gates : List ℕ)
         → AreWords view.entry.circuit.now tests block None view.entry.good.now
         → AreInBlock tests block view.entry.lanes
@@ -57,7 +58,8 @@ pub fn effect(view: BlockView<'_>, fault: Stuck, extent: Extent, changes: &mut C
     }
 }
 
-/// The lanes, of those that are asked for, in which a fault on a pin of a gate changes the gate's word.
+/// The lanes, of those that are asked for, in which a fault on a pin of a gate changes the gate's
+/// word.
 fn gate_change(view: BlockView<'_>, fault: Stuck, gate: u32, changes: &mut Changes) -> u64
     requires view { HasWords view.circuit.now view.good.now }
     requires room { HasRoomFor view.circuit.now changes.old }
@@ -65,7 +67,8 @@ fn gate_change(view: BlockView<'_>, fault: Stuck, gate: u32, changes: &mut Chang
     requires driven { (line : Kind × List ℕ) × (gate_of view.circuit.now gate ≡ Some line) }
     ensures inside { (k : ℕ) → k < 64 → lane result k ≡ true → lane view.entry.lanes k ≡ true }
     ensures changed { (kind : Kind) (pins : List ℕ) (k : ℕ)
-        → gate_of view.entry.circuit.now gate ≡ Some (kind, pins) → k < 64 → lane view.entry.lanes k ≡ true
+        → gate_of view.entry.circuit.now gate ≡ Some (kind, pins) → k < 64
+        → lane view.entry.lanes k ≡ true
         → lane (bit_xor (slice_index_or view.entry.good.now gate 0) result) k
         ≡ value kind (pin_bits (Some (stuck_fault fault)) gate pins view.entry.good.now
         changes.old.overlay k) }

@@ -1,11 +1,11 @@
 //! Simulation by events: the change of one signal spreads from gate to gate, level by level.
 //!
-//! The fault-free words stay as they are. An overlay has for each signal the lanes in which it differs, and
-//! a gate is evaluated only where a signal that it reads differs (event-driven simulation: Bushnell and
-//! Agrawal, Essentials of Electronic Testing).
+//! The fault-free words stay as they are. An overlay has for each signal the lanes in which it
+//! differs, and a gate is evaluated only where a signal that it reads differs (event-driven
+//! simulation: Bushnell and Agrawal, Essentials of Electronic Testing).
 
-ghost use Rattle.std.specs.Prelude.{◌≡◌, ◌≢◌, ◌↔◌, ℕ, ◌+◌, ◌<◌, ◌≤◌, ◌==◌, List, IsTrue, true, false};
-ghost use Rattle.std.specs.Prelude.{length, bit_or, count_by, slice_index_or, slice_set};
+ghost use Rattle.std.specs.Prelude.{◌≡◌, ◌≢◌, ◌↔◌, ℕ, ◌+◌, ◌<◌, ◌≤◌, ◌==◌, List, IsTrue, true};
+ghost use Rattle.std.specs.Prelude.{false, length, bit_or, count_by, slice_index_or, slice_set};
 ghost use Rattle.std.specs.Bool.{Decides};
 ghost use Rattle.bench_net.specs.Statement.{Name};
 ghost use Rattle.bench_net.specs.Scan.{names};
@@ -54,7 +54,8 @@ impl Extent {
     }
 }
 
-/// Lets the gates that read a signal wait, each at its level, and tells whether an observer reads it.
+/// Lets the gates that read a signal wait, each at its level, and tells whether an observer reads
+/// it.
 #[inline(always)]
 fn wake(circuit: &FlatCircuit, signal: u32, buckets: &mut Buckets) -> bool
     requires circuit { IsCircuit circuit.now }
@@ -77,8 +78,8 @@ fn wake(circuit: &FlatCircuit, signal: u32, buckets: &mut Buckets) -> bool
     circuit.is_observed(signal)
 }
 
-/// Lets a signal differ in some lanes, so that its readers wait, and tells in which of them an observer
-/// sees it.
+/// Lets a signal differ in some lanes, so that its readers wait, and tells in which of them an
+/// observer sees it.
 #[inline(always)]
 fn change(circuit: &FlatCircuit, signal: u32, diff: u64, changes: &mut Changes) -> u64
     requires circuit { IsCircuit circuit.now }
@@ -104,14 +105,16 @@ fn change(circuit: &FlatCircuit, signal: u32, diff: u64, changes: &mut Changes) 
     }
 }
 
-/// Evaluates a gate that waited, and lets its signal differ where its word does in some of the lanes that
-/// are followed. Tells in which of them an observer sees that. Where none is followed nothing is evaluated.
+/// Evaluates a gate that waited, and lets its signal differ where its word does in some of the
+/// lanes that are followed. Tells in which of them an observer sees that. Where none is followed
+/// nothing is evaluated.
 #[inline(always)]
 fn evaluate_waiting(view: BlockView<'_>, kept: u64, gate: u32, changes: &mut Changes) -> u64
     requires view { HasWords view.circuit.now view.good.now }
     requires room { HasRoomFor view.circuit.now changes.old }
     requires taken { IsTaken view.circuit.now changes.old gate }
-    ensures leads { (now seen : ℕ) → Leads view.entry.circuit.now view.entry.good.now view.entry.lanes
+    ensures leads { (now seen : ℕ) → Leads
+        view.entry.circuit.now view.entry.good.now view.entry.lanes
         (not_yet_taken gate (moment changes.old now kept seen))
         (moment changes.new now kept (bit_or seen result)) }
     ensures woken { (level : Name → ℕ) → AreLevels view.entry.circuit.now level
@@ -171,9 +174,9 @@ fn evaluate_level(
     found
 }
 
-/// Spreads the first change of a fault, which is that of one signal in some of the lanes that are asked
-/// for. Tells lanes in which an observer shows another bit: all such lanes, or where the first hit is
-/// asked for some with the least of them.
+/// Spreads the first change of a fault, which is that of one signal in some of the lanes that are
+/// asked for. Tells lanes in which an observer shows another bit: all such lanes, or where the
+/// first hit is asked for some with the least of them.
 pub fn spread(
     view: BlockView<'_>,
     extent: Extent,
@@ -189,11 +192,14 @@ pub fn spread(
     requires first { (tests : List Test) × (block : ℕ) × (f : Fault) × IsFirstChange
         view.circuit.now tests block f view.good.now view.lanes changes.old.overlay start diff }
     ensures shown { (tests : List Test) (block : ℕ) (f : Fault) → IsFirstChange
-        view.entry.circuit.now tests block f view.entry.good.now view.entry.lanes changes.old.overlay start diff
-        → AreShown view.entry.circuit.now tests block f view.entry.good.now view.entry.lanes result }
+        view.entry.circuit.now tests block f view.entry.good.now view.entry.lanes
+        changes.old.overlay start diff → AreShown
+        view.entry.circuit.now tests block f view.entry.good.now view.entry.lanes result }
     ensures counted { (tests : List Test) (block : ℕ) (f : Fault) (gates : List ℕ) → IsFirstChange
-        view.entry.circuit.now tests block f view.entry.good.now view.entry.lanes changes.old.overlay start diff
-        → AreInBlock tests block view.entry.lanes → HasStirred view.entry.circuit.now tests block f gates
+        view.entry.circuit.now tests block f view.entry.good.now view.entry.lanes
+        changes.old.overlay start diff
+        → AreInBlock tests block view.entry.lanes
+        → HasStirred view.entry.circuit.now tests block f gates
         → changes.new.evaluations + count_by (λ g. g == start) gates
         ≤ changes.old.evaluations + length gates }
     ensures grown { changes.old.evaluations ≤ changes.new.evaluations }

@@ -1,6 +1,7 @@
 //! Simulation of one fault class on one block of tests, and the workspace that it needs.
 
-ghost use Rattle.std.specs.Prelude.{◌≡◌, ◌↔◌, ◌+◌, ◌<◌, ◌≤◌, IfOk, IsTrue, List, ℕ, Some, length, slice_get};
+ghost use Rattle.std.specs.Prelude.{◌≡◌, ◌↔◌, ◌+◌, ◌<◌, ◌≤◌, IfOk, IsTrue, List, ℕ};
+ghost use Rattle.std.specs.Prelude.{Some, length, slice_get};
 ghost use Rattle.fault_model.specs.Collapse.{representatives};
 ghost use Rattle.fault_model.specs.Fault.{Fault};
 ghost use Rattle.patterns.specs.Tests.{blocks};
@@ -19,8 +20,8 @@ use patterns::Outcome;
 use std::alloc::{AllocError, Global};
 use std::marker::Model;
 
-/// Room for what a fault changes on a block: words that differ, and gates that wait. It is used again and
-/// again, and for any job with at most as many signals.
+/// Room for what a fault changes on a block: words that differ, and gates that wait. It is used
+/// again and again, and for any job with at most as many signals.
 #[derive(Drop)]
 pub struct Workspace {
     changes: Changes,
@@ -58,7 +59,8 @@ impl Workspace {
         job.circuit().signals() as usize <= self.changes.overlay.words().len()
     }
 
-    /// How often a gate was evaluated on a word since the workspace was made. It stays at the greatest u64.
+    /// How often a gate was evaluated on a word since the workspace was made. It stays at the
+    /// greatest u64.
     pub fn gate_evaluations(&self) -> u64
         ensures { result ≡ self.now.evaluations }
     {
@@ -66,22 +68,25 @@ impl Workspace {
     }
 }
 
-/// The outcome of a class on a block: `Hit(k)` with the least `k` below the block's size for which test
-/// `64 * block + k` detects the representative of the class, else `Clear`. It takes no memory.
+/// The outcome of a class on a block: `Hit(k)` with the least `k` below the block's size for which
+/// test `64 * block + k` detects the representative of the class, else `Clear`. It takes no
+/// memory.
 ///
-/// All tests of the block are simulated at once, from the fault's line on and only where words change
-/// (parallel-pattern single-fault propagation: Waicukauski, Eichelberger, Forlenza, Lindbloom and McCarthy,
-/// Fault Simulation for Structured VLSI). At most those gates are evaluated, each once, that the fault
-/// stirs: gates with a pin that sees under some test of the block another bit with the fault than without it.
-/// Where the fault turns its line under no test of the block, none is. A transition fault stirs what its
-/// line stuck at the fault's bit stirs.
+/// All tests of the block are simulated at once, from the fault's line on and only where words
+/// change (parallel-pattern single-fault propagation: Waicukauski, Eichelberger, Forlenza,
+/// Lindbloom and McCarthy, Fault Simulation for Structured VLSI). At most those gates are
+/// evaluated, each once, that the fault stirs: gates with a pin that sees under some test of the
+/// block another bit with the fault than without it. Where the fault turns its line under no test
+/// of the block, none is. A transition fault stirs what its line stuck at the fault's bit stirs.
 ///
-/// Each test is followed to the end; [`first_hit`] has the same outcome and is faster where there are hits.
+/// Each test is followed to the end; [`first_hit`] has the same outcome and is faster where there
+/// are hits.
 pub fn simulate(job: &Job, workspace: &mut Workspace, class: u32, block: u32) -> Outcome
     requires class { class < length job.now.classes.representative }
     requires block { block < blocks (length job.now.tests.tests) }
     requires fits { HasRoom workspace.old job.now }
-    ensures outcome { IsTrueOutcome job.now.list.model job.now.circuit job.now.tests.tests class block result }
+    ensures outcome { IsTrueOutcome job.now.list.model job.now.circuit
+        job.now.tests.tests class block result }
     ensures room { workspace.new.signals ≡ workspace.old.signals }
     ensures grown { workspace.old.evaluations ≤ workspace.new.evaluations }
     ensures counted { (r : Fault) (gates : List ℕ)
@@ -92,14 +97,16 @@ pub fn simulate(job: &Job, workspace: &mut Workspace, class: u32, block: u32) ->
     outcome(job, workspace, class, block, Extent::WholeBlock)
 }
 
-/// The outcome of a class on a block, as [`simulate`] gives it and within the same bound. Only the tests below
-/// the least that is known to detect the fault are followed on, so that it ends early. It is the call for
-/// lists of tests; [`simulate`] is the one whose counts do not depend on what is detected when.
+/// The outcome of a class on a block, as [`simulate`] gives it and within the same bound. Only the
+/// tests below the least that is known to detect the fault are followed on, so that it ends early.
+/// It is the call for lists of tests; [`simulate`] is the one whose counts do not depend on what
+/// is detected when.
 pub fn first_hit(job: &Job, workspace: &mut Workspace, class: u32, block: u32) -> Outcome
     requires class { class < length job.now.classes.representative }
     requires block { block < blocks (length job.now.tests.tests) }
     requires fits { HasRoom workspace.old job.now }
-    ensures outcome { IsTrueOutcome job.now.list.model job.now.circuit job.now.tests.tests class block result }
+    ensures outcome { IsTrueOutcome job.now.list.model job.now.circuit
+        job.now.tests.tests class block result }
     ensures room { workspace.new.signals ≡ workspace.old.signals }
     ensures grown { workspace.old.evaluations ≤ workspace.new.evaluations }
     ensures counted { (r : Fault) (gates : List ℕ)
@@ -115,7 +122,8 @@ fn outcome(job: &Job, workspace: &mut Workspace, class: u32, block: u32, extent:
     requires class { class < length job.now.classes.representative }
     requires block { block < blocks (length job.now.tests.tests) }
     requires fits { HasRoom workspace.old job.now }
-    ensures outcome { IsTrueOutcome job.now.list.model job.now.circuit job.now.tests.tests class block result }
+    ensures outcome { IsTrueOutcome job.now.list.model job.now.circuit
+        job.now.tests.tests class block result }
     ensures room { workspace.new.signals ≡ workspace.old.signals }
     ensures grown { workspace.old.evaluations ≤ workspace.new.evaluations }
     ensures counted { (r : Fault) (gates : List ℕ)
