@@ -211,11 +211,10 @@ fn fault_free_rows(
 {
     let signals = circuit.circuit().signals() as usize;
     let same = vec![in alloc; 0u64; signals]?;
-    let mut evaluations = 0;
     let mut rows = Vec::new(alloc);
     for block in 0..tests.blocks() {
         let mut row = vec![in alloc; 0u64; signals]?;
-        evaluate(circuit, tests, block, &mut row, &same, &mut evaluations);
+        evaluate(circuit, tests, block, &mut row, &same);
         rows.push(row)?;
     }
     Ok(rows)
