@@ -1,6 +1,7 @@
 -- Words of 64 lanes: a block's bits side by side, one word a signal.
 use Rattle.std.specs.Prelude.{◌≡◌, ℕ, ◌+◌, ◌*◌, ◌<◌, ◌≤◌, ◌==◌, All, Bool, true, false, List, []}
-use Rattle.std.specs.Prelude.{length, map, Contains, Option, Some, slice_get, slice_index_or, bit_xor}
+use Rattle.std.specs.Prelude.{length, map, Contains, Option, Some, slice_get, slice_index_or}
+use Rattle.std.specs.Prelude.{bit_xor}
 use Rattle.std.specs.Int.{bit_at}
 use Rattle.std.specs.List.{enumerate_from}
 use Rattle.bench_net.specs.declared.Kind.{Kind}
