@@ -18,7 +18,7 @@ use Rattle.fault_model.specs.Fault.{Fault}
 use Rattle.fault_model.specs.Solution.{Test, value, under}
 use Rattle.fault_model.proofs.Public.{Driven, driven, IsSource, definition-signal, source_definition, source_place}
 use Rattle.patterns.specs.Tests.{IsWord, as_number, bit}
-use Rattle.block_sim.specs.Words.{lane, pin_bits, IsSignalWord, ArePins}
+use Rattle.block_sim.specs.Words.{lane, pin_bits, IsSignalWord}
 use Rattle.block_sim.proofs.Bridge.{pins_named}
 
 pub nothing : {X : Type 0} (x : X) → None ≡ Some x → ⊥
@@ -107,15 +107,6 @@ pins_some c s kind pins circuit e = go (gate_at c s kind pins e)
         let h : 0 < length g.args = arity_some kind g.args (circuit.arities g.name kind g.args (contained c (Gate g.name kind g.args) g.stands)) in
         let same : length pins ≡ length g.args = ap length (sym g.reads) ∙ length-map g.args (signal c) in
         omega (arith, h, same)
-
-pub pins_are : (c : List Statement) (s : ℕ) (kind : Kind) (pins good delta : List ℕ) → IsCircuit c → gate_of c s ≡ Some (kind, pins) → length (names c) ≤ length good → length good ≤ length delta
-    → ArePins pins good delta
-pins_are c s kind pins good delta circuit e words room = record {
-  some = pins_some c s kind pins circuit e;
-  few = pins_few c s kind pins circuit e;
-  within = λ k d lt. (let low = pins_within c s kind pins circuit.well_formed e k d lt in omega (arith, low, words));
-  room = room;
-}
 
 module _ (c : List Statement) (s : ℕ) (well : IsWellFormed c) (within : s < length (names c)) where
   -- a signal that is no gate's is a source, at one place

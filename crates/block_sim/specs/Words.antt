@@ -1,13 +1,12 @@
 -- Words of 64 lanes: a block's bits side by side, one word a signal.
-use Rattle.std.specs.Prelude.{◌≡◌, ℕ, ◌+◌, ◌*◌, ◌<◌, ◌≤◌, ◌==◌, All, Bool, true, false, List, []}
-use Rattle.std.specs.Prelude.{length, map, Contains, Option, Some, slice_get, slice_index_or}
-use Rattle.std.specs.Prelude.{bit_xor}
+use Rattle.std.specs.Prelude.{◌≡◌, ℕ, ◌+◌, ◌*◌, ◌<◌, ◌==◌, Bool, true, false, List, [], length, map}
+use Rattle.std.specs.Prelude.{Contains, Option, Some, slice_get, slice_index_or, bit_xor}
 use Rattle.std.specs.Int.{bit_at}
 use Rattle.std.specs.List.{enumerate_from}
 use Rattle.bench_net.specs.declared.Kind.{Kind}
 use Rattle.bench_net.specs.Statement.{Name, Statement, Gate}
 use Rattle.bench_net.specs.Scan.{names, signal, name_of, sources}
-use Rattle.bench_net.specs.Circuit.{IsCircuit, max_sinks}
+use Rattle.bench_net.specs.Circuit.{IsCircuit}
 use Rattle.fault_model.specs.declared.Line.TheVariants as line
 use Rattle.fault_model.specs.Fault.{Fault}
 use Rattle.fault_model.specs.Solution.{Test, Solves, under, value, pins_see}
@@ -59,13 +58,6 @@ abbrev pub pin_bits : Option Fault → ℕ → List ℕ → List ℕ → List �
 pin_bits f gate pins words delta k =
     map (λ at. under f (line.Pin gate at.0) (lane (overlaid words delta at.1) k))
     (enumerate_from 0 pins)
-
--- a gate has a pin and not too many, and each reads a word that there is
-pub record ArePins (pins good delta : List ℕ) : Type 0 where
-  pub some : 0 < length pins
-  pub few : length pins ≤ max_sinks
-  pub within : All (λ p. p < length good) pins
-  pub room : length good ≤ length delta
 
 -- the outcome names the least lane of a word that is 1
 abbrev pub IsLeastLane : ℕ → Outcome → Type 0

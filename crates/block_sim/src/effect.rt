@@ -17,7 +17,7 @@ use crate::changes::Changes;
 use crate::look_back::carried;
 use crate::spread::{Extent, spread};
 use crate::view::BlockView;
-use crate::words::{Stuck, Words, evaluate_gate};
+use crate::words::{Stuck, evaluate_gate};
 use fault_model::Line;
 
 /// Of the lanes that are asked for those in which some observer shows another bit with the fault
@@ -79,11 +79,9 @@ fn gate_change(view: BlockView<'_>, fault: Stuck, gate: u32, changes: &mut Chang
 {
     match view.circuit.gate_of(gate) {
         Some(line) => {
-            let words = Words {
-                good: view.good,
-                delta: changes.overlay.words(),
-            };
-            let word = evaluate_gate(line, gate, Some(fault), words, &mut changes.evaluations);
+            let delta = changes.overlay.words();
+            let evaluations = &mut changes.evaluations;
+            let word = evaluate_gate(line, gate, Some(fault), view.good, delta, evaluations);
             (word ^ view.good[gate as usize]) & view.lanes
         }
         None => unreachable!(),

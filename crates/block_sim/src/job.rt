@@ -211,10 +211,11 @@ fn fault_free_rows(
 {
     let signals = circuit.circuit().signals() as usize;
     let same = vec![in alloc; 0u64; signals]?;
+    let mut evaluations = 0;
     let mut rows = Vec::new(alloc);
     for block in 0..tests.blocks() {
         let mut row = vec![in alloc; 0u64; signals]?;
-        evaluate(circuit, tests, block, &mut row, &same);
+        evaluate(circuit, tests, block, &mut row, &same, &mut evaluations);
         rows.push(row)?;
     }
     Ok(rows)

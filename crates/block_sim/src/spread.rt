@@ -24,7 +24,7 @@ use crate::block_lanes::lanes_below;
 use crate::changes::Changes;
 use crate::flat::{FlatCircuit, Reader};
 use crate::view::BlockView;
-use crate::words::{Words, evaluate_gate};
+use crate::words::evaluate_gate;
 use event_queue::Buckets;
 
 /// How far the lanes of a block are followed.
@@ -127,11 +127,8 @@ fn evaluate_waiting(view: BlockView<'_>, kept: u64, gate: u32, changes: &mut Cha
     }
     match view.circuit.gate_of(gate) {
         Some(line) => {
-            let words = Words {
-                good: view.good,
-                delta: changes.overlay.words(),
-            };
-            let word = evaluate_gate(line, gate, None, words, &mut changes.evaluations);
+            let delta = changes.overlay.words();
+            let word = evaluate_gate(line, gate, None, view.good, delta, &mut changes.evaluations);
             let diff = (word ^ view.good[gate as usize]) & kept;
             if diff == 0 {
                 return 0;

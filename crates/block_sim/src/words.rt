@@ -7,12 +7,12 @@ ghost use Rattle.std.specs.Prelude.{◌≡◌, ℕ, ◌+◌, ◌-◌, ◌^◌, �
 ghost use Rattle.std.specs.Prelude.{slice_get, slice_index_or};
 ghost use Rattle.std.specs.List.{list_all};
 ghost use Rattle.bench_net.specs.Scan.{names, sources, name_of, gate_of};
-ghost use Rattle.bench_net.specs.Circuit.{IsCircuit};
+ghost use Rattle.bench_net.specs.Circuit.{IsCircuit, max_sinks};
 ghost use Rattle.fault_model.specs.declared.Line.TheVariants.{Pin};
 ghost use Rattle.fault_model.specs.Solution.{is_odd, value, under};
 ghost use Rattle.patterns.specs.Tests.{IsWord, blocks};
 ghost use Rattle.block_sim.specs.Forms.{IsFormOf, turned};
-ghost use Rattle.block_sim.specs.Words.{lane, overlaid, pin_bits, ArePins, AreWords, IsSignalWord};
+ghost use Rattle.block_sim.specs.Words.{lane, overlaid, pin_bits, AreWords, IsSignalWord};
 ghost use Rattle.block_sim.specs.Stuck.{fault_of};
 
 use crate::block_lanes::in_each_lane;
@@ -53,29 +53,30 @@ fn seen(fault: Option<Stuck>, own: Line, word: u64) -> u64
     }
 }
 
-/// The words that gates read: a word for each signal, and the lanes in which it differs.
-#[derive(Clone, Copy)]
-pub struct Words<'a> {
-    pub good: &'a [u64],
-    pub delta: &'a [u64],
-}
-
 /// The word that a pin of a gate reads: that of its signal, turned in the lanes in which that
 /// differs, or the stuck bit where the fault is on the pin.
 #[inline(always)]
-fn pin_word(line: Gate<'_>, gate: u32, place: usize, fault: Option<Stuck>, words: Words<'_>) -> u64
+fn pin_word(
+    line: Gate<'_>,
+    gate: u32,
+    place: usize,
+    fault: Option<Stuck>,
+    words: &[u64],
+    delta: &[u64],
+) -> u64
     requires place { place < length line.pins.now }
-    requires pins { ArePins line.pins.now words.good.now words.delta.now }
+    requires pins_in { All (λ p. p < length words.now) line.pins.now }
+    requires same { length words.now ≤ length delta.now }
+    requires few { length line.pins.now ≤ max_sinks }
     ensures { (k : ℕ) → k < 64 → lane result k ≡ under (fault_of fault) (Pin gate place)
-        (lane (overlaid words.entry.good.now words.entry.delta.now
-        (slice_index_or line.entry.pins.now place 0)) k) }
+        (lane (overlaid words.now delta.now (slice_index_or line.entry.pins.now place 0)) k) }
 {
     let own = Line::Pin {
         gate,
         pin: place as u32,
     };
     let signal = line.pins[place] as usize;
-    seen(fault, own, words.good[signal] ^ words.delta[signal])
+    seen(fault, own, words[signal] ^ delta[signal])
 }
 
 /// What the words of a gate's pins come to: their AND, of each turned where the form asks for that,
@@ -89,72 +90,63 @@ struct Folds {
 /// What the words of a gate's pins come to. The first and the last are read apart, so that a gate
 /// of one pin or two, as most are, takes no turn of the loop: which of the two it is isn't asked.
 #[inline(always)]
-fn folds_of(line: Gate<'_>, gate: u32, fault: Option<Stuck>, words: Words<'_>) -> Folds
-    requires pins { ArePins line.pins.now words.good.now words.delta.now }
+fn folds_of(line: Gate<'_>, gate: u32, fault: Option<Stuck>, words: &[u64], delta: &[u64]) -> Folds
+    requires some { 0 < length line.pins.now }
+    requires pins_in { All (λ p. p < length words.now) line.pins.now }
+    requires same { length words.now ≤ length delta.now }
+    requires few { length line.pins.now ≤ max_sinks }
     ensures all { (k : ℕ) → k < 64
         → lane result.all k ≡ list_all (λ b. turned line.entry.form.turns_pins b)
-        (pin_bits (fault_of fault) gate line.entry.pins.now
-        words.entry.good.now words.entry.delta.now k) }
+        (pin_bits (fault_of fault) gate line.entry.pins.now words.now delta.now k) }
     ensures odd { (k : ℕ) → k < 64 → lane result.odd k
-        ≡ is_odd (pin_bits (fault_of fault) gate line.entry.pins.now
-        words.entry.good.now words.entry.delta.now k) }
+        ≡ is_odd (pin_bits (fault_of fault) gate line.entry.pins.now words.now delta.now k) }
 {
     let turned = in_each_lane(line.form.turns_pins);
     let last = line.pins.len() - 1;
-    let first = pin_word(line, gate, 0, fault, words);
+    let first = pin_word(line, gate, 0, fault, words, delta);
     let mut all = first ^ turned;
     let mut odd = first;
     for place in 1..last {
-        let word = pin_word(line, gate, place, fault, words);
+        let word = pin_word(line, gate, place, fault, words, delta);
         all &= word ^ turned;
         odd ^= word;
     }
-    let word = pin_word(line, gate, last, fault, words);
+    let word = pin_word(line, gate, last, fault, words, delta);
     Folds {
         all: all & (word ^ turned),
         odd: odd ^ (word & in_each_lane(last > 0)),
     }
 }
 
-/// The word of a gate, by the words that its pins read. No other function evaluates a gate.
+/// Evaluates a gate on a word, and counts it. No other function evaluates a gate.
 #[inline(always)]
-fn gate_word(line: Gate<'_>, gate: u32, fault: Option<Stuck>, words: Words<'_>) -> u64
+pub fn evaluate_gate(
+    line: Gate<'_>,
+    gate: u32,
+    fault: Option<Stuck>,
+    words: &[u64],
+    delta: &[u64],
+    evaluations: &mut u64,
+) -> u64
     requires form { IsFormOf line.kind line.form }
-    requires pins { ArePins line.pins.now words.good.now words.delta.now }
-    ensures { (k : ℕ) → k < 64
+    requires some { 0 < length line.pins.now }
+    requires pins_in { All (λ p. p < length words.now) line.pins.now }
+    requires same { length words.now ≤ length delta.now }
+    requires few { length line.pins.now ≤ max_sinks }
+    ensures value { (k : ℕ) → k < 64
         → lane result k ≡ value line.entry.kind
-        (pin_bits (fault_of fault) gate line.entry.pins.now
-        words.entry.good.now words.entry.delta.now k) }
+        (pin_bits (fault_of fault) gate line.entry.pins.now words.now delta.now k) }
+    ensures grown { evaluations.old ≤ evaluations.new }
+    ensures counted { evaluations.new ≡ min (evaluations.old + 1) (2 ^ 64 - 1) }
 {
-    let folds = folds_of(line, gate, fault, words);
+    *evaluations = evaluations.saturating_add(1);
+    let folds = folds_of(line, gate, fault, words, delta);
     let word = if line.form.is_xor {
         folds.odd
     } else {
         folds.all
     };
     word ^ in_each_lane(line.form.turns)
-}
-
-/// Evaluates a gate on a word, and counts it.
-#[inline(always)]
-pub fn evaluate_gate(
-    line: Gate<'_>,
-    gate: u32,
-    fault: Option<Stuck>,
-    words: Words<'_>,
-    evaluations: &mut u64,
-) -> u64
-    requires form { IsFormOf line.kind line.form }
-    requires pins { ArePins line.pins.now words.good.now words.delta.now }
-    ensures value { (k : ℕ) → k < 64
-        → lane result k ≡ value line.entry.kind
-        (pin_bits (fault_of fault) gate line.entry.pins.now
-        words.entry.good.now words.entry.delta.now k) }
-    ensures grown { evaluations.old ≤ evaluations.new }
-    ensures counted { evaluations.new ≡ min (evaluations.old + 1) (2 ^ 64 - 1) }
-{
-    *evaluations = evaluations.saturating_add(1);
-    gate_word(line, gate, fault, words)
 }
 
 /// The word that a block's tests give a source.
@@ -174,34 +166,41 @@ fn source_word(circuit: &Circuit, tests: &Tests, block: u32, signal: u32) -> u64
 }
 
 /// The fault-free word of one signal, from the tests or from the words of the signals that its
-/// gate reads. No word differs.
+/// gate reads. No word differs from itself: `same` is all 0.
 fn signal_word(
     circuit: &FlatCircuit,
     tests: &Tests,
     block: u32,
-    words: Words<'_>,
+    words: &[u64],
+    same: &[u64],
     signal: u32,
+    evaluations: &mut u64,
 ) -> u64
     requires circuit { IsCircuit circuit.now }
     requires signal { signal < length (names circuit.now) }
-    requires words { length (names circuit.now) ≤ length words.good.now }
-    requires room { length words.good.now ≤ length words.delta.now }
-    requires same { All (λ word. word ≡ 0) words.delta.now }
+    requires words { length (names circuit.now) ≤ length words.now }
+    requires room { length words.now ≤ length same.now }
+    requires same { All (λ word. word ≡ 0) same.now }
     requires width { tests.now.width ≡ length (sources circuit.now) }
     requires block { block < blocks (length tests.now.tests) }
-    ensures { IsSignalWord circuit.now tests.now.tests block None
-        words.entry.good.now signal result }
+    ensures { IsSignalWord circuit.now tests.now.tests block None words.now signal result }
 {
     match circuit.gate_of(signal) {
-        Some(gate) => gate_word(gate, signal, None, words),
+        Some(gate) => evaluate_gate(gate, signal, None, words, same, evaluations),
         None => source_word(circuit.circuit(), tests, block, signal),
     }
 }
 
 /// Writes the fault-free word of every signal on a block, at the signal's number. It goes in level
-/// order, so a gate comes after the signals that it reads. No word differs from itself: `same` is
-/// all 0.
-pub fn evaluate(circuit: &FlatCircuit, tests: &Tests, block: u32, words: &mut [u64], same: &[u64])
+/// order, so a gate comes after the signals that it reads.
+pub fn evaluate(
+    circuit: &FlatCircuit,
+    tests: &Tests,
+    block: u32,
+    words: &mut [u64],
+    same: &[u64],
+    evaluations: &mut u64,
+)
     requires circuit { IsCircuit circuit.now }
     requires words { length (names circuit.now) ≤ length words.old }
     requires room { length words.old ≤ length same.now }
@@ -214,11 +213,7 @@ pub fn evaluate(circuit: &FlatCircuit, tests: &Tests, block: u32, words: &mut [u
     let order = circuit.circuit().in_level_order();
     for signal in order {
         let signal = *signal;
-        let known = Words {
-            good: words,
-            delta: same,
-        };
-        let word = signal_word(circuit, tests, block, known, signal);
+        let word = signal_word(circuit, tests, block, words, same, signal, evaluations);
         words[signal as usize] = word;
     }
 }

@@ -1,9 +1,9 @@
-use Rattle.std.proofs.Common.{◌≡◌, ◌<◌, ℕ, sym, ◌∙◌, ap, length, arith}
+use Rattle.std.proofs.Common.{◌≡◌, ◌<◌, ℕ, sym, ◌∙◌, ap, arith}
 use Rattle.std.specs.Prelude.{None, slice_index_or, bit_and, bit_xor}
 use Rattle.fault_model.specs.Solution.{value}
 use Rattle.block_sim.specs.Events.{level_at}
 use Rattle.block_sim.specs.Words.{lane, pin_bits}
-use Rattle.block_sim.proofs.Equations.{pins_are}
+use Rattle.block_sim.proofs.Equations.{pins_within, pins_few, pins_some}
 use Rattle.block_sim.proofs.Moments.{leads_changed, leads_same, leads_skipped}
 use Rattle.block_sim.proofs.Rises.{reads_rise}
 use Rattle.block_sim.proofs.Spreading.{woken_above}
@@ -16,11 +16,19 @@ returns-then-kept-eq0-clause-leads c = λ now seen.
     leads_skipped c.args.view.circuit.now c.args.view.good.now c.args.view.lanes old.overlay old.buckets.at old.evaluations now c.args.kept seen c.args.gate
     (omega (arith, c.requires.taken.within, c.requires.room.gates)) c.requires.taken.waits c.if-kept-eq0.true
 
-pub evaluate_gate-word-requires-clause-pins : goal.evaluate_gate-word-requires-clause-pins
-evaluate_gate-word-requires-clause-pins c =
-    pins_are c.args.view.circuit.now c.args.gate c.in-Some.line.kind c.in-Some.line.pins.now c.args.view.good.now c.words.result.now c.requires.view.circuit
-    (sym c.in-Some.ensures.gate) (omega (arith, c.requires.view.count))
-    (let same = ap length c.words.ensures in omega (arith, same, c.requires.view.count, c.requires.room.overlay))
+pub evaluate_gate-word-requires-clause-pins_in : goal.evaluate_gate-word-requires-clause-pins_in
+evaluate_gate-word-requires-clause-pins_in c =
+    λ k d lt.
+    let within = pins_within c.args.view.circuit.now c.args.gate c.in-Some.line.kind c.in-Some.line.pins.now c.requires.view.circuit.well_formed (sym c.in-Some.ensures.gate) k d lt in
+    omega (arith, within, c.requires.view.count)
+
+pub evaluate_gate-word-requires-clause-some : goal.evaluate_gate-word-requires-clause-some
+evaluate_gate-word-requires-clause-some c =
+    pins_some c.args.view.circuit.now c.args.gate c.in-Some.line.kind c.in-Some.line.pins.now c.requires.view.circuit (sym c.in-Some.ensures.gate)
+
+pub evaluate_gate-word-requires-clause-few : goal.evaluate_gate-word-requires-clause-few
+evaluate_gate-word-requires-clause-few c =
+    pins_few c.args.view.circuit.now c.args.gate c.in-Some.line.kind c.in-Some.line.pins.now c.requires.view.circuit (sym c.in-Some.ensures.gate)
 
 pub returns-then-diff-eq0-clause-leads : goal.returns-then-diff-eq0-clause-leads
 returns-then-diff-eq0-clause-leads c = λ now seen.
@@ -32,7 +40,7 @@ returns-then-diff-eq0-clause-leads c = λ now seen.
     let own = c.in-Some.line in
     let valued : (k : ℕ) → k < 64 → lane word k ≡ value own.kind (pin_bits None gate own.pins.now good old.overlay k) =
     λ k lt. c.evaluate_gate-word.ensures.value k lt
-    ∙ ap (λ d. value own.kind (pin_bits None gate own.pins.now good d k)) c.words.ensures in
+    ∙ ap (λ d. value own.kind (pin_bits None gate own.pins.now good d k)) c.words-delta.ensures in
     leads_same circuit good c.args.view.lanes c.requires.view.circuit.well_formed old.overlay old.buckets.at old.evaluations c.evaluate_gate-word.new.evaluations now c.args.kept seen gate
     (omega (arith, c.requires.taken.within, c.requires.room.gates)) (omega (arith, c.requires.taken.within, c.requires.room.overlay)) c.requires.taken.waits
     c.evaluate_gate-word.ensures.grown (omega (arith, c.evaluate_gate-word.ensures.counted)) own.kind own.pins.now (sym c.in-Some.ensures.gate) word valued
@@ -48,7 +56,7 @@ returns-clause-leads c = λ now seen.
     let own = c.in-Some.line in
     let valued : (k : ℕ) → k < 64 → lane word k ≡ value own.kind (pin_bits None gate own.pins.now good old.overlay k) =
     λ k lt. c.evaluate_gate-word.ensures.value k lt
-    ∙ ap (λ d. value own.kind (pin_bits None gate own.pins.now good d k)) c.words.ensures in
+    ∙ ap (λ d. value own.kind (pin_bits None gate own.pins.now good d k)) c.words-delta.ensures in
     let diff = bit_and (bit_xor word (slice_index_or good gate 0)) c.args.kept in
     let counted = c.change.ensures.evaluations in
     leads_changed circuit good c.args.view.lanes c.requires.view.circuit.well_formed old.overlay old.buckets.at old.evaluations c.change.new.changes.evaluations now c.args.kept seen gate
