@@ -27,6 +27,7 @@ mod Seen
 mod Deep
 mod Started
 mod Finish
+mod Moments
 mod Carried
 mod TrueTable
 pub mod Public

@@ -1,5 +1,6 @@
 -- Words that differ from the fault-free ones, and the equations of the signals one by one.
-use Rattle.std.specs.Prelude.{◌≡◌, ◌≢◌, ◌⊎◌, ℕ, ◌+◌, Bool, false, List, Contains, Option, Some, slice_get, slice_index_or}
+use Rattle.std.specs.Prelude.{◌≡◌, ◌≢◌, ◌⊎◌, ℕ, ◌+◌, ◌<◌, Bool, false, List, Contains, Option, Some}
+use Rattle.std.specs.Prelude.{slice_get, slice_index_or}
 use Rattle.std.specs.Option.{option_map_or}
 use Rattle.bench_net.specs.declared.Kind.{Kind}
 use Rattle.bench_net.specs.declared.Sink.{Sink}
@@ -15,9 +16,13 @@ abbrev pub bits_of : List Statement → List ℕ → List ℕ → ℕ → Name �
 bits_of c good delta k n = lane (overlaid good delta (signal c n)) k
 
 -- the equation of one signal
-pub record HasEquation (c : List Statement) (t : Test) (f : Option Fault) (v : Name → Bool) (s : ℕ) : Type 0 where
-  pub source : (i : ℕ) (n : Name) → signal c n ≡ s → slice_get (sources c) i ≡ Some n → v n ≡ under f (line.Stem s) (slice_index_or t i false)
-  pub gate : (n : Name) (kind : Kind) (args : List Name) → signal c n ≡ s → Contains c (Gate n kind args) → v n ≡ under f (line.Stem s) (value kind (pins_see f v s args))
+pub record HasEquation (c : List Statement) (t : Test) (f : Option Fault)
+    (v : Name → Bool) (s : ℕ) : Type 0 where
+  pub source : (i : ℕ) (n : Name) → signal c n ≡ s → slice_get (sources c) i ≡ Some n
+      → v n ≡ under f (line.Stem s) (slice_index_or t i false)
+  pub gate : (n : Name) (kind : Kind) (args : List Name) → signal c n ≡ s
+      → Contains c (Gate n kind args)
+      → v n ≡ under f (line.Stem s) (value kind (pins_see f v s args))
 
 -- the gate reads the signal
 pub record Reads (c : List Statement) (g s : ℕ) : Type 0 where
@@ -42,7 +47,13 @@ level_at c level s = option_map_or level (name_of c s) 0
 -- The readers of a signal wait, each at its level, and no other gate waits that did not.
 pub record AreWoken (c : List Statement) (lv : ℕ → ℕ) (s : ℕ) (before after : List ℕ) : Type 0 where
   pub readers : (r : ℕ) → Reads c r s → slice_index_or after r 0 ≢ 0
-  pub only : (r : ℕ) → (slice_index_or after r 0 ≡ slice_index_or before r 0) ⊎ (Reads c r s × (slice_index_or before r 0 ≡ 0) × (slice_index_or after r 0 ≡ lv r + 1))
+  pub only : (r : ℕ) → (slice_index_or after r 0 ≡ slice_index_or before r 0)
+      ⊎ (Reads c r s × (slice_index_or before r 0 ≡ 0) × (slice_index_or after r 0 ≡ lv r + 1))
+
+-- a gate waits as before, or lies above the signal and waits at its level
+abbrev pub IsWokenAbove : (ℕ → ℕ) → ℕ → List ℕ → List ℕ → Type 0
+IsWokenAbove lv s before after = (r : ℕ) → (slice_index_or after r 0 ≡ slice_index_or before r 0)
+    ⊎ ((lv s < lv r) × (slice_index_or after r 0 ≡ lv r + 1))
 
 -- an observer observes the signal
 abbrev pub IsObserved : List Statement → ℕ → Type 0

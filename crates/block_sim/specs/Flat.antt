@@ -1,5 +1,7 @@
--- A circuit in flat lists: a row for each signal, with parts of the lists of all pins and of all readers.
-use Rattle.std.specs.Prelude.{◌≡◌, ◌↔◌, ◌++◌, ℕ, ◌≤◌, All, List, Contains, IfSome, IsTrue, Option, Some, length, map, slice_get, slice_range}
+-- A circuit in flat lists: a row for each signal, with parts of the lists of all pins and of all
+-- readers.
+use Rattle.std.specs.Prelude.{◌≡◌, ◌↔◌, ◌++◌, ℕ, ◌≤◌, All, List, Contains, IfSome, IsTrue, Option}
+use Rattle.std.specs.Prelude.{Some, length, map, slice_get, slice_range}
 use Rattle.std.specs.Option.{option_map}
 use Rattle.bench_net.specs.Statement.{Statement}
 use Rattle.bench_net.specs.Scan.{names, gate_of}
@@ -16,10 +18,13 @@ pub record AreReaders (c : List Statement) (s : ℕ) (readers : List Reader) : T
   pub all : (g : ℕ) → Reads c g s → Contains (map (λ reader. reader.gate) readers) g
 
 -- a row says what drives a signal, what reads it, its level, and whether an observer observes it
-pub record IsRow (c : List Statement) (pins : List ℕ) (readers : List Reader) (s : ℕ) (row : Row) : Type 0 where
+pub record IsRow (c : List Statement) (pins : List ℕ) (readers : List Reader) (s : ℕ) (row : Row) :
+    Type 0 where
   pub pins_in : (row.pins_start ≤ row.pins_end) × (row.pins_end ≤ length pins)
   pub readers_in : (row.readers_start ≤ row.readers_end) × (row.readers_end ≤ length readers)
-  pub driven : option_map (λ driver. (driver.kind, slice_range pins row.pins_start row.pins_end)) row.driver ≡ gate_of c s
+  pub driven :
+      option_map (λ driver. (driver.kind, slice_range pins row.pins_start row.pins_end)) row.driver
+      ≡ gate_of c s
   pub formed : IfSome row.driver (λ driver. IsFormOf driver.kind driver.form)
   pub read_by : AreReaders c s (slice_range readers row.readers_start row.readers_end)
   pub level : HasLevel c s row.level
@@ -29,16 +34,21 @@ pub record IsRow (c : List Statement) (pins : List ℕ) (readers : List Reader) 
 abbrev pub HasMore : {X : Type 0} → List X → List X → Type 0
 HasMore {X} before after = (more : List X) × (after ≡ before ++ more)
 
--- the kind and the form of the gate that drives a signal, and behind the first list the signals that its pins read
+-- the kind and the form of the gate that drives a signal, and behind the first list the signals
+-- that its pins read
 abbrev pub IsDriver : List Statement → ℕ → List ℕ → List ℕ → Option Driver → Type 0
-IsDriver c s before after driver = (more : List ℕ) × (after ≡ before ++ more) × (option_map (λ (d : Driver). (d.kind, more)) driver ≡ gate_of c s)
+IsDriver c s before after driver =
+    (more : List ℕ) × (after ≡ before ++ more)
+    × (option_map (λ (d : Driver). (d.kind, more)) driver ≡ gate_of c s)
     × IfSome driver (λ d. IsFormOf d.kind d.form)
 
 -- the rows of the first signals
 abbrev pub AreRows : List Statement → List ℕ → List Reader → List Row → Type 0
-AreRows c pins readers rows = (s : ℕ) (row : Row) → slice_get rows s ≡ Some row → IsRow c pins readers s row
+AreRows c pins readers rows = (s : ℕ) (row : Row) → slice_get rows s ≡ Some row
+    → IsRow c pins readers s row
 
 -- the lists are those of the circuit: a row for each signal
-pub record IsFlat (c : List Statement) (pins : List ℕ) (readers : List Reader) (rows : List Row) : Type 0 where
+pub record IsFlat (c : List Statement) (pins : List ℕ) (readers : List Reader) (rows : List Row) :
+    Type 0 where
   pub count : length rows ≡ length (names c)
   pub numbered : AreRows c pins readers rows

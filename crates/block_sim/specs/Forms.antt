@@ -12,7 +12,8 @@ turned turn b = if turn then not b else b
 -- the bit that a form gives for the bits of the pins
 abbrev pub form_value : Form → List Bool → Bool
 form_value form bits =
-    turned form.turns (if form.is_xor then is_odd bits else list_all (λ b. turned form.turns_pins b) bits)
+    turned form.turns
+    (if form.is_xor then is_odd bits else list_all (λ b. turned form.turns_pins b) bits)
 
 -- the form gives what the kind gives
 abbrev pub IsFormOf : Kind → Form → Type 0

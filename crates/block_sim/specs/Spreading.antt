@@ -1,5 +1,7 @@
 -- What is true at each step of a simulation by events, and what it tells.
-use Rattle.std.specs.Prelude.{◌≡◌, ◌≢◌, ℕ, ◌+◌, ◌<◌, ◌≤◌, Bool, true, false, not, ◌||◌, ◌==◌, nat_lt, List, Contains, Some, None, count_by, slice_index_or, slice_set}
+use Rattle.std.specs.Prelude.{◌≡◌, ◌≢◌, ℕ, ◌+◌, ◌<◌, ◌≤◌, Bool, true, false, not}
+use Rattle.std.specs.Prelude.{◌||◌, ◌==◌, nat_lt, List, Contains, Some, None}
+use Rattle.std.specs.Prelude.{count_by, slice_index_or, slice_set}
 use Rattle.bench_net.specs.declared.Sink.{Sink}
 use Rattle.bench_net.specs.Statement.{Name, Statement}
 use Rattle.bench_net.specs.Scan.{names, signal, observers}
@@ -9,8 +11,10 @@ use Rattle.block_sim.specs.Words.{lane, lane_bits, test_of, AreWords}
 use Rattle.block_sim.specs.Events.{bits_of, HasEquation, Reads, IsElsewhere, IsObserved}
 
 -- the equation of each signal that does not wait holds in each lane of the mask
-abbrev pub IsBalanced : List Statement → List Test → ℕ → Fault → List ℕ → ℕ → List ℕ → List ℕ → Type 0
-IsBalanced c tests block f good mask delta at = (s k : ℕ) → slice_index_or at s 0 ≡ 0 → k < 64 → lane mask k ≡ true → HasEquation c (test_of tests block k) (Some f) (bits_of c good delta k) s
+abbrev pub IsBalanced : List Statement → List Test → ℕ → Fault → List ℕ → ℕ → List ℕ → List ℕ
+    → Type 0
+IsBalanced c tests block f good mask delta at = (s k : ℕ) → slice_index_or at s 0 ≡ 0 → k < 64
+    → lane mask k ≡ true → HasEquation c (test_of tests block k) (Some f) (bits_of c good delta k) s
 
 -- the gate waits, or lies above the level
 abbrev pub is_ahead : (ℕ → ℕ) → List ℕ → ℕ → ℕ → Bool
@@ -25,44 +29,62 @@ HasTouched c delta gates = (g s : ℕ) → Reads c g s → slice_index_or delta 
 
 -- a signal has in a lane the bit that every solution with the fault gives it
 abbrev pub IsRightIn : List Statement → List Test → ℕ → Fault → List ℕ → List ℕ → ℕ → ℕ → Type 0
-IsRightIn c tests block f good delta s k = (n : Name) (v : Name → Bool) → Contains (names c) n → signal c n ≡ s → Solves c (test_of tests block k) (Some f) v → bits_of c good delta k n ≡ v n
+IsRightIn c tests block f good delta s k = (n : Name) (v : Name → Bool) → Contains (names c) n
+    → signal c n ≡ s → Solves c (test_of tests block k) (Some f) v → bits_of c good delta k n ≡ v n
 
--- Signals of the levels below are as they will be; gates of this level and above wait where a signal that they read differs. The
--- mask has the lanes, of those that are asked for, that are still followed.
-pub record IsSpreading (c : List Statement) (tests : List Test) (block : ℕ) (f : Fault) (good : List ℕ) (lanes : ℕ) (lv : ℕ → ℕ) (start mask : ℕ) (delta at : List ℕ) (level : ℕ) : Type 0 where
+-- Signals of the levels below are as they will be; gates of this level and above wait where a
+-- signal that they read differs. The mask has the lanes, of those that are asked for, that are
+-- still followed.
+pub record IsSpreading (c : List Statement) (tests : List Test) (block : ℕ) (f : Fault)
+    (good : List ℕ) (lanes : ℕ) (lv : ℕ → ℕ) (start mask : ℕ) (delta at : List ℕ) (level : ℕ) :
+    Type 0 where
   pub balanced : IsBalanced c tests block f good mask delta at
   pub narrow : (k : ℕ) → k < 64 → lane mask k ≡ true → lane lanes k ≡ true
   pub at_level : (g : ℕ) → slice_index_or at g 0 ≢ 0 → slice_index_or at g 0 ≡ lv g + 1
   pub not_below : (g : ℕ) → slice_index_or at g 0 ≢ 0 → level ≤ lv g
-  pub touched : (g : ℕ) → slice_index_or at g 0 ≢ 0 → (s : ℕ) × Reads c g s × (slice_index_or delta s 0 ≢ 0)
+  pub touched : (g : ℕ) → slice_index_or at g 0 ≢ 0
+      → (s : ℕ) × Reads c g s × (slice_index_or delta s 0 ≢ 0)
   pub waits_clear : (g : ℕ) → slice_index_or at g 0 ≢ 0 → slice_index_or delta g 0 ≡ 0
   pub above_clear : (g : ℕ) → level < lv g → slice_index_or delta g 0 ≡ 0
   pub after_start : (s : ℕ) → slice_index_or delta s 0 ≢ 0 → lv start ≤ lv s
   pub inside : (s k : ℕ) → k < 64 → lane (slice_index_or delta s 0) k ≡ true → lane lanes k ≡ true
-  pub some : (s : ℕ) → slice_index_or delta s 0 ≢ 0 → (k : ℕ) × (k < 64) × (lane (slice_index_or delta s 0) k ≡ true)
-  pub right : (s k : ℕ) → k < 64 → lane (slice_index_or delta s 0) k ≡ true → IsRightIn c tests block f good delta s k
+  pub some : (s : ℕ) → slice_index_or delta s 0 ≢ 0
+      → (k : ℕ) × (k < 64) × (lane (slice_index_or delta s 0) k ≡ true)
+  pub right : (s k : ℕ) → k < 64 → lane (slice_index_or delta s 0) k ≡ true
+      → IsRightIn c tests block f good delta s k
 
--- A lane is seen only where an observed signal differs, and each such lane of the mask is seen. A lane that was asked for and is
--- not followed any more is one that is seen, or lies above one.
+-- A lane is seen only where an observed signal differs, and each such lane of the mask is seen. A
+-- lane that was asked for and is not followed any more is one that is seen, or lies above one.
 pub record AreSeen (c : List Statement) (lanes : ℕ) (delta : List ℕ) (mask seen : ℕ) : Type 0 where
-  pub found : (k : ℕ) → k < 64 → lane seen k ≡ true → (s : ℕ) × IsObserved c s × (lane (slice_index_or delta s 0) k ≡ true)
-  pub shown : (s k : ℕ) → k < 64 → lane mask k ≡ true → IsObserved c s → lane (slice_index_or delta s 0) k ≡ true → lane seen k ≡ true
-  pub below : (k : ℕ) → k < 64 → lane lanes k ≡ true → lane mask k ≡ false → (j : ℕ) × (j ≤ k) × (lane seen j ≡ true)
+  pub found : (k : ℕ) → k < 64 → lane seen k ≡ true
+      → (s : ℕ) × IsObserved c s × (lane (slice_index_or delta s 0) k ≡ true)
+  pub shown : (s k : ℕ) → k < 64 → lane mask k ≡ true → IsObserved c s
+      → lane (slice_index_or delta s 0) k ≡ true → lane seen k ≡ true
+  pub below : (k : ℕ) → k < 64 → lane lanes k ≡ true → lane mask k ≡ false
+      → (j : ℕ) × (j ≤ k) × (lane seen j ≡ true)
 
--- The first change of a fault on stem or pin: in each lane that is asked for the start has its bit under the fault, and every
--- other equation is without it.
-pub record IsFirstChange (c : List Statement) (tests : List Test) (block : ℕ) (f : Fault) (good : List ℕ) (lanes : ℕ) (delta : List ℕ) (start diff : ℕ) : Type 0 where
+-- The first change of a fault on stem or pin: in each lane that is asked for the start has its bit
+-- under the fault, and every other equation is without it.
+pub record IsFirstChange (c : List Statement) (tests : List Test) (block : ℕ) (f : Fault)
+    (good : List ℕ) (lanes : ℕ) (delta : List ℕ) (start diff : ℕ) : Type 0 where
   pub words : AreWords c tests block None good
   pub elsewhere : (t : ℕ) → t ≢ start → IsElsewhere f t
   pub unobserved : (o : Sink × Name) → Contains (observers c) o → f.line ≢ branch o.0
-  pub first : (k : ℕ) → k < 64 → lane lanes k ≡ true → HasEquation c (test_of tests block k) (Some f) (bits_of c good (slice_set delta start diff) k) start
+  pub first : (k : ℕ) → k < 64 → lane lanes k ≡ true
+      → HasEquation c (test_of tests block k) (Some f)
+      (bits_of c good (slice_set delta start diff) k) start
 
 -- some observer shows another bit than without the fault
 abbrev pub IsApart : List Statement → Fault → List ℕ → ℕ → (Name → Bool) → Type 0
-IsApart c f good k v = (o : Sink × Name) × Contains (observers c) o × (shows None (lane_bits c good k) o ≢ shows (Some f) v o)
+IsApart c f good k v = (o : Sink × Name) × Contains (observers c) o
+    × (shows None (lane_bits c good k) o ≢ shows (Some f) v o)
 
--- In each lane that is seen every solution with the fault is apart, and in those asked for below the least seen some is not.
-pub record AreShown (c : List Statement) (tests : List Test) (block : ℕ) (f : Fault) (good : List ℕ) (lanes seen : ℕ) : Type 0 where
-  pub found : (k : ℕ) → k < 64 → lane seen k ≡ true → (lane lanes k ≡ true) × ((v : Name → Bool) → Solves c (test_of tests block k) (Some f) v → IsApart c f good k v)
+-- In each lane that is seen every solution with the fault is apart, and in those asked for below
+-- the least seen some is not.
+pub record AreShown (c : List Statement) (tests : List Test) (block : ℕ) (f : Fault) (good : List ℕ)
+    (lanes seen : ℕ) : Type 0 where
+  pub found : (k : ℕ) → k < 64 → lane seen k ≡ true
+      → (lane lanes k ≡ true)
+      × ((v : Name → Bool) → Solves c (test_of tests block k) (Some f) v → IsApart c f good k v)
   pub clear : (k : ℕ) → k < 64 → lane lanes k ≡ true → ((j : ℕ) → j ≤ k → lane seen j ≡ false)
       → (v : Name → Bool) × Solves c (test_of tests block k) (Some f) v × (IsApart c f good k v → ⊥)

@@ -1,5 +1,7 @@
--- Which gates a fault stirs on a block: those that have to be looked at to know what the fault does.
-use Rattle.std.specs.Prelude.{◌≡◌, ◌≢◌, ℕ, ◌+◌, ◌*◌, ◌<◌, Bool, List, length, Contains, Some, None, slice_get}
+-- Which gates a fault stirs on a block: those that have to be looked at to know what the fault
+-- does.
+use Rattle.std.specs.Prelude.{◌≡◌, ◌≢◌, ℕ, ◌+◌, ◌*◌, ◌<◌, Bool, true, List, length, Contains, Some}
+use Rattle.std.specs.Prelude.{None, slice_get}
 use Rattle.bench_net.specs.declared.Kind.{Kind}
 use Rattle.bench_net.specs.Statement.{Name, Statement, Gate}
 use Rattle.bench_net.specs.Scan.{signal}
@@ -7,9 +9,10 @@ use Rattle.fault_model.specs.declared.Line.TheVariants as line
 use Rattle.fault_model.specs.Fault.{Fault}
 use Rattle.fault_model.specs.Solution.{Test, Solves, sees}
 use Rattle.patterns.specs.Tests.{size_of}
+use Rattle.block_sim.specs.Words.{lane}
 
--- Under a test some pin of the gate sees another bit with the fault than without it. Of a transition fault it is the line
--- stuck at the fault's bit that counts.
+-- Under a test some pin of the gate sees another bit with the fault than without it. Of a
+-- transition fault it is the line stuck at the fault's bit that counts.
 pub record IsStirredBy (c : List Statement) (t : Test) (f : Fault) (gate : ℕ) : Type 0 where
   pub fault_free : Name → Bool
   pub faulty : Name → Bool
@@ -23,11 +26,19 @@ pub record IsStirredBy (c : List Statement) (t : Test) (f : Fault) (gate : ℕ) 
   pub stands : Contains c (Gate name kind args)
   pub number : signal c name ≡ gate
   pub at : slice_get args pin ≡ Some read
-  pub differs : sees None fault_free (line.Pin gate pin) read ≢ sees (Some f) faulty (line.Pin gate pin) read
+  pub differs : sees None fault_free (line.Pin gate pin) read
+      ≢ sees (Some f) faulty (line.Pin gate pin) read
+
+-- each of the lanes has a test of the block
+abbrev pub AreInBlock : List Test → ℕ → ℕ → Type 0
+AreInBlock tests block lanes = (k : ℕ) → k < 64 → lane lanes k ≡ true
+    → k < size_of (length tests) block
 
 -- some test of the block stirs the gate
 abbrev pub IsStirred : List Statement → List Test → ℕ → Fault → ℕ → Type 0
-IsStirred c tests block f gate = (k : ℕ) × (t : Test) × (k < size_of (length tests) block) × (slice_get tests (64 * block + k) ≡ Some t) × IsStirredBy c t f gate
+IsStirred c tests block f gate =
+    (k : ℕ) × (t : Test) × (k < size_of (length tests) block)
+    × (slice_get tests (64 * block + k) ≡ Some t) × IsStirredBy c t f gate
 
 -- the list names each gate that the fault stirs on the block
 abbrev pub HasStirred : List Statement → List Test → ℕ → Fault → List ℕ → Type 0

@@ -1,10 +1,12 @@
 -- Words of 64 lanes: a block's bits side by side, one word a signal.
-use Rattle.std.specs.Prelude.{◌≡◌, ℕ, ◌+◌, ◌*◌, ◌<◌, ◌==◌, Bool, true, false, List, [], map, Contains, Option, Some, slice_get, slice_index_or, bit_xor}
+use Rattle.std.specs.Prelude.{◌≡◌, ℕ, ◌+◌, ◌*◌, ◌<◌, ◌==◌, Bool, true, false, List, [], length, map}
+use Rattle.std.specs.Prelude.{Contains, Option, Some, slice_get, slice_index_or, bit_xor}
 use Rattle.std.specs.Int.{bit_at}
 use Rattle.std.specs.List.{enumerate_from}
 use Rattle.bench_net.specs.declared.Kind.{Kind}
 use Rattle.bench_net.specs.Statement.{Name, Statement, Gate}
-use Rattle.bench_net.specs.Scan.{signal, name_of, sources}
+use Rattle.bench_net.specs.Scan.{names, signal, name_of, sources}
+use Rattle.bench_net.specs.Circuit.{IsCircuit}
 use Rattle.fault_model.specs.declared.Line.TheVariants as line
 use Rattle.fault_model.specs.Fault.{Fault}
 use Rattle.fault_model.specs.Solution.{Test, Solves, under, value, pins_see}
@@ -27,14 +29,24 @@ test_of tests block k = slice_index_or tests (64 * block + k) []
 -- The words are those of a block under a fault, or under none: in each lane they solve the circuit
 -- under the lane's test.
 abbrev pub AreWords : List Statement → List Test → ℕ → Option Fault → List ℕ → Type 0
-AreWords c tests block f words = (k : ℕ) → k < 64 → Solves c (test_of tests block k) f (lane_bits c words k)
+AreWords c tests block f words = (k : ℕ) → k < 64
+    → Solves c (test_of tests block k) f (lane_bits c words k)
 
--- The equation of one signal on words: in each lane a source has the bit of the lane's test and a gate's
--- signal the bit that its kind gives for what its pins see in that lane, but for a fault on its stem.
-pub record IsSignalWord (c : List Statement) (tests : List Test) (block : ℕ) (f : Option Fault) (words : List ℕ) (s word : ℕ) : Type 0 where
-  pub source : (i : ℕ) (n : Name) (k : ℕ) → k < 64 → name_of c s ≡ Some n → slice_get (sources c) i ≡ Some n
+-- a circuit, and a word for each of its signals
+pub record HasWords (c : List Statement) (words : List ℕ) : Type 0 where
+  pub circuit : IsCircuit c
+  pub count : length words ≡ length (names c)
+
+-- The equation of one signal on words: in each lane a source has the bit of the lane's test and a
+-- gate's signal the bit that its kind gives for what its pins see in that lane, but for a fault on
+-- its stem.
+pub record IsSignalWord (c : List Statement) (tests : List Test) (block : ℕ) (f : Option Fault)
+    (words : List ℕ) (s word : ℕ) : Type 0 where
+  pub source : (i : ℕ) (n : Name) (k : ℕ) → k < 64 → name_of c s ≡ Some n
+      → slice_get (sources c) i ≡ Some n
       → lane word k ≡ under f (line.Stem s) (bit tests (64 * block + k) i)
-  pub gate : (n : Name) (kind : Kind) (args : List Name) (k : ℕ) → k < 64 → signal c n ≡ s → Contains c (Gate n kind args)
+  pub gate : (n : Name) (kind : Kind) (args : List Name) (k : ℕ) → k < 64 → signal c n ≡ s
+      → Contains c (Gate n kind args)
       → lane word k ≡ under f (line.Stem s) (value kind (pins_see f (lane_bits c words k) s args))
 
 -- the word of a signal: the one that is known, turned in the lanes in which it differs
@@ -43,9 +55,12 @@ overlaid words delta s = bit_xor (slice_index_or words s 0) (slice_index_or delt
 
 -- what the pins of a gate, given by the signals that they read, see in a lane
 abbrev pub pin_bits : Option Fault → ℕ → List ℕ → List ℕ → List ℕ → ℕ → List Bool
-pin_bits f gate pins words delta k = map (λ at. under f (line.Pin gate at.0) (lane (overlaid words delta at.1) k)) (enumerate_from 0 pins)
+pin_bits f gate pins words delta k =
+    map (λ at. under f (line.Pin gate at.0) (lane (overlaid words delta at.1) k))
+    (enumerate_from 0 pins)
 
 -- the outcome names the least lane of a word that is 1
 abbrev pub IsLeastLane : ℕ → Outcome → Type 0
-IsLeastLane word (Hit k) = (k < 64) × (lane word k ≡ true) × ((lower : ℕ) → lower < k → lane word lower ≡ false)
+IsLeastLane word (Hit k) = (k < 64) × (lane word k ≡ true)
+    × ((lower : ℕ) → lower < k → lane word lower ≡ false)
 IsLeastLane word Clear = (k : ℕ) → k < 64 → lane word k ≡ false

@@ -1,6 +1,7 @@
 //! A job: a circuit with its faults, its classes and its tests.
 
-ghost use Rattle.std.specs.Prelude.{◌≡◌, ◌↔◌, ◌<◌, ◌≤◌, Contains, List, ℕ, None, length, map, Err, IfOk, Some, slice_get};
+ghost use Rattle.std.specs.Prelude.{◌≡◌, ◌↔◌, ◌<◌, ◌≤◌, Contains, List, ℕ, None, length, map, Err};
+ghost use Rattle.std.specs.Prelude.{IfOk, Some, slice_get};
 ghost use Rattle.bench_net.specs.Scan.{names, sources};
 ghost use Rattle.bench_net.specs.Circuit.{IsCircuit};
 ghost use Rattle.fault_model.specs.Fault.{faults};
@@ -59,17 +60,29 @@ impl Model for Job {
 
     ghost Value = { Parts };
 
-    ghost view = { λ j. record { circuit = j.flat; list = j.faults; classes = j.classes; tests = j.tests } };
+    ghost view = { λ j. record {
+      circuit = j.flat;
+      list = j.faults;
+      classes = j.classes;
+      tests = j.tests;
+    } };
 
-    ghost invariant = { λ j. IsJob (record { circuit = j.flat; list = j.faults; classes = j.classes; tests = j.tests }) (map (λ row. row.items) j.rows.items) };
+    ghost invariant = { λ j. IsJob (record {
+      circuit = j.flat;
+      list = j.faults;
+      classes = j.classes;
+      tests = j.tests;
+    })
+        (map (λ row. row.items) j.rows.items) };
 }
 
 impl Job {
-    /// A job of parts that belong together: the faults and the classes are those of the circuit, and the
-    /// tests have its width. It takes a word for each signal and block.
+    /// A job of parts that belong together: the faults and the classes are those of the circuit,
+    /// and the tests have its width. It takes a word for each signal and block.
     ///
-    /// Refused as `TooManyPieces` exactly where classes times blocks are more than [`patterns::MAX_PIECES`], before
-    /// memory is asked for, and as `Memory` where some was refused.
+    /// Refused as `TooManyPieces` exactly where classes times blocks are more than
+    /// [`patterns::MAX_PIECES`], before memory is asked for, and as `Memory` where some was
+    /// refused.
     pub fn new(
         alloc: Global,
         circuit: Circuit,
@@ -77,10 +90,26 @@ impl Job {
         classes: Classes,
         tests: Tests,
     ) -> Result<Job, JobFault>
-        requires { BelongTogether (record { circuit = circuit; list = faults; classes = classes; tests = tests }) }
-        ensures too_many { (result ≡ Err JobFault.TooManyPieces) ↔ (max_pieces < piece_count (record { circuit = circuit; list = faults; classes = classes; tests = tests })) }
+        requires { BelongTogether (record {
+          circuit = circuit;
+          list = faults;
+          classes = classes;
+          tests = tests;
+        }) }
+        ensures too_many { (result ≡ Err JobFault.TooManyPieces)
+            ↔ (max_pieces < piece_count (record {
+              circuit = circuit;
+              list = faults;
+              classes = classes;
+              tests = tests;
+            })) }
         ensures few { IfOk result (λ job. piece_count job ≤ max_pieces) }
-        ensures job { IfOk result (λ job. job ≡ record { circuit = circuit; list = faults; classes = classes; tests = tests }) }
+        ensures job { IfOk result (λ job. job ≡ record {
+          circuit = circuit;
+          list = faults;
+          classes = classes;
+          tests = tests;
+        }) }
     {
         let pieces = u64::from(classes.count()) * u64::from(tests.blocks());
         if pieces > u64::from(MAX_PIECES) {
@@ -144,7 +173,9 @@ impl Job {
     /// The representative of a class.
     pub(crate) fn representative(&self, class: u32) -> Stuck
         requires { class < length self.now.classes.representative }
-        ensures representative { slice_get (representatives self.now.list.model self.now.circuit) class ≡ Some (stuck_fault result) }
+        ensures representative { slice_get
+            (representatives self.now.list.model self.now.circuit) class
+            ≡ Some (stuck_fault result) }
         ensures listed { Contains (faults result.model self.now.circuit) (stuck_fault result) }
     {
         let fault = self.classes.representative(class);
@@ -173,8 +204,10 @@ fn fault_free_rows(
 ) -> Result<Vec<Vec<u64>>, AllocError>
     requires circuit { IsCircuit circuit.now }
     requires width { tests.now.width ≡ length (sources circuit.now) }
-    ensures count { IfOk result (λ rows. length (map (λ row. row.items) rows.items) ≡ blocks (length tests.now.tests)) }
-    ensures rows { IfOk result (λ rows. AreFaultFree circuit.now tests.now.tests (map (λ row. row.items) rows.items)) }
+    ensures count { IfOk result (λ rows. length (map (λ row. row.items) rows.items)
+        ≡ blocks (length tests.now.tests)) }
+    ensures rows { IfOk result (λ rows. AreFaultFree circuit.now tests.now.tests
+        (map (λ row. row.items) rows.items)) }
 {
     let signals = circuit.circuit().signals() as usize;
     let same = vec![in alloc; 0u64; signals]?;

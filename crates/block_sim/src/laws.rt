@@ -1,6 +1,7 @@
 //! Laws of fault simulation by blocks, on every circuit and test list.
 //!
-//! A law is a function without a body. Its clause is the law, and a proof names the function to use it.
+//! A law is a function without a body. Its clause is the law, and a proof names the function to
+//! use it.
 
 ghost use Rattle.std.specs.Prelude.{◌≡◌, ℕ, List};
 ghost use Rattle.bench_net.specs.Statement.{Statement};
@@ -11,19 +12,23 @@ ghost use Rattle.patterns.specs.declared.Outcome.{Outcome};
 ghost use Rattle.patterns.specs.Least.{Table};
 ghost use Rattle.block_sim.specs.First.{IsTrueOutcome, IsTrueTable, LeastIsFirst};
 
-/// The first test that detects a fault is found by blocks: over a table with the true outcome of each
-/// class and block, the test of a class's first Hit is the first test that detects each fault of the
-/// class, and where all blocks are Clear no test detects one.
+/// The first test that detects a fault is found by blocks: over a table with the true outcome of
+/// each class and block, the test of a class's first Hit is the first test that detects each fault
+/// of the class, and where all blocks are Clear no test detects one.
 pub fn least_is_first()
-    ensures { (m : Model) (c : List Statement) (tests : List Test) (table : Table) → IsWellFormed c → HaveArities c → IsTrueTable m c tests table → LeastIsFirst m c tests table }
+    ensures { (m : Model) (c : List Statement) (tests : List Test) (table : Table) → IsWellFormed c
+        → HaveArities c → IsTrueTable m c tests table → LeastIsFirst m c tests table }
 {}
 
 /// There is a table with the true outcome of each class and block, under either model.
 pub fn true_table()
-    ensures { (m : Model) (c : List Statement) (tests : List Test) → IsWellFormed c → (table : Table) × IsTrueTable m c tests table }
+    ensures { (m : Model) (c : List Statement) (tests : List Test) → IsWellFormed c
+        → (table : Table) × IsTrueTable m c tests table }
 {}
 
 /// A class has one true outcome on a block.
 pub fn one_outcome()
-    ensures { (m : Model) (c : List Statement) (tests : List Test) (class block : ℕ) (first second : Outcome) → IsTrueOutcome m c tests class block first → IsTrueOutcome m c tests class block second → first ≡ second }
+    ensures { (m : Model) (c : List Statement) (tests : List Test) (class block : ℕ)
+        (first second : Outcome) → IsTrueOutcome m c tests class block first
+        → IsTrueOutcome m c tests class block second → first ≡ second }
 {}

@@ -1,8 +1,10 @@
-//! What a fault wants of the test before the one that detects it: nothing of a stuck-at fault, and of a
-//! transition fault that it gives the line the bit that the line is slow to leave (transition faults by
-//! pairs of patterns: Waicukauski, Lindbloom, Rosen and Iyengar, Transition Fault Simulation).
+//! What a fault wants of the test before the one that detects it: nothing of a stuck-at fault, and
+//! of a transition fault that it gives the line the bit that the line is slow to leave (transition
+//! faults by pairs of patterns: Waicukauski, Lindbloom, Rosen and Iyengar, Transition Fault
+//! Simulation).
 
-ghost use Rattle.std.specs.Prelude.{◌≡◌, ◌↔◌, ◌+◌, ◌*◌, ◌<◌, Bool, Contains, ℕ, suc, Some, [], length, slice_get, slice_index_or, map};
+ghost use Rattle.std.specs.Prelude.{◌≡◌, ◌↔◌, ◌+◌, ◌*◌, ◌<◌, Bool, Contains, ℕ, suc, Some, []};
+ghost use Rattle.std.specs.Prelude.{length, slice_get, slice_index_or, map};
 ghost use Rattle.std.specs.Bool.{Decides};
 ghost use Rattle.bench_net.specs.Statement.{Name};
 ghost use Rattle.bench_net.specs.Scan.{names, signal, definition};
@@ -19,14 +21,15 @@ use crate::job::Job;
 use crate::words::Stuck;
 use fault_model::Line;
 
-/// The lanes of a block whose test before lets the fault be detected: for a stuck-at fault all lanes, for a
-/// transition fault those in which that test gives its line the bit that the line is slow to leave. The
-/// first test of all has none before it.
+/// The lanes of a block whose test before lets the fault be detected: for a stuck-at fault all
+/// lanes, for a transition fault those in which that test gives its line the bit that the line is
+/// slow to leave. The first test of all has none before it.
 pub fn lanes_that_fit(job: &Job, block: u32, fault: Stuck) -> u64
     requires block { block < blocks (length job.now.tests.tests) }
     requires listed { Contains (faults fault.model job.now.circuit) (stuck_fault fault) }
     ensures { (k : ℕ) → k < size_of (length job.now.tests.tests) block
-        → Decides (lane result k) (LooksBack job.now.circuit job.now.tests.tests fault.model fault.line fault.at_one (64 * block + k)) }
+        → Decides (lane result k) (LooksBack job.now.circuit job.now.tests.tests fault.model
+        fault.line fault.at_one (64 * block + k)) }
 {
     match fault.model {
         fault_model::Model::StuckAt => !0,
@@ -39,15 +42,17 @@ pub fn lanes_that_fit(job: &Job, block: u32, fault: Stuck) -> u64
     }
 }
 
-/// The word of the signal of this number without a fault, one test earlier: lane `k` has its bit under
-/// test `64 * block + k - 1`, where there is one.
+/// The word of the signal of this number without a fault, one test earlier: lane `k` has its bit
+/// under test `64 * block + k - 1`, where there is one.
 fn word_before(job: &Job, block: u32, number: u32) -> u64
     requires block { block < blocks (length job.now.tests.tests) }
     requires circuit { IsWellFormed job.now.circuit }
     requires signal { number < length (names job.now.circuit) }
     ensures { (k t : ℕ) (line : Line) (n : Name) (bit : Bool) → k < 64 → suc t ≡ 64 * block + k
-        → carried job.now.circuit line ≡ Some n → Contains (names job.now.circuit) n → number ≡ signal job.now.circuit n
-        → (lane result k ≡ bit) ↔ HasBit job.now.circuit (slice_index_or job.now.tests.tests t []) line bit }
+        → carried job.now.circuit line ≡ Some n → Contains (names job.now.circuit) n
+        → number ≡ signal job.now.circuit n
+        → (lane result k ≡ bit) ↔ HasBit job.now.circuit (slice_index_or job.now.tests.tests t [])
+        line bit }
 {
     let last = if block == 0 {
         0
@@ -65,7 +70,8 @@ fn one_lane_up(word: u64, last: u64) -> u64
     word << 1 | last >> 63
 }
 
-/// The signal that a line of the circuit carries: that of the stem, or the one that its branch leads from.
+/// The signal that a line of the circuit carries: that of the stem, or the one that its branch
+/// leads from.
 pub fn carried(circuit: &FlatCircuit, line: Line) -> u32
     requires circuit { IsCircuit circuit.now }
     requires named { (n : Name) × (carried circuit.now line ≡ Some n) }
@@ -83,7 +89,8 @@ pub fn carried(circuit: &FlatCircuit, line: Line) -> u32
 fn pin_signal(circuit: &FlatCircuit, gate: u32, pin: u32) -> u32
     requires gate { gate < length (names circuit.now) }
     requires named { (n : Name) × (argument (definition circuit.now gate) pin ≡ Some n) }
-    ensures { (n : Name) → argument (definition circuit.now gate) pin ≡ Some n → result ≡ signal circuit.now n }
+    ensures { (n : Name) → argument (definition circuit.now gate) pin ≡ Some n
+        → result ≡ signal circuit.now n }
 {
     match circuit.gate_of(gate) {
         Some(line) => line.pins[pin as usize],

@@ -1,29 +1,31 @@
 //! Simulation by events: the change of one signal spreads from gate to gate, level by level.
 //!
-//! The fault-free words stay as they are. An overlay has for each signal the lanes in which it differs, and
-//! a gate is evaluated only where a signal that it reads differs (event-driven simulation: Bushnell and
-//! Agrawal, Essentials of Electronic Testing).
+//! The fault-free words stay as they are. An overlay has for each signal the lanes in which it
+//! differs, and a gate is evaluated only where a signal that it reads differs (event-driven
+//! simulation: Bushnell and Agrawal, Essentials of Electronic Testing).
 
-ghost use Rattle.std.specs.Prelude.{◌≡◌, ◌≢◌, ◌↔◌, ◌⊎◌, ℕ, ◌+◌, ◌<◌, ◌≤◌, ◌==◌, All, List, IsTrue, Some, None};
-ghost use Rattle.std.specs.Prelude.{true, false, length, bit_or, count_by, slice_index_or, slice_set};
+ghost use Rattle.std.specs.Prelude.{◌≡◌, ◌≢◌, ◌↔◌, ℕ, ◌+◌, ◌<◌, ◌≤◌, ◌==◌, List, IsTrue, true};
+ghost use Rattle.std.specs.Prelude.{false, length, bit_or, count_by, slice_index_or, slice_set};
 ghost use Rattle.std.specs.Bool.{Decides};
-ghost use Rattle.bench_net.specs.declared.Kind.{Kind};
 ghost use Rattle.bench_net.specs.Statement.{Name};
-ghost use Rattle.bench_net.specs.Scan.{names, gate_of};
+ghost use Rattle.bench_net.specs.Scan.{names};
 ghost use Rattle.bench_net.specs.Circuit.{IsCircuit};
 ghost use Rattle.bench_net.specs.Level.{AreLevels, HasLevel};
 ghost use Rattle.fault_model.specs.Fault.{Fault};
 ghost use Rattle.fault_model.specs.Solution.{Test};
-ghost use Rattle.patterns.specs.Tests.{size_of};
-ghost use Rattle.block_sim.specs.Events.{level_at, AreWoken, IsObserved, IsElsewhere};
-ghost use Rattle.block_sim.specs.Spreading.{IsSpreading, IsFirstChange, HasTouched, AreSeen, AreShown, ahead};
-ghost use Rattle.block_sim.specs.Stirred.{HasStirred};
-ghost use Rattle.block_sim.specs.Words.{lane, AreWords};
+ghost use Rattle.block_sim.specs.Changes.{HasRoomFor, IsAsLarge, IsClear, IsTaken};
+ghost use Rattle.block_sim.specs.Events.{level_at, AreWoken, IsWokenAbove, IsObserved};
+ghost use Rattle.block_sim.specs.Moments.{Case, Leads, Spreads, moment, not_yet_taken};
+ghost use Rattle.block_sim.specs.Spreading.{AreShown, IsFirstChange};
+ghost use Rattle.block_sim.specs.Stirred.{AreInBlock, HasStirred};
+ghost use Rattle.block_sim.specs.Words.{lane, HasWords};
 
 use crate::block_lanes::lanes_below;
+use crate::changes::Changes;
 use crate::flat::{FlatCircuit, Reader};
+use crate::view::BlockView;
 use crate::words::evaluate_gate;
-use event_queue::{Buckets, Overlay};
+use event_queue::Buckets;
 
 /// How far the lanes of a block are followed.
 #[derive(Clone, Copy)]
@@ -52,7 +54,8 @@ impl Extent {
     }
 }
 
-/// Lets the gates that read a signal wait, each at its level, and tells whether an observer reads it.
+/// Lets the gates that read a signal wait, each at its level, and tells whether an observer reads
+/// it.
 #[inline(always)]
 fn wake(circuit: &FlatCircuit, signal: u32, buckets: &mut Buckets) -> bool
     requires circuit { IsCircuit circuit.now }
@@ -75,156 +78,146 @@ fn wake(circuit: &FlatCircuit, signal: u32, buckets: &mut Buckets) -> bool
     circuit.is_observed(signal)
 }
 
-/// Lets a signal differ in some lanes, so that its readers wait, and tells in which of them an observer
-/// sees it.
+/// Lets a signal differ in some lanes, so that its readers wait, and tells in which of them an
+/// observer sees it.
 #[inline(always)]
-fn change(
-    circuit: &FlatCircuit,
-    signal: u32,
-    diff: u64,
-    overlay: &mut Overlay,
-    buckets: &mut Buckets,
-) -> u64
+fn change(circuit: &FlatCircuit, signal: u32, diff: u64, changes: &mut Changes) -> u64
     requires circuit { IsCircuit circuit.now }
     requires signal { signal < length (names circuit.now) }
-    requires overlay { length (names circuit.now) ≤ length overlay.old }
-    requires gates { length (names circuit.now) ≤ length buckets.old.at }
-    requires levels { (g k : ℕ) → HasLevel circuit.now g k → k < buckets.old.levels }
-    requires clear { slice_index_or overlay.old signal 0 ≡ 0 }
+    requires room { HasRoomFor circuit.now changes.old }
+    requires clear { slice_index_or changes.old.overlay signal 0 ≡ 0 }
     requires differs { diff ≢ 0 }
-    ensures changed { overlay.new ≡ slice_set overlay.old signal diff }
+    ensures changed { changes.new.overlay ≡ slice_set changes.old.overlay signal diff }
     ensures woken { (level : Name → ℕ) → AreLevels circuit.now level
-        → AreWoken circuit.now (level_at circuit.now level) signal buckets.old.at buckets.new.at }
+        → AreWoken circuit.now (level_at circuit.now level) signal
+        changes.old.buckets.at changes.new.buckets.at }
     ensures shown { (k : ℕ) → k < 64
         → Decides (lane result k) (IsObserved circuit.now signal × (lane diff k ≡ true)) }
     ensures some { (k : ℕ) × (k < 64) × (lane diff k ≡ true) }
-    ensures gates { length buckets.new.at ≡ length buckets.old.at }
-    ensures levels { buckets.new.levels ≡ buckets.old.levels }
+    ensures evaluations { changes.new.evaluations ≡ changes.old.evaluations }
+    ensures room { IsAsLarge changes.old changes.new }
 {
-    overlay.change(signal, diff);
-    if wake(circuit, signal, buckets) {
+    changes.overlay.change(signal, diff);
+    if wake(circuit, signal, &mut changes.buckets) {
         diff
     } else {
         0
     }
 }
 
-/// Evaluates a gate that waited, and lets its signal differ where its word does in some of the lanes. Tells
-/// in which of them an observer sees that. Where no lane is followed any more nothing is evaluated.
+/// Evaluates a gate that waited, and lets its signal differ where its word does in some of the
+/// lanes that are followed. Tells in which of them an observer sees that. Where none is followed
+/// nothing is evaluated.
 #[inline(always)]
-fn evaluate_waiting(
-    circuit: &FlatCircuit,
-    good: &[u64],
-    lanes: u64,
-    gate: u32,
-    overlay: &mut Overlay,
-    buckets: &mut Buckets,
-    evaluations: &mut u64,
-) -> u64
-    requires circuit { IsCircuit circuit.now }
-    requires good { length good.now ≡ length (names circuit.now) }
-    requires overlay { length (names circuit.now) ≤ length overlay.old }
-    requires gates { length (names circuit.now) ≤ length buckets.old.at }
-    requires levels { (g k : ℕ) → HasLevel circuit.now g k → k < buckets.old.levels }
-    requires gate { gate < length (names circuit.now) }
-    requires driven { (line : Kind × List ℕ) × (gate_of circuit.now gate ≡ Some line) }
-    requires waits { slice_index_or buckets.old.at gate 0 ≡ 0 }
-    requires clear { slice_index_or overlay.old gate 0 ≡ 0 }
-    ensures spreading { (tests : List Test) (block : ℕ) (f : Fault) (asked : ℕ) (level : Name → ℕ) (start now : ℕ)
-        → AreLevels circuit.now level → ((t : ℕ) → t ≢ start → IsElsewhere f t)
-        → IsSpreading circuit.now tests block f good.now asked (level_at circuit.now level) start lanes overlay.old
-        (slice_set buckets.old.at gate (now + 1)) now
-        → IsSpreading circuit.now tests block f good.now asked (level_at circuit.now level) start lanes overlay.new
-        buckets.new.at now }
-    ensures counted { (tests : List Test) (block : ℕ) (f : Fault) (asked : ℕ) (level : Name → ℕ) (start now : ℕ) (gates : List ℕ)
-        → AreLevels circuit.now level → ((t : ℕ) → t ≢ start → IsElsewhere f t)
-        → IsSpreading circuit.now tests block f good.now asked (level_at circuit.now level) start lanes overlay.old
-        (slice_set buckets.old.at gate (now + 1)) now
-        → HasTouched circuit.now overlay.new gates
-        → evaluations.new + ahead (level_at circuit.now level) buckets.new.at now gates
-        ≤ evaluations.old + ahead (level_at circuit.now level) (slice_set buckets.old.at gate (now + 1)) now gates }
-    ensures woken { (level : Name → ℕ) → AreLevels circuit.now level → (r : ℕ)
-        → (slice_index_or buckets.new.at r 0 ≡ slice_index_or buckets.old.at r 0)
-        ⊎ ((level_at circuit.now level gate < level_at circuit.now level r)
-        × (slice_index_or buckets.new.at r 0 ≡ level_at circuit.now level r + 1)) }
-    ensures seen { (asked seen : ℕ) → AreSeen circuit.now asked overlay.old lanes seen
-        → AreSeen circuit.now asked overlay.new lanes (bit_or seen result) }
-    ensures grown { evaluations.old ≤ evaluations.new }
-    ensures more { (s : ℕ) → slice_index_or overlay.old s 0 ≢ 0 → slice_index_or overlay.new s 0 ≢ 0 }
-    ensures overlay { length overlay.new ≡ length overlay.old }
-    ensures gates { length buckets.new.at ≡ length buckets.old.at }
-    ensures levels { buckets.new.levels ≡ buckets.old.levels }
+fn evaluate_waiting(view: BlockView<'_>, kept: u64, gate: u32, changes: &mut Changes) -> u64
+    requires view { HasWords view.circuit.now view.good.now }
+    requires room { HasRoomFor view.circuit.now changes.old }
+    requires taken { IsTaken view.circuit.now changes.old gate }
+    ensures leads { (now seen : ℕ) → Leads
+        view.entry.circuit.now view.entry.good.now view.entry.lanes
+        (not_yet_taken gate (moment changes.old now kept seen))
+        (moment changes.new now kept (bit_or seen result)) }
+    ensures woken { (level : Name → ℕ) → AreLevels view.entry.circuit.now level
+        → IsWokenAbove (level_at view.entry.circuit.now level) gate
+        changes.old.buckets.at changes.new.buckets.at }
+    ensures room { IsAsLarge changes.old changes.new }
 {
-    if lanes == 0 {
+    if kept == 0 {
         return 0;
     }
-    match circuit.gate_of(gate) {
+    match view.circuit.gate_of(gate) {
         Some(line) => {
-            let word = evaluate_gate(line, gate, None, good, overlay.words(), evaluations);
-            let diff = (word ^ good[gate as usize]) & lanes;
+            let delta = changes.overlay.words();
+            let word = evaluate_gate(line, gate, None, view.good, delta, &mut changes.evaluations);
+            let diff = (word ^ view.good[gate as usize]) & kept;
             if diff == 0 {
                 return 0;
             }
-            change(circuit, gate, diff, overlay, buckets)
+            change(view.circuit, gate, diff, changes)
         }
         None => unreachable!(),
     }
 }
 
-/// Spreads the first change of a fault, which is that of one signal in some of the lanes that are asked
-/// for. Tells lanes in which an observer shows another bit: all such lanes, or where the first hit is
-/// asked for some with the least of them.
-pub fn spread(
-    circuit: &FlatCircuit,
-    good: &[u64],
+/// The lanes in which an observer saw a difference so far, and those that are still followed.
+#[derive(Clone, Copy)]
+struct Found {
+    seen: u64,
+    kept: u64,
+}
+
+/// Evaluates the gates that wait at a level, and tells what is found then.
+#[inline(always)]
+fn evaluate_level(
+    view: BlockView<'_>,
     extent: Extent,
-    lanes: u64,
+    level: u32,
+    found: Found,
+    changes: &mut Changes,
+) -> Found
+    requires view { HasWords view.circuit.now view.good.now }
+    requires room { HasRoomFor view.circuit.now changes.old }
+    requires level { level < changes.old.buckets.levels }
+    requires spreads { (case : Case view.circuit.now) × Spreads view.circuit.now view.good.now
+        view.lanes case (moment changes.old level found.kept found.seen) }
+    ensures leads { Leads view.entry.circuit.now view.entry.good.now view.entry.lanes
+        (moment changes.old level found.kept found.seen)
+        (moment changes.new (level + 1) result.kept result.seen) }
+    ensures room { IsAsLarge changes.old changes.new }
+{
+    let mut found = found;
+    while let Some(gate) = changes.buckets.take(level) {
+        let seen = found.seen | evaluate_waiting(view, found.kept, gate, changes);
+        let kept = extent.followed(found.kept, seen);
+        found = Found { seen, kept };
+    }
+    found
+}
+
+/// Spreads the first change of a fault, which is that of one signal in some of the lanes that are
+/// asked for. Tells lanes in which an observer shows another bit: all such lanes, or where the
+/// first hit is asked for some with the least of them.
+pub fn spread(
+    view: BlockView<'_>,
+    extent: Extent,
     start: u32,
     diff: u64,
-    overlay: &mut Overlay,
-    buckets: &mut Buckets,
-    evaluations: &mut u64,
+    changes: &mut Changes,
 ) -> u64
-    requires circuit { IsCircuit circuit.now }
-    requires good { length good.now ≡ length (names circuit.now) }
-    requires overlay { length (names circuit.now) ≤ length overlay.old }
-    requires gates { length (names circuit.now) ≤ length buckets.old.at }
-    requires levels { (g k : ℕ) → HasLevel circuit.now g k → k < buckets.old.levels }
-    requires start { start < length (names circuit.now) }
-    requires clear { All (λ word. word ≡ 0) overlay.old }
-    requires idle { All (λ at. at ≡ 0) buckets.old.at }
-    requires inside { (k : ℕ) → k < 64 → lane diff k ≡ true → lane lanes k ≡ true }
-    requires first { (tests : List Test) × (block : ℕ) × (f : Fault)
-        × IsFirstChange circuit.now tests block f good.now lanes overlay.old start diff }
-    ensures shown { (tests : List Test) (block : ℕ) (f : Fault)
-        → IsFirstChange circuit.now tests block f good.now lanes overlay.old start diff
-        → AreShown circuit.now tests block f good.now lanes result }
-    ensures counted { (tests : List Test) (block : ℕ) (f : Fault) (gates : List ℕ)
-        → IsFirstChange circuit.now tests block f good.now lanes overlay.old start diff
-        → ((k : ℕ) → k < 64 → lane lanes k ≡ true → k < size_of (length tests) block)
-        → HasStirred circuit.now tests block f gates
-        → evaluations.new + count_by (λ g. g == start) gates ≤ evaluations.old + length gates }
-    ensures grown { evaluations.old ≤ evaluations.new }
-    ensures overlay { length overlay.new ≡ length overlay.old }
-    ensures clear { All (λ word. word ≡ 0) overlay.new }
-    ensures gates { length buckets.new.at ≡ length buckets.old.at }
-    ensures levels { buckets.new.levels ≡ buckets.old.levels }
-    ensures idle { All (λ at. at ≡ 0) buckets.new.at }
+    requires view { HasWords view.circuit.now view.good.now }
+    requires room { HasRoomFor view.circuit.now changes.old }
+    requires clear { IsClear changes.old }
+    requires start { start < length (names view.circuit.now) }
+    requires inside { (k : ℕ) → k < 64 → lane diff k ≡ true → lane view.lanes k ≡ true }
+    requires first { (tests : List Test) × (block : ℕ) × (f : Fault) × IsFirstChange
+        view.circuit.now tests block f view.good.now view.lanes changes.old.overlay start diff }
+    ensures shown { (tests : List Test) (block : ℕ) (f : Fault) → IsFirstChange
+        view.entry.circuit.now tests block f view.entry.good.now view.entry.lanes
+        changes.old.overlay start diff → AreShown
+        view.entry.circuit.now tests block f view.entry.good.now view.entry.lanes result }
+    ensures counted { (tests : List Test) (block : ℕ) (f : Fault) (gates : List ℕ) → IsFirstChange
+        view.entry.circuit.now tests block f view.entry.good.now view.entry.lanes
+        changes.old.overlay start diff
+        → AreInBlock tests block view.entry.lanes
+        → HasStirred view.entry.circuit.now tests block f gates
+        → changes.new.evaluations + count_by (λ g. g == start) gates
+        ≤ changes.old.evaluations + length gates }
+    ensures grown { changes.old.evaluations ≤ changes.new.evaluations }
+    ensures room { IsAsLarge changes.old changes.new }
+    ensures clear { IsClear changes.new }
 {
     if diff == 0 {
         return 0;
     }
-    let mut seen = change(circuit, start, diff, overlay, buckets);
-    let mut kept = extent.followed(lanes, seen);
-    for level in circuit.level_of(start)..buckets.levels() {
-        if buckets.is_empty() {
+    let seen = change(view.circuit, start, diff, changes);
+    let kept = extent.followed(view.lanes, seen);
+    let mut found = Found { seen, kept };
+    for level in view.circuit.level_of(start)..changes.buckets.levels() {
+        if changes.buckets.is_empty() {
             break;
         }
-        while let Some(gate) = buckets.take(level) {
-            seen |= evaluate_waiting(circuit, good, kept, gate, overlay, buckets, evaluations);
-            kept = extent.followed(kept, seen);
-        }
+        found = evaluate_level(view, extent, level, found, changes);
     }
-    overlay.clear();
-    seen
+    changes.overlay.clear();
+    found.seen
 }

@@ -1,7 +1,7 @@
 //! The words of a circuit's signals: a block's 64 tests side by side, without a fault or under one.
 //!
-//! Bit `k` of a word is the bit of test `64 * block + k`. A gate is evaluated on a whole word at once
-//! (parallel-pattern simulation: Bushnell and Agrawal, Essentials of Electronic Testing).
+//! Bit `k` of a word is the bit of test `64 * block + k`. A gate is evaluated on a whole word at
+//! once (parallel-pattern simulation: Bushnell and Agrawal, Essentials of Electronic Testing).
 
 ghost use Rattle.std.specs.Prelude.{◌≡◌, ℕ, ◌+◌, ◌-◌, ◌^◌, ◌<◌, ◌≤◌, All, min, length, None};
 ghost use Rattle.std.specs.Prelude.{slice_get, slice_index_or};
@@ -21,8 +21,9 @@ use bench_net::Circuit;
 use fault_model::Line;
 use patterns::Tests;
 
-/// The stuck-at fault that is propagated for a fault of either model: its line is held at 0 or at 1 for
-/// all that read it. A transition fault is detected where this one is and the test before fits.
+/// The stuck-at fault that is propagated for a fault of either model: its line is held at 0 or at
+/// 1 for all that read it. A transition fault is detected where this one is and the test before
+/// fits.
 #[derive(Clone, Copy)]
 pub struct Stuck {
     pub model: fault_model::Model,
@@ -40,8 +41,8 @@ impl Stuck {
     }
 }
 
-/// The word that the readers of a line get: the stuck bit in every lane where the fault is on this very
-/// line, else the word that drives it.
+/// The word that the readers of a line get: the stuck bit in every lane where the fault is on this
+/// very line, else the word that drives it.
 #[inline(always)]
 fn seen(fault: Option<Stuck>, own: Line, word: u64) -> u64
     ensures { (k : ℕ) → k < 64 → lane result k ≡ under (fault_of fault) own (lane word k) }
@@ -86,8 +87,8 @@ struct Folds {
     odd: u64,
 }
 
-/// What the words of a gate's pins come to. The first and the last are read apart, so that a gate of
-/// one pin or two, as most are, takes no turn of the loop: which of the two it is isn't asked.
+/// What the words of a gate's pins come to. The first and the last are read apart, so that a gate
+/// of one pin or two, as most are, takes no turn of the loop: which of the two it is isn't asked.
 #[inline(always)]
 fn folds_of(line: Gate<'_>, gate: u32, fault: Option<Stuck>, words: &[u64], delta: &[u64]) -> Folds
     requires some { 0 < length line.pins.now }
@@ -155,7 +156,8 @@ fn source_word(circuit: &Circuit, tests: &Tests, block: u32, signal: u32) -> u64
     requires source { gate_of circuit.now signal ≡ None }
     requires width { tests.now.width ≡ length (sources circuit.now) }
     requires block { block < blocks (length tests.now.tests) }
-    ensures { (i : ℕ) → slice_get (sources circuit.now) i ≡ name_of circuit.now signal → IsWord tests.now.tests block i result }
+    ensures { (i : ℕ) → slice_get (sources circuit.now) i ≡ name_of circuit.now signal
+        → IsWord tests.now.tests block i result }
 {
     match circuit.source_of(signal) {
         Some(source) => tests.word(block, source),
@@ -163,8 +165,8 @@ fn source_word(circuit: &Circuit, tests: &Tests, block: u32, signal: u32) -> u64
     }
 }
 
-/// The fault-free word of one signal, from the tests or from the words of the signals that its gate reads.
-/// No word differs from itself: `same` is all 0.
+/// The fault-free word of one signal, from the tests or from the words of the signals that its
+/// gate reads. No word differs from itself: `same` is all 0.
 fn signal_word(
     circuit: &FlatCircuit,
     tests: &Tests,
@@ -189,8 +191,8 @@ fn signal_word(
     }
 }
 
-/// Writes the fault-free word of every signal on a block, at the signal's number. It goes in level order,
-/// so a gate comes after the signals that it reads.
+/// Writes the fault-free word of every signal on a block, at the signal's number. It goes in level
+/// order, so a gate comes after the signals that it reads.
 pub fn evaluate(
     circuit: &FlatCircuit,
     tests: &Tests,

@@ -1,6 +1,7 @@
 //! Simulation of one fault class on one block of tests, and the workspace that it needs.
 
-ghost use Rattle.std.specs.Prelude.{◌≡◌, ◌↔◌, ◌+◌, ◌<◌, ◌≤◌, IfOk, IsTrue, List, ℕ, Some, length, slice_get};
+ghost use Rattle.std.specs.Prelude.{◌≡◌, ◌↔◌, ◌+◌, ◌<◌, ◌≤◌, IfOk, IsTrue, List, ℕ};
+ghost use Rattle.std.specs.Prelude.{Some, length, slice_get};
 ghost use Rattle.fault_model.specs.Collapse.{representatives};
 ghost use Rattle.fault_model.specs.Fault.{Fault};
 ghost use Rattle.patterns.specs.Tests.{blocks};
@@ -9,34 +10,36 @@ ghost use Rattle.block_sim.specs.Parts.{HasRoom};
 ghost use Rattle.block_sim.specs.Stirred.{HasStirred};
 
 use crate::block_lanes::{lanes_below, least_lane};
+use crate::changes::Changes;
 use crate::effect::effect;
 use crate::job::Job;
 use crate::look_back::lanes_that_fit;
 use crate::spread::Extent;
-use event_queue::{Buckets, Overlay};
+use crate::view::BlockView;
 use patterns::Outcome;
 use std::alloc::{AllocError, Global};
 use std::marker::Model;
 
-/// Room for what a fault changes on a block: words that differ, and gates that wait. It is used again and
-/// again, and for any job with at most as many signals.
+/// Room for what a fault changes on a block: words that differ, and gates that wait. It is used
+/// again and again, and for any job with at most as many signals.
 #[derive(Drop)]
 pub struct Workspace {
-    overlay: Overlay,
-    buckets: Buckets,
-    evaluations: u64,
+    changes: Changes,
 }
 
 impl Model for Workspace {
     ghost use Rattle.std.specs.Prelude.{length};
     ghost use Rattle.block_sim.specs.Parts.{Room};
-    ghost use Rattle.block_sim.specs.Job.{IsAtRest};
+    ghost use Rattle.block_sim.specs.Changes.{IsAtRest};
 
     ghost Value = { Room };
 
-    ghost view = { λ w. record { signals = length w.overlay; evaluations = w.evaluations } };
+    ghost view = { λ w. record {
+      signals = length w.changes.overlay;
+      evaluations = w.changes.evaluations;
+    } };
 
-    ghost invariant = { λ w. IsAtRest w.overlay w.buckets };
+    ghost invariant = { λ w. IsAtRest w.changes };
 }
 
 impl Workspace {
@@ -45,47 +48,45 @@ impl Workspace {
         ensures fits { IfOk result (λ workspace. HasRoom workspace job.now) }
         ensures fresh { IfOk result (λ workspace. workspace.evaluations ≡ 0) }
     {
-        let signals = job.circuit().signals();
-        let overlay = Overlay::new(alloc, signals)?;
-        let buckets = Buckets::new(alloc, signals, signals + 1)?;
-        Ok(Workspace {
-            overlay,
-            buckets,
-            evaluations: 0,
-        })
+        let changes = Changes::new(alloc, job.circuit().signals())?;
+        Ok(Workspace { changes })
     }
 
     /// Whether the workspace is large enough for a job.
     pub fn fits(&self, job: &Job) -> bool
         ensures { IsTrue result ↔ HasRoom self.now job.now }
     {
-        job.circuit().signals() as usize <= self.overlay.words().len()
+        job.circuit().signals() as usize <= self.changes.overlay.words().len()
     }
 
-    /// How often a gate was evaluated on a word since the workspace was made. It stays at the greatest u64.
+    /// How often a gate was evaluated on a word since the workspace was made. It stays at the
+    /// greatest u64.
     pub fn gate_evaluations(&self) -> u64
         ensures { result ≡ self.now.evaluations }
     {
-        self.evaluations
+        self.changes.evaluations
     }
 }
 
-/// The outcome of a class on a block: `Hit(k)` with the least `k` below the block's size for which test
-/// `64 * block + k` detects the representative of the class, else `Clear`. It takes no memory.
+/// The outcome of a class on a block: `Hit(k)` with the least `k` below the block's size for which
+/// test `64 * block + k` detects the representative of the class, else `Clear`. It takes no
+/// memory.
 ///
-/// All tests of the block are simulated at once, from the fault's line on and only where words change
-/// (parallel-pattern single-fault propagation: Waicukauski, Eichelberger, Forlenza, Lindbloom and McCarthy,
-/// Fault Simulation for Structured VLSI). At most those gates are evaluated, each once, that the fault
-/// stirs: gates with a pin that sees under some test of the block another bit with the fault than without it.
-/// Where the fault turns its line under no test of the block, none is. A transition fault stirs what its
-/// line stuck at the fault's bit stirs.
+/// All tests of the block are simulated at once, from the fault's line on and only where words
+/// change (parallel-pattern single-fault propagation: Waicukauski, Eichelberger, Forlenza,
+/// Lindbloom and McCarthy, Fault Simulation for Structured VLSI). At most those gates are
+/// evaluated, each once, that the fault stirs: gates with a pin that sees under some test of the
+/// block another bit with the fault than without it. Where the fault turns its line under no test
+/// of the block, none is. A transition fault stirs what its line stuck at the fault's bit stirs.
 ///
-/// Each test is followed to the end; [`first_hit`] has the same outcome and is faster where there are hits.
+/// Each test is followed to the end; [`first_hit`] has the same outcome and is faster where there
+/// are hits.
 pub fn simulate(job: &Job, workspace: &mut Workspace, class: u32, block: u32) -> Outcome
     requires class { class < length job.now.classes.representative }
     requires block { block < blocks (length job.now.tests.tests) }
     requires fits { HasRoom workspace.old job.now }
-    ensures outcome { IsTrueOutcome job.now.list.model job.now.circuit job.now.tests.tests class block result }
+    ensures outcome { IsTrueOutcome job.now.list.model job.now.circuit
+        job.now.tests.tests class block result }
     ensures room { workspace.new.signals ≡ workspace.old.signals }
     ensures grown { workspace.old.evaluations ≤ workspace.new.evaluations }
     ensures counted { (r : Fault) (gates : List ℕ)
@@ -96,14 +97,16 @@ pub fn simulate(job: &Job, workspace: &mut Workspace, class: u32, block: u32) ->
     outcome(job, workspace, class, block, Extent::WholeBlock)
 }
 
-/// The outcome of a class on a block, as [`simulate`] gives it and within the same bound. Only the tests below
-/// the least that is known to detect the fault are followed on, so that it ends early. It is the call for
-/// lists of tests; [`simulate`] is the one whose counts do not depend on what is detected when.
+/// The outcome of a class on a block, as [`simulate`] gives it and within the same bound. Only the
+/// tests below the least that is known to detect the fault are followed on, so that it ends early.
+/// It is the call for lists of tests; [`simulate`] is the one whose counts do not depend on what
+/// is detected when.
 pub fn first_hit(job: &Job, workspace: &mut Workspace, class: u32, block: u32) -> Outcome
     requires class { class < length job.now.classes.representative }
     requires block { block < blocks (length job.now.tests.tests) }
     requires fits { HasRoom workspace.old job.now }
-    ensures outcome { IsTrueOutcome job.now.list.model job.now.circuit job.now.tests.tests class block result }
+    ensures outcome { IsTrueOutcome job.now.list.model job.now.circuit
+        job.now.tests.tests class block result }
     ensures room { workspace.new.signals ≡ workspace.old.signals }
     ensures grown { workspace.old.evaluations ≤ workspace.new.evaluations }
     ensures counted { (r : Fault) (gates : List ℕ)
@@ -119,7 +122,8 @@ fn outcome(job: &Job, workspace: &mut Workspace, class: u32, block: u32, extent:
     requires class { class < length job.now.classes.representative }
     requires block { block < blocks (length job.now.tests.tests) }
     requires fits { HasRoom workspace.old job.now }
-    ensures outcome { IsTrueOutcome job.now.list.model job.now.circuit job.now.tests.tests class block result }
+    ensures outcome { IsTrueOutcome job.now.list.model job.now.circuit
+        job.now.tests.tests class block result }
     ensures room { workspace.new.signals ≡ workspace.old.signals }
     ensures grown { workspace.old.evaluations ≤ workspace.new.evaluations }
     ensures counted { (r : Fault) (gates : List ℕ)
@@ -129,15 +133,10 @@ fn outcome(job: &Job, workspace: &mut Workspace, class: u32, block: u32, extent:
 {
     let fault = job.representative(class);
     let lanes = lanes_below(job.tests().size_of(block)) & lanes_that_fit(job, block, fault);
-    let seen = effect(
-        job.flat(),
-        job.fault_free(block),
-        fault,
-        extent,
+    let view = BlockView {
+        circuit: job.flat(),
+        good: job.fault_free(block),
         lanes,
-        &mut workspace.overlay,
-        &mut workspace.buckets,
-        &mut workspace.evaluations,
-    );
-    least_lane(seen)
+    };
+    least_lane(effect(view, fault, extent, &mut workspace.changes))
 }

@@ -10,11 +10,13 @@ use Rattle.fault_model.specs.Detection.{argument, carried}
 use Rattle.fault_model.specs.Solution.{value}
 use Rattle.fault_model.proofs.Public.{carries}
 use lib.Bits.{and_le_r}
+use Rattle.block_sim.specs.Changes.{IsAsLarge}
 use Rattle.block_sim.specs.Stuck.{stuck_fault}
 use Rattle.block_sim.specs.Words.{lane, pin_bits}
 use Rattle.block_sim.proofs.Ahead.{count_one}
 use Rattle.block_sim.proofs.Carried.{pin_of, gate_within}
 use Rattle.block_sim.proofs.Lanes.{lane_zero}
+use Rattle.block_sim.proofs.Moments.{large_enough}
 use Rattle.block_sim.proofs.Readers.{no_loop}
 use Rattle.block_sim.proofs.Started.{shown_none, shown_at_observer, pin_stirred, first_on_pin, stem_change, turned_is, output_observed, data_observed}
 use Rattle.block_sim.proofs.Steps.{only_lanes, some_lane, lane_of_zero}
@@ -22,32 +24,32 @@ use Rattle.block_sim.proofs.effect.effect.Goals as goal
 
 pub carried-signal-requires-clause-named : goal.carried-signal-requires-clause-named
 carried-signal-requires-clause-named c =
-    let circuit = c.args.circuit.now in
-    let well = c.requires.circuit.well_formed in
-    let good = c.args.good.now in
-    let lanes = c.args.lanes in
+    let circuit = c.args.view.circuit.now in
+    let well = c.requires.view.circuit.well_formed in
+    let good = c.args.view.good.now in
+    let lanes = c.args.view.lanes in
     let fault = stuck_fault c.args.fault in
     let n = carries c.args.fault.model circuit fault well c.requires.listed in
     (n.0, n.1)
 
-pub bounds-good-signal : goal.bounds-good-signal
-bounds-good-signal c =
-    let circuit = c.args.circuit.now in
-    let well = c.requires.circuit.well_formed in
-    let good = c.args.good.now in
-    let lanes = c.args.lanes in
+pub bounds-view-signal : goal.bounds-view-signal
+bounds-view-signal c =
+    let circuit = c.args.view.circuit.now in
+    let well = c.requires.view.circuit.well_formed in
+    let good = c.args.view.good.now in
+    let lanes = c.args.view.lanes in
     let fault = stuck_fault c.args.fault in
     let n = carries c.args.fault.model circuit fault well c.requires.listed in
     let number : c.carried-signal.result ≡ signal circuit n.0 = c.carried-signal.ensures n.0 n.1 in
     let lt = place_within (names circuit) _ n.0 (name_of-signal circuit n.0 n.2) in
-    omega (arith, lt, number, c.requires.good)
+    omega (arith, lt, number, c.requires.view.count)
 
 pub returns-then-turned-eq0-clause-shown : goal.returns-then-turned-eq0-clause-shown
 returns-then-turned-eq0-clause-shown c = λ tests block words.
-    let circuit = c.args.circuit.now in
-    let well = c.requires.circuit.well_formed in
-    let good = c.args.good.now in
-    let lanes = c.args.lanes in
+    let circuit = c.args.view.circuit.now in
+    let well = c.requires.view.circuit.well_formed in
+    let good = c.args.view.good.now in
+    let lanes = c.args.view.lanes in
     let fault = stuck_fault c.args.fault in
     let n = carries c.args.fault.model circuit fault well c.requires.listed in
     let number : c.carried-signal.result ≡ signal circuit n.0 = c.carried-signal.ensures n.0 n.1 in
@@ -56,41 +58,41 @@ returns-then-turned-eq0-clause-shown c = λ tests block words.
 
 pub spread-requires-clause-start : goal.spread-requires-clause-start
 spread-requires-clause-start c =
-    let circuit = c.args.circuit.now in
-    let well = c.requires.circuit.well_formed in
-    let good = c.args.good.now in
-    let lanes = c.args.lanes in
+    let circuit = c.args.view.circuit.now in
+    let well = c.requires.view.circuit.well_formed in
+    let good = c.args.view.good.now in
+    let lanes = c.args.view.lanes in
     let fault = stuck_fault c.args.fault in
     let n = carries c.args.fault.model circuit fault well c.requires.listed in
     place_within (names circuit) c.in-Stem.start n.0 (ap (carried circuit) (sym c.in-Stem.is) ∙ n.1)
 
 pub spread-requires-clause-inside : goal.spread-requires-clause-inside
-spread-requires-clause-inside c = λ k lt e. only_lanes _ c.args.lanes k e
+spread-requires-clause-inside c = λ k lt e. only_lanes _ c.args.view.lanes k e
 
 pub spread-requires-clause-first : goal.spread-requires-clause-first
 spread-requires-clause-first c =
-    let circuit = c.args.circuit.now in
-    let well = c.requires.circuit.well_formed in
-    let good = c.args.good.now in
-    let lanes = c.args.lanes in
+    let circuit = c.args.view.circuit.now in
+    let well = c.requires.view.circuit.well_formed in
+    let good = c.args.view.good.now in
+    let lanes = c.args.view.lanes in
     let fault = stuck_fault c.args.fault in
     let n = carries c.args.fault.model circuit fault well c.requires.listed in
     let number : c.carried-signal.result ≡ signal circuit n.0 = c.carried-signal.ensures n.0 n.1 in
     let named : name_of circuit c.in-Stem.start ≡ Some n.0 = ap (carried circuit) (sym c.in-Stem.is) ∙ n.1 in
     let same : c.carried-signal.result ≡ c.in-Stem.start = number ∙ signal-name_of circuit c.in-Stem.start n.0 well.once named n.2 in
     let low : c.in-Stem.start < length (names circuit) = place_within (names circuit) c.in-Stem.start n.0 named in
-    let within : c.in-Stem.start < length c.args.overlay.now = omega (arith, low, c.requires.overlay) in
+    let within : c.in-Stem.start < length c.args.changes.now.overlay = omega (arith, low, c.requires.room.overlay) in
     let tests = c.requires.words.0 in
     let block = c.requires.words.1 in
     let words = c.requires.words.2 in
-    (tests, block, fault, stem_change circuit tests block fault good lanes c.args.overlay.now c.in-Stem.start c.carried-signal.result c.word.result well words c.in-Stem.is within same c.word.ensures)
+    (tests, block, fault, stem_change circuit tests block fault good lanes c.args.changes.now.overlay c.in-Stem.start c.carried-signal.result c.word.result well words c.in-Stem.is within same c.word.ensures)
 
 pub gate_change-diff-requires-clause-gate : goal.gate_change-diff-requires-clause-gate
 gate_change-diff-requires-clause-gate c =
-    let circuit = c.args.circuit.now in
-    let well = c.requires.circuit.well_formed in
-    let good = c.args.good.now in
-    let lanes = c.args.lanes in
+    let circuit = c.args.view.circuit.now in
+    let well = c.requires.view.circuit.well_formed in
+    let good = c.args.view.good.now in
+    let lanes = c.args.view.lanes in
     let fault = stuck_fault c.args.fault in
     let n = carries c.args.fault.model circuit fault well c.requires.listed in
     let reads : argument (definition circuit c.in-Pin.gate) c.in-Pin.pin ≡ Some n.0 = ap (carried circuit) (sym c.in-Pin.is) ∙ n.1 in
@@ -101,10 +103,10 @@ gate_change-diff-requires-clause-gate c =
 
 pub gate_change-diff-requires-clause-driven : goal.gate_change-diff-requires-clause-driven
 gate_change-diff-requires-clause-driven c =
-    let circuit = c.args.circuit.now in
-    let well = c.requires.circuit.well_formed in
-    let good = c.args.good.now in
-    let lanes = c.args.lanes in
+    let circuit = c.args.view.circuit.now in
+    let well = c.requires.view.circuit.well_formed in
+    let good = c.args.view.good.now in
+    let lanes = c.args.view.lanes in
     let fault = stuck_fault c.args.fault in
     let n = carries c.args.fault.model circuit fault well c.requires.listed in
     let reads : argument (definition circuit c.in-Pin.gate) c.in-Pin.pin ≡ Some n.0 = ap (carried circuit) (sym c.in-Pin.is) ∙ n.1 in
@@ -115,10 +117,10 @@ gate_change-diff-requires-clause-driven c =
 
 pub spread-requires-in-Pin-clause-start : goal.spread-requires-in-Pin-clause-start
 spread-requires-in-Pin-clause-start c =
-    let circuit = c.args.circuit.now in
-    let well = c.requires.circuit.well_formed in
-    let good = c.args.good.now in
-    let lanes = c.args.lanes in
+    let circuit = c.args.view.circuit.now in
+    let well = c.requires.view.circuit.well_formed in
+    let good = c.args.view.good.now in
+    let lanes = c.args.view.lanes in
     let fault = stuck_fault c.args.fault in
     let n = carries c.args.fault.model circuit fault well c.requires.listed in
     let reads : argument (definition circuit c.in-Pin.gate) c.in-Pin.pin ≡ Some n.0 = ap (carried circuit) (sym c.in-Pin.is) ∙ n.1 in
@@ -129,93 +131,96 @@ spread-requires-in-Pin-clause-start c =
 
 pub spread-requires-in-Pin-clause-first : goal.spread-requires-in-Pin-clause-first
 spread-requires-in-Pin-clause-first c =
-    let circuit = c.args.circuit.now in
-    let well = c.requires.circuit.well_formed in
-    let good = c.args.good.now in
-    let lanes = c.args.lanes in
+    let circuit = c.args.view.circuit.now in
+    let well = c.requires.view.circuit.well_formed in
+    let good = c.args.view.good.now in
+    let lanes = c.args.view.lanes in
     let fault = stuck_fault c.args.fault in
     let n = carries c.args.fault.model circuit fault well c.requires.listed in
     let reads : argument (definition circuit c.in-Pin.gate) c.in-Pin.pin ≡ Some n.0 = ap (carried circuit) (sym c.in-Pin.is) ∙ n.1 in
     let p = pin_of circuit c.in-Pin.gate c.in-Pin.pin n.0 reads in
     let gate_is : gate_of circuit c.in-Pin.gate ≡ Some (p.kind, map (signal circuit) p.args) = ap (gate_line circuit) p.is in
     let low : c.in-Pin.gate < length (names circuit) = gate_within circuit c.in-Pin.gate c.in-Pin.pin n.0 reads in
-    let within : c.in-Pin.gate < length c.args.overlay.now = omega (arith, low, c.requires.overlay) in
+    let within : c.in-Pin.gate < length c.gate_change-diff.new.changes.overlay =
+    (let same = ap length c.gate_change-diff.ensures.overlay in omega (arith, low, c.requires.room.overlay, same)) in
     let now : (k : ℕ) → k < 64 → lane lanes k ≡ true → lane (bit_xor (slice_index_or good c.in-Pin.gate 0) c.gate_change-diff.result) k
-    ≡ value p.kind (pin_bits (Some fault) c.in-Pin.gate (map (signal circuit) p.args) good c.args.overlay.now k) =
+    ≡ value p.kind (pin_bits (Some fault) c.in-Pin.gate (map (signal circuit) p.args) good c.gate_change-diff.new.changes.overlay k) =
     λ k lt in_lanes. c.gate_change-diff.ensures.changed p.kind (map (signal circuit) p.args) k gate_is lt in_lanes
-    ∙ ap (λ d. value p.kind (pin_bits (Some fault) c.in-Pin.gate (map (signal circuit) p.args) good d k)) c.words.ensures in
+    ∙ ap (λ d. value p.kind (pin_bits (Some fault) c.in-Pin.gate (map (signal circuit) p.args) good d k)) (sym c.gate_change-diff.ensures.overlay) in
     let tests = c.requires.words.0 in
     let block = c.requires.words.1 in
     let words = c.requires.words.2 in
-    (tests, block, fault, first_on_pin circuit tests block fault good lanes c.args.overlay.now c.in-Pin.gate c.in-Pin.pin c.gate_change-diff.result p.kind (map (signal circuit) p.args) well words c.in-Pin.is within (λ r. no_loop circuit c.in-Pin.gate well r) gate_is now)
+    (tests, block, fault, first_on_pin circuit tests block fault good lanes c.gate_change-diff.new.changes.overlay c.in-Pin.gate c.in-Pin.pin c.gate_change-diff.result p.kind (map (signal circuit) p.args) well words c.in-Pin.is within (λ r. no_loop circuit c.in-Pin.gate well r) gate_is now)
 
 pub returns-in-Stem-clause-shown : goal.returns-in-Stem-clause-shown
 returns-in-Stem-clause-shown c = λ tests block words.
-    let circuit = c.args.circuit.now in
-    let well = c.requires.circuit.well_formed in
-    let good = c.args.good.now in
-    let lanes = c.args.lanes in
+    let circuit = c.args.view.circuit.now in
+    let well = c.requires.view.circuit.well_formed in
+    let good = c.args.view.good.now in
+    let lanes = c.args.view.lanes in
     let fault = stuck_fault c.args.fault in
     let n = carries c.args.fault.model circuit fault well c.requires.listed in
     let number : c.carried-signal.result ≡ signal circuit n.0 = c.carried-signal.ensures n.0 n.1 in
     let named : name_of circuit c.in-Stem.start ≡ Some n.0 = ap (carried circuit) (sym c.in-Stem.is) ∙ n.1 in
     let same : c.carried-signal.result ≡ c.in-Stem.start = number ∙ signal-name_of circuit c.in-Stem.start n.0 well.once named n.2 in
     let low : c.in-Stem.start < length (names circuit) = place_within (names circuit) c.in-Stem.start n.0 named in
-    let within : c.in-Stem.start < length c.args.overlay.now = omega (arith, low, c.requires.overlay) in
-    c.spread.ensures.shown tests block fault (stem_change circuit tests block fault good lanes c.args.overlay.now c.in-Stem.start c.carried-signal.result c.word.result well words c.in-Stem.is within same c.word.ensures)
+    let within : c.in-Stem.start < length c.args.changes.now.overlay = omega (arith, low, c.requires.room.overlay) in
+    c.spread.ensures.shown tests block fault (stem_change circuit tests block fault good lanes c.args.changes.now.overlay c.in-Stem.start c.carried-signal.result c.word.result well words c.in-Stem.is within same c.word.ensures)
 
 pub returns-in-Stem-clause-counted : goal.returns-in-Stem-clause-counted
 returns-in-Stem-clause-counted c = λ tests block gates words sized all.
-    let circuit = c.args.circuit.now in
-    let well = c.requires.circuit.well_formed in
-    let good = c.args.good.now in
-    let lanes = c.args.lanes in
+    let circuit = c.args.view.circuit.now in
+    let well = c.requires.view.circuit.well_formed in
+    let good = c.args.view.good.now in
+    let lanes = c.args.view.lanes in
     let fault = stuck_fault c.args.fault in
     let n = carries c.args.fault.model circuit fault well c.requires.listed in
     let number : c.carried-signal.result ≡ signal circuit n.0 = c.carried-signal.ensures n.0 n.1 in
     let named : name_of circuit c.in-Stem.start ≡ Some n.0 = ap (carried circuit) (sym c.in-Stem.is) ∙ n.1 in
     let same : c.carried-signal.result ≡ c.in-Stem.start = number ∙ signal-name_of circuit c.in-Stem.start n.0 well.once named n.2 in
     let low : c.in-Stem.start < length (names circuit) = place_within (names circuit) c.in-Stem.start n.0 named in
-    let within : c.in-Stem.start < length c.args.overlay.now = omega (arith, low, c.requires.overlay) in
-    let le = c.spread.ensures.counted tests block fault gates (stem_change circuit tests block fault good lanes c.args.overlay.now c.in-Stem.start c.carried-signal.result c.word.result well words c.in-Stem.is within same c.word.ensures) sized all in
+    let within : c.in-Stem.start < length c.args.changes.now.overlay = omega (arith, low, c.requires.room.overlay) in
+    let le = c.spread.ensures.counted tests block fault gates (stem_change circuit tests block fault good lanes c.args.changes.now.overlay c.in-Stem.start c.carried-signal.result c.word.result well words c.in-Stem.is within same c.word.ensures) sized all in
     omega (arith, le)
 
 pub returns-in-Pin-clause-shown : goal.returns-in-Pin-clause-shown
 returns-in-Pin-clause-shown c = λ tests block words.
-    let circuit = c.args.circuit.now in
-    let well = c.requires.circuit.well_formed in
-    let good = c.args.good.now in
-    let lanes = c.args.lanes in
+    let circuit = c.args.view.circuit.now in
+    let well = c.requires.view.circuit.well_formed in
+    let good = c.args.view.good.now in
+    let lanes = c.args.view.lanes in
     let fault = stuck_fault c.args.fault in
     let n = carries c.args.fault.model circuit fault well c.requires.listed in
     let reads : argument (definition circuit c.in-Pin.gate) c.in-Pin.pin ≡ Some n.0 = ap (carried circuit) (sym c.in-Pin.is) ∙ n.1 in
     let p = pin_of circuit c.in-Pin.gate c.in-Pin.pin n.0 reads in
     let gate_is : gate_of circuit c.in-Pin.gate ≡ Some (p.kind, map (signal circuit) p.args) = ap (gate_line circuit) p.is in
     let low : c.in-Pin.gate < length (names circuit) = gate_within circuit c.in-Pin.gate c.in-Pin.pin n.0 reads in
-    let within : c.in-Pin.gate < length c.args.overlay.now = omega (arith, low, c.requires.overlay) in
+    let within : c.in-Pin.gate < length c.gate_change-diff.new.changes.overlay =
+    (let same = ap length c.gate_change-diff.ensures.overlay in omega (arith, low, c.requires.room.overlay, same)) in
     let now : (k : ℕ) → k < 64 → lane lanes k ≡ true → lane (bit_xor (slice_index_or good c.in-Pin.gate 0) c.gate_change-diff.result) k
-    ≡ value p.kind (pin_bits (Some fault) c.in-Pin.gate (map (signal circuit) p.args) good c.args.overlay.now k) =
+    ≡ value p.kind (pin_bits (Some fault) c.in-Pin.gate (map (signal circuit) p.args) good c.gate_change-diff.new.changes.overlay k) =
     λ k lt in_lanes. c.gate_change-diff.ensures.changed p.kind (map (signal circuit) p.args) k gate_is lt in_lanes
-    ∙ ap (λ d. value p.kind (pin_bits (Some fault) c.in-Pin.gate (map (signal circuit) p.args) good d k)) c.words.ensures in
-    c.spread-in-Pin.ensures.shown tests block fault (first_on_pin circuit tests block fault good lanes c.args.overlay.now c.in-Pin.gate c.in-Pin.pin c.gate_change-diff.result p.kind (map (signal circuit) p.args) well words c.in-Pin.is within (λ r. no_loop circuit c.in-Pin.gate well r) gate_is now)
+    ∙ ap (λ d. value p.kind (pin_bits (Some fault) c.in-Pin.gate (map (signal circuit) p.args) good d k)) (sym c.gate_change-diff.ensures.overlay) in
+    c.spread-in-Pin.ensures.shown tests block fault (first_on_pin circuit tests block fault good lanes c.gate_change-diff.new.changes.overlay c.in-Pin.gate c.in-Pin.pin c.gate_change-diff.result p.kind (map (signal circuit) p.args) well words c.in-Pin.is within (λ r. no_loop circuit c.in-Pin.gate well r) gate_is now)
 
 pub returns-in-Pin-clause-counted : goal.returns-in-Pin-clause-counted
 returns-in-Pin-clause-counted c = λ tests block gates words sized all.
-    let circuit = c.args.circuit.now in
-    let well = c.requires.circuit.well_formed in
-    let good = c.args.good.now in
-    let lanes = c.args.lanes in
+    let circuit = c.args.view.circuit.now in
+    let well = c.requires.view.circuit.well_formed in
+    let good = c.args.view.good.now in
+    let lanes = c.args.view.lanes in
     let fault = stuck_fault c.args.fault in
     let n = carries c.args.fault.model circuit fault well c.requires.listed in
     let reads : argument (definition circuit c.in-Pin.gate) c.in-Pin.pin ≡ Some n.0 = ap (carried circuit) (sym c.in-Pin.is) ∙ n.1 in
     let p = pin_of circuit c.in-Pin.gate c.in-Pin.pin n.0 reads in
     let gate_is : gate_of circuit c.in-Pin.gate ≡ Some (p.kind, map (signal circuit) p.args) = ap (gate_line circuit) p.is in
     let low : c.in-Pin.gate < length (names circuit) = gate_within circuit c.in-Pin.gate c.in-Pin.pin n.0 reads in
-    let within : c.in-Pin.gate < length c.args.overlay.now = omega (arith, low, c.requires.overlay) in
+    let within : c.in-Pin.gate < length c.gate_change-diff.new.changes.overlay =
+    (let same = ap length c.gate_change-diff.ensures.overlay in omega (arith, low, c.requires.room.overlay, same)) in
     let now : (k : ℕ) → k < 64 → lane lanes k ≡ true → lane (bit_xor (slice_index_or good c.in-Pin.gate 0) c.gate_change-diff.result) k
-    ≡ value p.kind (pin_bits (Some fault) c.in-Pin.gate (map (signal circuit) p.args) good c.args.overlay.now k) =
+    ≡ value p.kind (pin_bits (Some fault) c.in-Pin.gate (map (signal circuit) p.args) good c.gate_change-diff.new.changes.overlay k) =
     λ k lt in_lanes. c.gate_change-diff.ensures.changed p.kind (map (signal circuit) p.args) k gate_is lt in_lanes
-    ∙ ap (λ d. value p.kind (pin_bits (Some fault) c.in-Pin.gate (map (signal circuit) p.args) good d k)) c.words.ensures in
+    ∙ ap (λ d. value p.kind (pin_bits (Some fault) c.in-Pin.gate (map (signal circuit) p.args) good d k)) (sym c.gate_change-diff.ensures.overlay) in
     let number : c.carried-signal.result ≡ signal circuit n.0 = c.carried-signal.ensures n.0 n.1 in
     let turned = bit_and (bit_xor c.word.result (slice_index_or good c.carried-signal.result 0)) lanes in
     let below : turned < 2 ^ 64 = (let le = and_le_r (bit_xor c.word.result (slice_index_or good c.carried-signal.result 0)) lanes in omega (arith, le)) in
@@ -229,15 +234,15 @@ returns-in-Pin-clause-counted c = λ tests block gates words sized all.
     let stirred = pin_stirred circuit tests block fault good n.0 well words n.1 lanes turned (turned_is circuit fault good lanes c.carried-signal.result c.word.result n.0 number c.word.ensures)
     k.0 c.in-Pin.gate c.in-Pin.pin k.1 c.in-Pin.is sized k.2 p.name p.kind p.args (contained circuit (Gate p.name p.kind p.args) d.3) at p.reads in
     let counted = count_one c.in-Pin.gate gates (all c.in-Pin.gate stirred) in
-    let le = c.spread-in-Pin.ensures.counted tests block fault gates (first_on_pin circuit tests block fault good lanes c.args.overlay.now c.in-Pin.gate c.in-Pin.pin c.gate_change-diff.result p.kind (map (signal circuit) p.args) well words c.in-Pin.is within (λ r. no_loop circuit c.in-Pin.gate well r) gate_is now) sized all in
+    let le = c.spread-in-Pin.ensures.counted tests block fault gates (first_on_pin circuit tests block fault good lanes c.gate_change-diff.new.changes.overlay c.in-Pin.gate c.in-Pin.pin c.gate_change-diff.result p.kind (map (signal circuit) p.args) well words c.in-Pin.is within (λ r. no_loop circuit c.in-Pin.gate well r) gate_is now) sized all in
     omega (arith, le, counted, c.gate_change-diff.ensures.counted)
 
 pub returns-in-Data-clause-shown : goal.returns-in-Data-clause-shown
 returns-in-Data-clause-shown c = λ tests block words.
-    let circuit = c.args.circuit.now in
-    let well = c.requires.circuit.well_formed in
-    let good = c.args.good.now in
-    let lanes = c.args.lanes in
+    let circuit = c.args.view.circuit.now in
+    let well = c.requires.view.circuit.well_formed in
+    let good = c.args.view.good.now in
+    let lanes = c.args.view.lanes in
     let fault = stuck_fault c.args.fault in
     let n = carries c.args.fault.model circuit fault well c.requires.listed in
     let number : c.carried-signal.result ≡ signal circuit n.0 = c.carried-signal.ensures n.0 n.1 in
@@ -247,3 +252,12 @@ returns-in-Data-clause-shown c = λ tests block words.
       | inl x ↦ at_observer (sink.Data x.0) (sym x.1) (data_observed circuit x.0 n.0 (ap (carried circuit) (sym x.1) ∙ n.1))
       | inr x ↦ at_observer (sink.Out x.0) (sym x.1) (output_observed circuit x.0 n.0 (ap (carried circuit) (sym x.1) ∙ n.1))
     ]
+
+pub spread-requires-in-Pin-clause-room : goal.spread-requires-in-Pin-clause-room
+spread-requires-in-Pin-clause-room c =
+    let large : IsAsLarge c.args.changes.now c.gate_change-diff.new.changes = record {
+      overlay = ap length c.gate_change-diff.ensures.overlay;
+      gates = ap (λ b. length b.at) c.gate_change-diff.ensures.buckets;
+      levels = ap (λ b. b.levels) c.gate_change-diff.ensures.buckets;
+    } in
+    large_enough c.args.view.circuit.now c.args.changes.now c.gate_change-diff.new.changes c.requires.room large

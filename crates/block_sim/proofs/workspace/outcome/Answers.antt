@@ -1,6 +1,7 @@
 use Rattle.std.proofs.Common.{◌≡◌, ◌<◌, ℕ, ◌+◌, ◌*◌, sym, ◌∙◌, ap, subst, length, arith}
 use Rattle.std.specs.Prelude.{None, Option, bit_and, nat_lt, unwrap_or}
 use Rattle.std.specs.Bool.{Decides}
+use Rattle.bench_net.specs.Scan.{names}
 use Rattle.bench_net.specs.Level.{HasLevel}
 use Rattle.fault_model.specs.Detection.{LooksBack}
 use Rattle.fault_model.specs.Fault.{Fault}
@@ -14,17 +15,24 @@ use Rattle.block_sim.proofs.Finish.{outcome_of_shown}
 use Rattle.block_sim.proofs.Steps.{lanes_decide}
 use Rattle.block_sim.proofs.workspace.outcome.Goals as goal
 
-pub effect-seen-requires-clause-words : goal.effect-seen-requires-clause-words
-effect-seen-requires-clause-words c =
+pub effect-requires-clause-words : goal.effect-requires-clause-words
+effect-requires-clause-words c =
     let tests = c.args.job.now.tests.tests in
     (tests, c.args.block, subst (λ x. AreWords x tests c.args.block None c.fault_free.result.now) (sym c.flat.ensures.part) c.fault_free.ensures.words)
 
-pub effect-seen-requires-clause-levels : goal.effect-seen-requires-clause-levels
-effect-seen-requires-clause-levels c = λ g k h.
+pub effect-requires-clause-room : goal.effect-requires-clause-room
+effect-requires-clause-room c =
     let circuit = c.args.job.now.circuit in
-    let le = level_within circuit g k c.flat.ensures.together.circuit.well_formed (subst (λ x. HasLevel x g k) c.flat.ensures.part h) in
-    let room : length c.workspace.inside.overlay ≡ c.args.workspace.now.signals = ap (λ r. r.signals) c.workspace.view_is in
-    omega (arith, le, room, c.requires.fits, c.workspace.invariant.levels)
+    let changes = c.workspace.inside.changes in
+    let signals : length changes.overlay ≡ c.args.workspace.now.signals = ap (λ r. r.signals) c.workspace.view_is in
+    let same = ap (λ x. length (names x)) c.flat.ensures.part in
+    record {
+      overlay = omega (arith, same, signals, c.requires.fits);
+      gates = omega (arith, same, signals, c.requires.fits, c.workspace.invariant.gates);
+      levels = λ g k h.
+          let le = level_within circuit g k c.flat.ensures.together.circuit.well_formed (subst (λ x. HasLevel x g k) c.flat.ensures.part h) in
+          omega (arith, le, signals, c.requires.fits, c.workspace.invariant.levels);
+    }
 
 pub returns-clause-outcome : goal.returns-clause-outcome
 returns-clause-outcome c =
@@ -39,8 +47,8 @@ returns-clause-outcome c =
     let decides : (k : ℕ) → k < 64 → Decides (lane lanes k) ((k < size_of (length tests) block) × LooksBack job.circuit tests fault.model fault.line fault.stuck (64 * block + k)) =
     λ k lt. lanes_decide c.lanes_below.result c.lanes_that_fit.result (size_of (length tests) block) k (c.lanes_below.ensures k lt ∙ ap (nat_lt k) size) (c.lanes_that_fit.ensures k) in
     let words : AreWords c.flat.result.now tests block None good = subst (λ x. AreWords x tests block None good) (sym c.flat.ensures.part) c.fault_free.ensures.words in
-    let shown : AreShown job.circuit tests block fault good lanes c.effect-seen.result = subst (λ x. AreShown x tests block fault good lanes c.effect-seen.result) c.flat.ensures.part (c.effect-seen.ensures.shown tests block words) in
-    (fault, c.representative-fault.ensures.representative, outcome_of_shown job.circuit tests block fault good lanes c.effect-seen.result well c.fault_free.ensures.words decides shown c.least_lane.result c.least_lane.ensures)
+    let shown : AreShown job.circuit tests block fault good lanes c.effect.result = subst (λ x. AreShown x tests block fault good lanes c.effect.result) c.flat.ensures.part (c.effect.ensures.shown tests block words) in
+    (fault, c.representative-fault.ensures.representative, outcome_of_shown job.circuit tests block fault good lanes c.effect.result well c.fault_free.ensures.words decides shown c.least_lane.result c.least_lane.ensures)
 
 pub returns-clause-counted : goal.returns-clause-counted
 returns-clause-counted c = λ r gates at all.
@@ -57,6 +65,6 @@ returns-clause-counted c = λ r gates at all.
     let words : AreWords c.flat.result.now tests block None good = subst (λ x. AreWords x tests block None good) (sym c.flat.ensures.part) c.fault_free.ensures.words in
     let same : r ≡ fault = ap (λ (o : Option Fault). unwrap_or o r) (sym at ∙ c.representative-fault.ensures.representative) in
     let stirred : HasStirred c.flat.result.now tests block fault gates = subst (λ x. HasStirred x tests block fault gates) (sym c.flat.ensures.part) (subst (λ x. HasStirred job.circuit tests block x gates) same all) in
-    let le = c.effect-seen.ensures.counted tests block gates words (λ k lt e. ((decides k lt).0 e).0) stirred in
-    let before : c.workspace.inside.evaluations ≡ c.args.workspace.now.evaluations = ap (λ x. x.evaluations) c.workspace.view_is in
+    let le = c.effect.ensures.counted tests block gates words (λ k lt e. ((decides k lt).0 e).0) stirred in
+    let before : c.workspace.inside.changes.evaluations ≡ c.args.workspace.now.evaluations = ap (λ x. x.evaluations) c.workspace.view_is in
     omega (arith, le, before)

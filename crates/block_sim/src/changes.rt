@@ -1,0 +1,33 @@
+//! What a fault changes on a block: the signals that differ, and the gates that wait for that.
+
+ghost use Rattle.std.specs.Prelude.{◌≡◌, ◌+◌, ◌<◌, ◌^◌, IfOk, length};
+ghost use Rattle.block_sim.specs.Changes.{IsAtRest};
+
+use event_queue::{Buckets, Overlay};
+use std::alloc::{AllocError, Global};
+
+/// The words that differ, the gates that wait, and how often a gate was evaluated.
+#[derive(Drop)]
+pub struct Changes {
+    pub overlay: Overlay,
+    pub buckets: Buckets,
+    pub evaluations: u64,
+}
+
+impl Changes {
+    /// Nothing differs and no gate waits. There is room for this many signals and one level more.
+    pub fn new(alloc: Global, signals: u32) -> Result<Changes, AllocError>
+        requires { signals + 1 < 2 ^ 32 }
+        ensures rest { IfOk result IsAtRest }
+        ensures room { IfOk result (λ changes. length changes.overlay ≡ signals) }
+        ensures fresh { IfOk result (λ changes. changes.evaluations ≡ 0) }
+    {
+        let overlay = Overlay::new(alloc, signals)?;
+        let buckets = Buckets::new(alloc, signals, signals + 1)?;
+        Ok(Changes {
+            overlay,
+            buckets,
+            evaluations: 0,
+        })
+    }
+}
