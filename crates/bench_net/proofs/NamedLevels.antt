@@ -1,8 +1,7 @@
 -- Levels by numbers are levels by names.
 use Rattle.std.proofs.Common.{◌≡◌, ◌<◌, ◌≤◌, ◌+◌, ℕ, sym, ◌∙◌, ap, subst, refl, List, [], ◌∷◌, map, length, get_or, arith, inl, inr, ◌⊎◌}
-use Rattle.std.specs.Prelude.{Some, None, slice_index, Contains, flat_map, AllPairs}
+use Rattle.std.specs.Prelude.{Some, None, slice_index, Contains, flat_map}
 use Rattle.std.specs.List.{filter_map}
-use Rattle.std.proofs.lemmas.Bool.{cases_order}
 use Rattle.std.proofs.lemmas.List.{length-map, same_lists, get_or-map, get_or_default}
 use Rattle.bench_net.specs.declared.Kind.{Kind}
 use Rattle.bench_net.specs.declared.GateLine.{GateLine}
@@ -11,16 +10,15 @@ use Rattle.bench_net.specs.declared.line.Line.TheVariants as line
 use Rattle.bench_net.specs.Statement.{Name, Statement, Input, Output, Gate, Dff}
 use Rattle.bench_net.specs.Scan.{names, signal, sources}
 use Rattle.bench_net.specs.Circuit.{IsNumbering}
-use Rattle.bench_net.specs.Level.{greatest, AreLevels, HasLevel, GoesBefore, IsLevelOrder, HasDepth}
+use Rattle.bench_net.specs.Level.{greatest, AreLevels, HasLevel, IsLevelOrder, HasDepth}
 use Rattle.bench_net.specs.Stored.{name_at, statements_of, read_numbers}
 use Rattle.bench_net.specs.Tables.{input_number, cell_numbers, defined_number, AreDefinitions}
 use Rattle.bench_net.specs.Marks.{gate_pins, line_pins, level_from, AreLevelsOf}
-use Rattle.bench_net.specs.Rows.{rank, AreRows}
+use Rattle.bench_net.specs.Rows.{AreRows}
 use Rattle.lists.proofs.Members.{Among, among, contained, among_append}
 use Rattle.bench_net.proofs.Counted.{pins_read}
 use Rattle.bench_net.proofs.Marking.{greatest-cons}
-use Rattle.bench_net.proofs.Ranks.{rank-equal, rank-less, rank-in}
-use Rattle.bench_net.proofs.Grouped.{has_rank}
+use Rattle.bench_net.proofs.Grouped.{place_listed, places_ordered}
 use Rattle.bench_net.proofs.Named.{AreNamed, name_of_at, signal_at, sources_are, source_numbers, pins_of_line, no_pins, defined_below}
 
 -- the level of a name by the table
@@ -135,40 +133,14 @@ has_depth ns lines places levels depth named are level is =
 
 pub level_order : (ns : List Name) (lines : List Line) (places levels order starts : List ℕ) (count : ℕ) → AreNamed ns lines → AreDefinitions lines places → AreLevelsOf (gate_pins lines places) (length ns) levels
     → AreRows levels count starts order → ((i : ℕ) → i < length levels → get_or levels i 0 < count) → IsLevelOrder (statements_of ns lines) order
-level_order ns lines places levels order starts count named are level rows below = record { all = all; count = counted; ordered = ordered }
+level_order ns lines places levels order starts count named are level rows below = record {
+  all = λ s lt. let within : s < length levels = omega (arith, lt, names_count, level.count) in place_listed levels starts order count s rows within (below s within);
+  count = omega (arith, rows.places_count, level.count, names_count);
+  ordered = λ a b d less lt. let goes = places_ordered levels starts order count rows a b d less lt in (get_or levels (get_or order a d) 0, get_or levels (get_or order b d) 0, has (get_or order a d) goes.0, has (get_or order b d) goes.1, goes.2);
+}
   where
     names_count : length (names (statements_of ns lines)) ≡ length ns
     names_count = ap length named.numbered.names_are
 
-    counted : length order ≡ length (names (statements_of ns lines))
-    counted = rows.places_count ∙ (level.count ∙ sym names_count)
-
-    at : (i : ℕ) → i < length levels → (d : ℕ) → get_or order (rank levels i) d ≡ i
-    at i lt d = get_or_default order (rank levels i) d 0 (omega (arith, rows.places_count, rank-in levels i lt)) ∙ rows.places_are i lt
-
-    all : (s : ℕ) → s < length (names (statements_of ns lines)) → Contains order s
-    all s lt =
-        let in_levels : s < length levels = omega (arith, lt, names_count, level.count) in
-        (rank levels s, omega (arith, rows.places_count, rank-in levels s in_levels), at s in_levels s)
-
-    before : (i j : ℕ) → i < length levels → j < length levels → rank levels i < rank levels j → GoesBefore (statements_of ns lines) i j
-    before i j i_lt j_lt less = (get_or levels i 0, get_or levels j 0, has_level ns lines places levels i named are level (omega (arith, i_lt, level.count)), has_level ns lines places levels j named are level (omega (arith, j_lt, level.count)), by_level (cases_order (get_or levels i 0) (get_or levels j 0)))
-      where
-        by_level : (get_or levels i 0 ≡ get_or levels j 0) ⊎ ((get_or levels i 0 < get_or levels j 0) ⊎ (get_or levels j 0 < get_or levels i 0))
-            → (get_or levels i 0 < get_or levels j 0) ⊎ ((get_or levels i 0 ≡ get_or levels j 0) × (i < j))
-        by_level (inl e) = inr (e, by_number (cases_order i j))
-          where
-            by_number : (i ≡ j) ⊎ ((i < j) ⊎ (j < i)) → i < j
-            by_number (inl same) = absurd (omega (arith, less, ap (rank levels) same))
-            by_number (inr (inl lt)) = lt
-            by_number (inr (inr gt)) = absurd (omega (arith, less, rank-equal levels j i gt i_lt (sym e)))
-        by_level (inr (inl lt)) = inl lt
-        by_level (inr (inr gt)) = absurd (omega (arith, less, rank-less levels j i j_lt gt))
-
-    ordered : AllPairs (GoesBefore (statements_of ns lines)) order
-    ordered a b d a_lt b_lt =
-        let i = has_rank levels a count below (omega (arith, a_lt, b_lt, rows.places_count)) in
-        let j = has_rank levels b count below (omega (arith, b_lt, rows.places_count)) in
-        let i_is : get_or order a d ≡ i.0 = ap (λ x. get_or order x d) (sym i.2) ∙ at i.0 i.1 d in
-        let j_is : get_or order b d ≡ j.0 = ap (λ x. get_or order x d) (sym j.2) ∙ at j.0 j.1 d in
-        subst (λ x. GoesBefore (statements_of ns lines) x (get_or order b d)) (sym i_is) (subst (GoesBefore (statements_of ns lines) i.0) (sym j_is) (before i.0 j.0 i.1 j.1 (omega (arith, a_lt, i.2, j.2))))
+    has : (s : ℕ) → s < length levels → HasLevel (statements_of ns lines) s (get_or levels s 0)
+    has s lt = has_level ns lines places levels s named are level (omega (arith, lt, level.count))

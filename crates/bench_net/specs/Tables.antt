@@ -1,5 +1,5 @@
 -- Tables of stored lines, by the numbers that the lines hold.
-use Rattle.std.specs.Prelude.{◌≡◌, ◌≢◌, ℕ, ◌+◌, ◌<◌, ◌≤◌, ◌^◌, ◌==◌, Bool, List, [], ◌∷◌, ◌++◌, map, flat_map, filter, length, Contains, Option, Some, None, is_some, slice_get, slice_index, slice_range}
+use Rattle.std.specs.Prelude.{◌≡◌, ◌≢◌, ℕ, ◌+◌, ◌<◌, ◌≤◌, ◌^◌, ◌==◌, Bool, List, [], ◌∷◌, ◌++◌, map, flat_map, filter, length, Contains, Option, Some, None, is_some, slice_get, slice_index, slice_index_or, slice_range}
 use Rattle.std.specs.List.{enumerate_from, filter_map}
 use Rattle.bench_net.specs.declared.tables.Tables.{Tables}
 pub use Rattle.bench_net.specs.Stored.{defined_number}
@@ -59,6 +59,13 @@ line_readers cell (line.Dff q d ∷ lines) = record { signal = d; sink = Data ce
 -- the readers of all signals: gate pins and data pins by their lines, then the outputs
 abbrev pub all_readers : List Line → List ℕ → List Reader
 all_readers lines outputs = line_readers 0 lines ++ output_readers outputs
+
+-- the reader at a place, and past the last one a reader of nothing
+abbrev pub no_reader : Reader
+no_reader = record { signal = 0; sink = Out 0 }
+
+abbrev pub reader_at : List Reader → ℕ → Reader
+reader_at readers place = slice_index_or readers place no_reader
 
 -- the sinks of one signal among the readers
 abbrev pub sinks_at : List Reader → ℕ → List Sink

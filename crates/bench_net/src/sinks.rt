@@ -1,10 +1,9 @@
 //! The sinks of each signal.
 
-ghost use Rattle.std.specs.Prelude.{◌≡◌, ◌++◌, ◌^◌, ◌<◌, ◌+◌, ℕ, map, length, slice_get, slice_index, ◌≤◌, Contains, Some, option_map, OnOk, IfOk};
-ghost use Rattle.bench_net.specs.Tables.{pin_readers, output_readers, line_readers, all_readers, AreSinkRows, PinsFit};
+ghost use Rattle.std.specs.Prelude.{◌≡◌, ◌++◌, ◌^◌, ◌<◌, ◌+◌, ◌≤◌, map, length, slice_index, All, Contains, OnOk, IfOk};
+ghost use Rattle.bench_net.specs.Tables.{pin_readers, output_readers, line_readers, all_readers, reader_at, AreSinkRows, PinsFit};
 ghost use Rattle.bench_net.specs.Marks.{row_of};
 ghost use Rattle.bench_net.specs.declared.line.Line.{Line};
-ghost use Rattle.bench_net.specs.declared.sinks.Reader.{Reader};
 
 use crate::Sink;
 use crate::line::Line;
@@ -99,9 +98,9 @@ fn add_lines(readers: &mut Vec<Reader>, lines: &[Line]) -> Result<(), AllocError
 
 /// The sinks of the readers at these places.
 fn sinks_of(alloc: Global, readers: &[Reader], places: &[u32]) -> Result<Vec<Sink>, AllocError>
-    requires { (i : ℕ) → i < length places.now → slice_index places.now i < length readers.now }
-    ensures { IfOk result (λ sinks. map Some sinks.items
-        ≡ map (λ place. option_map (λ reader. reader.sink) (slice_get readers.now place)) places.now) }
+    requires { All (λ place. place < length readers.now) places.now }
+    ensures { IfOk result (λ sinks. sinks.items
+        ≡ map (λ place. (reader_at readers.now place).sink) places.now) }
 {
     let mut sinks = Vec::with_capacity(alloc, places.len())?;
     for place in places {
@@ -143,8 +142,7 @@ pub fn sink_rows(
     requires few_outputs { length outputs.now < 2 ^ 32 }
     requires few_readers { length (all_readers lines.now outputs.now) < 2 ^ 32 }
     requires pins { (l : Line) → Contains lines.now l → PinsFit l }
-    requires below { (reader : Reader) → Contains (all_readers lines.now outputs.now) reader
-        → reader.signal < signals }
+    requires below { All (λ reader. reader.signal < signals) (all_readers lines.now outputs.now) }
     ensures { IfOk result (λ rows. AreSinkRows (all_readers lines.now outputs.now) signals
         rows.starts.items rows.sinks.items) }
 {

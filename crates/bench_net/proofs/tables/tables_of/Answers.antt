@@ -1,8 +1,8 @@
-use Rattle.std.proofs.Common.{◌≡◌, ◌∙◌, ap, arith, subst, map, length, get_or, ◌++◌, ℕ}
-use Rattle.std.specs.Prelude.{flat_map}
+use Rattle.std.proofs.Common.{◌≡◌, ◌<◌, ◌∙◌, ap, arith, subst, map, length, get_or, ◌++◌, ℕ}
+use Rattle.std.specs.Prelude.{flat_map, Contains}
 use Rattle.std.specs.List.{filter_map}
 use Rattle.std.proofs.lemmas.List.{length-map, length-append}
-use Rattle.std.proofs.lemmas.List.Elements.{Contains-get_or}
+use Rattle.std.proofs.lemmas.List.Elements.{Contains-get_or, All-weaker, All-contains_itself}
 use Rattle.bench_net.specs.Stored.{defined_numbers, read_numbers}
 use Rattle.bench_net.specs.Tables.{input_number, cell_numbers, output_number, all_readers, ArePlaces, AreSinkRows}
 use Rattle.lists.proofs.Members.{Among, among, contained}
@@ -52,11 +52,13 @@ pub sink_rows-requires-clause-pins : goal.sink_rows-requires-clause-pins
 sink_rows-requires-clause-pins c = λ l has. all_fit c.args.lines.now l (omega (arith, c.requires.few_reads)) (among c.args.lines.now l has)
 
 pub sink_rows-requires-clause-below : goal.sink_rows-requires-clause-below
-sink_rows-requires-clause-below c = λ reader has.
+sink_rows-requires-clause-below c =
     let lines = c.args.lines.now in
     let outputs : c.deref-4.result.now ≡ filter_map output_number lines = c.deref-4.ensures.value ∙ c.in_ok-outputs.ensures in
-    let read = reader_reads lines reader (subst (λ os. Among reader (all_readers lines os)) outputs (among (all_readers lines c.deref-4.result.now) reader has)) in
-    c.requires.read_below reader.signal (contained (flat_map read_numbers lines) reader.signal read)
+    let readers = all_readers lines c.deref-4.result.now in
+    All-weaker (Contains readers) (λ reader. reader.signal < c.args.signals) (λ reader has.
+    let read = reader_reads lines reader (subst (λ os. Among reader (all_readers lines os)) outputs (among readers reader has)) in
+    c.requires.read_below reader.signal (contained (flat_map read_numbers lines) reader.signal read)) readers (All-contains_itself readers)
 
 pub returns : goal.returns
 returns c =
