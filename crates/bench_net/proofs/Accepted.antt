@@ -14,6 +14,7 @@ use Rattle.lists.proofs.Members.{Among, among, contained}
 use Rattle.bench_net.proofs.Counted.{few_lines, pins_read, pin_count}
 use Rattle.bench_net.proofs.Named.{line_at, gate_at, definition_count, at_among}
 use Rattle.bench_net.proofs.Calls.{defined_in}
+use Rattle.bench_net.proofs.PinRows.{have_pins}
 use Rattle.bench_net.proofs.NamedLevels.{level_by, levels_by, numbering_by, named_among}
 use Rattle.bench_net.proofs.Numbering.{reads_numbers}
 
@@ -31,7 +32,9 @@ table_lines ns lines at are = record {
 
 pub graph : (ns : List Name) (lines : List Line) (at places : List ℕ) → AreStatements ns lines at → AreDefinitions lines places → IsGraph lines places
 graph ns lines at places are defs = record {
+  few = omega (arith, count, are.signals);
   has_line = λ s lt. let l = line_at ns lines places s are.numbered defs (omega (arith, lt, count)) in slice_get_within lines (slice_index places s) l.0 l.1;
+  some_pin = λ s lt. have_pins ns lines places are.numbered defs are.arities s (omega (arith, lt, count));
   few_pins = λ s pins lt is. let g = gate_at ns lines places s pins are.numbered defs (omega (arith, lt, count)) is in omega (arith, pin_count lines s g.0 g.1, ap length g.2, read_count ns lines, are.sinks);
   pins_below = λ s p pins lt is c. let g = gate_at ns lines places s pins are.numbered defs (omega (arith, lt, count)) is in
       omega (arith, count, are.numbered.in_range p (contained (flat_map read_numbers lines) p (pins_read lines s g.0 p g.1 (subst (Among p) (sym g.2) (among pins p c)))));

@@ -14,9 +14,11 @@ use Rattle.bench_net.specs.declared.levels.LevelFault.TheVariants.{Memory, Cycle
 use Rattle.bench_net.specs.declared.Sink.{Sink}
 use Rattle.bench_net.specs.declared.Sink.TheVariants.{Pin}
 use Rattle.bench_net.specs.Level.{greatest}
-use Rattle.bench_net.specs.Marks.{mark_from, HavePins, level_from, AreLevelsOf, HasPinIn, IsLevelFault, AreReaders, row_of, HasLevelAt, of_source, of_gate, HaveLevelsUpTo, IsMark, has_level, height, AreMarks, IsLevelled, WaitsAt, IsSearch, IsNextMark, IsFirstWaiting}
+use Rattle.bench_net.specs.Tables.{row_of}
+use Rattle.bench_net.specs.Marks.{mark_from, level_from, AreLevelsOf, HasPinIn, IsLevelFault, AreReaders, HasLevelAt, of_source, of_gate, HaveLevelsUpTo, IsMark, has_level, height, AreMarks, IsLevelled, WaitsAt, IsSearch, IsNextMark, IsFirstWaiting}
 use Rattle.lists.proofs.Members.{Among, among, contained, among_filter, filtered_from, among_map, mapped_from}
 use Rattle.lists.proofs.Places.{among_numbered, numbered_at, within_place}
+use Rattle.bench_net.proofs.Listed.{written}
 
 -- ---- the greatest of some numbers
 
@@ -109,7 +111,7 @@ module _ (pins : ℕ → Option (List ℕ)) where
           subst (HasLevelAt pins (slice_index read i)) (sym (get_or_push up.levels k 0 i (up.count ∙ here))) (subst (λ j. HasLevelAt pins (slice_index read j) k) here has)
 
   -- the marks before any gate is told of a level
-  pub first_are : (n : ℕ) (marks : List Mark) → length marks ≡ n → ((s : ℕ) → s < n → slice_get marks s ≡ Some (mark_from (pins s))) → HavePins pins n → AreMarks pins n marks
+  pub first_are : (n : ℕ) (marks : List Mark) → length marks ≡ n → ((s : ℕ) → s < n → slice_get marks s ≡ Some (mark_from (pins s))) → ((s : ℕ) → s < n → pins s ≢ Some []) → AreMarks pins n marks
   first_are n marks count at have = record {
     count = count;
     each = λ s m e. let lt : s < n = omega (arith, slice_get_within marks s m e, count) in (mark s m lt (pins s) refl (sym (at s lt) ∙ e)).0;
@@ -166,23 +168,11 @@ module _ (pins : ℕ → Option (List ℕ)) where
     waits = λ i a other e has. let bad : Level (most + 1) ≡ Waits i a = e in cc;
   }
 
-  -- what stands at a place after a write
-  marked : (marks : List Mark) (g : ℕ) (m : Mark) (s : ℕ) (x : Mark) → slice_get (set marks g m) s ≡ Some x → ((s ≡ g) × (x ≡ m)) ⊎ ((s ≢ g) × (slice_get marks s ≡ Some x))
-  marked [] g m s x e = let bad : None ≡ Some x = e in cc
-  marked (y ∷ marks) zero m zero x e = let both : Some m ≡ Some x = e in let same : x ≡ m = cc in inl (refl, same)
-  marked (y ∷ marks) zero m (suc s) x e = inr ((λ h. omega (arith, h)), e)
-  marked (y ∷ marks) (suc g) m zero x e = inr ((λ h. omega (arith, h)), e)
-  marked (y ∷ marks) (suc g) m (suc s) x e = later (marked marks g m s x e)
-    where
-      later : ((s ≡ g) × (x ≡ m)) ⊎ ((s ≢ g) × (slice_get marks s ≡ Some x)) → ((suc s ≡ suc g) × (x ≡ m)) ⊎ ((suc s ≢ suc g) × (slice_get marks s ≡ Some x))
-      later (inl h) = inl (ap suc h.0, h.1)
-      later (inr h) = inr ((λ same. h.0 (omega (arith, same))), h.1)
-
   marks_next : (n : ℕ) (marks : List Mark) (g pin above : ℕ) (m : Mark) → AreMarks pins n marks → slice_get marks g ≡ Some (Waits pin above) → IsNextMark pins marks g m → AreMarks pins n (set marks g m)
   marks_next n marks g pin above m are waits next = record {
     count = length-set marks g m ∙ are.count;
-    each = λ s x e. each s x (marked marks g m s x e);
-    small = λ s x e. small s x (marked marks g m s x e);
+    each = λ s x e. each s x (written marks g m s x e);
+    small = λ s x e. small s x (written marks g m s x e);
   }
     where
       each : (s : ℕ) (x : Mark) → ((s ≡ g) × (x ≡ m)) ⊎ ((s ≢ g) × (slice_get marks s ≡ Some x)) → IsMark pins s x
@@ -220,7 +210,7 @@ module _ (pins : ℕ → Option (List ℕ)) where
     marks_are = marks_next n marks g pin above m state.marks_are waits next;
     ready_below = below;
     row_below = λ h i c. state.row_below h i (contained (Pin g pin ∷ row) (Pin h i) (inr (among row (Pin h i) c)));
-    told = λ h i p w l. level h i p w l.0 (marked marks g m p (Level l.0) l.1);
+    told = λ h i p w l. level h i p w l.0 (written marks g m p (Level l.0) l.1);
   }
     where
       listed : (h i p : ℕ) → h ≢ g → Contains ready p ⊎ Contains (Pin g pin ∷ row) (Pin h i) → Contains later p ⊎ Contains row (Pin h i)
@@ -237,7 +227,7 @@ module _ (pins : ℕ → Option (List ℕ)) where
 
       level : (h i p : ℕ) → WaitsAt pins (set marks g m) h i p → (k : ℕ) → ((p ≡ g) × (Level k ≡ m)) ⊎ ((p ≢ g) × (slice_get marks p ≡ Some (Level k))) → Contains later p ⊎ Contains row (Pin h i)
       level h i p w k (inl same) = inl (subst (Contains later) (sym same.0) (has (ap has_level (sym same.1))))
-      level h i p w k (inr old) = wait h i p w (k, old.1) (marked marks g m h (Waits i w.0) w.2)
+      level h i p w k (inr old) = wait h i p w (k, old.1) (written marks g m h (Waits i w.0) w.2)
 
   -- a ready signal is taken to tell its row
   pub taken : (n : ℕ) (marks : List Mark) (ready rest : List ℕ) (s : ℕ) (starts : List ℕ) (sinks : List Sink) → AreReaders pins n starts sinks → IsSearch pins n marks ready [] → ready ≡ rest ++ s ∷ []

@@ -1,5 +1,5 @@
 -- Gates by the numbers of their signals, their levels, and the marks of a search for levels.
-use Rattle.std.specs.Prelude.{◌≡◌, ℕ, ◌+◌, ◌<◌, ◌≤◌, ◌^◌, List, [], map, length, Contains, Option, Some, None, slice_get, slice_index, slice_range, count_by, set, Bool, true, false, ◌⊎◌}
+use Rattle.std.specs.Prelude.{◌≡◌, ◌≢◌, ℕ, ◌+◌, ◌<◌, ◌≤◌, ◌^◌, List, [], map, length, Contains, Option, Some, None, slice_get, slice_index, count_by, set, Bool, true, false, ◌⊎◌}
 use Rattle.bench_net.specs.declared.line.Line.{Line}
 use Rattle.bench_net.specs.declared.line.Line.TheVariants as line
 use Rattle.bench_net.specs.declared.levels.Mark.{Mark}
@@ -9,6 +9,7 @@ use Rattle.bench_net.specs.declared.levels.LevelFault.TheVariants.{Memory, Cycle
 use Rattle.bench_net.specs.declared.Sink.{Sink}
 use Rattle.bench_net.specs.declared.Sink.TheVariants.{Pin}
 use Rattle.bench_net.specs.Level.{greatest}
+use Rattle.bench_net.specs.Tables.{HasRow, row_of}
 
 -- the numbers that the pins of a gate line read, and None for every other line
 abbrev pub line_pins : Option Line → Option (List ℕ)
@@ -19,9 +20,11 @@ line_pins _ = None
 abbrev pub gate_pins : List Line → List ℕ → ℕ → Option (List ℕ)
 gate_pins lines definitions s = line_pins (slice_get lines (slice_index definitions s))
 
--- each signal has a line, and each pin reads a signal
+-- each signal has a line, and each gate has pins, each of which reads a signal
 pub record IsGraph (lines : List Line) (definitions : List ℕ) : Type 0 where
+  pub few : length definitions < 2 ^ 31
   pub has_line : (s : ℕ) → s < length definitions → slice_index definitions s < length lines
+  pub some_pin : (s : ℕ) → s < length definitions → gate_pins lines definitions s ≢ Some []
   pub few_pins : (s : ℕ) (pins : List ℕ) → s < length definitions → gate_pins lines definitions s ≡ Some pins → length pins < 2 ^ 32
   pub pins_below : (s p : ℕ) (pins : List ℕ) → s < length definitions → gate_pins lines definitions s ≡ Some pins → Contains pins p → p < length definitions
 
@@ -52,19 +55,9 @@ abbrev pub IsLevelFault : (ℕ → Option (List ℕ)) → ℕ → LevelFault →
 IsLevelFault pins signals Memory = Unit {0}
 IsLevelFault pins signals (Cycle s) = (s < signals) × IsLowestStuck pins s
 
--- each gate has a pin
-abbrev pub HavePins : (ℕ → Option (List ℕ)) → ℕ → Type 0
-HavePins pins signals = (s : ℕ) → s < signals → (pins s ≡ Some []) → ⊥
-
--- the readers of a signal
-abbrev pub row_of : List ℕ → List Sink → ℕ → List Sink
-row_of starts sinks s = slice_range sinks (slice_index starts s) (slice_index starts (s + 1))
-
 -- rows of the readers of signals: each pin stands in the row of the signal that it reads, and each row has pins of gates alone
 pub record AreReaders (pins : ℕ → Option (List ℕ)) (signals : ℕ) (starts : List ℕ) (sinks : List Sink) : Type 0 where
-  pub starts_count : length starts ≡ signals + 1
-  pub in_order : (s : ℕ) → s < signals → slice_index starts s ≤ slice_index starts (s + 1)
-  pub within : (s : ℕ) → s < signals → slice_index starts (s + 1) ≤ length sinks
+  pub have_rows : (s : ℕ) → s < signals → HasRow starts sinks s
   pub pins_listed : (g i : ℕ) (read : List ℕ) → g < signals → pins g ≡ Some read → i < length read → Contains (row_of starts sinks (slice_index read i)) (Pin g i)
   pub gates_below : (s g i : ℕ) → s < signals → Contains (row_of starts sinks s) (Pin g i) → g < signals
 

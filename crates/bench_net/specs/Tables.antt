@@ -71,12 +71,21 @@ reader_at readers place = slice_index_or readers place no_reader
 abbrev pub sinks_at : List Reader → ℕ → List Sink
 sinks_at readers s = map (λ reader. reader.sink) (filter (λ reader. reader.signal == s) readers)
 
+-- a signal has a row of sinks
+pub record HasRow (starts : List ℕ) (sinks : List Sink) (s : ℕ) : Type 0 where
+  pub known : s + 1 < length starts
+  pub in_order : slice_index starts s ≤ slice_index starts (s + 1)
+  pub within : slice_index starts (s + 1) ≤ length sinks
+
+-- the row of a signal
+abbrev pub row_of : List ℕ → List Sink → ℕ → List Sink
+row_of starts sinks s = slice_range sinks (slice_index starts s) (slice_index starts (s + 1))
+
 -- the sinks of each signal below a number, row by row
-pub record AreSinkRows (readers : List Reader) (signals : ℕ) (starts : List ℕ) (sinks : List Sink) : Type 0 where
-  pub starts_count : length starts ≡ signals + 1
-  pub in_order : (s : ℕ) → s < signals → slice_index starts s ≤ slice_index starts (s + 1)
-  pub within : (s : ℕ) → s < signals → slice_index starts (s + 1) ≤ length sinks
-  pub rows : (s : ℕ) → s < signals → slice_range sinks (slice_index starts s) (slice_index starts (s + 1)) ≡ sinks_at readers s
+pub record AreSinkRows (readers : List Reader) (signals : ℕ) (starts : List ℕ)
+    (sinks : List Sink) : Type 0 where
+  pub have_rows : (s : ℕ) → s < signals → HasRow starts sinks s
+  pub rows : (s : ℕ) → s < signals → row_of starts sinks s ≡ sinks_at readers s
 
 -- a line's pins can be numbered
 abbrev pub PinsFit : Line → Type 0

@@ -1,8 +1,7 @@
 //! The sinks of each signal.
 
 ghost use Rattle.std.specs.Prelude.{◌≡◌, ◌++◌, ◌^◌, ◌<◌, ◌+◌, ◌≤◌, map, length, slice_index, All, Contains, OnOk, IfOk};
-ghost use Rattle.bench_net.specs.Tables.{pin_readers, output_readers, line_readers, all_readers, reader_at, AreSinkRows, PinsFit};
-ghost use Rattle.bench_net.specs.Marks.{row_of};
+ghost use Rattle.bench_net.specs.Tables.{pin_readers, output_readers, line_readers, all_readers, reader_at, row_of, HasRow, AreSinkRows, PinsFit};
 ghost use Rattle.bench_net.specs.declared.line.Line.{Line};
 
 use crate::Sink;
@@ -27,11 +26,7 @@ pub struct SinkRows {
 impl SinkRows {
     /// The sinks of a signal.
     pub fn row(&self, signal: u32) -> &[Sink]
-        requires starts { signal + 1 < length self.now.starts.items }
-        requires in_order { slice_index self.now.starts.items signal
-            ≤ slice_index self.now.starts.items (signal + 1) }
-        requires within { slice_index self.now.starts.items (signal + 1)
-            ≤ length self.now.sinks.items }
+        requires { HasRow self.now.starts.items self.now.sinks.items signal }
         ensures { result.now ≡ row_of self.now.starts.items self.now.sinks.items signal }
     {
         let start = self.starts[signal as usize] as usize;

@@ -11,7 +11,7 @@ use Rattle.bench_net.specs.Stored.{AreNumbered}
 use Rattle.bench_net.specs.declared.levels.LevelFault.TheVariants.{Cycle}
 use Rattle.bench_net.proofs.Named.{AreNamed, definition_count, line_at}
 use Rattle.bench_net.proofs.Accepted.{table_lines, graph, circuit}
-use Rattle.bench_net.proofs.PinRows.{readers_are, have_pins}
+use Rattle.bench_net.proofs.PinRows.{readers_are}
 use Rattle.bench_net.proofs.Refused.{lowest_line}
 use Rattle.bench_net.proofs.circuit.circuit_of.Goals as goal
 
@@ -29,12 +29,6 @@ facts names lines seen n tables numbered lines_are count are =
     let here = subst (λ ls. AreTables ls (length (map string_bytes names)) tables) lines_are (subst (λ k. AreTables seen k tables) same are) in
     (here, definition_count (map string_bytes names) lines tables.definitions.items numbered here.definitions_are)
 
-pub levels_of-requires-clause-few : goal.levels_of-requires-clause-few
-levels_of-requires-clause-few c =
-    let lines = c.args.lines.lines.items in
-    let tables = facts c.args.lines.names.items lines c.deref.result.now c.len.result c.in_ok-tables.tables c.requires.numbered c.deref.ensures.value (omega (arith, c.len.ensures)) c.in_ok-tables.ensures in
-    omega (arith, tables.1, ap length c.deref-3.ensures.value, c.requires.signals)
-
 pub levels_of-requires-clause-graph : goal.levels_of-requires-clause-graph
 levels_of-requires-clause-graph c =
     let ns = map string_bytes c.args.lines.names.items in
@@ -43,14 +37,6 @@ levels_of-requires-clause-graph c =
     let places = c.in_ok-tables.tables.definitions.items in
     let tables = facts c.args.lines.names.items lines c.deref.result.now c.len.result c.in_ok-tables.tables c.requires.numbered c.deref.ensures.value (omega (arith, c.len.ensures)) c.in_ok-tables.ensures in
     subst (IsGraph c.deref-2.result.now) (sym c.deref-3.ensures.value) (subst (λ ls. IsGraph ls places) (sym c.deref-2.ensures.value) (graph ns lines at places c.requires tables.0.definitions_are))
-
-pub levels_of-requires-clause-pins : goal.levels_of-requires-clause-pins
-levels_of-requires-clause-pins c =
-    let ns = map string_bytes c.args.lines.names.items in
-    let lines = c.args.lines.lines.items in
-    let places = c.in_ok-tables.tables.definitions.items in
-    let tables = facts c.args.lines.names.items lines c.deref.result.now c.len.result c.in_ok-tables.tables c.requires.numbered c.deref.ensures.value (omega (arith, c.len.ensures)) c.in_ok-tables.ensures in
-    rw (c.deref-2.ensures.value, c.deref-3.ensures.value, tables.1) (have_pins ns lines places c.requires.numbered tables.0.definitions_are c.requires.arities)
 
 pub levels_of-requires-clause-readers : goal.levels_of-requires-clause-readers
 levels_of-requires-clause-readers c =

@@ -4,14 +4,11 @@ use Rattle.bench_net.specs.Level.{greatest}
 use Rattle.bench_net.proofs.Marking.{greatest-at, greatest-within}
 use Rattle.bench_net.proofs.levels.levels_of.Goals as goal
 
-pub rows_of-requires-clause-few : goal.rows_of-requires-clause-few
-rows_of-requires-clause-few c = omega (arith, ap length c.deref-2.ensures.value, c.in_ok-levels.ensures.levels.count, c.requires.few)
-
 pub rows_of-requires-clause-few_rows : goal.rows_of-requires-clause-few_rows
 rows_of-requires-clause-few_rows c =
     let levels = c.in_ok-levels.levels.items in
     let is : c.greatest-depth.result ≡ greatest levels = c.greatest-depth.ensures ∙ ap greatest c.deref.ensures.value in
-    omega (arith, is, greatest-within levels (length levels) c.in_ok-levels.ensures.small, c.in_ok-levels.ensures.levels.count, c.requires.few)
+    omega (arith, is, greatest-within levels (length levels) c.in_ok-levels.ensures.small, c.in_ok-levels.ensures.levels.count, c.requires.graph.few)
 
 pub rows_of-requires-clause-below : goal.rows_of-requires-clause-below
 rows_of-requires-clause-below c = λ i d lt.

@@ -21,12 +21,7 @@ loop-signal-init c =
 pub row-requires : goal.row-requires
 row-requires c =
     let has = subst (λ xs. Contains xs c.in-Some.signal) (sym c.in-Some.ensures.items) (Contains-push c.pop.new.self.items c.in-Some.signal) in
-    let below = c.loop-signal.invariant.ready_below c.in-Some.signal has in
-    record {
-      starts = omega (arith, below, c.requires.readers.starts_count);
-      in_order = c.requires.readers.in_order c.in-Some.signal below;
-      within = c.requires.readers.within c.in-Some.signal below;
-    }
+    c.requires.readers.have_rows c.in-Some.signal (c.loop-signal.invariant.ready_below c.in-Some.signal has)
 
 pub tell_readers-requires-clause-search : goal.tell_readers-requires-clause-search
 tell_readers-requires-clause-search c =

@@ -27,15 +27,6 @@ source_places-requires-clause-below c = λ i lt.
     let defined = source_defined lines s (among sources s has) in
     omega (arith, ap (λ xs. get_or xs i 0) is, c.requires.defined_below s (contained (flat_map defined_numbers lines) s defined))
 
-pub definitions-requires : goal.definitions-requires
-definitions-requires c = omega (arith, c.requires.few_lines)
-
-pub sink_rows-requires-clause-few_lines : goal.sink_rows-requires-clause-few_lines
-sink_rows-requires-clause-few_lines c = omega (arith, c.requires.few_lines)
-
-pub sink_rows-requires-clause-few_signals : goal.sink_rows-requires-clause-few_signals
-sink_rows-requires-clause-few_signals c = omega (arith, c.requires.few_signals)
-
 pub sink_rows-requires-clause-few_outputs : goal.sink_rows-requires-clause-few_outputs
 sink_rows-requires-clause-few_outputs c =
     let lines = c.args.lines.now in
@@ -59,18 +50,3 @@ sink_rows-requires-clause-below c =
     All-weaker (Contains readers) (λ reader. reader.signal < c.args.signals) (λ reader has.
     let read = reader_reads lines reader (subst (λ os. Among reader (all_readers lines os)) outputs (among readers reader has)) in
     c.requires.read_below reader.signal (contained (flat_map read_numbers lines) reader.signal read)) readers (All-contains_itself readers)
-
-pub returns : goal.returns
-returns c =
-    let lines = c.args.lines.now in
-    let cells = filter_map cell_numbers lines in
-    let is : c.deref-3.result.now ≡ filter_map input_number lines ++ map (λ cell. cell.q) cells = c.deref-3.ensures.value ∙ (c.in_ok-sources.ensures ∙ (ap (λ xs. xs ++ map (λ cell. cell.q) c.deref-2.result.now) (c.deref.ensures.value ∙ c.in_ok-inputs.ensures) ∙ ap (λ xs. filter_map input_number lines ++ map (λ cell. cell.q) xs) (c.deref-2.ensures.value ∙ c.in_ok-cells.ensures))) in
-    let outputs : c.deref-4.result.now ≡ filter_map output_number lines = c.deref-4.ensures.value ∙ c.in_ok-outputs.ensures in
-    record {
-      inputs_are = c.in_ok-inputs.ensures;
-      cells_are = c.in_ok-cells.ensures;
-      outputs_are = c.in_ok-outputs.ensures;
-      places_are = subst (λ sources. ArePlaces sources c.args.signals c.in_ok-source_places.source_places.items) is c.in_ok-source_places.ensures;
-      definitions_are = c.in_ok-definitions.ensures;
-      sinks_are = subst (λ os. AreSinkRows (all_readers lines os) c.args.signals c.in_ok-sinks.sinks.starts.items c.in_ok-sinks.sinks.sinks.items) outputs c.in_ok-sinks.ensures;
-    }
