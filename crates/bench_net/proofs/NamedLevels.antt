@@ -15,8 +15,8 @@ use Rattle.bench_net.specs.Stored.{name_at, statements_of, read_numbers}
 use Rattle.bench_net.specs.Tables.{input_number, cell_numbers, defined_number, AreDefinitions}
 use Rattle.bench_net.specs.Marks.{gate_pins, line_pins, level_from, AreLevelsOf}
 use Rattle.bench_net.specs.Rows.{AreRows}
-use Rattle.lists.proofs.Members.{Among, among, contained, among_append}
-use Rattle.bench_net.proofs.Counted.{pins_read}
+use Rattle.lists.proofs.Members.{Among, among, contained, mapped_from}
+use Rattle.bench_net.proofs.Counted.{pins_read, source_line}
 use Rattle.bench_net.proofs.Marking.{greatest-cons}
 use Rattle.bench_net.proofs.Grouped.{place_listed, places_ordered}
 use Rattle.bench_net.proofs.Named.{AreNamed, name_of_at, signal_at, sources_are, source_numbers, pins_of_line, no_pins, defined_below}
@@ -52,43 +52,13 @@ gate_statement ns (line.Output s ∷ lines) n kind args (inl e) = let bad : Outp
 gate_statement ns (line.Dff q d ∷ lines) n kind args (inl e) = let bad : Dff (name_at ns q) (name_at ns d) ≡ Gate n kind args = e in cc
 gate_statement ns (l ∷ lines) n kind args (inr a) = let found = gate_statement ns lines n kind args a in (found.0, found.1, inr found.2, found.3, found.4, found.5)
 
--- a source is defined by a line that is no gate's
-source_line : (lines : List Line) (s : ℕ) → Among s (source_numbers lines) → (l : Line) × Among l lines × (defined_number l ≡ Some s) × (line_pins (Some l) ≡ None)
-source_line lines s a = go (among_append (filter_map input_number lines) (map (λ cell. cell.q) (filter_map cell_numbers lines)) s a)
-  where
-    input : (ls : List Line) → Among s (filter_map input_number ls) → (l : Line) × Among l ls × (defined_number l ≡ Some s) × (line_pins (Some l) ≡ None)
-    input [] b = absurd b
-    input (line.Input t ∷ ls) (inl e) = (line.Input t, inl refl, ap Some e, refl)
-    input (line.Input t ∷ ls) (inr b) = let found = input ls b in (found.0, inr found.1, found.2, found.3)
-    input (line.Output t ∷ ls) b = let found = input ls b in (found.0, inr found.1, found.2, found.3)
-    input (line.Gate t g ∷ ls) b = let found = input ls b in (found.0, inr found.1, found.2, found.3)
-    input (line.Dff q d ∷ ls) b = let found = input ls b in (found.0, inr found.1, found.2, found.3)
-
-    cell : (ls : List Line) → Among s (map (λ cell. cell.q) (filter_map cell_numbers ls)) → (l : Line) × Among l ls × (defined_number l ≡ Some s) × (line_pins (Some l) ≡ None)
-    cell [] b = absurd b
-    cell (line.Dff q d ∷ ls) (inl e) = (line.Dff q d, inl refl, ap Some e, refl)
-    cell (line.Dff q d ∷ ls) (inr b) = let found = cell ls b in (found.0, inr found.1, found.2, found.3)
-    cell (line.Input t ∷ ls) b = let found = cell ls b in (found.0, inr found.1, found.2, found.3)
-    cell (line.Output t ∷ ls) b = let found = cell ls b in (found.0, inr found.1, found.2, found.3)
-    cell (line.Gate t g ∷ ls) b = let found = cell ls b in (found.0, inr found.1, found.2, found.3)
-
-    go : Among s (filter_map input_number lines) ⊎ Among s (map (λ cell. cell.q) (filter_map cell_numbers lines)) → (l : Line) × Among l lines × (defined_number l ≡ Some s) × (line_pins (Some l) ≡ None)
-    go (inl b) = input lines b
-    go (inr b) = cell lines b
-
--- a name of a mapped list is that of a number
-pub named_among : (ns : List Name) (xs : List ℕ) (n : Name) → Among n (map (name_at ns) xs) → (s : ℕ) × Among s xs × (name_at ns s ≡ n)
-named_among ns [] n a = absurd a
-named_among ns (x ∷ xs) n (inl e) = (x, inl refl, e)
-named_among ns (x ∷ xs) n (inr a) = let found = named_among ns xs n a in (found.0, inr found.1, found.2)
-
 pub levels_by : (ns : List Name) (lines : List Line) (places levels : List ℕ) → AreNamed ns lines → AreDefinitions lines places → AreLevelsOf (gate_pins lines places) (length ns) levels
     → AreLevels (statements_of ns lines) (level_by ns lines levels)
 levels_by ns lines places levels named are level = record { source = source; gate = gate }
   where
     source : (n : Name) → Contains (sources (statements_of ns lines)) n → level_by ns lines levels n ≡ 0
     source n c =
-        let at = named_among ns (source_numbers lines) n (subst (Among n) (sources_are ns lines) (among (sources (statements_of ns lines)) n c)) in
+        let at = mapped_from (name_at ns) (source_numbers lines) n (subst (Among n) (sources_are ns lines) (among (sources (statements_of ns lines)) n c)) in
         let found = source_line lines at.0 at.1 in
         let lt = defined_below ns lines found.0 at.0 named.numbered found.1 found.2 in
         let none : gate_pins lines places at.0 ≡ None = no_pins ns lines places at.0 found.0 named.numbered are found.1 found.2 found.3 in

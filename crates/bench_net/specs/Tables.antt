@@ -1,9 +1,8 @@
 -- Tables of stored lines, by the numbers that the lines hold.
-use Rattle.std.specs.Prelude.{◌≡◌, ◌≢◌, ℕ, ◌+◌, ◌<◌, ◌≤◌, ◌^◌, ◌==◌, Bool, List, [], ◌∷◌, ◌++◌, map, flat_map, filter, length, Contains, Option, Some, None, is_some, slice_get, slice_index, slice_index_or, slice_range}
+use Rattle.std.specs.Prelude.{◌≡◌, ◌≢◌, ℕ, ◌+◌, ◌<◌, ◌≤◌, ◌^◌, ◌==◌, Bool, List, [], ◌∷◌, ◌++◌, map, filter, length, All, Contains, Option, Some, None, is_some, slice_get, slice_index, slice_index_or, slice_range}
 use Rattle.std.specs.List.{enumerate_from, filter_map}
 use Rattle.bench_net.specs.declared.tables.Tables.{Tables}
 pub use Rattle.bench_net.specs.Stored.{defined_number}
-use Rattle.bench_net.specs.Stored.{defined_numbers, read_numbers}
 use Rattle.bench_net.specs.declared.line.Line.{Line}
 use Rattle.bench_net.specs.declared.line.Line.TheVariants as line
 use Rattle.bench_net.specs.declared.ScanCell.{ScanCell}
@@ -92,19 +91,26 @@ abbrev pub PinsFit : Line → Type 0
 PinsFit (line.Gate s gate) = length gate.pins.items < 2 ^ 32
 PinsFit _ = Unit {0}
 
+-- the signals of the inputs, and then those of the cells' outputs
+abbrev pub source_signals : List Line → List ℕ
+source_signals lines = filter_map input_number lines ++ map (λ cell. cell.q) (filter_map cell_numbers lines)
+
 -- lines few enough to be numbered, whose numbers are all below a number of signals
 pub record AreTableLines (lines : List Line) (signals : ℕ) : Type 0 where
   pub few_lines : length lines < 2 ^ 31
   pub few_signals : signals < 2 ^ 31
-  pub few_reads : length (flat_map read_numbers lines) < 2 ^ 31
-  pub defined_below : (s : ℕ) → Contains (flat_map defined_numbers lines) s → s < signals
-  pub read_below : (s : ℕ) → Contains (flat_map read_numbers lines) s → s < signals
+  pub few_sources : length (source_signals lines) < 2 ^ 31
+  pub sources_below : All (λ s. s < signals) (source_signals lines)
+  pub few_outputs : length (filter_map output_number lines) < 2 ^ 31
+  pub few_readers : length (all_readers lines (filter_map output_number lines)) < 2 ^ 31
+  pub readers_below : All (λ reader. reader.signal < signals) (all_readers lines (filter_map output_number lines))
+  pub pins_fit : (l : Line) → Contains lines l → PinsFit l
 
 -- the tables of lines over numbered signals
 pub record AreTables (lines : List Line) (signals : ℕ) (tables : Tables) : Type 0 where
   pub inputs_are : tables.inputs.items ≡ filter_map input_number lines
   pub cells_are : tables.cells.items ≡ filter_map cell_numbers lines
   pub outputs_are : tables.outputs.items ≡ filter_map output_number lines
-  pub places_are : ArePlaces (filter_map input_number lines ++ map (λ cell. cell.q) (filter_map cell_numbers lines)) signals tables.source_places.items
+  pub places_are : ArePlaces (source_signals lines) signals tables.source_places.items
   pub definitions_are : AreDefinitions lines tables.definitions.items
   pub sinks_are : AreSinkRows (all_readers lines (filter_map output_number lines)) signals tables.sinks.starts.items tables.sinks.sinks.items
