@@ -1,11 +1,11 @@
 -- Levels, and the marks of a search for them.
-use Rattle.std.proofs.Common.{◌≡◌, ◌≢◌, ◌<◌, ◌≤◌, ◌+◌, ℕ, zero, suc, max, sym, ◌∙◌, ap, subst, refl, cond, true, not, List, [], ◌∷◌, ◌++◌, map, length, get_or, set, filter, arith, inl, inr, ◌⊎◌}
-use Rattle.std.specs.Prelude.{Option, Some, None, slice_get, slice_index, Contains, count_by, fold, unwrap_or}
+use Rattle.std.proofs.Common.{◌≡◌, ◌≢◌, ◌<◌, ◌≤◌, ◌+◌, ℕ, zero, suc, max, sym, ◌∙◌, ap, subst, refl, cond, Bool, true, false, not, List, [], ◌∷◌, ◌++◌, map, length, get_or, set, filter, arith, inl, inr, ◌⊎◌}
+use Rattle.std.specs.Prelude.{Option, Some, None, slice_get, slice_index, All, Contains, count_by, fold, unwrap_or}
 use Rattle.std.specs.List.{enumerate_from}
 use Rattle.std.proofs.lemmas.Bool.{cases_lt}
 use Rattle.std.proofs.lemmas.List.{same_lists, length-map, length-set, length_push, get_or-map, get_or_append_left, get_or_push, get_or_default}
 use Rattle.std.proofs.lemmas.List.Sums.{fold_push, sum_by-set}
-use Rattle.std.proofs.lemmas.List.Elements.{Contains-get_or, Contains-push_cases}
+use Rattle.std.proofs.lemmas.List.Elements.{Contains-get_or, Contains-append_left, Contains-push, Contains-push_cases, All-append, All-cons, All-nil, All-pop}
 use Rattle.std.proofs.lemmas.Option.{slice_get_within, get_or_from_slice_get}
 use Rattle.bench_net.specs.declared.levels.Mark.{Mark}
 use Rattle.bench_net.specs.declared.levels.Mark.TheVariants.{Waits, Level}
@@ -205,14 +205,24 @@ module _ (pins : ℕ → Option (List ℕ)) where
 
   -- a gate that waited has its next mark, and is ready if that is a level
   pub moved : (n : ℕ) (marks : List Mark) (ready later : List ℕ) (row : List Sink) (g pin above : ℕ) (m : Mark) → IsSearch pins n marks ready (Pin g pin ∷ row) → slice_get marks g ≡ Some (Waits pin above)
-      → IsNextMark pins marks g m → ((s : ℕ) → Contains ready s → Contains later s) → ((s : ℕ) → Contains later s → s < n) → (has_level m ≡ true → Contains later g) → IsSearch pins n (set marks g m) later row
-  moved n marks ready later row g pin above m state waits next grows below has = record {
+      → IsNextMark pins marks g m → later ≡ ready ++ cond (has_level m) (g ∷ []) [] → IsSearch pins n (set marks g m) later row
+  moved n marks ready later row g pin above m state waits next is = record {
     marks_are = marks_next n marks g pin above m state.marks_are waits next;
-    ready_below = below;
+    ready_below = subst (All (λ s. s < n)) (sym is) (All-append (λ s. s < n) ready (cond (has_level m) (g ∷ []) []) state.ready_below (one (has_level m)));
     row_below = λ h i c. state.row_below h i (contained (Pin g pin ∷ row) (Pin h i) (inr (among row (Pin h i) c)));
     told = λ h i p w l. level h i p w l.0 (written marks g m p (Level l.0) l.1);
   }
     where
+      one : (b : Bool) → All (λ s. s < n) (cond b (g ∷ []) [])
+      one true = All-cons (λ s. s < n) g [] (omega (arith, slice_get_within marks g (Waits pin above) waits, state.marks_are.count)) (All-nil (λ s. s < n))
+      one false = All-nil (λ s. s < n)
+
+      grows : (p : ℕ) → Contains ready p → Contains later p
+      grows p c = subst (λ xs. Contains xs p) (sym is) (Contains-append_left ready (cond (has_level m) (g ∷ []) []) p c)
+
+      has : has_level m ≡ true → Contains later g
+      has on = subst (λ xs. Contains xs g) (sym (is ∙ ap (λ b. ready ++ cond b (g ∷ []) []) on)) (Contains-push ready g)
+
       listed : (h i p : ℕ) → h ≢ g → Contains ready p ⊎ Contains (Pin g pin ∷ row) (Pin h i) → Contains later p ⊎ Contains row (Pin h i)
       listed h i p ne (inl c) = inl (grows p c)
       listed h i p ne (inr c) = at (among (Pin g pin ∷ row) (Pin h i) c)
@@ -234,21 +244,11 @@ module _ (pins : ℕ → Option (List ℕ)) where
       → IsSearch pins n marks rest (row_of starts sinks s)
   taken n marks ready rest s starts sinks readers state is = record {
     marks_are = state.marks_are;
-    ready_below = λ p c. state.ready_below p (all p (inl (among rest p c)));
-    row_below = λ g i c. readers.gates_below s g i (state.ready_below s (all s (inr refl))) c;
+    ready_below = (All-pop (λ p. p < n) ready rest (Some s) is state.ready_below).0;
+    row_below = λ g i c. readers.gates_below s g i (All-pop (λ p. p < n) ready rest (Some s) is state.ready_below).1 c;
     told = λ g i p w l. told g i p w (state.told g i p w l);
   }
     where
-      all : (p : ℕ) → Among p rest ⊎ (s ≡ p) → Contains ready p
-      all p a = subst (λ xs. Contains xs p) (sym is) (contained (rest ++ s ∷ []) p (put rest a))
-        where
-          put : (xs : List ℕ) → Among p xs ⊎ (s ≡ p) → Among p (xs ++ s ∷ [])
-          put [] (inl b) = absurd b
-          put [] (inr e) = inl e
-          put (x ∷ xs) (inl (inl e)) = inl e
-          put (x ∷ xs) (inl (inr b)) = inr (put xs (inl b))
-          put (x ∷ xs) (inr e) = inr (put xs (inr e))
-
       told : (g i p : ℕ) → WaitsAt pins marks g i p → Contains ready p ⊎ Contains [] (Pin g i) → Contains rest p ⊎ Contains (row_of starts sinks s) (Pin g i)
       told g i p w (inr c) = absurd (omega (arith, c.1))
       told g i p w (inl c) = go (Contains-push_cases rest s p (subst (λ xs. Contains xs p) is c))

@@ -1,5 +1,5 @@
 -- Gates by the numbers of their signals, their levels, and the marks of a search for levels.
-use Rattle.std.specs.Prelude.{◌≡◌, ◌≢◌, ℕ, ◌+◌, ◌<◌, ◌≤◌, ◌^◌, List, [], map, length, Contains, Option, Some, None, slice_get, slice_index, count_by, set, Bool, true, false, ◌⊎◌}
+use Rattle.std.specs.Prelude.{◌≡◌, ◌≢◌, ℕ, ◌+◌, ◌<◌, ◌≤◌, ◌^◌, List, [], map, length, All, Contains, Option, Some, None, slice_get, slice_index, count_by, set, Bool, true, false, ◌⊎◌}
 use Rattle.bench_net.specs.declared.line.Line.{Line}
 use Rattle.bench_net.specs.declared.line.Line.TheVariants as line
 use Rattle.bench_net.specs.declared.levels.Mark.{Mark}
@@ -106,7 +106,7 @@ WaitsAt pins marks g pin p = (above : ℕ) × (read : List ℕ) × (slice_get ma
 -- is ready to tell its readers or the pin is in the row whose readers are being told.
 pub record IsSearch (pins : ℕ → Option (List ℕ)) (signals : ℕ) (marks : List Mark) (ready : List ℕ) (row : List Sink) : Type 0 where
   pub marks_are : AreMarks pins signals marks
-  pub ready_below : (s : ℕ) → Contains ready s → s < signals
+  pub ready_below : All (λ s. s < signals) ready
   pub row_below : (g i : ℕ) → Contains row (Pin g i) → g < signals
   pub told : (g i p : ℕ) → WaitsAt pins marks g i p → IsLevelled marks p → Contains ready p ⊎ Contains row (Pin g i)
 

@@ -1,6 +1,6 @@
 //! The levels of signals, or a gate that has none: on a cycle of gates or fed by one.
 
-ghost use Rattle.std.specs.Prelude.{◌≡◌, ◌≢◌, ◌+◌, ◌^◌, ◌<◌, ◌≤◌, ℕ, List, length, slice_index, slice_get, unwrap_or, count_by, Contains, Some, None, [], ◌∷◌, IfOk, IfErr, OnOk};
+ghost use Rattle.std.specs.Prelude.{◌≡◌, ◌≢◌, ◌+◌, ◌^◌, ◌<◌, ◌≤◌, ℕ, List, length, slice_index, slice_get, unwrap_or, count_by, All, Contains, Some, None, [], ◌∷◌, IfOk, IfErr, OnOk};
 ghost use Rattle.bench_net.specs.Level.{greatest};
 ghost use Rattle.bench_net.specs.Rows.{AreRows};
 ghost use Rattle.bench_net.specs.Marks.{gate_pins, IsGraph, AreReaders, AreLevelsOf, IsLevelFault, AreMarks, IsSearch, IsNextMark, IsLevelled, AreMarkedLevels, IsFirstWaiting, has_level, line_pins, mark_from};
@@ -183,7 +183,7 @@ fn first_marks(alloc: Global, lines: &[Line], definitions: &[u32]) -> Result<Vec
 /// The signals that have a level.
 fn levelled(alloc: Global, marks: &[Mark]) -> Result<Vec<u32>, AllocError>
     requires { length marks.now < 2 ^ 32 }
-    ensures below { IfOk result (λ ready. (s : ℕ) → Contains ready.items s → s < length marks.now) }
+    ensures below { IfOk result (λ ready. All (λ s. s < length marks.now) ready.items) }
     ensures all { IfOk result (λ ready. (s : ℕ) → IsLevelled marks.now s → Contains ready.items s) }
 {
     let mut ready = Vec::new(alloc);
