@@ -41,19 +41,23 @@ pub record ArePlaces (sources : List ℕ) (signals : ℕ) (places : List (Option
 
 -- the pins of a gate as readers, in order
 abbrev pub pin_readers : ℕ → List ℕ → List Reader
-pin_readers gate pins = map (λ at. record { signal = at.1; sink = Pin gate at.0 }) (enumerate_from 0 pins)
+pin_readers gate pins =
+    map (λ at. record { signal = at.1; sink = Pin gate at.0 }) (enumerate_from 0 pins)
 
 -- the outputs as readers, in order
 abbrev pub output_readers : List ℕ → List Reader
-output_readers outputs = map (λ at. record { signal = at.1; sink = Out at.0 }) (enumerate_from 0 outputs)
+output_readers outputs =
+    map (λ at. record { signal = at.1; sink = Out at.0 }) (enumerate_from 0 outputs)
 
 -- the gate pins and data pins of lines, in order, where the first cell has this number
 abbrev pub line_readers : ℕ → List Line → List Reader
 line_readers cell [] = []
 line_readers cell (line.Input s ∷ lines) = line_readers cell lines
 line_readers cell (line.Output s ∷ lines) = line_readers cell lines
-line_readers cell (line.Gate s gate ∷ lines) = pin_readers s gate.pins.items ++ line_readers cell lines
-line_readers cell (line.Dff q d ∷ lines) = record { signal = d; sink = Data cell } ∷ line_readers (cell + 1) lines
+line_readers cell (line.Gate s gate ∷ lines) =
+    pin_readers s gate.pins.items ++ line_readers cell lines
+line_readers cell (line.Dff q d ∷ lines) =
+    record { signal = d; sink = Data cell } ∷ line_readers (cell + 1) lines
 
 -- the readers of all signals: gate pins and data pins by their lines, then the outputs
 abbrev pub all_readers : List Line → List ℕ → List Reader
@@ -93,7 +97,8 @@ PinsFit _ = Unit {0}
 
 -- the signals of the inputs, and then those of the cells' outputs
 abbrev pub source_signals : List Line → List ℕ
-source_signals lines = filter_map input_number lines ++ map (λ cell. cell.q) (filter_map cell_numbers lines)
+source_signals lines =
+    filter_map input_number lines ++ map (λ cell. cell.q) (filter_map cell_numbers lines)
 
 -- lines few enough to be numbered, whose numbers are all below a number of signals
 pub record AreTableLines (lines : List Line) (signals : ℕ) : Type 0 where
@@ -103,7 +108,8 @@ pub record AreTableLines (lines : List Line) (signals : ℕ) : Type 0 where
   pub sources_below : All (λ s. s < signals) (source_signals lines)
   pub few_outputs : length (filter_map output_number lines) < 2 ^ 31
   pub few_readers : length (all_readers lines (filter_map output_number lines)) < 2 ^ 31
-  pub readers_below : All (λ reader. reader.signal < signals) (all_readers lines (filter_map output_number lines))
+  pub readers_below : All (λ reader. reader.signal < signals)
+      (all_readers lines (filter_map output_number lines))
   pub pins_fit : (l : Line) → Contains lines l → PinsFit l
 
 -- the tables of lines over numbered signals
@@ -113,4 +119,5 @@ pub record AreTables (lines : List Line) (signals : ℕ) (tables : Tables) : Typ
   pub outputs_are : tables.outputs.items ≡ filter_map output_number lines
   pub places_are : ArePlaces (source_signals lines) signals tables.source_places.items
   pub definitions_are : AreDefinitions lines tables.definitions.items
-  pub sinks_are : AreSinkRows (all_readers lines (filter_map output_number lines)) signals tables.sinks.starts.items tables.sinks.sinks.items
+  pub sinks_are : AreSinkRows (all_readers lines (filter_map output_number lines)) signals
+      tables.sinks.starts.items tables.sinks.sinks.items

@@ -144,8 +144,8 @@ fn tell_readers(
     requires graph { IsGraph lines.now definitions.now }
     requires search { IsSearch (gate_pins lines.now definitions.now) (length definitions.now)
         marks.old.items ready.old.items row.now }
-    ensures search { OnOk result (IsSearch (gate_pins lines.now definitions.now) (length definitions.now)
-        marks.new.items ready.new.items []) }
+    ensures search { OnOk result (IsSearch (gate_pins lines.now definitions.now)
+        (length definitions.now) marks.new.items ready.new.items []) }
     ensures count { OnOk result (length ready.new.items + count_by has_level marks.old.items
         ≡ length ready.old.items + count_by has_level marks.new.items) }
 {

@@ -124,8 +124,8 @@ fn signals_of(alloc: Global, readers: &[Reader]) -> Result<Vec<u32>, AllocError>
     readers.iter().map(|reader| reader.signal).collect(alloc)
 }
 
-/// The sinks of each signal below `signals`: gate pins and data pins by the line of the reader and then
-/// by pin, and after these the outputs.
+/// The sinks of each signal below `signals`: gate pins and data pins by the line of the reader and
+/// then by pin, and after these the outputs.
 pub fn sink_rows(
     alloc: Global,
     lines: &[Line],

@@ -1,4 +1,4 @@
-//! The tables that are lists of a circuit's lines: inputs, outputs, cells, places in a test row, definitions.
+//! Tables made of a circuit's lines: inputs, outputs, cells, places in a test row, definitions.
 
 ghost use Rattle.std.specs.Prelude.{◌≡◌, ◌^◌, ◌++◌, ◌<◌, map, length, All, IfOk};
 ghost use Rattle.std.specs.List.{filter_map};
@@ -109,9 +109,10 @@ pub fn definitions(alloc: Global, lines: &[Line]) -> Result<Vec<u32>, AllocError
     Ok(places)
 }
 
-/// The signals that take a bit of a test, in the order of a test row: the inputs, then the cells' q.
+/// The signals that take a bit of a test, in the order of a test row: inputs, then the cells' q.
 pub fn sources(alloc: Global, inputs: &[u32], cells: &[ScanCell]) -> Result<Vec<u32>, AllocError>
-    ensures { IfOk result (λ sources. sources.items ≡ inputs.now ++ map (λ cell. cell.q) cells.now) }
+    ensures { IfOk result (λ sources.
+        sources.items ≡ inputs.now ++ map (λ cell. cell.q) cells.now) }
 {
     inputs
         .iter()
