@@ -1,5 +1,5 @@
 -- Numbered statements with levels are a circuit, and what its tables need.
-use Rattle.std.proofs.Common.{◌≡◌, ◌≢◌, ◌<◌, ℕ, get_or, map, length-append, sym, ◌∙◌, ap, subst, refl, List, [], ◌∷◌, length, arith}
+use Rattle.std.proofs.Common.{◌≡◌, ◌≢◌, ℕ, get_or, map, length-append, sym, ◌∙◌, ap, subst, refl, List, [], ◌∷◌, length, arith}
 use Rattle.std.specs.Prelude.{slice_index, Contains, AllPairs, flat_map}
 use Rattle.std.proofs.lemmas.List.{length-map}
 use Rattle.std.specs.List.{filter_map}
@@ -9,7 +9,7 @@ use Rattle.bench_net.specs.declared.line.Line.{Line}
 use Rattle.bench_net.specs.Statement.{Name, read}
 use Rattle.bench_net.specs.Scan.{names}
 use Rattle.bench_net.specs.Circuit.{IsCircuit, sink_count}
-use Rattle.bench_net.specs.Stored.{name_at, statement_of, statements_of, defined_numbers, read_numbers, AreStatements}
+use Rattle.bench_net.specs.Stored.{name_at, statement_of, statements_of, read_numbers, AreStatements}
 use Rattle.bench_net.specs.declared.sinks.Reader.{Reader}
 use Rattle.bench_net.specs.Tables.{input_number, output_number, cell_numbers, all_readers, source_signals, AreTableLines, AreDefinitions}
 use Rattle.bench_net.specs.Marks.{gate_pins, IsGraph, AreLevelsOf}

@@ -1,5 +1,5 @@
 -- Tables that are lists of lines: where each signal is defined, and its place among the sources.
-use Rattle.std.proofs.Common.{◌≡◌, ◌≢◌, ◌<◌, ◌≤◌, ◌+◌, ℕ, zero, suc, sym, ◌∙◌, ap, subst, refl, cond, true, false, List, [], ◌∷◌, ◌++◌, map, length, take, get_or, set, filter, arith, inl, inr, ◌⊎◌}
+use Rattle.std.proofs.Common.{◌≡◌, ◌≢◌, ◌<◌, ◌≤◌, ◌+◌, ℕ, sym, ◌∙◌, ap, cond, true, false, List, [], ◌∷◌, ◌++◌, map, length, take, get_or, set, filter, arith, inl, inr, ◌⊎◌}
 use Rattle.std.specs.Prelude.{Option, Some, None, slice_get}
 use Rattle.std.proofs.lemmas.Bool.{cases_eq, cases_lt}
 use Rattle.std.proofs.lemmas.List.{map_push, length-set, append-nil, get_or-set_same, get_or-set_other}

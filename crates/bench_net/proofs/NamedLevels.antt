@@ -1,7 +1,6 @@
 -- Levels by numbers are levels by names.
-use Rattle.std.proofs.Common.{◌≡◌, ◌<◌, ◌≤◌, ◌+◌, ℕ, sym, ◌∙◌, ap, subst, refl, List, [], ◌∷◌, map, length, get_or, arith, inl, inr, ◌⊎◌}
+use Rattle.std.proofs.Common.{◌≡◌, ◌<◌, ◌≤◌, ◌+◌, ℕ, sym, ◌∙◌, ap, subst, refl, List, [], ◌∷◌, map, length, get_or, arith, inl, inr}
 use Rattle.std.specs.Prelude.{Some, None, slice_index, Contains, flat_map}
-use Rattle.std.specs.List.{filter_map}
 use Rattle.std.proofs.lemmas.List.{length-map, same_lists, get_or-map, get_or_default}
 use Rattle.bench_net.specs.declared.Kind.{Kind}
 use Rattle.bench_net.specs.declared.GateLine.{GateLine}
@@ -12,8 +11,8 @@ use Rattle.bench_net.specs.Scan.{names, signal, sources}
 use Rattle.bench_net.specs.Circuit.{IsNumbering}
 use Rattle.bench_net.specs.Level.{greatest, AreLevels, HasLevel, IsLevelOrder, HasDepth}
 use Rattle.bench_net.specs.Stored.{name_at, statements_of, read_numbers}
-use Rattle.bench_net.specs.Tables.{input_number, cell_numbers, defined_number, AreDefinitions}
-use Rattle.bench_net.specs.Marks.{gate_pins, line_pins, level_from, AreLevelsOf}
+use Rattle.bench_net.specs.Tables.{AreDefinitions}
+use Rattle.bench_net.specs.Marks.{gate_pins, level_from, AreLevelsOf}
 use Rattle.bench_net.specs.Rows.{AreRows}
 use Rattle.lists.proofs.Members.{Among, among, contained, mapped_from}
 use Rattle.bench_net.proofs.Counted.{pins_read, source_line}

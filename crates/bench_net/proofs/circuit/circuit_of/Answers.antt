@@ -1,9 +1,9 @@
-use Rattle.std.proofs.Common.{◌≡◌, ◌≢◌, ◌<◌, ◌∙◌, ℕ, List, [], arith, ap, sym, refl, length, map, string_bytes, inr}
+use Rattle.std.proofs.Common.{◌≡◌, ◌<◌, ◌∙◌, ℕ, List, arith, ap, sym, refl, length, map, string_bytes, inr}
 use Rattle.std.specs.Prelude.{Some, slice_index, false, ◌==◌, vec_len}
 use Rattle.std.proofs.lemmas.List.{length-map, get_or_read}
 use Rattle.std.proofs.lemmas.Bool.{false≢true, eq-eqb}
 use Rattle.std.proofs.lemmas.Option.{slice_get-get_or, slice_get_within}
-use Rattle.bench_net.specs.Tables.{AreTableLines, AreTables}
+use Rattle.bench_net.specs.Tables.{AreTables}
 use Rattle.bench_net.specs.Marks.{gate_pins, AreLevelsOf, IsLevelFault}
 use Rattle.bench_net.specs.declared.line.Line.{Line}
 use Rattle.bench_net.specs.declared.read.Lines.{Lines}
