@@ -1,17 +1,20 @@
 -- How many lines, sources and readers there are, and which signals they name.
-use Rattle.std.proofs.Common.{◌≡◌, ◌<◌, ◌≤◌, ◌+◌, ◌^◌, ℕ, sym, ◌∙◌, ap, subst, List, [], ◌∷◌, ◌++◌, map, length, arith, inl, inr, ◌⊎◌, length-append}
-use Rattle.std.specs.Prelude.{flat_map}
+use Rattle.std.proofs.Common.{◌≡◌, ◌<◌, ◌≤◌, ◌+◌, ◌^◌, ℕ, sym, ◌∙◌, ap, subst, refl, List, [], ◌∷◌, ◌++◌, map, length, arith, inl, inr, ◌⊎◌, length-append}
+use Rattle.std.specs.Prelude.{flat_map, Some, None}
+use Rattle.std.specs.Option.{option_to_list}
 use Rattle.std.specs.List.{enumerate_from, filter_map}
 use Rattle.std.proofs.lemmas.List.{length-map}
 use Rattle.std.proofs.lemmas.List.FromFn.{length-enumerate_from}
 use Rattle.bench_net.specs.declared.line.Line.{Line}
 use Rattle.bench_net.specs.declared.line.Line.TheVariants as line
 use Rattle.bench_net.specs.declared.GateLine.{GateLine}
+use Rattle.bench_net.specs.declared.Sink.{Sink}
 use Rattle.bench_net.specs.declared.Sink.TheVariants.{Pin, Out}
 use Rattle.bench_net.specs.declared.sinks.Reader.{Reader}
-use Rattle.bench_net.specs.Stored.{defined_numbers, read_numbers}
-use Rattle.bench_net.specs.Tables.{input_number, output_number, cell_numbers, pin_readers, output_readers, line_readers, all_readers, PinsFit}
-use Rattle.lists.proofs.Members.{Among, among_left, among_right, among_append}
+use Rattle.bench_net.specs.Stored.{defined_number, defined_numbers, read_numbers}
+use Rattle.bench_net.specs.Tables.{source_signals, input_number, output_number, cell_numbers, pin_readers, output_readers, line_readers, all_readers, PinsFit}
+use Rattle.bench_net.specs.Marks.{line_pins}
+use Rattle.lists.proofs.Members.{Among, among_left, among_right, among_append, among_joined}
 
 -- ---- sources
 
@@ -22,20 +25,6 @@ few_sources (line.Output s ∷ lines) = few_sources lines
 few_sources (line.Gate s g ∷ lines) = omega (arith, few_sources lines)
 few_sources (line.Dff q d ∷ lines) = omega (arith, few_sources lines)
 
-pub few_inputs : (lines : List Line) → length (filter_map input_number lines) + length (filter_map cell_numbers lines) ≤ length lines
-few_inputs [] = omega arith
-few_inputs (line.Input s ∷ lines) = omega (arith, few_inputs lines)
-few_inputs (line.Output s ∷ lines) = omega (arith, few_inputs lines)
-few_inputs (line.Gate s g ∷ lines) = omega (arith, few_inputs lines)
-few_inputs (line.Dff q d ∷ lines) = omega (arith, few_inputs lines)
-
-pub few_outputs : (lines : List Line) → length (filter_map output_number lines) ≤ length lines
-few_outputs [] = omega arith
-few_outputs (line.Input s ∷ lines) = omega (arith, few_outputs lines)
-few_outputs (line.Output s ∷ lines) = omega (arith, few_outputs lines)
-few_outputs (line.Gate s g ∷ lines) = omega (arith, few_outputs lines)
-few_outputs (line.Dff q d ∷ lines) = omega (arith, few_outputs lines)
-
 -- each line defines or reads
 pub few_lines : (lines : List Line) → length lines ≤ length (flat_map defined_numbers lines) + length (flat_map read_numbers lines)
 few_lines [] = omega arith
@@ -44,56 +33,54 @@ few_lines (line.Output s ∷ lines) = omega (arith, few_lines lines)
 few_lines (line.Gate s g ∷ lines) = omega (arith, few_lines lines, length-append g.pins.items (flat_map read_numbers lines))
 few_lines (line.Dff q d ∷ lines) = omega (arith, few_lines lines)
 
-pub source_defined : (lines : List Line) (s : ℕ) → Among s (filter_map input_number lines ++ map (λ cell. cell.q) (filter_map cell_numbers lines)) → Among s (flat_map defined_numbers lines)
-source_defined lines s a = go (among_append (filter_map input_number lines) (map (λ cell. cell.q) (filter_map cell_numbers lines)) s a)
+-- a source is defined by a line that is no gate's
+pub source_line : (lines : List Line) (s : ℕ) → Among s (source_signals lines) → (l : Line) × Among l lines × (defined_number l ≡ Some s) × (line_pins (Some l) ≡ None)
+source_line lines s a = go (among_append (filter_map input_number lines) (map (λ cell. cell.q) (filter_map cell_numbers lines)) s a)
   where
-    input : (ls : List Line) → Among s (filter_map input_number ls) → Among s (flat_map defined_numbers ls)
+    input : (ls : List Line) → Among s (filter_map input_number ls) → (l : Line) × Among l ls × (defined_number l ≡ Some s) × (line_pins (Some l) ≡ None)
     input [] b = absurd b
-    input (line.Input t ∷ ls) (inl e) = inl e
-    input (line.Input t ∷ ls) (inr b) = inr (input ls b)
-    input (line.Output t ∷ ls) b = input ls b
-    input (line.Gate t g ∷ ls) b = inr (input ls b)
-    input (line.Dff q d ∷ ls) b = inr (input ls b)
+    input (line.Input t ∷ ls) (inl e) = (line.Input t, inl refl, ap Some e, refl)
+    input (line.Input t ∷ ls) (inr b) = let found = input ls b in (found.0, inr found.1, found.2, found.3)
+    input (line.Output t ∷ ls) b = let found = input ls b in (found.0, inr found.1, found.2, found.3)
+    input (line.Gate t g ∷ ls) b = let found = input ls b in (found.0, inr found.1, found.2, found.3)
+    input (line.Dff q d ∷ ls) b = let found = input ls b in (found.0, inr found.1, found.2, found.3)
 
-    cell : (ls : List Line) → Among s (map (λ cell. cell.q) (filter_map cell_numbers ls)) → Among s (flat_map defined_numbers ls)
+    cell : (ls : List Line) → Among s (map (λ cell. cell.q) (filter_map cell_numbers ls)) → (l : Line) × Among l ls × (defined_number l ≡ Some s) × (line_pins (Some l) ≡ None)
     cell [] b = absurd b
-    cell (line.Input t ∷ ls) b = inr (cell ls b)
-    cell (line.Output t ∷ ls) b = cell ls b
-    cell (line.Gate t g ∷ ls) b = inr (cell ls b)
-    cell (line.Dff q d ∷ ls) (inl e) = inl e
-    cell (line.Dff q d ∷ ls) (inr b) = inr (cell ls b)
+    cell (line.Dff q d ∷ ls) (inl e) = (line.Dff q d, inl refl, ap Some e, refl)
+    cell (line.Dff q d ∷ ls) (inr b) = let found = cell ls b in (found.0, inr found.1, found.2, found.3)
+    cell (line.Input t ∷ ls) b = let found = cell ls b in (found.0, inr found.1, found.2, found.3)
+    cell (line.Output t ∷ ls) b = let found = cell ls b in (found.0, inr found.1, found.2, found.3)
+    cell (line.Gate t g ∷ ls) b = let found = cell ls b in (found.0, inr found.1, found.2, found.3)
 
-    go : Among s (filter_map input_number lines) ⊎ Among s (map (λ cell. cell.q) (filter_map cell_numbers lines)) → Among s (flat_map defined_numbers lines)
+    go : Among s (filter_map input_number lines) ⊎ Among s (map (λ cell. cell.q) (filter_map cell_numbers lines)) → (l : Line) × Among l lines × (defined_number l ≡ Some s) × (line_pins (Some l) ≡ None)
     go (inl b) = input lines b
     go (inr b) = cell lines b
 
+pub source_defined : (lines : List Line) (s : ℕ) → Among s (source_signals lines) → Among s (flat_map defined_numbers lines)
+source_defined lines s a =
+    let found = source_line lines s a in
+    among_joined defined_numbers lines found.0 s found.1 (subst (λ o. Among s (option_to_list o)) (sym found.2) (inl refl))
+
 -- ---- readers
 
-length-pins : (gate : ℕ) (pins : List ℕ) → length (pin_readers gate pins) ≡ length pins
-length-pins gate pins = length-map (enumerate_from 0 pins) (λ at. record { signal = at.1; sink = Pin gate at.0 }) ∙ length-enumerate_from 0 pins
+length-numbered : (kind : ℕ → Sink) (xs : List ℕ) → length (map {B = Reader} (λ at. record { signal = at.1; sink = kind at.0 }) (enumerate_from 0 xs)) ≡ length xs
+length-numbered kind xs = length-map {B = Reader} (enumerate_from 0 xs) (λ at. record { signal = at.1; sink = kind at.0 }) ∙ length-enumerate_from 0 xs
 
-length-outputs : (outputs : List ℕ) → length (output_readers outputs) ≡ length outputs
-length-outputs outputs = length-map (enumerate_from 0 outputs) (λ at. record { signal = at.1; sink = Out at.0 }) ∙ length-enumerate_from 0 outputs
-
-line_reads : (cell : ℕ) (lines : List Line) → length (line_readers cell lines) + length (filter_map output_number lines) ≡ length (flat_map read_numbers lines)
+pub line_reads : (cell : ℕ) (lines : List Line) → length (line_readers cell lines) + length (filter_map output_number lines) ≡ length (flat_map read_numbers lines)
 line_reads cell [] = omega arith
 line_reads cell (line.Input s ∷ lines) = line_reads cell lines
 line_reads cell (line.Output s ∷ lines) = omega (arith, line_reads cell lines)
-line_reads cell (line.Gate s g ∷ lines) = omega (arith, line_reads cell lines, length-pins s g.pins.items, length-append (pin_readers s g.pins.items) (line_readers cell lines), length-append g.pins.items (flat_map read_numbers lines))
+line_reads cell (line.Gate s g ∷ lines) = omega (arith, line_reads cell lines, length-numbered (Pin s) g.pins.items, length-append (pin_readers s g.pins.items) (line_readers cell lines), length-append g.pins.items (flat_map read_numbers lines))
 line_reads cell (line.Dff q d ∷ lines) = omega (arith, line_reads (cell + 1) lines)
 
 pub reader_count : (lines : List Line) → length (all_readers lines (filter_map output_number lines)) ≡ length (flat_map read_numbers lines)
-reader_count lines = omega (arith, length-append (line_readers 0 lines) (output_readers (filter_map output_number lines)), length-outputs (filter_map output_number lines), line_reads 0 lines)
+reader_count lines = omega (arith, length-append (line_readers 0 lines) (output_readers (filter_map output_number lines)), length-numbered Out (filter_map output_number lines), line_reads 0 lines)
 
-pin_reads : (gate n : ℕ) (pins : List ℕ) (reader : Reader) → Among reader (map (λ at. record { signal = at.1; sink = Pin gate at.0 }) (enumerate_from n pins)) → Among reader.signal pins
-pin_reads gate n [] reader a = absurd a
-pin_reads gate n (p ∷ pins) reader (inl e) = inl (ap (λ r. r.signal) e)
-pin_reads gate n (p ∷ pins) reader (inr a) = inr (pin_reads gate (n + 1) pins reader a)
-
-output_reads : (n : ℕ) (outputs : List ℕ) (reader : Reader) → Among reader (map (λ at. record { signal = at.1; sink = Out at.0 }) (enumerate_from n outputs)) → Among reader.signal outputs
-output_reads n [] reader a = absurd a
-output_reads n (p ∷ outputs) reader (inl e) = inl (ap (λ r. r.signal) e)
-output_reads n (p ∷ outputs) reader (inr a) = inr (output_reads (n + 1) outputs reader a)
+numbered_reads : (kind : ℕ → Sink) (n : ℕ) (xs : List ℕ) (reader : Reader) → Among reader (map (λ at. record { signal = at.1; sink = kind at.0 }) (enumerate_from n xs)) → Among reader.signal xs
+numbered_reads kind n [] reader a = absurd a
+numbered_reads kind n (x ∷ xs) reader (inl e) = inl (ap (λ r. r.signal) e)
+numbered_reads kind n (x ∷ xs) reader (inr a) = inr (numbered_reads kind (n + 1) xs reader a)
 
 lines_read : (cell : ℕ) (lines : List Line) (reader : Reader) → Among reader (line_readers cell lines) → Among reader.signal (flat_map read_numbers lines)
 lines_read cell [] reader a = absurd a
@@ -103,7 +90,7 @@ lines_read cell (line.Gate s g ∷ lines) reader a = go (lines_read cell lines r
   where
     go : (Among reader (line_readers cell lines) → Among reader.signal (flat_map read_numbers lines)) → Among reader (pin_readers s g.pins.items) ⊎ Among reader (line_readers cell lines)
         → Among reader.signal (g.pins.items ++ flat_map read_numbers lines)
-    go later (inl b) = among_left g.pins.items (flat_map read_numbers lines) reader.signal (pin_reads s 0 g.pins.items reader b)
+    go later (inl b) = among_left g.pins.items (flat_map read_numbers lines) reader.signal (numbered_reads (Pin s) 0 g.pins.items reader b)
     go later (inr b) = among_right g.pins.items (flat_map read_numbers lines) reader.signal (later b)
 lines_read cell (line.Dff q d ∷ lines) reader (inl e) = inl (ap (λ r. r.signal) e)
 lines_read cell (line.Dff q d ∷ lines) reader (inr a) = inr (lines_read (cell + 1) lines reader a)
@@ -121,7 +108,7 @@ reader_reads lines reader a = go (among_append (line_readers 0 lines) (output_re
   where
     go : Among reader (line_readers 0 lines) ⊎ Among reader (output_readers (filter_map output_number lines)) → Among reader.signal (flat_map read_numbers lines)
     go (inl b) = lines_read 0 lines reader b
-    go (inr b) = outputs_read lines reader.signal (output_reads 0 (filter_map output_number lines) reader b)
+    go (inr b) = outputs_read lines reader.signal (numbered_reads Out 0 (filter_map output_number lines) reader b)
 
 -- the pins of a line are among what is read
 pub pins_read : (lines : List Line) (s : ℕ) (gate : GateLine) (p : ℕ) → Among (line.Gate s gate) lines → Among p gate.pins.items → Among p (flat_map read_numbers lines)

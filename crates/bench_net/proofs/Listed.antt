@@ -1,12 +1,12 @@
 -- Tables that are lists of lines: where each signal is defined, and its place among the sources.
-use Rattle.std.proofs.Common.{◌≡◌, ◌≢◌, ◌<◌, ◌+◌, ℕ, zero, suc, sym, ◌∙◌, ap, subst, refl, cond, true, false, List, [], ◌∷◌, ◌++◌, map, length, take, get_or, set, filter, arith, inl, inr, ◌⊎◌, replicate}
+use Rattle.std.proofs.Common.{◌≡◌, ◌≢◌, ◌<◌, ◌≤◌, ◌+◌, ℕ, sym, ◌∙◌, ap, cond, true, false, List, [], ◌∷◌, ◌++◌, map, length, take, get_or, set, filter, arith, inl, inr, ◌⊎◌}
 use Rattle.std.specs.Prelude.{Option, Some, None, slice_get}
-use Rattle.std.proofs.lemmas.Bool.{cases_eq}
-use Rattle.std.proofs.lemmas.List.{map_push, length-set, length-replicate, append-nil}
+use Rattle.std.proofs.lemmas.Bool.{cases_eq, cases_lt}
+use Rattle.std.proofs.lemmas.List.{map_push, length-set, append-nil, get_or-set_same, get_or-set_other}
 use Rattle.std.proofs.lemmas.List.Elements.{filter_more}
-use Rattle.std.proofs.lemmas.Option.{slice_get-get_or}
+use Rattle.std.proofs.lemmas.Option.{slice_get-get_or, slice_get_within, get_or_from_slice_get}
 use Rattle.bench_net.specs.declared.line.Line.{Line}
-use Rattle.bench_net.specs.Tables.{defines_number, ArePlaces}
+use Rattle.bench_net.specs.Tables.{defines_number}
 
 -- ---- definitions
 
@@ -28,83 +28,45 @@ defined_same lines places i l lt at defines before =
 
 -- ---- places among the sources
 
-read_set : (places : List (Option ℕ)) (g : ℕ) (m : Option ℕ) (s : ℕ) → s ≢ g → slice_get (set places g m) s ≡ slice_get places s
-read_set [] g m s ne = refl
-read_set (x ∷ places) zero m zero ne = absurd (ne refl)
-read_set (x ∷ places) zero m (suc s) ne = refl
-read_set (x ∷ places) (suc g) m zero ne = refl
-read_set (x ∷ places) (suc g) m (suc s) ne = read_set places g m s (λ e. ne (ap suc e))
+-- what stands at a place after a write
+pub written : {X : Type 0} (xs : List X) (g : ℕ) (m : X) (s : ℕ) (x : X) → slice_get (set xs g m) s ≡ Some x → ((s ≡ g) × (x ≡ m)) ⊎ ((s ≢ g) × (slice_get xs s ≡ Some x))
+written xs g m s x e = go (cases_eq s g)
+  where
+    within : s < length xs
+    within = omega (arith, slice_get_within (set xs g m) s x e, length-set xs g m)
 
-set_read : (places : List (Option ℕ)) (g : ℕ) (m : Option ℕ) → g < length places → slice_get (set places g m) g ≡ Some m
-set_read [] g m h = absurd (omega (arith, h))
-set_read (x ∷ places) zero m h = refl
-set_read (x ∷ places) (suc g) m h = set_read places g m (omega (arith, h))
+    is : get_or (set xs g m) s x ≡ x
+    is = get_or_from_slice_get (set xs g m) s x x e
 
--- an element of a longer front
-front_more : (xs : List ℕ) (i j : ℕ) (s : ℕ) → i < length xs → slice_get (take i xs) j ≡ Some s → slice_get (take (suc i) xs) j ≡ Some s
-front_more xs zero j s h e = let bad : None ≡ Some s = e in cc
-front_more [] (suc i) j s h e = let bad : None ≡ Some s = e in cc
-front_more (x ∷ xs) (suc i) zero s h e = e
-front_more (x ∷ xs) (suc i) (suc j) s h e = front_more xs i j s (omega (arith, h)) e
+    go : (s ≡ g) ⊎ (s ≡ g → ⊥) → ((s ≡ g) × (x ≡ m)) ⊎ ((s ≢ g) × (slice_get xs s ≡ Some x))
+    go (inl same) = inl (same, sym is ∙ (ap (λ i. get_or (set xs g m) i x) same ∙ get_or-set_same xs g m x (omega (arith, within, same))))
+    go (inr ne) = inr (ne, slice_get-get_or xs s x within ∙ ap Some (sym (get_or-set_other xs g s m x ne) ∙ is))
 
-front_last : (xs : List ℕ) (i : ℕ) → i < length xs → slice_get (take (suc i) xs) i ≡ Some (get_or xs i 0)
-front_last [] i h = absurd (omega (arith, h))
-front_last (x ∷ xs) zero h = refl
-front_last (x ∷ xs) (suc i) h = front_last xs i (omega (arith, h))
+-- of each signal its place among the first sources
+pub record AreFirstPlaces (sources : List ℕ) (signals n : ℕ) (places : List (Option ℕ)) : Type 0 where
+  pub count : length places ≡ signals
+  pub some : (s i : ℕ) → slice_get places s ≡ Some (Some i) → (i < n) × (slice_get sources i ≡ Some s)
+  pub none : (s i : ℕ) → slice_get places s ≡ Some None → i < n → slice_get sources i ≢ Some s
 
-front_cases : (xs : List ℕ) (i j s : ℕ) → slice_get (take (suc i) xs) j ≡ Some s → (slice_get (take i xs) j ≡ Some s) ⊎ (get_or xs i 0 ≡ s)
-front_cases [] i j s e = let bad : None ≡ Some s = e in cc
-front_cases (x ∷ xs) zero zero s e = let same : Some x ≡ Some s = e in let is : x ≡ s = cc in inr is
-front_cases (x ∷ []) zero (suc j) s e = let bad : None ≡ Some s = e in cc
-front_cases (x ∷ y ∷ xs) zero (suc j) s e = let bad : None ≡ Some s = e in cc
-front_cases (x ∷ xs) (suc i) zero s e = inl e
-front_cases (x ∷ xs) (suc i) (suc j) s e = front_cases xs i j s e
-
-pub places_begin : (signals : ℕ) (places : List (Option ℕ)) → places ≡ replicate signals None → ArePlaces [] signals places
-places_begin signals places is = record {
-  count = ap length is ∙ length-replicate signals None;
-  some = λ s i e. absurd (empty signals s i (ap (λ ps. slice_get ps s) (sym is) ∙ e));
-  none = λ s i e found. let bad : None ≡ Some s = found in cc;
+pub places_more : (sources : List ℕ) (signals n : ℕ) (places : List (Option ℕ)) → n < length sources → AreFirstPlaces sources signals n places → AreFirstPlaces sources signals (n + 1) (set places (get_or sources n 0) (Some n))
+places_more sources signals n places lt are = record {
+  count = length-set places (get_or sources n 0) (Some n) ∙ are.count;
+  some = λ s i e. some s i (written places (get_or sources n 0) (Some n) s (Some i) e);
+  none = λ s i e i_lt found. none s i i_lt found (cases_lt i n) (written places (get_or sources n 0) (Some n) s None e);
 }
   where
-    empty : (n s i : ℕ) → slice_get (replicate n None) s ≡ Some (Some i) → ⊥
-    empty zero s i e = cc
-    empty (suc n) zero i e = cc
-    empty (suc n) (suc s) i e = empty n s i e
+    here : slice_get sources n ≡ Some (get_or sources n 0)
+    here = slice_get-get_or sources n 0 lt
 
-pub places_more : (sources : List ℕ) (signals : ℕ) (places : List (Option ℕ)) (i : ℕ) → i < length sources → get_or sources i 0 < signals → ArePlaces (take i sources) signals places
-    → ArePlaces (take (i + 1) sources) signals (set places (get_or sources i 0) (Some i))
-places_more sources signals places i lt below are = subst (λ n. ArePlaces (take n sources) signals (set places (get_or sources i 0) (Some i))) step (record {
-  count = length-set places (get_or sources i 0) (Some i) ∙ are.count;
-  some = some;
-  none = none;
-})
-  where
-    step : suc i ≡ i + 1
-    step = omega arith
+    some : (s i : ℕ) → ((s ≡ get_or sources n 0) × (Some i ≡ Some n)) ⊎ ((s ≢ get_or sources n 0) × (slice_get places s ≡ Some (Some i))) → (i < n + 1) × (slice_get sources i ≡ Some s)
+    some s i (inl new) = let both : Some i ≡ Some n = new.1 in let same : i ≡ n = cc both in (omega (arith, same), ap (slice_get sources) same ∙ (here ∙ ap Some (sym new.0)))
+    some s i (inr old) = let at = are.some s i old.1 in (omega (arith, at.0), at.1)
 
-    within : get_or sources i 0 < length places
-    within = omega (arith, below, are.count)
-
-    some : (s j : ℕ) → slice_get (set places (get_or sources i 0) (Some i)) s ≡ Some (Some j) → slice_get (take (suc i) sources) j ≡ Some s
-    some s j e = go (cases_eq s (get_or sources i 0))
-      where
-        go : (s ≡ get_or sources i 0) ⊎ (s ≡ get_or sources i 0 → ⊥) → slice_get (take (suc i) sources) j ≡ Some s
-        go (inl same) =
-            let here : Some (Some i) ≡ Some (Some j) = sym (set_read places (get_or sources i 0) (Some i) within) ∙ (ap (slice_get (set places (get_or sources i 0) (Some i))) (sym same) ∙ e) in
-            let is : j ≡ i = cc in
-            ap (slice_get (take (suc i) sources)) is ∙ (front_last sources i lt ∙ ap Some (sym same))
-        go (inr ne) = front_more sources i j s lt (are.some s j (sym (read_set places (get_or sources i 0) (Some i) s ne) ∙ e))
-
-    none : (s j : ℕ) → slice_get (set places (get_or sources i 0) (Some i)) s ≡ Some None → slice_get (take (suc i) sources) j ≢ Some s
-    none s j e found = go (cases_eq s (get_or sources i 0))
-      where
-        go : (s ≡ get_or sources i 0) ⊎ (s ≡ get_or sources i 0 → ⊥) → ⊥
-        go (inl same) =
-            let here : Some (Some i) ≡ Some None = sym (set_read places (get_or sources i 0) (Some i) within) ∙ (ap (slice_get (set places (get_or sources i 0) (Some i))) (sym same) ∙ e) in
-            cc
-        go (inr ne) = either (front_cases sources i j s found)
-          where
-            either : (slice_get (take i sources) j ≡ Some s) ⊎ (get_or sources i 0 ≡ s) → ⊥
-            either (inl earlier) = are.none s j (sym (read_set places (get_or sources i 0) (Some i) s ne) ∙ e) earlier
-            either (inr last) = ne (sym last)
+    none : (s i : ℕ) → i < n + 1 → slice_get sources i ≡ Some s → (i < n) ⊎ (n ≤ i) → ((s ≡ get_or sources n 0) × (None ≡ Some n)) ⊎ ((s ≢ get_or sources n 0) × (slice_get places s ≡ Some None)) → ⊥
+    none s i i_lt found before (inl new) = let bad : None ≡ Some n = new.1 in cc bad
+    none s i i_lt found (inl before) (inr old) = are.none s i old.1 before found
+    none s i i_lt found (inr last) (inr old) =
+        let same : i ≡ n = omega (arith, i_lt, last) in
+        let both : Some s ≡ Some (get_or sources n 0) = sym found ∙ (ap (slice_get sources) same ∙ here) in
+        let is : s ≡ get_or sources n 0 = cc both in
+        old.0 is

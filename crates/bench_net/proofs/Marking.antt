@@ -1,11 +1,11 @@
 -- Levels, and the marks of a search for them.
-use Rattle.std.proofs.Common.{◌≡◌, ◌≢◌, ◌<◌, ◌≤◌, ◌+◌, ℕ, zero, suc, max, sym, ◌∙◌, ap, subst, refl, cond, true, not, List, [], ◌∷◌, ◌++◌, map, length, get_or, set, filter, arith, inl, inr, ◌⊎◌}
-use Rattle.std.specs.Prelude.{Option, Some, None, slice_get, slice_index, Contains, count_by, fold, unwrap_or}
+use Rattle.std.proofs.Common.{◌≡◌, ◌≢◌, ◌<◌, ◌≤◌, ◌+◌, ℕ, zero, suc, max, sym, ◌∙◌, ap, subst, refl, cond, Bool, true, false, not, List, [], ◌∷◌, ◌++◌, map, length, get_or, set, filter, arith, inl, inr, ◌⊎◌}
+use Rattle.std.specs.Prelude.{Option, Some, None, slice_get, slice_index, All, Contains, count_by, fold, unwrap_or}
 use Rattle.std.specs.List.{enumerate_from}
 use Rattle.std.proofs.lemmas.Bool.{cases_lt}
 use Rattle.std.proofs.lemmas.List.{same_lists, length-map, length-set, length_push, get_or-map, get_or_append_left, get_or_push, get_or_default}
 use Rattle.std.proofs.lemmas.List.Sums.{fold_push, sum_by-set}
-use Rattle.std.proofs.lemmas.List.Elements.{Contains-get_or, Contains-push_cases}
+use Rattle.std.proofs.lemmas.List.Elements.{Contains-get_or, Contains-append_left, Contains-push, Contains-push_cases, All-append, All-cons, All-nil, All-pop}
 use Rattle.std.proofs.lemmas.Option.{slice_get_within, get_or_from_slice_get}
 use Rattle.bench_net.specs.declared.levels.Mark.{Mark}
 use Rattle.bench_net.specs.declared.levels.Mark.TheVariants.{Waits, Level}
@@ -14,9 +14,11 @@ use Rattle.bench_net.specs.declared.levels.LevelFault.TheVariants.{Memory, Cycle
 use Rattle.bench_net.specs.declared.Sink.{Sink}
 use Rattle.bench_net.specs.declared.Sink.TheVariants.{Pin}
 use Rattle.bench_net.specs.Level.{greatest}
-use Rattle.bench_net.specs.Marks.{mark_from, HavePins, level_from, AreLevelsOf, HasPinIn, IsLevelFault, AreReaders, row_of, HasLevelAt, of_source, of_gate, HaveLevelsUpTo, IsMark, has_level, height, AreMarks, IsLevelled, WaitsAt, IsSearch, IsNextMark, IsFirstWaiting}
+use Rattle.bench_net.specs.Tables.{row_of}
+use Rattle.bench_net.specs.Marks.{mark_from, level_from, AreLevelsOf, HasPinIn, IsLevelFault, AreReaders, HasLevelAt, of_source, of_gate, HaveLevelsUpTo, IsMark, has_level, height, AreMarks, IsLevelled, WaitsAt, IsSearch, IsNextMark, IsFirstWaiting}
 use Rattle.lists.proofs.Members.{Among, among, contained, among_filter, filtered_from, among_map, mapped_from}
 use Rattle.lists.proofs.Places.{among_numbered, numbered_at, within_place}
+use Rattle.bench_net.proofs.Listed.{written}
 
 -- ---- the greatest of some numbers
 
@@ -109,7 +111,7 @@ module _ (pins : ℕ → Option (List ℕ)) where
           subst (HasLevelAt pins (slice_index read i)) (sym (get_or_push up.levels k 0 i (up.count ∙ here))) (subst (λ j. HasLevelAt pins (slice_index read j) k) here has)
 
   -- the marks before any gate is told of a level
-  pub first_are : (n : ℕ) (marks : List Mark) → length marks ≡ n → ((s : ℕ) → s < n → slice_get marks s ≡ Some (mark_from (pins s))) → HavePins pins n → AreMarks pins n marks
+  pub first_are : (n : ℕ) (marks : List Mark) → length marks ≡ n → ((s : ℕ) → s < n → slice_get marks s ≡ Some (mark_from (pins s))) → ((s : ℕ) → s < n → pins s ≢ Some []) → AreMarks pins n marks
   first_are n marks count at have = record {
     count = count;
     each = λ s m e. let lt : s < n = omega (arith, slice_get_within marks s m e, count) in (mark s m lt (pins s) refl (sym (at s lt) ∙ e)).0;
@@ -166,23 +168,11 @@ module _ (pins : ℕ → Option (List ℕ)) where
     waits = λ i a other e has. let bad : Level (most + 1) ≡ Waits i a = e in cc;
   }
 
-  -- what stands at a place after a write
-  marked : (marks : List Mark) (g : ℕ) (m : Mark) (s : ℕ) (x : Mark) → slice_get (set marks g m) s ≡ Some x → ((s ≡ g) × (x ≡ m)) ⊎ ((s ≢ g) × (slice_get marks s ≡ Some x))
-  marked [] g m s x e = let bad : None ≡ Some x = e in cc
-  marked (y ∷ marks) zero m zero x e = let both : Some m ≡ Some x = e in let same : x ≡ m = cc in inl (refl, same)
-  marked (y ∷ marks) zero m (suc s) x e = inr ((λ h. omega (arith, h)), e)
-  marked (y ∷ marks) (suc g) m zero x e = inr ((λ h. omega (arith, h)), e)
-  marked (y ∷ marks) (suc g) m (suc s) x e = later (marked marks g m s x e)
-    where
-      later : ((s ≡ g) × (x ≡ m)) ⊎ ((s ≢ g) × (slice_get marks s ≡ Some x)) → ((suc s ≡ suc g) × (x ≡ m)) ⊎ ((suc s ≢ suc g) × (slice_get marks s ≡ Some x))
-      later (inl h) = inl (ap suc h.0, h.1)
-      later (inr h) = inr ((λ same. h.0 (omega (arith, same))), h.1)
-
   marks_next : (n : ℕ) (marks : List Mark) (g pin above : ℕ) (m : Mark) → AreMarks pins n marks → slice_get marks g ≡ Some (Waits pin above) → IsNextMark pins marks g m → AreMarks pins n (set marks g m)
   marks_next n marks g pin above m are waits next = record {
     count = length-set marks g m ∙ are.count;
-    each = λ s x e. each s x (marked marks g m s x e);
-    small = λ s x e. small s x (marked marks g m s x e);
+    each = λ s x e. each s x (written marks g m s x e);
+    small = λ s x e. small s x (written marks g m s x e);
   }
     where
       each : (s : ℕ) (x : Mark) → ((s ≡ g) × (x ≡ m)) ⊎ ((s ≢ g) × (slice_get marks s ≡ Some x)) → IsMark pins s x
@@ -215,14 +205,24 @@ module _ (pins : ℕ → Option (List ℕ)) where
 
   -- a gate that waited has its next mark, and is ready if that is a level
   pub moved : (n : ℕ) (marks : List Mark) (ready later : List ℕ) (row : List Sink) (g pin above : ℕ) (m : Mark) → IsSearch pins n marks ready (Pin g pin ∷ row) → slice_get marks g ≡ Some (Waits pin above)
-      → IsNextMark pins marks g m → ((s : ℕ) → Contains ready s → Contains later s) → ((s : ℕ) → Contains later s → s < n) → (has_level m ≡ true → Contains later g) → IsSearch pins n (set marks g m) later row
-  moved n marks ready later row g pin above m state waits next grows below has = record {
+      → IsNextMark pins marks g m → later ≡ ready ++ cond (has_level m) (g ∷ []) [] → IsSearch pins n (set marks g m) later row
+  moved n marks ready later row g pin above m state waits next is = record {
     marks_are = marks_next n marks g pin above m state.marks_are waits next;
-    ready_below = below;
+    ready_below = subst (All (λ s. s < n)) (sym is) (All-append (λ s. s < n) ready (cond (has_level m) (g ∷ []) []) state.ready_below (one (has_level m)));
     row_below = λ h i c. state.row_below h i (contained (Pin g pin ∷ row) (Pin h i) (inr (among row (Pin h i) c)));
-    told = λ h i p w l. level h i p w l.0 (marked marks g m p (Level l.0) l.1);
+    told = λ h i p w l. level h i p w l.0 (written marks g m p (Level l.0) l.1);
   }
     where
+      one : (b : Bool) → All (λ s. s < n) (cond b (g ∷ []) [])
+      one true = All-cons (λ s. s < n) g [] (omega (arith, slice_get_within marks g (Waits pin above) waits, state.marks_are.count)) (All-nil (λ s. s < n))
+      one false = All-nil (λ s. s < n)
+
+      grows : (p : ℕ) → Contains ready p → Contains later p
+      grows p c = subst (λ xs. Contains xs p) (sym is) (Contains-append_left ready (cond (has_level m) (g ∷ []) []) p c)
+
+      has : has_level m ≡ true → Contains later g
+      has on = subst (λ xs. Contains xs g) (sym (is ∙ ap (λ b. ready ++ cond b (g ∷ []) []) on)) (Contains-push ready g)
+
       listed : (h i p : ℕ) → h ≢ g → Contains ready p ⊎ Contains (Pin g pin ∷ row) (Pin h i) → Contains later p ⊎ Contains row (Pin h i)
       listed h i p ne (inl c) = inl (grows p c)
       listed h i p ne (inr c) = at (among (Pin g pin ∷ row) (Pin h i) c)
@@ -237,28 +237,18 @@ module _ (pins : ℕ → Option (List ℕ)) where
 
       level : (h i p : ℕ) → WaitsAt pins (set marks g m) h i p → (k : ℕ) → ((p ≡ g) × (Level k ≡ m)) ⊎ ((p ≢ g) × (slice_get marks p ≡ Some (Level k))) → Contains later p ⊎ Contains row (Pin h i)
       level h i p w k (inl same) = inl (subst (Contains later) (sym same.0) (has (ap has_level (sym same.1))))
-      level h i p w k (inr old) = wait h i p w (k, old.1) (marked marks g m h (Waits i w.0) w.2)
+      level h i p w k (inr old) = wait h i p w (k, old.1) (written marks g m h (Waits i w.0) w.2)
 
   -- a ready signal is taken to tell its row
   pub taken : (n : ℕ) (marks : List Mark) (ready rest : List ℕ) (s : ℕ) (starts : List ℕ) (sinks : List Sink) → AreReaders pins n starts sinks → IsSearch pins n marks ready [] → ready ≡ rest ++ s ∷ []
       → IsSearch pins n marks rest (row_of starts sinks s)
   taken n marks ready rest s starts sinks readers state is = record {
     marks_are = state.marks_are;
-    ready_below = λ p c. state.ready_below p (all p (inl (among rest p c)));
-    row_below = λ g i c. readers.gates_below s g i (state.ready_below s (all s (inr refl))) c;
+    ready_below = (All-pop (λ p. p < n) ready rest (Some s) is state.ready_below).0;
+    row_below = λ g i c. readers.gates_below s g i (All-pop (λ p. p < n) ready rest (Some s) is state.ready_below).1 c;
     told = λ g i p w l. told g i p w (state.told g i p w l);
   }
     where
-      all : (p : ℕ) → Among p rest ⊎ (s ≡ p) → Contains ready p
-      all p a = subst (λ xs. Contains xs p) (sym is) (contained (rest ++ s ∷ []) p (put rest a))
-        where
-          put : (xs : List ℕ) → Among p xs ⊎ (s ≡ p) → Among p (xs ++ s ∷ [])
-          put [] (inl b) = absurd b
-          put [] (inr e) = inl e
-          put (x ∷ xs) (inl (inl e)) = inl e
-          put (x ∷ xs) (inl (inr b)) = inr (put xs (inl b))
-          put (x ∷ xs) (inr e) = inr (put xs (inr e))
-
       told : (g i p : ℕ) → WaitsAt pins marks g i p → Contains ready p ⊎ Contains [] (Pin g i) → Contains rest p ⊎ Contains (row_of starts sinks s) (Pin g i)
       told g i p w (inr c) = absurd (omega (arith, c.1))
       told g i p w (inl c) = go (Contains-push_cases rest s p (subst (λ xs. Contains xs p) is c))

@@ -1,8 +1,6 @@
 -- Levels by numbers are levels by names.
-use Rattle.std.proofs.Common.{◌≡◌, ◌<◌, ◌≤◌, ◌+◌, ℕ, sym, ◌∙◌, ap, subst, refl, List, [], ◌∷◌, map, length, get_or, arith, inl, inr, ◌⊎◌}
-use Rattle.std.specs.Prelude.{Some, None, slice_index, Contains, flat_map, AllPairs}
-use Rattle.std.specs.List.{filter_map}
-use Rattle.std.proofs.lemmas.Bool.{cases_order}
+use Rattle.std.proofs.Common.{◌≡◌, ◌<◌, ◌≤◌, ◌+◌, ℕ, sym, ◌∙◌, ap, subst, refl, List, [], ◌∷◌, map, length, get_or, arith, inl, inr}
+use Rattle.std.specs.Prelude.{Some, None, slice_index, Contains, flat_map}
 use Rattle.std.proofs.lemmas.List.{length-map, same_lists, get_or-map, get_or_default}
 use Rattle.bench_net.specs.declared.Kind.{Kind}
 use Rattle.bench_net.specs.declared.GateLine.{GateLine}
@@ -11,16 +9,15 @@ use Rattle.bench_net.specs.declared.line.Line.TheVariants as line
 use Rattle.bench_net.specs.Statement.{Name, Statement, Input, Output, Gate, Dff}
 use Rattle.bench_net.specs.Scan.{names, signal, sources}
 use Rattle.bench_net.specs.Circuit.{IsNumbering}
-use Rattle.bench_net.specs.Level.{greatest, AreLevels, HasLevel, GoesBefore, IsLevelOrder, HasDepth}
+use Rattle.bench_net.specs.Level.{greatest, AreLevels, HasLevel, IsLevelOrder, HasDepth}
 use Rattle.bench_net.specs.Stored.{name_at, statements_of, read_numbers}
-use Rattle.bench_net.specs.Tables.{input_number, cell_numbers, defined_number, AreDefinitions}
-use Rattle.bench_net.specs.Marks.{gate_pins, line_pins, level_from, AreLevelsOf}
-use Rattle.bench_net.specs.Rows.{rank, AreRows}
-use Rattle.lists.proofs.Members.{Among, among, contained, among_append}
-use Rattle.bench_net.proofs.Counted.{pins_read}
+use Rattle.bench_net.specs.Tables.{AreDefinitions}
+use Rattle.bench_net.specs.Marks.{gate_pins, level_from, AreLevelsOf}
+use Rattle.bench_net.specs.Rows.{AreRows}
+use Rattle.lists.proofs.Members.{Among, among, contained, mapped_from}
+use Rattle.bench_net.proofs.Counted.{pins_read, source_line}
 use Rattle.bench_net.proofs.Marking.{greatest-cons}
-use Rattle.bench_net.proofs.Ranks.{rank-equal, rank-less, rank-in}
-use Rattle.bench_net.proofs.Grouped.{has_rank}
+use Rattle.bench_net.proofs.Grouped.{place_listed, places_ordered}
 use Rattle.bench_net.proofs.Named.{AreNamed, name_of_at, signal_at, sources_are, source_numbers, pins_of_line, no_pins, defined_below}
 
 -- the level of a name by the table
@@ -54,43 +51,13 @@ gate_statement ns (line.Output s ∷ lines) n kind args (inl e) = let bad : Outp
 gate_statement ns (line.Dff q d ∷ lines) n kind args (inl e) = let bad : Dff (name_at ns q) (name_at ns d) ≡ Gate n kind args = e in cc
 gate_statement ns (l ∷ lines) n kind args (inr a) = let found = gate_statement ns lines n kind args a in (found.0, found.1, inr found.2, found.3, found.4, found.5)
 
--- a source is defined by a line that is no gate's
-source_line : (lines : List Line) (s : ℕ) → Among s (source_numbers lines) → (l : Line) × Among l lines × (defined_number l ≡ Some s) × (line_pins (Some l) ≡ None)
-source_line lines s a = go (among_append (filter_map input_number lines) (map (λ cell. cell.q) (filter_map cell_numbers lines)) s a)
-  where
-    input : (ls : List Line) → Among s (filter_map input_number ls) → (l : Line) × Among l ls × (defined_number l ≡ Some s) × (line_pins (Some l) ≡ None)
-    input [] b = absurd b
-    input (line.Input t ∷ ls) (inl e) = (line.Input t, inl refl, ap Some e, refl)
-    input (line.Input t ∷ ls) (inr b) = let found = input ls b in (found.0, inr found.1, found.2, found.3)
-    input (line.Output t ∷ ls) b = let found = input ls b in (found.0, inr found.1, found.2, found.3)
-    input (line.Gate t g ∷ ls) b = let found = input ls b in (found.0, inr found.1, found.2, found.3)
-    input (line.Dff q d ∷ ls) b = let found = input ls b in (found.0, inr found.1, found.2, found.3)
-
-    cell : (ls : List Line) → Among s (map (λ cell. cell.q) (filter_map cell_numbers ls)) → (l : Line) × Among l ls × (defined_number l ≡ Some s) × (line_pins (Some l) ≡ None)
-    cell [] b = absurd b
-    cell (line.Dff q d ∷ ls) (inl e) = (line.Dff q d, inl refl, ap Some e, refl)
-    cell (line.Dff q d ∷ ls) (inr b) = let found = cell ls b in (found.0, inr found.1, found.2, found.3)
-    cell (line.Input t ∷ ls) b = let found = cell ls b in (found.0, inr found.1, found.2, found.3)
-    cell (line.Output t ∷ ls) b = let found = cell ls b in (found.0, inr found.1, found.2, found.3)
-    cell (line.Gate t g ∷ ls) b = let found = cell ls b in (found.0, inr found.1, found.2, found.3)
-
-    go : Among s (filter_map input_number lines) ⊎ Among s (map (λ cell. cell.q) (filter_map cell_numbers lines)) → (l : Line) × Among l lines × (defined_number l ≡ Some s) × (line_pins (Some l) ≡ None)
-    go (inl b) = input lines b
-    go (inr b) = cell lines b
-
--- a name of a mapped list is that of a number
-pub named_among : (ns : List Name) (xs : List ℕ) (n : Name) → Among n (map (name_at ns) xs) → (s : ℕ) × Among s xs × (name_at ns s ≡ n)
-named_among ns [] n a = absurd a
-named_among ns (x ∷ xs) n (inl e) = (x, inl refl, e)
-named_among ns (x ∷ xs) n (inr a) = let found = named_among ns xs n a in (found.0, inr found.1, found.2)
-
 pub levels_by : (ns : List Name) (lines : List Line) (places levels : List ℕ) → AreNamed ns lines → AreDefinitions lines places → AreLevelsOf (gate_pins lines places) (length ns) levels
     → AreLevels (statements_of ns lines) (level_by ns lines levels)
 levels_by ns lines places levels named are level = record { source = source; gate = gate }
   where
     source : (n : Name) → Contains (sources (statements_of ns lines)) n → level_by ns lines levels n ≡ 0
     source n c =
-        let at = named_among ns (source_numbers lines) n (subst (Among n) (sources_are ns lines) (among (sources (statements_of ns lines)) n c)) in
+        let at = mapped_from (name_at ns) (source_numbers lines) n (subst (Among n) (sources_are ns lines) (among (sources (statements_of ns lines)) n c)) in
         let found = source_line lines at.0 at.1 in
         let lt = defined_below ns lines found.0 at.0 named.numbered found.1 found.2 in
         let none : gate_pins lines places at.0 ≡ None = no_pins ns lines places at.0 found.0 named.numbered are found.1 found.2 found.3 in
@@ -135,40 +102,14 @@ has_depth ns lines places levels depth named are level is =
 
 pub level_order : (ns : List Name) (lines : List Line) (places levels order starts : List ℕ) (count : ℕ) → AreNamed ns lines → AreDefinitions lines places → AreLevelsOf (gate_pins lines places) (length ns) levels
     → AreRows levels count starts order → ((i : ℕ) → i < length levels → get_or levels i 0 < count) → IsLevelOrder (statements_of ns lines) order
-level_order ns lines places levels order starts count named are level rows below = record { all = all; count = counted; ordered = ordered }
+level_order ns lines places levels order starts count named are level rows below = record {
+  all = λ s lt. let within : s < length levels = omega (arith, lt, names_count, level.count) in place_listed levels starts order count s rows within (below s within);
+  count = omega (arith, rows.places_count, level.count, names_count);
+  ordered = λ a b d less lt. let goes = places_ordered levels starts order count rows a b d less lt in (get_or levels (get_or order a d) 0, get_or levels (get_or order b d) 0, has (get_or order a d) goes.0, has (get_or order b d) goes.1, goes.2);
+}
   where
     names_count : length (names (statements_of ns lines)) ≡ length ns
     names_count = ap length named.numbered.names_are
 
-    counted : length order ≡ length (names (statements_of ns lines))
-    counted = rows.places_count ∙ (level.count ∙ sym names_count)
-
-    at : (i : ℕ) → i < length levels → (d : ℕ) → get_or order (rank levels i) d ≡ i
-    at i lt d = get_or_default order (rank levels i) d 0 (omega (arith, rows.places_count, rank-in levels i lt)) ∙ rows.places_are i lt
-
-    all : (s : ℕ) → s < length (names (statements_of ns lines)) → Contains order s
-    all s lt =
-        let in_levels : s < length levels = omega (arith, lt, names_count, level.count) in
-        (rank levels s, omega (arith, rows.places_count, rank-in levels s in_levels), at s in_levels s)
-
-    before : (i j : ℕ) → i < length levels → j < length levels → rank levels i < rank levels j → GoesBefore (statements_of ns lines) i j
-    before i j i_lt j_lt less = (get_or levels i 0, get_or levels j 0, has_level ns lines places levels i named are level (omega (arith, i_lt, level.count)), has_level ns lines places levels j named are level (omega (arith, j_lt, level.count)), by_level (cases_order (get_or levels i 0) (get_or levels j 0)))
-      where
-        by_level : (get_or levels i 0 ≡ get_or levels j 0) ⊎ ((get_or levels i 0 < get_or levels j 0) ⊎ (get_or levels j 0 < get_or levels i 0))
-            → (get_or levels i 0 < get_or levels j 0) ⊎ ((get_or levels i 0 ≡ get_or levels j 0) × (i < j))
-        by_level (inl e) = inr (e, by_number (cases_order i j))
-          where
-            by_number : (i ≡ j) ⊎ ((i < j) ⊎ (j < i)) → i < j
-            by_number (inl same) = absurd (omega (arith, less, ap (rank levels) same))
-            by_number (inr (inl lt)) = lt
-            by_number (inr (inr gt)) = absurd (omega (arith, less, rank-equal levels j i gt i_lt (sym e)))
-        by_level (inr (inl lt)) = inl lt
-        by_level (inr (inr gt)) = absurd (omega (arith, less, rank-less levels j i j_lt gt))
-
-    ordered : AllPairs (GoesBefore (statements_of ns lines)) order
-    ordered a b d a_lt b_lt =
-        let i = has_rank levels a count below (omega (arith, a_lt, b_lt, rows.places_count)) in
-        let j = has_rank levels b count below (omega (arith, b_lt, rows.places_count)) in
-        let i_is : get_or order a d ≡ i.0 = ap (λ x. get_or order x d) (sym i.2) ∙ at i.0 i.1 d in
-        let j_is : get_or order b d ≡ j.0 = ap (λ x. get_or order x d) (sym j.2) ∙ at j.0 j.1 d in
-        subst (λ x. GoesBefore (statements_of ns lines) x (get_or order b d)) (sym i_is) (subst (GoesBefore (statements_of ns lines) i.0) (sym j_is) (before i.0 j.0 i.1 j.1 (omega (arith, a_lt, i.2, j.2))))
+    has : (s : ℕ) → s < length levels → HasLevel (statements_of ns lines) s (get_or levels s 0)
+    has s lt = has_level ns lines places levels s named are level (omega (arith, lt, level.count))

@@ -1,5 +1,5 @@
 -- What a search for levels needs of gates and of the rows of readers.
-use Rattle.std.proofs.Common.{◌≡◌, ◌<◌, ◌+◌, ◌==◌, ℕ, sym, ◌∙◌, ap, subst, refl, List, [], ◌∷◌, map, length, filter, arith, inl, inr, ◌⊎◌}
+use Rattle.std.proofs.Common.{◌≡◌, ◌≢◌, ◌<◌, ◌+◌, ◌==◌, ℕ, sym, ◌∙◌, ap, subst, refl, List, [], ◌∷◌, map, length, filter, arith, inl, inr, ◌⊎◌}
 use Rattle.std.specs.Prelude.{Some, slice_get, slice_index, Contains, flat_map}
 use Rattle.std.specs.List.{enumerate_from, filter_map}
 use Rattle.std.proofs.lemmas.Bool.{eq-eqb}
@@ -15,7 +15,7 @@ use Rattle.bench_net.specs.Statement.{Name, Gate}
 use Rattle.bench_net.specs.Circuit.{HaveArities}
 use Rattle.bench_net.specs.Stored.{name_at, statement_of, statements_of, read_numbers, AreNumbered}
 use Rattle.bench_net.specs.Tables.{output_number, pin_readers, output_readers, line_readers, all_readers, AreSinkRows, sinks_at, AreDefinitions}
-use Rattle.bench_net.specs.Marks.{gate_pins, HavePins, AreReaders}
+use Rattle.bench_net.specs.Marks.{gate_pins, AreReaders}
 use Rattle.lists.proofs.Members.{Among, among, contained, among_left, among_right, among_append, among_map, mapped_from, among_filter, filtered_from}
 use Rattle.lists.proofs.Places.{among_numbered, at_place}
 use Rattle.bench_net.proofs.Counted.{pins_read}
@@ -55,9 +55,7 @@ gate_of_pin cell (line.Dff q d ∷ lines) reader g i (inr a) e = let found = gat
 pub readers_are : (ns : List Name) (lines : List Line) (places starts : List ℕ) (sinks : List Sink) → AreNumbered ns lines → AreDefinitions lines places
     → AreSinkRows (all_readers lines (filter_map output_number lines)) (length ns) starts sinks → AreReaders (gate_pins lines places) (length ns) starts sinks
 readers_are ns lines places starts sinks numbered are rows = record {
-  starts_count = rows.starts_count;
-  in_order = rows.in_order;
-  within = rows.within;
+  have_rows = rows.have_rows;
   pins_listed = λ g i read lt is in_read.
       let gate = gate_at ns lines places g read numbered are lt is in
       let p : ℕ = slice_index read i in
@@ -85,7 +83,8 @@ readers_are ns lines places starts sinks numbered are rows = record {
         let bad : Out at.0.0 ≡ Pin g i = ap (λ r. r.sink) at.2 ∙ e in
         cc
 
-pub have_pins : (ns : List Name) (lines : List Line) (places : List ℕ) → AreNumbered ns lines → AreDefinitions lines places → HaveArities (statements_of ns lines) → HavePins (gate_pins lines places) (length ns)
+pub have_pins : (ns : List Name) (lines : List Line) (places : List ℕ) → AreNumbered ns lines → AreDefinitions lines places → HaveArities (statements_of ns lines)
+    → (s : ℕ) → s < length ns → gate_pins lines places s ≢ Some []
 have_pins ns lines places numbered are arities s lt is =
     let gate = gate_at ns lines places s [] numbered are lt is in
     let args = map (name_at ns) gate.0.pins.items in

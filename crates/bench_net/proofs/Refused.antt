@@ -14,11 +14,11 @@ use Rattle.bench_net.specs.Refusal.{IsLowest}
 use Rattle.bench_net.specs.Stored.{name_at, statement_of, statements_of, AreNumbered, IsCyclicLine}
 use Rattle.bench_net.specs.Tables.{defined_number, defines_number, AreDefinitions}
 use Rattle.bench_net.specs.Marks.{gate_pins, HasPinIn, IsStuckAt, IsLowestStuck}
-use Rattle.lists.proofs.Members.{Among, among, contained, some_passes, among_map, among_filter, filtered_from}
+use Rattle.lists.proofs.Members.{Among, among, contained, some_passes, among_map, among_filter, filtered_from, mapped_from}
 use Rattle.bench_net.proofs.Checked.{any_true, same_bytes, bytes_refl}
 use Rattle.bench_net.proofs.Counted.{pins_read}
 use Rattle.bench_net.proofs.Named.{AreNamed, same_number, number_place, gate_at, gate_line_at, pins_of_line, defined_below}
-use Rattle.bench_net.proofs.NamedLevels.{gate_statement, named_among}
+use Rattle.bench_net.proofs.NamedLevels.{gate_statement}
 
 -- ---- a stuck signal's name is stuck
 
@@ -105,7 +105,7 @@ stuck_number ns lines places s named are lt stuck =
         let g_lt = defined_below ns lines (line.Gate g found.1) g named.numbered found.2 refl in
         let same : g ≡ m =
         same_number ns lines g m named g_lt (among_below (length ns) m at.0) found.3 in
-        let pin = named_among ns pins a (rw (← found.5) at (among argument.1 a argument.3)) in
+        let pin = mapped_from (name_at ns) pins a (rw (← found.5) at (among argument.1 a argument.3)) in
         let p : ℕ = pin.0 in
         let p_lt =
         named.numbered.in_range p (contained _ p (pins_read lines g found.1 p found.2 pin.1)) in

@@ -12,14 +12,18 @@ use Rattle.bench_net.specs.Tables.{AreTables}
 use Rattle.bench_net.specs.Marks.{gate_pins, AreLevelsOf}
 
 -- the levels of signals by the gates that drive them, the signals by level, and the greatest level
-pub record AreLevelTables (lines : List Line) (signals : ℕ) (tables : Tables) (levels : Levels) : Type 0 where
-  pub levels_are : AreLevelsOf (gate_pins lines tables.definitions.items) signals levels.levels.items
+pub record AreLevelTables (lines : List Line) (signals : ℕ) (tables : Tables) (levels : Levels)
+    : Type 0 where
+  pub levels_are : AreLevelsOf (gate_pins lines tables.definitions.items) signals
+      levels.levels.items
   pub starts : List ℕ
   pub order_is : AreRows levels.levels.items (levels.depth + 1) starts levels.order.items
   pub depth_is : levels.depth ≡ greatest levels.levels.items
 
--- The lines number the names, each name once, and state a circuit; the tables are those of the lines.
-pub record IsInside (names : List Name) (lines : List Line) (tables : Tables) (levels : Levels) : Type 0 where
+-- The lines number the names, each name once, and state a circuit; the tables are those of the
+-- lines.
+pub record IsInside (names : List Name) (lines : List Line) (tables : Tables) (levels : Levels)
+    : Type 0 where
   pub numbered : AreNumbered names lines
   pub once : AllPairs (λ m n. m ≢ n) names
   pub circuit : IsCircuit (statements_of names lines)

@@ -35,11 +35,13 @@ impl Model for Circuit {
 
     ghost view = { λ c. statements_of (map string_bytes c.names.items) c.lines.items };
 
-    ghost invariant = { λ c. IsInside (map string_bytes c.names.items) c.lines.items c.tables c.levels };
+    ghost invariant = { λ c.
+        IsInside (map string_bytes c.names.items) c.lines.items c.tables c.levels };
 }
 
 impl Circuit {
-    /// The number of signals. Signals are numbered from 0 in the order of the lines that define them.
+    /// The number of signals. Signals are numbered from 0 in the order of the lines that define
+    /// them.
     pub fn signals(&self) -> u32
         ensures count { result ≡ length (names self.now) }
         ensures circuit { IsCircuit self.now }
@@ -47,8 +49,8 @@ impl Circuit {
         self.names.len() as u32
     }
 
-    /// The width of a test row: one bit for each input, then one for each cell. It is at least 1, since a
-    /// circuit without cycles has a source.
+    /// The width of a test row: one bit for each input, then one for each cell. It is at least 1,
+    /// since a circuit without cycles has a source.
     pub fn sources(&self) -> u32
         ensures count { result ≡ length (sources self.now) }
         ensures some { 1 ≤ result }
@@ -81,8 +83,10 @@ impl Circuit {
     /// The place of a signal in a test row, from 0; `None` for the signal of a gate.
     pub fn source_of(&self, signal: u32) -> Option<u32>
         requires { signal < length (names self.now) }
-        ensures place { IfSome result (λ i. slice_get (sources self.now) i ≡ name_of self.now signal) }
-        ensures none { IfNone result ((i : ℕ) → slice_get (sources self.now) i ≢ name_of self.now signal) }
+        ensures place { IfSome result (λ i.
+            slice_get (sources self.now) i ≡ name_of self.now signal) }
+        ensures none { IfNone result ((i : ℕ) →
+            slice_get (sources self.now) i ≢ name_of self.now signal) }
     {
         self.tables.source_places[signal as usize]
     }
@@ -98,7 +102,8 @@ impl Circuit {
     /// The gate that drives a signal; `None` for a source.
     pub fn gate_of(&self, signal: u32) -> Option<&GateLine>
         requires { signal < length (names self.now) }
-        ensures { option_map {U = Kind × List ℕ} (λ g. (g.now.kind, g.now.pins.items)) result ≡ gate_of self.now signal }
+        ensures { option_map {U = Kind × List ℕ} (λ g. (g.now.kind, g.now.pins.items)) result
+            ≡ gate_of self.now signal }
     {
         match &self.lines[self.tables.definitions[signal as usize] as usize] {
             Line::Gate(_, gate) => Some(gate),
@@ -106,8 +111,8 @@ impl Circuit {
         }
     }
 
-    /// The readers of a signal: gate pins and data pins by the line of the reader and then by pin, and
-    /// after these the OUTPUT lines.
+    /// The readers of a signal: gate pins and data pins by the line of the reader and then by pin,
+    /// and after these the OUTPUT lines.
     pub fn sinks_of(&self, signal: u32) -> &[Sink]
         requires { signal < length (names self.now) }
         ensures { (n : List ℕ) → name_of self.now signal ≡ Some n → result.now ≡ sinks self.now n }
@@ -115,8 +120,8 @@ impl Circuit {
         self.tables.sinks.row(signal)
     }
 
-    /// The level of a signal: 0 for a source, and for a gate one more than the greatest level of the
-    /// signals that its pins read (Bushnell and Agrawal, Essentials of Electronic Testing).
+    /// The level of a signal: 0 for a source, and for a gate one more than the greatest level of
+    /// the signals that its pins read (Bushnell and Agrawal, Essentials of Electronic Testing).
     pub fn level_of(&self, signal: u32) -> u32
         requires { signal < length (names self.now) }
         ensures { HasLevel self.now signal result }
@@ -139,11 +144,12 @@ impl Circuit {
     }
 }
 
-/// The circuit of numbered statements. Refused are lines with a gate on a cycle of gates or fed by one,
-/// with the number of the lowest such line, and no lines at all.
+/// The circuit of numbered statements. Refused are lines with a gate on a cycle of gates or fed by
+/// one, with the number of the lowest such line, and no lines at all.
 pub fn circuit_of(alloc: Global, lines: Lines) -> Result<Circuit, BenchFault>
     requires { AreStatements (map string_bytes lines.names.items) lines.lines.items lines.at.items }
-    ensures accepted { IfOk result (λ c. (c ≡ statements_of (map string_bytes lines.names.items) lines.lines.items) × IsCircuit c) }
+    ensures accepted { IfOk result (λ c.
+        (c ≡ statements_of (map string_bytes lines.names.items) lines.lines.items) × IsCircuit c) }
     ensures refused { IfErr result (λ fault. (fault ≡ BenchFault.Memory)
         ⊎ AreRefused (map string_bytes lines.names.items) lines.lines.items lines.at.items fault) }
 {

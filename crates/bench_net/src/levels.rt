@@ -1,9 +1,9 @@
 //! The levels of signals, or a gate that has none: on a cycle of gates or fed by one.
 
-ghost use Rattle.std.specs.Prelude.{◌≡◌, ◌≢◌, ◌+◌, ◌^◌, ◌<◌, ◌≤◌, ℕ, List, length, slice_index, slice_get, unwrap_or, count_by, Contains, Some, None, [], ◌∷◌, IfOk, IfErr, OnOk};
+ghost use Rattle.std.specs.Prelude.{◌≡◌, ◌≢◌, ◌+◌, ◌^◌, ◌<◌, ◌≤◌, ℕ, List, length, slice_index, slice_get, unwrap_or, count_by, All, Contains, Some, None, [], ◌∷◌, IfOk, IfErr, OnOk};
 ghost use Rattle.bench_net.specs.Level.{greatest};
 ghost use Rattle.bench_net.specs.Rows.{AreRows};
-ghost use Rattle.bench_net.specs.Marks.{gate_pins, IsGraph, HavePins, AreReaders, AreLevelsOf, IsLevelFault, AreMarks, IsSearch, IsNextMark, IsLevelled, AreMarkedLevels, IsFirstWaiting, has_level, line_pins, mark_from};
+ghost use Rattle.bench_net.specs.Marks.{gate_pins, IsGraph, AreReaders, AreLevelsOf, IsLevelFault, AreMarks, IsSearch, IsNextMark, IsLevelled, AreMarkedLevels, IsFirstWaiting, has_level, line_pins, mark_from};
 ghost use Rattle.bench_net.specs.declared.levels.Mark.{Mark};
 ghost use Rattle.bench_net.specs.declared.Sink.{Sink};
 ghost use Rattle.bench_net.specs.declared.levels.LevelFault.TheVariants.{Memory};
@@ -76,7 +76,6 @@ fn next_mark(
     pin: u32,
     mut above: u32,
 ) -> Mark
-    requires few { length definitions.now < 2 ^ 31 }
     requires graph { IsGraph lines.now definitions.now }
     requires marks { AreMarks (gate_pins lines.now definitions.now) (length definitions.now)
         marks.now }
@@ -108,7 +107,6 @@ fn tell_gate(
     marks: &mut Vec<Mark>,
     ready: &mut Vec<u32>,
 ) -> Result<(), AllocError>
-    requires few { length definitions.now < 2 ^ 31 }
     requires graph { IsGraph lines.now definitions.now }
     requires marks { AreMarks (gate_pins lines.now definitions.now) (length definitions.now)
         marks.old.items }
@@ -143,12 +141,11 @@ fn tell_readers(
     marks: &mut Vec<Mark>,
     ready: &mut Vec<u32>,
 ) -> Result<(), AllocError>
-    requires few { length definitions.now < 2 ^ 31 }
     requires graph { IsGraph lines.now definitions.now }
     requires search { IsSearch (gate_pins lines.now definitions.now) (length definitions.now)
         marks.old.items ready.old.items row.now }
-    ensures search { OnOk result (IsSearch (gate_pins lines.now definitions.now) (length definitions.now)
-        marks.new.items ready.new.items []) }
+    ensures search { OnOk result (IsSearch (gate_pins lines.now definitions.now)
+        (length definitions.now) marks.new.items ready.new.items []) }
     ensures count { OnOk result (length ready.new.items + count_by has_level marks.old.items
         ≡ length ready.old.items + count_by has_level marks.new.items) }
 {
@@ -172,8 +169,7 @@ fn first_mark(line: &Line) -> Mark
 
 /// The marks before any gate is told of a level.
 fn first_marks(alloc: Global, lines: &[Line], definitions: &[u32]) -> Result<Vec<Mark>, AllocError>
-    requires graph { IsGraph lines.now definitions.now }
-    requires pins { HavePins (gate_pins lines.now definitions.now) (length definitions.now) }
+    requires { IsGraph lines.now definitions.now }
     ensures { IfOk result (λ marks. AreMarks
         (gate_pins lines.now definitions.now) (length definitions.now) marks.items) }
 {
@@ -187,7 +183,7 @@ fn first_marks(alloc: Global, lines: &[Line], definitions: &[u32]) -> Result<Vec
 /// The signals that have a level.
 fn levelled(alloc: Global, marks: &[Mark]) -> Result<Vec<u32>, AllocError>
     requires { length marks.now < 2 ^ 32 }
-    ensures below { IfOk result (λ ready. (s : ℕ) → Contains ready.items s → s < length marks.now) }
+    ensures below { IfOk result (λ ready. All (λ s. s < length marks.now) ready.items) }
     ensures all { IfOk result (λ ready. (s : ℕ) → IsLevelled marks.now s → Contains ready.items s) }
 {
     let mut ready = Vec::new(alloc);
@@ -225,9 +221,7 @@ fn signal_levels(
     definitions: &[u32],
     sinks: &SinkRows,
 ) -> Result<Vec<u32>, LevelFault>
-    requires few { length definitions.now < 2 ^ 31 }
     requires graph { IsGraph lines.now definitions.now }
-    requires pins { HavePins (gate_pins lines.now definitions.now) (length definitions.now) }
     requires readers { AreReaders (gate_pins lines.now definitions.now) (length definitions.now)
         sinks.now.starts.items sinks.now.sinks.items }
     ensures levels { IfOk result (λ levels. AreLevelsOf
@@ -270,9 +264,7 @@ pub fn levels_of(
     definitions: &[u32],
     sinks: &SinkRows,
 ) -> Result<Levels, LevelFault>
-    requires few { length definitions.now < 2 ^ 31 }
     requires graph { IsGraph lines.now definitions.now }
-    requires pins { HavePins (gate_pins lines.now definitions.now) (length definitions.now) }
     requires readers { AreReaders (gate_pins lines.now definitions.now) (length definitions.now)
         sinks.now.starts.items sinks.now.sinks.items }
     ensures levels { IfOk result (λ l. AreLevelsOf

@@ -1,10 +1,8 @@
 //! The sinks of each signal.
 
-ghost use Rattle.std.specs.Prelude.{◌≡◌, ◌++◌, ◌^◌, ◌<◌, ◌+◌, ℕ, map, length, slice_get, slice_index, ◌≤◌, Contains, Some, option_map, OnOk, IfOk};
-ghost use Rattle.bench_net.specs.Tables.{pin_readers, output_readers, line_readers, all_readers, AreSinkRows, PinsFit};
-ghost use Rattle.bench_net.specs.Marks.{row_of};
+ghost use Rattle.std.specs.Prelude.{◌≡◌, ◌++◌, ◌^◌, ◌<◌, ◌+◌, ◌≤◌, map, length, slice_index, All, Contains, OnOk, IfOk};
+ghost use Rattle.bench_net.specs.Tables.{pin_readers, output_readers, line_readers, all_readers, reader_at, row_of, HasRow, AreSinkRows, PinsFit};
 ghost use Rattle.bench_net.specs.declared.line.Line.{Line};
-ghost use Rattle.bench_net.specs.declared.sinks.Reader.{Reader};
 
 use crate::Sink;
 use crate::line::Line;
@@ -28,11 +26,7 @@ pub struct SinkRows {
 impl SinkRows {
     /// The sinks of a signal.
     pub fn row(&self, signal: u32) -> &[Sink]
-        requires starts { signal + 1 < length self.now.starts.items }
-        requires in_order { slice_index self.now.starts.items signal
-            ≤ slice_index self.now.starts.items (signal + 1) }
-        requires within { slice_index self.now.starts.items (signal + 1)
-            ≤ length self.now.sinks.items }
+        requires { HasRow self.now.starts.items self.now.sinks.items signal }
         ensures { result.now ≡ row_of self.now.starts.items self.now.sinks.items signal }
     {
         let start = self.starts[signal as usize] as usize;
@@ -99,9 +93,9 @@ fn add_lines(readers: &mut Vec<Reader>, lines: &[Line]) -> Result<(), AllocError
 
 /// The sinks of the readers at these places.
 fn sinks_of(alloc: Global, readers: &[Reader], places: &[u32]) -> Result<Vec<Sink>, AllocError>
-    requires { (i : ℕ) → i < length places.now → slice_index places.now i < length readers.now }
-    ensures { IfOk result (λ sinks. map Some sinks.items
-        ≡ map (λ place. option_map (λ reader. reader.sink) (slice_get readers.now place)) places.now) }
+    requires { All (λ place. place < length readers.now) places.now }
+    ensures { IfOk result (λ sinks. sinks.items
+        ≡ map (λ place. (reader_at readers.now place).sink) places.now) }
 {
     let mut sinks = Vec::with_capacity(alloc, places.len())?;
     for place in places {
@@ -130,8 +124,8 @@ fn signals_of(alloc: Global, readers: &[Reader]) -> Result<Vec<u32>, AllocError>
     readers.iter().map(|reader| reader.signal).collect(alloc)
 }
 
-/// The sinks of each signal below `signals`: gate pins and data pins by the line of the reader and then
-/// by pin, and after these the outputs.
+/// The sinks of each signal below `signals`: gate pins and data pins by the line of the reader and
+/// then by pin, and after these the outputs.
 pub fn sink_rows(
     alloc: Global,
     lines: &[Line],
@@ -143,8 +137,7 @@ pub fn sink_rows(
     requires few_outputs { length outputs.now < 2 ^ 32 }
     requires few_readers { length (all_readers lines.now outputs.now) < 2 ^ 32 }
     requires pins { (l : Line) → Contains lines.now l → PinsFit l }
-    requires below { (reader : Reader) → Contains (all_readers lines.now outputs.now) reader
-        → reader.signal < signals }
+    requires below { All (λ reader. reader.signal < signals) (all_readers lines.now outputs.now) }
     ensures { IfOk result (λ rows. AreSinkRows (all_readers lines.now outputs.now) signals
         rows.starts.items rows.sinks.items) }
 {

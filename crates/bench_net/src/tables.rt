@@ -1,6 +1,6 @@
-//! The tables that are lists of a circuit's lines: inputs, outputs, cells, places in a test row, definitions.
+//! Tables made of a circuit's lines: inputs, outputs, cells, places in a test row, definitions.
 
-ghost use Rattle.std.specs.Prelude.{◌≡◌, ◌^◌, ◌++◌, ◌<◌, ℕ, map, length, slice_index, IfOk};
+ghost use Rattle.std.specs.Prelude.{◌≡◌, ◌^◌, ◌++◌, ◌<◌, map, length, All, IfOk};
 ghost use Rattle.std.specs.List.{filter_map};
 ghost use Rattle.bench_net.specs.Tables.{input_number, output_number, cell_numbers, defined_number, AreDefinitions, ArePlaces, AreTableLines, AreTables};
 
@@ -109,9 +109,10 @@ pub fn definitions(alloc: Global, lines: &[Line]) -> Result<Vec<u32>, AllocError
     Ok(places)
 }
 
-/// The signals that take a bit of a test, in the order of a test row: the inputs, then the cells' q.
+/// The signals that take a bit of a test, in the order of a test row: inputs, then the cells' q.
 pub fn sources(alloc: Global, inputs: &[u32], cells: &[ScanCell]) -> Result<Vec<u32>, AllocError>
-    ensures { IfOk result (λ sources. sources.items ≡ inputs.now ++ map (λ cell. cell.q) cells.now) }
+    ensures { IfOk result (λ sources.
+        sources.items ≡ inputs.now ++ map (λ cell. cell.q) cells.now) }
 {
     inputs
         .iter()
@@ -127,7 +128,7 @@ pub fn source_places(
     signals: usize,
 ) -> Result<Vec<Option<u32>>, AllocError>
     requires few { length sources.now < 2 ^ 32 }
-    requires below { (i : ℕ) → i < length sources.now → slice_index sources.now i < signals }
+    requires below { All (λ source. source < signals) sources.now }
     ensures { IfOk result (λ places. ArePlaces sources.now signals places.items) }
 {
     let mut places = vec![in alloc; None; signals]?;

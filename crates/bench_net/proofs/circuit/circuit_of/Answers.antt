@@ -1,86 +1,74 @@
-use Rattle.std.proofs.Common.{◌≡◌, ◌≢◌, ◌<◌, ◌∙◌, ℕ, List, [], arith, ap, sym, refl, subst, length, map, string_bytes, inr, String, Global}
-use Rattle.std.specs.Prelude.{slice_get, slice_index, Some, false, ◌==◌, vec_len}
+use Rattle.std.proofs.Common.{◌≡◌, ◌<◌, ◌∙◌, ℕ, List, arith, ap, sym, refl, length, map, string_bytes, inr}
+use Rattle.std.specs.Prelude.{Some, slice_index, false, ◌==◌, vec_len}
 use Rattle.std.proofs.lemmas.List.{length-map, get_or_read}
 use Rattle.std.proofs.lemmas.Bool.{false≢true, eq-eqb}
-use Rattle.std.proofs.lemmas.Option.{slice_get_read, slice_get_within}
-use Rattle.bench_net.specs.Tables.{AreTableLines, AreTables}
-use Rattle.bench_net.specs.Marks.{IsGraph, gate_pins, AreLevelsOf, IsLevelFault}
+use Rattle.std.proofs.lemmas.Option.{slice_get-get_or, slice_get_within}
+use Rattle.bench_net.specs.Tables.{AreTables}
+use Rattle.bench_net.specs.Marks.{gate_pins, AreLevelsOf, IsLevelFault}
 use Rattle.bench_net.specs.declared.line.Line.{Line}
+use Rattle.bench_net.specs.declared.read.Lines.{Lines}
 use Rattle.bench_net.specs.declared.tables.Tables.{Tables}
-use Rattle.bench_net.specs.Stored.{AreNumbered}
 use Rattle.bench_net.specs.declared.levels.LevelFault.TheVariants.{Cycle}
-use Rattle.bench_net.proofs.Named.{AreNamed, definition_count, line_at}
+use Rattle.bench_net.specs.Circuit.{IsCircuit}
+use Rattle.bench_net.specs.Refusal.{IsLowest}
+use Rattle.bench_net.specs.Statement.{Name}
+use Rattle.bench_net.specs.Stored.{statements_of, AreStatements, IsCyclicLine}
+use Rattle.bench_net.proofs.Named.{definition_count, line_at}
 use Rattle.bench_net.proofs.Accepted.{table_lines, graph, circuit}
-use Rattle.bench_net.proofs.PinRows.{readers_are, have_pins}
+use Rattle.bench_net.proofs.PinRows.{readers_are}
 use Rattle.bench_net.proofs.Refused.{lowest_line}
 use Rattle.bench_net.proofs.circuit.circuit_of.Goals as goal
 
-pub tables_of-requires : goal.tables_of-requires
-tables_of-requires c =
-    let ns = map string_bytes c.args.lines.names.items in
-    let count : length ns ≡ c.len.result = omega (arith, length-map c.args.lines.names.items string_bytes, c.len.ensures) in
-    subst (λ n. AreTableLines c.deref.result.now n) count (subst (λ ls. AreTableLines ls (length ns)) (sym c.deref.ensures.value) (table_lines ns c.args.lines.lines.items c.args.lines.at.items c.requires))
+abbrev names_in : Lines → List Name
+names_in lines = map string_bytes lines.names.items
 
 -- the tables of the lines, and how many definitions they have
-facts : (names : List (String Global)) (lines seen : List Line) (n : ℕ) (tables : Tables) → AreNumbered (map string_bytes names) lines → seen ≡ lines → n ≡ length names → AreTables seen n tables
-    → AreTables lines (length (map string_bytes names)) tables × (length tables.definitions.items ≡ length (map string_bytes names))
-facts names lines seen n tables numbered lines_are count are =
-    let same : n ≡ length (map string_bytes names) = omega (arith, length-map names string_bytes, count) in
-    let here = subst (λ ls. AreTables ls (length (map string_bytes names)) tables) lines_are (subst (λ k. AreTables seen k tables) same are) in
-    (here, definition_count (map string_bytes names) lines tables.definitions.items numbered here.definitions_are)
+abbrev HasTables : Lines → Tables → Type 0
+HasTables lines tables = AreTables lines.lines.items (length (names_in lines)) tables × (length tables.definitions.items ≡ length (names_in lines))
 
-pub levels_of-requires-clause-few : goal.levels_of-requires-clause-few
-levels_of-requires-clause-few c =
-    let lines = c.args.lines.lines.items in
-    let tables = facts c.args.lines.names.items lines c.deref.result.now c.len.result c.in_ok-tables.tables c.requires.numbered c.deref.ensures.value (omega (arith, c.len.ensures)) c.in_ok-tables.ensures in
-    omega (arith, tables.1, ap length c.deref-3.ensures.value, c.requires.signals)
+abbrev Stated : Lines → Type 0
+Stated lines = AreStatements (names_in lines) lines.lines.items lines.at.items
+
+has_tables : (lines : Lines) (seen : List Line) (n : ℕ) (tables : Tables) → Stated lines → seen ≡ lines.lines.items → n ≡ length lines.names.items → AreTables seen n tables → HasTables lines tables
+has_tables lines seen n tables stated is count are =
+    let same : n ≡ length (names_in lines) = omega (arith, length-map lines.names.items string_bytes, count) in
+    let here = rw (is, same) at are in
+    (here, definition_count (names_in lines) lines.lines.items tables.definitions.items stated.numbered here.definitions_are)
+
+pub tables_of-requires : goal.tables_of-requires
+tables_of-requires c =
+    let count : c.len.result ≡ length (names_in c.args.lines) = omega (arith, length-map c.args.lines.names.items string_bytes, c.len.ensures) in
+    rw (c.deref.ensures.value, count) (table_lines (names_in c.args.lines) c.args.lines.lines.items c.args.lines.at.items c.requires)
 
 pub levels_of-requires-clause-graph : goal.levels_of-requires-clause-graph
 levels_of-requires-clause-graph c =
-    let ns = map string_bytes c.args.lines.names.items in
-    let lines = c.args.lines.lines.items in
-    let at = c.args.lines.at.items in
-    let places = c.in_ok-tables.tables.definitions.items in
-    let tables = facts c.args.lines.names.items lines c.deref.result.now c.len.result c.in_ok-tables.tables c.requires.numbered c.deref.ensures.value (omega (arith, c.len.ensures)) c.in_ok-tables.ensures in
-    subst (IsGraph c.deref-2.result.now) (sym c.deref-3.ensures.value) (subst (λ ls. IsGraph ls places) (sym c.deref-2.ensures.value) (graph ns lines at places c.requires tables.0.definitions_are))
-
-pub levels_of-requires-clause-pins : goal.levels_of-requires-clause-pins
-levels_of-requires-clause-pins c =
-    let ns = map string_bytes c.args.lines.names.items in
-    let lines = c.args.lines.lines.items in
-    let places = c.in_ok-tables.tables.definitions.items in
-    let tables = facts c.args.lines.names.items lines c.deref.result.now c.len.result c.in_ok-tables.tables c.requires.numbered c.deref.ensures.value (omega (arith, c.len.ensures)) c.in_ok-tables.ensures in
-    rw (c.deref-2.ensures.value, c.deref-3.ensures.value, tables.1) (have_pins ns lines places c.requires.numbered tables.0.definitions_are c.requires.arities)
+    let tables = has_tables c.args.lines c.deref.result.now c.len.result c.in_ok-tables.tables c.requires c.deref.ensures.value (omega (arith, c.len.ensures)) c.in_ok-tables.ensures in
+    rw (c.deref-2.ensures.value, c.deref-3.ensures.value) (graph (names_in c.args.lines) c.args.lines.lines.items c.args.lines.at.items c.in_ok-tables.tables.definitions.items c.requires tables.0.definitions_are)
 
 pub levels_of-requires-clause-readers : goal.levels_of-requires-clause-readers
 levels_of-requires-clause-readers c =
-    let ns = map string_bytes c.args.lines.names.items in
-    let lines = c.args.lines.lines.items in
-    let places = c.in_ok-tables.tables.definitions.items in
-    let tables = facts c.args.lines.names.items lines c.deref.result.now c.len.result c.in_ok-tables.tables c.requires.numbered c.deref.ensures.value (omega (arith, c.len.ensures)) c.in_ok-tables.ensures in
-    rw (c.deref-2.ensures.value, c.deref-3.ensures.value, tables.1) (readers_are ns lines places c.in_ok-tables.tables.sinks.starts.items c.in_ok-tables.tables.sinks.sinks.items c.requires.numbered tables.0.definitions_are tables.0.sinks_are)
+    let tables = has_tables c.args.lines c.deref.result.now c.len.result c.in_ok-tables.tables c.requires c.deref.ensures.value (omega (arith, c.len.ensures)) c.in_ok-tables.ensures in
+    rw (c.deref-2.ensures.value, c.deref-3.ensures.value, tables.1)
+    (readers_are (names_in c.args.lines) c.args.lines.lines.items c.in_ok-tables.tables.definitions.items c.in_ok-tables.tables.sinks.starts.items c.in_ok-tables.tables.sinks.sinks.items c.requires.numbered tables.0.definitions_are tables.0.sinks_are)
 
--- lines whose number is not 0
-not_empty : (lines : List Line) (n : ℕ) → n ≡ length lines → false ≡ (n == 0) → lines ≢ []
-not_empty lines n count h e = false≢true (h ∙ eq-eqb n 0 (count ∙ ap length e))
+-- lines with levels, of which there are some
+accepted : (lines : Lines) (tables : Tables) (levels : List ℕ) → Stated lines → HasTables lines tables → AreLevelsOf (gate_pins lines.lines.items tables.definitions.items) (length tables.definitions.items) levels → false ≡ (vec_len lines.lines == 0) → vec_len lines.lines ≡ length lines.lines.items
+    → AreLevelsOf (gate_pins lines.lines.items tables.definitions.items) (length (names_in lines)) levels × IsCircuit (statements_of (names_in lines) lines.lines.items)
+accepted lines tables levels stated has are some count =
+    let levelled = rw has.1 at are in
+    (levelled, circuit (names_in lines) lines.lines.items lines.at.items tables.definitions.items levels stated has.0.definitions_are levelled (λ e. false≢true (some ∙ eq-eqb (vec_len lines.lines) 0 (count ∙ ap length e))))
 
 pub invariant_of-result : goal.invariant_of-result
 invariant_of-result c =
-    let ns = map string_bytes c.args.lines.names.items in
-    let lines = c.args.lines.lines.items in
-    let at = c.args.lines.at.items in
-    let places = c.in_ok-tables.tables.definitions.items in
-    let tables = facts c.args.lines.names.items lines c.deref.result.now c.len.result c.in_ok-tables.tables c.requires.numbered c.deref.ensures.value (omega (arith, c.len.ensures)) c.in_ok-tables.ensures in
-    let levels = subst (λ n. AreLevelsOf (gate_pins lines places) n c.in-Ok.levels.levels.items) tables.1 (subst (λ ps. AreLevelsOf (gate_pins lines ps) (length ps) c.in-Ok.levels.levels.items) c.deref-3.ensures.value (subst (λ ls. AreLevelsOf (gate_pins ls c.deref-3.result.now) (length c.deref-3.result.now) c.in-Ok.levels.levels.items) c.deref-2.ensures.value c.in-Ok.ensures.levels)) in
-    let some = not_empty lines (vec_len c.args.lines.lines) (omega arith) c.if-is_empty.ensures in
-    let is = circuit ns lines at places c.in-Ok.levels.levels.items c.requires tables.0.definitions_are levels some in
+    let tables = has_tables c.args.lines c.deref.result.now c.len.result c.in_ok-tables.tables c.requires c.deref.ensures.value (omega (arith, c.len.ensures)) c.in_ok-tables.ensures in
+    let levelled = accepted c.args.lines c.in_ok-tables.tables c.in-Ok.levels.levels.items c.requires tables (rw (c.deref-2.ensures.value, c.deref-3.ensures.value) at c.in-Ok.ensures.levels) c.if-is_empty.ensures (omega arith) in
     record {
       numbered = c.requires.numbered;
       once = c.requires.once;
-      circuit = is;
+      circuit = levelled.1;
       tables_are = tables.0;
       level_tables = record {
-        levels_are = levels;
+        levels_are = levelled.0;
         starts = c.in-Ok.ensures.order.0;
         order_is = c.in-Ok.ensures.order.1;
         depth_is = c.in-Ok.ensures.depth;
@@ -89,41 +77,28 @@ invariant_of-result c =
 
 pub returns-in-Ok-clause-accepted : goal.returns-in-Ok-clause-accepted
 returns-in-Ok-clause-accepted c =
-    let ns = map string_bytes c.args.lines.names.items in
-    let lines = c.args.lines.lines.items in
-    let at = c.args.lines.at.items in
-    let places = c.in_ok-tables.tables.definitions.items in
-    let tables = facts c.args.lines.names.items lines c.deref.result.now c.len.result c.in_ok-tables.tables c.requires.numbered c.deref.ensures.value (omega (arith, c.len.ensures)) c.in_ok-tables.ensures in
-    let levels = subst (λ n. AreLevelsOf (gate_pins lines places) n c.in-Ok.levels.levels.items) tables.1 (subst (λ ps. AreLevelsOf (gate_pins lines ps) (length ps) c.in-Ok.levels.levels.items) c.deref-3.ensures.value (subst (λ ls. AreLevelsOf (gate_pins ls c.deref-3.result.now) (length c.deref-3.result.now) c.in-Ok.levels.levels.items) c.deref-2.ensures.value c.in-Ok.ensures.levels)) in
-    let some = not_empty lines (vec_len c.args.lines.lines) (omega arith) c.if-is_empty.ensures in
-    let is = circuit ns lines at places c.in-Ok.levels.levels.items c.requires tables.0.definitions_are levels some in
-    (refl, is)
+    let tables = has_tables c.args.lines c.deref.result.now c.len.result c.in_ok-tables.tables c.requires c.deref.ensures.value (omega (arith, c.len.ensures)) c.in_ok-tables.ensures in
+    (refl, (accepted c.args.lines c.in_ok-tables.tables c.in-Ok.levels.levels.items c.requires tables (rw (c.deref-2.ensures.value, c.deref-3.ensures.value) at c.in-Ok.ensures.levels) c.if-is_empty.ensures (omega arith)).1)
+
+-- a signal without a level is on the lowest line at fault
+refused : (lines : Lines) (tables : Tables) (s place : ℕ) → Stated lines → HasTables lines tables → IsLevelFault (gate_pins lines.lines.items tables.definitions.items) (length tables.definitions.items) (Cycle s) → place ≡ slice_index tables.definitions.items s
+    → (place < length lines.at.items) × ((number : ℕ) → number ≡ slice_index lines.at.items place → IsLowest (IsCyclicLine (names_in lines) lines.lines.items lines.at.items) number)
+refused lines tables s place stated has fault read =
+    let at = lines.at.items in
+    let below : s < length (names_in lines) = omega (arith, fault.0, has.1) in
+    let line = line_at (names_in lines) lines.lines.items tables.definitions.items s stated.numbered has.0.definitions_are below in
+    let within : place < length at = omega (arith, read, slice_get_within lines.lines.items (slice_index tables.definitions.items s) line.0 line.1, stated.line_count) in
+    (within, λ number is. lowest_line (names_in lines) lines.lines.items tables.definitions.items at s number (record { numbered = stated.numbered; once = stated.once }) has.0.definitions_are stated.rising below fault.1 (rw (sym read) (slice_get-get_or at place 0 within ∙ ap Some (sym is))))
 
 pub index-requires : goal.index-requires
 index-requires c =
-    let ns = map string_bytes c.args.lines.names.items in
-    let lines = c.args.lines.lines.items in
-    let places = c.in_ok-tables.tables.definitions.items in
-    let tables = facts c.args.lines.names.items lines c.deref.result.now c.len.result c.in_ok-tables.tables c.requires.numbered c.deref.ensures.value (omega (arith, c.len.ensures)) c.in_ok-tables.ensures in
-    let fault : IsLevelFault (gate_pins lines places) (length ns) (Cycle c.in-Err-Cycle.signal) = subst (λ n. IsLevelFault (gate_pins lines places) n (Cycle c.in-Err-Cycle.signal)) tables.1 (subst (λ ps. IsLevelFault (gate_pins lines ps) (length ps) (Cycle c.in-Err-Cycle.signal)) c.deref-3.ensures.value (subst (λ ls. IsLevelFault (gate_pins ls c.deref-3.result.now) (length c.deref-3.result.now) (Cycle c.in-Err-Cycle.signal)) c.deref-2.ensures.value (rw c.in-Err-Cycle.field-0-is at c.in-Err-Cycle.ensures.fault))) in
-    let s : ℕ = c.in-Err-Cycle.signal in
-    let line = line_at ns lines places s c.requires.numbered tables.0.definitions_are fault.0 in
-    let below : slice_index places s < length lines = slice_get_within lines (slice_index places s) line.0 line.1 in
-    let read : c.index-place.result.now ≡ slice_index places s = get_or_read places s c.index-place.result.now (omega (arith, fault.0, tables.1)) c.index-place.ensures 0 in
-    omega (arith, read, below, c.requires.line_count)
+    let tables = has_tables c.args.lines c.deref.result.now c.len.result c.in_ok-tables.tables c.requires c.deref.ensures.value (omega (arith, c.len.ensures)) c.in_ok-tables.ensures in
+    let fault = rw (c.in-Err-Cycle.field-0-is, c.deref-2.ensures.value, c.deref-3.ensures.value) at c.in-Err-Cycle.ensures.fault in
+    omega (arith, (refused c.args.lines c.in_ok-tables.tables c.in-Err-Cycle.signal c.index-place.result.now c.requires tables fault (get_or_read c.in_ok-tables.tables.definitions.items c.in-Err-Cycle.signal c.index-place.result.now fault.0 c.index-place.ensures 0)).0)
 
 pub returns-clause-refused : goal.returns-clause-refused
 returns-clause-refused c =
-    let ns = map string_bytes c.args.lines.names.items in
-    let lines = c.args.lines.lines.items in
-    let at = c.args.lines.at.items in
-    let places = c.in_ok-tables.tables.definitions.items in
-    let tables = facts c.args.lines.names.items lines c.deref.result.now c.len.result c.in_ok-tables.tables c.requires.numbered c.deref.ensures.value (omega (arith, c.len.ensures)) c.in_ok-tables.ensures in
-    let fault : IsLevelFault (gate_pins lines places) (length ns) (Cycle c.in-Err-Cycle.signal) = subst (λ n. IsLevelFault (gate_pins lines places) n (Cycle c.in-Err-Cycle.signal)) tables.1 (subst (λ ps. IsLevelFault (gate_pins lines ps) (length ps) (Cycle c.in-Err-Cycle.signal)) c.deref-3.ensures.value (subst (λ ls. IsLevelFault (gate_pins ls c.deref-3.result.now) (length c.deref-3.result.now) (Cycle c.in-Err-Cycle.signal)) c.deref-2.ensures.value (rw c.in-Err-Cycle.field-0-is at c.in-Err-Cycle.ensures.fault))) in
-    let s : ℕ = c.in-Err-Cycle.signal in
-    let line = line_at ns lines places s c.requires.numbered tables.0.definitions_are fault.0 in
-    let below : slice_index places s < length lines = slice_get_within lines (slice_index places s) line.0 line.1 in
-    let read : c.index-place.result.now ≡ slice_index places s = get_or_read places s c.index-place.result.now (omega (arith, fault.0, tables.1)) c.index-place.ensures 0 in
-    let named : AreNamed ns lines = record { numbered = c.requires.numbered; once = c.requires.once } in
-    let number : slice_get at (slice_index places s) ≡ Some c.index.result.now = ap (slice_get at) (sym read) ∙ slice_get_read at (length at) c.index-place.result.now c.index.result.now refl (omega (arith, read, below, c.requires.line_count)) c.index.ensures in
-    inr (lowest_line ns lines places at s c.index.result.now named tables.0.definitions_are c.requires.rising fault.0 fault.1 number)
+    let tables = has_tables c.args.lines c.deref.result.now c.len.result c.in_ok-tables.tables c.requires c.deref.ensures.value (omega (arith, c.len.ensures)) c.in_ok-tables.ensures in
+    let fault = rw (c.in-Err-Cycle.field-0-is, c.deref-2.ensures.value, c.deref-3.ensures.value) at c.in-Err-Cycle.ensures.fault in
+    let refusal = refused c.args.lines c.in_ok-tables.tables c.in-Err-Cycle.signal c.index-place.result.now c.requires tables fault (get_or_read c.in_ok-tables.tables.definitions.items c.in-Err-Cycle.signal c.index-place.result.now fault.0 c.index-place.ensures 0) in
+    inr (refusal.1 c.index.result.now (get_or_read c.args.lines.at.items c.index-place.result.now c.index.result.now refusal.0 c.index.ensures 0))

@@ -9,7 +9,7 @@ use Rattle.bench_net.proofs.levels.first_marks.Goals as goal
 pub loop-place-preserved : goal.loop-place-preserved
 loop-place-preserved c =
     let place : ℕ = get_or c.args.definitions.now c.loop-place.place-index 0 in
-    let read = slice_get_read c.args.lines.now (length c.args.lines.now) place c.index-lines-place.result refl (c.requires.graph.has_line c.loop-place.place-index (omega arith)) c.index-lines-place.is in
+    let read = slice_get_read c.args.lines.now (length c.args.lines.now) place c.index-lines-place.result refl (c.requires.has_line c.loop-place.place-index (omega arith)) c.index-lines-place.is in
     let mark = c.first_mark.ensures ∙ ap (λ o. mark_from (line_pins o)) (sym read) in
     let more = map_more (λ p. mark_from (line_pins (slice_get c.args.lines.now p))) c.args.definitions.now c.loop-place.place-index 0 (omega arith) in
     cc (c.in_ok-push.ensures.items, mark, more, c.loop-place.invariant)
@@ -20,4 +20,4 @@ returns c =
     let places = c.args.definitions.now in
     let all : c.loop-place.marks.items ≡ map first places = c.loop-place.invariant ∙ ap (map first) (take_all c.loop-place.place-index places (omega arith)) in
     first_are (gate_pins c.args.lines.now places) (length places) c.loop-place.marks.items (ap length all ∙ length-map places first)
-    (λ s lt. ap (λ ms. slice_get ms s) all ∙ (slice_get-map first places s ∙ ap (option_map first) (slice_get-get_or places s 0 lt))) c.requires.pins
+    (λ s lt. ap (λ ms. slice_get ms s) all ∙ (slice_get-map first places s ∙ ap (option_map first) (slice_get-get_or places s 0 lt))) c.requires.some_pin

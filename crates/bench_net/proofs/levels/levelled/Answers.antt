@@ -1,7 +1,7 @@
 use Rattle.std.proofs.Common.{◌≡◌, ◌<◌, ◌+◌, ◌∙◌, ◌++◌, ◌∷◌, [], ℕ, List, ap, sym, subst, arith, get_or, inl, inr, ◌⊎◌}
 use Rattle.std.specs.Prelude.{slice_get, Contains}
 use Rattle.std.proofs.lemmas.Bool.{cases_eq}
-use Rattle.std.proofs.lemmas.List.Elements.{Contains-append_left, Contains-push, Contains-push_cases}
+use Rattle.std.proofs.lemmas.List.Elements.{Contains-append_left, Contains-push, All-push}
 use Rattle.std.proofs.lemmas.Option.{slice_get_within, get_or_from_slice_get}
 use Rattle.bench_net.specs.declared.levels.Mark.{Mark}
 use Rattle.bench_net.specs.declared.levels.Mark.TheVariants.{Waits, Level}
@@ -10,13 +10,6 @@ use Rattle.bench_net.proofs.levels.levelled.Goals as goal
 use Rattle.bench_net.proofs.levels.levelled.Goals.{in-Level+in_ok-push, in_default}
 
 -- the signals with a level that were met so far, and one more
-below_more : (ready : List ℕ) (i s : ℕ) → ((t : ℕ) → Contains ready t → t < i) → Contains (ready ++ i ∷ []) s → s < i + 1
-below_more ready i s before has = go (Contains-push_cases ready i s has)
-  where
-    go : Contains ready s ⊎ (i ≡ s) → s < i + 1
-    go (inl h) = omega (arith, before s h)
-    go (inr e) = omega (arith, e)
-
 all_more : (marks : List Mark) (ready : List ℕ) (i s : ℕ) → ((t : ℕ) → t < i → IsLevelled marks t → Contains ready t) → s < i + 1 → IsLevelled marks s → Contains (ready ++ i ∷ []) s
 all_more marks ready i s before lt l = go (cases_eq s i)
   where
@@ -35,17 +28,14 @@ pub loop-signal-preserved : goal.loop-signal-preserved
 loop-signal-preserved c =
     elim c.match-marks-signal.branch [
       | in-Level+in_ok-push w ↦ rw (w.ready-is, w.in_ok-push.ensures.items) (record {
-        below = λ s has. below_more c.loop-signal.ready.items c.loop-signal.signal s c.loop-signal.invariant.below has;
+        below = All-push (λ s. s < c.loop-signal.signal + 1) c.loop-signal.ready.items c.loop-signal.signal (λ i d lt. omega (arith, c.loop-signal.invariant.below i d lt)) (omega arith);
         all = λ s lt l. all_more c.args.marks.now c.loop-signal.ready.items c.loop-signal.signal s c.loop-signal.invariant.all lt l;
       })
       | in_default w ↦ rw w.ready-is (record {
-        below = λ s has. omega (arith, c.loop-signal.invariant.below s has);
+        below = λ i d lt. omega (arith, c.loop-signal.invariant.below i d lt);
         all = λ s lt l. all_same c.args.marks.now c.loop-signal.ready.items c.loop-signal.signal s c.loop-signal.invariant.all w.in_default.not-Level lt l;
       })
     ]
-
-pub returns-clause-below : goal.returns-clause-below
-returns-clause-below c = λ s has. omega (arith, c.loop-signal.invariant.below s has)
 
 pub returns-clause-all : goal.returns-clause-all
 returns-clause-all c = λ s l. c.loop-signal.invariant.all s (omega (arith, slice_get_within c.args.marks.now s (Level l.0) l.1)) l

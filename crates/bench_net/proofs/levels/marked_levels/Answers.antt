@@ -5,18 +5,19 @@ use Rattle.std.proofs.lemmas.List.{length_push, get_or_push, get_or_append_left}
 use Rattle.std.proofs.lemmas.Option.{slice_get-get_or, get_or_from_slice_get}
 use Rattle.bench_net.specs.declared.levels.Mark.{Mark}
 use Rattle.bench_net.specs.declared.levels.Mark.TheVariants.{Waits, Level}
+use Rattle.bench_net.specs.declared.levels.LevelFault.TheVariants.{Cycle}
+use Rattle.bench_net.specs.Marks.{IsLevelled, IsFirstWaiting}
 use Rattle.bench_net.proofs.levels.marked_levels.Goals as goal
 
+first_waiting : (marks : List Mark) (levels : List ℕ) (i s pin above : ℕ) → s ≡ i → i < length marks → get_or marks i (Waits 0 0) ≡ Waits pin above → ((t : ℕ) → t < i → slice_get marks t ≡ Some (Level (slice_index levels t))) → IsFirstWaiting marks (Cycle s)
+first_waiting marks levels i s pin above e lt is before = rw e (lt, levelled, λ lower less. (slice_index levels lower, before lower less))
+  where
+    levelled : ¬ IsLevelled marks i
+    levelled l = let bad : Level l.0 ≡ Waits pin above = sym (get_or_from_slice_get marks i (Level l.0) (Waits 0 0) l.1) ∙ is in cc
+
 pub returns-in-Waits-clause-fault : goal.returns-in-Waits-clause-fault
-returns-in-Waits-clause-fault c = (
-  c.loop-signal-test.true,
-  λ l.
-      let mark = get_or_from_slice_get c.args.marks.now c.loop-signal.signal (Level l.0) (Waits 0 0) l.1 in
-      let is : get_or c.args.marks.now c.loop-signal.signal (Waits 0 0) ≡ Waits c.in-Waits.pin c.in-Waits.above = c.in-Waits.is in
-      let bad : Level l.0 ≡ Waits c.in-Waits.pin c.in-Waits.above = sym mark ∙ is in
-      cc,
-  λ lower lt. (slice_index c.loop-signal.levels.items lower, c.loop-signal.invariant.each lower lt),
-)
+returns-in-Waits-clause-fault c =
+    first_waiting c.args.marks.now c.loop-signal.levels.items c.loop-signal.signal _ c.in-Waits.pin c.in-Waits.above (omega arith) c.loop-signal-test.true c.in-Waits.is c.loop-signal.invariant.each
 
 each_more : (marks : List Mark) (levels : List ℕ) (i k s : ℕ) → ((t : ℕ) → t < i → slice_get marks t ≡ Some (Level (slice_index levels t))) → slice_get marks i ≡ Some (Level k) → length levels ≡ i → s < i + 1
     → slice_get marks s ≡ Some (Level (slice_index (levels ++ k ∷ []) s))

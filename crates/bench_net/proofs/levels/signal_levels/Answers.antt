@@ -1,8 +1,8 @@
 use Rattle.std.proofs.Common.{◌<◌, ◌≤◌, ◌∙◌, [], ℕ, ap, sym, subst, arith, length, inl}
-use Rattle.std.specs.Prelude.{Contains, slice_index}
+use Rattle.std.specs.Prelude.{Some, slice_index}
 use Rattle.std.proofs.lemmas.List.{nil_from_length}
 use Rattle.std.proofs.lemmas.Result.{IfOk-weaker, IfErr-weaker}
-use Rattle.std.proofs.lemmas.List.Elements.{Contains-push}
+use Rattle.std.proofs.lemmas.List.Elements.{All-pop}
 use Rattle.std.proofs.lemmas.List.Sums.{count_by-le-length}
 use Rattle.bench_net.specs.declared.levels.Mark.TheVariants.{Level}
 use Rattle.bench_net.specs.Marks.{gate_pins, IsSearch, IsLevelled, IsFirstWaiting, AreMarkedLevels, AreLevelsOf, IsLevelFault, has_level}
@@ -13,20 +13,14 @@ pub loop-signal-init : goal.loop-signal-init
 loop-signal-init c =
     record {
       marks_are = c.in_ok-marks.ensures;
-      ready_below = λ s has. omega (arith, c.in_ok-ready.ensures.below s has, ap length c.deref.ensures.value, c.in_ok-marks.ensures.count);
+      ready_below = λ i d lt. omega (arith, c.in_ok-ready.ensures.below i d lt, ap length c.deref.ensures.value, c.in_ok-marks.ensures.count);
       row_below = λ g i has. absurd (omega (arith, has.1));
       told = λ g i p w l. inl (c.in_ok-ready.ensures.all p (subst (λ ms. IsLevelled ms p) (sym c.deref.ensures.value) l));
     }
 
 pub row-requires : goal.row-requires
 row-requires c =
-    let has = subst (λ xs. Contains xs c.in-Some.signal) (sym c.in-Some.ensures.items) (Contains-push c.pop.new.self.items c.in-Some.signal) in
-    let below = c.loop-signal.invariant.ready_below c.in-Some.signal has in
-    record {
-      starts = omega (arith, below, c.requires.readers.starts_count);
-      in_order = c.requires.readers.in_order c.in-Some.signal below;
-      within = c.requires.readers.within c.in-Some.signal below;
-    }
+    c.requires.readers.have_rows c.in-Some.signal (All-pop (λ s. s < length c.args.definitions.now) c.loop-signal.ready.items c.pop.new.self.items (Some c.in-Some.signal) c.in-Some.ensures.items c.loop-signal.invariant.ready_below).1
 
 pub tell_readers-requires-clause-search : goal.tell_readers-requires-clause-search
 tell_readers-requires-clause-search c =

@@ -1,6 +1,6 @@
-use Rattle.std.proofs.Common.{◌≡◌, ◌<◌, ◌∙◌, ◌++◌, ◌∷◌, [], ℕ, ap, sym, subst, refl, true, arith, length, inl, inr, ◌⊎◌}
-use Rattle.std.specs.Prelude.{Some, slice_get, Contains}
-use Rattle.std.proofs.lemmas.List.Elements.{Contains-append_left, Contains-push, Contains-push_cases}
+use Rattle.std.proofs.Common.{◌≡◌, ◌∙◌, ◌++◌, ◌∷◌, [], ℕ, ap, sym, subst, refl, cond, arith, length}
+use Rattle.std.specs.Prelude.{Some, slice_get}
+use Rattle.std.proofs.lemmas.List.{append-nil}
 use Rattle.std.proofs.lemmas.Option.{slice_get_read}
 use Rattle.bench_net.specs.declared.levels.Mark.{Mark}
 use Rattle.bench_net.specs.declared.levels.Mark.TheVariants.{Waits, Level}
@@ -20,15 +20,8 @@ returns-in_ok-push-clause-search c = λ row state.
     let at : c.in-Waits.at ≡ c.args.pin = omega arith in
     let waits : slice_get marks g ≡ Some (Waits c.args.pin c.in-Waits.above) = mark ∙ (ap Some c.in-Waits.is ∙ ap (λ i. Some (Waits i c.in-Waits.above)) at) in
     let next = subst (λ ms. IsNextMark pins ms g c.next_mark-mark.result) c.deref.ensures.value c.next_mark-mark.ensures in
-    let is : c.push.new.self.items ≡ ready ++ g ∷ [] = c.in_ok-push.ensures.items in
     moved pins n marks ready c.push.new.self.items row g c.args.pin c.in-Waits.above c.next_mark-mark.result state waits next
-    (λ s has. subst (λ xs. Contains xs s) (sym is) (Contains-append_left ready (g ∷ []) s has))
-    (λ s has. below n s (state.ready_below s) (Contains-push_cases ready g s (subst (λ xs. Contains xs s) is has)) c.requires.gate)
-    (λ on. subst (λ xs. Contains xs g) (sym is) (Contains-push ready g))
-  where
-    below : (n s : ℕ) {A : Type 0} {g : ℕ} → (A → s < n) → A ⊎ (g ≡ s) → g < n → s < n
-    below n s before (inl a) lt = before a
-    below n s before (inr e) lt = subst (λ x. x < n) e lt
+    (c.in_ok-push.ensures.items ∙ ap (λ m. ready ++ cond (has_level m) (g ∷ []) []) (sym c.in-Level.is))
 
 pub returns-in_default-mark-clause-search : goal.returns-in_default-mark-clause-search
 returns-in_default-mark-clause-search c = λ row state.
@@ -40,11 +33,11 @@ returns-in_default-mark-clause-search c = λ row state.
     let waits : slice_get marks g ≡ Some (Waits c.args.pin c.in-Waits.above) = mark ∙ (ap Some c.in-Waits.is ∙ ap (λ i. Some (Waits i c.in-Waits.above)) at) in
     let next = subst (λ ms. IsNextMark pins ms g c.next_mark-mark.result) c.deref.ensures.value c.next_mark-mark.ensures in
     moved pins (length c.args.definitions.now) marks c.args.ready.now.items c.args.ready.now.items row g c.args.pin c.in-Waits.above c.next_mark-mark.result state waits next
-    (λ s has. has) state.ready_below (λ on. absurd (off c.next_mark-mark.result on c.in_default-mark.not-Level))
+    (ready_same c.next_mark-mark.result c.in_default-mark.not-Level)
   where
-    off : (m : Mark) → has_level m ≡ true → ((k : ℕ) → m ≡ Level k → ⊥) → ⊥
-    off (Waits pin above) on none = cc
-    off (Level k) on none = none k refl
+    ready_same : (m : Mark) → ((k : ℕ) → m ≡ Level k → ⊥) → c.args.ready.now.items ≡ c.args.ready.now.items ++ cond (has_level m) (c.args.gate ∷ []) []
+    ready_same (Waits pin above) none = sym (append-nil c.args.ready.now.items)
+    ready_same (Level k) none = absurd (none k refl)
 
 pub returns-in_default-clause-search : goal.returns-in_default-clause-search
 returns-in_default-clause-search c = λ row state.

@@ -6,9 +6,6 @@ use Rattle.bench_net.proofs.Calls.{named, name_count}
 use Rattle.bench_net.proofs.NamedLevels.{has_level}
 use Rattle.bench_net.proofs.circuit.Circuit.level_of.Goals as goal
 
-pub index-requires : goal.index-requires
-index-requires c = omega (arith, c.requires, ap (λ s. length (names s)) c.self.view_is, name_count (map string_bytes c.self.inside.names.items) c.self.inside.lines.items c.self.inside.tables c.self.inside.levels c.self.invariant, c.self.invariant.level_tables.levels_are.count)
-
 pub returns : goal.returns
 returns c =
     let levels = c.self.inside.levels.levels.items in

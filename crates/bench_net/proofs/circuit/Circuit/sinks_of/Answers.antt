@@ -7,12 +7,6 @@ use Rattle.bench_net.proofs.Named.{name_of_at}
 use Rattle.bench_net.proofs.NamedSinks.{sinks_named}
 use Rattle.bench_net.proofs.circuit.Circuit.sinks_of.Goals as goal
 
-pub row-requires : goal.row-requires
-row-requires c =
-    let rows = c.self.invariant.tables_are.sinks_are in
-    let below : c.args.signal < length (map string_bytes c.self.inside.names.items) = omega (arith, c.requires, ap (λ x. length (names x)) c.self.view_is, name_count (map string_bytes c.self.inside.names.items) c.self.inside.lines.items c.self.inside.tables c.self.inside.levels c.self.invariant) in
-    record { starts = omega (arith, below, rows.starts_count); in_order = rows.in_order c.args.signal below; within = rows.within c.args.signal below }
-
 pub returns : goal.returns
 returns c = λ n e.
     let ns = map string_bytes c.self.inside.names.items in

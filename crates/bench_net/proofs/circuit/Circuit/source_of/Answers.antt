@@ -4,9 +4,6 @@ use Rattle.bench_net.specs.Scan.{sources, name_of, names}
 use Rattle.bench_net.proofs.Calls.{read_place_some, read_place_none, name_count}
 use Rattle.bench_net.proofs.circuit.Circuit.source_of.Goals as goal
 
-pub index-requires : goal.index-requires
-index-requires c = omega (arith, c.requires, ap (λ s. length (names s)) c.self.view_is, name_count (map string_bytes c.self.inside.names.items) c.self.inside.lines.items c.self.inside.tables c.self.inside.levels c.self.invariant, c.self.invariant.tables_are.places_are.count)
-
 pub returns-clause-place : goal.returns-clause-place
 returns-clause-place c =
     let below : c.args.signal < length (map string_bytes c.self.inside.names.items) = omega (arith, c.requires, ap (λ s. length (names s)) c.self.view_is, name_count (map string_bytes c.self.inside.names.items) c.self.inside.lines.items c.self.inside.tables c.self.inside.levels c.self.invariant) in
