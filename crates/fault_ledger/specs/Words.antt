@@ -1,6 +1,8 @@
 -- The rule of the shared words: what is true of the words and of all that the seats have seen,
 -- between any two steps.
-use Rattle.std.specs.Prelude.{◌≡◌, ℕ, zero, suc, ◌+◌, ◌*◌, ◌/◌, ◌%◌, ◌^◌, ◌<◌, ◌≤◌, ◌⊎◌, Bool, true, false, ◌==◌, if◌then◌else◌, min, List, [], ◌∷◌, ◌++◌, length, slice_index, Some, None}
+use Rattle.std.specs.Prelude.{◌≡◌, ℕ, zero, suc, ◌+◌, ◌*◌, ◌/◌, ◌%◌, ◌^◌, ◌<◌, ◌≤◌, ◌⊎◌, Bool, true}
+use Rattle.std.specs.Prelude.{false, ◌==◌, if◌then◌else◌, min, List, [], ◌∷◌, ◌++◌, length}
+use Rattle.std.specs.Prelude.{slice_index, Some, None}
 use mathlib.Core.Option.{some}
 use lib.ListN.{get_elem?}
 use Rattle.patterns.specs.declared.Outcome.{Outcome}
@@ -12,7 +14,8 @@ use Rattle.fault_ledger.specs.declared.PieceState.TheVariants as state
 use Rattle.fault_ledger.specs.declared.Event.{Event}
 use Rattle.fault_ledger.specs.declared.words.Post.{Post}
 use Rattle.fault_ledger.specs.declared.words.View.{View}
-use Rattle.fault_ledger.specs.History.{History, piece_count, state_of, claims, held, entry, ContinuesWithout}
+use Rattle.fault_ledger.specs.History.{History, piece_count, state_of, claims, held, entry}
+use Rattle.fault_ledger.specs.History.{ContinuesWithout}
 use Rattle.fault_ledger.specs.Answer.{IsLegal}
 use Rattle.fault_ledger.specs.Face.{shape_fault}
 use Rattle.fault_ledger.specs.Seats.{Place, Sitter}

@@ -5,12 +5,14 @@
 //! p / 8 + 1. Each step is one atomic operation on one word. Views and events are facts of the
 //! proof: no value of [`View`] or [`Post`] is made.
 
-ghost use Rattle.std.specs.Prelude.{◌≡◌, ◌<◌, ◌≤◌, ◌+◌, ◌*◌, ◌/◌, ◌%◌, true, false, [], ◌∷◌, map, IfOk, Some, None};
+ghost use Rattle.std.specs.Prelude.{◌≡◌, ◌<◌, ◌≤◌, ◌+◌, ◌*◌, ◌/◌, ◌%◌, true, false, [], ◌∷◌, map};
+ghost use Rattle.std.specs.Prelude.{IfOk, Some, None};
 ghost use Rattle.patterns.specs.Tests.{size_of};
 ghost use Rattle.fault_ledger.specs.declared.Event.{Event};
 ghost use Rattle.fault_ledger.specs.declared.Claim.TheVariants as claim_is;
 ghost use Rattle.fault_ledger.specs.declared.Reply.TheVariants.{Claimed, Done};
-ghost use Rattle.fault_ledger.specs.History.{History, ContinuesWithout, block_of, claims, class_of, entry, held, piece_count, state_of, states_of};
+ghost use Rattle.fault_ledger.specs.History.{History, ContinuesWithout, block_of, claims, class_of};
+ghost use Rattle.fault_ledger.specs.History.{entry, held, piece_count, state_of, states_of};
 ghost use Rattle.fault_ledger.specs.Answer.{fits_size, has_earlier_hit, IsLegal};
 ghost use Rattle.fault_ledger.specs.Face.{shape_fault};
 ghost use Rattle.fault_ledger.specs.Seats.{Sees, Makes, Meets};
@@ -267,8 +269,8 @@ impl Words {
         requires place { token.old.place ≡ self.now }
         requires piece { piece < piece_count self.now.shape }
         requires held { held token.old.worker token.old.seen ≡ Some piece }
-        requires fits { fits_size (size_of self.now.shape.tests (block_of self.now.shape piece)) outcome
-            ≡ true }
+        requires fits { fits_size (size_of self.now.shape.tests (block_of self.now.shape piece))
+            outcome ≡ true }
         ensures { Makes token.old (Event.Report token.old.worker outcome) Done token.new }
     {
         let mut seat = mem::replace(&mut token.badge, Badge::blank()).into_seat::<u8>();
