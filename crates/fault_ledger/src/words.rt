@@ -9,6 +9,7 @@ ghost use Rattle.std.specs.Prelude.{◌≡◌, ◌<◌, ◌≤◌, ◌+◌, ◌*
 ghost use Rattle.std.specs.Prelude.{IfOk, Some, None};
 ghost use Rattle.patterns.specs.Tests.{size_of};
 ghost use Rattle.fault_ledger.specs.declared.Event.{Event};
+ghost use Rattle.fault_ledger.specs.declared.words.View.{View};
 ghost use Rattle.fault_ledger.specs.declared.Claim.TheVariants as claim_is;
 ghost use Rattle.fault_ledger.specs.declared.Reply.TheVariants.{Claimed, Done};
 ghost use Rattle.fault_ledger.specs.History.{History, ContinuesWithout, block_of, claims, class_of};
@@ -257,7 +258,7 @@ impl Words {
         ensures none { piece_count self.now.shape ≤ result
             → Sees token.old true token.new × (claims token.new.seen ≡ piece_count self.now.shape) }
     {
-        let mut seat = mem::replace(&mut token.badge, Badge::blank()).into_seat::<u8>();
+        let mut seat = take_seat(&mut token.badge);
         let piece = self.table.shared.fetch_add::<Claiming>(&mut seat, 0, 1);
         token.badge = seat.into_badge();
         piece
@@ -273,7 +274,7 @@ impl Words {
             outcome ≡ true }
         ensures { Makes token.old (Event.Report token.old.worker outcome) Done token.new }
     {
-        let mut seat = mem::replace(&mut token.badge, Badge::blank()).into_seat::<u8>();
+        let mut seat = take_seat(&mut token.badge);
         self.table.shared.fetch_or::<Reporting>(
             &mut seat,
             word_with(piece as usize),
@@ -292,7 +293,7 @@ impl Words {
         requires hit { has_earlier_hit self.now.shape token.old.seen piece ≡ true }
         ensures { Makes token.old (Event.Drop token.old.worker) Done token.new }
     {
-        let mut seat = mem::replace(&mut token.badge, Badge::blank()).into_seat::<u8>();
+        let mut seat = take_seat(&mut token.badge);
         self.table.shared.fetch_or::<Dropping>(
             &mut seat,
             word_with(piece as usize),
@@ -308,7 +309,7 @@ impl Words {
         ensures seen { Sees token.old token.old.told token.new }
         ensures state { result ≡ entry piece token.new.seen }
     {
-        let mut seat = mem::replace(&mut token.badge, Badge::blank()).into_seat::<u8>();
+        let mut seat = take_seat(&mut token.badge);
         let word = self
             .table
             .shared
@@ -322,8 +323,8 @@ impl Words {
         requires { (first.old.place ≡ self.now) × (second.old.place ≡ self.now) }
         ensures { Meets first.old second.old first.new second.new }
     {
-        let joining = mem::replace(&mut first.badge, Badge::blank()).into_seat::<u8>();
-        let mut both = mem::replace(&mut second.badge, Badge::blank()).into_seat::<u8>();
+        let joining = take_seat(&mut first.badge);
+        let mut both = take_seat(&mut second.badge);
         self.table.shared.join_seat::<Together>(&mut both, joining);
         self.table.shared.load::<Looking>(&mut both, 0);
         let parted = self.table.shared.split_seat::<Apart>(&mut both);
@@ -351,6 +352,15 @@ impl Words {
         closed.free();
         codes
     }
+}
+
+/// Takes the seat of the table out of a badge, which is blank then.
+fn take_seat(badge: &mut Badge<View>) -> atomic_table::Seat<u8, View>
+    requires { (view : View) × (badge.old.views ≡ view ∷ []) }
+    ensures place { (result.table_id ≡ badge.old.table_id) × (result.id ≡ badge.old.id) }
+    ensures view { (badge.old.views ≡ result.me.0 ∷ []) × (result.me.1 ≡ []) }
+{
+    mem::replace(badge, Badge::blank()).into_seat()
 }
 
 /// What stands in the fields of all pieces in the words of a closed table.
