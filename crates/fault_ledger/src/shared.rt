@@ -109,7 +109,8 @@ impl Seat {
         ensures sitter { IsSitter self.now }
     {
         let piece = self.piece?;
-        Some(self.row.class_and_block(piece))
+        let place = self.row.class_and_block(piece);
+        Some(place)
     }
 }
 
@@ -459,9 +460,9 @@ fn remembered_of(remembered: &[Remembered], class: u32) -> Remembered
 fn remember(remembered: &mut Vec<Remembered>, class: u32, known: Remembered)
     ensures { remembered.new.items ≡ set remembered.old.items class known }
 {
-    if let Some(place) = remembered.get_mut(class as usize) {
-        place.clear = known.clear;
-        place.hit = known.hit;
+    if let Some(kept) = remembered.get_mut(class as usize) {
+        kept.clear = known.clear;
+        kept.hit = known.hit;
     }
 }
 
