@@ -82,7 +82,7 @@ impl Play<u8, View> for Claiming {
     ghost then = { Claims };
 }
 
-/// The step of a report: the outcome with the code that was set is the worker's last event.
+/// The step of a report: the outcome with the code that was added is the worker's last event.
 struct Reporting;
 
 impl Play<u8, View> for Reporting {
@@ -264,8 +264,8 @@ impl Words {
         piece
     }
 
-    /// One atomic step: the outcome's code is set in the field of the worker's piece, which was 0.
-    /// The other seven pieces of the word stay.
+    /// One atomic step: the outcome's code is added to the field of the worker's piece, which was
+    /// 0. The other seven pieces of the word stay.
     pub(crate) fn report(&self, token: &mut Token, piece: u32, outcome: Outcome)
         requires place { token.old.place ≡ self.now }
         requires piece { piece < piece_count self.now.shape }
@@ -275,7 +275,7 @@ impl Words {
         ensures { Makes token.old (Event.Report token.old.worker outcome) Done token.new }
     {
         let mut seat = take_seat(&mut token.badge);
-        self.table.shared.fetch_or::<Reporting>(
+        self.table.shared.fetch_add::<Reporting>(
             &mut seat,
             word_with(piece as usize),
             in_field(piece as usize, code_of(outcome)),
@@ -283,7 +283,7 @@ impl Words {
         token.badge = seat.into_badge();
     }
 
-    /// One atomic step: the code of a skipped piece is set in the field of the worker's piece,
+    /// One atomic step: the code of a skipped piece is added to the field of the worker's piece,
     /// which was 0. The other seven pieces of the word stay. The worker has seen a hit of an
     /// earlier block of the piece's class.
     pub(crate) fn drop_piece(&self, token: &mut Token, piece: u32)
@@ -294,7 +294,7 @@ impl Words {
         ensures { Makes token.old (Event.Drop token.old.worker) Done token.new }
     {
         let mut seat = take_seat(&mut token.badge);
-        self.table.shared.fetch_or::<Dropping>(
+        self.table.shared.fetch_add::<Dropping>(
             &mut seat,
             word_with(piece as usize),
             in_field(piece as usize, SKIPPED),
