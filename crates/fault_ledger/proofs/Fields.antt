@@ -1,8 +1,8 @@
--- Eight fields of eight bits in a word: an `or` of one field leaves the others.
-use Rattle.std.proofs.Common.{◌≡◌, ◌≢◌, ℕ, ◌+◌, ◌-◌, ◌*◌, ◌/◌, ◌%◌, ◌^◌, ◌<◌, ◌≤◌, bit_or, sym, ap, ◌∙◌, subst, arith, mod-eq_of_lt, mul_assoc, mul-div_cancel, pow-add, pow_pos, pow_mono, lt_of_lt_of_le, mul-lt-mul_of_pos_right, List, set, length, slice_index, get_or-set_same, get_or-set_other}
-use Rattle.std.proofs.Math.Nat.{div-eq_of_lt}
-use Rattle.std.proofs.lemmas.Nat.{or_shr, or_mod}
-use Rattle.std.specs.Int.Bits.{or_zero_l, or_zero_r}
+-- Eight fields of eight bits in a word: what is added to one that is 0 is set in it, and the others stay.
+use Rattle.std.proofs.Common.{◌≡◌, ◌≢◌, ℕ, ◌+◌, ◌-◌, ◌*◌, ◌/◌, ◌%◌, ◌^◌, ◌<◌, ◌≤◌, bit_or, bit_and, sym, ap, ◌∙◌, subst, arith, mod-eq_of_lt, mul_assoc, mul-div_cancel, pow-add, pow_pos, pow_mono, lt_of_lt_of_le, mul-lt-mul_of_pos_right, List, set, length, slice_index, get_or-set_same, get_or-set_other}
+use Rattle.std.proofs.Math.Nat.{div-add-mod, div-eq_of_lt, mul-mod_left}
+use Rattle.std.proofs.lemmas.Nat.{and_le_r, and_mod, and_shr, or_disjoint, or_lt, or_mod, or_shr}
+use Rattle.std.specs.Int.Bits.{and_zero_l, and_zero_r, or_zero_l, or_zero_r}
 use native.Mathlib.Decide.{dec_lt, ℕ_discrete}
 use mathlib.Core.Logic.{dite}
 use Rattle.fault_ledger.specs.Words.{field, field_in, in_field, word_with}
@@ -57,6 +57,33 @@ or_else n c i j l apart =
     nothing : Dec (i < j) → field (c * 2 ^ (8 * i)) j ≡ 0
     nothing (yes k) = above c i j l k
     nothing (no k) = below c i j (omega arith)
+
+-- a number of which a field is 0 shares no bit with one that has bits in that field alone
+apart_at : (n c i : ℕ) → c < 256 → field n i ≡ 0 → bit_and n (c * 2 ^ (8 * i)) ≡ 0
+apart_at n c i l free =
+    let k = 8 * i in
+    let both = bit_and n (c * 2 ^ k) in
+    let above : both / 2 ^ k ≡ bit_and (n / 2 ^ k) c =
+    and_shr n (c * 2 ^ k) k ∙ ap (bit_and (n / 2 ^ k)) (mul-div_cancel c (pow_pos k)) in
+    let low : both % 2 ^ k ≡ 0 =
+    and_mod n (c * 2 ^ k) k ∙ ap (bit_and (n % 2 ^ k)) (mul-mod_left c (2 ^ k)) ∙ and_zero_r (n % 2 ^ k) in
+    let under8 : bit_and (n / 2 ^ k) c % 2 ^ 8 ≡ 0 =
+    and_mod (n / 2 ^ k) c 8 ∙ ap (λ x. bit_and x (c % 2 ^ 8)) free ∙ and_zero_l (c % 2 ^ 8) in
+    let small : bit_and (n / 2 ^ k) c ≤ c = and_le_r (n / 2 ^ k) c in
+    let none : bit_and (n / 2 ^ k) c ≡ 0 = omega arith in
+    let parts = div-add-mod both (2 ^ k) in
+    sym parts ∙ (λ j. 2 ^ k * (above ∙ none) j + low j) ∙ omega arith
+
+-- where a field is 0, to add to it is to set its bits
+pub sum_is_or : (n p c : ℕ) → n < 2 ^ 64 → c < 256 → field n (p % 8) ≡ 0
+    → (n + in_field p c) % 2 ^ 64 ≡ bit_or n (in_field p c)
+sum_is_or n p c wide small free =
+    let i = p % 8 in
+    let e = or_disjoint n (in_field p c) (apart_at n c i small free) in
+    let top : 8 + 8 * i ≤ 64 = omega arith in
+    let inside : in_field p c < 2 ^ 64 = lt_of_lt_of_le (under c i small) (pow_mono top) in
+    let l : bit_or n (in_field p c) < 2 ^ 64 = or_lt 64 n (in_field p c) wide inside in
+    ap (λ x. x % 2 ^ 64) (sym e) ∙ mod-eq_of_lt l
 
 -- the same word has the same in a piece's field
 pub same_field : (p a b : ℕ) → in_field p a ≡ in_field p b → a ≡ b

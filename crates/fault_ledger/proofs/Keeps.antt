@@ -24,7 +24,7 @@ use Rattle.fault_ledger.proofs.Totals.{total-two, total-mono, told-length, times
 use Rattle.fault_ledger.proofs.Accepts.{claim_answer, report_answer, drop_answer, hit_goes_on}
 use Rattle.fault_ledger.proofs.Looks.{same_total, look_keeps}
 use Rattle.fault_ledger.proofs.Limits.{shape_small}
-use Rattle.fault_ledger.proofs.Fields.{marked_words, marked_here, marked_else, marked_cursor}
+use Rattle.fault_ledger.proofs.Fields.{sum_is_or, marked_words, marked_here, marked_else, marked_cursor}
 
 -- what `Allows` asks at one state
 abbrev Goes : {S : Type 0} → Shape → State S View → ℕ → Me S View → ℕ → (ℕ → ℕ) → (ℕ → Me S View → Type 0) → Type 0
@@ -199,9 +199,20 @@ module _ {S : Type 0} (s : Shape) (slots id w p : ℕ) (told : Bool) (seen : His
       (same ∙ kept.counted ∙ ap (λ n. min n (piece_count s)) (sym first))
       (let b = kept.bounded in omega arith)
 
-  pub reports_allowed : (o : Outcome) → p < piece_count s → fits_size (size_of s.tests (block_of s p)) o ≡ true
+  -- to set the bits of the field of the piece that is held is to add them, since it was 0
+  by_sum : (c : ℕ) (T : ℕ → Me S View → Type 0) → p < piece_count s → c < 256 → Allows (IsKept s) slots id me' (word_with p) (λ n. bit_or n (in_field p c)) T
+      → Allows (IsKept s) slots id me' (word_with p) (λ n. (n + in_field p c) % 2 ^ 64) T
+  by_sum c T below small allowed t kept homes at lt =
+      let h = kept.0 in
+      let n = slice_index t.words (word_with p) in
+      let here : held w h ≡ Some p = held_still s h t.words t.views kept.1 id w told seen at ∙ holding in
+      let free : field n (p % 8) ≡ 0 = kept.1.marked p below ∙ ap code_of (held_open w p h here) in
+      subst (λ m. (v : View) × (a : Act S) × Valid t.homes me'.1 a × IsKept s (stepped t (word_with p) m id me'.1 v a) × T n (v, carried_after me'.1 a))
+      (sym (sum_is_or n p c lt small free)) (allowed t kept homes at lt)
+
+  reports_by_or : (o : Outcome) → p < piece_count s → fits_size (size_of s.tests (block_of s p)) o ≡ true
       → Allows (IsKept s) slots id me' (word_with p) (λ n. bit_or n (in_field p (code_of (state_of o)))) (Reports (step slots (word_with p) (in_field p (code_of (state_of o))) 0 none) me')
-  reports_allowed o below fits t kept homes at lt =
+  reports_by_or o below fits t kept homes at lt =
       let h = kept.0 in
       let e = Event.Report w o in
       let mine = knows s h t.words t.views kept.1 id w told seen at in
@@ -209,11 +220,19 @@ module _ {S : Type 0} (s : Shape) (slots id w p : ℕ) (told : Bool) (seen : His
       let accepts : after s h (call.Report w o) ≡ e ∷ h = ap (λ r. added (call.Report w o) r ++ h) (report_answer s h w p o mine.among here fits) in
       (one s w told (e ∷ h), keeps, tt, (e ∷ h, settles e (state_of o) t h kept.1 at refl accepts refl (λ q. refl) below (fits_small o (size_of s.tests (block_of s p)) fits (omega arith))), (refl, (o, (λ q e. ap (λ j. in_field j (code_of (state_of o))) (let r : Some p ≡ Some q = sym holding ∙ e in cc)), (h, mine.newer, (accepts, kept.1.legal), refl))))
 
-  pub drops_allowed : p < piece_count s → has_earlier_hit s seen p ≡ true → Allows (IsKept s) slots id me' (word_with p) (λ n. bit_or n (in_field p 2)) (Drops (step slots (word_with p) (in_field p 2) 0 none) me')
-  drops_allowed below hit t kept homes at lt =
+  drops_by_or : p < piece_count s → has_earlier_hit s seen p ≡ true → Allows (IsKept s) slots id me' (word_with p) (λ n. bit_or n (in_field p 2)) (Drops (step slots (word_with p) (in_field p 2) 0 none) me')
+  drops_by_or below hit t kept homes at lt =
       let h = kept.0 in
       let e = Event.Drop w in
       let mine = knows s h t.words t.views kept.1 id w told seen at in
       let here : held w h ≡ Some p = held_still s h t.words t.views kept.1 id w told seen at ∙ holding in
       let accepts : after s h (call.Drop w) ≡ e ∷ h = ap (λ r. added (call.Drop w) r ++ h) (drop_answer s h w p mine.among here (hit_goes_on s w p h seen mine.newer hit)) in
       (one s w told (e ∷ h), keeps, tt, (e ∷ h, settles e state.Skipped t h kept.1 at refl accepts refl (λ q. refl) below (omega arith)), (refl, (h, mine.newer, (accepts, kept.1.legal), refl)))
+
+  pub reports_allowed : (o : Outcome) → p < piece_count s → fits_size (size_of s.tests (block_of s p)) o ≡ true
+      → Allows (IsKept s) slots id me' (word_with p) (λ n. (n + in_field p (code_of (state_of o))) % 2 ^ 64) (Reports (step slots (word_with p) (in_field p (code_of (state_of o))) 0 none) me')
+  reports_allowed o below fits =
+      by_sum (code_of (state_of o)) (Reports (step slots (word_with p) (in_field p (code_of (state_of o))) 0 none) me') below (fits_small o (size_of s.tests (block_of s p)) fits (omega arith)) (reports_by_or o below fits)
+
+  pub drops_allowed : p < piece_count s → has_earlier_hit s seen p ≡ true → Allows (IsKept s) slots id me' (word_with p) (λ n. (n + in_field p 2) % 2 ^ 64) (Drops (step slots (word_with p) (in_field p 2) 0 none) me')
+  drops_allowed below hit = by_sum 2 (Drops (step slots (word_with p) (in_field p 2) 0 none) me') below (omega arith) (drops_by_or below hit)

@@ -1,5 +1,5 @@
 -- What each step of a token tells.
-use Rattle.std.proofs.Common.{◌≡◌, ℕ, ◌+◌, ◌-◌, ◌*◌, ◌^◌, ◌%◌, ◌<◌, bit_or, true, false, [], ◌∷◌, Some, None, refl, sym, ap, ◌∙◌, subst, arith}
+use Rattle.std.proofs.Common.{◌≡◌, ℕ, ◌+◌, ◌-◌, ◌*◌, ◌^◌, ◌%◌, ◌<◌, true, false, [], ◌∷◌, Some, None, refl, sym, ap, ◌∙◌, subst, arith}
 use Rattle.std.proofs.Math.Nat.{min-le_left}
 use mathlib.Core.Option.{none}
 use Rattle.atomic_table.specs.Seated.{TableId}
@@ -73,9 +73,9 @@ module _ {shape : Shape} {table : TableId} {a : Sitter} {t : TableId} {me : Me �
       subst (λ (m : Me ℕ View). P m i k) (sym is.me_is) (subst (λ x. P here x k) (sym place) (subst (λ x. P here j x) (sym bits) so))
 
   pub report_allowed : (slots id p i k : ℕ) (o : Outcome) → held a.worker a.seen ≡ Some p → p < piece_count shape → fits_size (size_of shape.tests (block_of shape p)) o ≡ true → i ≡ word_with p → k ≡ in_field p (code_of (state_of o))
-      → Allows (IsKept shape) slots id me i (λ n. bit_or n k) (Reports (step slots i k 0 none) me)
+      → Allows (IsKept shape) slots id me i (λ n. (n + k) % 2 ^ 64) (Reports (step slots i k 0 none) me)
   report_allowed slots id p i k o holding below fits place bits =
-      at_bits (λ m j x. Allows (IsKept shape) slots id m j (λ n. bit_or n x) (Reports (step slots j x 0 none) m)) place bits
+      at_bits (λ m j x. Allows (IsKept shape) slots id m j (λ n. (n + x) % 2 ^ 64) (Reports (step slots j x 0 none) m)) place bits
       (reports_allowed shape slots id a.worker p a.told a.seen [] holding o below fits)
 
   pub report_done : (slots p i k n : ℕ) (o : Outcome) {now_t : TableId} (now : Me ℕ View) (b : Badge View) → held a.worker a.seen ≡ Some p → k ≡ in_field p (code_of (state_of o)) → now_t ≡ t → Reports (step slots i k 0 none) me n now → b.table_id ≡ now_t → b.views ≡ now.0 ∷ []
@@ -86,9 +86,9 @@ module _ {shape : Shape} {table : TableId} {a : Sitter} {t : TableId} {me : Me �
       let it : Adds shape (post a.worker a.told a.seen) e now.0 = subst (λ x. Adds shape (post a.worker a.told a.seen) (Event.Report a.worker x) now.0) (same_outcome r.1.0 o (same_field p (code_of (state_of r.1.0)) (code_of (state_of o)) (sym (r.1.1 p holding) ∙ bits))) r.1.2 in
       made e now.0 b it (report_answered shape it.0 a.worker o it.2.0) (put_back is a.told (e ∷ it.0) now b same it.3 table_of views_of)
 
-  pub drop_allowed : (slots id p i k : ℕ) → held a.worker a.seen ≡ Some p → p < piece_count shape → has_earlier_hit shape a.seen p ≡ true → i ≡ word_with p → k ≡ in_field p 2 → Allows (IsKept shape) slots id me i (λ n. bit_or n k) (Drops (step slots i k 0 none) me)
+  pub drop_allowed : (slots id p i k : ℕ) → held a.worker a.seen ≡ Some p → p < piece_count shape → has_earlier_hit shape a.seen p ≡ true → i ≡ word_with p → k ≡ in_field p 2 → Allows (IsKept shape) slots id me i (λ n. (n + k) % 2 ^ 64) (Drops (step slots i k 0 none) me)
   drop_allowed slots id p i k holding below hit place bits =
-      at_bits (λ m j x. Allows (IsKept shape) slots id m j (λ n. bit_or n x) (Drops (step slots j x 0 none) m)) place bits
+      at_bits (λ m j x. Allows (IsKept shape) slots id m j (λ n. (n + x) % 2 ^ 64) (Drops (step slots j x 0 none) m)) place bits
       (drops_allowed shape slots id a.worker p a.told a.seen [] holding below hit)
 
   pub drop_done : (slots i k n : ℕ) {now_t : TableId} (now : Me ℕ View) (b : Badge View) → now_t ≡ t → Drops (step slots i k 0 none) me n now → b.table_id ≡ now_t → b.views ≡ now.0 ∷ []

@@ -1,5 +1,5 @@
 -- What a token of a ledger becomes as a table seat, and what the seat becomes as a token again.
-use Rattle.std.proofs.Common.{◌≡◌, ℕ, Bool, [], ◌∷◌, sym, ap, ◌∙◌}
+use Rattle.std.proofs.Common.{◌≡◌, ℕ, Bool, List, [], ◌∷◌, sym, ap, ◌∙◌}
 use Rattle.atomic_table.specs.Seated.{TableId}
 use Rattle.atomic_table.specs.Table.{Me}
 use Rattle.atomic_table.specs.declared.badge.Badge.{Badge}
@@ -16,15 +16,15 @@ pub record Taken (shape : Shape) (table : TableId) (a : Sitter) (t : TableId) (m
   pub me_is : me ≡ (one shape a.worker a.told a.seen, [])
   pub place_is : a.place ≡ place_of table shape
 
--- the token `old` of the sitter `a` is moved out and made a table seat
-pub taken : {shape : Shape} {table : TableId} {place : Place} {a : Sitter} {old out : Badge View} {t : TableId} {id : ℕ} (me : Me ℕ View)
-    → sitter old.table_id old.views ≡ a → StandsAlone old.views (sitter old.table_id old.views) → a.place ≡ place → place_of table shape ≡ place
-    → out ≡ old → (t ≡ out.table_id) × (id ≡ out.id) × (out.views ≡ me.0 ∷ []) × (me.1 ≡ []) → Taken shape table a t me
-taken {shape} {table} {place} {a} {old} {out} me is alone at here same seat =
+-- a token of the sitter `a` with this table and these views is moved out and made a table seat
+pub taken : {shape : Shape} {table : TableId} {place : Place} {a : Sitter} {old : TableId} {views : List View} {t : TableId} (me : Me ℕ View)
+    → sitter old views ≡ a → StandsAlone views (sitter old views) → a.place ≡ place → place_of table shape ≡ place
+    → t ≡ old → (views ≡ me.0 ∷ []) × (me.1 ≡ []) → Taken shape table a t me
+taken {shape} {table} {place} {a} {old} {views} me is alone at here same seat =
     let there : a.place ≡ place_of table shape = at ∙ sym here in
-    let m = token_me old.views (sitter old.table_id old.views) me alone (sym (ap (λ (b : Badge View). b.views) same) ∙ seat.2) seat.3 in
+    let m = token_me views (sitter old views) me alone seat.0 seat.1 in
     record {
-      table_is = seat.0 ∙ ap (λ (b : Badge View). b.table_id) same ∙ ap (λ (x : Sitter). x.place.table) is ∙ ap (λ (p : Place). p.table) there;
+      table_is = same ∙ ap (λ (x : Sitter). x.place.table) is ∙ ap (λ (p : Place). p.table) there;
       me_is = m ∙ ap (λ (x : Sitter). (one x.place.shape x.worker x.told x.seen, [])) is ∙ ap (λ (p : Place). (one p.shape a.worker a.told a.seen, [])) there;
       place_is = there;
     }

@@ -1,5 +1,6 @@
 -- How clients see a shared ledger, its seats, and what a call on a seat does.
-use Rattle.std.specs.Prelude.{◌≡◌, ◌≢◌, ◌<◌, ◌≤◌, ℕ, Bool, true, false, List, [], ◌∷◌, All, map, slice_index_or, Option, Some, None}
+use Rattle.std.specs.Prelude.{◌≡◌, ◌≢◌, ◌<◌, ◌≤◌, ℕ, Bool, true, false, List, [], ◌∷◌, All, map}
+use Rattle.std.specs.Prelude.{slice_index_or, Option, Some, None}
 use Rattle.atomic_table.specs.Seated.{TableId}
 use Rattle.patterns.specs.Least.{below}
 use Rattle.fault_ledger.specs.declared.Shape.{Shape}
@@ -12,7 +13,8 @@ use Rattle.fault_ledger.specs.declared.Call.{Call}
 use Rattle.fault_ledger.specs.declared.Call.TheVariants as call
 use Rattle.fault_ledger.specs.declared.Reply.{Reply}
 use Rattle.fault_ledger.specs.declared.Reply.TheVariants.{Refused}
-use Rattle.fault_ledger.specs.History.{History, piece_count, piece_at, class_of, block_of, claims, held, entry, ContinuesWithout, states_of}
+use Rattle.fault_ledger.specs.History.{History, piece_count, piece_at, class_of, block_of, claims}
+use Rattle.fault_ledger.specs.History.{held, entry, ContinuesWithout, states_of}
 use Rattle.fault_ledger.specs.Answer.{answer, call_of, is_hit, IsLegal}
 use Rattle.fault_ledger.specs.Settled.{AreClear}
 use Rattle.fault_ledger.specs.Face.{shape_fault}

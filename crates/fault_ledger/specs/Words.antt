@@ -1,6 +1,8 @@
 -- The rule of the shared words: what is true of the words and of all that the seats have seen,
 -- between any two steps.
-use Rattle.std.specs.Prelude.{◌≡◌, ℕ, zero, suc, ◌+◌, ◌*◌, ◌/◌, ◌%◌, ◌^◌, ◌<◌, ◌≤◌, ◌⊎◌, Bool, true, false, ◌==◌, if◌then◌else◌, min, List, [], ◌∷◌, ◌++◌, length, slice_index, Some, None}
+use Rattle.std.specs.Prelude.{◌≡◌, ℕ, zero, suc, ◌+◌, ◌*◌, ◌/◌, ◌%◌, ◌^◌, ◌<◌, ◌≤◌, ◌⊎◌, Bool, true}
+use Rattle.std.specs.Prelude.{false, ◌==◌, if◌then◌else◌, min, List, [], ◌∷◌, ◌++◌, length}
+use Rattle.std.specs.Prelude.{slice_index, Some, None}
 use mathlib.Core.Option.{some}
 use lib.ListN.{get_elem?}
 use Rattle.patterns.specs.declared.Outcome.{Outcome}
@@ -12,7 +14,8 @@ use Rattle.fault_ledger.specs.declared.PieceState.TheVariants as state
 use Rattle.fault_ledger.specs.declared.Event.{Event}
 use Rattle.fault_ledger.specs.declared.words.Post.{Post}
 use Rattle.fault_ledger.specs.declared.words.View.{View}
-use Rattle.fault_ledger.specs.History.{History, piece_count, state_of, claims, held, entry, ContinuesWithout}
+use Rattle.fault_ledger.specs.History.{History, piece_count, state_of, claims, held, entry}
+use Rattle.fault_ledger.specs.History.{ContinuesWithout}
 use Rattle.fault_ledger.specs.Answer.{IsLegal}
 use Rattle.fault_ledger.specs.Face.{shape_fault}
 use Rattle.fault_ledger.specs.Seats.{Place, Sitter}
@@ -131,7 +134,7 @@ Claims step me n me' = (me'.1 ≡ me.1) × OfPosts me.0.posts (λ p.
     ⊎ ((piece_count me.0.shape ≤ n) × (claims h ≡ piece_count me.0.shape) × IsLegal me.0.shape h
     × (me'.0 ≡ one me.0.shape p.worker true h))))
 
--- a fetch_or that sets an outcome's code in the field of the piece held reports that outcome
+-- a fetch_add of an outcome's code to the field of the piece held, which is 0, reports that outcome
 abbrev pub Reports : {S : Type 0} → Step S → Me S View → ℕ → Me S View → Type 0
 Reports step me n me' = (me'.1 ≡ me.1) × OfPosts me.0.posts (λ p.
     (o : Outcome)
@@ -139,7 +142,7 @@ Reports step me n me' = (me'.1 ≡ me.1) × OfPosts me.0.posts (λ p.
     → step.first ≡ in_field piece (code_of (state_of o)))
     × Adds me.0.shape p (Event.Report p.worker o) me'.0)
 
--- a fetch_or that drops a piece
+-- a fetch_add that drops a piece
 abbrev pub Drops : {S : Type 0} → Step S → Me S View → ℕ → Me S View → Type 0
 Drops step me n me' = (me'.1 ≡ me.1)
     × OfPosts me.0.posts (λ p. Adds me.0.shape p (Event.Drop p.worker) me'.0)

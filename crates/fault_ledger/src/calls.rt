@@ -2,7 +2,8 @@
 
 ghost use Rattle.std.specs.Prelude.{◌≡◌, [], IfOk, IfErr, Some, None};
 ghost use Rattle.patterns.specs.Least.{Table};
-ghost use Rattle.fault_ledger.specs.Answer.{replies, after_all, IsLegal, IsTrueTo, SettlesAtLeast, SkippedIsNeverFirst, done_reply_of};
+ghost use Rattle.fault_ledger.specs.Answer.{replies, after_all, IsLegal, IsTrueTo, SettlesAtLeast};
+ghost use Rattle.fault_ledger.specs.Answer.{SkippedIsNeverFirst, done_reply_of};
 ghost use Rattle.fault_ledger.specs.Face.{face, shape_fault, Answers};
 
 use crate::{Call, Ledger, LedgerFault, Refusal, Reply, Shape};

@@ -12,6 +12,7 @@
 mod calls;
 mod closed;
 pub mod laws;
+mod rows;
 mod sequential;
 mod shared;
 mod states;

@@ -1,6 +1,7 @@
 //! The ledger of one owner.
 
-ghost use Rattle.std.specs.Prelude.{ℕ, ◌≡◌, ◌⊎◌, ◌<◌, ◌≤◌, if◌then◌else◌, min, [], length, slice_get, IfOk, IfErr, OnErr, Some, None};
+ghost use Rattle.std.specs.Prelude.{ℕ, ◌≡◌, ◌⊎◌, ◌<◌, ◌≤◌, if◌then◌else◌, min, [], length};
+ghost use Rattle.std.specs.Prelude.{slice_get, IfOk, IfErr, OnErr, Some, None};
 ghost use Rattle.std.specs.Option.{option_map};
 ghost use Rattle.fault_ledger.specs.declared.Call.{Call};
 ghost use Rattle.fault_ledger.specs.declared.Reply.{Reply};
@@ -140,7 +141,8 @@ impl Ledger {
     /// [`Refusal::BadOutcome`] where the outcome names a test that the piece's block hasn't; the
     /// worker then still holds the piece.
     pub fn report(&mut self, worker: u32, outcome: Outcome) -> Result<(), Refusal>
-        ensures answer { Answers self.old (Call.Report worker outcome) (done_reply_of result) self.new }
+        ensures answer { Answers self.old (Call.Report worker outcome) (done_reply_of result)
+            self.new }
         ensures shape { self.new.shape ≡ self.old.shape }
         ensures refused { OnErr result (self.new ≡ self.old) }
     {

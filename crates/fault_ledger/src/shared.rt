@@ -1,17 +1,23 @@
 //! The ledger that threads share, without a lock.
 
-ghost use Rattle.std.specs.Prelude.{◌≡◌, ◌⊎◌, ◌<◌, ◌≤◌, ℕ, true, false, All, map, set, length, slice_index_or, IfOk, IfErr, OnErr, Ok, Err, Some, None};
+ghost use Rattle.std.specs.Prelude.{◌≡◌, ◌⊎◌, ◌<◌, ◌≤◌, ℕ, true, false, All, map, set, length};
+ghost use Rattle.std.specs.Prelude.{slice_index_or, IfOk, IfErr, OnErr, Ok, Err, Some, None};
 ghost use Rattle.std.specs.Option.{option_map};
 ghost use Rattle.fault_ledger.specs.declared.Call.TheVariants as call;
 ghost use Rattle.fault_ledger.specs.declared.Event.{Event};
 ghost use Rattle.fault_ledger.specs.declared.Reply.TheVariants.{Done};
-ghost use Rattle.fault_ledger.specs.History.{History, ContinuesWithout, block_count, block_of, entry, held, piece_at, piece_count};
-ghost use Rattle.fault_ledger.specs.Answer.{answer, claim_reply_of, done_reply_of, has_earlier_hit, is_hit};
+ghost use Rattle.fault_ledger.specs.History.{History, ContinuesWithout, block_count, block_of};
+ghost use Rattle.fault_ledger.specs.History.{entry, held, piece_at, piece_count};
+ghost use Rattle.fault_ledger.specs.Answer.{answer, claim_reply_of, done_reply_of, has_earlier_hit};
+ghost use Rattle.fault_ledger.specs.Answer.{is_hit};
 ghost use Rattle.fault_ledger.specs.Settled.{status, finish, AreClear};
 ghost use Rattle.fault_ledger.specs.Face.{shape_fault, shape_of};
-ghost use Rattle.fault_ledger.specs.Seats.{Closes, EndsClear, FindsNoHit, IsSitter, Keeps, Makes, Meets, Sees, Stays, class_and_block, newcomers, nothing_seen};
+ghost use Rattle.fault_ledger.specs.Seats.{Closes, EndsClear, FindsNoHit, IsSitter, Keeps, Makes};
+ghost use Rattle.fault_ledger.specs.Seats.{Meets, Sees, Stays, class_and_block, newcomers};
+ghost use Rattle.fault_ledger.specs.Seats.{nothing_seen};
 ghost use Rattle.fault_ledger.specs.Words.{newcomer_posts, post_of};
 
+use crate::rows::Row;
 use crate::words::{Group, Token, Words};
 use crate::{Claim, Closed, Finish, LedgerFault, PieceState, Refusal, Shape, Status};
 use patterns::{BLOCK_SIZE, Outcome};
@@ -55,7 +61,8 @@ pub struct Seat {
     token: Token,
     worker: u32,
     told: bool,
-    classes: u32,
+    // The row of the piece that was claimed last.
+    row: Row,
     piece: Option<u32>,
     // For each of the first classes what was seen of it, and so stays.
     remembered: Vec<Remembered>,
@@ -83,7 +90,7 @@ impl Model for Seat {
 
     ghost view = { λ s. s.token };
 
-    ghost invariant = { λ s. IsSeated s.token s.worker s.told s.classes s.piece s.remembered.items };
+    ghost invariant = { λ s. IsSeated s.token s.worker s.told s.row s.piece s.remembered.items };
 }
 
 impl Seat {
@@ -102,7 +109,8 @@ impl Seat {
         ensures sitter { IsSitter self.now }
     {
         let piece = self.piece?;
-        Some((piece % self.classes, piece / self.classes))
+        let place = self.row.class_and_block(piece);
+        Some(place)
     }
 }
 
@@ -178,10 +186,8 @@ impl SharedLedger {
         }
         let piece = piece as u32;
         seat.piece = Some(piece);
-        Ok(Claim::Piece {
-            class: piece % self.shape.classes,
-            block: piece / self.shape.classes,
-        })
+        let (class, block) = seat.row.turn_to(piece);
+        Ok(Claim::Piece { class, block })
     }
 
     /// Takes a seat's outcome of the piece that it holds, which it then no longer holds. It is one
@@ -264,8 +270,7 @@ impl SharedLedger {
             × ContinuesWithout seat.old.worker seat.new.seen at
             × (has_earlier_hit self.now.shape at piece ≡ false) }
     {
-        let class = piece % self.shape.classes;
-        let end = piece / self.shape.classes;
+        let (class, end) = seat.row.class_and_block(piece);
         let known = remembered_of(&seat.remembered, class);
         if known.hit && known.clear < end {
             return true;
@@ -361,8 +366,8 @@ impl SharedLedger {
 
     /// Whether a class is settled, and at which test, else the block that it waits for. It looks at
     /// the blocks of the class up to the first that isn't clear, and takes effect at its last look.
-    /// The looks begin as those of [`SharedLedger::drop_piece`] do. Where there is no block it takes
-    /// no look.
+    /// The looks begin as those of [`SharedLedger::drop_piece`] do. Where there is no block it
+    /// takes no look.
     pub fn status(&self, seat: &mut Seat, class: u32) -> Status
         requires place { seat.old.place ≡ self.now }
         requires range { class < self.now.shape.classes }
@@ -394,7 +399,7 @@ impl SharedLedger {
         ensures no_piece { (self.now.shape.classes ≡ 0) ⊎ (block_count self.now.shape ≡ 0)
             → seat.new ≡ seat.old }
     {
-        for class in 0..seat.classes {
+        for class in 0..seat.row.classes() {
             if let Status::Waiting(block) = self.status(seat, class) {
                 return Finish::Waiting { class, block };
             }
@@ -455,8 +460,9 @@ fn remembered_of(remembered: &[Remembered], class: u32) -> Remembered
 fn remember(remembered: &mut Vec<Remembered>, class: u32, known: Remembered)
     ensures { remembered.new.items ≡ set remembered.old.items class known }
 {
-    if (class as usize) < remembered.len() {
-        remembered[class as usize] = known;
+    if let Some(kept) = remembered.get_mut(class as usize) {
+        kept.clear = known.clear;
+        kept.hit = known.hit;
     }
 }
 
@@ -491,7 +497,7 @@ fn seats_of(
             token,
             worker,
             told: false,
-            classes: shape.classes,
+            row: Row::of_block_0(shape.classes),
             piece: None,
             remembered,
         })?;
@@ -523,7 +529,7 @@ fn token_of(seat: Seat) -> Token
         token,
         worker: _,
         told: _,
-        classes: _,
+        row: _,
         piece: _,
         remembered: _,
     } = seat;

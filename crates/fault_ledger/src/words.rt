@@ -5,12 +5,15 @@
 //! p / 8 + 1. Each step is one atomic operation on one word. Views and events are facts of the
 //! proof: no value of [`View`] or [`Post`] is made.
 
-ghost use Rattle.std.specs.Prelude.{◌≡◌, ◌<◌, ◌≤◌, ◌+◌, ◌*◌, ◌/◌, ◌%◌, true, false, [], ◌∷◌, map, IfOk, Some, None};
+ghost use Rattle.std.specs.Prelude.{◌≡◌, ◌<◌, ◌≤◌, ◌+◌, ◌*◌, ◌/◌, ◌%◌, true, false, [], ◌∷◌, map};
+ghost use Rattle.std.specs.Prelude.{IfOk, Some, None};
 ghost use Rattle.patterns.specs.Tests.{size_of};
 ghost use Rattle.fault_ledger.specs.declared.Event.{Event};
+ghost use Rattle.fault_ledger.specs.declared.words.View.{View};
 ghost use Rattle.fault_ledger.specs.declared.Claim.TheVariants as claim_is;
 ghost use Rattle.fault_ledger.specs.declared.Reply.TheVariants.{Claimed, Done};
-ghost use Rattle.fault_ledger.specs.History.{History, ContinuesWithout, block_of, claims, class_of, entry, held, piece_count, state_of, states_of};
+ghost use Rattle.fault_ledger.specs.History.{History, ContinuesWithout, block_of, claims, class_of};
+ghost use Rattle.fault_ledger.specs.History.{entry, held, piece_count, state_of, states_of};
 ghost use Rattle.fault_ledger.specs.Answer.{fits_size, has_earlier_hit, IsLegal};
 ghost use Rattle.fault_ledger.specs.Face.{shape_fault};
 ghost use Rattle.fault_ledger.specs.Seats.{Sees, Makes, Meets};
@@ -79,7 +82,7 @@ impl Play<u8, View> for Claiming {
     ghost then = { Claims };
 }
 
-/// The step of a report: the outcome with the code that was set is the worker's last event.
+/// The step of a report: the outcome with the code that was added is the worker's last event.
 struct Reporting;
 
 impl Play<u8, View> for Reporting {
@@ -255,24 +258,24 @@ impl Words {
         ensures none { piece_count self.now.shape ≤ result
             → Sees token.old true token.new × (claims token.new.seen ≡ piece_count self.now.shape) }
     {
-        let mut seat = mem::replace(&mut token.badge, Badge::blank()).into_seat::<u8>();
+        let mut seat = take_seat(&mut token.badge);
         let piece = self.table.shared.fetch_add::<Claiming>(&mut seat, 0, 1);
         token.badge = seat.into_badge();
         piece
     }
 
-    /// One atomic step: the outcome's code is set in the field of the worker's piece, which was 0.
-    /// The other seven pieces of the word stay.
+    /// One atomic step: the outcome's code is added to the field of the worker's piece, which was
+    /// 0. The other seven pieces of the word stay.
     pub(crate) fn report(&self, token: &mut Token, piece: u32, outcome: Outcome)
         requires place { token.old.place ≡ self.now }
         requires piece { piece < piece_count self.now.shape }
         requires held { held token.old.worker token.old.seen ≡ Some piece }
-        requires fits { fits_size (size_of self.now.shape.tests (block_of self.now.shape piece)) outcome
-            ≡ true }
+        requires fits { fits_size (size_of self.now.shape.tests (block_of self.now.shape piece))
+            outcome ≡ true }
         ensures { Makes token.old (Event.Report token.old.worker outcome) Done token.new }
     {
-        let mut seat = mem::replace(&mut token.badge, Badge::blank()).into_seat::<u8>();
-        self.table.shared.fetch_or::<Reporting>(
+        let mut seat = take_seat(&mut token.badge);
+        self.table.shared.fetch_add::<Reporting>(
             &mut seat,
             word_with(piece as usize),
             in_field(piece as usize, code_of(outcome)),
@@ -280,7 +283,7 @@ impl Words {
         token.badge = seat.into_badge();
     }
 
-    /// One atomic step: the code of a skipped piece is set in the field of the worker's piece,
+    /// One atomic step: the code of a skipped piece is added to the field of the worker's piece,
     /// which was 0. The other seven pieces of the word stay. The worker has seen a hit of an
     /// earlier block of the piece's class.
     pub(crate) fn drop_piece(&self, token: &mut Token, piece: u32)
@@ -290,8 +293,8 @@ impl Words {
         requires hit { has_earlier_hit self.now.shape token.old.seen piece ≡ true }
         ensures { Makes token.old (Event.Drop token.old.worker) Done token.new }
     {
-        let mut seat = mem::replace(&mut token.badge, Badge::blank()).into_seat::<u8>();
-        self.table.shared.fetch_or::<Dropping>(
+        let mut seat = take_seat(&mut token.badge);
+        self.table.shared.fetch_add::<Dropping>(
             &mut seat,
             word_with(piece as usize),
             in_field(piece as usize, SKIPPED),
@@ -306,7 +309,7 @@ impl Words {
         ensures seen { Sees token.old token.old.told token.new }
         ensures state { result ≡ entry piece token.new.seen }
     {
-        let mut seat = mem::replace(&mut token.badge, Badge::blank()).into_seat::<u8>();
+        let mut seat = take_seat(&mut token.badge);
         let word = self
             .table
             .shared
@@ -320,8 +323,8 @@ impl Words {
         requires { (first.old.place ≡ self.now) × (second.old.place ≡ self.now) }
         ensures { Meets first.old second.old first.new second.new }
     {
-        let joining = mem::replace(&mut first.badge, Badge::blank()).into_seat::<u8>();
-        let mut both = mem::replace(&mut second.badge, Badge::blank()).into_seat::<u8>();
+        let joining = take_seat(&mut first.badge);
+        let mut both = take_seat(&mut second.badge);
         self.table.shared.join_seat::<Together>(&mut both, joining);
         self.table.shared.load::<Looking>(&mut both, 0);
         let parted = self.table.shared.split_seat::<Apart>(&mut both);
@@ -349,6 +352,15 @@ impl Words {
         closed.free();
         codes
     }
+}
+
+/// Takes the seat of the table out of a badge, which is blank then.
+fn take_seat(badge: &mut Badge<View>) -> atomic_table::Seat<u8, View>
+    requires { (view : View) × (badge.old.views ≡ view ∷ []) }
+    ensures place { (result.table_id ≡ badge.old.table_id) × (result.id ≡ badge.old.id) }
+    ensures view { (badge.old.views ≡ result.me.0 ∷ []) × (result.me.1 ≡ []) }
+{
+    mem::replace(badge, Badge::blank()).into_seat()
 }
 
 /// What stands in the fields of all pieces in the words of a closed table.

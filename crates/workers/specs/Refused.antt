@@ -3,7 +3,8 @@ use Rattle.std.specs.Prelude.{◌≡◌, ◌<◌, ◌≤◌, ℕ, nat_le, List, 
 use Rattle.patterns.specs.Tests.{blocks}
 use Rattle.block_sim.specs.Parts.{Parts}
 use Rattle.workers.specs.declared.RunFault.{RunFault}
-use Rattle.workers.specs.declared.RunFault.TheVariants.{NoWorkers, TooManyWorkers, NoSuchMove, Memory, Threads, Unfinished}
+use Rattle.workers.specs.declared.RunFault.TheVariants.{NoWorkers, TooManyWorkers, NoSuchMove}
+use Rattle.workers.specs.declared.RunFault.TheVariants.{Memory, Threads, Unfinished}
 
 -- when a number of workers is refused
 abbrev pub IsWorkersFault : ℕ → RunFault → Type 0

@@ -1,5 +1,6 @@
 -- The history of a schedule.
-use Rattle.std.specs.Prelude.{◌≡◌, ℕ, zero, suc, ◌*◌, Bool, true, false, nat_lt, List, [], ◌∷◌, ◌++◌, count_by, Option, Some, None, if◌then◌else◌}
+use Rattle.std.specs.Prelude.{◌≡◌, ℕ, zero, suc, ◌*◌, Bool, true, false, nat_lt, List, [], ◌∷◌}
+use Rattle.std.specs.Prelude.{◌++◌, count_by, Option, Some, None, if◌then◌else◌}
 use Rattle.patterns.specs.Least.{Table, below}
 use Rattle.block_sim.specs.First.{IsTrueTable}
 use Rattle.block_sim.specs.Parts.{Parts}

@@ -1,5 +1,6 @@
 -- The verdicts of a run.
-use Rattle.std.specs.Prelude.{◌≡◌, ℕ, List, map, length, is_some, count_by, Option, Some, None, slice_get}
+use Rattle.std.specs.Prelude.{◌≡◌, ℕ, List, map, length, is_some, count_by, Option, Some, None}
+use Rattle.std.specs.Prelude.{slice_get}
 use Rattle.bench_net.specs.Statement.{Statement}
 use Rattle.fault_model.specs.declared.Model.{Model}
 use Rattle.fault_model.specs.Fault.{Fault, faults}

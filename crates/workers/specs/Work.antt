@@ -1,11 +1,13 @@
 -- What a worker's seat has done with a job, and how its work ends.
-use Rattle.std.specs.Prelude.{◌≡◌, ◌⊎◌, ℕ, true, count_by, List, [], ◌∷◌, ◌++◌, length, slice_get, Option, Some, None}
+use Rattle.std.specs.Prelude.{◌≡◌, ◌⊎◌, ℕ, true, count_by, List, [], ◌∷◌, ◌++◌, length, slice_get}
+use Rattle.std.specs.Prelude.{Option, Some, None}
 use Rattle.patterns.specs.declared.Outcome.{Outcome}
 use Rattle.block_sim.specs.First.{IsTrueOutcome}
 use Rattle.block_sim.specs.Parts.{Parts}
 use Rattle.fault_ledger.specs.declared.Event.{Event}
 use Rattle.fault_ledger.specs.declared.Shape.{Shape}
-use Rattle.fault_ledger.specs.History.{History, piece_count, class_of, block_of, claims, held, states_of}
+use Rattle.fault_ledger.specs.History.{History, piece_count, class_of, block_of, claims, held}
+use Rattle.fault_ledger.specs.History.{states_of}
 use Rattle.fault_ledger.specs.Answer.{IsLegal}
 use Rattle.fault_ledger.specs.Settled.{is_skipped}
 use Rattle.fault_ledger.specs.Seats.{Place, Sitter}

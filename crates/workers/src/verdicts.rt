@@ -135,7 +135,8 @@ pub(crate) fn verdicts_of<L: Statuses>(
         × AreSettled (L.shape_of ledger.now) h (L.shape_of ledger.now).classes }
     requires empty { firsts.items ≡ [] }
     ensures firsts { (h : History) → IsLegal (L.shape_of ledger.now) h → L.Shows ledger.now h
-        → IfOk result (λ v. v.firsts ≡ verdicts (L.shape_of ledger.now) h job.now.classes.class_of) }
+        → IfOk result (λ v. v.firsts
+        ≡ verdicts (L.shape_of ledger.now) h job.now.classes.class_of) }
     ensures skipped { IfOk result (λ v. v.skipped ≡ skipped) }
     ensures refused { IfErr result (λ fault. fault ≡ RunFault.Memory) }
 {

@@ -1,4 +1,5 @@
-use Rattle.std.proofs.Common.{◌+◌, ◌-◌, false, [], ◌∙◌}
+use Rattle.std.proofs.Common.{◌+◌, ◌-◌, false, [], None, sym, ◌∙◌, subst}
+use Rattle.fault_ledger.specs.Seats.{IsSeated}
 use Rattle.fault_ledger.specs.Words.{post, newcomer_posts}
 use Rattle.fault_ledger.proofs.Deals.{newcomers_first, deal_first, deal_others, deal_seat, deal_more}
 use Rattle.fault_ledger.proofs.shared.seats_of.Goals as goal
@@ -17,8 +18,9 @@ invariant_of-push c =
     let e = c.part-token.ensures in
     let a = c.part-token.result.0 in
     let first = deal_first p w c.args.shape.workers c.loop-worker.group.posts c.part-token.result.1.posts a c.loop-worker-test.true i.posts e.posts e.place.0 in
-    deal_seat p c.args.shape w c.min-count.result c.in_ok-remembered.remembered.items a first c.requires.shape.0 c.requires.shape.1 c.loop-worker-test.true
-    (c.in_ok-remembered.ensures.items_if_clones_equal (λ y is. is))
+    let seated = deal_seat p c.args.shape w c.min-count.result c.in_ok-remembered.remembered.items a first c.requires.shape.0 c.requires.shape.1 c.loop-worker-test.true
+    (c.in_ok-remembered.ensures.items_if_clones_equal (λ y is. is)) in
+    subst (λ n. IsSeated a w false n None c.in_ok-remembered.remembered.items) (sym c.of_block_0.ensures) seated
 
 pub loop-worker-preserved : goal.loop-worker-preserved
 loop-worker-preserved c =

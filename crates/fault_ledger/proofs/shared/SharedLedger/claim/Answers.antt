@@ -6,7 +6,7 @@ use Rattle.fault_ledger.specs.declared.Call.TheVariants as call
 use Rattle.fault_ledger.specs.declared.Reply.TheVariants.{Claimed}
 use Rattle.fault_ledger.specs.History.{claims, piece_count}
 use Rattle.fault_ledger.specs.Answer.{answer}
-use Rattle.fault_ledger.specs.Seats.{Place, Sitter, Sees}
+use Rattle.fault_ledger.specs.Seats.{Place, Sitter, IsSeated, Sees}
 use Rattle.fault_ledger.proofs.Histories.{held_goes_on}
 use Rattle.fault_ledger.proofs.Faces.{none_of}
 use Rattle.fault_ledger.proofs.Sits.{seated_ends, seated_makes, exhausted_at}
@@ -29,7 +29,7 @@ pub invariant_of-seat : goal.invariant_of-seat
 invariant_of-seat c =
     let i = c.seat.inside in
     let e = ends c in
-    seated_ends i.token c.claim-piece.new.token i.worker i.told i.classes i.piece i.remembered.items c.seat.invariant e.0 e.1 e.2
+    seated_ends i.token c.claim-piece.new.token i.worker i.told i.row i.piece i.remembered.items c.seat.invariant e.0 e.1 e.2
 
 pub returns-then-piece-pieces-clause-exhausted : goal.returns-then-piece-pieces-clause-exhausted
 returns-then-piece-pieces-clause-exhausted c = λ _ _.
@@ -50,5 +50,6 @@ invariant_of-seat-2 c =
     let at : i.token.place ≡ s.words = ap (λ (a : Sitter). a.place) c.seat.view_is ∙ c.requires ∙ sym c.self.view_is in
     let some : c.claim-piece.result < piece_count s.shape = (let a = c.pieces.ensures in let b = c.if-piece-pieces.false in omega arith) in
     let within = subst (λ (x : Shape). c.claim-piece.result < piece_count x) (sym c.self.invariant) some in
-    seated_makes i.token now (Event.Claim i.token.worker) _ i.worker i.told i.classes i.piece (Some c.claim-piece.result) i.remembered.items c.seat.invariant
-    (sym c.seat.invariant.told_is ∙ c.if-seat.false) (c.claim-piece.ensures.piece within) (c.claim-piece.ensures.held within)
+    let seated = seated_makes i.token now (Event.Claim i.token.worker) _ i.worker i.told i.row i.piece (Some c.claim-piece.result) i.remembered.items c.seat.invariant
+    (sym c.seat.invariant.told_is ∙ c.if-seat.false) (c.claim-piece.ensures.piece within) (c.claim-piece.ensures.held within) in
+    subst (λ n. IsSeated now i.worker i.told n (Some c.claim-piece.result) i.remembered.items) (sym c.turn_to-class.ensures.classes) seated

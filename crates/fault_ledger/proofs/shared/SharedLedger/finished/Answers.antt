@@ -6,11 +6,11 @@ use Rattle.fault_ledger.proofs.Finishes.{finish-waits, finish-all}
 use Rattle.fault_ledger.proofs.Sits.{sees_same, sees_twice, sees_kept}
 use Rattle.fault_ledger.proofs.Classes.{settled_stays}
 use Rattle.fault_ledger.proofs.shared.SharedLedger.finished.Goals as goal
-use Rattle.fault_ledger.proofs.shared.SharedLedger.finished.Goals.{After-seat}
+use Rattle.fault_ledger.proofs.shared.SharedLedger.finished.Goals.{After-classes-class-end}
 
 -- the seat knows the number of classes
-count : (c : After-seat) → c.seat.inside.classes ≡ c.args.self.now.shape.classes
-count c = c.seat.invariant.classes_is ∙ ap (λ (x : Sitter). x.place.shape.classes) c.seat.view_is ∙ ap (λ (x : Place). x.shape.classes) c.requires
+count : (c : After-classes-class-end) → c.classes-class-end.result ≡ c.args.self.now.shape.classes
+count c = c.classes-class-end.ensures ∙ c.seat.invariant.classes_is ∙ ap (λ (x : Sitter). x.place.shape.classes) c.seat.view_is ∙ ap (λ (x : Place). x.shape.classes) c.requires
 
 pub loop-class-init : goal.loop-class-init
 loop-class-init c = record {
@@ -22,7 +22,7 @@ loop-class-init c = record {
 pub status-requires : goal.status-requires
 status-requires c = record {
   place = ap (λ (x : Sitter). x.place) c.loop-class.invariant.sees.seat ∙ c.requires;
-  range = let e = count (goal.at.status-requires c).After-seat in let l = c.loop-class-test.true in omega arith;
+  range = let e = count (goal.at.status-requires c).After-classes-class-end in let l = c.loop-class-test.true in omega arith;
 }
 
 pub returns-in-Waiting : goal.returns-in-Waiting
@@ -32,7 +32,7 @@ returns-in-Waiting c =
     let d = c.status.new.seat in
     let s = c.args.self.now.shape in
     let f = c.status.ensures in
-    let within : c.loop-class.class < s.classes = (let e = count (goal.at.returns-in-Waiting c).After-seat in let l = c.loop-class-test.true in omega arith) in
+    let within : c.loop-class.class < s.classes = (let e = count (goal.at.returns-in-Waiting c).After-classes-class-end in let l = c.loop-class-test.true in omega arith) in
     let sees = sees_twice a b d c.loop-class.invariant.sees f.seen in
     record {
       kept = sees_kept a d sees;
@@ -51,7 +51,7 @@ loop-class-preserved c =
     let d = c.status.new.seat in
     let s = c.args.self.now.shape in
     let f = c.status.ensures in
-    let within : c.loop-class.class < s.classes = (let e = count (goal.at.loop-class-preserved c).After-seat in let l = c.loop-class-test.true in omega arith) in
+    let within : c.loop-class.class < s.classes = (let e = count (goal.at.loop-class-preserved c).After-classes-class-end in let l = c.loop-class-test.true in omega arith) in
     record {
       sees = sees_twice c.args.seat.now b d c.loop-class.invariant.sees f.seen;
       still = λ (none : (s.classes ≡ 0) ⊎ (block_count s ≡ 0)).
@@ -66,7 +66,7 @@ pub returns : goal.returns
 returns c =
     let s = c.args.self.now.shape in
     let sees = c.loop-class.invariant.sees in
-    let all : s.classes ≤ c.loop-class.class = (let e = count (goal.at.returns c).After-seat in let l = c.loop-class-test.false in omega arith) in
+    let all : s.classes ≤ c.loop-class.class = (let e = count (goal.at.returns c).After-classes-class-end in let l = c.loop-class-test.false in omega arith) in
     record {
       kept = sees_kept c.args.seat.now c.loop-class.seat sees;
       seen = sees;

@@ -19,8 +19,8 @@ invariant_of-seat c =
       clear = head.clear;
       hit = λ t. let e = c.ends_in_hit-hit.ensures t in let x = head.some (state.Hit e.0) e.1 in ap is_hit x.2;
     } in
-    let seated = seated_sees i.token now i.worker i.told i.classes i.piece i.remembered.items c.seat.invariant f.sees in
-    subst (IsSeated now i.worker i.told i.classes i.piece) (sym c.remember.ensures)
+    let seated = seated_sees i.token now i.worker i.told i.row i.piece i.remembered.items c.seat.invariant f.sees in
+    subst (IsSeated now i.worker i.told i.row i.piece) (sym c.remember.ensures)
     (record {
       sitter = seated.sitter;
       worker_is = seated.worker_is;

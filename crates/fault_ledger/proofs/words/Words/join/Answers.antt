@@ -1,4 +1,4 @@
-use Rattle.std.proofs.Common.{sym, ap, ◌∙◌, refl, ℕ, arith}
+use Rattle.std.proofs.Common.{sym, ap, ◌∙◌, ℕ, arith}
 use Rattle.atomic_table.specs.Table.{Me}
 use Rattle.fault_ledger.specs.declared.words.View.{View}
 use Rattle.fault_ledger.proofs.Meets.{joins}
@@ -11,7 +11,7 @@ join_seat-requires c =
     let w = c.self.inside.table.shared in
     let seat = c.into_seat.result in
     let at = group_place _ _ _ _ _ _ c.group.view_is c.requires.0 c.self.view_is in
-    let t = taken seat.me c.token.view_is c.token.invariant c.requires.1 c.self.view_is refl c.into_seat.ensures in (
+    let t = taken seat.me c.token.view_is c.token.invariant c.requires.1 c.self.view_is c.into_seat.ensures.0 (c.into_seat.ensures.2, c.into_seat.ensures.3) in (
       at.0,
       t.table_is,
       c.into_seat.ensures.3,
