@@ -16,7 +16,8 @@ use Rattle.bench_net.specs.Scan.{names}
 use Rattle.bench_net.specs.Circuit.{IsWellFormed, IsStuckSet, IsStuck, max_bytes, max_signals, max_sinks, sink_count}
 use Rattle.bench_net.specs.Refusal.{at_line, IsLowest, NoLine, IsWithin, IsSyntaxFault, IsRedefinition, IsUndefined, IsCyclic, IsAccepted, IsRefused}
 use Rattle.bench_net.specs.Entries.{numbered_from, unread, first_line, redefines, reads_unknown}
-use Rattle.bench_net.proofs.Reader.{stated_of, sound_states, complete_states}
+use Rattle.bench_net.specs.Plain.{stated_of}
+use Rattle.bench_net.proofs.Reader.{sound_states, complete_states}
 use Rattle.lists.proofs.Members.{Among, among, contained, each_passes, some_passes, among_left, among_right, among_joined, joined_from}
 use Rattle.lists.proofs.Distinct.{Distinct, distinct_from_pairs, distinct_between}
 use Rattle.lists.proofs.Places.{from_mapped}

@@ -1,7 +1,6 @@
 -- What the functions of the line reader answer.
 use Rattle.std.specs.Prelude.{◌≡◌, ◌<◌, ℕ, List, [], ◌∷◌, length, map, Option, Some, None, option_map, option_and_then, Result, Ok, Err, ⊤}
 use Rattle.std.specs.Borrow.{Bor}
-use Rattle.std.specs.Str.{str_to_ascii_lowercase}
 use Rattle.bench_net.specs.declared.fault.LineFault.{LineFault}
 use Rattle.bench_net.specs.declared.fault.LineFault.TheVariants as fault
 use Rattle.bench_net.specs.declared.statement.Stated.{Stated}
@@ -39,12 +38,12 @@ IsArgument bytes (Some argument) = IsArgumentBefore bytes argument.name.now argu
 
 -- the port of a word before one argument
 abbrev pub port_of : List ℕ → List Name → Option Statement
-port_of w (n ∷ []) = port (str_to_ascii_lowercase w) n
+port_of w (n ∷ []) = port w n
 port_of w _ = None
 
 -- the statement of the tokens behind `name =`
 abbrev pub driven_tokens : Name → List Token → Option Statement
-driven_tokens n (Word w ∷ Open ∷ tokens) = option_and_then (driven_by n (str_to_ascii_lowercase w)) (args_of tokens)
+driven_tokens n (Word w ∷ Open ∷ tokens) = option_and_then (driven_by n w) (args_of tokens)
 driven_tokens n _ = None
 
 -- the statement is the one that was read; a refusal says that there is none

@@ -1,10 +1,10 @@
 //! The statement of one line.
 
 ghost use Rattle.std.specs.Prelude.{◌≡◌, ◌≢◌, ◌↔◌, ℕ, List, ◌∷◌, [], length, Some, None, option_map, option_and_then, IsTrue, IfSome, IfNone, IfOk, IfErr, MatchResult, ⊤};
-ghost use Rattle.std.specs.Str.{str_eq_ignore_ascii_case, str_to_ascii_lowercase};
+ghost use Rattle.std.specs.Str.{str_eq_ignore_ascii_case};
 ghost use Rattle.bench_net.specs.Text.{Token as TextToken, Word};
 ghost use Rattle.bench_net.specs.Statement.{Name};
-ghost use Rattle.bench_net.specs.Plain.{tokens_of, kind_of_lower, has_arity, gate_with, cell_with, driven_by, read_tokens, stated_of, Leads};
+ghost use Rattle.bench_net.specs.Plain.{tokens_of, kind_of, has_arity, gate_with, cell_with, driven_by, read_tokens, stated_of, Leads};
 ghost use Rattle.bench_net.specs.Parsed.{names_of, stands_for, args_in, IsArgument, port_of, driven_tokens, IsReading, IsLineReading};
 
 use crate::Kind;
@@ -41,7 +41,7 @@ fn is_keyword(word: &[u8], keyword: &[u8]) -> bool
 
 /// The kind that a word names, in any ASCII case.
 fn kind_named(word: &[u8]) -> Option<Kind>
-    ensures { result ≡ kind_of_lower (str_to_ascii_lowercase word.now) }
+    ensures { result ≡ kind_of word.now }
 {
     if is_keyword(word, b"AND") {
         Some(Kind::And)
@@ -151,7 +151,7 @@ fn port<'a>(word: &[u8], arguments: Arguments<'a>) -> Option<Stated<'a>>
 
 /// `n = KIND ( a , b , .. )`, from the name, the word and the arguments.
 fn gate<'a>(name: &'a [u8], word: &[u8], arguments: Arguments<'a>) -> Option<Stated<'a>>
-    ensures { option_map stands_for result ≡ gate_with name.now (names_of arguments.entry.items) (kind_of_lower (str_to_ascii_lowercase word.now)) }
+    ensures { option_map stands_for result ≡ gate_with name.now (names_of arguments.entry.items) (kind_of word.now) }
 {
     let kind = kind_named(word)?;
     if takes(kind, arguments.len()) {
@@ -173,7 +173,7 @@ fn cell<'a>(name: &'a [u8], arguments: Arguments<'a>) -> Option<Stated<'a>>
 
 /// The statement that drives a name, from the word before the parenthesis and the arguments.
 fn driven<'a>(name: &'a [u8], word: &[u8], arguments: Arguments<'a>) -> Option<Stated<'a>>
-    ensures { option_map stands_for result ≡ driven_by name.now (str_to_ascii_lowercase word.now) (names_of arguments.entry.items) }
+    ensures { option_map stands_for result ≡ driven_by name.now word.now (names_of arguments.entry.items) }
 {
     if is_keyword(word, b"DFF") {
         cell(name, arguments)
