@@ -4,7 +4,7 @@ use Rattle.std.proofs.lemmas.List.{append_assoc}
 use Rattle.std.proofs.Math.Nat.{zero-add, suc-add}
 use Rattle.std.specs.Prelude.{◌≢◌, Contains, Option, Some, None, ◌↔◌, Result, Ok, Err, slice_get, map, filter_map, flat_map, option_map, IsTrue, if◌then◌else◌}
 use Rattle.std.specs.List.{AllZip, list_all}
-use Rattle.std.proofs.lemmas.Bool.{both_ways, cond_both, cond-true, cond-false, cases_order, ltb-true, ltb-false, lt-ltb, le-ltb, not-true, true_from_ne_false, false_from_ne_true}
+use Rattle.std.proofs.lemmas.Bool.{both_ways, cond_both, cases_Bool, cond-true, cond-false, cases_order, ltb-true, ltb-false, lt-ltb, le-ltb, not-true, true_from_ne_false, false_from_ne_true}
 use Rattle.std.proofs.lemmas.Option.{slice_get-map}
 use Rattle.bench_net.specs.declared.Limit.TheVariants.{Bytes, Signals, Sinks}
 use Rattle.bench_net.specs.declared.BenchFault.{BenchFault}
@@ -22,7 +22,7 @@ use Rattle.lists.proofs.Members.{Among, among, contained, each_passes, some_pass
 use Rattle.lists.proofs.Distinct.{Distinct, distinct_from_pairs, distinct_append}
 use Rattle.lists.proofs.Places.{from_mapped}
 use Rattle.bench_net.proofs.Answer.{is_in, stuck_names, is_stuck, line_or, statements_or, answer_within, answer_entries, answer_stated, answer_read, answer_text}
-use Rattle.bench_net.proofs.Checked.{any_true, in_contained, among_in, lines_state, pairs_distinct}
+use Rattle.bench_net.proofs.Checked.{any_true, in_contained, among_in, lines_read, pairs_distinct}
 use Rattle.bench_net.proofs.Settled.{stuck_set, stuck_left, none_stuck, numbering}
 
 abbrev Stated : Type 0
@@ -216,12 +216,10 @@ redefined_first stated = first_by redefines (IsRedefinition stated) stated to fr
 some_not : {X : Type 0} (p : X → Bool) (xs : List X) → list_all p xs ≡ false
     → (x : X) × Among x xs × (p x ≡ false)
 some_not p [] e = let bad : true ≡ false = e in cc
-some_not {X} p (y ∷ xs) e = go (p y) refl (some_not p xs)
-  where
-    go : (b : Bool) → p y ≡ b → (list_all p xs ≡ false → (x : X) × Among x xs × (p x ≡ false))
-        → (x : X) × Among x (y ∷ xs) × (p x ≡ false)
-    go true on later = let found = later (rw on at e) in (found.0, inr found.1, found.2)
-    go false off later = (y, inl refl, off)
+some_not p (y ∷ xs) e = elim (cases_Bool (p y)) [
+  inl on ↦ (let found = some_not p xs (rw on at e) in (found.0, inr found.1, found.2))
+  | inr off ↦ (y, inl refl, off)
+]
 
 pub undefined_first : (stated : List Stated)
     → IsFirst (IsUndefined stated) (first (reads_unknown (names_of stated)) stated)
@@ -414,7 +412,7 @@ answered text =
     go : length text ≤ max_bytes → (o : Option ℕ) → unread 1 (map stated_of (lines text)) ≡ o
         → IsAnswer text
         (line_or Syntax o (answer_stated (filter_map (λ s. s) (map stated_of (lines text)))))
-    go bytes None e = by_limits text _ bytes (lines_state text _ (all_read 1 _ e))
+    go bytes None e = by_limits text _ bytes ((lines_read (lines text) _).1 (all_read 1 _ e))
     go bytes (Some l) e = (bytes, subst (IsFirst (IsSyntaxFault text)) e (syntax_first text))
 
 pub accepted_by : (text : List ℕ) (c : List Statement) → answer_text text ≡ Ok c → IsAccepted text c
@@ -434,16 +432,6 @@ some_answer text = go (answer_text text) (answered text)
     go (Err fault) a = inr (fault, a)
 
 -- ---- and the relations' answer is that of the plain reader, so there is one
-
-found_by : (ls : List (List ℕ)) (stated : List Stated) → AllZip States ls stated
-    → map stated_of ls ≡ map Some stated
-found_by [] [] all = refl
-found_by [] (s ∷ stated) all = absurd all
-found_by (l ∷ ls) [] all = absurd all
-found_by (l ∷ ls) (s ∷ stated) all =
-    let here = complete_states l s all.0 in
-    let more = found_by ls stated all.1 in
-    cc
 
 pub read_answer : (text : List ℕ) → length text ≤ max_bytes
     → answer_text text ≡ answer_read (map stated_of (lines text))
@@ -465,7 +453,7 @@ answer_is : (text : List ℕ) (stated : List Stated) → IsWithin text stated �
     → IsFirst (IsRedefinition stated) r → IsFirst (IsUndefined stated) u
     → IsFirst (IsCyclic stated) y → answer_text text ≡ answer_by r u y (statements stated)
 answer_is text stated within r u y once known free =
-    stated_answer text stated within.bytes (found_by (lines text) stated within.each)
+    stated_answer text stated within.bytes ((lines_read (lines text) stated).0 within.each)
     ∙ within_answer (statements stated) stated within.signals within.sinks
     ∙ ap (λ o. answer_by o (first (reads_unknown (names_of stated)) stated)
     (first (is_stuck (statements stated)) stated) (statements stated))
@@ -482,9 +470,9 @@ exact text (Err (Syntax l)) h =
     read_answer text h.0
     ∙ rw (first_one (IsSyntaxFault text) (unread 1 _) (Some l) (syntax_first text) h.1) refl
 exact text (Err (TooLarge Signals)) h =
-    stated_answer text h.1 h.0 (found_by _ _ h.2) ∙ rw (lt-ltb _ (length (names_of h.1)) h.3) refl
+    stated_answer text h.1 h.0 ((lines_read (lines text) h.1).0 h.2) ∙ rw (lt-ltb _ (length (names_of h.1)) h.3) refl
 exact text (Err (TooLarge Sinks)) h =
-    stated_answer text h.1 h.0 (found_by _ _ h.2)
+    stated_answer text h.1 h.0 ((lines_read (lines text) h.1).0 h.2)
     ∙ rw (le-ltb _ (length (names_of h.1)) h.3, lt-ltb _ (sink_count (statements h.1)) h.4) refl
 exact text (Err (Redefined l)) h =
     answer_is text h.0 h.1 (Some l) _ _ h.2 (undefined_first h.0) (cyclic_first h.0)

@@ -24,7 +24,7 @@ use Rattle.bench_net.specs.Numbering.{statements_in, AreNumberedLines}
 use Rattle.lists.proofs.Members.{Among, among}
 use Rattle.bench_net.proofs.Answer.{answer_text, answer_within}
 use Rattle.bench_net.proofs.Answered.{IsFirst, distinct_first, no_redefinition, undefined_first, stated_answer, within_answer, read_answer, refused_by}
-use Rattle.bench_net.proofs.Checked.{lines_state, pairs_distinct}
+use Rattle.bench_net.proofs.Checked.{lines_read, pairs_distinct}
 use Rattle.bench_net.proofs.Entries.{statements_numbered}
 use Rattle.bench_net.proofs.Words.{names_utf8}
 
@@ -59,7 +59,7 @@ module _ (text : List ℕ) (stated : List StatedLine)
   same f = names_by f stated ∙ ap (flat_map f) same_statements
 
   each : LinesState text h.stated
-  each = lines_state text h.stated h.each
+  each = (lines_read (lines text) h.stated).1 h.each
 
   -- the limits on signals and sinks
   pub too_many_signals : ¬ (length (names_in stated) ≤ 1000000) → IsRefused text (TooLarge Signals)

@@ -45,7 +45,9 @@ few_lines (line.Gate s g ∷ lines) = omega (arith, few_lines lines, length-appe
 few_lines (line.Dff q d ∷ lines) = omega (arith, few_lines lines)
 
 pub source_defined : (lines : List Line) (s : ℕ) → Among s (filter_map input_number lines ++ map (λ cell. cell.q) (filter_map cell_numbers lines)) → Among s (flat_map defined_numbers lines)
-source_defined lines s a = go (among_append (filter_map input_number lines) (map (λ cell. cell.q) (filter_map cell_numbers lines)) s a)
+source_defined lines s a = elim (among_append (filter_map input_number lines) (map (λ cell. cell.q) (filter_map cell_numbers lines)) s a) [
+  inl b ↦ input lines b | inr b ↦ cell lines b
+]
   where
     input : (ls : List Line) → Among s (filter_map input_number ls) → Among s (flat_map defined_numbers ls)
     input [] b = absurd b
@@ -62,10 +64,6 @@ source_defined lines s a = go (among_append (filter_map input_number lines) (map
     cell (line.Gate t g ∷ ls) b = inr (cell ls b)
     cell (line.Dff q d ∷ ls) (inl e) = inl e
     cell (line.Dff q d ∷ ls) (inr b) = inr (cell ls b)
-
-    go : Among s (filter_map input_number lines) ⊎ Among s (map (λ cell. cell.q) (filter_map cell_numbers lines)) → Among s (flat_map defined_numbers lines)
-    go (inl b) = input lines b
-    go (inr b) = cell lines b
 
 -- ---- readers
 
@@ -99,12 +97,10 @@ lines_read : (cell : ℕ) (lines : List Line) (reader : Reader) → Among reader
 lines_read cell [] reader a = absurd a
 lines_read cell (line.Input s ∷ lines) reader a = lines_read cell lines reader a
 lines_read cell (line.Output s ∷ lines) reader a = inr (lines_read cell lines reader a)
-lines_read cell (line.Gate s g ∷ lines) reader a = go (lines_read cell lines reader) (among_append (pin_readers s g.pins.items) (line_readers cell lines) reader a)
-  where
-    go : (Among reader (line_readers cell lines) → Among reader.signal (flat_map read_numbers lines)) → Among reader (pin_readers s g.pins.items) ⊎ Among reader (line_readers cell lines)
-        → Among reader.signal (g.pins.items ++ flat_map read_numbers lines)
-    go later (inl b) = among_left g.pins.items (flat_map read_numbers lines) reader.signal (pin_reads s 0 g.pins.items reader b)
-    go later (inr b) = among_right g.pins.items (flat_map read_numbers lines) reader.signal (later b)
+lines_read cell (line.Gate s g ∷ lines) reader a = elim (among_append (pin_readers s g.pins.items) (line_readers cell lines) reader a) [
+  inl b ↦ among_left g.pins.items (flat_map read_numbers lines) reader.signal (pin_reads s 0 g.pins.items reader b)
+  | inr b ↦ among_right g.pins.items (flat_map read_numbers lines) reader.signal (lines_read cell lines reader b)
+]
 lines_read cell (line.Dff q d ∷ lines) reader (inl e) = inl (ap (λ r. r.signal) e)
 lines_read cell (line.Dff q d ∷ lines) reader (inr a) = inr (lines_read (cell + 1) lines reader a)
 
@@ -117,11 +113,10 @@ outputs_read (line.Gate t g ∷ lines) s a = among_right g.pins.items (flat_map 
 outputs_read (line.Dff q d ∷ lines) s a = inr (outputs_read lines s a)
 
 pub reader_reads : (lines : List Line) (reader : Reader) → Among reader (all_readers lines (filter_map output_number lines)) → Among reader.signal (flat_map read_numbers lines)
-reader_reads lines reader a = go (among_append (line_readers 0 lines) (output_readers (filter_map output_number lines)) reader a)
-  where
-    go : Among reader (line_readers 0 lines) ⊎ Among reader (output_readers (filter_map output_number lines)) → Among reader.signal (flat_map read_numbers lines)
-    go (inl b) = lines_read 0 lines reader b
-    go (inr b) = outputs_read lines reader.signal (output_reads 0 (filter_map output_number lines) reader b)
+reader_reads lines reader a = elim (among_append (line_readers 0 lines) (output_readers (filter_map output_number lines)) reader a) [
+  inl b ↦ lines_read 0 lines reader b
+  | inr b ↦ outputs_read lines reader.signal (output_reads 0 (filter_map output_number lines) reader b)
+]
 
 -- the pins of a line are among what is read
 pub pins_read : (lines : List Line) (s : ℕ) (gate : GateLine) (p : ℕ) → Among (line.Gate s gate) lines → Among p gate.pins.items → Among p (flat_map read_numbers lines)

@@ -54,16 +54,11 @@ same_number ns lines s t named s_lt t_lt e =
 
 pub bytes_at : (ns : List Name) (lines : List Line) (s t : ℕ) → AreNamed ns lines → s < length ns
     → t < length ns → bytes_eq (name_at ns s) (name_at ns t) ≡ (t == s)
-bytes_at ns lines s t named s_lt t_lt = go (cases_eq t s)
-  where
-    go : (t ≡ s) ⊎ (t ≡ s → ⊥) → bytes_eq (name_at ns s) (name_at ns t) ≡ (t == s)
-    go (inl e) =
-        ap (λ u. bytes_eq (name_at ns s) (name_at ns u)) e
-        ∙ (bytes_refl (name_at ns s) ∙ sym (eq-eqb t s e))
-    go (inr ne) =
-        false_from_ne_true (bytes_eq (name_at ns s) (name_at ns t))
-        (λ h. ne (sym (same_number ns lines s t named s_lt t_lt
-        (same_bytes (name_at ns s) (name_at ns t) h)))) ∙ sym (ne_eqb t s ne)
+bytes_at ns lines s t named s_lt t_lt = elim (cases_eq t s) [
+  inl e ↦ rw e (bytes_refl (name_at ns s) ∙ sym (eq-eqb s s refl))
+  | inr ne ↦ false_from_ne_true _ (λ h. ne (sym (same_number ns lines s t named s_lt t_lt
+      (same_bytes (name_at ns s) (name_at ns t) h)))) ∙ sym (ne_eqb t s ne)
+]
 
 -- the numbers of the names of numbers
 pub map_signal : (ns : List Name) (lines : List Line) (xs : List ℕ) → AreNamed ns lines

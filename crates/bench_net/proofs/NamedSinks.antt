@@ -3,7 +3,7 @@ use Rattle.std.proofs.Common.{◌≡◌, ◌<◌, ◌+◌, ◌==◌, ℕ, suc, s
 use Rattle.std.specs.Prelude.{Some, slice_get, flat_map, bytes_eq}
 use Rattle.std.specs.List.{filter_map, enumerate_from, position_or_len}
 use Rattle.std.proofs.Math.Numerals.{one-add}
-use Rattle.std.proofs.lemmas.Bool.{ne_eqb}
+use Rattle.std.proofs.lemmas.Bool.{ne_eqb, cases_Bool}
 use Rattle.std.proofs.lemmas.List.{map-append, append_assoc}
 use Rattle.std.proofs.lemmas.List.Elements.{filter-append}
 use Rattle.bench_net.specs.declared.Sink.{Sink}
@@ -31,13 +31,12 @@ sinks-append xs ys s =
 numbered : (ns : List Name) (lines : List Line) (kind : ℕ → Sink) (s k : ℕ) (xs : List ℕ) → AreNamed ns lines → s < length ns → ((x : ℕ) → Among x xs → x < length ns)
     → sinks_at (map (λ at. record { signal = at.1; sink = kind at.0 }) (enumerate_from k xs)) s ≡ map kind (map (λ at. at.0) (filter (λ at. bytes_eq (name_at ns s) at.1) (enumerate_from k (map (name_at ns) xs))))
 numbered ns lines kind s k [] named lt below = refl
-numbered ns lines kind s k (x ∷ xs) named lt below = go (x == s) refl (numbered ns lines kind s (k + 1) xs named lt (λ y a. below y (inr a)))
-  where
-    go : (b : Bool) → (x == s) ≡ b
-        → sinks_at (map (λ at. record { signal = at.1; sink = kind at.0 }) (enumerate_from (k + 1) xs)) s ≡ map kind (map (λ at. at.0) (filter (λ at. bytes_eq (name_at ns s) at.1) (enumerate_from (k + 1) (map (name_at ns) xs))))
-        → sinks_at (map (λ at. record { signal = at.1; sink = kind at.0 }) (enumerate_from k (x ∷ xs))) s ≡ map kind (map (λ at. at.0) (filter (λ at. bytes_eq (name_at ns s) at.1) (enumerate_from k (map (name_at ns) (x ∷ xs)))))
-    go true h later = let same : bytes_eq (name_at ns s) (name_at ns x) ≡ true = bytes_at ns lines s x named lt (below x (inl refl)) ∙ h in rw (h, same) (ap (λ rest. kind k ∷ rest) later)
-    go false h later = let same : bytes_eq (name_at ns s) (name_at ns x) ≡ false = bytes_at ns lines s x named lt (below x (inl refl)) ∙ h in rw (h, same) later
+numbered ns lines kind s k (x ∷ xs) named lt below =
+    let same = bytes_at ns lines s x named lt (below x (inl refl)) in
+    let later = numbered ns lines kind s (k + 1) xs named lt (λ y a. below y (inr a)) in
+    elim (cases_Bool (x == s)) [
+      inl on ↦ rw (same, on) (ap (λ rest. kind k ∷ rest) later) | inr off ↦ rw (same, off) later
+    ]
 
 -- ---- the number of a cell
 

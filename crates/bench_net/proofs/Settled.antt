@@ -1,8 +1,8 @@
 -- A numbering of names exists exactly where no stuck set but the empty one does.
-use Rattle.std.proofs.Common.{◌≡◌, ◌<◌, ◌≤◌, ◌+◌, ℕ, zero, suc, sym, ap, subst, refl, cond, Bool, true, false, List, [], ◌∷◌, length, filter, arith, inl}
+use Rattle.std.proofs.Common.{◌≡◌, ◌<◌, ◌≤◌, ◌+◌, ℕ, zero, suc, sym, ap, subst, refl, cond, Bool, true, false, List, [], ◌∷◌, length, filter, arith, inl, inr}
 use Rattle.std.specs.Prelude.{IsTrue}
 use Rattle.std.specs.List.{list_all}
-use Rattle.std.proofs.lemmas.Bool.{and_parts, and_from, cond_both}
+use Rattle.std.proofs.lemmas.Bool.{and_parts, and_from, cond_both, cases_Bool}
 use Rattle.std.proofs.lemmas.List.Sums.{length-filter, count_by-le-length}
 use Rattle.bench_net.specs.Statement.{Name, Statement, Gate, defined}
 use Rattle.bench_net.specs.Scan.{names}
@@ -29,12 +29,10 @@ none_stuck c number numbered members stuck n inside = descend c number members n
 fewer : {X : Type 0} (p : X → Bool) (xs : List X) → list_all p xs ≡ false
     → length (filter p xs) < length xs
 fewer p [] e = let bad : true ≡ false = e in cc
-fewer {X} p (x ∷ xs) e = go (p x) refl (fewer p xs)
-  where
-    go : (b : Bool) → p x ≡ b → (list_all p xs ≡ false → length (filter p xs) < length xs)
-        → length (filter p (x ∷ xs)) < length (x ∷ xs)
-    go true on later = rw on (omega (arith, later (rw on at e)))
-    go false off later = rw off (omega (arith, length-filter p xs, count_by-le-length p xs))
+fewer p (x ∷ xs) e = elim (cases_Bool (p x)) [
+  inl on ↦ rw on (omega (arith, fewer p xs (rw on at e)))
+  | inr off ↦ rw off (omega (arith, length-filter p xs, count_by-le-length p xs))
+]
 
 all_kept : {X : Type 0} (p : X → Bool) (xs : List X) → list_all p xs ≡ true → filter p xs ≡ xs
 all_kept p [] e = refl
@@ -51,17 +49,10 @@ left_fed : (c : List Statement) (k : ℕ) (ns : List Name) → length ns ≤ k
     → list_all (is_fed c (left_over c k ns)) (left_over c k ns) ≡ true
 left_fed c zero [] h = refl
 left_fed c zero (n ∷ ns) h = absurd (omega (arith, h))
-left_fed c (suc k) ns h =
-    go (list_all (is_fed c ns) ns) refl (left_fed c k (filter (is_fed c ns) ns))
-  where
-    Fed : List Name → Type 0
-    Fed ms = list_all (is_fed c ms) ms ≡ true
-
-    go : (b : Bool) → list_all (is_fed c ns) ns ≡ b
-        → (length (filter (is_fed c ns) ns) ≤ k → Fed (left_over c (suc k) ns))
-        → Fed (left_over c (suc k) ns)
-    go true e later = subst Fed (sym (resting c (suc k) ns e)) e
-    go false e later = later (omega (arith, h, fewer (is_fed c ns) ns e))
+left_fed c (suc k) ns h = elim (cases_Bool (list_all (is_fed c ns) ns)) [
+  inl e ↦ subst (λ ms. list_all (is_fed c ms) ms ≡ true) (sym (resting c (suc k) ns e)) e
+  | inr e ↦ left_fed c k (filter (is_fed c ns) ns) (omega (arith, h, fewer (is_fed c ns) ns e))
+]
 
 pub stuck_set : (c : List Statement) → IsStuckSet c (is_in (stuck_names c))
 stuck_set c = stuck c (stuck_names c) (left_fed c (length (names c)) (names c) (omega arith))
