@@ -4,6 +4,7 @@ use Rattle.std.specs.Prelude.{Option, Some, None, slice_get, slice_index_or, fla
 use Rattle.std.specs.List.{All, range_with_len}
 use Rattle.std.specs.Str.{IsUtf8}
 use Rattle.std.proofs.lemmas.List.Elements.{All-contains, Contains-get_or}
+use Rattle.std.proofs.lemmas.List.Folds.{flat_map-map}
 use Rattle.std.proofs.lemmas.List.FromFn.{length-range_with_len, get_or-range_with_len}
 use Rattle.std.proofs.lemmas.Option.{get_or_from_slice_get, slice_get_within}
 use Rattle.bench_net.specs.declared.line.Line.{Line}
@@ -19,7 +20,7 @@ use Rattle.bench_net.specs.Refusal.{IsUndefined, IsWithin, IsRefused}
 use Rattle.bench_net.specs.Stored.{read_numbers, AreLinesOf}
 use Rattle.bench_net.specs.Parsed.{stands_for}
 use Rattle.bench_net.specs.Plain.{stated_of}
-use Rattle.bench_net.specs.Entries.{entries_of, stated_by, numbered_from, unread, first_line, redefines, reads_unknown, names_in, reads_in, HaveEntries, EndsPass}
+use Rattle.bench_net.specs.Entries.{entry_of, entries_of, stated_by, numbered_from, unread, first_line, redefines, reads_unknown, names_in, reads_in, HaveEntries, EndsPass}
 use Rattle.bench_net.specs.Numbering.{statements_in, AreNumberedLines}
 use Rattle.lists.proofs.Members.{Among, among}
 use Rattle.bench_net.proofs.Answer.{answer_text, answer_within}
@@ -44,10 +45,9 @@ syntax text bytes fault =
 
 -- the names that statements give
 names_by : (f : Statement → List Name) (stated : List StatedLine)
-    → flat_map (λ line. f (stands_for line.statement)) stated ≡ flat_map f
-    (stated_by (entries_of stated))
-names_by f [] = refl
-names_by f (l ∷ stated) = ap (λ ns. f (stands_for l.statement) ++ ns) (names_by f stated)
+    → flat_map (λ line. f (stands_for line.statement)) stated
+    ≡ flat_map f (stated_by (entries_of stated))
+names_by f stated = sym (flat_map-map f _ (entries_of stated) ∙ flat_map-map _ entry_of stated)
 
 module _ (text : List ℕ) (stated : List StatedLine)
     (h : HaveEntries (lines text) (entries_of stated)) (bytes : length text ≤ 16777216) where

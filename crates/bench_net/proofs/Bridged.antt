@@ -26,25 +26,19 @@ use Rattle.bench_net.proofs.Entries.{statements_numbered}
 abbrev numbers : ℕ → List (Option Statement) → List ℕ
 numbers line stated = map (λ entry. entry.0) (numbered_from line stated)
 
-all_above : (line : ℕ) (stated : List (Option Statement))
-    → All (λ n. line ≤ n) (numbers line stated)
-all_above line [] = All-nil (λ n. line ≤ n)
-all_above line (None ∷ stated) =
-    All-weaker (λ n. suc line ≤ n) (λ n. line ≤ n) (λ n h. omega (arith, h)) _
-    (all_above (suc line) stated)
-all_above line (Some s ∷ stated) =
-    All-cons (λ n. line ≤ n) line _ (omega arith)
-    (All-weaker (λ n. suc line ≤ n) (λ n. line ≤ n) above _ (all_above (suc line) stated))
-  where
-    above : (n : ℕ) → suc line ≤ n → line ≤ n
-    above n h = omega (arith, h)
+all_above : (bound line : ℕ) (stated : List (Option Statement)) → bound ≤ line
+    → All (λ n. bound ≤ n) (numbers line stated)
+all_above bound line [] h = All-nil (λ n. bound ≤ n)
+all_above bound line (None ∷ stated) h = all_above bound (suc line) stated (omega (arith, h))
+all_above bound line (Some s ∷ stated) h =
+    All-cons (λ n. bound ≤ n) line _ h (all_above bound (suc line) stated (omega (arith, h)))
 
 numbers_rise : (line : ℕ) (stated : List (Option Statement))
     → AllPairs (λ m n. m < n) (numbers line stated)
 numbers_rise line [] = λ i j d lt below. absurd (omega (arith, below))
 numbers_rise line (None ∷ stated) = numbers_rise (suc line) stated
 numbers_rise line (Some s ∷ stated) =
-    AllPairs-cons (λ m n. m < n) line _ (all_above (suc line) stated)
+    AllPairs-cons (λ m n. m < n) line _ (all_above (suc line) (suc line) stated (omega arith))
     (numbers_rise (suc line) stated)
 
 -- what an entry stands for, its line states, and the other way round

@@ -4,6 +4,7 @@ use Rattle.std.specs.Prelude.{Contains, Option, Some, flat_map, Result, Ok, Err,
 use Rattle.std.specs.List.{All, list_all, range_with_len}
 use Rattle.std.specs.Str.{IsUtf8}
 use Rattle.std.proofs.Math.Nat.{zero-add}
+use Rattle.std.proofs.Math.Seq.{get_or-append_seam}
 use Rattle.std.proofs.lemmas.Bool.{and_from}
 use Rattle.std.proofs.lemmas.List.{map-append, map_push, take_more}
 use Rattle.std.proofs.lemmas.List.Concat.{flat_map-append}
@@ -36,11 +37,6 @@ pub ends_pass : (f : LineFault) (refusal : ℕ → BenchFault) (first : Option �
 ends_pass stop.Refused refusal first line answer e h = inr (line, h refl, e)
 ends_pass stop.Memory refusal first line answer e h = inl e
 
--- the name behind some others
-name_behind : (front back : List Name) (n : Name) → name_at (front ++ n ∷ back) (length front) ≡ n
-name_behind [] back n = refl
-name_behind (m ∷ front) back n = name_behind front back n
-
 -- the number of the name that a line defines is that of the names before it
 pub next_for : (stated : List StatedLine) (i : ℕ) (line : StatedLine) → i < length stated
     → line ≡ get_or stated i line
@@ -59,7 +55,7 @@ next_for stated i line h e = go (defined_few (stands_for line.statement))
     go (inl none) = rw none refl
     go (inr one) =
         rw (whole, one.1) (ap (λ n. n ∷ [])
-        (name_behind (names_in (take i stated)) (names_in (drop (suc i) stated)) one.0))
+        (get_or-append_seam (names_in (take i stated)) one.0 (names_in (drop (suc i) stated)) []))
 
 range_more : (a n : ℕ) → range_with_len a (n + 1) ≡ range_with_len a n ++ (a + n) ∷ []
 range_more a n = rw (add-one n) (go a n)

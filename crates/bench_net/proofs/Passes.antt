@@ -7,6 +7,7 @@ use Rattle.std.proofs.Math.Bool.{or-false}
 use Rattle.std.proofs.lemmas.Bool.{cond-true, cond-false}
 use Rattle.std.proofs.lemmas.List.{take_more}
 use Rattle.std.proofs.lemmas.List.Concat.{flat_map-append}
+use Rattle.std.proofs.lemmas.List.Folds.{length-flat_map-take}
 use Rattle.std.proofs.Math.Seq.{drop-cons}
 use Rattle.bench_net.specs.declared.number.StatedLine.{StatedLine}
 use Rattle.bench_net.specs.Statement.{Name, Statement, defined}
@@ -39,15 +40,7 @@ module _ {A : Type 0} (xs : List A) (i : ℕ) (x : A) (h : i < length xs)
   -- the names so far and those of this line are no more than all
   pub names_fit : (f : A → List Name)
       → length (flat_map f (take i xs)) + length (f x) ≤ length (flat_map f xs)
-  names_fit f =
-      let parts = ap (λ ys. length (flat_map f ys)) at_item in
-      omega (
-        arith,
-        parts,
-        ap length (flat_map-append f (take i xs) (x ∷ drop (suc i) xs)),
-        length-append (flat_map f (take i xs)) (f x ++ flat_map f (drop (suc i) xs)),
-        length-append (f x) (flat_map f (drop (suc i) xs)),
-      )
+  names_fit f = rw (← e) at (length-flat_map-take f xs i x h)
 
 module _ (test : List Name → Statement → Bool) (stated : List StatedLine) (i : ℕ)
     (line : StatedLine)
