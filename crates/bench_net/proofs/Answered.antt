@@ -79,7 +79,7 @@ unread_first line (Some s ∷ found) =
     later l zero e at = let bad : Some (Some s) ≡ Some None = at in cc
     later l (suc i) e at = (i, omega (arith, e), at)
 
-syntax_first : (text : List ℕ)
+pub syntax_first : (text : List ℕ)
     → IsFirst (IsSyntaxFault text) (unread 1 (map stated_of (lines text)))
 syntax_first text = first_same _ _ _ to from (unread_first 1 (map stated_of (lines text)))
   where
@@ -433,35 +433,28 @@ some_answer text = go (answer_text text) (answered text)
 
 -- ---- and the relations' answer is that of the plain reader, so there is one
 
-pub read_answer : (text : List ℕ) → length text ≤ max_bytes
+read_answer : (text : List ℕ) → length text ≤ max_bytes
     → answer_text text ≡ answer_read (map stated_of (lines text))
 read_answer text bytes = cond-false _ _ _ (le-ltb _ _ bytes)
 
-pub stated_answer : (text : List ℕ) (stated : List Stated) → length text ≤ max_bytes
+stated_answer : (text : List ℕ) (stated : List Stated) → length text ≤ max_bytes
     → map stated_of (lines text) ≡ map Some stated → answer_text text ≡ answer_stated stated
 stated_answer text stated bytes each =
     let both = read_all 1 stated in
     read_answer text bytes ∙ ap answer_read each ∙ rw (both.0, both.1) refl
-
-pub within_answer : (c : List Statement) (stated : List Stated) → length (names c) ≤ max_signals
-    → sink_count c ≤ max_sinks
-    → answer_entries c (numbered_from 1 stated) ≡ answer_within c (numbered_from 1 stated)
-within_answer c stated signals sinks =
-    rw (le-ltb _ (length (names c)) signals, le-ltb _ (sink_count c) sinks) refl
 
 answer_is : (text : List ℕ) (stated : List Stated) → IsWithin text stated → (r u y : Option ℕ)
     → IsFirst (IsRedefinition stated) r → IsFirst (IsUndefined stated) u
     → IsFirst (IsCyclic stated) y → answer_text text ≡ answer_by r u y (statements stated)
 answer_is text stated within r u y once known free =
     stated_answer text stated within.bytes ((lines_read (lines text) stated).0 within.each)
-    ∙ within_answer (statements stated) stated within.signals within.sinks
-    ∙ ap (λ o. answer_by o (first (reads_unknown (names_of stated)) stated)
-    (first (is_stuck (statements stated)) stated) (statements stated))
-    (first_one (IsRedefinition stated) _ r (redefined_first stated) once)
-    ∙ ap (λ o. answer_by r o (first (is_stuck (statements stated)) stated) (statements stated))
-    (first_one (IsUndefined stated) _ u (undefined_first stated) known)
-    ∙ ap (λ o. answer_by r u o (statements stated))
-    (first_one (IsCyclic stated) _ y (cyclic_first stated) free)
+    ∙ rw (
+      le-ltb _ (length (names_of stated)) within.signals,
+      le-ltb _ (sink_count (statements stated)) within.sinks,
+      first_one (IsRedefinition stated) _ r (redefined_first stated) once,
+      first_one (IsUndefined stated) _ u (undefined_first stated) known,
+      first_one (IsCyclic stated) _ y (cyclic_first stated) free,
+    ) refl
 
 exact : (text : List ℕ) (r : Result (List Statement) BenchFault) → IsAnswer text r
     → answer_text text ≡ r

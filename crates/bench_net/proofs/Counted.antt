@@ -11,7 +11,7 @@ use Rattle.bench_net.specs.declared.Sink.TheVariants.{Pin, Out}
 use Rattle.bench_net.specs.declared.sinks.Reader.{Reader}
 use Rattle.bench_net.specs.Stored.{defined_numbers, read_numbers}
 use Rattle.bench_net.specs.Tables.{input_number, output_number, cell_numbers, pin_readers, output_readers, line_readers, all_readers, PinsFit}
-use Rattle.lists.proofs.Members.{Among, among_left, among_right, among_append}
+use Rattle.lists.proofs.Members.{Among, among_left, among_right, among_append, among_joined}
 
 -- ---- sources
 
@@ -120,9 +120,7 @@ reader_reads lines reader a = elim (among_append (line_readers 0 lines) (output_
 
 -- the pins of a line are among what is read
 pub pins_read : (lines : List Line) (s : ℕ) (gate : GateLine) (p : ℕ) → Among (line.Gate s gate) lines → Among p gate.pins.items → Among p (flat_map read_numbers lines)
-pins_read [] s gate p a b = absurd a
-pins_read (l ∷ lines) s gate p (inl e) b = among_left (read_numbers l) (flat_map read_numbers lines) p (subst (λ x. Among p (read_numbers x)) (sym e) b)
-pins_read (l ∷ lines) s gate p (inr a) b = among_right (read_numbers l) (flat_map read_numbers lines) p (pins_read lines s gate p a b)
+pins_read lines s gate p a b = among_joined read_numbers lines (line.Gate s gate) p a b
 
 pub pin_count : (lines : List Line) (s : ℕ) (gate : GateLine) → Among (line.Gate s gate) lines → length gate.pins.items ≤ length (flat_map read_numbers lines)
 pin_count [] s gate a = absurd a

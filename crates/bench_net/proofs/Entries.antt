@@ -1,6 +1,6 @@
 -- The entries of lines, read one after another.
 use Rattle.std.proofs.Common.{◌≡◌, ◌<◌, ◌+◌, ◌==◌, ℕ, suc, refl, sym, ◌∙◌, ap, List, [], ◌∷◌, ◌++◌, length, take, drop, map, arith, get_or, append-nil}
-use Rattle.std.specs.Prelude.{Option, Some, None, Err}
+use Rattle.std.specs.Prelude.{Option, Some, None, Err, option_map}
 use Rattle.std.specs.List.{slice_split}
 use Rattle.std.specs.Borrow.{Bor}
 use Rattle.std.specs.Str.Lines.{strip_carriage_return}
@@ -10,7 +10,7 @@ use Rattle.bench_net.specs.Statement.{Statement}
 use Rattle.bench_net.specs.Reading.{statements}
 use Rattle.bench_net.specs.Plain.{stated_of}
 use Rattle.bench_net.specs.Entries.{Entry, entry_of, entries_of, stated_by, numbered_from, unread, HaveEntries}
-use Rattle.bench_net.specs.Parsed.{stands_for, IsLineReading}
+use Rattle.bench_net.specs.Parsed.{stands_for, IsReadAs}
 use Rattle.bench_net.specs.declared.number.StatedLine.{StatedLine}
 use Rattle.bench_net.specs.declared.statement.Stated.{Stated}
 use Rattle.bench_net.specs.declared.fault.LineFault.{LineFault}
@@ -126,6 +126,6 @@ module _ (parts : List (Bor (List ℕ))) (x : Bor (List ℕ)) (l : List ℕ)
           let e : suc line + length stated ≡ line + suc (length stated) = omega arith in
           unread_at (suc line) stated more ∙ ap Some e
 
-pub line_refused : (found : Option (Option Statement)) (f : LineFault) → IsLineReading found (Err f)
-    → f ≡ stop.Refused → found ≡ None
+pub line_refused : (found : Option (Option Statement)) (f : LineFault)
+    → IsReadAs (option_map stands_for) found (Err f) → f ≡ stop.Refused → found ≡ None
 line_refused found f h e = rw e at h

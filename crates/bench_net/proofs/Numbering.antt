@@ -17,7 +17,7 @@ use Rattle.bench_net.specs.declared.fault.LineFault.TheVariants as stop
 use Rattle.bench_net.specs.declared.BenchFault.{BenchFault}
 use Rattle.bench_net.specs.Statement.{Name, Statement, read}
 use Rattle.bench_net.specs.Parsed.{stands_for, or_refusal}
-use Rattle.bench_net.specs.Entries.{is_in, names_in, defined_of, EndsPass}
+use Rattle.bench_net.specs.Entries.{entry_of, is_in, names_in, defined_of, EndsPass}
 use Rattle.bench_net.specs.Stored.{name_at, statement_of, statements_of, defined_numbers, read_numbers}
 use Rattle.bench_net.specs.Numbering.{IsNextFor, IsNumberedLine, AreNumberedLines}
 use Rattle.lists.proofs.Members.{among}
@@ -72,8 +72,9 @@ pub numbered_more : (ns : List Name) (stated : List StatedLine) (lines : List Li
     → IsNumberedLine ns next (stands_for new.statement) l
     → AreNumberedLines ns (take (i + 1) stated) (lines ++ l ∷ [])
 numbered_more ns stated lines i new l next h e so_far count one = record {
-  stand = map_push (statement_of ns) lines l ∙ rw (so_far.stand, one.stands, items)
-      (sym (map_push (λ x. stands_for x.statement) (take i stated) new));
+  stand = map_push (statement_of ns) lines l
+      ∙ rw (so_far.stand, one.stands, items, map_push entry_of (take i stated) new)
+      (sym (map_push (λ entry. entry.1) (map entry_of (take i stated)) (entry_of new)));
   own =
       more defined_numbers ∙ rw (so_far.own, one.own) (go (defined_few (stands_for new.statement)));
   in_range = rw (more read_numbers) (All-append below _ _ so_far.in_range one.in_range);

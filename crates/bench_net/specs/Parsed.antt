@@ -46,17 +46,11 @@ abbrev pub driven_tokens : Name → List Token → Option Statement
 driven_tokens n (Word w ∷ Open ∷ tokens) = option_and_then (driven_by n w) (args_of tokens)
 driven_tokens n _ = None
 
--- the statement is the one that was read; a refusal says that there is none
-abbrev pub IsReading : Option Statement → Result Stated LineFault → Type 0
-IsReading found (Ok s) = found ≡ Some (stands_for s)
-IsReading found (Err fault.Refused) = found ≡ None
-IsReading found (Err fault.Memory) = ⊤
-
--- the same of a line, which may state nothing
-abbrev pub IsLineReading : Option (Option Statement) → Result (Option Stated) LineFault → Type 0
-IsLineReading found (Ok s) = found ≡ Some (option_map stands_for s)
-IsLineReading found (Err fault.Refused) = found ≡ None
-IsLineReading found (Err fault.Memory) = ⊤
+-- what was read stands for what is found, and a refusal says that nothing is
+abbrev pub IsReadAs : {T S : Type 0} → (T → S) → Option S → Result T LineFault → Type 0
+IsReadAs stands found (Ok s) = found ≡ Some (stands s)
+IsReadAs stands found (Err fault.Refused) = found ≡ None
+IsReadAs stands found (Err fault.Memory) = ⊤
 
 -- the refusal where the line has the fault
 abbrev pub or_refusal : LineFault → BenchFault → BenchFault

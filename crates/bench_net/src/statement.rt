@@ -5,7 +5,7 @@ ghost use Rattle.std.specs.Str.{str_eq_ignore_ascii_case};
 ghost use Rattle.bench_net.specs.Text.{Token as TextToken, Word};
 ghost use Rattle.bench_net.specs.Statement.{Name};
 ghost use Rattle.bench_net.specs.Plain.{tokens_of, kind_of, has_arity, gate_with, cell_with, driven_by, read_tokens, stated_of, Leads};
-ghost use Rattle.bench_net.specs.Parsed.{names_of, stands_for, args_in, IsArgument, port_of, driven_tokens, IsReading, IsLineReading};
+ghost use Rattle.bench_net.specs.Parsed.{names_of, stands_for, args_in, IsArgument, port_of, driven_tokens, IsReadAs};
 
 use crate::Kind;
 use crate::fault::LineFault;
@@ -184,7 +184,7 @@ fn driven<'a>(name: &'a [u8], word: &[u8], arguments: Arguments<'a>) -> Option<S
 
 /// The statement of a line `name = ..`, from the bytes behind the equals sign.
 fn read_driven<'a>(alloc: Global, name: &'a [u8], bytes: &'a [u8]) -> Result<Stated<'a>, LineFault>
-    ensures { IsReading (option_and_then (driven_tokens name.now) (tokens_of bytes.now)) result }
+    ensures { IsReadAs stands_for (option_and_then (driven_tokens name.now) (tokens_of bytes.now)) result }
 {
     let Some((word, rest)) = leading_word(bytes) else {
         return Err(LineFault::Refused);
@@ -198,7 +198,7 @@ fn read_driven<'a>(alloc: Global, name: &'a [u8], bytes: &'a [u8]) -> Result<Sta
 
 /// The statement of a line `word ( .. )`, from the bytes behind the parenthesis.
 fn read_port<'a>(alloc: Global, word: &'a [u8], bytes: &'a [u8]) -> Result<Stated<'a>, LineFault>
-    ensures { IsReading (option_and_then (port_of word.now) (args_in bytes.now)) result }
+    ensures { IsReadAs stands_for (option_and_then (port_of word.now) (args_in bytes.now)) result }
 {
     let arguments = read_arguments(alloc, bytes)?;
     port(word, arguments).ok_or(LineFault::Refused)
@@ -206,7 +206,7 @@ fn read_port<'a>(alloc: Global, word: &'a [u8], bytes: &'a [u8]) -> Result<State
 
 /// The statement of a line that begins with this word, from the bytes behind it.
 fn read_behind<'a>(alloc: Global, word: &'a [u8], bytes: &'a [u8]) -> Result<Stated<'a>, LineFault>
-    ensures { IsReading (option_and_then (λ ts. read_tokens (Word word.now ∷ ts)) (tokens_of bytes.now)) result }
+    ensures { IsReadAs stands_for (option_and_then (λ ts. read_tokens (Word word.now ∷ ts)) (tokens_of bytes.now)) result }
 {
     match next_token(bytes) {
         Front::Token(Token::Open, rest) => read_port(alloc, word, rest),
@@ -217,7 +217,7 @@ fn read_behind<'a>(alloc: Global, word: &'a [u8], bytes: &'a [u8]) -> Result<Sta
 
 /// What a line states: nothing where it has no token, and else its statement.
 pub fn read_line<'a>(alloc: Global, line: &'a [u8]) -> Result<Option<Stated<'a>>, LineFault>
-    ensures { IsLineReading (stated_of line.now) result }
+    ensures { IsReadAs (option_map stands_for) (stated_of line.now) result }
 {
     match next_token(line) {
         Front::End => Ok(None),
