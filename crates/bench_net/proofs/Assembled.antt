@@ -70,12 +70,7 @@ module _ (text : List ℕ) (stated : List StatedLine)
     bytes,
     h.stated,
     each,
-    omega (
-      arith,
-      signals,
-      ap length (same
-          defined),
-    ),
+    omega (arith, signals, ap length (same defined)),
     omega (arith, more, ap length (same read)),
   )
 
@@ -89,15 +84,12 @@ module _ (text : List ℕ) (stated : List StatedLine)
   module _ (signals : length (names_in stated) ≤ 1000000)
       (sinks : length (reads_in stated) ≤ 4000000) where
     within : IsWithin text h.stated
-    within =
-        record {
-          bytes = bytes;
-          each = each;
-          signals =
-              omega (arith, signals, ap length (same defined));
-          sinks =
-              omega (arith, sinks, ap length (same read));
-        }
+    within = record {
+      bytes = bytes;
+      each = each;
+      signals = omega (arith, signals, ap length (same defined));
+      sinks = omega (arith, sinks, ap length (same read));
+    }
 
     pub redefined : (fault : BenchFault)
         → EndsPass Redefined (first_line redefines [] (entries_of stated)) fault

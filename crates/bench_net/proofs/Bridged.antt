@@ -85,9 +85,8 @@ module _ (text : List ℕ) (ns : List Name) (lines : List Line) (at : List ℕ)
     arities = subst HaveArities (sym same) (arities_of_text text of.stated of.within.each);
     signals = omega (arith, ap length names_same, of.within.signals);
     sinks = omega (arith, ap sink_count same, of.within.sinks);
-    line_count = ap length of.at_are ∙ length-map (numbered_from 1 of.stated) (λ e. e.0)
-        ∙ sym (length-map (numbered_from 1 of.stated) (λ e. e.1)) ∙ sym (ap length of.lines_are)
-        ∙ length-map lines (statement_of ns);
+    line_count = simp length-map at (ap length of.at_are)
+        ∙ sym (simp length-map at (ap length of.lines_are));
     rising = subst (AllPairs (λ m n. m < n)) (sym of.at_are) (numbers_rise 1 of.stated);
   }
 

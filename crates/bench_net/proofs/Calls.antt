@@ -15,8 +15,8 @@ use Rattle.bench_net.specs.Scan.{names, signal, name_of, definition, gate_line, 
 use Rattle.bench_net.specs.Stored.{name_at, statement_of, statements_of, defined_numbers, read_numbers, AreNumbered}
 use Rattle.bench_net.specs.Tables.{input_number, output_number, cell_numbers, defines_number}
 use Rattle.bench_net.specs.Inside.{IsInside}
-use Rattle.lists.proofs.Members.{Among, contained, among_left, among_right}
-use Rattle.bench_net.proofs.Counted.{few_sources, source_defined, outputs_read, pins_read}
+use Rattle.lists.proofs.Members.{Among, contained, among_left, among_joined}
+use Rattle.bench_net.proofs.Counted.{few_sources, cell_line, source_defined, outputs_read, pins_read}
 use Rattle.bench_net.proofs.Named.{AreNamed, name_of_at, signal_at, same_number, map_signal, inputs_are, outputs_are, cells_are, cell_names, sources_are, source_numbers, definers_are, line_at, definition_count}
 use Rattle.lists.proofs.Places.{placed, at_place}
 use Rattle.bench_net.proofs.Plain.{mapped}
@@ -58,27 +58,11 @@ call_outputs ns lines tables levels inside =
 
 -- ---- cells
 
-cell_q : (lines : List Line) (cell : ScanCell) → Among cell (filter_map cell_numbers lines) → Among cell.q (flat_map defined_numbers lines)
-cell_q [] cell a = absurd a
-cell_q (line.Input s ∷ lines) cell a = inr (cell_q lines cell a)
-cell_q (line.Output s ∷ lines) cell a = cell_q lines cell a
-cell_q (line.Gate s g ∷ lines) cell a = inr (cell_q lines cell a)
-cell_q (line.Dff q d ∷ lines) cell (inl e) = inl (ap (λ x. x.q) e)
-cell_q (line.Dff q d ∷ lines) cell (inr a) = inr (cell_q lines cell a)
-
-cell_d : (lines : List Line) (cell : ScanCell) → Among cell (filter_map cell_numbers lines) → Among cell.d (flat_map read_numbers lines)
-cell_d [] cell a = absurd a
-cell_d (line.Input s ∷ lines) cell a = cell_d lines cell a
-cell_d (line.Output s ∷ lines) cell a = inr (cell_d lines cell a)
-cell_d (line.Gate s g ∷ lines) cell a = among_right g.pins.items (flat_map read_numbers lines) cell.d (cell_d lines cell a)
-cell_d (line.Dff q d ∷ lines) cell (inl e) = inl (ap (λ x. x.d) e)
-cell_d (line.Dff q d ∷ lines) cell (inr a) = inr (cell_d lines cell a)
-
 pub call_cells : (ns : List Name) (lines : List Line) (tables : Tables) (levels : Levels) → IsInside ns lines tables levels
     → map {B = ℕ × ℕ} (λ cell. (cell.q, cell.d)) tables.cells.items ≡ map (λ cell. (signal (statements_of ns lines) cell.0, signal (statements_of ns lines) cell.1)) (cells (statements_of ns lines))
 call_cells ns lines tables levels inside =
     ap (map (λ (cell : ScanCell). (cell.q, cell.d))) inside.tables_are.cells_are
-    ∙ (go (filter_map cell_numbers lines) (λ cell a. defined_in ns lines cell.q inside.numbered (cell_q lines cell a)) (λ cell a. read_in ns lines cell.d inside.numbered (cell_d lines cell a))
+    ∙ (go (filter_map cell_numbers lines) (λ cell a. defined_in ns lines cell.q inside.numbered (among_joined defined_numbers lines (line.Dff cell.q cell.d) cell.q (cell_line lines cell a) (inl refl))) (λ cell a. read_in ns lines cell.d inside.numbered (among_joined read_numbers lines (line.Dff cell.q cell.d) cell.d (cell_line lines cell a) (inl refl)))
     ∙ ap (map (λ cell. (signal (statements_of ns lines) cell.0, signal (statements_of ns lines) cell.1))) (sym (cells_are ns lines)))
   where
     go : (xs : List ScanCell) → ((cell : ScanCell) → Among cell xs → cell.q < length ns) → ((cell : ScanCell) → Among cell xs → cell.d < length ns)

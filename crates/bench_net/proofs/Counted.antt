@@ -7,11 +7,12 @@ use Rattle.std.proofs.lemmas.List.FromFn.{length-enumerate_from}
 use Rattle.bench_net.specs.declared.line.Line.{Line}
 use Rattle.bench_net.specs.declared.line.Line.TheVariants as line
 use Rattle.bench_net.specs.declared.GateLine.{GateLine}
+use Rattle.bench_net.specs.declared.ScanCell.{ScanCell}
 use Rattle.bench_net.specs.declared.Sink.TheVariants.{Pin, Out}
 use Rattle.bench_net.specs.declared.sinks.Reader.{Reader}
 use Rattle.bench_net.specs.Stored.{defined_numbers, read_numbers}
 use Rattle.bench_net.specs.Tables.{input_number, output_number, cell_numbers, pin_readers, output_readers, line_readers, all_readers, PinsFit}
-use Rattle.lists.proofs.Members.{Among, among_left, among_right, among_append, among_joined}
+use Rattle.lists.proofs.Members.{Among, among_left, among_right, among_append, among_joined, mapped_from}
 
 -- ---- sources
 
@@ -44,9 +45,19 @@ few_lines (line.Output s ∷ lines) = omega (arith, few_lines lines)
 few_lines (line.Gate s g ∷ lines) = omega (arith, few_lines lines, length-append g.pins.items (flat_map read_numbers lines))
 few_lines (line.Dff q d ∷ lines) = omega (arith, few_lines lines)
 
+pub cell_line : (lines : List Line) (cell : ScanCell) → Among cell (filter_map cell_numbers lines) → Among (line.Dff cell.q cell.d) lines
+cell_line [] cell a = absurd a
+cell_line (line.Input s ∷ lines) cell a = inr (cell_line lines cell a)
+cell_line (line.Output s ∷ lines) cell a = inr (cell_line lines cell a)
+cell_line (line.Gate s g ∷ lines) cell a = inr (cell_line lines cell a)
+cell_line (line.Dff q d ∷ lines) cell (inl e) = inl (ap (λ (x : ScanCell). line.Dff x.q x.d) e)
+cell_line (line.Dff q d ∷ lines) cell (inr a) = inr (cell_line lines cell a)
+
 pub source_defined : (lines : List Line) (s : ℕ) → Among s (filter_map input_number lines ++ map (λ cell. cell.q) (filter_map cell_numbers lines)) → Among s (flat_map defined_numbers lines)
 source_defined lines s a = elim (among_append (filter_map input_number lines) (map (λ cell. cell.q) (filter_map cell_numbers lines)) s a) [
-  inl b ↦ input lines b | inr b ↦ cell lines b
+  inl b ↦ input lines b
+  | inr b ↦ (let c = mapped_from (λ cell. cell.q) (filter_map cell_numbers lines) s b in
+      among_joined defined_numbers lines (line.Dff c.0.q c.0.d) s (cell_line lines c.0 c.1) (inl c.2))
 ]
   where
     input : (ls : List Line) → Among s (filter_map input_number ls) → Among s (flat_map defined_numbers ls)
@@ -56,14 +67,6 @@ source_defined lines s a = elim (among_append (filter_map input_number lines) (m
     input (line.Output t ∷ ls) b = input ls b
     input (line.Gate t g ∷ ls) b = inr (input ls b)
     input (line.Dff q d ∷ ls) b = inr (input ls b)
-
-    cell : (ls : List Line) → Among s (map (λ cell. cell.q) (filter_map cell_numbers ls)) → Among s (flat_map defined_numbers ls)
-    cell [] b = absurd b
-    cell (line.Input t ∷ ls) b = inr (cell ls b)
-    cell (line.Output t ∷ ls) b = cell ls b
-    cell (line.Gate t g ∷ ls) b = inr (cell ls b)
-    cell (line.Dff q d ∷ ls) (inl e) = inl e
-    cell (line.Dff q d ∷ ls) (inr b) = inr (cell ls b)
 
 -- ---- readers
 

@@ -44,17 +44,7 @@ given parts = map strip_carriage_return (map (λ x. x.now) parts)
 -- as many as what they state
 given_count : (parts : List (Bor (List ℕ))) (stated : List (Option Statement))
     → map stated_of (given parts) ≡ map Some stated → length stated ≡ length parts
-given_count parts stated e =
-    omega (
-      arith,
-      ap length e,
-      length-map (given
-          parts) stated_of,
-      length-map stated Some,
-      length-map
-          (map (λ x. x.now) parts) strip_carriage_return,
-      length-map parts (λ x. x.now),
-    )
+given_count parts stated e = sym (simp length-map at (ap length e))
 
 module _ (parts : List (Bor (List ℕ))) (x : Bor (List ℕ)) (l : List ℕ)
     (line_is : l ≡ strip_carriage_return x.now) where

@@ -41,21 +41,15 @@ ends_pass stop.Memory refusal first line answer e h = inl e
 pub next_for : (stated : List StatedLine) (i : ℕ) (line : StatedLine) → i < length stated
     → line ≡ get_or stated i line
     → IsNextFor (names_in stated) (length (names_in (take i stated))) (stands_for line.statement)
-next_for stated i line h e = go (defined_few (stands_for line.statement))
-  where
-    whole : names_in stated ≡ names_in (take i stated) ++
-        (defined_of line ++ names_in (drop (suc i) stated))
-    whole =
-        ap names_in (at_item stated i line h e)
-        ∙ flat_map-append defined_of (take i stated) (line ∷ drop (suc i) stated)
-
-    go : (defined_of line ≡ []) ⊎ ((n : Name) × (defined_of line ≡ n ∷ []))
-        → IsNextFor (names_in stated) (length (names_in (take i stated)))
-        (stands_for line.statement)
-    go (inl none) = rw none refl
-    go (inr one) =
-        rw (whole, one.1) (ap (λ n. n ∷ [])
-        (get_or-append_seam (names_in (take i stated)) one.0 (names_in (drop (suc i) stated)) []))
+next_for stated i line h e =
+    let whole =
+    ap names_in (at_item stated i line h e)
+    ∙ flat_map-append defined_of (take i stated) (line ∷ drop (suc i) stated) in
+    elim (defined_few (stands_for line.statement)) [
+      inl none ↦ rw none refl
+      | inr one ↦ rw (whole, one.1) (ap (λ n. n ∷ []) (get_or-append_seam
+          (names_in (take i stated)) one.0 (names_in (drop (suc i) stated)) []))
+    ]
 
 range_more : (a n : ℕ) → range_with_len a (n + 1) ≡ range_with_len a n ++ (a + n) ∷ []
 range_more a n = rw (add-one n) (go a n)
@@ -75,8 +69,7 @@ numbered_more ns stated lines i new l next h e so_far count one = record {
   stand = map_push (statement_of ns) lines l
       ∙ rw (so_far.stand, one.stands, items, map_push entry_of (take i stated) new)
       (sym (map_push (λ entry. entry.1) (map entry_of (take i stated)) (entry_of new)));
-  own =
-      more defined_numbers ∙ rw (so_far.own, one.own) (go (defined_few (stands_for new.statement)));
+  own = more defined_numbers ∙ rw (so_far.own, one.own) own;
   in_range = rw (more read_numbers) (All-append below _ _ so_far.in_range one.in_range);
 }
   where
@@ -90,20 +83,14 @@ numbered_more ns stated lines i new l next h e so_far count one = record {
     more f =
         flat_map-append f lines (l ∷ []) ∙ ap (λ ks. flat_map f lines ++ ks) (append-nil (f l))
 
-    go : (defined_of new ≡ []) ⊎ ((n : Name) × (defined_of new ≡ n ∷ []))
-        → range_with_len 0 (length (names_in (take i stated))) ++ map (λ n. next) (defined_of new)
+    own : range_with_len 0 (length (names_in (take i stated))) ++ map (λ n. next) (defined_of new)
         ≡ range_with_len 0 (length (names_in (take (i + 1) stated)))
-    go (inl none) =
-        rw (names_more stated i new h e defined_of, none) (rw append-nil (rw append-nil refl))
-    go (inr some) =
-        rw (
-          names_more stated i new h e defined_of,
-          some.1,
-          length-append,
-          range_more,
-          count,
-          zero-add,
-        ) refl
+    own = rw (names_more stated i new h e defined_of) (
+      elim (defined_few (stands_for new.statement)) [
+        inl none ↦ rw none (rw append-nil (rw append-nil refl))
+        | inr some ↦ rw (some.1, length-append, range_more, count, zero-add) refl
+      ]
+    )
 
 -- the names that a stored line reads are those of its numbers
 reads_of : (ns : List Name) (l : Line)
