@@ -1,5 +1,6 @@
 -- What the functions of the line reader answer.
-use Rattle.std.specs.Prelude.{◌≡◌, ◌<◌, ℕ, List, [], ◌∷◌, length, map, Option, Some, None, option_map, option_and_then, Result, Ok, Err, ⊤}
+use Rattle.std.specs.Prelude.{◌≡◌, ◌<◌, ℕ, List, [], ◌∷◌, length, map, Option, Some, None}
+use Rattle.std.specs.Prelude.{option_map, option_and_then, Result, Ok, Err, ⊤}
 use Rattle.std.specs.Borrow.{Bor}
 use Rattle.bench_net.specs.declared.fault.LineFault.{LineFault}
 use Rattle.bench_net.specs.declared.fault.LineFault.TheVariants as fault
@@ -30,7 +31,9 @@ args_in bytes = option_and_then args_of (tokens_of bytes)
 -- the argument at the front of the bytes, and the bytes of those behind it
 abbrev pub IsArgumentBefore : List ℕ → Name → Option (Bor (List ℕ)) → Type 0
 IsArgumentBefore bytes name None = args_in bytes ≡ Some (name ∷ [])
-IsArgumentBefore bytes name (Some more) = (args_in bytes ≡ option_map (λ args. name ∷ args) (args_in more.now)) × (length more.now < length bytes)
+IsArgumentBefore bytes name (Some more) =
+    (args_in bytes ≡ option_map (λ args. name ∷ args) (args_in more.now))
+    × (length more.now < length bytes)
 
 abbrev pub IsArgument : List ℕ → Option Argument → Type 0
 IsArgument bytes None = args_in bytes ≡ None

@@ -1,5 +1,6 @@
 -- The tokens and the statement of a line, computed from its front.
-use Rattle.std.specs.Prelude.{◌≡◌, ◌<◌, ℕ, Bool, false, ◌==◌, nat_le, List, [], ◌∷◌, length, Option, Some, None, if◌then◌else◌, option_map, option_and_then, codes}
+use Rattle.std.specs.Prelude.{◌≡◌, ◌<◌, ℕ, Bool, false, ◌==◌, nat_le, List, [], ◌∷◌, length}
+use Rattle.std.specs.Prelude.{Option, Some, None, if◌then◌else◌, option_map, option_and_then, codes}
 use Rattle.std.specs.List.{find}
 use Rattle.std.specs.Str.{str_eq_ignore_ascii_case}
 use Rattle.bench_net.specs.declared.Kind.{Kind}
@@ -8,7 +9,8 @@ use Rattle.bench_net.specs.declared.scan.Token.{Token as Found}
 use Rattle.bench_net.specs.declared.scan.Token.TheVariants as found
 use Rattle.bench_net.specs.declared.scan.Front.{Front}
 use Rattle.bench_net.specs.declared.scan.Front.TheVariants as front
-use Rattle.bench_net.specs.Text.{Token, Open, Close, Comma, Equals, Word, is_blank, is_mark, is_word_byte}
+use Rattle.bench_net.specs.Text.{Token, Open, Close, Comma, Equals, Word}
+use Rattle.bench_net.specs.Text.{is_blank, is_mark, is_word_byte}
 use Rattle.bench_net.specs.Statement.{Name, Statement, Input, Output, Gate, Dff}
 use Rattle.bench_net.specs.Reading.{names_kind}
 
@@ -20,7 +22,8 @@ abbrev pub starts_word : List ℕ → Bool
 starts_word [] = false
 starts_word (b ∷ bytes) = is_word_byte b
 
--- a word byte before these tokens: at the front of the word that the bytes begin with, or a word of its own
+-- a word byte before these tokens: at the front of the word that the bytes begin with, or a word of
+-- its own
 abbrev pub onto_word : ℕ → List Token → List Token
 onto_word b (Word w ∷ tokens) = Word (b ∷ w) ∷ tokens
 onto_word b tokens = Word (b ∷ []) ∷ tokens
@@ -78,7 +81,8 @@ port w n =
 -- the statement that tokens read as
 abbrev pub read_tokens : List Token → Option Statement
 read_tokens (Word w ∷ Open ∷ Word n ∷ Close ∷ []) = port w n
-read_tokens (Word n ∷ Equals ∷ Word w ∷ Open ∷ tokens) = option_and_then (driven_by n w) (args_of tokens)
+read_tokens (Word n ∷ Equals ∷ Word w ∷ Open ∷ tokens) =
+    option_and_then (driven_by n w) (args_of tokens)
 read_tokens _ = None
 
 -- what the line states: None where it is at fault
