@@ -1,10 +1,9 @@
 -- Each text is accepted or refused, in one way, and the plain reader answers which.
-use Rattle.std.proofs.Common.{◌≡◌, ◌<◌, ◌≤◌, ◌+◌, ℕ, zero, suc, refl, sym, ◌∙◌, ap, subst, Bool, true, false, not, List, [], ◌∷◌, ◌++◌, length, take, arith, inl, inr, ◌⊎◌, append-nil, ◌-◌}
+use Rattle.std.proofs.Common.{◌≡◌, ◌<◌, ◌≤◌, ◌+◌, ℕ, zero, suc, refl, sym, ◌∙◌, ap, subst, Bool, true, false, not, List, [], ◌∷◌, ◌++◌, length, take, arith, inl, inr, ◌⊎◌, append-nil}
 use Rattle.std.proofs.lemmas.List.{append_assoc}
-use Rattle.std.proofs.Math.Nat.{zero-add, suc-add}
-use Rattle.std.specs.Prelude.{◌≢◌, Contains, Option, Some, None, ◌↔◌, Result, Ok, Err, slice_get, map, filter_map, flat_map, option_map, IsTrue, if◌then◌else◌}
-use Rattle.std.specs.List.{AllZip, list_all}
-use Rattle.std.proofs.lemmas.Bool.{both_ways, cond_both, cases_Bool, cond-true, cond-false, cases_order, ltb-true, ltb-false, lt-ltb, le-ltb, not-true, true_from_ne_false, false_from_ne_true}
+use Rattle.std.specs.Prelude.{◌≢◌, Contains, Option, Some, None, ◌↔◌, Result, Ok, Err, slice_get, map, filter_map, flat_map, option_map, IsTrue}
+use Rattle.std.specs.List.{list_all}
+use Rattle.std.proofs.lemmas.Bool.{both_ways, cond_both, cases_Bool, cond-true, cond-false, ltb-true, ltb-false, lt-ltb, le-ltb, not-true, true_from_ne_false, false_from_ne_true}
 use Rattle.std.proofs.lemmas.Option.{slice_get-map}
 use Rattle.bench_net.specs.declared.Limit.TheVariants.{Bytes, Signals, Sinks}
 use Rattle.bench_net.specs.declared.BenchFault.{BenchFault}
@@ -13,15 +12,15 @@ use Rattle.bench_net.specs.Text.{lines}
 use Rattle.bench_net.specs.Statement.{Name, Statement, Input, Output, Gate, Dff, defined, read}
 use Rattle.bench_net.specs.Reading.{States, LinesState, statements}
 use Rattle.bench_net.specs.Scan.{names}
-use Rattle.bench_net.specs.Circuit.{IsWellFormed, IsStuckSet, IsStuck, max_bytes, max_signals, max_sinks, sink_count}
+use Rattle.bench_net.specs.Circuit.{IsWellFormed, IsStuckSet, max_bytes, max_signals, max_sinks, sink_count}
 use Rattle.bench_net.specs.Refusal.{at_line, IsLowest, NoLine, IsWithin, IsSyntaxFault, IsRedefinition, IsUndefined, IsCyclic, IsAccepted, IsRefused}
-use Rattle.bench_net.specs.Entries.{numbered_from, unread, first_line, redefines, reads_unknown}
-use Rattle.bench_net.specs.Plain.{stated_of}
+use Rattle.bench_net.specs.reader.Entries.{numbered_from, unread, first_line, redefines, reads_unknown}
+use Rattle.bench_net.specs.reader.Plain.{stated_of}
 use Rattle.bench_net.proofs.Reader.{sound_states, complete_states}
 use Rattle.lists.proofs.Members.{Among, among, contained, each_passes, some_passes, among_left, among_right, among_joined, joined_from}
 use Rattle.lists.proofs.Distinct.{Distinct, distinct_from_pairs, distinct_append}
 use Rattle.lists.proofs.Places.{from_mapped}
-use Rattle.bench_net.proofs.Answer.{is_in, stuck_names, is_stuck, line_or, statements_or, answer_within, answer_entries, answer_stated, answer_read, answer_text}
+use Rattle.bench_net.proofs.Answer.{is_in, stuck_names, is_stuck, line_or, statements_or, answer_stated, answer_read, answer_text}
 use Rattle.bench_net.proofs.Checked.{any_true, in_contained, among_in, lines_read, pairs_distinct}
 use Rattle.bench_net.proofs.Settled.{stuck_set, stuck_left, none_stuck, numbering}
 
@@ -217,7 +216,7 @@ some_not : {X : Type 0} (p : X → Bool) (xs : List X) → list_all p xs ≡ fal
     → (x : X) × Among x xs × (p x ≡ false)
 some_not p [] e = let bad : true ≡ false = e in cc
 some_not p (y ∷ xs) e = elim (cases_Bool (p y)) [
-  inl on ↦ (let found = some_not p xs (rw on at e) in (found.0, inr found.1, found.2))
+  | inl on ↦ (let found = some_not p xs (rw on at e) in (found.0, inr found.1, found.2))
   | inr off ↦ (y, inl refl, off)
 ]
 
@@ -230,9 +229,12 @@ undefined_first stated = first_by (reads_unknown (names_of stated)) (IsUndefined
         → reads_unknown (names_of stated) [] s ≡ true → IsUndefined stated (suc i)
     to i s at t =
         let found = some_not (is_known stated) (read s) (not-true _ t) in
-        let n : Name = found.0 in
-        (n, (s, at, contained (read s) n found.1), λ has. both_ways _ found.2
-        (among_in _ n (among _ n has)))
+        let n : Name = found.0 in (
+          n,
+          (s, at, contained (read s) n found.1),
+          λ has. both_ways _ found.2
+              (among_in _ n (among _ n has)),
+        )
 
     from : (l : ℕ) → IsUndefined stated l → Fails (reads_unknown (names_of stated)) [] 1 stated l
     from zero bad = let none : None ≡ Some (Some bad.1.0) = bad.1.1 in cc

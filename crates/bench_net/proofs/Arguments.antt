@@ -4,7 +4,7 @@ use Rattle.std.proofs.lemmas.List.{map_push, append_assoc, append-nil}
 use Rattle.std.specs.Prelude.{Option, Some, None, option_map}
 use Rattle.std.specs.Borrow.{Bor}
 use Rattle.bench_net.specs.Statement.{Name}
-use Rattle.bench_net.specs.Parsed.{names_of}
+use Rattle.bench_net.specs.reader.Parsed.{names_of}
 
 -- what these names and the arguments in the rest make together
 abbrev pub joined : List Name → Option (List Name) → Option (List Name)

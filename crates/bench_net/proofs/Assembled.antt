@@ -1,5 +1,5 @@
 -- What the passes over the lines say of the text.
-use Rattle.std.proofs.Common.{◌≡◌, ◌<◌, ◌≤◌, ℕ, refl, sym, ◌∙◌, ap, subst, List, [], ◌∷◌, ◌++◌, length, map, arith, inl, inr, ◌⊎◌}
+use Rattle.std.proofs.Common.{◌≡◌, ◌<◌, ◌≤◌, ℕ, refl, sym, ◌∙◌, ap, subst, List, [], ◌∷◌, length, map, arith, inl, inr, ◌⊎◌}
 use Rattle.std.specs.Prelude.{Option, Some, None, slice_get, slice_index_or, flat_map}
 use Rattle.std.specs.List.{All, range_with_len}
 use Rattle.std.specs.Str.{IsUtf8}
@@ -18,10 +18,10 @@ use Rattle.bench_net.specs.Reading.{LinesState, statements}
 use Rattle.bench_net.specs.Scan.{names}
 use Rattle.bench_net.specs.Refusal.{IsSyntaxFault, IsRedefinition, IsUndefined, IsWithin, IsRefused}
 use Rattle.bench_net.specs.Stored.{read_numbers, AreLinesOf}
-use Rattle.bench_net.specs.Parsed.{stands_for}
-use Rattle.bench_net.specs.Plain.{stated_of}
-use Rattle.bench_net.specs.Entries.{entry_of, entries_of, stated_by, numbered_from, unread, first_line, redefines, reads_unknown, names_in, reads_in, HaveEntries, EndsPass}
-use Rattle.bench_net.specs.Numbering.{AreNumberedLines}
+use Rattle.bench_net.specs.reader.Parsed.{stands_for}
+use Rattle.bench_net.specs.reader.Plain.{stated_of}
+use Rattle.bench_net.specs.reader.Entries.{entry_of, entries_of, stated_by, numbered_from, unread, first_line, redefines, reads_unknown, names_in, reads_in, HaveEntries, EndsPass}
+use Rattle.bench_net.specs.reader.Numbering.{AreNumberedLines}
 use Rattle.lists.proofs.Members.{Among, among}
 use Rattle.bench_net.proofs.Answered.{IsFirst, distinct_first, no_redefinition, syntax_first, redefined_first, undefined_first}
 use Rattle.bench_net.proofs.Checked.{lines_read, pairs_distinct}
@@ -96,8 +96,12 @@ module _ (text : List ℕ) (stated : List StatedLine)
         → (fault ≡ Memory) ⊎ IsRefused text fault
     redefined fault =
         pass_refused text Redefined (first_line redefines [] (entries_of stated)) fault
-        (λ line e. (h.stated, within, subst (IsFirst (IsRedefinition h.stated)) (rw h.same at e)
-        (redefined_first h.stated)))
+        (λ line e. (
+          h.stated,
+          within,
+          subst (IsFirst (IsRedefinition h.stated)) (rw h.same at e)
+              (redefined_first h.stated),
+        ))
 
     module _ (once : first_line redefines [] (entries_of stated) ≡ None) (ns : List Name)
         (all : ns ≡ names_in stated) where
@@ -115,8 +119,12 @@ module _ (text : List ℕ) (stated : List StatedLine)
           → (fault ≡ Memory) ⊎ IsRefused text fault
       undefined fault =
           pass_refused text Undefined (first_line (reads_unknown ns) [] (entries_of stated)) fault
-          (λ line e. (h.stated, within, no_redefinition h.stated none,
-          subst (IsFirst (IsUndefined h.stated)) (unknown e) (undefined_first h.stated)))
+          (λ line e. (
+            h.stated,
+            within,
+            no_redefinition h.stated none,
+            subst (IsFirst (IsUndefined h.stated)) (unknown e) (undefined_first h.stated),
+          ))
 
       -- the numbered lines are those of the text
       pub assembled : first_line (reads_unknown ns) [] (entries_of stated) ≡ None

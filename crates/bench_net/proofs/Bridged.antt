@@ -4,7 +4,7 @@ use Rattle.std.specs.Prelude.{Option, Some, None, slice_get, AllPairs, option_ma
 use Rattle.std.specs.List.{All}
 use Rattle.std.proofs.lemmas.List.{length-map}
 use Rattle.std.proofs.lemmas.List.Kept.{AllPairs-cons}
-use Rattle.std.proofs.lemmas.List.Elements.{All-nil, All-cons, All-weaker}
+use Rattle.std.proofs.lemmas.List.Elements.{All-nil, All-cons}
 use Rattle.std.proofs.lemmas.Option.{slice_get-map}
 use Rattle.bench_net.specs.declared.BenchFault.{BenchFault}
 use Rattle.bench_net.specs.declared.BenchFault.TheVariants as fault
@@ -14,7 +14,7 @@ use Rattle.bench_net.specs.Statement.{Name, Statement, Input, Output, Gate, Dff}
 use Rattle.bench_net.specs.Reading.{statements}
 use Rattle.bench_net.specs.Scan.{names}
 use Rattle.bench_net.specs.Circuit.{HaveArities, IsCircuit, IsStuck, sink_count}
-use Rattle.bench_net.specs.Entries.{numbered_from, stated_by}
+use Rattle.bench_net.specs.reader.Entries.{numbered_from, stated_by}
 use Rattle.bench_net.specs.Refusal.{at_line, IsCyclic, IsAccepted, IsRefused}
 use Rattle.bench_net.specs.Stored.{name_at, statement_of, statements_of, AreLinesOf, AreStatements, IsCyclicLine, AreRefused}
 use Rattle.lists.proofs.Places.{from_mapped}

@@ -1,5 +1,5 @@
 -- How many lines, sources and readers there are, and which signals they name.
-use Rattle.std.proofs.Common.{◌≡◌, ◌<◌, ◌≤◌, ◌+◌, ◌^◌, ℕ, sym, ◌∙◌, ap, subst, List, [], ◌∷◌, ◌++◌, map, length, arith, inl, inr, ◌⊎◌, length-append}
+use Rattle.std.proofs.Common.{◌≡◌, ◌<◌, ◌≤◌, ◌+◌, ◌^◌, ℕ, ◌∙◌, ap, List, [], ◌∷◌, ◌++◌, map, length, arith, inl, inr, length-append}
 use Rattle.std.specs.Prelude.{flat_map}
 use Rattle.std.specs.List.{enumerate_from, filter_map}
 use Rattle.std.proofs.lemmas.List.{length-map}
@@ -55,7 +55,7 @@ cell_line (line.Dff q d ∷ lines) cell (inr a) = inr (cell_line lines cell a)
 
 pub source_defined : (lines : List Line) (s : ℕ) → Among s (filter_map input_number lines ++ map (λ cell. cell.q) (filter_map cell_numbers lines)) → Among s (flat_map defined_numbers lines)
 source_defined lines s a = elim (among_append (filter_map input_number lines) (map (λ cell. cell.q) (filter_map cell_numbers lines)) s a) [
-  inl b ↦ input lines b
+  | inl b ↦ input lines b
   | inr b ↦ (let c = mapped_from (λ cell. cell.q) (filter_map cell_numbers lines) s b in
       among_joined defined_numbers lines (line.Dff c.0.q c.0.d) s (cell_line lines c.0 c.1) (inl c.2))
 ]
@@ -101,7 +101,7 @@ lines_read cell [] reader a = absurd a
 lines_read cell (line.Input s ∷ lines) reader a = lines_read cell lines reader a
 lines_read cell (line.Output s ∷ lines) reader a = inr (lines_read cell lines reader a)
 lines_read cell (line.Gate s g ∷ lines) reader a = elim (among_append (pin_readers s g.pins.items) (line_readers cell lines) reader a) [
-  inl b ↦ among_left g.pins.items (flat_map read_numbers lines) reader.signal (pin_reads s 0 g.pins.items reader b)
+  | inl b ↦ among_left g.pins.items (flat_map read_numbers lines) reader.signal (pin_reads s 0 g.pins.items reader b)
   | inr b ↦ among_right g.pins.items (flat_map read_numbers lines) reader.signal (lines_read cell lines reader b)
 ]
 lines_read cell (line.Dff q d ∷ lines) reader (inl e) = inl (ap (λ r. r.signal) e)
@@ -117,7 +117,7 @@ outputs_read (line.Dff q d ∷ lines) s a = inr (outputs_read lines s a)
 
 pub reader_reads : (lines : List Line) (reader : Reader) → Among reader (all_readers lines (filter_map output_number lines)) → Among reader.signal (flat_map read_numbers lines)
 reader_reads lines reader a = elim (among_append (line_readers 0 lines) (output_readers (filter_map output_number lines)) reader a) [
-  inl b ↦ lines_read 0 lines reader b
+  | inl b ↦ lines_read 0 lines reader b
   | inr b ↦ outputs_read lines reader.signal (output_reads 0 (filter_map output_number lines) reader b)
 ]
 

@@ -8,9 +8,9 @@ use Rattle.std.proofs.lemmas.List.{map_push, map-append, length-map}
 use Rattle.bench_net.specs.Text.{lines}
 use Rattle.bench_net.specs.Statement.{Statement}
 use Rattle.bench_net.specs.Reading.{statements}
-use Rattle.bench_net.specs.Plain.{stated_of}
-use Rattle.bench_net.specs.Entries.{Entry, entry_of, entries_of, stated_by, numbered_from, unread, HaveEntries}
-use Rattle.bench_net.specs.Parsed.{stands_for, IsReadAs}
+use Rattle.bench_net.specs.reader.Plain.{stated_of}
+use Rattle.bench_net.specs.reader.Entries.{Entry, entry_of, entries_of, stated_by, numbered_from, unread, HaveEntries}
+use Rattle.bench_net.specs.reader.Parsed.{stands_for, IsReadAs}
 use Rattle.bench_net.specs.declared.number.StatedLine.{StatedLine}
 use Rattle.bench_net.specs.declared.statement.Stated.{Stated}
 use Rattle.bench_net.specs.declared.fault.LineFault.{LineFault}

@@ -1,5 +1,5 @@
 -- What the scanner finds at the front of a line.
-use Rattle.std.proofs.Common.{◌≡◌, ◌<◌, ◌+◌, ℕ, sym, ◌∙◌, ap, subst, refl, Bool, true, false, List, [], ◌∷◌, take, drop, length, arith, length-drop, length-take, take-append-drop}
+use Rattle.std.proofs.Common.{◌≡◌, ◌<◌, ◌+◌, ℕ, sym, ◌∙◌, ap, refl, Bool, true, false, List, [], ◌∷◌, take, drop, length, arith, length-drop, length-take, take-append-drop}
 use Rattle.std.specs.Prelude.{None}
 use Rattle.std.specs.List.{prefix_len, list_all}
 use Rattle.std.proofs.Math.Numerals.{one-add}
@@ -8,7 +8,7 @@ use Rattle.std.proofs.lemmas.List.Sums.{prefix_len-le-length}
 use Rattle.bench_net.specs.Text.{Word, is_blank, is_word_byte}
 use Rattle.bench_net.specs.declared.scan.Front.{Front}
 use Rattle.bench_net.specs.declared.scan.Front.TheVariants as front
-use Rattle.bench_net.specs.Plain.{tokens_of, starts_word, Leads, IsFront, IsPlainStart}
+use Rattle.bench_net.specs.reader.Plain.{tokens_of, starts_word, Leads, IsFront, IsPlainStart}
 use Rattle.bench_net.proofs.Plain.{skip_blanks, word_front}
 
 -- all of the first bytes that pass do, and what is behind them begins with none

@@ -1,5 +1,5 @@
 -- Numbers and names: what stored lines say by numbers, and their statements by names.
-use Rattle.std.proofs.Common.{◌≡◌, ◌≢◌, ◌<◌, ◌==◌, ℕ, zero, suc, sym, ◌∙◌, ap, subst, refl, List, [], ◌∷◌, ◌++◌, map, length, filter, arith, inl, inr, ◌⊎◌}
+use Rattle.std.proofs.Common.{◌≡◌, ◌≢◌, ◌<◌, ◌==◌, ℕ, sym, ◌∙◌, ap, subst, refl, List, [], ◌∷◌, ◌++◌, map, length, filter, arith, inl, inr}
 use Rattle.std.specs.Prelude.{Some, None, slice_get, slice_index, Contains, AllPairs, flat_map, bytes_eq, option_map, is_some}
 use Rattle.std.specs.List.{filter_map}
 use Rattle.std.proofs.lemmas.Bool.{eq-eqb, ne_eqb, cases_eq, false_from_ne_true}
@@ -54,7 +54,7 @@ same_number ns lines s t named s_lt t_lt e =
 pub bytes_at : (ns : List Name) (lines : List Line) (s t : ℕ) → AreNamed ns lines → s < length ns
     → t < length ns → bytes_eq (name_at ns s) (name_at ns t) ≡ (t == s)
 bytes_at ns lines s t named s_lt t_lt = elim (cases_eq t s) [
-  inl e ↦ rw e (bytes_refl (name_at ns s) ∙ sym (eq-eqb s s refl))
+  | inl e ↦ rw e (bytes_refl (name_at ns s) ∙ sym (eq-eqb s s refl))
   | inr ne ↦ false_from_ne_true _ (λ h. ne (sym (same_number ns lines s t named s_lt t_lt
       (same_bytes (name_at ns s) (name_at ns t) h)))) ∙ sym (ne_eqb t s ne)
 ]

@@ -1,5 +1,5 @@
 -- Sinks by numbers are the sinks by names.
-use Rattle.std.proofs.Common.{◌≡◌, ◌<◌, ◌+◌, ◌==◌, ℕ, suc, sym, ◌∙◌, ap, refl, Bool, true, false, List, [], ◌∷◌, ◌++◌, map, length, filter, arith, inl, inr, length-append}
+use Rattle.std.proofs.Common.{◌≡◌, ◌<◌, ◌+◌, ◌==◌, ℕ, suc, sym, ◌∙◌, ap, refl, true, false, List, [], ◌∷◌, ◌++◌, map, length, filter, arith, inl, inr, length-append}
 use Rattle.std.specs.Prelude.{Some, slice_get, flat_map, bytes_eq}
 use Rattle.std.specs.List.{filter_map, enumerate_from, position_or_len}
 use Rattle.std.proofs.Math.Numerals.{one-add}
@@ -35,7 +35,8 @@ numbered ns lines kind s k (x ∷ xs) named lt below =
     let same = bytes_at ns lines s x named lt (below x (inl refl)) in
     let later = numbered ns lines kind s (k + 1) xs named lt (λ y a. below y (inr a)) in
     elim (cases_Bool (x == s)) [
-      inl on ↦ rw (same, on) (ap (λ rest. kind k ∷ rest) later) | inr off ↦ rw (same, off) later
+      | inl on ↦ rw (same, on) (ap (λ rest. kind k ∷ rest) later)
+      | inr off ↦ rw (same, off) later
     ]
 
 -- ---- the number of a cell
@@ -99,7 +100,7 @@ line_sinks ns lines s m before (line.Dff q d ∷ ls) named lt whole below counts
     let same = bytes_at ns lines s d named lt (read d (inl refl)) in
     let later = line_sinks ns lines s (m + 1) (before ++ q ∷ []) ls named lt (whole ∙ sym (append_assoc before (q ∷ []) (map (λ cell. cell.q) (filter_map cell_numbers ls)))) (push_below before q m below q_is) (counts_tail m q (flat_map defined_numbers ls) counts) (λ x a. defined x (inr a)) (λ x a. read x (inr a)) in
     elim (cases_Bool (d == s)) [
-      inl on ↦ rw (same, on) (ap (λ c. Data c ∷ sinks_at (line_readers (length before + 1) ls) s) (sym number) ∙ ap (λ ys. Data (cell (statements_of ns lines) (name_at ns q)) ∷ ys) (ap (λ n. sinks_at (line_readers n ls) s) (sym count) ∙ later))
+      | inl on ↦ rw (same, on) (ap (λ c. Data c ∷ sinks_at (line_readers (length before + 1) ls) s) (sym number) ∙ ap (λ ys. Data (cell (statements_of ns lines) (name_at ns q)) ∷ ys) (ap (λ n. sinks_at (line_readers n ls) s) (sym count) ∙ later))
       | inr off ↦ rw (same, off) (ap (λ n. sinks_at (line_readers n ls) s) (sym count) ∙ later)
     ]
   where

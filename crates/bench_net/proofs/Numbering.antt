@@ -1,5 +1,5 @@
 -- Names and their numbers: what is found, and how lines are numbered one after another.
-use Rattle.std.proofs.Common.{◌≡◌, ◌<◌, ◌+◌, ℕ, zero, suc, refl, sym, ◌∙◌, ap, subst, true, List, [], ◌∷◌, ◌++◌, length, take, drop, map, arith, get_or, add-one, inl, inr, ◌⊎◌, length-append, append-nil}
+use Rattle.std.proofs.Common.{◌≡◌, ◌<◌, ◌+◌, ℕ, zero, suc, refl, sym, ◌∙◌, ap, subst, true, List, [], ◌∷◌, ◌++◌, length, take, drop, map, arith, get_or, add-one, inl, inr, length-append, append-nil}
 use Rattle.std.specs.Prelude.{Contains, Option, Some, flat_map, Result, Ok, Err, IfErr}
 use Rattle.std.specs.List.{All, list_all, range_with_len}
 use Rattle.std.specs.Str.{IsUtf8}
@@ -16,10 +16,10 @@ use Rattle.bench_net.specs.declared.fault.LineFault.{LineFault}
 use Rattle.bench_net.specs.declared.fault.LineFault.TheVariants as stop
 use Rattle.bench_net.specs.declared.BenchFault.{BenchFault}
 use Rattle.bench_net.specs.Statement.{Name, Statement, read}
-use Rattle.bench_net.specs.Parsed.{stands_for, or_refusal}
-use Rattle.bench_net.specs.Entries.{entry_of, is_in, names_in, defined_of, EndsPass}
+use Rattle.bench_net.specs.reader.Parsed.{stands_for, or_refusal}
+use Rattle.bench_net.specs.reader.Entries.{entry_of, is_in, names_in, defined_of, EndsPass}
 use Rattle.bench_net.specs.Stored.{name_at, statement_of, statements_of, defined_numbers, read_numbers}
-use Rattle.bench_net.specs.Numbering.{IsNextFor, IsNumberedLine, AreNumberedLines}
+use Rattle.bench_net.specs.reader.Numbering.{IsNextFor, IsNumberedLine, AreNumberedLines}
 use Rattle.lists.proofs.Members.{among}
 use Rattle.bench_net.proofs.Checked.{among_in, defined_few}
 use Rattle.bench_net.proofs.Passes.{at_item, names_more}
@@ -46,7 +46,7 @@ next_for stated i line h e =
     ap names_in (at_item stated i line h e)
     ∙ flat_map-append defined_of (take i stated) (line ∷ drop (suc i) stated) in
     elim (defined_few (stands_for line.statement)) [
-      inl none ↦ rw none refl
+      | inl none ↦ rw none refl
       | inr one ↦ rw (whole, one.1) (ap (λ n. n ∷ []) (get_or-append_seam
           (names_in (take i stated)) one.0 (names_in (drop (suc i) stated)) []))
     ]
@@ -86,11 +86,11 @@ numbered_more ns stated lines i new l next h e so_far count one = record {
     own : range_with_len 0 (length (names_in (take i stated))) ++ map (λ n. next) (defined_of new)
         ≡ range_with_len 0 (length (names_in (take (i + 1) stated)))
     own = rw (names_more stated i new h e defined_of) (
-      elim (defined_few (stands_for new.statement)) [
-        inl none ↦ rw none (rw append-nil (rw append-nil refl))
-        | inr some ↦ rw (some.1, length-append, range_more, count, zero-add) refl
-      ]
-    )
+        elim (defined_few (stands_for new.statement)) [
+          | inl none ↦ rw none (rw append-nil (rw append-nil refl))
+          | inr some ↦ rw (some.1, length-append, range_more, count, zero-add) refl
+        ]
+        )
 
 -- the names that a stored line reads are those of its numbers
 reads_of : (ns : List Name) (l : Line)

@@ -1,5 +1,5 @@
 -- Steps of the passes over the lines: names counted, names defined, names read.
-use Rattle.std.proofs.Common.{◌≡◌, ◌<◌, ◌≤◌, ◌+◌, ℕ, suc, refl, sym, ◌∙◌, ap, Bool, true, false, List, [], ◌∷◌, ◌++◌, length, take, drop, arith, get_or, add-one, length-append, take-append-drop, append-nil}
+use Rattle.std.proofs.Common.{◌≡◌, ◌<◌, ◌≤◌, ◌+◌, ℕ, suc, refl, sym, ◌∙◌, ap, Bool, true, false, List, [], ◌∷◌, ◌++◌, length, take, drop, get_or, add-one, take-append-drop, append-nil}
 use Rattle.std.specs.Prelude.{Some, flat_map, bytes_eq, ◌||◌}
 use Rattle.std.specs.List.{list_any}
 use Rattle.std.specs.Borrow.{Bor}
@@ -11,8 +11,8 @@ use Rattle.std.proofs.lemmas.List.Folds.{length-flat_map-take}
 use Rattle.std.proofs.Math.Seq.{drop-cons}
 use Rattle.bench_net.specs.declared.number.StatedLine.{StatedLine}
 use Rattle.bench_net.specs.Statement.{Name, Statement, defined}
-use Rattle.bench_net.specs.Parsed.{names_of, stands_for}
-use Rattle.bench_net.specs.Entries.{entries_of, names_in, defined_of, is_in, redefines, first_line}
+use Rattle.bench_net.specs.reader.Parsed.{names_of, stands_for}
+use Rattle.bench_net.specs.reader.Entries.{entries_of, names_in, defined_of, is_in, redefines, first_line}
 
 -- no line before this place has the fault of a test
 abbrev pub NoneBefore : (List Name → Statement → Bool) → List StatedLine → ℕ → Type 0

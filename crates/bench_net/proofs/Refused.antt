@@ -1,5 +1,5 @@
 -- Stuck signals are stuck names, and the lowest stuck signal has the lowest line.
-use Rattle.std.proofs.Common.{◌≡◌, ◌<◌, ℕ, zero, suc, sym, ◌∙◌, ap, subst, refl, Bool, true, false, ◌&&◌, List, [], ◌∷◌, map, length, take, get_or, filter, arith, inl, inr, ◌⊎◌}
+use Rattle.std.proofs.Common.{◌≡◌, ◌<◌, ℕ, zero, suc, sym, ◌∙◌, ap, subst, refl, Bool, true, ◌&&◌, List, [], ◌∷◌, map, length, take, get_or, filter, arith, inl, inr}
 use Rattle.std.specs.Prelude.{Some, None, slice_get, slice_index, Contains, AllPairs, bytes_eq, nat_lt, is_some}
 use Rattle.std.specs.List.{list_any, range_with_len}
 use Rattle.std.proofs.lemmas.Bool.{cases_Bool, cases_order, lt-ltb, ltb-true, and_parts, and_from}
@@ -130,7 +130,8 @@ filter_place : (lines : List Line) (i : ℕ) (l : Line) → slice_get lines i �
 filter_place [] i l e d = let bad : None ≡ Some l = e in cc
 filter_place (x ∷ lines) zero l e d = let same : x ≡ l = cc in rw (ap defines_number same ∙ d) e
 filter_place (x ∷ lines) (suc i) l e d = elim (cases_Bool (defines_number x)) [
-  inl on ↦ rw on (filter_place lines i l e d) | inr off ↦ rw off (filter_place lines i l e d)
+  | inl on ↦ rw on (filter_place lines i l e d)
+  | inr off ↦ rw off (filter_place lines i l e d)
 ]
 
 filter_rise : (lines : List Line) (i j : ℕ) (l : Line) → slice_get lines i ≡ Some l
@@ -143,7 +144,8 @@ filter_rise (x ∷ lines) zero (suc j) l e d lt = let same : x ≡ l = cc in
 filter_rise (x ∷ lines) (suc i) (suc j) l e d lt =
     let later = filter_rise lines i j l e d (omega (arith, lt)) in
     elim (cases_Bool (defines_number x)) [
-      inl on ↦ rw on (omega (arith, later)) | inr off ↦ rw off (omega (arith, later))
+      | inl on ↦ rw on (omega (arith, later))
+      | inr off ↦ rw off (omega (arith, later))
     ]
 
 earlier_signal : (ns : List Name) (lines : List Line) (i j s t : ℕ) (l m : Line)
@@ -164,9 +166,9 @@ earlier_place at i j m n rising at_i at_j lt =
     let m_is = get_or_from_slice_get at i m 0 at_i in
     let n_is = get_or_from_slice_get at j n 0 at_j in
     elim (cases_order i j) [
-      inl e ↦ absurd (omega (arith, lt, m_is, n_is, ap (λ k. get_or at k 0) e))
+      | inl e ↦ absurd (omega (arith, lt, m_is, n_is, ap (λ k. get_or at k 0) e))
       | inr order ↦ elim order [
-        inl less ↦ less
+        | inl less ↦ less
         | inr more ↦ absurd (omega (arith, rising j i 0 more (slice_get_within at i m at_i)))
       ]
     ]

@@ -30,7 +30,7 @@ fewer : {X : Type 0} (p : X → Bool) (xs : List X) → list_all p xs ≡ false
     → length (filter p xs) < length xs
 fewer p [] e = let bad : true ≡ false = e in cc
 fewer p (x ∷ xs) e = elim (cases_Bool (p x)) [
-  inl on ↦ rw on (omega (arith, fewer p xs (rw on at e)))
+  | inl on ↦ rw on (omega (arith, fewer p xs (rw on at e)))
   | inr off ↦ rw off (omega (arith, length-filter p xs, count_by-le-length p xs))
 ]
 
@@ -50,7 +50,7 @@ left_fed : (c : List Statement) (k : ℕ) (ns : List Name) → length ns ≤ k
 left_fed c zero [] h = refl
 left_fed c zero (n ∷ ns) h = absurd (omega (arith, h))
 left_fed c (suc k) ns h = elim (cases_Bool (list_all (is_fed c ns) ns)) [
-  inl e ↦ subst (λ ms. list_all (is_fed c ms) ms ≡ true) (sym (resting c (suc k) ns e)) e
+  | inl e ↦ subst (λ ms. list_all (is_fed c ms) ms ≡ true) (sym (resting c (suc k) ns e)) e
   | inr e ↦ left_fed c k (filter (is_fed c ns) ns) (omega (arith, h, fewer (is_fed c ns) ns e))
 ]
 
@@ -96,9 +96,12 @@ rises c n a h zero ns none inside = absurd (rw none at inside)
 rises c n a h (suc k) ns none inside =
     rw (among_in ns n inside) (cond_both (is_in ns a) _ _
     (λ r. r < suc (rank c k (filter (is_fed c ns) ns) n))
-    (λ on. omega (arith, rises c n a h k (filter (is_fed c ns) ns) none
-    (among_filter (is_fed c ns) ns n inside
-    (argument_feeds c ns n a h (among ns a (in_contained ns a on)))))) (λ off. omega arith))
+    (λ on. omega (
+      arith,
+      rises c n a h k (filter (is_fed c ns) ns) none
+          (among_filter (is_fed c ns) ns n inside
+          (argument_feeds c ns n a h (among ns a (in_contained ns a on)))),
+    )) (λ off. omega arith))
 
 pub numbering : (c : List Statement)
     → ((members : Name → Bool) → IsStuckSet c members → (n : Name) → ¬ IsTrue (members n))

@@ -1,17 +1,18 @@
 //! The names of statements as numbers.
 
-ghost use Rattle.std.specs.Prelude.{◌≡◌, ◌<◌, ◌≤◌, ◌+◌, false, not, None, [], ◌∷◌, ◌++◌, length, map};
-ghost use Rattle.std.specs.Prelude.{IfOk, IfErr, option_map, if◌then◌else◌, string_bytes};
+ghost use Rattle.std.specs.Prelude.{◌≡◌, ◌<◌, ◌≤◌, ◌+◌, [], ◌∷◌, ◌++◌, length, map};
+ghost use Rattle.std.specs.Prelude.{false, not, None, IfOk, IfErr, option_map, if◌then◌else◌};
+ghost use Rattle.std.specs.Prelude.{string_bytes};
 ghost use Rattle.std.specs.List.{All, list_all};
 ghost use Rattle.std.specs.Str.{IsUtf8};
 ghost use Rattle.bench_net.specs.Circuit.{max_signals};
 ghost use Rattle.bench_net.specs.Stored.{name_at};
-ghost use Rattle.bench_net.specs.Numbering.{IsNextFor, IsNumberedLine, AreNumberedLines};
+ghost use Rattle.bench_net.specs.reader.Numbering.{IsNextFor, IsNumberedLine, AreNumberedLines};
 ghost use Rattle.std.specs.Option.{option_to_list};
 ghost use Rattle.bench_net.specs.Statement.{defined, read};
-ghost use Rattle.bench_net.specs.Parsed.{stands_for, names_of};
-ghost use Rattle.bench_net.specs.Entries.{names_in, is_in, redefines, reads_unknown, first_at};
-ghost use Rattle.bench_net.specs.Entries.{EndsPass};
+ghost use Rattle.bench_net.specs.reader.Parsed.{stands_for, names_of};
+ghost use Rattle.bench_net.specs.reader.Entries.{names_in, is_in, redefines, reads_unknown};
+ghost use Rattle.bench_net.specs.reader.Entries.{first_at, EndsPass};
 
 use crate::fault::LineFault;
 use crate::line::Line;

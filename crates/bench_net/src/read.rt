@@ -12,10 +12,10 @@ ghost use Rattle.std.specs.Str.Lines.{strip_carriage_return};
 ghost use Rattle.bench_net.specs.Text.{lines};
 ghost use Rattle.bench_net.specs.Circuit.{max_bytes, max_signals, max_sinks};
 ghost use Rattle.bench_net.specs.Refusal.{IsRefused};
-ghost use Rattle.bench_net.specs.Entries.{entries_of, names_in, reads_in, unread};
-ghost use Rattle.bench_net.specs.Entries.{EndsPass, HaveEntries};
-ghost use Rattle.bench_net.specs.Plain.{stated_of};
-ghost use Rattle.bench_net.specs.Parsed.{stands_for};
+ghost use Rattle.bench_net.specs.reader.Entries.{entries_of, names_in, reads_in, unread};
+ghost use Rattle.bench_net.specs.reader.Entries.{EndsPass, HaveEntries};
+ghost use Rattle.bench_net.specs.reader.Plain.{stated_of};
+ghost use Rattle.bench_net.specs.reader.Parsed.{stands_for};
 ghost use Rattle.bench_net.specs.Statement.{read};
 ghost use Rattle.bench_net.specs.Stored.{AreLinesOf};
 

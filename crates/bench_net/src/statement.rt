@@ -5,10 +5,10 @@ ghost use Rattle.std.specs.Prelude.{option_map, option_and_then, IfSome, IfNone,
 ghost use Rattle.std.specs.Str.{str_eq_ignore_ascii_case};
 ghost use Rattle.bench_net.specs.Text.{Token as TextToken, Word};
 ghost use Rattle.bench_net.specs.Statement.{Name};
-ghost use Rattle.bench_net.specs.Plain.{tokens_of, kind_of, has_arity, gate_with, cell_with};
-ghost use Rattle.bench_net.specs.Plain.{driven_by, read_tokens, stated_of, Leads};
-ghost use Rattle.bench_net.specs.Parsed.{names_of, stands_for, args_in, port_of, driven_tokens};
-ghost use Rattle.bench_net.specs.Parsed.{IsArgument, IsReadAs};
+ghost use Rattle.bench_net.specs.reader.Plain.{tokens_of, kind_of, has_arity, gate_with, cell_with};
+ghost use Rattle.bench_net.specs.reader.Plain.{driven_by, read_tokens, stated_of, Leads};
+ghost use Rattle.bench_net.specs.reader.Parsed.{names_of, stands_for, args_in, port_of};
+ghost use Rattle.bench_net.specs.reader.Parsed.{driven_tokens, IsArgument, IsReadAs};
 
 use crate::Kind;
 use crate::fault::LineFault;

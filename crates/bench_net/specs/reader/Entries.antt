@@ -6,8 +6,8 @@ use Rattle.bench_net.specs.declared.BenchFault.{BenchFault}
 use Rattle.bench_net.specs.declared.BenchFault.TheVariants.{Memory}
 use Rattle.bench_net.specs.declared.number.StatedLine.{StatedLine}
 use Rattle.bench_net.specs.Statement.{Name, Statement, defined, read}
-use Rattle.bench_net.specs.Plain.{stated_of}
-use Rattle.bench_net.specs.Parsed.{stands_for}
+use Rattle.bench_net.specs.reader.Plain.{stated_of}
+use Rattle.bench_net.specs.reader.Parsed.{stands_for}
 
 -- a statement beside the number of its line
 abbrev pub Entry : Type 0

@@ -11,7 +11,7 @@ use Rattle.bench_net.specs.declared.BenchFault.{BenchFault}
 use Rattle.bench_net.specs.declared.BenchFault.TheVariants.{Memory}
 use Rattle.bench_net.specs.Text.{Token, Word, Open}
 use Rattle.bench_net.specs.Statement.{Name, Statement, Input, Output, Gate, Dff}
-use Rattle.bench_net.specs.Plain.{tokens_of, args_of, port, driven_by}
+use Rattle.bench_net.specs.reader.Plain.{tokens_of, args_of, port, driven_by}
 
 -- the names that references point to
 abbrev pub names_of : List (Bor Name) → List Name
