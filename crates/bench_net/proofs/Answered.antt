@@ -1,10 +1,9 @@
 -- Each text is accepted or refused, in one way, and the plain reader answers which.
-use Rattle.std.proofs.Common.{◌≡◌, ◌<◌, ◌≤◌, ◌+◌, ℕ, zero, suc, refl, sym, ◌∙◌, ap, subst, Bool, true, false, not, List, [], ◌∷◌, ◌++◌, length, take, arith, inl, inr, ◌⊎◌, append-nil, ◌-◌}
+use Rattle.std.proofs.Common.{◌≡◌, ◌<◌, ◌≤◌, ◌+◌, ℕ, zero, suc, refl, sym, ◌∙◌, ap, subst, Bool, true, false, not, List, [], ◌∷◌, ◌++◌, length, take, arith, inl, inr, ◌⊎◌, append-nil}
 use Rattle.std.proofs.lemmas.List.{append_assoc}
-use Rattle.std.proofs.Math.Nat.{zero-add, suc-add}
-use Rattle.std.specs.Prelude.{◌≢◌, Contains, Option, Some, None, ◌↔◌, Result, Ok, Err, slice_get, map, filter_map, flat_map, option_map, IsTrue, if◌then◌else◌}
-use Rattle.std.specs.List.{AllZip}
-use Rattle.std.proofs.lemmas.Bool.{both_ways, cond_both, cond-true, cond-false, cases_order, ltb-true, ltb-false, lt-ltb, le-ltb, not-true, true_from_ne_false, false_from_ne_true}
+use Rattle.std.specs.Prelude.{◌≢◌, Contains, Option, Some, None, ◌↔◌, Result, Ok, Err, slice_get, map, filter_map, flat_map, option_map, IsTrue}
+use Rattle.std.specs.List.{list_all}
+use Rattle.std.proofs.lemmas.Bool.{both_ways, cond_both, cases_Bool, cond-true, cond-false, ltb-true, ltb-false, lt-ltb, le-ltb, not-true, true_from_ne_false, false_from_ne_true}
 use Rattle.std.proofs.lemmas.Option.{slice_get-map}
 use Rattle.bench_net.specs.declared.Limit.TheVariants.{Bytes, Signals, Sinks}
 use Rattle.bench_net.specs.declared.BenchFault.{BenchFault}
@@ -13,16 +12,17 @@ use Rattle.bench_net.specs.Text.{lines}
 use Rattle.bench_net.specs.Statement.{Name, Statement, Input, Output, Gate, Dff, defined, read}
 use Rattle.bench_net.specs.Reading.{States, LinesState, statements}
 use Rattle.bench_net.specs.Scan.{names}
-use Rattle.bench_net.specs.Circuit.{IsWellFormed, IsStuckSet, IsStuck, max_bytes, max_signals, max_sinks, sink_count}
+use Rattle.bench_net.specs.Circuit.{IsWellFormed, IsStuckSet, max_bytes, max_signals, max_sinks, sink_count}
 use Rattle.bench_net.specs.Refusal.{at_line, IsLowest, NoLine, IsWithin, IsSyntaxFault, IsRedefinition, IsUndefined, IsCyclic, IsAccepted, IsRefused}
-use Rattle.bench_net.specs.Entries.{numbered_from, unread, first_line, redefines, reads_unknown}
-use Rattle.bench_net.proofs.Reader.{stated_of, sound_states, complete_states}
+use Rattle.bench_net.specs.reader.Entries.{numbered_from, unread, first_line, redefines, reads_unknown}
+use Rattle.bench_net.specs.reader.Plain.{stated_of}
+use Rattle.bench_net.proofs.Reader.{sound_states, complete_states}
 use Rattle.lists.proofs.Members.{Among, among, contained, each_passes, some_passes, among_left, among_right, among_joined, joined_from}
-use Rattle.lists.proofs.Distinct.{Distinct, distinct_from_pairs, distinct_between}
+use Rattle.lists.proofs.Distinct.{Distinct, distinct_from_pairs, distinct_append}
 use Rattle.lists.proofs.Places.{from_mapped}
-use Rattle.bench_net.proofs.Answer.{is_in, settled, arguments_of, rounds_enough, is_unsettled, line_or, statements_or, answer_within, answer_entries, answer_stated, answer_read, answer_text}
-use Rattle.bench_net.proofs.Checked.{any_true, defined_few, in_contained, among_in, lines_state, pairs_distinct}
-use Rattle.bench_net.proofs.Settled.{some_not, settled_argument, settled_later, round_count, last_round, unsettled_stuck, none_stuck, numbering}
+use Rattle.bench_net.proofs.Answer.{is_in, stuck_names, is_stuck, line_or, statements_or, answer_stated, answer_read, answer_text}
+use Rattle.bench_net.proofs.Checked.{any_true, in_contained, among_in, lines_read, pairs_distinct}
+use Rattle.bench_net.proofs.Settled.{stuck_set, stuck_left, none_stuck, numbering}
 
 abbrev Stated : Type 0
 Stated = Option Statement
@@ -49,12 +49,10 @@ first_one : (F : ℕ → Type 0) (o p : Option ℕ) → IsFirst F o → IsFirst 
 first_one F None None a b = refl
 first_one F None (Some l) a b = absurd (a l b.0)
 first_one F (Some k) None a b = absurd (b k a.0)
-first_one F (Some k) (Some l) a b = go (cases_order k l)
-  where
-    go : (k ≡ l) ⊎ ((k < l) ⊎ (l < k)) → Some k ≡ Some l
-    go (inl e) = ap Some e
-    go (inr (inl h)) = absurd (b.1 k h a.0)
-    go (inr (inr h)) = absurd (a.1 l h b.0)
+first_one F (Some k) (Some l) a b =
+    let not_less : k < l → ⊥ = λ h. b.1 k h a.0 in
+    let not_more : l < k → ⊥ = λ h. a.1 l h b.0 in
+    ap Some (omega arith)
 
 pub first_same : (F G : ℕ → Type 0) (o : Option ℕ)
     → ((l : ℕ) → F l → G l) → ((l : ℕ) → G l → F l) → IsFirst F o → IsFirst G o
@@ -80,7 +78,7 @@ unread_first line (Some s ∷ found) =
     later l zero e at = let bad : Some (Some s) ≡ Some None = at in cc
     later l (suc i) e at = (i, omega (arith, e), at)
 
-syntax_first : (text : List ℕ)
+pub syntax_first : (text : List ℕ)
     → IsFirst (IsSyntaxFault text) (unread 1 (map stated_of (lines text)))
 syntax_first text = first_same _ _ _ to from (unread_first 1 (map stated_of (lines text)))
   where
@@ -142,6 +140,14 @@ fails_first test before line (Some x ∷ stated) =
         absurd (both_ways _ (rw same at h) here)
     later h l (suc i) s e at t = (i, s, omega (arith, e), at, rw append_assoc t)
 
+first_by : (test : List Name → Statement → Bool) (F : ℕ → Type 0) (stated : List Stated)
+    → ((i : ℕ) (s : Statement) → slice_get stated i ≡ Some (Some s)
+    → test (names_of (take i stated)) s ≡ true → F (suc i))
+    → ((l : ℕ) → F l → Fails test [] 1 stated l) → IsFirst F (first test stated)
+first_by test F stated to from =
+    first_same _ _ _ (λ l f. let is : suc f.0 ≡ l = omega (arith, f.2) in
+    subst F is (to f.0 f.1 f.3 f.4)) from (fails_first test [] 1 stated)
+
 -- what a line states is among the statements, and the other way round
 stated_among : (stated : List Stated) (i : ℕ) (s : Statement)
     → slice_get stated i ≡ Some (Some s) → Among s (statements stated)
@@ -172,20 +178,23 @@ in_front (x ∷ stated) (suc k) (suc i) s =
 
 pub redefined_first : (stated : List Stated)
     → IsFirst (IsRedefinition stated) (first redefines stated)
-redefined_first stated = first_same _ _ _ to from (fails_first redefines [] 1 stated)
+redefined_first stated = first_by redefines (IsRedefinition stated) stated to from
   where
-    to : (l : ℕ) → Fails redefines [] 1 stated l → IsRedefinition stated l
-    to l f =
-        let found = some_passes (is_known (take f.0 stated)) (defined f.1) f.4 in
+    to : (i : ℕ) (s : Statement) → slice_get stated i ≡ Some (Some s)
+        → redefines (names_of (take i stated)) s ≡ true → IsRedefinition stated (suc i)
+    to i s at t =
+        let found = some_passes (is_known (take i stated)) (defined s) t in
         let n : Name = found.0 in
-        let front = among (names_of (take f.0 stated)) n (in_contained _ n found.2) in
-        let before = joined_from defined (statements (take f.0 stated)) n front in
-        let place = stated_at (take f.0 stated) before.0 before.1 in
-        let j = (in_front stated f.0 place.0 (Some before.0)).0 place.1 in
-        let is : suc f.0 ≡ l = omega (arith, f.2) in
-        let t : Contains (defined before.0) n = contained _ n before.2 in
-        subst (IsRedefinition stated) is
-        (n, suc place.0, (f.1, f.3, found.1), omega (arith, j.0), (before.0, j.1, t))
+        let front = among (names_of (take i stated)) n (in_contained _ n found.2) in
+        let before = joined_from defined (statements (take i stated)) n front in
+        let place = stated_at (take i stated) before.0 before.1 in
+        let j = (in_front stated i place.0 (Some before.0)).0 place.1 in (
+          n,
+          suc place.0,
+          (s, at, found.1),
+          omega (arith, j.0),
+          (before.0, j.1, contained _ n before.2),
+        )
 
     from : (l : ℕ) → IsRedefinition stated l → Fails redefines [] 1 stated l
     from zero bad = let none : None ≡ Some (Some bad.2.0) = bad.2.1 in cc
@@ -203,19 +212,29 @@ redefined_first stated = first_same _ _ _ to from (fails_first redefines [] 1 st
             let on = any_true (is_known (take i stated)) (defined bad.2.0) n (among _ n bad.2.2) in
             (i, bad.2.0, omega arith, bad.2.1, on (among_in _ n before))
 
+some_not : {X : Type 0} (p : X → Bool) (xs : List X) → list_all p xs ≡ false
+    → (x : X) × Among x xs × (p x ≡ false)
+some_not p [] e = let bad : true ≡ false = e in cc
+some_not p (y ∷ xs) e = elim (cases_Bool (p y)) [
+  | inl on ↦ (let found = some_not p xs (rw on at e) in (found.0, inr found.1, found.2))
+  | inr off ↦ (y, inl refl, off)
+]
+
 pub undefined_first : (stated : List Stated)
     → IsFirst (IsUndefined stated) (first (reads_unknown (names_of stated)) stated)
-undefined_first stated =
-    first_same _ _ _ to from (fails_first (reads_unknown (names_of stated)) [] 1 stated)
+undefined_first stated = first_by (reads_unknown (names_of stated)) (IsUndefined stated) stated
+    to from
   where
-    to : (l : ℕ) → Fails (reads_unknown (names_of stated)) [] 1 stated l → IsUndefined stated l
-    to l f =
-        let found = some_not (is_known stated) (read f.1) (not-true _ f.4) in
-        let n : Name = found.0 in
-        let is : suc f.0 ≡ l = omega (arith, f.2) in
-        let none : ¬ Contains (names_of stated) n =
-        λ has. both_ways _ found.2 (among_in _ n (among _ n has)) in
-        subst (IsUndefined stated) is (n, (f.1, f.3, contained (read f.1) n found.1), none)
+    to : (i : ℕ) (s : Statement) → slice_get stated i ≡ Some (Some s)
+        → reads_unknown (names_of stated) [] s ≡ true → IsUndefined stated (suc i)
+    to i s at t =
+        let found = some_not (is_known stated) (read s) (not-true _ t) in
+        let n : Name = found.0 in (
+          n,
+          (s, at, contained (read s) n found.1),
+          λ has. both_ways _ found.2
+              (among_in _ n (among _ n has)),
+        )
 
     from : (l : ℕ) → IsUndefined stated l → Fails (reads_unknown (names_of stated)) [] 1 stated l
     from zero bad = let none : None ≡ Some (Some bad.1.0) = bad.1.1 in cc
@@ -226,57 +245,25 @@ undefined_first stated =
 
 -- ---- a gate on a cycle or fed by one
 
-settled_free : (c : List Statement) (k : ℕ) (n : Name) → settled c k n ≡ true → IsStuck c n → ⊥
-settled_free c zero n e stuck = let bad : false ≡ true = e in cc
-settled_free c (suc k) n e stuck =
-    let next = stuck.1 n stuck.2 in
-    let e = settled_argument c k n next.0 next.1 e in
-    settled_free c k next.0 e (stuck.0, stuck.1, next.2)
-
-settled_by : (c : List Statement) (n : Name) (k d : ℕ)
-    → settled c k n ≡ true → settled c (d + k) n ≡ true
-settled_by c n k zero e = rw zero-add e
-settled_by c n k (suc d) e = rw suc-add (settled_later c (d + k) n (settled_by c n k d e))
-
-unsettled : (c : List Statement) (n : Name) → settled c (rounds_enough c) n ≡ false → IsStuck c n
-unsettled c n off = (
-  λ m. not (settled c (suc last.0) m),
-  unsettled_stuck c last.0 last.2,
-  ap not (false_from_ne_true _ on),
-)
-  where
-    last : (k : ℕ) × (k < 0 + (length (flat_map arguments_of c) + 1))
-        × (round_count c k ≡ round_count c (suc k))
-    last = last_round c (length (flat_map arguments_of c) + 1) 0 (omega arith)
-
-    on : settled c (suc last.0) n ≡ true → ⊥
-    on e =
-        let gap : (rounds_enough c - suc last.0) + suc last.0 ≡ rounds_enough c =
-        omega (arith, last.1) in
-        both_ways _ off (rw gap at (settled_by c n (suc last.0) (rounds_enough c - suc last.0) e))
-
 cyclic_first : (stated : List Stated)
-    → IsFirst (IsCyclic stated) (first (is_unsettled (statements stated)) stated)
+    → IsFirst (IsCyclic stated) (first (is_stuck (statements stated)) stated)
 cyclic_first stated =
-    first_same _ _ _ (λ l f. to l f.0 f.1 f.2 f.3 f.4) from
-    (fails_first (is_unsettled (statements stated)) [] 1 stated)
+    first_by (is_stuck (statements stated)) (IsCyclic stated) stated to (λ l bad. from l bad bad.3)
   where
-    to : (l i : ℕ) (s : Statement) → l ≡ 1 + i → slice_get stated i ≡ Some (Some s)
-        → is_unsettled (statements stated) (names_of (take i stated)) s ≡ true → IsCyclic stated l
-    to l i (Input n) e at t = let bad : false ≡ true = t in cc
-    to l i (Output n) e at t = let bad : false ≡ true = t in cc
-    to l i (Dff q d) e at t = let bad : false ≡ true = t in cc
-    to l i (Gate n kind args) e at t =
-        let is : suc i ≡ l = omega (arith, e) in
-        let stuck = unsettled (statements stated) n (not-true _ t) in
-        subst (IsCyclic stated) is (n, kind, args, at, stuck)
+    to : (i : ℕ) (s : Statement) → slice_get stated i ≡ Some (Some s)
+        → is_stuck (statements stated) (names_of (take i stated)) s ≡ true → IsCyclic stated (suc i)
+    to i (Input n) at t = let bad : false ≡ true = t in cc
+    to i (Output n) at t = let bad : false ≡ true = t in cc
+    to i (Dff q d) at t = let bad : false ≡ true = t in cc
+    to i (Gate n kind args) at t =
+        let c = statements stated in (n, kind, args, at, (is_in (stuck_names c), stuck_set c, t))
 
-    from : (l : ℕ) → IsCyclic stated l → Fails (is_unsettled (statements stated)) [] 1 stated l
-    from zero bad = let none : None ≡ Some (Some (Gate bad.0 bad.1 bad.2)) = bad.3 in cc
-    from (suc i) bad =
-        let c = statements stated in
-        let off = false_from_ne_true _ (λ on. settled_free c (rounds_enough c) bad.0 on bad.4) in
-        (i, Gate bad.0 bad.1 bad.2, omega arith, bad.3, ap not off)
+    from : (l : ℕ) (bad : IsCyclic stated l)
+        → at_line stated l ≡ Some (Some (Gate bad.0 bad.1 bad.2))
+        → Fails (is_stuck (statements stated)) [] 1 stated l
+    from zero bad at = let none : None ≡ Some (Some (Gate bad.0 bad.1 bad.2)) = at in cc
+    from (suc i) bad at =
+        (i, Gate bad.0 bad.1 bad.2, omega arith, at, stuck_left (statements stated) bad.0 bad.4)
 
 -- ---- no line has a fault exactly where the statements are well-formed
 
@@ -286,24 +273,17 @@ pub distinct_first : (before : List Name) (line : ℕ) (stated : List Stated) �
 distinct_first before line [] d e = rw append-nil d
 distinct_first before line (None ∷ stated) d e = distinct_first before (suc line) stated d e
 distinct_first before line (Some s ∷ stated) d e =
-    go (redefines before s) _ refl e (distinct_first (before ++ defined s) (suc line) stated)
+    cond_both (redefines before s) _ _
+    (λ o. o ≡ None → Distinct (before ++ (defined s ++ names_of stated))) (λ on e. cc)
+    (λ off e. rw append_assoc at (distinct_first (before ++ defined s) (suc line) stated
+    (distinct_append before (defined s) d (one s) (λ n a b. both_ways _ off
+    (any_true (is_in before) _ n b (among_in before n a)))) e)) e
   where
-    more : redefines before s ≡ false → (defined s ≡ []) ⊎ ((n : Name) × (defined s ≡ n ∷ []))
-        → Distinct (before ++ defined s)
-    more h (inl none) = rw (none, append-nil) d
-    more h (inr one) =
-        let n : Name = one.0 in
-        let here : Among n (defined s) = rw one.1 (inl refl) in
-        let new : Among n (before ++ []) → ⊥ = λ a. both_ways _ h
-        (any_true (is_in before) _ n here (among_in before n (rw append-nil at a))) in
-        rw one.1 (distinct_between before [] n (rw append-nil d) new)
-
-    go : (b : Bool) (rest : Option ℕ) → redefines before s ≡ b
-        → (if b then Some line else rest) ≡ None → (Distinct (before ++ defined s) → rest ≡ None
-        → Distinct ((before ++ defined s) ++ names_of stated))
-        → Distinct (before ++ (defined s ++ names_of stated))
-    go true rest h e later = let bad : Some line ≡ None = e in cc
-    go false rest h e later = rw append_assoc at (later (more h (defined_few s)) e)
+    one : (s : Statement) → Distinct (defined s)
+    one (Input n) = (λ a. a, tt)
+    one (Output n) = tt
+    one (Gate n kind args) = (λ a. a, tt)
+    one (Dff q d) = (λ a. a, tt)
 
 distinct_apart : (xs ys : List Name) (n : Name)
     → Distinct (xs ++ ys) → Among n xs → Among n ys → ⊥
@@ -434,7 +414,7 @@ answered text =
     go : length text ≤ max_bytes → (o : Option ℕ) → unread 1 (map stated_of (lines text)) ≡ o
         → IsAnswer text
         (line_or Syntax o (answer_stated (filter_map (λ s. s) (map stated_of (lines text)))))
-    go bytes None e = by_limits text _ bytes (lines_state text _ (all_read 1 _ e))
+    go bytes None e = by_limits text _ bytes ((lines_read (lines text) _).1 (all_read 1 _ e))
     go bytes (Some l) e = (bytes, subst (IsFirst (IsSyntaxFault text)) e (syntax_first text))
 
 pub accepted_by : (text : List ℕ) (c : List Statement) → answer_text text ≡ Ok c → IsAccepted text c
@@ -455,45 +435,28 @@ some_answer text = go (answer_text text) (answered text)
 
 -- ---- and the relations' answer is that of the plain reader, so there is one
 
-found_by : (ls : List (List ℕ)) (stated : List Stated) → AllZip States ls stated
-    → map stated_of ls ≡ map Some stated
-found_by [] [] all = refl
-found_by [] (s ∷ stated) all = absurd all
-found_by (l ∷ ls) [] all = absurd all
-found_by (l ∷ ls) (s ∷ stated) all =
-    let here = complete_states l s all.0 in
-    let more = found_by ls stated all.1 in
-    cc
-
-pub read_answer : (text : List ℕ) → length text ≤ max_bytes
+read_answer : (text : List ℕ) → length text ≤ max_bytes
     → answer_text text ≡ answer_read (map stated_of (lines text))
 read_answer text bytes = cond-false _ _ _ (le-ltb _ _ bytes)
 
-pub stated_answer : (text : List ℕ) (stated : List Stated) → length text ≤ max_bytes
+stated_answer : (text : List ℕ) (stated : List Stated) → length text ≤ max_bytes
     → map stated_of (lines text) ≡ map Some stated → answer_text text ≡ answer_stated stated
 stated_answer text stated bytes each =
     let both = read_all 1 stated in
     read_answer text bytes ∙ ap answer_read each ∙ rw (both.0, both.1) refl
 
-pub within_answer : (c : List Statement) (stated : List Stated) → length (names c) ≤ max_signals
-    → sink_count c ≤ max_sinks
-    → answer_entries c (numbered_from 1 stated) ≡ answer_within c (numbered_from 1 stated)
-within_answer c stated signals sinks =
-    rw (le-ltb _ (length (names c)) signals, le-ltb _ (sink_count c) sinks) refl
-
 answer_is : (text : List ℕ) (stated : List Stated) → IsWithin text stated → (r u y : Option ℕ)
     → IsFirst (IsRedefinition stated) r → IsFirst (IsUndefined stated) u
     → IsFirst (IsCyclic stated) y → answer_text text ≡ answer_by r u y (statements stated)
 answer_is text stated within r u y once known free =
-    stated_answer text stated within.bytes (found_by (lines text) stated within.each)
-    ∙ within_answer (statements stated) stated within.signals within.sinks
-    ∙ ap (λ o. answer_by o (first (reads_unknown (names_of stated)) stated)
-    (first (is_unsettled (statements stated)) stated) (statements stated))
-    (first_one (IsRedefinition stated) _ r (redefined_first stated) once)
-    ∙ ap (λ o. answer_by r o (first (is_unsettled (statements stated)) stated) (statements stated))
-    (first_one (IsUndefined stated) _ u (undefined_first stated) known)
-    ∙ ap (λ o. answer_by r u o (statements stated))
-    (first_one (IsCyclic stated) _ y (cyclic_first stated) free)
+    stated_answer text stated within.bytes ((lines_read (lines text) stated).0 within.each)
+    ∙ rw (
+      le-ltb _ (length (names_of stated)) within.signals,
+      le-ltb _ (sink_count (statements stated)) within.sinks,
+      first_one (IsRedefinition stated) _ r (redefined_first stated) once,
+      first_one (IsUndefined stated) _ u (undefined_first stated) known,
+      first_one (IsCyclic stated) _ y (cyclic_first stated) free,
+    ) refl
 
 exact : (text : List ℕ) (r : Result (List Statement) BenchFault) → IsAnswer text r
     → answer_text text ≡ r
@@ -502,9 +465,9 @@ exact text (Err (Syntax l)) h =
     read_answer text h.0
     ∙ rw (first_one (IsSyntaxFault text) (unread 1 _) (Some l) (syntax_first text) h.1) refl
 exact text (Err (TooLarge Signals)) h =
-    stated_answer text h.1 h.0 (found_by _ _ h.2) ∙ rw (lt-ltb _ (length (names_of h.1)) h.3) refl
+    stated_answer text h.1 h.0 ((lines_read (lines text) h.1).0 h.2) ∙ rw (lt-ltb _ (length (names_of h.1)) h.3) refl
 exact text (Err (TooLarge Sinks)) h =
-    stated_answer text h.1 h.0 (found_by _ _ h.2)
+    stated_answer text h.1 h.0 ((lines_read (lines text) h.1).0 h.2)
     ∙ rw (le-ltb _ (length (names_of h.1)) h.3, lt-ltb _ (sink_count (statements h.1)) h.4) refl
 exact text (Err (Redefined l)) h =
     answer_is text h.0 h.1 (Some l) _ _ h.2 (undefined_first h.0) (cyclic_first h.0)

@@ -1,9 +1,10 @@
 -- What the passes over the lines say of the text.
-use Rattle.std.proofs.Common.{◌≡◌, ◌<◌, ◌≤◌, ℕ, refl, sym, ◌∙◌, ap, subst, List, [], ◌∷◌, ◌++◌, length, map, arith, inl, inr, ◌⊎◌}
+use Rattle.std.proofs.Common.{◌≡◌, ◌<◌, ◌≤◌, ℕ, refl, sym, ◌∙◌, ap, subst, List, [], ◌∷◌, length, map, arith, inl, inr, ◌⊎◌}
 use Rattle.std.specs.Prelude.{Option, Some, None, slice_get, slice_index_or, flat_map}
 use Rattle.std.specs.List.{All, range_with_len}
 use Rattle.std.specs.Str.{IsUtf8}
 use Rattle.std.proofs.lemmas.List.Elements.{All-contains, Contains-get_or}
+use Rattle.std.proofs.lemmas.List.Folds.{flat_map-map}
 use Rattle.std.proofs.lemmas.List.FromFn.{length-range_with_len, get_or-range_with_len}
 use Rattle.std.proofs.lemmas.Option.{get_or_from_slice_get, slice_get_within}
 use Rattle.bench_net.specs.declared.line.Line.{Line}
@@ -15,16 +16,15 @@ use Rattle.bench_net.specs.Text.{lines}
 use Rattle.bench_net.specs.Statement.{Name, Statement, defined, read}
 use Rattle.bench_net.specs.Reading.{LinesState, statements}
 use Rattle.bench_net.specs.Scan.{names}
-use Rattle.bench_net.specs.Refusal.{IsUndefined, IsWithin, IsRefused}
+use Rattle.bench_net.specs.Refusal.{IsSyntaxFault, IsRedefinition, IsUndefined, IsWithin, IsRefused}
 use Rattle.bench_net.specs.Stored.{read_numbers, AreLinesOf}
-use Rattle.bench_net.specs.Parsed.{stands_for}
-use Rattle.bench_net.specs.Plain.{stated_of}
-use Rattle.bench_net.specs.Entries.{entries_of, stated_by, numbered_from, unread, first_line, redefines, reads_unknown, names_in, reads_in, HaveEntries, EndsPass}
-use Rattle.bench_net.specs.Numbering.{statements_in, AreNumberedLines}
+use Rattle.bench_net.specs.reader.Parsed.{stands_for}
+use Rattle.bench_net.specs.reader.Plain.{stated_of}
+use Rattle.bench_net.specs.reader.Entries.{entry_of, entries_of, stated_by, numbered_from, unread, first_line, redefines, reads_unknown, names_in, reads_in, HaveEntries, EndsPass}
+use Rattle.bench_net.specs.reader.Numbering.{AreNumberedLines}
 use Rattle.lists.proofs.Members.{Among, among}
-use Rattle.bench_net.proofs.Answer.{answer_text, answer_within}
-use Rattle.bench_net.proofs.Answered.{IsFirst, distinct_first, no_redefinition, undefined_first, stated_answer, within_answer, read_answer, refused_by}
-use Rattle.bench_net.proofs.Checked.{lines_state, pairs_distinct}
+use Rattle.bench_net.proofs.Answered.{IsFirst, distinct_first, no_redefinition, syntax_first, redefined_first, undefined_first}
+use Rattle.bench_net.proofs.Checked.{lines_read, pairs_distinct}
 use Rattle.bench_net.proofs.Entries.{statements_numbered}
 use Rattle.bench_net.proofs.Words.{names_utf8}
 
@@ -40,14 +40,13 @@ pub syntax : (text : List ℕ) → length text ≤ 16777216 → (fault : BenchFa
     → (fault ≡ Memory) ⊎ IsRefused text fault
 syntax text bytes fault =
     pass_refused text Syntax (unread 1 (map stated_of (lines text))) fault
-    (λ line e. refused_by text (Syntax line) (read_answer text bytes ∙ rw e refl))
+    (λ line e. (bytes, subst (IsFirst (IsSyntaxFault text)) e (syntax_first text)))
 
 -- the names that statements give
 names_by : (f : Statement → List Name) (stated : List StatedLine)
-    → flat_map (λ line. f (stands_for line.statement)) stated ≡ flat_map f
-    (stated_by (entries_of stated))
-names_by f [] = refl
-names_by f (l ∷ stated) = ap (λ ns. f (stands_for l.statement) ++ ns) (names_by f stated)
+    → flat_map (λ line. f (stands_for line.statement)) stated
+    ≡ flat_map f (stated_by (entries_of stated))
+names_by f stated = sym (flat_map-map f _ (entries_of stated) ∙ flat_map-map _ entry_of stated)
 
 module _ (text : List ℕ) (stated : List StatedLine)
     (h : HaveEntries (lines text) (entries_of stated)) (bytes : length text ≤ 16777216) where
@@ -59,7 +58,7 @@ module _ (text : List ℕ) (stated : List StatedLine)
   same f = names_by f stated ∙ ap (flat_map f) same_statements
 
   each : LinesState text h.stated
-  each = lines_state text h.stated h.each
+  each = (lines_read (lines text) h.stated).1 h.each
 
   -- the limits on signals and sinks
   pub too_many_signals : ¬ (length (names_in stated) ≤ 1000000) → IsRefused text (TooLarge Signals)
@@ -71,12 +70,7 @@ module _ (text : List ℕ) (stated : List StatedLine)
     bytes,
     h.stated,
     each,
-    omega (
-      arith,
-      signals,
-      ap length (same
-          defined),
-    ),
+    omega (arith, signals, ap length (same defined)),
     omega (arith, more, ap length (same read)),
   )
 
@@ -90,38 +84,47 @@ module _ (text : List ℕ) (stated : List StatedLine)
   module _ (signals : length (names_in stated) ≤ 1000000)
       (sinks : length (reads_in stated) ≤ 4000000) where
     within : IsWithin text h.stated
-    within =
-        record {
-          bytes = bytes;
-          each = each;
-          signals =
-              omega (arith, signals, ap length (same defined));
-          sinks =
-              omega (arith, sinks, ap length (same read));
-        }
-
-    answer : answer_text text ≡ answer_within (statements h.stated) (entries_of stated)
-    answer =
-        stated_answer text h.stated bytes h.each
-        ∙ within_answer (statements h.stated) h.stated within.signals within.sinks
-        ∙ ap (answer_within (statements h.stated)) (sym h.same)
+    within = record {
+      bytes = bytes;
+      each = each;
+      signals = omega (arith, signals, ap length (same defined));
+      sinks = omega (arith, sinks, ap length (same read));
+    }
 
     pub redefined : (fault : BenchFault)
         → EndsPass Redefined (first_line redefines [] (entries_of stated)) fault
         → (fault ≡ Memory) ⊎ IsRefused text fault
     redefined fault =
         pass_refused text Redefined (first_line redefines [] (entries_of stated)) fault
-        (λ line e. refused_by text (Redefined line) (answer ∙ rw e refl))
+        (λ line e. (
+          h.stated,
+          within,
+          subst (IsFirst (IsRedefinition h.stated)) (rw h.same at e)
+              (redefined_first h.stated),
+        ))
 
     module _ (once : first_line redefines [] (entries_of stated) ≡ None) (ns : List Name)
         (all : ns ≡ names_in stated) where
+      none : first_line redefines [] (numbered_from 1 h.stated) ≡ None
+      none = rw h.same at once
+
+      unknown : {found : Option ℕ}
+          → first_line (reads_unknown ns) [] (entries_of stated) ≡ found
+          → first_line (reads_unknown (names (statements h.stated))) []
+          (numbered_from 1 h.stated) ≡ found
+      unknown e = rw (← h.same, ← same defined, ← all) e
+
       pub undefined : (fault : BenchFault)
           → EndsPass Undefined (first_line (reads_unknown ns) [] (entries_of stated)) fault
           → (fault ≡ Memory) ⊎ IsRefused text fault
       undefined fault =
           pass_refused text Undefined (first_line (reads_unknown ns) [] (entries_of stated)) fault
-          (λ line e. refused_by text (Undefined line)
-          (answer ∙ rw (once, ← same defined, ← all, e) refl))
+          (λ line e. (
+            h.stated,
+            within,
+            no_redefinition h.stated none,
+            subst (IsFirst (IsUndefined h.stated)) (unknown e) (undefined_first h.stated),
+          ))
 
       -- the numbered lines are those of the text
       pub assembled : first_line (reads_unknown ns) [] (entries_of stated) ≡ None
@@ -133,7 +136,7 @@ module _ (text : List ℕ) (stated : List StatedLine)
         within = within;
         no_redefinition = no_redefinition h.stated none;
         no_undefined =
-            subst (IsFirst (IsUndefined h.stated)) none_unknown (undefined_first h.stated);
+            subst (IsFirst (IsUndefined h.stated)) (unknown known) (undefined_first h.stated);
         numbered = record {
           in_order = λ i s e. let e = subst (λ xs. slice_get xs i ≡ Some s) numbered.own e in
               in_order (length (names_in stated)) i s e;
@@ -144,21 +147,14 @@ module _ (text : List ℕ) (stated : List StatedLine)
               λ s inside. All-contains (λ number. number < length ns)
               (flat_map read_numbers ls) s numbered.in_range inside;
           names_are =
-              ap (flat_map defined) (numbered.stand ∙ by_entries stated)
+              ap (flat_map defined) numbered.stand
               ∙ sym (names_by defined stated) ∙ sym all;
         };
         once = rw (all, same defined) (pairs_distinct _ (distinct_first [] 1 h.stated tt none));
-        lines_are = numbered.stand ∙ by_entries stated ∙ ap stated_by h.same;
+        lines_are = numbered.stand ∙ ap stated_by h.same;
         at_are = numbers ∙ numbers_by stated ∙ ap (map (λ entry. entry.0)) h.same;
       }
         where
-          none : first_line redefines [] (numbered_from 1 h.stated) ≡ None
-          none = rw h.same at once
-
-          none_unknown : first_line (reads_unknown (names (statements h.stated))) []
-              (numbered_from 1 h.stated) ≡ None
-          none_unknown = rw (← h.same, ← same defined, ← all) known
-
           in_order : (n i s : ℕ) → slice_get (range_with_len 0 n) i ≡ Some s → s ≡ i
           in_order n i s e =
               let below = slice_get_within (range_with_len 0 n) i s e in
@@ -170,10 +166,6 @@ module _ (text : List ℕ) (stated : List StatedLine)
                     0 n) i s 0 e,
                 get_or-range_with_len 0 n i 0,
               )
-
-          by_entries : (ls : List StatedLine) → statements_in ls ≡ stated_by (entries_of ls)
-          by_entries [] = refl
-          by_entries (l ∷ ls) = ap (λ c. stands_for l.statement ∷ c) (by_entries ls)
 
           numbers_by : (ls : List StatedLine)
               → map (λ line. line.number) ls ≡ map (λ entry. entry.0) (entries_of ls)

@@ -4,7 +4,7 @@ use Rattle.std.specs.Prelude.{Option, Some, None, slice_get, AllPairs, option_ma
 use Rattle.std.specs.List.{All}
 use Rattle.std.proofs.lemmas.List.{length-map}
 use Rattle.std.proofs.lemmas.List.Kept.{AllPairs-cons}
-use Rattle.std.proofs.lemmas.List.Elements.{All-nil, All-cons, All-weaker}
+use Rattle.std.proofs.lemmas.List.Elements.{All-nil, All-cons}
 use Rattle.std.proofs.lemmas.Option.{slice_get-map}
 use Rattle.bench_net.specs.declared.BenchFault.{BenchFault}
 use Rattle.bench_net.specs.declared.BenchFault.TheVariants as fault
@@ -14,7 +14,7 @@ use Rattle.bench_net.specs.Statement.{Name, Statement, Input, Output, Gate, Dff}
 use Rattle.bench_net.specs.Reading.{statements}
 use Rattle.bench_net.specs.Scan.{names}
 use Rattle.bench_net.specs.Circuit.{HaveArities, IsCircuit, IsStuck, sink_count}
-use Rattle.bench_net.specs.Entries.{numbered_from, stated_by}
+use Rattle.bench_net.specs.reader.Entries.{numbered_from, stated_by}
 use Rattle.bench_net.specs.Refusal.{at_line, IsCyclic, IsAccepted, IsRefused}
 use Rattle.bench_net.specs.Stored.{name_at, statement_of, statements_of, AreLinesOf, AreStatements, IsCyclicLine, AreRefused}
 use Rattle.lists.proofs.Places.{from_mapped}
@@ -26,25 +26,19 @@ use Rattle.bench_net.proofs.Entries.{statements_numbered}
 abbrev numbers : ℕ → List (Option Statement) → List ℕ
 numbers line stated = map (λ entry. entry.0) (numbered_from line stated)
 
-all_above : (line : ℕ) (stated : List (Option Statement))
-    → All (λ n. line ≤ n) (numbers line stated)
-all_above line [] = All-nil (λ n. line ≤ n)
-all_above line (None ∷ stated) =
-    All-weaker (λ n. suc line ≤ n) (λ n. line ≤ n) (λ n h. omega (arith, h)) _
-    (all_above (suc line) stated)
-all_above line (Some s ∷ stated) =
-    All-cons (λ n. line ≤ n) line _ (omega arith)
-    (All-weaker (λ n. suc line ≤ n) (λ n. line ≤ n) above _ (all_above (suc line) stated))
-  where
-    above : (n : ℕ) → suc line ≤ n → line ≤ n
-    above n h = omega (arith, h)
+all_above : (bound line : ℕ) (stated : List (Option Statement)) → bound ≤ line
+    → All (λ n. bound ≤ n) (numbers line stated)
+all_above bound line [] h = All-nil (λ n. bound ≤ n)
+all_above bound line (None ∷ stated) h = all_above bound (suc line) stated (omega (arith, h))
+all_above bound line (Some s ∷ stated) h =
+    All-cons (λ n. bound ≤ n) line _ h (all_above bound (suc line) stated (omega (arith, h)))
 
 numbers_rise : (line : ℕ) (stated : List (Option Statement))
     → AllPairs (λ m n. m < n) (numbers line stated)
 numbers_rise line [] = λ i j d lt below. absurd (omega (arith, below))
 numbers_rise line (None ∷ stated) = numbers_rise (suc line) stated
 numbers_rise line (Some s ∷ stated) =
-    AllPairs-cons (λ m n. m < n) line _ (all_above (suc line) stated)
+    AllPairs-cons (λ m n. m < n) line _ (all_above (suc line) (suc line) stated (omega arith))
     (numbers_rise (suc line) stated)
 
 -- what an entry stands for, its line states, and the other way round
@@ -91,9 +85,8 @@ module _ (text : List ℕ) (ns : List Name) (lines : List Line) (at : List ℕ)
     arities = subst HaveArities (sym same) (arities_of_text text of.stated of.within.each);
     signals = omega (arith, ap length names_same, of.within.signals);
     sinks = omega (arith, ap sink_count same, of.within.sinks);
-    line_count = ap length of.at_are ∙ length-map (numbered_from 1 of.stated) (λ e. e.0)
-        ∙ sym (length-map (numbered_from 1 of.stated) (λ e. e.1)) ∙ sym (ap length of.lines_are)
-        ∙ length-map lines (statement_of ns);
+    line_count = simp length-map at (ap length of.at_are)
+        ∙ sym (simp length-map at (ap length of.lines_are));
     rising = subst (AllPairs (λ m n. m < n)) (sym of.at_are) (numbers_rise 1 of.stated);
   }
 

@@ -15,10 +15,11 @@ use Rattle.bench_net.specs.Scan.{names, signal, name_of, definition, gate_line, 
 use Rattle.bench_net.specs.Stored.{name_at, statement_of, statements_of, defined_numbers, read_numbers, AreNumbered}
 use Rattle.bench_net.specs.Tables.{input_number, output_number, cell_numbers, defines_number}
 use Rattle.bench_net.specs.Inside.{IsInside}
-use Rattle.lists.proofs.Members.{Among, contained, among_left, among_right}
-use Rattle.bench_net.proofs.Counted.{few_sources, source_defined, outputs_read, pins_read}
+use Rattle.lists.proofs.Members.{Among, contained, among_left, among_joined}
+use Rattle.bench_net.proofs.Counted.{few_sources, cell_line, source_defined, outputs_read, pins_read}
 use Rattle.bench_net.proofs.Named.{AreNamed, name_of_at, signal_at, same_number, map_signal, inputs_are, outputs_are, cells_are, cell_names, sources_are, source_numbers, definers_are, line_at, definition_count}
 use Rattle.lists.proofs.Places.{placed, at_place}
+use Rattle.bench_net.proofs.Plain.{mapped}
 
 pub named : (ns : List Name) (lines : List Line) (tables : Tables) (levels : Levels) → IsInside ns lines tables levels → AreNamed ns lines
 named ns lines tables levels inside = record { numbered = inside.numbered; once = inside.once }
@@ -57,27 +58,11 @@ call_outputs ns lines tables levels inside =
 
 -- ---- cells
 
-cell_q : (lines : List Line) (cell : ScanCell) → Among cell (filter_map cell_numbers lines) → Among cell.q (flat_map defined_numbers lines)
-cell_q [] cell a = absurd a
-cell_q (line.Input s ∷ lines) cell a = inr (cell_q lines cell a)
-cell_q (line.Output s ∷ lines) cell a = cell_q lines cell a
-cell_q (line.Gate s g ∷ lines) cell a = inr (cell_q lines cell a)
-cell_q (line.Dff q d ∷ lines) cell (inl e) = inl (ap (λ x. x.q) e)
-cell_q (line.Dff q d ∷ lines) cell (inr a) = inr (cell_q lines cell a)
-
-cell_d : (lines : List Line) (cell : ScanCell) → Among cell (filter_map cell_numbers lines) → Among cell.d (flat_map read_numbers lines)
-cell_d [] cell a = absurd a
-cell_d (line.Input s ∷ lines) cell a = cell_d lines cell a
-cell_d (line.Output s ∷ lines) cell a = inr (cell_d lines cell a)
-cell_d (line.Gate s g ∷ lines) cell a = among_right g.pins.items (flat_map read_numbers lines) cell.d (cell_d lines cell a)
-cell_d (line.Dff q d ∷ lines) cell (inl e) = inl (ap (λ x. x.d) e)
-cell_d (line.Dff q d ∷ lines) cell (inr a) = inr (cell_d lines cell a)
-
 pub call_cells : (ns : List Name) (lines : List Line) (tables : Tables) (levels : Levels) → IsInside ns lines tables levels
     → map {B = ℕ × ℕ} (λ cell. (cell.q, cell.d)) tables.cells.items ≡ map (λ cell. (signal (statements_of ns lines) cell.0, signal (statements_of ns lines) cell.1)) (cells (statements_of ns lines))
 call_cells ns lines tables levels inside =
     ap (map (λ (cell : ScanCell). (cell.q, cell.d))) inside.tables_are.cells_are
-    ∙ (go (filter_map cell_numbers lines) (λ cell a. defined_in ns lines cell.q inside.numbered (cell_q lines cell a)) (λ cell a. read_in ns lines cell.d inside.numbered (cell_d lines cell a))
+    ∙ (go (filter_map cell_numbers lines) (λ cell a. defined_in ns lines cell.q inside.numbered (among_joined defined_numbers lines (line.Dff cell.q cell.d) cell.q (cell_line lines cell a) (inl refl))) (λ cell a. read_in ns lines cell.d inside.numbered (among_joined read_numbers lines (line.Dff cell.q cell.d) cell.d (cell_line lines cell a) (inl refl)))
     ∙ ap (map (λ cell. (signal (statements_of ns lines) cell.0, signal (statements_of ns lines) cell.1))) (sym (cells_are ns lines)))
   where
     go : (xs : List ScanCell) → ((cell : ScanCell) → Among cell xs → cell.q < length ns) → ((cell : ScanCell) → Among cell xs → cell.d < length ns)
@@ -111,25 +96,6 @@ few_source ns lines tables levels inside =
 -- what stands at a place of a test row
 source_at : (ns : List Name) (lines : List Line) (i : ℕ) → slice_get (sources (statements_of ns lines)) i ≡ option_map (name_at ns) (slice_get (source_numbers lines) i)
 source_at ns lines i = ap (λ xs. slice_get xs i) (sources_are ns lines) ∙ slice_get-map (name_at ns) (source_numbers lines) i
-
-pub call_source_some : (ns : List Name) (lines : List Line) (tables : Tables) (levels : Levels) (s i : ℕ) → IsInside ns lines tables levels → s < length ns
-    → slice_get tables.source_places.items s ≡ Some (Some i) → slice_get (sources (statements_of ns lines)) i ≡ name_of (statements_of ns lines) s
-call_source_some ns lines tables levels s i inside lt at =
-    source_at ns lines i ∙ (ap (option_map (name_at ns)) (inside.tables_are.places_are.some s i at) ∙ sym (name_of_at ns lines s (named ns lines tables levels inside) lt))
-
-pub call_source_none : (ns : List Name) (lines : List Line) (tables : Tables) (levels : Levels) (s i : ℕ) → IsInside ns lines tables levels → s < length ns
-    → slice_get tables.source_places.items s ≡ Some None → slice_get (sources (statements_of ns lines)) i ≢ name_of (statements_of ns lines) s
-call_source_none ns lines tables levels s i inside lt at same =
-    go (slice_get (source_numbers lines) i) refl (sym (source_at ns lines i) ∙ (same ∙ name_of_at ns lines s (named ns lines tables levels inside) lt))
-  where
-    go : (o : Option ℕ) → slice_get (source_numbers lines) i ≡ o → option_map (name_at ns) o ≡ Some (name_at ns s) → ⊥
-    go None e h = let bad : None ≡ Some (name_at ns s) = h in cc
-    go (Some t) e h =
-        let both : Some (name_at ns t) ≡ Some (name_at ns s) = h in
-        let names_same : name_at ns t ≡ name_at ns s = cc in
-        let t_lt = source_in ns lines t inside.numbered (at_place (source_numbers lines) i t e) in
-        let is : t ≡ s = same_number ns lines t s (named ns lines tables levels inside) t_lt lt names_same in
-        inside.tables_are.places_are.none s i at (e ∙ ap Some is)
 
 -- ---- gates
 
@@ -175,10 +141,14 @@ pub read_place_some : (ns : List Name) (lines : List Line) (tables : Tables) (le
     → o ≡ get_or tables.source_places.items s o → IfSome o (λ i. slice_get (sources (statements_of ns lines)) i ≡ name_of (statements_of ns lines) s)
 read_place_some ns lines tables levels s None inside lt at = tt
 read_place_some ns lines tables levels s (Some i) inside lt at =
-    call_source_some ns lines tables levels s i inside lt (slice_get_read tables.source_places.items (length tables.source_places.items) s (Some i) refl (omega (arith, lt, inside.tables_are.places_are.count)) at)
+    let read = slice_get_read tables.source_places.items (length tables.source_places.items) s (Some i) refl (omega (arith, lt, inside.tables_are.places_are.count)) at in
+    source_at ns lines i ∙ (ap (option_map (name_at ns)) (inside.tables_are.places_are.some s i read) ∙ sym (name_of_at ns lines s (named ns lines tables levels inside) lt))
 
 pub read_place_none : (ns : List Name) (lines : List Line) (tables : Tables) (levels : Levels) (s : ℕ) (o : Option ℕ) → IsInside ns lines tables levels → s < length ns
     → o ≡ get_or tables.source_places.items s o → IfNone o ((i : ℕ) → slice_get (sources (statements_of ns lines)) i ≢ name_of (statements_of ns lines) s)
 read_place_none ns lines tables levels s (Some i) inside lt at = tt
-read_place_none ns lines tables levels s None inside lt at = λ i.
-    call_source_none ns lines tables levels s i inside lt (slice_get_read tables.source_places.items (length tables.source_places.items) s None refl (omega (arith, lt, inside.tables_are.places_are.count)) at)
+read_place_none ns lines tables levels s None inside lt at = λ i same.
+    mapped (name_at ns) (slice_get (source_numbers lines) i) (name_at ns s) (sym (source_at ns lines i) ∙ (same ∙ name_of_at ns lines s (named ns lines tables levels inside) lt)) (λ t e names_same.
+    let t_lt = source_in ns lines t inside.numbered (at_place (source_numbers lines) i t e) in
+    let is : t ≡ s = same_number ns lines t s (named ns lines tables levels inside) t_lt lt names_same in
+    inside.tables_are.places_are.none s i (slice_get_read tables.source_places.items (length tables.source_places.items) s None refl (omega (arith, lt, inside.tables_are.places_are.count)) at) (e ∙ ap Some is))

@@ -8,13 +8,14 @@ use Rattle.std.proofs.lemmas.List.FromFn.{length-enumerate_from}
 use Rattle.bench_net.specs.declared.line.Line.{Line}
 use Rattle.bench_net.specs.declared.line.Line.TheVariants as line
 use Rattle.bench_net.specs.declared.GateLine.{GateLine}
+use Rattle.bench_net.specs.declared.ScanCell.{ScanCell}
 use Rattle.bench_net.specs.declared.Sink.{Sink}
 use Rattle.bench_net.specs.declared.Sink.TheVariants.{Pin, Out}
 use Rattle.bench_net.specs.declared.sinks.Reader.{Reader}
 use Rattle.bench_net.specs.Stored.{defined_number, defined_numbers, read_numbers}
 use Rattle.bench_net.specs.Tables.{source_signals, input_number, output_number, cell_numbers, pin_readers, output_readers, line_readers, all_readers, PinsFit}
 use Rattle.bench_net.specs.Marks.{line_pins}
-use Rattle.lists.proofs.Members.{Among, among_left, among_right, among_append, among_joined}
+use Rattle.lists.proofs.Members.{Among, among_left, among_right, among_append, among_joined, mapped_from}
 
 -- ---- sources
 
@@ -33,29 +34,31 @@ few_lines (line.Output s ∷ lines) = omega (arith, few_lines lines)
 few_lines (line.Gate s g ∷ lines) = omega (arith, few_lines lines, length-append g.pins.items (flat_map read_numbers lines))
 few_lines (line.Dff q d ∷ lines) = omega (arith, few_lines lines)
 
+-- a cell is that of a line
+pub cell_line : (lines : List Line) (cell : ScanCell) → Among cell (filter_map cell_numbers lines) → Among (line.Dff cell.q cell.d) lines
+cell_line [] cell a = absurd a
+cell_line (line.Input s ∷ lines) cell a = inr (cell_line lines cell a)
+cell_line (line.Output s ∷ lines) cell a = inr (cell_line lines cell a)
+cell_line (line.Gate s g ∷ lines) cell a = inr (cell_line lines cell a)
+cell_line (line.Dff q d ∷ lines) cell (inl e) = inl (ap (λ (x : ScanCell). line.Dff x.q x.d) e)
+cell_line (line.Dff q d ∷ lines) cell (inr a) = inr (cell_line lines cell a)
+
+-- an input is that of a line
+input_line : (lines : List Line) (s : ℕ) → Among s (filter_map input_number lines) → Among (line.Input s) lines
+input_line [] s a = absurd a
+input_line (line.Input t ∷ lines) s (inl e) = inl (ap line.Input e)
+input_line (line.Input t ∷ lines) s (inr a) = inr (input_line lines s a)
+input_line (line.Output t ∷ lines) s a = inr (input_line lines s a)
+input_line (line.Gate t g ∷ lines) s a = inr (input_line lines s a)
+input_line (line.Dff q d ∷ lines) s a = inr (input_line lines s a)
+
 -- a source is defined by a line that is no gate's
 pub source_line : (lines : List Line) (s : ℕ) → Among s (source_signals lines) → (l : Line) × Among l lines × (defined_number l ≡ Some s) × (line_pins (Some l) ≡ None)
-source_line lines s a = go (among_append (filter_map input_number lines) (map (λ cell. cell.q) (filter_map cell_numbers lines)) s a)
-  where
-    input : (ls : List Line) → Among s (filter_map input_number ls) → (l : Line) × Among l ls × (defined_number l ≡ Some s) × (line_pins (Some l) ≡ None)
-    input [] b = absurd b
-    input (line.Input t ∷ ls) (inl e) = (line.Input t, inl refl, ap Some e, refl)
-    input (line.Input t ∷ ls) (inr b) = let found = input ls b in (found.0, inr found.1, found.2, found.3)
-    input (line.Output t ∷ ls) b = let found = input ls b in (found.0, inr found.1, found.2, found.3)
-    input (line.Gate t g ∷ ls) b = let found = input ls b in (found.0, inr found.1, found.2, found.3)
-    input (line.Dff q d ∷ ls) b = let found = input ls b in (found.0, inr found.1, found.2, found.3)
-
-    cell : (ls : List Line) → Among s (map (λ cell. cell.q) (filter_map cell_numbers ls)) → (l : Line) × Among l ls × (defined_number l ≡ Some s) × (line_pins (Some l) ≡ None)
-    cell [] b = absurd b
-    cell (line.Dff q d ∷ ls) (inl e) = (line.Dff q d, inl refl, ap Some e, refl)
-    cell (line.Dff q d ∷ ls) (inr b) = let found = cell ls b in (found.0, inr found.1, found.2, found.3)
-    cell (line.Input t ∷ ls) b = let found = cell ls b in (found.0, inr found.1, found.2, found.3)
-    cell (line.Output t ∷ ls) b = let found = cell ls b in (found.0, inr found.1, found.2, found.3)
-    cell (line.Gate t g ∷ ls) b = let found = cell ls b in (found.0, inr found.1, found.2, found.3)
-
-    go : Among s (filter_map input_number lines) ⊎ Among s (map (λ cell. cell.q) (filter_map cell_numbers lines)) → (l : Line) × Among l lines × (defined_number l ≡ Some s) × (line_pins (Some l) ≡ None)
-    go (inl b) = input lines b
-    go (inr b) = cell lines b
+source_line lines s a = elim (among_append (filter_map input_number lines) (map (λ cell. cell.q) (filter_map cell_numbers lines)) s a) [
+  | inl b ↦ (line.Input s, input_line lines s b, refl, refl)
+  | inr b ↦ (let c = mapped_from (λ cell. cell.q) (filter_map cell_numbers lines) s b in
+      (line.Dff c.0.q c.0.d, cell_line lines c.0 c.1, ap Some (sym c.2), refl))
+]
 
 pub source_defined : (lines : List Line) (s : ℕ) → Among s (source_signals lines) → Among s (flat_map defined_numbers lines)
 source_defined lines s a =

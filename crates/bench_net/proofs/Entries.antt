@@ -1,6 +1,6 @@
 -- The entries of lines, read one after another.
 use Rattle.std.proofs.Common.{◌≡◌, ◌<◌, ◌+◌, ◌==◌, ℕ, suc, refl, sym, ◌∙◌, ap, List, [], ◌∷◌, ◌++◌, length, take, drop, map, arith, get_or, append-nil}
-use Rattle.std.specs.Prelude.{Option, Some, None, Err}
+use Rattle.std.specs.Prelude.{Option, Some, None, Err, option_map}
 use Rattle.std.specs.List.{slice_split}
 use Rattle.std.specs.Borrow.{Bor}
 use Rattle.std.specs.Str.Lines.{strip_carriage_return}
@@ -8,9 +8,9 @@ use Rattle.std.proofs.lemmas.List.{map_push, map-append, length-map}
 use Rattle.bench_net.specs.Text.{lines}
 use Rattle.bench_net.specs.Statement.{Statement}
 use Rattle.bench_net.specs.Reading.{statements}
-use Rattle.bench_net.specs.Plain.{stated_of}
-use Rattle.bench_net.specs.Entries.{Entry, entry_of, entries_of, stated_by, numbered_from, unread, HaveEntries}
-use Rattle.bench_net.specs.Parsed.{stands_for, IsLineReading}
+use Rattle.bench_net.specs.reader.Plain.{stated_of}
+use Rattle.bench_net.specs.reader.Entries.{Entry, entry_of, entries_of, stated_by, numbered_from, unread, HaveEntries}
+use Rattle.bench_net.specs.reader.Parsed.{stands_for, IsReadAs}
 use Rattle.bench_net.specs.declared.number.StatedLine.{StatedLine}
 use Rattle.bench_net.specs.declared.statement.Stated.{Stated}
 use Rattle.bench_net.specs.declared.fault.LineFault.{LineFault}
@@ -44,17 +44,7 @@ given parts = map strip_carriage_return (map (λ x. x.now) parts)
 -- as many as what they state
 given_count : (parts : List (Bor (List ℕ))) (stated : List (Option Statement))
     → map stated_of (given parts) ≡ map Some stated → length stated ≡ length parts
-given_count parts stated e =
-    omega (
-      arith,
-      ap length e,
-      length-map (given
-          parts) stated_of,
-      length-map stated Some,
-      length-map
-          (map (λ x. x.now) parts) strip_carriage_return,
-      length-map parts (λ x. x.now),
-    )
+given_count parts stated e = sym (simp length-map at (ap length e))
 
 module _ (parts : List (Bor (List ℕ))) (x : Bor (List ℕ)) (l : List ℕ)
     (line_is : l ≡ strip_carriage_return x.now) where
@@ -126,6 +116,6 @@ module _ (parts : List (Bor (List ℕ))) (x : Bor (List ℕ)) (l : List ℕ)
           let e : suc line + length stated ≡ line + suc (length stated) = omega arith in
           unread_at (suc line) stated more ∙ ap Some e
 
-pub line_refused : (found : Option (Option Statement)) (f : LineFault) → IsLineReading found (Err f)
-    → f ≡ stop.Refused → found ≡ None
+pub line_refused : (found : Option (Option Statement)) (f : LineFault)
+    → IsReadAs (option_map stands_for) found (Err f) → f ≡ stop.Refused → found ≡ None
 line_refused found f h e = rw e at h

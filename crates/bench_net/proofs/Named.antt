@@ -1,9 +1,10 @@
 -- Numbers and names: what stored lines say by numbers, and their statements by names.
-use Rattle.std.proofs.Common.{◌≡◌, ◌≢◌, ◌<◌, ◌==◌, ℕ, zero, suc, sym, ◌∙◌, ap, subst, refl, List, [], ◌∷◌, ◌++◌, map, length, filter, arith, inl, inr, ◌⊎◌}
+use Rattle.std.proofs.Common.{◌≡◌, ◌≢◌, ◌<◌, ◌==◌, ℕ, sym, ◌∙◌, ap, subst, refl, List, [], ◌∷◌, ◌++◌, map, length, filter, arith, inl, inr}
 use Rattle.std.specs.Prelude.{Some, None, slice_get, slice_index, Contains, AllPairs, flat_map, bytes_eq, option_map, is_some}
 use Rattle.std.specs.List.{filter_map}
 use Rattle.std.proofs.lemmas.Bool.{eq-eqb, ne_eqb, cases_eq, false_from_ne_true}
 use Rattle.std.proofs.lemmas.List.{map-append, length-map}
+use Rattle.std.proofs.lemmas.List.Elements.{Contains-get_or}
 use Rattle.std.proofs.lemmas.Option.{slice_get-get_or, slice_get-map, slice_get_within}
 use Rattle.bench_net.specs.declared.GateLine.{GateLine}
 use Rattle.bench_net.specs.declared.ScanCell.{ScanCell}
@@ -14,7 +15,7 @@ use Rattle.bench_net.specs.Scan.{signal, name_of, inputs, outputs, cells, source
 use Rattle.bench_net.specs.Stored.{name_at, statement_of, statements_of, defined_numbers, AreNumbered}
 use Rattle.bench_net.specs.Tables.{input_number, output_number, cell_numbers, defined_number, defines_number, AreDefinitions}
 use Rattle.bench_net.specs.Marks.{gate_pins, line_pins}
-use Rattle.lists.proofs.Members.{Among, contained, among_filter}
+use Rattle.lists.proofs.Members.{Among, among, contained, among_filter}
 use Rattle.bench_net.proofs.Checked.{same_bytes, bytes_refl}
 use Rattle.bench_net.proofs.Numbers.{signal-name_of}
 use Rattle.lists.proofs.Places.{placed, within_place, at_place, from_mapped}
@@ -32,9 +33,7 @@ name_of_at ns lines s named lt =
     ap (λ xs. slice_get xs s) named.numbered.names_are ∙ slice_get-get_or ns s [] lt
 
 pub at_among : (ns : List Name) (s : ℕ) → s < length ns → Among (name_at ns s) ns
-at_among [] s lt = absurd (omega (arith, lt))
-at_among (n ∷ ns) zero lt = inl refl
-at_among (n ∷ ns) (suc s) lt = inr (at_among ns s (omega (arith, lt)))
+at_among ns s lt = among ns _ (Contains-get_or ns s [] lt)
 
 pub signal_at : (ns : List Name) (lines : List Line) (s : ℕ) → AreNamed ns lines → s < length ns
     → signal (statements_of ns lines) (name_at ns s) ≡ s
@@ -54,16 +53,11 @@ same_number ns lines s t named s_lt t_lt e =
 
 pub bytes_at : (ns : List Name) (lines : List Line) (s t : ℕ) → AreNamed ns lines → s < length ns
     → t < length ns → bytes_eq (name_at ns s) (name_at ns t) ≡ (t == s)
-bytes_at ns lines s t named s_lt t_lt = go (cases_eq t s)
-  where
-    go : (t ≡ s) ⊎ (t ≡ s → ⊥) → bytes_eq (name_at ns s) (name_at ns t) ≡ (t == s)
-    go (inl e) =
-        ap (λ u. bytes_eq (name_at ns s) (name_at ns u)) e
-        ∙ (bytes_refl (name_at ns s) ∙ sym (eq-eqb t s e))
-    go (inr ne) =
-        false_from_ne_true (bytes_eq (name_at ns s) (name_at ns t))
-        (λ h. ne (sym (same_number ns lines s t named s_lt t_lt
-        (same_bytes (name_at ns s) (name_at ns t) h)))) ∙ sym (ne_eqb t s ne)
+bytes_at ns lines s t named s_lt t_lt = elim (cases_eq t s) [
+  | inl e ↦ rw e (bytes_refl (name_at ns s) ∙ sym (eq-eqb s s refl))
+  | inr ne ↦ false_from_ne_true _ (λ h. ne (sym (same_number ns lines s t named s_lt t_lt
+      (same_bytes (name_at ns s) (name_at ns t) h)))) ∙ sym (ne_eqb t s ne)
+]
 
 -- the numbers of the names of numbers
 pub map_signal : (ns : List Name) (lines : List Line) (xs : List ℕ) → AreNamed ns lines
@@ -149,9 +143,7 @@ numbers_of (line.Dff q d ∷ lines) = ap (λ xs. Some q ∷ xs) (numbers_of line
 
 definer_count : (lines : List Line)
     → length (filter defines_number lines) ≡ length (flat_map defined_numbers lines)
-definer_count lines =
-    sym (length-map (filter defines_number lines) defined_number) ∙ ap length (numbers_of lines)
-    ∙ length-map (flat_map defined_numbers lines) Some
+definer_count lines = simp length-map at (ap length (numbers_of lines))
 
 -- a line that defines a signal stands at that signal's place among those that do
 pub number_place : (ns : List Name) (lines : List Line) (i : ℕ) (l : Line) → AreNumbered ns lines
@@ -201,9 +193,7 @@ defined_below ns lines l s numbered a d =
 pub definition_count : (ns : List Name) (lines : List Line) (places : List ℕ) → AreNumbered ns lines
     → AreDefinitions lines places → length places ≡ length ns
 definition_count ns lines places numbered are =
-    sym (length-map places (slice_get lines))
-    ∙ (ap length are ∙ (length-map (filter defines_number lines) Some
-    ∙ (definer_count lines ∙ numbered.count)))
+    simp length-map at (ap length are) ∙ (definer_count lines ∙ numbered.count)
 
 -- the line at the place of a signal's definition
 pub placed_line : (lines : List Line) (places : List ℕ) (s : ℕ) → AreDefinitions lines places

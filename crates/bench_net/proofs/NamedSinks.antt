@@ -1,9 +1,9 @@
 -- Sinks by numbers are the sinks by names.
-use Rattle.std.proofs.Common.{◌≡◌, ◌<◌, ◌+◌, ◌==◌, ℕ, suc, sym, ◌∙◌, ap, refl, Bool, true, false, List, [], ◌∷◌, ◌++◌, map, length, filter, arith, inl, inr, length-append}
+use Rattle.std.proofs.Common.{◌≡◌, ◌<◌, ◌+◌, ◌==◌, ℕ, suc, sym, ◌∙◌, ap, refl, true, false, List, [], ◌∷◌, ◌++◌, map, length, filter, arith, inl, inr, length-append}
 use Rattle.std.specs.Prelude.{Some, slice_get, flat_map, bytes_eq}
 use Rattle.std.specs.List.{filter_map, enumerate_from, position_or_len}
 use Rattle.std.proofs.Math.Numerals.{one-add}
-use Rattle.std.proofs.lemmas.Bool.{ne_eqb}
+use Rattle.std.proofs.lemmas.Bool.{ne_eqb, cases_Bool}
 use Rattle.std.proofs.lemmas.List.{map-append, append_assoc}
 use Rattle.std.proofs.lemmas.List.Elements.{filter-append}
 use Rattle.bench_net.specs.declared.Sink.{Sink}
@@ -16,7 +16,7 @@ use Rattle.bench_net.specs.Scan.{signal, cell, places, pins_of, sinks}
 use Rattle.bench_net.specs.Stored.{name_at, statements_of, defined_numbers, read_numbers}
 use Rattle.bench_net.specs.Tables.{output_number, cell_numbers, pin_readers, output_readers, line_readers, all_readers, sinks_at}
 use Rattle.std.proofs.lemmas.Option.{slice_get_within}
-use Rattle.lists.proofs.Members.{Among, contained}
+use Rattle.lists.proofs.Members.{Among, contained, among_left, among_right}
 use Rattle.bench_net.proofs.Checked.{bytes_refl}
 use Rattle.bench_net.proofs.Counted.{outputs_read}
 use Rattle.bench_net.proofs.Named.{AreNamed, signal_at, bytes_at, outputs_are, cells_are, q_names}
@@ -31,13 +31,13 @@ sinks-append xs ys s =
 numbered : (ns : List Name) (lines : List Line) (kind : ℕ → Sink) (s k : ℕ) (xs : List ℕ) → AreNamed ns lines → s < length ns → ((x : ℕ) → Among x xs → x < length ns)
     → sinks_at (map (λ at. record { signal = at.1; sink = kind at.0 }) (enumerate_from k xs)) s ≡ map kind (map (λ at. at.0) (filter (λ at. bytes_eq (name_at ns s) at.1) (enumerate_from k (map (name_at ns) xs))))
 numbered ns lines kind s k [] named lt below = refl
-numbered ns lines kind s k (x ∷ xs) named lt below = go (x == s) refl (numbered ns lines kind s (k + 1) xs named lt (λ y a. below y (inr a)))
-  where
-    go : (b : Bool) → (x == s) ≡ b
-        → sinks_at (map (λ at. record { signal = at.1; sink = kind at.0 }) (enumerate_from (k + 1) xs)) s ≡ map kind (map (λ at. at.0) (filter (λ at. bytes_eq (name_at ns s) at.1) (enumerate_from (k + 1) (map (name_at ns) xs))))
-        → sinks_at (map (λ at. record { signal = at.1; sink = kind at.0 }) (enumerate_from k (x ∷ xs))) s ≡ map kind (map (λ at. at.0) (filter (λ at. bytes_eq (name_at ns s) at.1) (enumerate_from k (map (name_at ns) (x ∷ xs)))))
-    go true h later = let same : bytes_eq (name_at ns s) (name_at ns x) ≡ true = bytes_at ns lines s x named lt (below x (inl refl)) ∙ h in rw (h, same) (ap (λ rest. kind k ∷ rest) later)
-    go false h later = let same : bytes_eq (name_at ns s) (name_at ns x) ≡ false = bytes_at ns lines s x named lt (below x (inl refl)) ∙ h in rw (h, same) later
+numbered ns lines kind s k (x ∷ xs) named lt below =
+    let same = bytes_at ns lines s x named lt (below x (inl refl)) in
+    let later = numbered ns lines kind s (k + 1) xs named lt (λ y a. below y (inr a)) in
+    elim (cases_Bool (x == s)) [
+      | inl on ↦ rw (same, on) (ap (λ rest. kind k ∷ rest) later)
+      | inr off ↦ rw (same, off) later
+    ]
 
 -- ---- the number of a cell
 
@@ -72,15 +72,6 @@ counts_tail m x xs counts i s e = omega (arith, counts (suc i) s e)
 abbrev InRange : ℕ → List ℕ → Type 0
 InRange n xs = (x : ℕ) → Among x xs → x < n
 
-left_in : (n : ℕ) (xs ys : List ℕ) → InRange n (xs ++ ys) → InRange n xs
-left_in n [] ys h x a = absurd a
-left_in n (y ∷ xs) ys h x (inl e) = h x (inl e)
-left_in n (y ∷ xs) ys h x (inr a) = left_in n xs ys (λ z b. h z (inr b)) x a
-
-right_in : (n : ℕ) (xs ys : List ℕ) → InRange n (xs ++ ys) → InRange n ys
-right_in n [] ys h = h
-right_in n (y ∷ xs) ys h = right_in n xs ys (λ z b. h z (inr b))
-
 push_below : (before : List ℕ) (q m : ℕ) → InRange m before → q ≡ m → InRange (m + 1) (before ++ q ∷ [])
 push_below [] q m h e x (inl same) = omega (arith, same, e)
 push_below [] q m h e x (inr a) = absurd a
@@ -97,8 +88,8 @@ line_sinks ns lines s m before (line.Input t ∷ ls) named lt whole below counts
 line_sinks ns lines s m before (line.Output t ∷ ls) named lt whole below counts defined read =
     line_sinks ns lines s m before ls named lt whole below counts defined (λ x a. read x (inr a))
 line_sinks ns lines s m before (line.Gate t g ∷ ls) named lt whole below counts defined read =
-    let pins = left_in (length ns) g.pins.items (flat_map read_numbers ls) read in
-    let rest = line_sinks ns lines s (m + 1) before ls named lt whole (λ x a. omega (arith, below x a)) (counts_tail m t (flat_map defined_numbers ls) counts) (λ x a. defined x (inr a)) (right_in (length ns) g.pins.items (flat_map read_numbers ls) read) in
+    let pins : InRange (length ns) g.pins.items = λ x a. read x (among_left g.pins.items (flat_map read_numbers ls) x a) in
+    let rest = line_sinks ns lines s (m + 1) before ls named lt whole (λ x a. omega (arith, below x a)) (counts_tail m t (flat_map defined_numbers ls) counts) (λ x a. defined x (inr a)) (λ x a. read x (among_right g.pins.items (flat_map read_numbers ls) x a)) in
     let first = numbered ns lines (Pin t) s 0 g.pins.items named lt pins in
     let number : signal (statements_of ns lines) (name_at ns t) ≡ t = signal_at ns lines t named (defined t (inl refl)) in
     sinks-append (pin_readers t g.pins.items) (line_readers (length before) ls) s
@@ -106,7 +97,12 @@ line_sinks ns lines s m before (line.Gate t g ∷ ls) named lt whole below count
     ∙ (ap (λ u. map (λ pin. Pin u pin) (places (name_at ns s) (map (name_at ns) g.pins.items)) ++ sinks_at (line_readers (length before) ls) s) (sym number)
     ∙ ap (λ ys. map (λ pin. Pin (signal (statements_of ns lines) (name_at ns t)) pin) (places (name_at ns s) (map (name_at ns) g.pins.items)) ++ ys) rest))
 line_sinks ns lines s m before (line.Dff q d ∷ ls) named lt whole below counts defined read =
-    go (d == s) refl (line_sinks ns lines s (m + 1) (before ++ q ∷ []) ls named lt (whole ∙ sym (append_assoc before (q ∷ []) (map (λ cell. cell.q) (filter_map cell_numbers ls)))) (push_below before q m below q_is) (counts_tail m q (flat_map defined_numbers ls) counts) (λ x a. defined x (inr a)) (λ x a. read x (inr a)))
+    let same = bytes_at ns lines s d named lt (read d (inl refl)) in
+    let later = line_sinks ns lines s (m + 1) (before ++ q ∷ []) ls named lt (whole ∙ sym (append_assoc before (q ∷ []) (map (λ cell. cell.q) (filter_map cell_numbers ls)))) (push_below before q m below q_is) (counts_tail m q (flat_map defined_numbers ls) counts) (λ x a. defined x (inr a)) (λ x a. read x (inr a)) in
+    elim (cases_Bool (d == s)) [
+      | inl on ↦ rw (same, on) (ap (λ c. Data c ∷ sinks_at (line_readers (length before + 1) ls) s) (sym number) ∙ ap (λ ys. Data (cell (statements_of ns lines) (name_at ns q)) ∷ ys) (ap (λ n. sinks_at (line_readers n ls) s) (sym count) ∙ later))
+      | inr off ↦ rw (same, off) (ap (λ n. sinks_at (line_readers n ls) s) (sym count) ∙ later)
+    ]
   where
     q_is : q ≡ m
     q_is = counts_head m q (flat_map defined_numbers ls) counts
@@ -116,15 +112,6 @@ line_sinks ns lines s m before (line.Dff q d ∷ ls) named lt whole below counts
 
     count : length (before ++ q ∷ []) ≡ length before + 1
     count = length-append before (q ∷ [])
-
-    go : (b : Bool) → (d == s) ≡ b → sinks_at (line_readers (length (before ++ q ∷ [])) ls) s ≡ flat_map (pins_of (statements_of ns lines) (name_at ns s)) (statements_of ns ls)
-        → sinks_at (line_readers (length before) (line.Dff q d ∷ ls)) s ≡ flat_map (pins_of (statements_of ns lines) (name_at ns s)) (statements_of ns (line.Dff q d ∷ ls))
-    go true h later =
-        let same : bytes_eq (name_at ns s) (name_at ns d) ≡ true = bytes_at ns lines s d named lt (read d (inl refl)) ∙ h in
-        rw (h, same) (ap (λ c. Data c ∷ sinks_at (line_readers (length before + 1) ls) s) (sym number) ∙ ap (λ ys. Data (cell (statements_of ns lines) (name_at ns q)) ∷ ys) (ap (λ n. sinks_at (line_readers n ls) s) (sym count) ∙ later))
-    go false h later =
-        let same : bytes_eq (name_at ns s) (name_at ns d) ≡ false = bytes_at ns lines s d named lt (read d (inl refl)) ∙ h in
-        rw (h, same) (ap (λ n. sinks_at (line_readers n ls) s) (sym count) ∙ later)
 
 pub sinks_named : (ns : List Name) (lines : List Line) (s : ℕ) → AreNamed ns lines → s < length ns → sinks_at (all_readers lines (filter_map output_number lines)) s ≡ sinks (statements_of ns lines) (name_at ns s)
 sinks_named ns lines s named lt =

@@ -1,9 +1,10 @@
 -- Names and their numbers: what is found, and how lines are numbered one after another.
-use Rattle.std.proofs.Common.{◌≡◌, ◌<◌, ◌+◌, ℕ, zero, suc, refl, sym, ◌∙◌, ap, subst, true, List, [], ◌∷◌, ◌++◌, length, take, drop, map, arith, get_or, add-one, inl, inr, ◌⊎◌, length-append, append-nil}
+use Rattle.std.proofs.Common.{◌≡◌, ◌<◌, ◌+◌, ℕ, zero, suc, refl, sym, ◌∙◌, ap, subst, true, List, [], ◌∷◌, ◌++◌, length, take, drop, map, arith, get_or, add-one, inl, inr, length-append, append-nil}
 use Rattle.std.specs.Prelude.{Contains, Option, Some, flat_map, Result, Ok, Err, IfErr}
 use Rattle.std.specs.List.{All, list_all, range_with_len}
 use Rattle.std.specs.Str.{IsUtf8}
 use Rattle.std.proofs.Math.Nat.{zero-add}
+use Rattle.std.proofs.Math.Seq.{get_or-append_seam}
 use Rattle.std.proofs.lemmas.Bool.{and_from}
 use Rattle.std.proofs.lemmas.List.{map-append, map_push, take_more}
 use Rattle.std.proofs.lemmas.List.Concat.{flat_map-append}
@@ -15,10 +16,10 @@ use Rattle.bench_net.specs.declared.fault.LineFault.{LineFault}
 use Rattle.bench_net.specs.declared.fault.LineFault.TheVariants as stop
 use Rattle.bench_net.specs.declared.BenchFault.{BenchFault}
 use Rattle.bench_net.specs.Statement.{Name, Statement, read}
-use Rattle.bench_net.specs.Parsed.{stands_for, or_refusal}
-use Rattle.bench_net.specs.Entries.{is_in, names_in, defined_of, EndsPass}
+use Rattle.bench_net.specs.reader.Parsed.{stands_for, or_refusal}
+use Rattle.bench_net.specs.reader.Entries.{entry_of, is_in, names_in, defined_of, EndsPass}
 use Rattle.bench_net.specs.Stored.{name_at, statement_of, statements_of, defined_numbers, read_numbers}
-use Rattle.bench_net.specs.Numbering.{IsNextFor, IsNumberedLine, AreNumberedLines}
+use Rattle.bench_net.specs.reader.Numbering.{IsNextFor, IsNumberedLine, AreNumberedLines}
 use Rattle.lists.proofs.Members.{among}
 use Rattle.bench_net.proofs.Checked.{among_in, defined_few}
 use Rattle.bench_net.proofs.Passes.{at_item, names_more}
@@ -36,30 +37,19 @@ pub ends_pass : (f : LineFault) (refusal : ℕ → BenchFault) (first : Option �
 ends_pass stop.Refused refusal first line answer e h = inr (line, h refl, e)
 ends_pass stop.Memory refusal first line answer e h = inl e
 
--- the name behind some others
-name_behind : (front back : List Name) (n : Name) → name_at (front ++ n ∷ back) (length front) ≡ n
-name_behind [] back n = refl
-name_behind (m ∷ front) back n = name_behind front back n
-
 -- the number of the name that a line defines is that of the names before it
 pub next_for : (stated : List StatedLine) (i : ℕ) (line : StatedLine) → i < length stated
     → line ≡ get_or stated i line
     → IsNextFor (names_in stated) (length (names_in (take i stated))) (stands_for line.statement)
-next_for stated i line h e = go (defined_few (stands_for line.statement))
-  where
-    whole : names_in stated ≡ names_in (take i stated) ++
-        (defined_of line ++ names_in (drop (suc i) stated))
-    whole =
-        ap names_in (at_item stated i line h e)
-        ∙ flat_map-append defined_of (take i stated) (line ∷ drop (suc i) stated)
-
-    go : (defined_of line ≡ []) ⊎ ((n : Name) × (defined_of line ≡ n ∷ []))
-        → IsNextFor (names_in stated) (length (names_in (take i stated)))
-        (stands_for line.statement)
-    go (inl none) = rw none refl
-    go (inr one) =
-        rw (whole, one.1) (ap (λ n. n ∷ [])
-        (name_behind (names_in (take i stated)) (names_in (drop (suc i) stated)) one.0))
+next_for stated i line h e =
+    let whole =
+    ap names_in (at_item stated i line h e)
+    ∙ flat_map-append defined_of (take i stated) (line ∷ drop (suc i) stated) in
+    elim (defined_few (stands_for line.statement)) [
+      | inl none ↦ rw none refl
+      | inr one ↦ rw (whole, one.1) (ap (λ n. n ∷ []) (get_or-append_seam
+          (names_in (take i stated)) one.0 (names_in (drop (suc i) stated)) []))
+    ]
 
 range_more : (a n : ℕ) → range_with_len a (n + 1) ≡ range_with_len a n ++ (a + n) ∷ []
 range_more a n = rw (add-one n) (go a n)
@@ -76,10 +66,10 @@ pub numbered_more : (ns : List Name) (stated : List StatedLine) (lines : List Li
     → IsNumberedLine ns next (stands_for new.statement) l
     → AreNumberedLines ns (take (i + 1) stated) (lines ++ l ∷ [])
 numbered_more ns stated lines i new l next h e so_far count one = record {
-  stand = map_push (statement_of ns) lines l ∙ rw (so_far.stand, one.stands, items)
-      (sym (map_push (λ x. stands_for x.statement) (take i stated) new));
-  own =
-      more defined_numbers ∙ rw (so_far.own, one.own) (go (defined_few (stands_for new.statement)));
+  stand = map_push (statement_of ns) lines l
+      ∙ rw (so_far.stand, one.stands, items, map_push entry_of (take i stated) new)
+      (sym (map_push (λ entry. entry.1) (map entry_of (take i stated)) (entry_of new)));
+  own = more defined_numbers ∙ rw (so_far.own, one.own) own;
   in_range = rw (more read_numbers) (All-append below _ _ so_far.in_range one.in_range);
 }
   where
@@ -93,20 +83,14 @@ numbered_more ns stated lines i new l next h e so_far count one = record {
     more f =
         flat_map-append f lines (l ∷ []) ∙ ap (λ ks. flat_map f lines ++ ks) (append-nil (f l))
 
-    go : (defined_of new ≡ []) ⊎ ((n : Name) × (defined_of new ≡ n ∷ []))
-        → range_with_len 0 (length (names_in (take i stated))) ++ map (λ n. next) (defined_of new)
+    own : range_with_len 0 (length (names_in (take i stated))) ++ map (λ n. next) (defined_of new)
         ≡ range_with_len 0 (length (names_in (take (i + 1) stated)))
-    go (inl none) =
-        rw (names_more stated i new h e defined_of, none) (rw append-nil (rw append-nil refl))
-    go (inr some) =
-        rw (
-          names_more stated i new h e defined_of,
-          some.1,
-          length-append,
-          range_more,
-          count,
-          zero-add,
-        ) refl
+    own = rw (names_more stated i new h e defined_of) (
+        elim (defined_few (stands_for new.statement)) [
+          | inl none ↦ rw none (rw append-nil (rw append-nil refl))
+          | inr some ↦ rw (some.1, length-append, range_more, count, zero-add) refl
+        ]
+        )
 
 -- the names that a stored line reads are those of its numbers
 reads_of : (ns : List Name) (l : Line)

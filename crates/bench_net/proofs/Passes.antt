@@ -1,5 +1,5 @@
 -- Steps of the passes over the lines: names counted, names defined, names read.
-use Rattle.std.proofs.Common.{◌≡◌, ◌<◌, ◌≤◌, ◌+◌, ℕ, suc, refl, sym, ◌∙◌, ap, Bool, true, false, List, [], ◌∷◌, ◌++◌, length, take, drop, arith, get_or, add-one, length-append, take-append-drop, append-nil}
+use Rattle.std.proofs.Common.{◌≡◌, ◌<◌, ◌≤◌, ◌+◌, ℕ, suc, refl, sym, ◌∙◌, ap, Bool, true, false, List, [], ◌∷◌, ◌++◌, length, take, drop, get_or, add-one, take-append-drop, append-nil}
 use Rattle.std.specs.Prelude.{Some, flat_map, bytes_eq, ◌||◌}
 use Rattle.std.specs.List.{list_any}
 use Rattle.std.specs.Borrow.{Bor}
@@ -7,11 +7,12 @@ use Rattle.std.proofs.Math.Bool.{or-false}
 use Rattle.std.proofs.lemmas.Bool.{cond-true, cond-false}
 use Rattle.std.proofs.lemmas.List.{take_more}
 use Rattle.std.proofs.lemmas.List.Concat.{flat_map-append}
+use Rattle.std.proofs.lemmas.List.Folds.{length-flat_map-take}
 use Rattle.std.proofs.Math.Seq.{drop-cons}
 use Rattle.bench_net.specs.declared.number.StatedLine.{StatedLine}
 use Rattle.bench_net.specs.Statement.{Name, Statement, defined}
-use Rattle.bench_net.specs.Parsed.{names_of, stands_for}
-use Rattle.bench_net.specs.Entries.{entries_of, names_in, defined_of, is_in, redefines, first_line}
+use Rattle.bench_net.specs.reader.Parsed.{names_of, stands_for}
+use Rattle.bench_net.specs.reader.Entries.{entries_of, names_in, defined_of, is_in, redefines, first_line}
 
 -- no line before this place has the fault of a test
 abbrev pub NoneBefore : (List Name → Statement → Bool) → List StatedLine → ℕ → Type 0
@@ -39,15 +40,7 @@ module _ {A : Type 0} (xs : List A) (i : ℕ) (x : A) (h : i < length xs)
   -- the names so far and those of this line are no more than all
   pub names_fit : (f : A → List Name)
       → length (flat_map f (take i xs)) + length (f x) ≤ length (flat_map f xs)
-  names_fit f =
-      let parts = ap (λ ys. length (flat_map f ys)) at_item in
-      omega (
-        arith,
-        parts,
-        ap length (flat_map-append f (take i xs) (x ∷ drop (suc i) xs)),
-        length-append (flat_map f (take i xs)) (f x ++ flat_map f (drop (suc i) xs)),
-        length-append (f x) (flat_map f (drop (suc i) xs)),
-      )
+  names_fit f = rw (← e) at (length-flat_map-take f xs i x h)
 
 module _ (test : List Name → Statement → Bool) (stated : List StatedLine) (i : ℕ)
     (line : StatedLine)

@@ -1,8 +1,8 @@
 -- Stuck signals are stuck names, and the lowest stuck signal has the lowest line.
-use Rattle.std.proofs.Common.{◌≡◌, ◌<◌, ℕ, zero, suc, sym, ◌∙◌, ap, subst, refl, Bool, true, false, ◌&&◌, List, [], ◌∷◌, map, length, take, get_or, filter, arith, inl, inr, ◌⊎◌}
+use Rattle.std.proofs.Common.{◌≡◌, ◌<◌, ℕ, zero, suc, sym, ◌∙◌, ap, subst, refl, Bool, true, ◌&&◌, List, [], ◌∷◌, map, length, take, get_or, filter, arith, inl, inr}
 use Rattle.std.specs.Prelude.{Some, None, slice_get, slice_index, Contains, AllPairs, bytes_eq, nat_lt, is_some}
 use Rattle.std.specs.List.{list_any, range_with_len}
-use Rattle.std.proofs.lemmas.Bool.{cases_order, lt-ltb, ltb-true, and_parts, and_from}
+use Rattle.std.proofs.lemmas.Bool.{cases_Bool, cases_order, lt-ltb, ltb-true, and_parts, and_from}
 use Rattle.std.proofs.lemmas.List.FromFn.{length-range_with_len, get_or-range_with_len}
 use Rattle.std.proofs.lemmas.Option.{slice_get_within, get_or_from_slice_get}
 use Rattle.bench_net.specs.declared.GateLine.{GateLine}
@@ -129,15 +129,10 @@ filter_place : (lines : List Line) (i : ℕ) (l : Line) → slice_get lines i �
     (length (filter defines_number (take i lines))) ≡ Some l
 filter_place [] i l e d = let bad : None ≡ Some l = e in cc
 filter_place (x ∷ lines) zero l e d = let same : x ≡ l = cc in rw (ap defines_number same ∙ d) e
-filter_place (x ∷ lines) (suc i) l e d = go (defines_number x) refl (filter_place lines i l e d)
-  where
-    go : (b : Bool) → defines_number x ≡ b
-        → slice_get (filter defines_number lines)
-        (length (filter defines_number (take i lines))) ≡ Some l
-        → slice_get (filter defines_number (x ∷ lines))
-        (length (filter defines_number (take (suc i) (x ∷ lines)))) ≡ Some l
-    go true h later = rw h later
-    go false h later = rw h later
+filter_place (x ∷ lines) (suc i) l e d = elim (cases_Bool (defines_number x)) [
+  | inl on ↦ rw on (filter_place lines i l e d)
+  | inr off ↦ rw off (filter_place lines i l e d)
+]
 
 filter_rise : (lines : List Line) (i j : ℕ) (l : Line) → slice_get lines i ≡ Some l
     → defines_number l ≡ true → i < j
@@ -147,15 +142,11 @@ filter_rise (x ∷ lines) i zero l e d lt = absurd (omega (arith, lt))
 filter_rise (x ∷ lines) zero (suc j) l e d lt = let same : x ≡ l = cc in
     rw (ap defines_number same ∙ d) (omega arith)
 filter_rise (x ∷ lines) (suc i) (suc j) l e d lt =
-    go (defines_number x) refl (filter_rise lines i j l e d (omega (arith, lt)))
-  where
-    go : (b : Bool) → defines_number x ≡ b
-        → length (filter defines_number (take i lines)) < length
-        (filter defines_number (take j lines))
-        → length (filter defines_number (take (suc i) (x ∷ lines))) < length
-        (filter defines_number (take (suc j) (x ∷ lines)))
-    go true h later = rw h (omega (arith, later))
-    go false h later = rw h later
+    let later = filter_rise lines i j l e d (omega (arith, lt)) in
+    elim (cases_Bool (defines_number x)) [
+      | inl on ↦ rw on (omega (arith, later))
+      | inr off ↦ rw off (omega (arith, later))
+    ]
 
 earlier_signal : (ns : List Name) (lines : List Line) (i j s t : ℕ) (l m : Line)
     → AreNumbered ns lines
@@ -171,19 +162,16 @@ earlier_signal ns lines i j s t l m numbered at_i d at_j e lt =
 -- in a rising list a lesser number stands earlier
 earlier_place : (at : List ℕ) (i j m n : ℕ) → AllPairs (λ x y. x < y) at → slice_get at i ≡ Some m
     → slice_get at j ≡ Some n → m < n → i < j
-earlier_place at i j m n rising at_i at_j lt = go (cases_order i j)
-  where
-    m_is : get_or at i 0 ≡ m
-    m_is = get_or_from_slice_get at i m 0 at_i
-
-    n_is : get_or at j 0 ≡ n
-    n_is = get_or_from_slice_get at j n 0 at_j
-
-    go : (i ≡ j) ⊎ ((i < j) ⊎ (j < i)) → i < j
-    go (inl e) = absurd (omega (arith, lt, m_is, n_is, ap (λ k. get_or at k 0) e))
-    go (inr (inl less)) = less
-    go (inr (inr more)) =
-        absurd (omega (arith, lt, m_is, n_is, rising j i 0 more (slice_get_within at i m at_i)))
+earlier_place at i j m n rising at_i at_j lt =
+    let m_is = get_or_from_slice_get at i m 0 at_i in
+    let n_is = get_or_from_slice_get at j n 0 at_j in
+    elim (cases_order i j) [
+      | inl e ↦ absurd (omega (arith, lt, m_is, n_is, ap (λ k. get_or at k 0) e))
+      | inr order ↦ elim order [
+        | inl less ↦ less
+        | inr more ↦ absurd (omega (arith, rising j i 0 more (slice_get_within at i m at_i)))
+      ]
+    ]
 
 pub lowest_line : (ns : List Name) (lines : List Line) (places at : List ℕ) (s number : ℕ)
     → AreNamed ns lines → AreDefinitions lines places → AllPairs (λ x y. x < y) at → s < length ns

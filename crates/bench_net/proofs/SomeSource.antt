@@ -32,15 +32,9 @@ driven : (c : List Statement) (n : Name) → Among n (names c) → IsDriven c n
 unfolding IsDriven
 driven [] n a = absurd a
 driven (Input m ∷ c) n a = inl (source_more (inputs c) (map (λ cell. cell.0) (cells c)) m)
-driven (Output m ∷ c) n a = go (driven c n a)
-  where
-    go : IsDriven c n → IsDriven (Output m ∷ c) n
-    go d = elim d [ inl h ↦ inl h | inr x ↦ inr (x.0, x.1, inr x.2) ]
+driven (Output m ∷ c) n a = elim (driven c n a) [ inl h ↦ inl h | inr x ↦ inr (x.0, x.1, inr x.2) ]
 driven (Gate m kind args ∷ c) n (inl e) = inr (kind, args, inl (ap (λ x. Gate x kind args) e))
-driven (Gate m kind args ∷ c) n (inr a) = go (driven c n a)
-  where
-    go : IsDriven c n → IsDriven (Gate m kind args ∷ c) n
-    go d = elim d [ inl h ↦ inl h | inr x ↦ inr (x.0, x.1, inr x.2) ]
+driven (Gate m kind args ∷ c) n (inr a) = elim (driven c n a) [ inl h ↦ inl h | inr x ↦ inr (x.0, x.1, inr x.2) ]
 driven (Dff q d ∷ c) n a = inl (cell_more (inputs c) (map (λ cell. cell.0) (cells c)) q)
 
 first_argument : (args : List Name) → 1 ≤ length args → (a : Name) × Among a args

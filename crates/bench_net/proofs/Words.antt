@@ -5,7 +5,7 @@ use Rattle.std.specs.List.{All, AllZip, list_all}
 use Rattle.std.specs.Str.{IsUtf8}
 use Rattle.std.specs.Int.{is_in_range}
 use Rattle.std.proofs.lemmas.Bool.{leb-true, and_parts}
-use Rattle.std.proofs.lemmas.List.Elements.{All-cons, All-nil}
+use Rattle.std.proofs.lemmas.List.Elements.{Contains-get_or}
 use Rattle.std.proofs.lemmas.Str.{IsUtf8-from_ascii}
 use Rattle.std.proofs.lemmas.Str.Ascii.{IsAscii-from_all}
 use Rattle.bench_net.specs.Text.{is_word_byte, is_mark, Spells, lines}
@@ -13,7 +13,7 @@ use Rattle.bench_net.specs.Statement.{Name, Statement, Input, Output, Gate, Dff,
 use Rattle.bench_net.specs.Reading.{States, LinesState, statements}
 use Rattle.bench_net.specs.Scan.{names}
 use Rattle.bench_net.specs.Circuit.{HaveArities}
-use Rattle.lists.proofs.Members.{Among, among, joined_from}
+use Rattle.lists.proofs.Members.{Among, among, each_passes, joined_from}
 use Rattle.bench_net.proofs.Answered.{stated_at}
 
 word_ascii : (b : ℕ) → is_word_byte b ≡ true → b < 128
@@ -24,10 +24,8 @@ word_ascii b e =
     omega (arith, high)
 
 all_ascii : (w : List ℕ) → list_all is_word_byte w ≡ true → All (λ b. b < 128) w
-all_ascii [] e = All-nil (λ b. b < 128)
-all_ascii (b ∷ w) e =
-    let p = and_parts (is_word_byte b) (list_all is_word_byte w) e in
-    All-cons (λ c. c < 128) b w (word_ascii b p.0) (all_ascii w p.1)
+all_ascii w e k d below =
+    word_ascii _ (each_passes is_word_byte w _ e (Contains-get_or w k d below))
 
 -- the name that a statement of a line defines is a word of the line
 defined_word : (line : List ℕ) (s : Statement) (n : Name) → States line (Some s)

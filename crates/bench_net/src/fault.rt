@@ -1,7 +1,7 @@
 //! Why the work on a text stops.
 
 ghost use Rattle.std.specs.Prelude.{◌≡◌};
-ghost use Rattle.bench_net.specs.Parsed.{or_refusal};
+ghost use Rattle.bench_net.specs.reader.Parsed.{or_refusal};
 
 use crate::BenchFault;
 use std::alloc::AllocFailed;

@@ -1,15 +1,18 @@
 //! The names of statements as numbers.
 
-ghost use Rattle.std.specs.Prelude.{◌≡◌, ◌<◌, ◌≤◌, ◌+◌, false, not, None, [], ◌∷◌, ◌++◌, length, map, IfOk, IfErr, option_map, if◌then◌else◌, string_bytes};
+ghost use Rattle.std.specs.Prelude.{◌≡◌, ◌<◌, ◌≤◌, ◌+◌, [], ◌∷◌, ◌++◌, length, map};
+ghost use Rattle.std.specs.Prelude.{false, not, None, IfOk, IfErr, option_map, if◌then◌else◌};
+ghost use Rattle.std.specs.Prelude.{string_bytes};
 ghost use Rattle.std.specs.List.{All, list_all};
 ghost use Rattle.std.specs.Str.{IsUtf8};
 ghost use Rattle.bench_net.specs.Circuit.{max_signals};
 ghost use Rattle.bench_net.specs.Stored.{name_at};
-ghost use Rattle.bench_net.specs.Numbering.{IsNextFor, IsNumberedLine, AreNumberedLines};
+ghost use Rattle.bench_net.specs.reader.Numbering.{IsNextFor, IsNumberedLine, AreNumberedLines};
 ghost use Rattle.std.specs.Option.{option_to_list};
 ghost use Rattle.bench_net.specs.Statement.{defined, read};
-ghost use Rattle.bench_net.specs.Parsed.{stands_for, names_of};
-ghost use Rattle.bench_net.specs.Entries.{entries_of, names_in, is_in, redefines, reads_unknown, first_line, EndsPass};
+ghost use Rattle.bench_net.specs.reader.Parsed.{stands_for, names_of};
+ghost use Rattle.bench_net.specs.reader.Entries.{names_in, is_in, redefines, reads_unknown};
+ghost use Rattle.bench_net.specs.reader.Entries.{first_at, EndsPass};
 
 use crate::fault::LineFault;
 use crate::line::Line;
@@ -45,7 +48,8 @@ pub fn defined<'a>(statement: &Stated<'a>) -> Option<&'a [u8]>
 /// Adds a name behind the others, and says whether it is new.
 fn add_name<'a>(names: &mut Names<'a>, name: &'a [u8]) -> Result<bool, BenchFault>
     ensures added { IfOk result (λ added. added ≡ not (is_in (names_of names.old.keys) name.now)) }
-    ensures names { IfOk result (λ added. names_of names.new.keys ≡ names_of names.old.keys ++ (if added then name.now ∷ [] else [])) }
+    ensures names { IfOk result (λ added. names_of names.new.keys
+        ≡ names_of names.old.keys ++ (if added then name.now ∷ [] else [])) }
     ensures refused { IfErr result (λ fault. fault ≡ BenchFault.Memory) }
 {
     let (_, added) = names.insert_full(name)?;
@@ -55,8 +59,8 @@ fn add_name<'a>(names: &mut Names<'a>, name: &'a [u8]) -> Result<bool, BenchFaul
 /// Numbers the defined names in the order of their lines.
 pub fn number_names<'a>(alloc: Global, stated: &[StatedLine<'a>]) -> Result<Names<'a>, BenchFault>
     ensures numbered { IfOk result (λ names. names_of names.keys ≡ names_in stated.now) }
-    ensures once { IfOk result (λ names. first_line redefines [] (entries_of stated.now) ≡ None) }
-    ensures refused { IfErr result (EndsPass BenchFault.Redefined (first_line redefines [] (entries_of stated.now))) }
+    ensures once { IfOk result (λ names. first_at redefines stated.now ≡ None) }
+    ensures refused { IfErr result (EndsPass BenchFault.Redefined (first_at redefines stated.now)) }
 {
     let mut names = IndexSet::new(alloc);
     for line in stated {
@@ -91,9 +95,12 @@ fn number_pins(
     names: &Names,
 ) -> Result<SmallVec<u32, 4>, LineFault>
     requires { length names.now.keys ≤ max_signals }
-    ensures within { IfOk result (λ pins. All (λ number. number < length (names_of names.now.keys)) pins.items) }
-    ensures named { IfOk result (λ pins. map (name_at (names_of names.now.keys)) pins.items ≡ names_of arguments.now) }
-    ensures refused { IfErr result (λ fault. fault ≡ LineFault.Refused → list_all (is_in (names_of names.now.keys)) (names_of arguments.now) ≡ false) }
+    ensures within { IfOk result (λ pins.
+        All (λ number. number < length (names_of names.now.keys)) pins.items) }
+    ensures named { IfOk result (λ pins.
+        map (name_at (names_of names.now.keys)) pins.items ≡ names_of arguments.now) }
+    ensures refused { IfErr result (λ fault. fault ≡ LineFault.Refused
+        → list_all (is_in (names_of names.now.keys)) (names_of arguments.now) ≡ false) }
 {
     let mut pins = SmallVec::new(alloc);
     for argument in arguments {
@@ -112,8 +119,10 @@ fn number_line(
 ) -> Result<Line, LineFault>
     requires few { length names.now.keys ≤ max_signals }
     requires own { IsNextFor (names_of names.now.keys) next (stands_for statement.now) }
-    ensures numbered { IfOk result (IsNumberedLine (names_of names.now.keys) next (stands_for statement.now)) }
-    ensures refused { IfErr result (λ fault. fault ≡ LineFault.Refused → list_all (is_in (names_of names.now.keys)) (read (stands_for statement.now)) ≡ false) }
+    ensures numbered { IfOk result
+        (IsNumberedLine (names_of names.now.keys) next (stands_for statement.now)) }
+    ensures refused { IfErr result (λ fault. fault ≡ LineFault.Refused
+        → list_all (is_in (names_of names.now.keys)) (read (stands_for statement.now)) ≡ false) }
 {
     match statement {
         Stated::Input(_) => Ok(Line::Input(next)),
@@ -153,9 +162,12 @@ pub fn number_lines(
 ) -> Result<Vec<Line>, BenchFault>
     requires few { length names.now.keys ≤ max_signals }
     requires own { names_of names.now.keys ≡ names_in stated.now }
-    ensures numbered { IfOk result (λ lines. AreNumberedLines (names_of names.now.keys) stated.now lines.items) }
-    ensures known { IfOk result (λ lines. first_line (reads_unknown (names_of names.now.keys)) [] (entries_of stated.now) ≡ None) }
-    ensures refused { IfErr result (EndsPass BenchFault.Undefined (first_line (reads_unknown (names_of names.now.keys)) [] (entries_of stated.now))) }
+    ensures numbered { IfOk result (λ lines.
+        AreNumberedLines (names_of names.now.keys) stated.now lines.items) }
+    ensures known { IfOk result (λ lines.
+        first_at (reads_unknown (names_of names.now.keys)) stated.now ≡ None) }
+    ensures refused { IfErr result (EndsPass BenchFault.Undefined
+        (first_at (reads_unknown (names_of names.now.keys)) stated.now)) }
 {
     let mut lines = Vec::with_capacity(alloc, stated.len())?;
     let mut next = 0;

@@ -1,18 +1,21 @@
 //! The lines of a bench text as numbered statements.
 //!
-//! The format is that of the ISCAS circuits (Brglez and Fujiwara, A neutral netlist of 10 combinational benchmark
-//! circuits, 1985; Brglez, Bryan and Kozminski, Combinational profiles of sequential benchmark circuits, 1989).
-//! The passes go over the whole text one after another: statements, limits, definitions, and names that are read.
-//! Each pass ends at the first line with its fault, so the refusals come in this order and name the lowest line.
+//! The format is that of the ISCAS circuits (Brglez and Fujiwara, A neutral netlist of 10
+//! combinational benchmark circuits, 1985; Brglez, Bryan and Kozminski, Combinational profiles of
+//! sequential benchmark circuits, 1989). The passes go over the whole text one after another:
+//! statements, limits, definitions, and names that are read. Each pass ends at the first line with
+//! its fault, so the refusals come in this order and name the lowest line.
 
-ghost use Rattle.std.specs.Prelude.{◌≡◌, ◌⊎◌, ◌≤◌, length, map, string_bytes, IfOk, IfErr, IsTrue, ◌↔◌};
+ghost use Rattle.std.specs.Prelude.{◌≡◌, ◌⊎◌, ◌≤◌, ◌↔◌, length, map, string_bytes};
+ghost use Rattle.std.specs.Prelude.{IfOk, IfErr, IsTrue};
 ghost use Rattle.std.specs.Str.Lines.{strip_carriage_return};
 ghost use Rattle.bench_net.specs.Text.{lines};
 ghost use Rattle.bench_net.specs.Circuit.{max_bytes, max_signals, max_sinks};
 ghost use Rattle.bench_net.specs.Refusal.{IsRefused};
-ghost use Rattle.bench_net.specs.Entries.{entries_of, names_in, reads_in, unread, EndsPass, HaveEntries};
-ghost use Rattle.bench_net.specs.Plain.{stated_of};
-ghost use Rattle.bench_net.specs.Parsed.{stands_for};
+ghost use Rattle.bench_net.specs.reader.Entries.{entries_of, names_in, reads_in, unread};
+ghost use Rattle.bench_net.specs.reader.Entries.{EndsPass, HaveEntries};
+ghost use Rattle.bench_net.specs.reader.Plain.{stated_of};
+ghost use Rattle.bench_net.specs.reader.Parsed.{stands_for};
 ghost use Rattle.bench_net.specs.Statement.{read};
 ghost use Rattle.bench_net.specs.Stored.{AreLinesOf};
 
@@ -31,8 +34,8 @@ const MAX_SIGNALS: usize = 1_000_000;
 /// The greatest number of gate pins, data pins and outputs together.
 const MAX_SINKS: usize = 4_000_000;
 
-/// The statements of a text: the names in the order of their definitions, the lines over their numbers,
-/// and beside each line the number of its line in the text, from 1.
+/// The statements of a text: the names in the order of their definitions, the lines over their
+/// numbers, and beside each line the number of its line in the text, from 1.
 #[derive(Drop)]
 pub struct Lines {
     pub names: Vec<String>,
@@ -54,7 +57,8 @@ fn without_return<'a>(line: &'a [u8]) -> &'a [u8]
 fn read_statements<'a>(alloc: Global, text: &'a [u8]) -> Result<Vec<StatedLine<'a>>, BenchFault>
     requires { length text.now ≤ max_bytes }
     ensures ok { IfOk result (λ stated. HaveEntries (lines text.now) (entries_of stated.items)) }
-    ensures refused { IfErr result (EndsPass BenchFault.Syntax (unread 1 (map stated_of (lines text.now)))) }
+    ensures refused { IfErr result
+        (EndsPass BenchFault.Syntax (unread 1 (map stated_of (lines text.now)))) }
 {
     let mut stated = Vec::new(alloc);
     let mut number = 0;
@@ -114,11 +118,13 @@ fn sinks_fit(stated: &[StatedLine]) -> bool
     true
 }
 
-/// The statements of a text over numbers, or the refusal of the text. Cycles and a text without statements are not
-/// looked for.
+/// The statements of a text over numbers, or the refusal of the text. Cycles and a text without
+/// statements are not looked for.
 pub fn read_lines(alloc: Global, text: &[u8]) -> Result<Lines, BenchFault>
-    ensures lines { IfOk result (λ r. AreLinesOf text.now (map string_bytes r.names.items) r.lines.items r.at.items) }
-    ensures refused { IfErr result (λ fault. (fault ≡ BenchFault.Memory) ⊎ IsRefused text.now fault) }
+    ensures lines { IfOk result (λ r.
+        AreLinesOf text.now (map string_bytes r.names.items) r.lines.items r.at.items) }
+    ensures refused { IfErr result (λ fault.
+        (fault ≡ BenchFault.Memory) ⊎ IsRefused text.now fault) }
 {
     if text.len() > MAX_BYTES {
         return Err(BenchFault::TooLarge(Limit::Bytes));

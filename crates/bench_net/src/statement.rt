@@ -1,11 +1,14 @@
 //! The statement of one line.
 
-ghost use Rattle.std.specs.Prelude.{◌≡◌, ◌≢◌, ◌↔◌, ℕ, List, ◌∷◌, [], length, Some, None, option_map, option_and_then, IsTrue, IfSome, IfNone, IfOk, IfErr, MatchResult, ⊤};
-ghost use Rattle.std.specs.Str.{str_eq_ignore_ascii_case, str_to_ascii_lowercase};
+ghost use Rattle.std.specs.Prelude.{◌≡◌, ◌≢◌, ◌↔◌, ℕ, List, ◌∷◌, [], length, Some, None, IsTrue};
+ghost use Rattle.std.specs.Prelude.{option_map, option_and_then, IfSome, IfNone, IfOk, IfErr};
+ghost use Rattle.std.specs.Str.{str_eq_ignore_ascii_case};
 ghost use Rattle.bench_net.specs.Text.{Token as TextToken, Word};
 ghost use Rattle.bench_net.specs.Statement.{Name};
-ghost use Rattle.bench_net.specs.Plain.{tokens_of, kind_of_lower, has_arity, gate_with, cell_with, driven_by, read_tokens, stated_of, Leads};
-ghost use Rattle.bench_net.specs.Parsed.{names_of, stands_for, args_in, IsArgument, port_of, driven_tokens, IsReading, IsLineReading};
+ghost use Rattle.bench_net.specs.reader.Plain.{tokens_of, kind_of, has_arity, gate_with, cell_with};
+ghost use Rattle.bench_net.specs.reader.Plain.{driven_by, read_tokens, stated_of, Leads};
+ghost use Rattle.bench_net.specs.reader.Parsed.{names_of, stands_for, args_in, port_of};
+ghost use Rattle.bench_net.specs.reader.Parsed.{driven_tokens, IsArgument, IsReadAs};
 
 use crate::Kind;
 use crate::fault::LineFault;
@@ -41,7 +44,7 @@ fn is_keyword(word: &[u8], keyword: &[u8]) -> bool
 
 /// The kind that a word names, in any ASCII case.
 fn kind_named(word: &[u8]) -> Option<Kind>
-    ensures { result ≡ kind_of_lower (str_to_ascii_lowercase word.now) }
+    ensures { result ≡ kind_of word.now }
 {
     if is_keyword(word, b"AND") {
         Some(Kind::And)
@@ -84,7 +87,8 @@ fn is_end(rest: &[u8]) -> bool
 /// The word at the front, and what stands behind it.
 fn leading_word<'a>(bytes: &'a [u8]) -> Option<(&'a [u8], &'a [u8])>
     ensures found { IfSome result (λ p. Leads bytes.now (Word p.0.now) p.1.now) }
-    ensures none { IfNone result ((w : List ℕ) (ts : List TextToken) → tokens_of bytes.now ≢ Some (Word w ∷ ts)) }
+    ensures none { IfNone result ((w : List ℕ) (ts : List TextToken)
+        → tokens_of bytes.now ≢ Some (Word w ∷ ts)) }
 {
     match next_token(bytes) {
         Front::Token(Token::Word(word), rest) => Some((word, rest)),
@@ -92,7 +96,8 @@ fn leading_word<'a>(bytes: &'a [u8]) -> Option<(&'a [u8], &'a [u8])>
     }
 }
 
-/// The argument at the front: a word with a comma behind it, or one with the parenthesis that ends the line.
+/// The argument at the front: a word with a comma behind it, or one with the parenthesis that ends
+/// the line.
 fn leading_argument<'a>(bytes: &'a [u8]) -> Option<Argument<'a>>
     ensures { IsArgument bytes.now result }
 {
@@ -151,7 +156,8 @@ fn port<'a>(word: &[u8], arguments: Arguments<'a>) -> Option<Stated<'a>>
 
 /// `n = KIND ( a , b , .. )`, from the name, the word and the arguments.
 fn gate<'a>(name: &'a [u8], word: &[u8], arguments: Arguments<'a>) -> Option<Stated<'a>>
-    ensures { option_map stands_for result ≡ gate_with name.now (names_of arguments.entry.items) (kind_of_lower (str_to_ascii_lowercase word.now)) }
+    ensures { option_map stands_for result
+        ≡ gate_with name.now (names_of arguments.entry.items) (kind_of word.now) }
 {
     let kind = kind_named(word)?;
     if takes(kind, arguments.len()) {
@@ -173,7 +179,8 @@ fn cell<'a>(name: &'a [u8], arguments: Arguments<'a>) -> Option<Stated<'a>>
 
 /// The statement that drives a name, from the word before the parenthesis and the arguments.
 fn driven<'a>(name: &'a [u8], word: &[u8], arguments: Arguments<'a>) -> Option<Stated<'a>>
-    ensures { option_map stands_for result ≡ driven_by name.now (str_to_ascii_lowercase word.now) (names_of arguments.entry.items) }
+    ensures { option_map stands_for result
+        ≡ driven_by name.now word.now (names_of arguments.entry.items) }
 {
     if is_keyword(word, b"DFF") {
         cell(name, arguments)
@@ -184,7 +191,8 @@ fn driven<'a>(name: &'a [u8], word: &[u8], arguments: Arguments<'a>) -> Option<S
 
 /// The statement of a line `name = ..`, from the bytes behind the equals sign.
 fn read_driven<'a>(alloc: Global, name: &'a [u8], bytes: &'a [u8]) -> Result<Stated<'a>, LineFault>
-    ensures { IsReading (option_and_then (driven_tokens name.now) (tokens_of bytes.now)) result }
+    ensures { IsReadAs stands_for
+        (option_and_then (driven_tokens name.now) (tokens_of bytes.now)) result }
 {
     let Some((word, rest)) = leading_word(bytes) else {
         return Err(LineFault::Refused);
@@ -198,7 +206,7 @@ fn read_driven<'a>(alloc: Global, name: &'a [u8], bytes: &'a [u8]) -> Result<Sta
 
 /// The statement of a line `word ( .. )`, from the bytes behind the parenthesis.
 fn read_port<'a>(alloc: Global, word: &'a [u8], bytes: &'a [u8]) -> Result<Stated<'a>, LineFault>
-    ensures { IsReading (option_and_then (port_of word.now) (args_in bytes.now)) result }
+    ensures { IsReadAs stands_for (option_and_then (port_of word.now) (args_in bytes.now)) result }
 {
     let arguments = read_arguments(alloc, bytes)?;
     port(word, arguments).ok_or(LineFault::Refused)
@@ -206,7 +214,8 @@ fn read_port<'a>(alloc: Global, word: &'a [u8], bytes: &'a [u8]) -> Result<State
 
 /// The statement of a line that begins with this word, from the bytes behind it.
 fn read_behind<'a>(alloc: Global, word: &'a [u8], bytes: &'a [u8]) -> Result<Stated<'a>, LineFault>
-    ensures { IsReading (option_and_then (λ ts. read_tokens (Word word.now ∷ ts)) (tokens_of bytes.now)) result }
+    ensures { IsReadAs stands_for
+        (option_and_then (λ ts. read_tokens (Word word.now ∷ ts)) (tokens_of bytes.now)) result }
 {
     match next_token(bytes) {
         Front::Token(Token::Open, rest) => read_port(alloc, word, rest),
@@ -217,7 +226,7 @@ fn read_behind<'a>(alloc: Global, word: &'a [u8], bytes: &'a [u8]) -> Result<Sta
 
 /// What a line states: nothing where it has no token, and else its statement.
 pub fn read_line<'a>(alloc: Global, line: &'a [u8]) -> Result<Option<Stated<'a>>, LineFault>
-    ensures { IsLineReading (stated_of line.now) result }
+    ensures { IsReadAs (option_map stands_for) (stated_of line.now) result }
 {
     match next_token(line) {
         Front::End => Ok(None),

@@ -3,7 +3,7 @@ use Rattle.std.specs.Prelude.{if◌then◌else◌}
 use Rattle.std.specs.Borrow.{Bor}
 use Rattle.std.proofs.lemmas.List.{map_push, append-nil}
 use Rattle.bench_net.specs.Statement.{Name}
-use Rattle.bench_net.specs.Parsed.{names_of}
+use Rattle.bench_net.specs.reader.Parsed.{names_of}
 use Rattle.bench_net.proofs.Passes.{key_in}
 use Rattle.bench_net.proofs.number.add_name.Goals as goal
 

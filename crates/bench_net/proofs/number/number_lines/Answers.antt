@@ -1,7 +1,7 @@
 use Rattle.std.proofs.Common.{◌≤◌, ◌<◌, ◌∙◌, length, length-append, refl, arith, ap, not}
 use Rattle.std.proofs.lemmas.List.{length-map}
-use Rattle.bench_net.specs.Parsed.{names_of, stands_for}
-use Rattle.bench_net.specs.Entries.{defined_of, reads_unknown}
+use Rattle.bench_net.specs.reader.Parsed.{names_of, stands_for}
+use Rattle.bench_net.specs.reader.Entries.{defined_of, reads_unknown}
 use Rattle.bench_net.proofs.Numbering.{next_for, ends_pass, numbered_more, all_known}
 use Rattle.bench_net.proofs.Passes.{names_fit, names_more, pass_ends, pass_on}
 use Rattle.bench_net.proofs.number.number_lines.Goals as goal

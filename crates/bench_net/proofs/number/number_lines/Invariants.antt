@@ -1,7 +1,7 @@
 use Rattle.std.proofs.Common.{◌≡◌, length, take}
-use Rattle.bench_net.specs.Parsed.{names_of}
-use Rattle.bench_net.specs.Entries.{names_in, reads_unknown}
-use Rattle.bench_net.specs.Numbering.{AreNumberedLines}
+use Rattle.bench_net.specs.reader.Parsed.{names_of}
+use Rattle.bench_net.specs.reader.Entries.{names_in, reads_unknown}
+use Rattle.bench_net.specs.reader.Numbering.{AreNumberedLines}
 use Rattle.bench_net.proofs.Passes.{NoneBefore}
 use Rattle.bench_net.proofs.number.number_lines.Given as goal
 

@@ -1,8 +1,8 @@
 use Rattle.std.proofs.Common.{◌≡◌, ◌∙◌, ◌∷◌, [], true, false, take, ap, sym, inr, refl, arith, option_map}
 use Rattle.std.specs.Option.{option_to_list}
 use Rattle.std.proofs.lemmas.Bool.{not-true, not-false}
-use Rattle.bench_net.specs.Parsed.{stands_for}
-use Rattle.bench_net.specs.Entries.{names_in, defined_of, is_in, redefines}
+use Rattle.bench_net.specs.reader.Parsed.{stands_for}
+use Rattle.bench_net.specs.reader.Entries.{names_in, defined_of, is_in, redefines}
 use Rattle.bench_net.proofs.Passes.{names_more, pass_ends, pass_on, redefines_one}
 use Rattle.bench_net.proofs.number.number_names.Goals as goal
 

@@ -1,6 +1,6 @@
 use Rattle.std.proofs.Common.{◌≡◌, take}
-use Rattle.bench_net.specs.Parsed.{names_of}
-use Rattle.bench_net.specs.Entries.{names_in, redefines}
+use Rattle.bench_net.specs.reader.Parsed.{names_of}
+use Rattle.bench_net.specs.reader.Entries.{names_in, redefines}
 use Rattle.bench_net.proofs.Passes.{NoneBefore}
 use Rattle.bench_net.proofs.number.number_names.Given as goal
 

@@ -1,7 +1,7 @@
 use Rattle.std.proofs.Common.{◌∙◌, arith}
 use Rattle.std.proofs.lemmas.List.Folds.{list_all-map, list_all_at}
-use Rattle.bench_net.specs.Parsed.{names_of}
-use Rattle.bench_net.specs.Entries.{is_in}
+use Rattle.bench_net.specs.reader.Parsed.{names_of}
+use Rattle.bench_net.specs.reader.Entries.{is_in}
 use Rattle.bench_net.proofs.Numbering.{if_err}
 use Rattle.bench_net.proofs.number.number_pins.Goals as goal
 

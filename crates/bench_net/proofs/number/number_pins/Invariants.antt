@@ -1,6 +1,6 @@
 use Rattle.std.proofs.Common.{◌≡◌, ◌<◌, map, take, length}
 use Rattle.std.specs.List.{All}
-use Rattle.bench_net.specs.Parsed.{names_of}
+use Rattle.bench_net.specs.reader.Parsed.{names_of}
 use Rattle.bench_net.specs.Stored.{name_at}
 use Rattle.bench_net.proofs.number.number_pins.Given as goal
 

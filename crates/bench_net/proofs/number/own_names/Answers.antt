@@ -1,7 +1,7 @@
 use Rattle.std.proofs.Common.{◌∙◌, ◌++◌, sym, ap, map, string_bytes}
 use Rattle.std.proofs.lemmas.Map.Iter.{rest_more}
 use Rattle.std.specs.Map.Iter.{deref}
-use Rattle.bench_net.specs.Parsed.{names_of}
+use Rattle.bench_net.specs.reader.Parsed.{names_of}
 use Rattle.bench_net.proofs.Numbering.{utf8_in_rest}
 use Rattle.bench_net.proofs.number.own_names.Goals as goal
 

@@ -1,5 +1,5 @@
 use Rattle.std.proofs.Common.{◌≡◌, ◌++◌, map, string_bytes}
-use Rattle.bench_net.specs.Parsed.{names_of}
+use Rattle.bench_net.specs.reader.Parsed.{names_of}
 use Rattle.bench_net.proofs.number.own_names.Given as goal
 
 abbrev pub invariant-loop-name : goal.invariant-loop-name

@@ -1,6 +1,6 @@
 use Rattle.std.proofs.Common.{◌≡◌, ◌∙◌, sym, inr, true, false, arith}
 use Rattle.std.proofs.lemmas.Result.{err_from_is_err_and}
-use Rattle.bench_net.specs.Parsed.{names_of}
+use Rattle.bench_net.specs.reader.Parsed.{names_of}
 use Rattle.bench_net.proofs.Assembled.{syntax, too_many_signals, too_many_sinks, redefined, undefined, all_utf8, assembled}
 use Rattle.bench_net.proofs.read.read_lines.Goals as goal
 

@@ -4,7 +4,7 @@ use Rattle.std.proofs.lemmas.Iterator.Splits.{YieldsList-from_slice_split}
 use Rattle.std.proofs.lemmas.Iterator.Consumers.{YieldsList-turn, YieldsList-end, YieldsList-so_far}
 use Rattle.std.specs.Str.Lines.{strip_carriage_return}
 use borrow.Author.Tests.{tests}
-use Rattle.bench_net.specs.Entries.{entries_of}
+use Rattle.bench_net.specs.reader.Entries.{entries_of}
 use Rattle.bench_net.proofs.Entries.{given_nothing, given_one, refused_line, line_refused}
 use Rattle.bench_net.proofs.Numbering.{ends_pass}
 use Rattle.bench_net.proofs.read.read_statements.Goals as goal

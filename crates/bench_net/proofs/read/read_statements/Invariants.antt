@@ -1,5 +1,5 @@
 use Rattle.std.proofs.Common.{◌≡◌, length}
-use Rattle.bench_net.specs.Entries.{entries_of, HaveEntries}
+use Rattle.bench_net.specs.reader.Entries.{entries_of, HaveEntries}
 use Rattle.bench_net.proofs.Entries.{given}
 use Rattle.bench_net.proofs.read.read_statements.Given as goal
 

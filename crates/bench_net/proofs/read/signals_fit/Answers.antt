@@ -3,7 +3,7 @@ use Rattle.std.specs.Prelude.{is_some}
 use Rattle.std.specs.Option.{option_to_list}
 use Rattle.std.specs.Borrow.{Bor}
 use Rattle.bench_net.specs.Statement.{Name}
-use Rattle.bench_net.specs.Entries.{defined_of}
+use Rattle.bench_net.specs.reader.Entries.{defined_of}
 use Rattle.bench_net.proofs.Passes.{names_fit}
 use Rattle.bench_net.proofs.read.signals_fit.Goals as goal
 

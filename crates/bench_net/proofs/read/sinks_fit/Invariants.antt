@@ -1,5 +1,5 @@
 use Rattle.std.proofs.Common.{◌≡◌, ◌≤◌, length, take}
-use Rattle.bench_net.specs.Entries.{reads_in}
+use Rattle.bench_net.specs.reader.Entries.{reads_in}
 use Rattle.bench_net.proofs.read.sinks_fit.Given as goal
 
 abbrev pub invariant-loop-line : goal.invariant-loop-line

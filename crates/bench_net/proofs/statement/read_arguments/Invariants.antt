@@ -1,5 +1,5 @@
 use Rattle.std.proofs.Common.{◌≡◌, length}
-use Rattle.bench_net.specs.Parsed.{names_of, args_in}
+use Rattle.bench_net.specs.reader.Parsed.{names_of, args_in}
 use Rattle.bench_net.proofs.Arguments.{joined}
 use Rattle.bench_net.proofs.statement.read_arguments.Given as goal
 

@@ -1,14 +1,18 @@
 -- The tokens and the statement of a line, computed from its front.
-use Rattle.std.specs.Prelude.{◌≡◌, ◌<◌, ℕ, Bool, false, ◌==◌, nat_le, List, [], ◌∷◌, length, Option, Some, None, if◌then◌else◌, option_map, option_and_then, bytes_eq, codes}
-use Rattle.std.specs.Str.{str_to_ascii_lowercase}
+use Rattle.std.specs.Prelude.{◌≡◌, ◌<◌, ℕ, Bool, false, ◌==◌, nat_le, List, [], ◌∷◌, length}
+use Rattle.std.specs.Prelude.{Option, Some, None, if◌then◌else◌, option_map, option_and_then, codes}
+use Rattle.std.specs.List.{find}
+use Rattle.std.specs.Str.{str_eq_ignore_ascii_case}
 use Rattle.bench_net.specs.declared.Kind.{Kind}
 use Rattle.bench_net.specs.declared.Kind.TheVariants.{And, Nand, Or, Nor, Xor, Xnor, Not, Buff}
 use Rattle.bench_net.specs.declared.scan.Token.{Token as Found}
 use Rattle.bench_net.specs.declared.scan.Token.TheVariants as found
 use Rattle.bench_net.specs.declared.scan.Front.{Front}
 use Rattle.bench_net.specs.declared.scan.Front.TheVariants as front
-use Rattle.bench_net.specs.Text.{Token, Open, Close, Comma, Equals, Word, is_blank, is_mark, is_word_byte}
+use Rattle.bench_net.specs.Text.{Token, Open, Close, Comma, Equals, Word}
+use Rattle.bench_net.specs.Text.{is_blank, is_mark, is_word_byte}
 use Rattle.bench_net.specs.Statement.{Name, Statement, Input, Output, Gate, Dff}
+use Rattle.bench_net.specs.Reading.{names_kind}
 
 abbrev pub mark_of : ℕ → Token
 mark_of b = if b == 40 then Open else if b == 41 then Close else if b == 44 then Comma else Equals
@@ -18,7 +22,8 @@ abbrev pub starts_word : List ℕ → Bool
 starts_word [] = false
 starts_word (b ∷ bytes) = is_word_byte b
 
--- a word byte before these tokens: at the front of the word that the bytes begin with, or a word of its own
+-- a word byte before these tokens: at the front of the word that the bytes begin with, or a word of
+-- its own
 abbrev pub onto_word : ℕ → List Token → List Token
 onto_word b (Word w ∷ tokens) = Word (b ∷ w) ∷ tokens
 onto_word b tokens = Word (b ∷ []) ∷ tokens
@@ -36,19 +41,12 @@ tokens_of (b ∷ line) =
     else if is_word_byte b then option_map (with_byte b (starts_word line)) (tokens_of line)
     else None
 
--- the kind that a lower-case word names
-abbrev pub kind_of_lower : List ℕ → Option Kind
-kind_of_lower w =
-    if bytes_eq w (codes "and") then Some And
-    else if bytes_eq w (codes "nand") then Some Nand
-    else if bytes_eq w (codes "or") then Some Or
-    else if bytes_eq w (codes "nor") then Some Nor
-    else if bytes_eq w (codes "xor") then Some Xor
-    else if bytes_eq w (codes "xnor") then Some Xnor
-    else if bytes_eq w (codes "not") then Some Not
-    else if bytes_eq w (codes "buff") then Some Buff
-    else if bytes_eq w (codes "buf") then Some Buff
-    else None
+abbrev pub kinds : List Kind
+kinds = And ∷ Nand ∷ Or ∷ Nor ∷ Xor ∷ Xnor ∷ Not ∷ Buff ∷ []
+
+-- the kind that a word names, in any ASCII case
+abbrev pub kind_of : List ℕ → Option Kind
+kind_of w = find (names_kind w) kinds
 
 -- the arguments before a closing parenthesis that ends the line
 abbrev pub args_of : List Token → Option (List Name)
@@ -70,15 +68,21 @@ cell_with q (d ∷ []) = Some (Dff q d)
 cell_with q _ = None
 
 abbrev pub driven_by : Name → List ℕ → List Name → Option Statement
-driven_by n w args = if bytes_eq w (codes "dff") then cell_with n args else gate_with n args (kind_of_lower w)
+driven_by n w args =
+    if str_eq_ignore_ascii_case w (codes "DFF") then cell_with n args
+    else gate_with n args (kind_of w)
 
 abbrev pub port : List ℕ → Name → Option Statement
-port w n = if bytes_eq w (codes "input") then Some (Input n) else if bytes_eq w (codes "output") then Some (Output n) else None
+port w n =
+    if str_eq_ignore_ascii_case w (codes "INPUT") then Some (Input n)
+    else if str_eq_ignore_ascii_case w (codes "OUTPUT") then Some (Output n)
+    else None
 
 -- the statement that tokens read as
 abbrev pub read_tokens : List Token → Option Statement
-read_tokens (Word w ∷ Open ∷ Word n ∷ Close ∷ []) = port (str_to_ascii_lowercase w) n
-read_tokens (Word n ∷ Equals ∷ Word w ∷ Open ∷ tokens) = option_and_then (driven_by n (str_to_ascii_lowercase w)) (args_of tokens)
+read_tokens (Word w ∷ Open ∷ Word n ∷ Close ∷ []) = port w n
+read_tokens (Word n ∷ Equals ∷ Word w ∷ Open ∷ tokens) =
+    option_and_then (driven_by n w) (args_of tokens)
 read_tokens _ = None
 
 -- what the line states: None where it is at fault

@@ -1,12 +1,13 @@
 -- The statements of a text, each with the number of its line, and the first of them at fault.
-use Rattle.std.specs.Prelude.{◌≡◌, ◌⊎◌, ℕ, suc, Bool, not, List, [], ◌∷◌, ◌++◌, map, flat_map, Option, Some, None, if◌then◌else◌, bytes_eq}
+use Rattle.std.specs.Prelude.{◌≡◌, ◌⊎◌, ℕ, suc, Bool, not, List, [], ◌∷◌, ◌++◌, map, flat_map}
+use Rattle.std.specs.Prelude.{Option, Some, None, if◌then◌else◌, bytes_eq}
 use Rattle.std.specs.List.{list_all, list_any}
 use Rattle.bench_net.specs.declared.BenchFault.{BenchFault}
 use Rattle.bench_net.specs.declared.BenchFault.TheVariants.{Memory}
 use Rattle.bench_net.specs.declared.number.StatedLine.{StatedLine}
 use Rattle.bench_net.specs.Statement.{Name, Statement, defined, read}
-use Rattle.bench_net.specs.Plain.{stated_of}
-use Rattle.bench_net.specs.Parsed.{stands_for}
+use Rattle.bench_net.specs.reader.Plain.{stated_of}
+use Rattle.bench_net.specs.reader.Parsed.{stands_for}
 
 -- a statement beside the number of its line
 abbrev pub Entry : Type 0
@@ -40,18 +41,23 @@ unread line [] = None
 unread line (None ∷ found) = Some line
 unread line (Some s ∷ found) = unread (suc line) found
 
--- the line of the first entry at which a test passes, of the names that are defined before it and of its statement
+-- the line of the first entry at which a test passes, of the names that are defined before it and
+-- of its statement
 abbrev pub first_line : (List Name → Statement → Bool) → List Name → List Entry → Option ℕ
 first_line test before [] = None
 first_line test before (entry ∷ entries) =
     if test before entry.1 then Some entry.0
     else first_line test (before ++ defined entry.1) entries
 
+abbrev pub first_at : (List Name → Statement → Bool) → List StatedLine → Option ℕ
+first_at test stated = first_line test [] (entries_of stated)
+
 -- whether a name is one of these
 abbrev pub is_in : List Name → Name → Bool
 is_in ns n = list_any (bytes_eq n) ns
 
--- whether a statement defines a name that is defined before it, and whether it reads one that is none of these
+-- whether a statement defines a name that is defined before it, and whether it reads one that is
+-- none of these
 abbrev pub redefines : List Name → Statement → Bool
 redefines before s = list_any (is_in before) (defined s)
 

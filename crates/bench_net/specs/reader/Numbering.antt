@@ -4,9 +4,9 @@ use Rattle.std.specs.List.{All, range_with_len}
 use Rattle.bench_net.specs.declared.line.Line.{Line}
 use Rattle.bench_net.specs.declared.number.StatedLine.{StatedLine}
 use Rattle.bench_net.specs.Statement.{Name, Statement, defined}
-use Rattle.bench_net.specs.Parsed.{stands_for}
-use Rattle.bench_net.specs.Entries.{names_in}
-use Rattle.bench_net.specs.Stored.{name_at, statement_of, statements_of, defined_numbers, read_numbers}
+use Rattle.bench_net.specs.reader.Entries.{names_in, entries_of, stated_by}
+use Rattle.bench_net.specs.Stored.{name_at, statement_of, statements_of}
+use Rattle.bench_net.specs.Stored.{defined_numbers, read_numbers}
 
 -- the number is that of the name that the statement defines, if it defines one
 abbrev pub IsNextFor : List Name → ℕ → Statement → Type 0
@@ -18,13 +18,10 @@ pub record IsNumberedLine (ns : List Name) (next : ℕ) (s : Statement) (line : 
   pub own : defined_numbers line ≡ map (λ n. next) (defined s)
   pub in_range : All (λ number. number < length ns) (read_numbers line)
 
--- the statements of lines
-abbrev pub statements_in : List StatedLine → List Statement
-statements_in stated = map (λ line. stands_for line.statement) stated
-
--- the stored lines stand for the statements of these lines; own numbers go in order, and each number has a name
+-- the stored lines stand for the statements of these lines; own numbers go in order, and each
+-- number has a name
 pub record AreNumberedLines (ns : List Name) (stated : List StatedLine)
     (lines : List Line) : Type 0 where
-  pub stand : statements_of ns lines ≡ statements_in stated
+  pub stand : statements_of ns lines ≡ stated_by (entries_of stated)
   pub own : flat_map defined_numbers lines ≡ range_with_len 0 (length (names_in stated))
   pub in_range : All (λ number. number < length ns) (flat_map read_numbers lines)

@@ -1,0 +1,4 @@
+pub mod Plain
+pub mod Parsed
+pub mod Entries
+pub mod Numbering
