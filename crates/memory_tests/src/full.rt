@@ -1,14 +1,18 @@
 //! Calls that take no memory, where none is left, and threads that find no room for a stack.
 
+ghost use Rattle.std.specs.Prelude.{◌≡◌};
+ghost use Rattle.block_sim.specs.Parts.{HasRoom};
+ghost use Rattle.workers.specs.Settling.{IsShapeOf};
+
 use crate::ballast::Ballast;
 use crate::parts::{C17, tests_of_c17};
 use crate::runs::is_right;
 use crate::texts::Screen;
 use block_sim::{Job, Workspace, first_hit, simulate};
-use fault_ledger::{Claim, Finish, Ledger, SharedLedger};
+use fault_ledger::{Claim, Finish, Ledger, Seat, SharedLedger};
 use fault_model::Model;
 use report::{RunFault, job_of, listing_bytes, report_bytes, write_listing, write_report};
-use std::alloc::Global;
+use std::alloc::{AllocError, Global};
 use std::process::Abort;
 use std::sync::Wait;
 use std::test::Fail;
@@ -89,28 +93,58 @@ fn pieces_are_simulated(rt: HostRuntime) -> Result<(), Fail> {
     simulates_all(&rt, rt.alloc(), &job)
 }
 
-/// Lets one worker work with no memory left.
-fn works<R: Abort>(rt: &R, alloc: Global, job: &Job) -> Result<(), Fail> {
+/// Lets the worker of a seat work with no memory left. Says whether all went well.
+fn works_without_memory(
+    alloc: Global,
+    job: &Job,
+    ledger: &SharedLedger,
+    workspace: &mut Workspace,
+    seat: &mut Seat,
+) -> Result<bool, AllocError>
+    requires shape { IsShapeOf job.now ledger.now.shape }
+    requires place { seat.old.place ≡ ledger.now }
+    requires fits { HasRoom workspace.old job.now }
+{
+    let ballast = Ballast::all(alloc)?;
+    if seat.held().is_some() {
+        return Ok(false);
+    }
+    let end = work(job, ledger, workspace, seat, &OpenGate);
+    let finish = ledger.finished(seat);
+    drop(ballast);
+    Ok(end != End::Stopped && finish == Finish::Finished)
+}
+
+/// Lets the worker of a seat work in a workspace of its own.
+fn works_at(
+    alloc: Global,
+    job: &Job,
+    ledger: &SharedLedger,
+    seat: &mut Seat,
+) -> Result<bool, AllocError>
+    requires shape { IsShapeOf job.now ledger.now.shape }
+    requires place { seat.old.place ≡ ledger.now }
+{
+    let mut workspace = Workspace::new(alloc, job)?;
+    works_without_memory(alloc, job, ledger, &mut workspace, seat)
+}
+
+/// Lets one worker work at a ledger of its own.
+fn works(alloc: Global, job: &Job) -> Result<bool, Fail> {
     let (classes, count) = (job.classes().count(), job.tests().count());
     let (ledger, mut seats) = SharedLedger::new(alloc, classes, count, 1)?;
-    let mut workspace = Workspace::new(alloc, job)?;
     let Some(mut seat) = seats.pop() else {
-        return Err(Fail::new("no seat"));
+        return Ok(false);
     };
-    let ballast = Ballast::all(alloc)?;
-    let is_free = seat.held().is_none();
-    let end = work(job, &ledger, &mut workspace, &mut seat, &OpenGate);
-    let finish = ledger.finished(&mut seat);
-    drop(ballast);
-    assert!(rt; is_free && end != End::Stopped && finish == Finish::Finished);
-    Ok(())
+    Ok(works_at(alloc, job, &ledger, &mut seat)?)
 }
 
 #[test]
 fn a_worker_works(rt: HostRuntime) -> Result<(), Fail> {
     let tests = tests_of_c17(rt.alloc())?;
     let job = job_of(rt.alloc(), Model::StuckAt, C17, tests.as_slice())?;
-    works(&rt, rt.alloc(), &job)
+    assert!(rt; works(rt.alloc(), &job)?);
+    Ok(())
 }
 
 /// Lets 64 workers start where few find room for a stack, and then where all do.
