@@ -57,7 +57,7 @@ pub source_line : (lines : List Line) (s : ℕ) → Among s (source_signals line
 source_line lines s a = elim (among_append (filter_map input_number lines) (map (λ cell. cell.q) (filter_map cell_numbers lines)) s a) [
   | inl b ↦ (line.Input s, input_line lines s b, refl, refl)
   | inr b ↦ (let c = mapped_from (λ cell. cell.q) (filter_map cell_numbers lines) s b in
-      (line.Dff c.0.q c.0.d, cell_line lines c.0 c.1, ap Some (sym c.2), refl))
+      (line.Dff c.0.q c.0.d, cell_line lines c.0 c.1, ap Some c.2, refl))
 ]
 
 pub source_defined : (lines : List Line) (s : ℕ) → Among s (source_signals lines) → Among s (flat_map defined_numbers lines)
