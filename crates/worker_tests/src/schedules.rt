@@ -27,15 +27,27 @@ fn refusal(alloc: Global, job: &Job, workers: u32, moves: &[u32]) -> Option<RunF
     run_schedule(alloc, job, workers, moves).err()
 }
 
+/// Checks the buffer where block 1 is reported before block 0, and where it is dropped.
+fn check_orders<R: Abort>(rt: &R, alloc: Global, job: &Job) -> Result<(), Fail> {
+    let orders: [(&[u32], u32); 2] = [(&[0, 1, 2, 3, 2, 3, 1, 0], 0), (&[], 2)];
+    let firsts = [Some(63), Some(0), Some(63), Some(0)];
+    for (moves, skipped) in orders {
+        let found = skipped_by(rt, alloc, job, 4, moves, &firsts)?;
+        assert_eq!(rt; found, skipped);
+    }
+    Ok(())
+}
+
 #[test]
 fn worker_two_reports_block_one_before_block_zero(rt: HostRuntime) -> Result<(), Fail> {
     let job = job_of(rt.alloc(), Model::StuckAt, BUFFER, &[("0", 63), ("1", 2)])?;
-    let orders: [(&[u32], u32); 2] = [(&[0, 1, 2, 3, 2, 3, 1, 0], 0), (&[], 2)];
-    for (moves, skipped) in orders {
-        let firsts = [Some(63), Some(0), Some(63), Some(0)];
-        let found = skipped_by(&rt, rt.alloc(), &job, 4, moves, &firsts)?;
-        assert_eq!(rt; found, skipped);
-    }
+    check_orders(&rt, rt.alloc(), &job)
+}
+
+/// Checks the transitions of the buffer, which the last of 65 tests launches.
+fn check_transitions<R: Abort>(rt: &R, alloc: Global, job: &Job) -> Result<(), Fail> {
+    let firsts = [Some(64), None, Some(64), None];
+    skipped_by(rt, alloc, job, 3, &[2, 2, 0], &firsts)?;
     Ok(())
 }
 
@@ -47,14 +59,11 @@ fn transitions_are_told_by_the_test_before(rt: HostRuntime) -> Result<(), Fail> 
         BUFFER,
         &[("0", 64), ("1", 1)],
     )?;
-    let firsts = [Some(64), None, Some(64), None];
-    skipped_by(&rt, rt.alloc(), &job, 3, &[2, 2, 0], &firsts)?;
-    Ok(())
+    check_transitions(&rt, rt.alloc(), &job)
 }
 
-#[test]
-fn numbers_of_workers_go_before_moves(rt: HostRuntime) -> Result<(), Fail> {
-    let job = job_of(rt.alloc(), Model::StuckAt, WIRE, &[("0", 1)])?;
+/// Checks in which order a number of workers and moves are refused.
+fn check_refusals<R: Abort>(rt: &R, alloc: Global, job: &Job) {
     let schedules: [(u32, &[u32], RunFault); 5] = [
         (4, &[0, 9, 4], RunFault::NoSuchMove(1)),
         (4, &[4], RunFault::NoSuchMove(0)),
@@ -63,9 +72,15 @@ fn numbers_of_workers_go_before_moves(rt: HostRuntime) -> Result<(), Fail> {
         (65, &[70], RunFault::TooManyWorkers),
     ];
     for (workers, moves, fault) in schedules {
-        let refused = refusal(rt.alloc(), &job, workers, moves);
+        let refused = refusal(alloc, job, workers, moves);
         assert_eq!(rt; refused, Some(fault));
     }
+}
+
+#[test]
+fn numbers_of_workers_go_before_moves(rt: HostRuntime) -> Result<(), Fail> {
+    let job = job_of(rt.alloc(), Model::StuckAt, WIRE, &[("0", 1)])?;
+    check_refusals(&rt, rt.alloc(), &job);
     Ok(())
 }
 
@@ -80,15 +95,20 @@ fn random_moves(seed: &mut u32) -> [u32; 60] {
     moves
 }
 
-#[test]
-fn c17_in_a_hundred_orders(rt: HostRuntime) -> Result<(), Fail> {
-    let job = job_of(rt.alloc(), Model::StuckAt, C17, &[("11111", 1)])?;
+/// Checks C17 in a hundred orders of moves.
+fn check_hundred_orders<R: Abort>(rt: &R, alloc: Global, job: &Job) -> Result<(), Fail> {
     let mut seed: u32 = 1;
     for _ in 0..100 {
         let moves = random_moves(&mut seed);
-        skipped_by(&rt, rt.alloc(), &job, 7, &moves, &C17_FIRSTS)?;
+        skipped_by(rt, alloc, job, 7, &moves, &C17_FIRSTS)?;
     }
     Ok(())
+}
+
+#[test]
+fn c17_in_a_hundred_orders(rt: HostRuntime) -> Result<(), Fail> {
+    let job = job_of(rt.alloc(), Model::StuckAt, C17, &[("11111", 1)])?;
+    check_hundred_orders(&rt, rt.alloc(), &job)
 }
 
 #[test]

@@ -42,80 +42,121 @@ fn refusal<R: Threads + Wait, G: Gate + Sync>(
     run(rt, alloc, job, workers, gate).err()
 }
 
-#[test]
-fn c17_by_one_to_64_workers(rt: HostRuntime) -> Result<(), Fail> {
-    let job = job_of(rt.alloc(), Model::StuckAt, C17, &[("11111", 1)])?;
+/// The first tests of the buffer under 64 tests of 0 and one of 1.
+const BUFFER_FIRSTS: [Option<u32>; 4] = [Some(64), Some(0), Some(64), Some(0)];
+
+/// Checks C17 by several numbers of workers.
+fn check_numbers<R: Threads + Wait + Abort>(rt: &R, alloc: Global, job: &Job) -> Result<(), Fail> {
     for workers in [1, 2, 3, 64] {
-        check_run(&rt, rt.alloc(), &job, workers, &OpenGate, &C17_FIRSTS)?;
+        check_run(rt, alloc, job, workers, &OpenGate, &C17_FIRSTS)?;
     }
     for (workers, fault) in [(0, RunFault::NoWorkers), (65, RunFault::TooManyWorkers)] {
-        let refused = refusal(&rt, rt.alloc(), &job, workers, &OpenGate);
+        let refused = refusal(rt, alloc, job, workers, &OpenGate);
         assert_eq!(rt; refused, Some(fault));
     }
     Ok(())
 }
 
 #[test]
-fn a_stopped_worker_leaves_its_piece_open(rt: HostRuntime) -> Result<(), Fail> {
-    let wire = job_of(rt.alloc(), Model::StuckAt, WIRE, &[("0", 1)])?;
-    let stopped = refusal(&rt, rt.alloc(), &wire, 1, &Shut);
+fn c17_by_one_to_64_workers(rt: HostRuntime) -> Result<(), Fail> {
+    let job = job_of(rt.alloc(), Model::StuckAt, C17, &[("11111", 1)])?;
+    check_numbers(&rt, rt.alloc(), &job)
+}
+
+/// Checks that a run whose gate is shut leaves the first piece open.
+fn check_shut<R: Threads + Wait + Abort>(rt: &R, alloc: Global, job: &Job) {
+    let stopped = refusal(rt, alloc, job, 1, &Shut);
     assert_eq!(rt; stopped, Some(RunFault::Unfinished { class: 0, block: 0 }));
+}
+
+#[test]
+fn a_stopped_worker_leaves_its_piece_open(rt: HostRuntime) -> Result<(), Fail> {
+    let job = job_of(rt.alloc(), Model::StuckAt, WIRE, &[("0", 1)])?;
+    check_shut(&rt, rt.alloc(), &job);
     Ok(())
+}
+
+/// Checks that a run whose gate is shut for one piece leaves that piece open.
+fn check_shut_for<R: Threads + Wait + Abort>(rt: &R, alloc: Global, job: &Job) {
+    for (class, block) in [(0, 0), (1, 0), (0, 1)] {
+        let stopped = refusal(rt, alloc, job, 2, &ShutFor { class, block });
+        assert_eq!(rt; stopped, Some(RunFault::Unfinished { class, block }));
+    }
 }
 
 #[test]
 fn one_of_two_workers_leaves_its_piece_open(rt: HostRuntime) -> Result<(), Fail> {
     let job = job_of(rt.alloc(), Model::StuckAt, BUFFER, &[("0", 64), ("1", 1)])?;
-    for (class, block) in [(0, 0), (1, 0), (0, 1)] {
-        let stopped = refusal(&rt, rt.alloc(), &job, 2, &ShutFor { class, block });
-        assert_eq!(rt; stopped, Some(RunFault::Unfinished { class, block }));
-    }
+    check_shut_for(&rt, rt.alloc(), &job);
     Ok(())
+}
+
+/// Checks a run whose gate is shut for a piece behind a hit, and then one of the same job whose
+/// gate is open.
+fn check_behind_a_hit<R: Threads + Wait + Abort>(
+    rt: &R,
+    alloc: Global,
+    job: &Job,
+) -> Result<(), Fail> {
+    let gate = ShutFor { class: 1, block: 1 };
+    check_run(rt, alloc, job, 2, &gate, &BUFFER_FIRSTS)?;
+    check_run(rt, alloc, job, 2, &OpenGate, &BUFFER_FIRSTS)
 }
 
 #[test]
 fn a_piece_behind_a_hit_may_stay_open(rt: HostRuntime) -> Result<(), Fail> {
     let job = job_of(rt.alloc(), Model::StuckAt, BUFFER, &[("0", 64), ("1", 1)])?;
-    let gate = ShutFor { class: 1, block: 1 };
-    check_run(
-        &rt,
-        rt.alloc(),
-        &job,
-        2,
-        &gate,
-        &[Some(64), Some(0), Some(64), Some(0)],
-    )?;
-    check_run(
-        &rt,
-        rt.alloc(),
-        &job,
-        2,
-        &OpenGate,
-        &[Some(64), Some(0), Some(64), Some(0)],
-    )?;
-    Ok(())
+    check_behind_a_hit(&rt, rt.alloc(), &job)
+}
+
+/// Checks a run whose gate holds the first two pieces until both have been claimed.
+fn check_both_held<R: Threads + Wait + Abort + Clock + Sync>(
+    rt: &R,
+    alloc: Global,
+    job: &Job,
+) -> Result<(), Fail> {
+    let gate = Meeting::new(rt, (0, 0), (1, 0), true);
+    check_run(rt, alloc, job, 2, &gate, &[None, Some(0)])
 }
 
 #[test]
 fn two_workers_hold_a_piece_at_once(rt: HostRuntime) -> Result<(), Fail> {
     let job = job_of(rt.alloc(), Model::StuckAt, WIRE, &[("0", 1)])?;
-    let gate = Meeting::new(&rt, (0, 0), (1, 0), true);
-    check_run(&rt, rt.alloc(), &job, 2, &gate, &[None, Some(0)])?;
-    Ok(())
+    check_both_held(&rt, rt.alloc(), &job)
+}
+
+/// Checks a run whose gate holds the first piece until the last has been claimed.
+fn check_one_held<R: Threads + Wait + Abort + Clock + Sync>(
+    rt: &R,
+    alloc: Global,
+    job: &Job,
+) -> Result<(), Fail> {
+    let gate = Meeting::new(rt, (0, 0), (1, 1), false);
+    check_run(rt, alloc, job, 2, &gate, &BUFFER_FIRSTS)
 }
 
 #[test]
 fn a_worker_goes_on_while_another_is_held(rt: HostRuntime) -> Result<(), Fail> {
     let job = job_of(rt.alloc(), Model::StuckAt, BUFFER, &[("0", 64), ("1", 1)])?;
-    let gate = Meeting::new(&rt, (0, 0), (1, 1), false);
+    check_one_held(&rt, rt.alloc(), &job)
+}
+
+/// Checks that a run of one worker ends after the pieces of the first block.
+fn check_two_pieces<R: Threads + Wait + Abort>(
+    rt: &R,
+    alloc: Global,
+    job: &Job,
+) -> Result<(), Fail> {
+    let gate = Counter::new();
     check_run(
-        &rt,
-        rt.alloc(),
-        &job,
-        2,
+        rt,
+        alloc,
+        job,
+        1,
         &gate,
-        &[Some(64), Some(0), Some(64), Some(0)],
+        &[Some(0), Some(1), Some(0), Some(1)],
     )?;
+    assert_eq!(rt; gate.pieces(), 2);
     Ok(())
 }
 
@@ -127,17 +168,7 @@ fn a_worker_ends_where_all_classes_are_settled(rt: HostRuntime) -> Result<(), Fa
         BUFFER,
         &[("1", 1), ("0", 4_095)],
     )?;
-    let gate = Counter::new();
-    check_run(
-        &rt,
-        rt.alloc(),
-        &job,
-        1,
-        &gate,
-        &[Some(0), Some(1), Some(0), Some(1)],
-    )?;
-    assert_eq!(rt; gate.pieces(), 2);
-    Ok(())
+    check_two_pieces(&rt, rt.alloc(), &job)
 }
 
 /// The work of one seat, with a workspace of its own.
