@@ -5,13 +5,13 @@ ghost use Rattle.block_sim.specs.Parts.{HasRoom};
 ghost use Rattle.workers.specs.Settling.{IsShapeOf};
 
 use crate::ballast::Ballast;
-use crate::parts::{C17, tests_of_c17};
+use crate::parts::{C17, c17_job, c17_under, tests_of_c17};
 use crate::runs::is_right;
 use crate::texts::Screen;
 use block_sim::{Job, Workspace, first_hit, simulate};
 use fault_ledger::{Claim, Finish, Ledger, Seat, SharedLedger};
 use fault_model::Model;
-use report::{RunFault, job_of, listing_bytes, report_bytes, write_listing, write_report};
+use report::{RunFault, listing_bytes, report_bytes, write_listing, write_report};
 use std::alloc::{AllocError, Global};
 use std::process::Abort;
 use std::sync::Wait;
@@ -39,21 +39,37 @@ fn writes<R: Abort>(
     Ok(())
 }
 
+/// Writes both texts of a job, whose report is this.
+fn writes_listing<R: Abort>(rt: &R, alloc: Global, job: &Job, report: &[u8]) -> Result<(), Fail> {
+    let listing = listing_bytes(alloc, Model::StuckAt, C17)?;
+    writes(rt, alloc, job, report, listing.as_slice())
+}
+
+/// Writes both texts of a job, which is that of C17 under these tests.
+fn writes_report<R: Threads + Wait + Abort>(
+    rt: &R,
+    alloc: Global,
+    job: &Job,
+    tests: &[u8],
+) -> Result<(), Fail> {
+    let report = report_bytes(rt, alloc, Model::StuckAt, C17, tests, 1, true)?;
+    writes_listing(rt, alloc, job, report.as_slice())
+}
+
+/// Writes both texts of the job of C17 under these tests.
+fn writes_under<R: Threads + Wait + Abort>(
+    rt: &R,
+    alloc: Global,
+    tests: &[u8],
+) -> Result<(), Fail> {
+    let job = c17_under(alloc, tests)?;
+    writes_report(rt, alloc, &job, tests)
+}
+
 #[test]
 fn reports_are_written(rt: HostRuntime) -> Result<(), Fail> {
     let tests = tests_of_c17(rt.alloc())?;
-    let report = report_bytes(
-        &rt,
-        rt.alloc(),
-        Model::StuckAt,
-        C17,
-        tests.as_slice(),
-        1,
-        true,
-    )?;
-    let listing = listing_bytes(rt.alloc(), Model::StuckAt, C17)?;
-    let job = job_of(rt.alloc(), Model::StuckAt, C17, tests.as_slice())?;
-    writes(&rt, rt.alloc(), &job, report.as_slice(), listing.as_slice())
+    writes_under(&rt, rt.alloc(), tests.as_slice())
 }
 
 /// Claims a piece, and drops it, else simulates it twice and reports. Says whether all went well.
@@ -88,8 +104,7 @@ fn simulates_all<R: Abort>(rt: &R, alloc: Global, job: &Job) -> Result<(), Fail>
 
 #[test]
 fn pieces_are_simulated(rt: HostRuntime) -> Result<(), Fail> {
-    let tests = tests_of_c17(rt.alloc())?;
-    let job = job_of(rt.alloc(), Model::StuckAt, C17, tests.as_slice())?;
+    let job = c17_job(rt.alloc())?;
     simulates_all(&rt, rt.alloc(), &job)
 }
 
@@ -141,8 +156,7 @@ fn works(alloc: Global, job: &Job) -> Result<bool, Fail> {
 
 #[test]
 fn a_worker_works(rt: HostRuntime) -> Result<(), Fail> {
-    let tests = tests_of_c17(rt.alloc())?;
-    let job = job_of(rt.alloc(), Model::StuckAt, C17, tests.as_slice())?;
+    let job = c17_job(rt.alloc())?;
     assert!(rt; works(rt.alloc(), &job)?);
     Ok(())
 }
@@ -161,7 +175,6 @@ fn starts<R: Threads + Wait + Abort>(rt: &R, alloc: Global, job: &Job) -> Result
 
 #[test]
 fn starts_of_threads(rt: HostRuntime) -> Result<(), Fail> {
-    let tests = tests_of_c17(rt.alloc())?;
-    let job = job_of(rt.alloc(), Model::StuckAt, C17, tests.as_slice())?;
+    let job = c17_job(rt.alloc())?;
     starts(&rt, rt.alloc(), &job)
 }

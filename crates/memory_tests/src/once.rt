@@ -1,13 +1,13 @@
 //! Each call once. The test passes with ample memory, and also where one allocation of its process, or the
 //! start of one thread, is refused: `bench/refusals.py` runs it so, with one after another.
 
-use crate::parts::{C17, MEANS, Making, PARTS, Setting, tests_of_c17};
+use crate::parts::{C17, MEANS, Making, PARTS, Setting, c17_under, tests_of_c17};
 use crate::runs::{Scheduled, Threaded};
 use crate::sweep::once;
 use crate::texts::{TextCall, Written, text_of};
 use block_sim::Job;
 use fault_model::Model;
-use report::{job_of, listing_bytes, report_bytes};
+use report::{listing_bytes, report_bytes};
 use std::alloc::Global;
 use std::process::Abort;
 use std::sync::Wait;
@@ -54,17 +54,36 @@ fn make_runs<R: Threads + Wait + Abort>(rt: &R, alloc: Global, job: &Job) {
     once(rt, alloc, &Threaded { rt, job });
 }
 
+/// Makes the text calls, whose report is this.
+fn write_with_listing<R: Threads + Wait + Abort>(
+    rt: &R,
+    alloc: Global,
+    tests: &[u8],
+    report: &[u8],
+) -> Result<(), Fail> {
+    let listing = listing_bytes(alloc, Model::StuckAt, C17)?;
+    write_texts(rt, alloc, tests, report, listing.as_slice());
+    Ok(())
+}
+
+/// Makes the text calls.
+fn write_all<R: Threads + Wait + Abort>(rt: &R, alloc: Global, tests: &[u8]) -> Result<(), Fail> {
+    let report = report_bytes(rt, alloc, Model::StuckAt, C17, tests, 1, true)?;
+    write_with_listing(rt, alloc, tests, report.as_slice())
+}
+
+/// Makes the calls on a job.
+fn make_all<R: Threads + Wait + Abort>(rt: &R, alloc: Global, tests: &[u8]) -> Result<(), Fail> {
+    let job = c17_under(alloc, tests)?;
+    make_parts(rt, alloc, &job, tests);
+    make_means(rt, alloc, &job);
+    make_runs(rt, alloc, &job);
+    Ok(())
+}
+
 #[test]
 fn each_call_that_was_refused_succeeds_again(rt: HostRuntime) -> Result<(), Fail> {
-    let alloc = rt.alloc();
-    let tests = tests_of_c17(alloc)?;
-    let tests = tests.as_slice();
-    let report = report_bytes(&rt, alloc, Model::StuckAt, C17, tests, 1, true)?;
-    let listing = listing_bytes(alloc, Model::StuckAt, C17)?;
-    write_texts(&rt, alloc, tests, report.as_slice(), listing.as_slice());
-    let job = job_of(alloc, Model::StuckAt, C17, tests)?;
-    make_parts(&rt, alloc, &job, tests);
-    make_means(&rt, alloc, &job);
-    make_runs(&rt, alloc, &job);
-    Ok(())
+    let tests = tests_of_c17(rt.alloc())?;
+    write_all(&rt, rt.alloc(), tests.as_slice())?;
+    make_all(&rt, rt.alloc(), tests.as_slice())
 }

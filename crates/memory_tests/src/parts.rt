@@ -8,6 +8,7 @@ use fault_model::{Model, collapse, list_faults};
 use patterns::{OrderFault, TestFault, read_order, read_tests};
 use report::{RunFault, SimFault, job_of};
 use std::alloc::{AllocError, Global};
+use std::process::Abort;
 use std::test::Fail;
 
 /// The smallest circuit of the ISCAS 85 benchmarks: 34 stuck-at faults in 22 classes.
@@ -32,6 +33,17 @@ pub(crate) fn tests_of_c17(alloc: Global) -> Result<Vec<u8>, AllocError> {
     }
     text.extend_from_slice(b"00000\n")?;
     Ok(text)
+}
+
+/// The job of C17 under these tests.
+pub(crate) fn c17_under(alloc: Global, tests: &[u8]) -> Result<Job, Fail> {
+    Ok(job_of(alloc, Model::StuckAt, C17, tests)?)
+}
+
+/// The job of C17 under its 65 tests.
+pub(crate) fn c17_job(alloc: Global) -> Result<Job, Fail> {
+    let tests = tests_of_c17(alloc)?;
+    c17_under(alloc, tests.as_slice())
 }
 
 /// Whether a text call was refused for want of memory, or of a thread.
@@ -189,27 +201,36 @@ fn share(alloc: Global) -> Outcome {
     }
 }
 
+/// Tries to make each part of a job.
+fn sweep_parts<R: Abort>(rt: &R, alloc: Global, job: &Job, tests: &[u8]) -> Result<(), Fail> {
+    for part in PARTS {
+        sweep(rt, alloc, &Making { part, job, tests })?;
+    }
+    Ok(())
+}
+
+/// Tries to make each part of a job of C17.
+fn sweep_parts_of<R: Abort>(rt: &R, alloc: Global, tests: &[u8]) -> Result<(), Fail> {
+    let job = c17_under(alloc, tests)?;
+    sweep_parts(rt, alloc, &job, tests)
+}
+
 #[test]
 fn parts_of_a_job(rt: HostRuntime) -> Result<(), Fail> {
     let tests = tests_of_c17(rt.alloc())?;
-    let job = job_of(rt.alloc(), Model::StuckAt, C17, tests.as_slice())?;
-    for part in PARTS {
-        let making = Making {
-            part,
-            job: &job,
-            tests: tests.as_slice(),
-        };
-        sweep(&rt, rt.alloc(), &making)?;
+    sweep_parts_of(&rt, rt.alloc(), tests.as_slice())
+}
+
+/// Tries to make what a run of a job stands on.
+fn sweep_means<R: Abort>(rt: &R, alloc: Global, job: &Job) -> Result<(), Fail> {
+    for means in MEANS {
+        sweep(rt, alloc, &Setting { means, job })?;
     }
     Ok(())
 }
 
 #[test]
 fn means_of_a_run(rt: HostRuntime) -> Result<(), Fail> {
-    let tests = tests_of_c17(rt.alloc())?;
-    let job = job_of(rt.alloc(), Model::StuckAt, C17, tests.as_slice())?;
-    for means in MEANS {
-        sweep(&rt, rt.alloc(), &Setting { means, job: &job })?;
-    }
-    Ok(())
+    let job = c17_job(rt.alloc())?;
+    sweep_means(&rt, rt.alloc(), &job)
 }

@@ -6,7 +6,7 @@ ghost use Rattle.bench_net.specs.Scan.{names};
 ghost use Rattle.fault_ledger.specs.Face.{shape_of};
 
 use crate::ballast::Ballast;
-use crate::parts::{C17, tests_of_c17};
+use crate::parts::c17_job;
 use bench_net::Circuit;
 use block_sim::Job;
 use fault_ledger::{
@@ -15,8 +15,8 @@ use fault_ledger::{
 use fault_model::laws::stems;
 use fault_model::{Faults, Line, Model};
 use patterns::{Outcome, Tests};
-use report::job_of;
-use std::alloc::Global;
+use std::alloc::{AllocError, Global};
+use std::process::Abort;
 use std::test::Fail;
 use workers::{Verdicts, run_schedule};
 
@@ -143,17 +143,26 @@ fn sum_of(job: &Job, verdicts: &Verdicts) -> Sum {
     sum
 }
 
+/// What these calls answer where no memory is left.
+fn sum_without_memory(alloc: Global, job: &Job, verdicts: &Verdicts) -> Result<Sum, AllocError> {
+    let ballast = Ballast::all(alloc)?;
+    let sum = sum_of(job, verdicts);
+    drop(ballast);
+    Ok(sum)
+}
+
+/// Compares what the calls on a job and its verdicts answer without memory and with it.
+fn compare_sums<R: Abort>(rt: &R, alloc: Global, job: &Job) -> Result<(), Fail> {
+    let verdicts = run_schedule(alloc, job, 2, &[])?;
+    let without = sum_without_memory(alloc, job, &verdicts)?;
+    assert_eq!(rt; without, sum_of(job, &verdicts));
+    Ok(())
+}
+
 #[test]
 fn calls_that_read(rt: HostRuntime) -> Result<(), Fail> {
-    let tests = tests_of_c17(rt.alloc())?;
-    let job = job_of(rt.alloc(), Model::StuckAt, C17, tests.as_slice())?;
-    let verdicts = run_schedule(rt.alloc(), &job, 2, &[])?;
-    let with_memory = sum_of(&job, &verdicts);
-    let ballast = Ballast::all(rt.alloc())?;
-    let without = sum_of(&job, &verdicts);
-    drop(ballast);
-    assert_eq!(rt; without, with_memory);
-    Ok(())
+    let job = c17_job(rt.alloc())?;
+    compare_sums(&rt, rt.alloc(), &job)
 }
 
 /// Whether two seats of a ledger of one class and two blocks find what is right, where the first

@@ -1,11 +1,11 @@
 //! Runs of a job, in one thread and in threads.
 
-use crate::parts::{C17, tests_of_c17};
+use crate::parts::c17_job;
 use crate::sweep::{Outcome, Trial, answered, refused, sweep};
 use block_sim::Job;
-use fault_model::Model;
-use report::{RunFault, job_of};
+use report::RunFault;
 use std::alloc::Global;
+use std::process::Abort;
 use std::sync::Wait;
 use std::test::Fail;
 use std::thread::Threads;
@@ -55,10 +55,14 @@ impl<R: Threads + Wait> Trial for Threaded<'_, R> {
     }
 }
 
+/// Tries both kinds of runs of a job.
+fn sweep_runs<R: Threads + Wait + Abort>(rt: &R, alloc: Global, job: &Job) -> Result<(), Fail> {
+    sweep(rt, alloc, &Scheduled { job })?;
+    sweep(rt, alloc, &Threaded { rt, job })
+}
+
 #[test]
 fn runs_of_a_job(rt: HostRuntime) -> Result<(), Fail> {
-    let tests = tests_of_c17(rt.alloc())?;
-    let job = job_of(rt.alloc(), Model::StuckAt, C17, tests.as_slice())?;
-    sweep(&rt, rt.alloc(), &Scheduled { job: &job })?;
-    sweep(&rt, rt.alloc(), &Threaded { rt: &rt, job: &job })
+    let job = c17_job(rt.alloc())?;
+    sweep_runs(&rt, rt.alloc(), &job)
 }
