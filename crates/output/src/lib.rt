@@ -5,7 +5,7 @@
 ghost use Rattle.std.specs.List.{flat_map};
 ghost use Rattle.std.specs.Prelude.{◌≡◌, ◌≤◌, IfOk, length};
 ghost use Rattle.std.specs.Io.KnownBytes.{WriteAppends};
-ghost use Rattle.output.specs.Output.{Output, fails_after, is_refusal, Writes};
+ghost use Rattle.output.specs.Output.{Output, TakesAll, Writes, fails_after, is_refusal};
 
 use std::fmt;
 use std::io::Write;
@@ -105,6 +105,9 @@ pub fn put_pieces<W: Out>(pieces: &[&str], out: &mut W) -> Result<(), OutFailed>
 pub struct Formatted<'a, W>(pub &'a mut W);
 
 impl<W: Out> fmt::Write for Formatted<'_, W> {
+    ghost write_str_gives = { λ old text new.
+        TakesAll (W.seen old.0.now) (W.seen new.0.now) text };
+
     fn write_str(&mut self, s: &str) -> fmt::Result {
         put_all(s.as_bytes(), self.0).map_err(|_| fmt::Error)
     }

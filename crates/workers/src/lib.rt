@@ -11,6 +11,7 @@
 //! work of one.
 #![tactic(auto)]
 
+mod pace;
 mod schedule;
 mod threads;
 mod verdicts;

@@ -7,6 +7,7 @@ ghost use Rattle.block_sim.specs.Parts.{HasRoom};
 ghost use Rattle.workers.specs.Settling.{AreSettled, IsShapeOf};
 ghost use Rattle.workers.specs.Work.{EndsAs, Works};
 
+use crate::pace::Pace;
 use block_sim::{Job, Workspace, first_hit};
 use fault_ledger::{Claim, Seat, SharedLedger, Status};
 
@@ -115,6 +116,7 @@ pub fn work<G: Gate>(
     let _sitter = seat.worker();
     let classes = job.classes().count();
     let mut lowest = 0;
+    let mut pace = Pace::of(seat.worker(), classes, workspace.gate_evaluations());
     'claims: loop {
         let worker = seat.worker();
         match ledger.claim(seat) {
@@ -123,7 +125,9 @@ pub fn work<G: Gate>(
                     return End::Stopped;
                 }
                 let _sitter = seat.worker();
-                if finish_piece(job, ledger, workspace, seat, class, block) {
+                let reported = finish_piece(job, ledger, workspace, seat, class, block);
+                pace.after_piece(class, block, workspace.gate_evaluations());
+                if reported {
                     let _sitter = seat.worker();
                     lowest = lowest_waiting(ledger, seat, classes, lowest);
                     if lowest >= classes {

@@ -25,24 +25,24 @@ pub lowest_waiting-lowest-requires-clause-settled : goal.lowest_waiting-lowest-r
 lowest_waiting-lowest-requires-clause-settled g c =
     let j = c.args.job.now in
     let m = c.in-Ok-Piece.ensures.piece c.in-Ok-Piece.class c.in-Ok-Piece.block (ap Ok c.in-Ok-Piece.field-0-is) in
-    settled_works j c.args.ledger.now.shape c.claims.lowest c.claim.new.seat c.finish_piece.new.seat c.finish_piece.ensures.works
+    settled_works j c.args.ledger.now.shape c.claims.lowest c.claim.new.seat c.finish_piece-reported.new.seat c.finish_piece-reported.ensures.works
     (settled_works j c.args.ledger.now.shape c.claims.lowest c.claims.seat c.claim.new.seat (claimed j c.claims.seat c.claim.new.seat _ m.1) c.claims.invariant.settled)
 
 pub returns-then-lowest-classes-clause-works : goal.returns-then-lowest-classes-clause-works
 returns-then-lowest-classes-clause-works g c =
     let j = c.args.job.now in
     let m = c.in-Ok-Piece.ensures.piece c.in-Ok-Piece.class c.in-Ok-Piece.block (ap Ok c.in-Ok-Piece.field-0-is) in
-    works_twice j c.args.seat.now c.finish_piece.new.seat c.lowest_waiting-lowest.new.seat
-    (works_twice j c.args.seat.now c.claim.new.seat c.finish_piece.new.seat
+    works_twice j c.args.seat.now c.finish_piece-reported.new.seat c.lowest_waiting-lowest.new.seat
+    (works_twice j c.args.seat.now c.claim.new.seat c.finish_piece-reported.new.seat
     (works_twice j c.args.seat.now c.claims.seat c.claim.new.seat c.claims.invariant.works (claimed j c.claims.seat c.claim.new.seat _ m.1))
-    c.finish_piece.ensures.works)
-    (sees_works j c.finish_piece.new.seat c.lowest_waiting-lowest.new.seat _ c.lowest_waiting-lowest.ensures.sees)
+    c.finish_piece-reported.ensures.works)
+    (sees_works j c.finish_piece-reported.new.seat c.lowest_waiting-lowest.new.seat _ c.lowest_waiting-lowest.ensures.sees)
 
 pub returns-then-lowest-classes-clause-ends : goal.returns-then-lowest-classes-clause-ends
 returns-then-lowest-classes-clause-ends g c =
-    let x = sees_kept c.finish_piece.new.seat c.lowest_waiting-lowest.new.seat c.lowest_waiting-lowest.ensures.sees in
-    let place = x.0 ∙ c.finish_piece.ensures.works.place ∙ c.claim.ensures.kept.0 ∙ c.claims.invariant.works.place ∙ c.requires.place in (
-      held_sees c.finish_piece.new.seat c.lowest_waiting-lowest.new.seat c.lowest_waiting-lowest.ensures.sees ∙ c.finish_piece.ensures.free,
+    let x = sees_kept c.finish_piece-reported.new.seat c.lowest_waiting-lowest.new.seat c.lowest_waiting-lowest.ensures.sees in
+    let place = x.0 ∙ c.finish_piece-reported.ensures.works.place ∙ c.claim.ensures.kept.0 ∙ c.claims.invariant.works.place ∙ c.requires.place in (
+      held_sees c.finish_piece-reported.new.seat c.lowest_waiting-lowest.new.seat c.lowest_waiting-lowest.ensures.sees ∙ c.finish_piece-reported.ensures.free,
       λ class lt.
           let low : class < c.args.ledger.now.shape.classes = subst (λ (p : Place). class < p.shape.classes) place lt in
           let s = c.lowest_waiting-lowest.ensures.settled class (omega (arith, low, c.if-lowest-classes.true, c.count-classes.ensures, c.requires.shape.classes, ap (λ (x : Collapsed). length x.representative) c.classes.ensures.part)) in
@@ -56,20 +56,20 @@ claims-smaller-else-lowest-classes g c =
     let n = subst (λ x. Makes c.claims.seat (Event.Claim c.claims.seat.worker) (Claimed x) c.claim.new.seat) c.in-Ok-Piece.field-0-is m.1 in
     fewer j c.claims.seat c.claim.new.seat c.lowest_waiting-lowest.new.seat c.args.ledger.now c.in-Ok-Piece.class c.in-Ok-Piece.block
     (c.claims.invariant.works.place ∙ c.requires.place) n
-    (works_twice j c.claim.new.seat c.finish_piece.new.seat c.lowest_waiting-lowest.new.seat c.finish_piece.ensures.works (sees_works j c.finish_piece.new.seat c.lowest_waiting-lowest.new.seat _ c.lowest_waiting-lowest.ensures.sees))
+    (works_twice j c.claim.new.seat c.finish_piece-reported.new.seat c.lowest_waiting-lowest.new.seat c.finish_piece-reported.ensures.works (sees_works j c.finish_piece-reported.new.seat c.lowest_waiting-lowest.new.seat _ c.lowest_waiting-lowest.ensures.sees))
 
 pub claims-preserved-else-lowest-classes : goal.claims-preserved-else-lowest-classes
 claims-preserved-else-lowest-classes g c =
     let j = c.args.job.now in
     let m = c.in-Ok-Piece.ensures.piece c.in-Ok-Piece.class c.in-Ok-Piece.block (ap Ok c.in-Ok-Piece.field-0-is) in
     record {
-      works = works_twice j c.args.seat.now c.finish_piece.new.seat c.lowest_waiting-lowest.new.seat
-          (works_twice j c.args.seat.now c.claim.new.seat c.finish_piece.new.seat
+      works = works_twice j c.args.seat.now c.finish_piece-reported.new.seat c.lowest_waiting-lowest.new.seat
+          (works_twice j c.args.seat.now c.claim.new.seat c.finish_piece-reported.new.seat
           (works_twice j c.args.seat.now c.claims.seat c.claim.new.seat c.claims.invariant.works (claimed j c.claims.seat c.claim.new.seat _ m.1))
-          c.finish_piece.ensures.works)
-          (sees_works j c.finish_piece.new.seat c.lowest_waiting-lowest.new.seat _ c.lowest_waiting-lowest.ensures.sees);
-      free = held_sees c.finish_piece.new.seat c.lowest_waiting-lowest.new.seat c.lowest_waiting-lowest.ensures.sees ∙ c.finish_piece.ensures.free;
-      fits = c.finish_piece.ensures.fits;
+          c.finish_piece-reported.ensures.works)
+          (sees_works j c.finish_piece-reported.new.seat c.lowest_waiting-lowest.new.seat _ c.lowest_waiting-lowest.ensures.sees);
+      free = held_sees c.finish_piece-reported.new.seat c.lowest_waiting-lowest.new.seat c.lowest_waiting-lowest.ensures.sees ∙ c.finish_piece-reported.ensures.free;
+      fits = c.finish_piece-reported.ensures.fits;
       range = c.lowest_waiting-lowest.ensures.range;
       settled = c.lowest_waiting-lowest.ensures.settled;
     }
@@ -78,21 +78,21 @@ pub claims-smaller : goal.claims-smaller
 claims-smaller g c =
     let m = c.in-Ok-Piece.ensures.piece c.in-Ok-Piece.class c.in-Ok-Piece.block (ap Ok c.in-Ok-Piece.field-0-is) in
     let n = subst (λ x. Makes c.claims.seat (Event.Claim c.claims.seat.worker) (Claimed x) c.claim.new.seat) c.in-Ok-Piece.field-0-is m.1 in
-    fewer c.args.job.now c.claims.seat c.claim.new.seat c.finish_piece.new.seat c.args.ledger.now c.in-Ok-Piece.class c.in-Ok-Piece.block
-    (c.claims.invariant.works.place ∙ c.requires.place) n c.finish_piece.ensures.works
+    fewer c.args.job.now c.claims.seat c.claim.new.seat c.finish_piece-reported.new.seat c.args.ledger.now c.in-Ok-Piece.class c.in-Ok-Piece.block
+    (c.claims.invariant.works.place ∙ c.requires.place) n c.finish_piece-reported.ensures.works
 
 pub claims-preserved : goal.claims-preserved
 claims-preserved g c =
     let j = c.args.job.now in
     let m = c.in-Ok-Piece.ensures.piece c.in-Ok-Piece.class c.in-Ok-Piece.block (ap Ok c.in-Ok-Piece.field-0-is) in
     record {
-      works = works_twice j c.args.seat.now c.claim.new.seat c.finish_piece.new.seat
+      works = works_twice j c.args.seat.now c.claim.new.seat c.finish_piece-reported.new.seat
           (works_twice j c.args.seat.now c.claims.seat c.claim.new.seat c.claims.invariant.works (claimed j c.claims.seat c.claim.new.seat _ m.1))
-          c.finish_piece.ensures.works;
-      free = c.finish_piece.ensures.free;
-      fits = c.finish_piece.ensures.fits;
+          c.finish_piece-reported.ensures.works;
+      free = c.finish_piece-reported.ensures.free;
+      fits = c.finish_piece-reported.ensures.fits;
       range = c.claims.invariant.range;
-      settled = settled_works j c.args.ledger.now.shape c.claims.lowest c.claim.new.seat c.finish_piece.new.seat c.finish_piece.ensures.works
+      settled = settled_works j c.args.ledger.now.shape c.claims.lowest c.claim.new.seat c.finish_piece-reported.new.seat c.finish_piece-reported.ensures.works
           (settled_works j c.args.ledger.now.shape c.claims.lowest c.claims.seat c.claim.new.seat (claimed j c.claims.seat c.claim.new.seat _ m.1) c.claims.invariant.settled);
     }
 
