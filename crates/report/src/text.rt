@@ -1,6 +1,6 @@
 //! From the bytes of texts to the bytes of the report or the listing.
 
-ghost use Rattle.std.specs.Prelude.{◌<◌, ◌≤◌, length, IfOk, IfErr, OnOk};
+ghost use Rattle.std.specs.Prelude.{◌≢◌, ◌<◌, ◌≤◌, length, Err, IfOk, IfErr, OnOk};
 ghost use Rattle.bench_net.specs.Refusal.{IsAccepted};
 ghost use Rattle.bench_net.specs.Scan.{sources};
 ghost use Rattle.fault_model.specs.declared.Model.TheVariants as model;
@@ -281,6 +281,7 @@ pub fn report_bytes<R: Threads + Wait>(
 ) -> Result<Vec<u8>, SimFault>
     ensures report { IfOk result (λ bytes. IsReportOf model bench.now tests.now list bytes.items) }
     ensures refused { IfErr result (IsReportFault model bench.now tests.now workers) }
+    ensures unwritten { (fault : ReportFault) → result ≢ Err (SimFault.Report fault) }
     ensures workers { OnOk result ((0 < workers) × (workers ≤ 64)) }
 {
     let mut out = Plain::new(Vec::new(alloc));
@@ -359,12 +360,13 @@ pub fn faults_text_in<W: Out>(
 pub fn listing_bytes(alloc: Global, model: Model, bench: &[u8]) -> Result<Vec<u8>, SimFault>
     ensures listing { IfOk result (λ bytes. IsListingOf model bench.now bytes.items) }
     ensures refused { IfErr result (IsListingFault bench.now) }
+    ensures unwritten { (fault : ReportFault) → result ≢ Err (SimFault.Report fault) }
 {
     let mut out = Plain::new(Vec::new(alloc));
     match faults_text_in(alloc, model, bench, &mut out) {
         Ok(()) => Ok(out.into_writer()),
         // A vector refuses bytes for want of memory alone.
-        Err(SimFault::Report(ReportFault::Write)) => Err(SimFault::Memory),
+        Err(SimFault::Report(_)) => Err(SimFault::Memory),
         Err(fault) => Err(fault),
     }
 }
