@@ -8,8 +8,10 @@
 //
 // Printed is the time a piece with 1, 2 and 4 threads, and the gain over 1, where a thread claims
 // one piece at a time and changes its byte by one locked `or`, by a load and a compare-and-exchange
-// until it succeeds (what the kit makes of `fetch_or`), or by one locked `add`; and where it claims
-// 64 pieces at a time, as no ledger may that hands out pieces in one order.
+// until it succeeds (what the kit makes of `fetch_or`), or by one locked `add`; where it does the
+// last and rests as workers do (`crates/workers/src/pace.rt`, with 100 multiplications for what a
+// claim costs); and where it claims 64 pieces at a time, as no ledger may that hands out pieces in
+// one order.
 
 #include <atomic>
 #include <chrono>
@@ -21,8 +23,9 @@
 
 using u64 = uint64_t;
 
-enum Way { OR, EXCHANGE, ADD, CHUNKS };
-static const char* NAMES[] = {"locked or", "load and exchange", "locked add", "64 at a time, locked or"};
+enum Way { OR, EXCHANGE, ADD, RESTS, CHUNKS };
+static const char* NAMES[] = {"locked or", "load and exchange", "locked add", "locked add, and rests",
+                              "64 at a time, locked or"};
 static const u64 CLASSES = 14000, BLOCKS = 200, PIECES = CLASSES * BLOCKS;
 
 static u64 busy(u64 x, int length) {
@@ -32,7 +35,7 @@ static u64 busy(u64 x, int length) {
 }
 
 static void mark(std::atomic<u64>& word, u64 bit, Way way) {
-    if (way == ADD) {
+    if (way == ADD || way == RESTS) {
         word.fetch_add(bit);
     } else if (way == EXCHANGE) {
         for (u64 old = word.load(); !word.compare_exchange_strong(old, old | bit); old = word.load()) {
@@ -42,6 +45,23 @@ static void mark(std::atomic<u64>& word, u64 bit, Way way) {
     }
 }
 
+// What a thread owes for claims between which others claimed, less what it worked.
+struct Pace {
+    u64 last = 0, owed = 0;
+
+    void after(u64 piece, int worked, int worker) {
+        const bool alone = piece == last + 1;
+        last = piece;
+        owed += alone ? 0 : 100;
+        const u64 paid = worked + alone;
+        owed = owed > paid ? owed - paid : 0;
+        if (owed >= 1600) {
+            owed -= 400;
+            for (int i = 0; i < 1000 * worker; ++i) __builtin_ia32_pause();
+        }
+    }
+};
+
 static double seconds(int threads, Way way, int length, const std::vector<char>& simulated) {
     std::vector<std::atomic<u64>> words(PIECES / 8 + 1);
     for (auto& word : words) word = 0;
@@ -50,12 +70,14 @@ static double seconds(int threads, Way way, int length, const std::vector<char>&
     std::vector<std::thread> crew;
     auto begin = std::chrono::steady_clock::now();
     for (int w = 0; w < threads; ++w) {
-        crew.emplace_back([&] {
+        crew.emplace_back([&, w] {
             u64 x = 1;
+            Pace pace;
             for (u64 first; (first = next.fetch_add(chunk)) < PIECES;) {
                 for (u64 n = first; n < first + chunk && n < PIECES; ++n) {
                     x = busy(x, simulated[n % CLASSES] ? length : 10);
                     mark(words[n / 8], u64(1) << (8 * (n % 8)), way);
+                    if (way == RESTS) pace.after(n, simulated[n % CLASSES] ? length : 0, w);
                 }
             }
         });
@@ -72,7 +94,7 @@ int main(int count, char** words) {
         seed = seed * 6364136223846793005ull + 1442695040888963407ull;
         is = int((seed >> 33) % 100) < percent;
     }
-    for (Way way : {OR, EXCHANGE, ADD, CHUNKS}) {
+    for (Way way : {OR, EXCHANGE, ADD, RESTS, CHUNKS}) {
         const double one = seconds(1, way, length, simulated);
         printf("%s: %.1f ns a piece with 1 thread", NAMES[way], one * 1e9 / PIECES);
         for (int threads : {2, 4}) {
