@@ -29,7 +29,7 @@ invariant-LOOP l = l.seat.place ≡ l.ledger
 """
 
 # what the program stands on, beside a crate of the kit
-STANDS_ON = ["bench_net", "fault_model", "patterns", "block_sim", "fault_ledger"]
+STANDS_ON = ["fault_model", "patterns", "block_sim", "fault_ledger", "report"]
 
 # name, words for the circuit
 CASES = [
@@ -54,25 +54,26 @@ def needed(lines, names):
     return [line for line in lines if line.split(":")[0] in wanted]
 
 
-def build(folder):
+def build_program(folder, name, stands_on, loops):
+    """Builds the program of bench/NAME.rt.txt, with these functions and loops, on these crates."""
     # rt takes no crate that lies outside the folder, so these are copies, with what was proved of them.
-    lines = needed((HERE.parent / "crates.txt").read_text().splitlines(), STANDS_ON)
+    lines = needed((HERE.parent / "crates.txt").read_text().splitlines(), stands_on)
     for line in lines:
-        name = line.split(":")[0]
-        shutil.copytree(CRATES / name, folder / "crates" / name)
-    home = folder / "crates" / "ledger_times"
+        below = line.split(":")[0]
+        shutil.copytree(CRATES / below, folder / "crates" / below)
+    home = folder / "crates" / name
     (home / "src").mkdir(parents=True)
-    shutil.copy(HERE / "ledger_times.rt.txt", home / "src" / "main.rt")
-    for function, loop in LOOPS.items():
+    shutil.copy(HERE / f"{name}.rt.txt", home / "src" / "main.rt")
+    for function, loop in loops.items():
         proof = home / "proofs" / function
         proof.mkdir(parents=True)
         text = INVARIANT.replace("FUNCTION", function).replace("LOOP", loop)
         (proof / "Invariants.antt").write_text(text)
     (folder / "HANDLES").write_text((HERE.parent / "HANDLES").read_text())
-    program = f"ledger_times: {' '.join(STANDS_ON)} anyhow"
+    program = f"{name}: {' '.join(stands_on)} anyhow"
     (folder / "crates.txt").write_text("\n".join([*lines, program]) + "\n")
-    subprocess.run(["rt", "run"], cwd=home, stdout=subprocess.DEVNULL, check=True)
-    return home / "out" / "ledger_times"
+    subprocess.run(["rt", "run"], cwd=home, stdout=subprocess.DEVNULL, stderr=subprocess.DEVNULL, check=True)
+    return home / "out" / name
 
 
 def main():
@@ -81,7 +82,7 @@ def main():
     options = parser.parse_args()
     with tempfile.TemporaryDirectory() as name:
         folder = pathlib.Path(name)
-        program = build(folder)
+        program = build_program(folder, "ledger_times", STANDS_ON, LOOPS)
         for title, circuit in CASES:
             if options.only not in title:
                 continue
