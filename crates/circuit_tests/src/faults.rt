@@ -248,11 +248,24 @@ fn check_list(
 }
 
 /// The classes have these representatives.
-fn check_representatives(rt: &impl Abort, classes: &fault_model::Classes, want: &Classes) {
-    assert_eq!(rt; classes.count() as usize, want.representatives.len());
+fn check_representatives(
+    rt: &impl Abort,
+    classes: &fault_model::Classes,
+    want: &Classes,
+    name: &str,
+) {
+    assert_eq!(rt;
+        classes.count() as usize,
+        want.representatives.len(),
+        "{name}"
+    );
     for class in 0..classes.count() {
         let fault = classes.representative(class);
-        assert_eq!(rt; Some(&fault), want.representatives.get(class as usize));
+        assert_eq!(rt;
+            Some(&fault),
+            want.representatives.get(class as usize),
+            "{name}"
+        );
     }
 }
 
@@ -263,16 +276,17 @@ fn check_classes(
     circuit: &Circuit,
     list: &Faults,
     want: &Classes,
+    name: &str,
 ) -> Result<(), AllocError>
     requires { list.now.list ≡ faults list.now.model circuit.now }
 {
     let classes = collapse(alloc, circuit, list)?;
-    assert_eq!(rt; list.count() as usize, want.of_faults.len());
+    assert_eq!(rt; list.count() as usize, want.of_faults.len(), "{name}");
     for fault in 0..list.count() {
         let class = classes.class_of(fault);
-        assert_eq!(rt; Some(&class), want.of_faults.get(fault as usize));
+        assert_eq!(rt; Some(&class), want.of_faults.get(fault as usize), "{name}");
     }
-    check_representatives(rt, &classes, want);
+    check_representatives(rt, &classes, want, name);
     Ok(())
 }
 
@@ -288,7 +302,7 @@ fn check_model(
     let faults = list_faults_in(alloc, circuit, model)?;
     assert_eq!(rt; faults.model(), model);
     check_list(rt, alloc, circuit, &faults, case)?;
-    check_classes(rt, alloc, circuit, &faults, want)
+    check_classes(rt, alloc, circuit, &faults, want, case.name)
 }
 
 /// The faults of the case under both models are in its classes.
