@@ -32,7 +32,7 @@ struct Case {
     answers: &'static str,
 }
 
-const CASES: [Case; 18] = [
+static CASES: [Case; 18] = [
     Case {
         name: "c17",
         text: C17,
@@ -392,12 +392,28 @@ fn answers(rt: &impl Abort, alloc: Global, circuit: &Circuit) -> Result<String, 
     Ok(words)
 }
 
+/// The calls of a circuit answer what the case says.
+fn check_answers(
+    rt: &impl Abort,
+    alloc: Global,
+    circuit: &Circuit,
+    case: &Case,
+) -> Result<(), AllocError> {
+    let words = answers(rt, alloc, circuit)?;
+    assert_eq!(rt; words.as_str(), case.answers, "{}", case.name);
+    Ok(())
+}
+
+/// The calls of the circuit of the case's text answer what the case says.
+fn check_case(rt: &impl Abort, alloc: Global, case: &Case) -> Result<(), Fail> {
+    let circuit = read_bench(alloc, case.text)?;
+    Ok(check_answers(rt, alloc, &circuit, case)?)
+}
+
 #[test]
 fn calls_of_circuits(rt: HostRuntime) -> Result<(), Fail> {
     for case in &CASES {
-        let circuit = read_bench(rt.alloc(), case.text)?;
-        let words = answers(&rt, rt.alloc(), &circuit)?;
-        assert_eq!(rt; words.as_str(), case.answers, "{}", case.name);
+        check_case(&rt, rt.alloc(), case)?;
     }
     Ok(())
 }
@@ -412,19 +428,34 @@ pub(crate) fn push_inverters(text: &mut String, count: u32) -> Result<(), AllocE
     Ok(())
 }
 
-#[test]
-fn chain_of_inverters_is_as_deep_as_long(rt: HostRuntime) -> Result<(), Fail> {
-    let mut forward = String::from_str(rt.alloc(), "INPUT(n0)\n")?;
-    push_inverters(&mut forward, 20_000)?;
-    let mut backward = String::new(rt.alloc());
-    for line in forward.as_str().lines().rev() {
+/// The circuit of the text is a chain of 20,000 inverters.
+fn check_chain(rt: &impl Abort, alloc: Global, text: &str) -> Result<(), Fail> {
+    let circuit = read_bench(alloc, text.as_bytes())?;
+    assert_eq!(rt; circuit.signals(), 20_001);
+    assert_eq!(rt; circuit.depth(), 20_000);
+    Ok(())
+}
+
+/// The lines of a text, the last first.
+fn reversed(alloc: Global, text: &str) -> Result<String, AllocError> {
+    let mut backward = String::new(alloc);
+    for line in text.lines().rev() {
         backward.push_str(line)?;
         backward.push('\n')?;
     }
-    for text in [forward.as_str(), backward.as_str()] {
-        let circuit = read_bench(rt.alloc(), text.as_bytes())?;
-        assert_eq!(rt; circuit.signals(), 20_001);
-        assert_eq!(rt; circuit.depth(), 20_000);
-    }
-    Ok(())
+    Ok(backward)
+}
+
+/// The circuits of the text and of its lines in reverse are such chains.
+fn check_both_ways(rt: &impl Abort, alloc: Global, text: &str) -> Result<(), Fail> {
+    check_chain(rt, alloc, text)?;
+    let backward = reversed(alloc, text)?;
+    check_chain(rt, alloc, backward.as_str())
+}
+
+#[test]
+fn chain_of_inverters_is_as_deep_as_long(rt: HostRuntime) -> Result<(), Fail> {
+    let mut text = String::from_str(rt.alloc(), "INPUT(n0)\n")?;
+    push_inverters(&mut text, 20_000)?;
+    check_both_ways(&rt, rt.alloc(), text.as_str())
 }

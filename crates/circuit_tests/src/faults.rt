@@ -1,5 +1,8 @@
 //! Fault lists and classes of circuits, under both models.
 
+ghost use Rattle.std.specs.Prelude.{◌≡◌};
+ghost use Rattle.fault_model.specs.Fault.{faults};
+
 use crate::circuits::{C17, push_inverters};
 use bench_net::{Circuit, read_bench};
 use fault_model::{Faults, Line, Model, collapse, list_faults, list_faults_in};
@@ -24,7 +27,7 @@ struct Case {
     transition: Classes,
 }
 
-const CASES: [Case; 8] = [
+static CASES: [Case; 8] = [
     Case {
         name: "c17",
         text: C17,
@@ -244,54 +247,105 @@ fn check_list(
     Ok(())
 }
 
-/// The faults of the text under the model are in these classes.
+/// The classes have these representatives.
+fn check_representatives(
+    rt: &impl Abort,
+    classes: &fault_model::Classes,
+    want: &Classes,
+    name: &str,
+) {
+    assert_eq!(rt;
+        classes.count() as usize,
+        want.representatives.len(),
+        "{name}"
+    );
+    for class in 0..classes.count() {
+        let fault = classes.representative(class);
+        assert_eq!(rt;
+            Some(&fault),
+            want.representatives.get(class as usize),
+            "{name}"
+        );
+    }
+}
+
+/// The faults of the list are in these classes.
 fn check_classes(
     rt: &impl Abort,
     alloc: Global,
+    circuit: &Circuit,
+    list: &Faults,
+    want: &Classes,
+    name: &str,
+) -> Result<(), AllocError>
+    requires { list.now.list ≡ faults list.now.model circuit.now }
+{
+    let classes = collapse(alloc, circuit, list)?;
+    assert_eq!(rt; list.count() as usize, want.of_faults.len(), "{name}");
+    for fault in 0..list.count() {
+        let class = classes.class_of(fault);
+        assert_eq!(rt; Some(&class), want.of_faults.get(fault as usize), "{name}");
+    }
+    check_representatives(rt, &classes, want, name);
+    Ok(())
+}
+
+/// The circuit has the lines of this case under the model, and its faults are in these classes.
+fn check_model(
+    rt: &impl Abort,
+    alloc: Global,
+    circuit: &Circuit,
     case: &Case,
     model: Model,
     want: &Classes,
-) -> Result<(), Fail> {
-    let circuit = read_bench(alloc, case.text)?;
-    let faults = list_faults_in(alloc, &circuit, model)?;
+) -> Result<(), AllocError> {
+    let faults = list_faults_in(alloc, circuit, model)?;
     assert_eq!(rt; faults.model(), model);
-    check_list(rt, alloc, &circuit, &faults, case)?;
-    let classes = collapse(alloc, &circuit, &faults)?;
-    let mut of_faults = Vec::new(alloc);
-    for fault in 0..faults.count() {
-        of_faults.push(classes.class_of(fault))?;
-    }
-    assert_eq!(rt; of_faults.as_slice(), want.of_faults, "{}", case.name);
-    let mut representatives = Vec::new(alloc);
-    for class in 0..classes.count() {
-        representatives.push(classes.representative(class))?;
-    }
-    assert_eq!(rt;
-        representatives.as_slice(),
-        want.representatives,
-        "{}",
-        case.name
-    );
+    check_list(rt, alloc, circuit, &faults, case)?;
+    check_classes(rt, alloc, circuit, &faults, want, case.name)
+}
+
+/// The faults of the case under both models are in its classes.
+fn check_case(rt: &impl Abort, alloc: Global, case: &Case) -> Result<(), Fail> {
+    let circuit = read_bench(alloc, case.text)?;
+    check_model(rt, alloc, &circuit, case, Model::StuckAt, &case.stuck_at)?;
+    check_model(
+        rt,
+        alloc,
+        &circuit,
+        case,
+        Model::Transition,
+        &case.transition,
+    )?;
     Ok(())
 }
 
 #[test]
 fn classes_of_circuits(rt: HostRuntime) -> Result<(), Fail> {
     for case in &CASES {
-        check_classes(&rt, rt.alloc(), case, Model::StuckAt, &case.stuck_at)?;
-        check_classes(&rt, rt.alloc(), case, Model::Transition, &case.transition)?;
+        check_case(&rt, rt.alloc(), case)?;
     }
     Ok(())
+}
+
+/// All faults of a chain of 20,000 inverters are in two classes.
+fn check_chain(rt: &impl Abort, alloc: Global, circuit: &Circuit) -> Result<(), AllocError> {
+    let faults = list_faults(alloc, circuit)?;
+    let classes = collapse(alloc, circuit, &faults)?;
+    assert_eq!(rt; faults.model(), Model::StuckAt);
+    assert_eq!(rt; (faults.count(), classes.count()), (40_002, 2));
+    Ok(())
+}
+
+/// The same of the circuit of this text.
+fn check_chain_of(rt: &impl Abort, alloc: Global, text: &str) -> Result<(), Fail> {
+    let circuit = read_bench(alloc, text.as_bytes())?;
+    Ok(check_chain(rt, alloc, &circuit)?)
 }
 
 #[test]
 fn long_chain_of_inverters(rt: HostRuntime) -> Result<(), Fail> {
     let mut text = String::from_str(rt.alloc(), "INPUT(n0)\nOUTPUT(n20000)\n")?;
     push_inverters(&mut text, 20_000)?;
-    let circuit = read_bench(rt.alloc(), text.as_bytes())?;
-    let faults = list_faults(rt.alloc(), &circuit)?;
-    let classes = collapse(rt.alloc(), &circuit, &faults)?;
-    assert_eq!(rt; faults.model(), Model::StuckAt);
-    assert_eq!(rt; (faults.count(), classes.count()), (40_002, 2));
-    Ok(())
+    check_chain_of(&rt, rt.alloc(), text.as_str())
 }

@@ -2,11 +2,11 @@
 
 use crate::circuits::C17;
 use bench_net::{BenchFault, Limit, read_bench};
-use std::alloc::Global;
+use std::alloc::{AllocError, Global};
 use std::test::Fail;
 
 /// Texts whose fault is at this line, counted from 1, and is that the line is no statement.
-const NO_STATEMENTS: [(&[u8], u64); 23] = [
+static NO_STATEMENTS: [(&[u8], u64); 23] = [
     (b"INPUT(a", 1),
     (b"INPUT(G1", 1),
     (b"INPUT(a)\nz = vdd\n", 2),
@@ -33,7 +33,7 @@ const NO_STATEMENTS: [(&[u8], u64); 23] = [
 ];
 
 /// Texts with another fault. Three are c17 up to the end of its line 6, 8 and 12.
-const OTHERS: [(&[u8], BenchFault); 20] = [
+static OTHERS: [(&[u8], BenchFault); 20] = [
     (b"INPUT(a)\nINPUT(a)\n", BenchFault::Redefined(2)),
     (b"OUTPUT(x)\nINPUT(a)\nINPUT(a)\n", BenchFault::Redefined(3)),
     (
@@ -88,12 +88,18 @@ fn refusal(alloc: Global, text: &[u8]) -> Option<BenchFault> {
 }
 
 #[test]
-fn faulty_texts_are_refused_by_name(rt: HostRuntime) {
-    for (text, line) in NO_STATEMENTS {
-        assert_eq!(rt; refusal(rt.alloc(), text), Some(BenchFault::Syntax(line)));
+fn lines_that_are_no_statements_are_refused_by_name(rt: HostRuntime) {
+    for (text, line) in &NO_STATEMENTS {
+        let refused = refusal(rt.alloc(), text);
+        assert_eq!(rt; refused, Some(BenchFault::Syntax(*line)));
     }
-    for (text, fault) in OTHERS {
-        assert_eq!(rt; refusal(rt.alloc(), text), Some(fault));
+}
+
+#[test]
+fn other_faulty_texts_are_refused_by_name(rt: HostRuntime) {
+    for (text, fault) in &OTHERS {
+        let refused = refusal(rt.alloc(), text);
+        assert_eq!(rt; refused, Some(*fault));
     }
 }
 
@@ -120,51 +126,89 @@ fn c17_cut_short_is_read_or_refused_by_name(rt: HostRuntime) {
     }
 }
 
+/// A text past a limit: its beginning, so many copies of a part, and its end.
+struct Long {
+    first: &'static str,
+    again: &'static str,
+    count: u32,
+    last: &'static str,
+    limit: Limit,
+}
+
+static LONGS: [Long; 3] = [
+    Long {
+        first: "(",
+        again: "((((((((((((((((",
+        count: 1_048_576,
+        last: "",
+        limit: Limit::Bytes,
+    },
+    Long {
+        first: "",
+        again: "INPUT(a)\n",
+        count: 1_000_001,
+        last: "",
+        limit: Limit::Signals,
+    },
+    Long {
+        first: "a=OR(a",
+        again: ",a",
+        count: 4_000_000,
+        last: ")",
+        limit: Limit::Sinks,
+    },
+];
+
+/// The text of one that is long.
+fn spelled(alloc: Global, long: &Long) -> Result<String, AllocError> {
+    let mut text = String::from_str(alloc, long.first)?;
+    for _ in 0..long.count {
+        text.push_str(long.again)?;
+    }
+    text.push_str(long.last)?;
+    Ok(text)
+}
+
 #[test]
 fn limits_go_before_what_the_lines_say(rt: HostRuntime) -> Result<(), Fail> {
-    for (first, again, count, last, limit) in [
-        ("(", "((((((((((((((((", 1_048_576, "", Limit::Bytes),
-        ("", "INPUT(a)\n", 1_000_001, "", Limit::Signals),
-        ("a=OR(a", ",a", 4_000_000, ")", Limit::Sinks),
-    ] {
-        let mut text = String::from_str(rt.alloc(), first)?;
-        for _ in 0..count {
-            text.push_str(again)?;
-        }
-        text.push_str(last)?;
-        let want = Some(BenchFault::TooLarge(limit));
-        assert_eq!(rt; refusal(rt.alloc(), text.as_bytes()), want);
+    for long in &LONGS {
+        let text = spelled(rt.alloc(), long)?;
+        let refused = refusal(rt.alloc(), text.as_bytes());
+        assert_eq!(rt; refused, Some(BenchFault::TooLarge(long.limit)));
     }
     Ok(())
 }
 
+/// Each kind of fault, and its words.
+static WORDS: [(BenchFault, &str); 9] = [
+    (
+        BenchFault::TooLarge(Limit::Bytes),
+        "bench: more than 16777216 bytes",
+    ),
+    (
+        BenchFault::TooLarge(Limit::Signals),
+        "bench: more than 1000000 signals",
+    ),
+    (
+        BenchFault::TooLarge(Limit::Sinks),
+        "bench: more than 4000000 sinks",
+    ),
+    (BenchFault::Syntax(3), "bench line 3: syntax"),
+    (
+        BenchFault::Redefined(4),
+        "bench line 4: name defined before",
+    ),
+    (BenchFault::Undefined(5), "bench line 5: name not defined"),
+    (BenchFault::Cycle(6), "bench line 6: cycle"),
+    (BenchFault::Empty, "bench: no signal"),
+    (BenchFault::Memory, "out of memory"),
+];
+
 #[test]
 fn words_of_faults(rt: HostRuntime) -> Result<(), Fail> {
-    for (fault, words) in [
-        (
-            BenchFault::TooLarge(Limit::Bytes),
-            "bench: more than 16777216 bytes",
-        ),
-        (
-            BenchFault::TooLarge(Limit::Signals),
-            "bench: more than 1000000 signals",
-        ),
-        (
-            BenchFault::TooLarge(Limit::Sinks),
-            "bench: more than 4000000 sinks",
-        ),
-        (BenchFault::Syntax(3), "bench line 3: syntax"),
-        (
-            BenchFault::Redefined(4),
-            "bench line 4: name defined before",
-        ),
-        (BenchFault::Undefined(5), "bench line 5: name not defined"),
-        (BenchFault::Cycle(6), "bench line 6: cycle"),
-        (BenchFault::Empty, "bench: no signal"),
-        (BenchFault::Memory, "out of memory"),
-    ] {
+    for (fault, words) in &WORDS {
         let said = format!(in rt.alloc(); "{fault}")?;
-        assert_eq!(rt; said.as_str(), words);
+        assert_eq!(rt; said.as_str(), *words);
     }
     Ok(())
 }

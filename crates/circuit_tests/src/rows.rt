@@ -24,7 +24,7 @@ struct Case {
     bits: &'static [(u32, u32, bool)],
 }
 
-const CASES: [Case; 6] = [
+static CASES: [Case; 6] = [
     Case {
         name: "odd_lines",
         text: Text {
@@ -113,7 +113,7 @@ const CASES: [Case; 6] = [
 ];
 
 /// A text, its width, and the refusal.
-const REFUSED: [(Text, u32, TestFault); 9] = [
+static REFUSED: [(Text, u32, TestFault); 9] = [
     (
         Text {
             row: "",
@@ -208,46 +208,67 @@ fn text_of(alloc: Global, text: &Text) -> Result<String, AllocError> {
     Ok(words)
 }
 
-/// The tests have these sizes of blocks, words and bits.
-fn check_tests(rt: &impl Abort, tests: &Tests, case: &Case) {
+/// The tests have these sizes of blocks.
+fn check_sizes(rt: &impl Abort, tests: &Tests, case: &Case) {
     for (block, size) in case.sizes {
         assert!(rt; *block < tests.blocks());
         assert_eq!(rt; tests.size_of(*block), *size, "{}", case.name);
     }
+}
+
+/// The tests have these words.
+fn check_words(rt: &impl Abort, tests: &Tests, case: &Case) {
     for (block, source, word) in case.words {
         assert!(rt; *block < tests.blocks() && *source < tests.width());
         assert_eq!(rt; tests.word(*block, *source), *word, "{}", case.name);
     }
+}
+
+/// The tests have these bits.
+fn check_bits(rt: &impl Abort, tests: &Tests, case: &Case) {
     for (test, source, bit) in case.bits {
         assert!(rt; *test < tests.count() && *source < tests.width());
         assert_eq!(rt; tests.bit(*test, *source), *bit, "{}", case.name);
     }
 }
 
+/// The text is read as the tests of this case.
+fn check_text(rt: &impl Abort, alloc: Global, text: &str, case: &Case) -> Result<(), Fail> {
+    assert!(rt; case.width >= 1);
+    let tests = read_tests(alloc, text.as_bytes(), case.width)?;
+    let counts = (tests.count(), tests.blocks());
+    assert_eq!(rt;
+        (tests.width(), counts),
+        (case.width, case.counts),
+        "{}",
+        case.name
+    );
+    check_sizes(rt, &tests, case);
+    check_words(rt, &tests, case);
+    check_bits(rt, &tests, case);
+    Ok(())
+}
+
 #[test]
 fn tests_of_texts(rt: HostRuntime) -> Result<(), Fail> {
     for case in &CASES {
-        assert!(rt; case.width >= 1);
         let text = text_of(rt.alloc(), &case.text)?;
-        let tests = read_tests(rt.alloc(), text.as_bytes(), case.width)?;
-        let counts = (tests.count(), tests.blocks());
-        assert_eq!(rt;
-            (tests.width(), counts),
-            (case.width, case.counts),
-            "{}",
-            case.name
-        );
-        check_tests(&rt, &tests, case);
+        check_text(&rt, rt.alloc(), &text, case)?;
     }
     Ok(())
+}
+
+/// How a text is refused.
+fn refusal(rt: &impl Abort, alloc: Global, text: &str, width: u32) -> Option<TestFault> {
+    assert!(rt; width >= 1);
+    read_tests(alloc, text.as_bytes(), width).err()
 }
 
 #[test]
 fn refused_texts(rt: HostRuntime) -> Result<(), Fail> {
     for (text, width, fault) in &REFUSED {
-        assert!(rt; *width >= 1);
         let text = text_of(rt.alloc(), text)?;
-        let refused = read_tests(rt.alloc(), text.as_bytes(), *width).err();
+        let refused = refusal(&rt, rt.alloc(), &text, *width);
         assert_eq!(rt; refused, Some(*fault));
     }
     Ok(())

@@ -10,8 +10,11 @@ use fault_model::{Model, collapse, list_faults};
 use patterns::{BLOCK_SIZE, Outcome, read_tests};
 use report::{SimFault, job_of, listing_bytes, report_bytes};
 use std::alloc::{AllocError, Global};
+use std::process::Abort;
+use std::sync::Wait;
 use std::test::Fail;
-use workers::{OpenGate, Verdicts, run};
+use std::thread::Threads;
+use workers::{OpenGate, RunFault, Verdicts, run};
 
 /// C17 of the ISCAS-85 benchmarks.
 const C17: &[u8] = b"\
@@ -70,31 +73,51 @@ fn news(
     Ok(found)
 }
 
-#[test]
-fn faults_are_found_in_threads(rt: HostRuntime) -> Result<(), Fail> {
-    let job = read_job(rt.alloc(), C17, b"11111\n")?;
-    let verdicts = run(&rt, rt.alloc(), &job, 4, &OpenGate)?;
+/// Runs a job of C17 under one test, and checks how many faults are detected.
+fn check_run<R: AllocGlobal + Threads + Wait + Abort>(rt: &R, job: &Job) -> Result<(), RunFault> {
+    let verdicts = run(rt, rt.alloc(), job, 4, &OpenGate)?;
     assert!(rt; verdicts.detected() == 14 && verdicts.total() == 34);
     Ok(())
 }
 
-/// What three new tests of c17 add to a run before.
-fn news_of_three(alloc: Global, before: &Verdicts) -> Result<Vec<(u32, u32)>, SimFault> {
-    let job = read_job(alloc, C17, b"00000\n10101\n01010\n")?;
-    let mut workspace = Workspace::new(alloc, &job)?;
+#[test]
+fn faults_are_found_in_threads(rt: HostRuntime) -> Result<(), Fail> {
+    let job = read_job(rt.alloc(), C17, b"11111\n")?;
+    Ok(check_run(&rt, &job)?)
+}
+
+/// What the first block of a job of new tests adds to a run before.
+fn news_of(alloc: Global, job: &Job, before: &Verdicts) -> Result<Vec<(u32, u32)>, AllocError> {
+    let mut workspace = Workspace::new(alloc, job)?;
     if job.tests().blocks() == 0 {
         return Ok(Vec::new(alloc));
     }
-    Ok(news(alloc, &job, &mut workspace, 0, before)?)
+    news(alloc, job, &mut workspace, 0, before)
+}
+
+/// What three new tests of C17 add to a run before.
+fn news_of_three(alloc: Global, before: &Verdicts) -> Result<Vec<(u32, u32)>, SimFault> {
+    let job = read_job(alloc, C17, b"00000\n10101\n01010\n")?;
+    Ok(news_of(alloc, &job, before)?)
+}
+
+/// Checks how many classes three new tests detect that a run before did not.
+fn check_news<R: AllocGlobal + Abort>(rt: &R, before: &Verdicts) -> Result<(), SimFault> {
+    let found = news_of_three(rt.alloc(), before)?;
+    assert!(rt; found.len() == 12);
+    Ok(())
+}
+
+/// The verdicts of C17 under one test.
+fn verdicts_of_one<R: AllocGlobal + Threads + Wait>(rt: &R) -> Result<Verdicts, SimFault> {
+    let job = job_of(rt.alloc(), Model::StuckAt, C17, b"11111\n")?;
+    Ok(run(rt, rt.alloc(), &job, 4, &OpenGate)?)
 }
 
 #[test]
 fn new_tests_find_more_classes(rt: HostRuntime) -> Result<(), Fail> {
-    let job = job_of(rt.alloc(), Model::StuckAt, C17, b"11111\n")?;
-    let before = run(&rt, rt.alloc(), &job, 4, &OpenGate)?;
-    let found = news_of_three(rt.alloc(), &before)?;
-    assert!(rt; found.len() == 12);
-    Ok(())
+    let before = verdicts_of_one(&rt)?;
+    Ok(check_news(&rt, &before)?)
 }
 
 /// How many gates are evaluated for all classes on a block.
@@ -108,13 +131,18 @@ fn evaluations(job: &Job, workspace: &mut Workspace, block: u32) -> u64
     workspace.gate_evaluations()
 }
 
+/// Checks the evaluations of C17 under one test.
+fn check_evaluations<R: AllocGlobal + Abort>(rt: &R, job: &Job) -> Result<(), AllocError> {
+    let mut workspace = Workspace::new(rt.alloc(), job)?;
+    assert!(rt; job.tests().blocks() == 1);
+    assert_eq!(rt; evaluations(job, &mut workspace, 0), 18);
+    Ok(())
+}
+
 #[test]
 fn evaluations_are_counted(rt: HostRuntime) -> Result<(), Fail> {
     let job = read_job(rt.alloc(), C17, b"11111\n")?;
-    let mut workspace = Workspace::new(rt.alloc(), &job)?;
-    assert!(rt; job.tests().blocks() == 1);
-    assert_eq!(rt; evaluations(&job, &mut workspace, 0), 18);
-    Ok(())
+    Ok(check_evaluations(&rt, &job)?)
 }
 
 #[test]

@@ -137,9 +137,18 @@ fn push_times(text: &mut Vec<u8>, row: &[u8], times: u32) -> Result<(), AllocErr
     Ok(())
 }
 
-/// Checks the evaluations of C17 on 64 blocks: at most 52 a block.
+/// How many outcomes are hits.
+fn hits_of(outcomes: &[Outcome]) -> usize {
+    outcomes
+        .iter()
+        .filter(|outcome| **outcome != Outcome::Clear)
+        .count()
+}
+
+/// Checks the evaluations of C17 on 64 blocks: at most 52 a block. On each, 8 classes have a hit.
 fn check_bound<R: Abort>(rt: &R, alloc: Global, job: &Job) -> Result<(), Fail> {
     let both = outcomes_of(alloc, job)?;
+    assert_eq!(rt; hits_of(&both.whole), 8 * 64);
     assert!(rt; both.evaluations > 0);
     assert!(rt; both.evaluations <= 3328);
     assert!(rt; both.whole.as_slice() == both.first.as_slice());

@@ -19,9 +19,9 @@ pub(crate) enum Task {
 /// All that it can be asked to do.
 static TASKS: [Task; 3] = [Task::Run, Task::Schedule, Task::Faults];
 
+// The texts live as long as is asked for, since a command has one lifetime for all its texts.
 impl Task {
-    /// The name of the subcommand. It lives as long as is asked for, since a command has one
-    /// lifetime for all its texts.
+    /// The name of the subcommand.
     fn name<'a>(self) -> &'a str {
         match self {
             Task::Run => "run",
@@ -30,11 +30,73 @@ impl Task {
         }
     }
 
+    /// What the subcommand does.
+    fn about<'a>(self) -> &'a str {
+        match self {
+            Task::Run => "Simulates all faults of a model and tells the fault coverage",
+            Task::Schedule => {
+                "Does what run does by one thread, with the workers' moves in a given order"
+            }
+            Task::Faults => "Lists all faults of a model with their classes",
+        }
+    }
+
+    /// What is said after its long help.
+    fn example<'a>(self) -> &'a str {
+        match self {
+            Task::Run => ABOUT_RUN,
+            Task::Schedule => ABOUT_SCHEDULE,
+            Task::Faults => ABOUT_FAULTS,
+        }
+    }
+
+    /// Its options, in the order of its help.
+    fn choices(self) -> &'static [Choice] {
+        match self {
+            Task::Run => &RUN_CHOICES,
+            Task::Schedule => &SCHEDULE_CHOICES,
+            Task::Faults => &FAULTS_CHOICES,
+        }
+    }
+
     /// The task that a subcommand names.
     pub(crate) fn named(name: &str) -> Option<Task> {
         TASKS.iter().copied().find(|task| task.name() == name)
     }
 }
+
+/// An option of a subcommand.
+#[derive(Clone, Copy)]
+enum Choice {
+    Bench,
+    Tests,
+    Order,
+    Model,
+    Workers,
+    List,
+}
+
+/// The options of `run`.
+static RUN_CHOICES: [Choice; 5] = [
+    Choice::Bench,
+    Choice::Tests,
+    Choice::Model,
+    Choice::Workers,
+    Choice::List,
+];
+
+/// The options of `schedule`.
+static SCHEDULE_CHOICES: [Choice; 6] = [
+    Choice::Bench,
+    Choice::Tests,
+    Choice::Order,
+    Choice::Model,
+    Choice::Workers,
+    Choice::List,
+];
+
+/// The options of `faults`.
+static FAULTS_CHOICES: [Choice; 2] = [Choice::Bench, Choice::Model];
 
 /// The fault models by their names on the command line.
 static MODELS: [&str; 2] = ["stuck", "transition"];
@@ -132,31 +194,13 @@ tells the class of each fault, counted from 0; faults of one class are detected 
 
 Each FILE is read whole. /dev/stdin serves as a file, too.";
 
-/// The option `--bench FILE`.
-fn bench_option<'a>(alloc: Global) -> Arg<'a> {
-    Arg::new(alloc, "bench")
-        .long("bench")
+/// The option `--NAME FILE`.
+fn file_option<'a>(alloc: Global, name: &'a str, help: &'a str) -> Arg<'a> {
+    Arg::new(alloc, name)
+        .long(name)
         .value_name("FILE")
         .required(true)
-        .help("The circuit, a bench text")
-}
-
-/// The option `--tests FILE`.
-fn tests_option<'a>(alloc: Global) -> Arg<'a> {
-    Arg::new(alloc, "tests")
-        .long("tests")
-        .value_name("FILE")
-        .required(true)
-        .help("The tests, one a line: a bit for each input, then for each flip-flop")
-}
-
-/// The option `--order FILE`.
-fn order_option<'a>(alloc: Global) -> Arg<'a> {
-    Arg::new(alloc, "order")
-        .long("order")
-        .value_name("FILE")
-        .required(true)
-        .help("The moves, the number of a worker, from 0, a line")
+        .help(help)
 }
 
 /// The option `--model MODEL`.
@@ -192,51 +236,57 @@ fn list_flag<'a>(alloc: Global) -> Arg<'a> {
         .help("Tell the first test of each fault, too")
 }
 
-/// The subcommand `run`.
-fn run_command<'a>(alloc: Global, workers: &'a str) -> Result<Command<'a>, AllocError> {
-    Command::new(alloc, Task::Run.name())
-        .about("Simulates all faults of a model and tells the fault coverage")
-        .after_help(FILES)
-        .after_long_help(ABOUT_RUN)
-        .arg(bench_option(alloc))?
-        .arg(tests_option(alloc))?
-        .arg(model_option(alloc))?
-        .arg(workers_option(alloc, workers))?
-        .arg(list_flag(alloc))
+/// An option, with the help of `--workers N`.
+fn option<'a>(alloc: Global, choice: Choice, workers: &'a str) -> Arg<'a> {
+    match choice {
+        Choice::Bench => file_option(alloc, "bench", "The circuit, a bench text"),
+        Choice::Tests => file_option(
+            alloc,
+            "tests",
+            "The tests, one a line: a bit for each input, then for each flip-flop",
+        ),
+        Choice::Order => file_option(
+            alloc,
+            "order",
+            "The moves, the number of a worker, from 0, a line",
+        ),
+        Choice::Model => model_option(alloc),
+        Choice::Workers => workers_option(alloc, workers),
+        Choice::List => list_flag(alloc),
+    }
 }
 
-/// The subcommand `schedule`.
-fn schedule_command<'a>(alloc: Global, workers: &'a str) -> Result<Command<'a>, AllocError> {
-    Command::new(alloc, Task::Schedule.name())
-        .about("Does what run does by one thread, with the workers' moves in a given order")
-        .after_help(FILES)
-        .after_long_help(ABOUT_SCHEDULE)
-        .arg(bench_option(alloc))?
-        .arg(tests_option(alloc))?
-        .arg(order_option(alloc))?
-        .arg(model_option(alloc))?
-        .arg(workers_option(alloc, workers))?
-        .arg(list_flag(alloc))
+/// A command with options, with the help of `--workers N`.
+fn with_options<'a>(
+    alloc: Global,
+    mut command: Command<'a>,
+    choices: &[Choice],
+    workers: &'a str,
+) -> Result<Command<'a>, AllocError> {
+    for choice in choices {
+        command = command.arg(option(alloc, *choice, workers))?;
+    }
+    Ok(command)
 }
 
-/// The subcommand `faults`.
-fn faults_command<'a>(alloc: Global) -> Result<Command<'a>, AllocError> {
-    Command::new(alloc, Task::Faults.name())
-        .about("Lists all faults of a model with their classes")
+/// The subcommand of a task, with the help of `--workers N`.
+fn subcommand<'a>(alloc: Global, task: Task, workers: &'a str) -> Result<Command<'a>, AllocError> {
+    let command = Command::new(alloc, task.name())
+        .about(task.about())
         .after_help(FILES)
-        .after_long_help(ABOUT_FAULTS)
-        .arg(bench_option(alloc))?
-        .arg(model_option(alloc))
+        .after_long_help(task.example());
+    with_options(alloc, command, task.choices(), workers)
 }
 
 /// The command line of the program, with the help of `--workers N`.
 pub(crate) fn command_line<'a>(alloc: Global, workers: &'a str) -> Result<Command<'a>, AllocError> {
-    Command::new(alloc, "faultsim")
+    let mut command = Command::new(alloc, "faultsim")
         .version(VERSION)
         .about("Parallel fault simulation of bench circuits")
         .after_long_help(ABOUT_TEXTS)
-        .subcommand_required(true)
-        .subcommand(run_command(alloc, workers)?)?
-        .subcommand(schedule_command(alloc, workers)?)?
-        .subcommand(faults_command(alloc)?)
+        .subcommand_required(true);
+    for task in &TASKS {
+        command = command.subcommand(subcommand(alloc, *task, workers)?)?;
+    }
+    Ok(command)
 }

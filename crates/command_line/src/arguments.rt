@@ -1,0 +1,83 @@
+//! The arguments of the process, on the files of the system.
+
+ghost use Rattle.std.specs.Prelude.{◌≤◌};
+
+use crate::command::run_words;
+use crate::source::Files;
+use crate::status::{DONE, Fault, NO_MEMORY, UNWRITTEN, answer_fault};
+use report::{Out, Plain};
+use std::alloc::{AllocError, Global};
+use std::env;
+use std::io::{BufWriter, ErrorKind, Write};
+use std::rt::{Env, Files as HasFiles};
+use std::sync::Wait;
+use std::thread::Threads;
+
+/// Does what the arguments of the process ask for, as [`run_words`] does, on the files of the
+/// system, and answers the status. The output has a buffer, which is flushed at the end.
+pub fn run_arguments<R: Env + HasFiles + AllocGlobal + Threads + Wait, W: Write + Drop, E: Out>(
+    rt: &R,
+    out: W,
+    err: &mut E,
+) -> u8
+    ensures { result ≤ 3 }
+{
+    match read_arguments(rt) {
+        Ok(arguments) => run_on_files(rt, &arguments, out, err),
+        Err(fault) => answer_fault(&fault, err),
+    }
+}
+
+/// The arguments of the process.
+fn read_arguments<R: Env + AllocGlobal>(rt: &R) -> Result<Vec<String>, Fault<'static>> {
+    let arguments = match env::args(rt) {
+        Ok(arguments) => arguments,
+        Err(error) if error.kind() == ErrorKind::OutOfMemory => return Err(NO_MEMORY),
+        Err(_) => return Err(Fault::NoText),
+    };
+    match arguments.collect(rt.alloc()) {
+        Ok(arguments) => Ok(arguments),
+        Err(AllocError) => Err(NO_MEMORY),
+    }
+}
+
+/// Does what arguments ask for on the files of the system.
+fn run_on_files<R: HasFiles + AllocGlobal + Threads + Wait, W: Write + Drop, E: Out>(
+    rt: &R,
+    arguments: &[String],
+    out: W,
+    err: &mut E,
+) -> u8
+    ensures { result ≤ 3 }
+{
+    match words_of(rt.alloc(), arguments) {
+        Ok(words) => run_with_buffer(rt, &words, out, err),
+        Err(AllocError) => answer_fault(&NO_MEMORY, err),
+    }
+}
+
+/// The words of arguments.
+fn words_of<'a>(alloc: Global, arguments: &'a [String]) -> Result<Vec<&'a str>, AllocError> {
+    arguments.iter().map(|word| word.as_str()).collect(alloc)
+}
+
+/// Does what words ask for on the files of the system, with a buffer before the output.
+fn run_with_buffer<'a, R: HasFiles + AllocGlobal + Threads + Wait, W: Write + Drop, E: Out>(
+    rt: &R,
+    words: &'a [&'a str],
+    out: W,
+    err: &mut E,
+) -> u8
+    ensures { result ≤ 3 }
+{
+    let Ok(buffered) = BufWriter::new(rt.alloc(), out) else {
+        return answer_fault(&NO_MEMORY, err);
+    };
+    let mut out = Plain::new(buffered);
+    let status = run_words(rt, rt.alloc(), words, &mut Files::new(rt), &mut out, err);
+    let flushed = out.into_writer().flush();
+    if status == DONE && flushed.is_err() {
+        return answer_fault(&UNWRITTEN, err);
+    }
+    status
+}

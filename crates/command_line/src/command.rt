@@ -1,0 +1,212 @@
+//! Commands: what the words ask for is done.
+
+ghost use Rattle.std.specs.Prelude.{◌≤◌};
+
+use crate::options::{Task, command_line, model_named, workers_help};
+use crate::source::{Source, SourceFault};
+use crate::status::{DONE, Fault, MISUSED, NO_MEMORY, UNWRITTEN, answer_fault};
+use clap::error::ErrorKind;
+use clap::{ArgMatches, Error};
+use fault_model::Model;
+use report::{Formatted, Out, faults_text_in, schedule_text_in, simulate_text_in};
+use std::alloc::{AllocError, Global};
+use std::fmt::Write;
+use std::sync::Wait;
+use std::thread::Threads;
+
+/// Does what the words ask for and answers the status: 0 done or helped, 1 a text is refused, 2 the
+/// command line is refused, 3 a file, the output, memory or a thread is refused. `words[0]` is the
+/// program's name. It joins the threads that it starts.
+pub fn run_words<'a, R: Threads + Wait, S: Source, W: Out, E: Out>(
+    rt: &R,
+    alloc: Global,
+    words: &'a [&'a str],
+    files: &mut S,
+    out: &mut W,
+    err: &mut E,
+) -> u8
+    ensures { result ≤ 3 }
+{
+    match workers_help(alloc) {
+        Ok(workers) => run_with_help(rt, alloc, &workers, words, files, out, err),
+        Err(AllocError) => answer_fault(&NO_MEMORY, err),
+    }
+}
+
+/// The same with the help of `--workers N`.
+fn run_with_help<'a, R: Threads + Wait, S: Source, W: Out, E: Out>(
+    rt: &R,
+    alloc: Global,
+    workers: &'a str,
+    words: &'a [&'a str],
+    files: &mut S,
+    out: &mut W,
+    err: &mut E,
+) -> u8
+    ensures { result ≤ 3 }
+{
+    let Ok(command) = command_line(alloc, workers) else {
+        return answer_fault(&NO_MEMORY, err);
+    };
+    match command.try_get_matches_from(words) {
+        Ok(matches) => run_matched(rt, alloc, &matches, files, out, err),
+        Err(error) => answer_error(&error, out, err),
+    }
+}
+
+/// Does what a command line asks for.
+fn run_matched<'a, R: Threads + Wait, S: Source, W: Out, E: Out>(
+    rt: &R,
+    alloc: Global,
+    matches: &ArgMatches<'a>,
+    files: &mut S,
+    out: &mut W,
+    err: &mut E,
+) -> u8
+    ensures { result ≤ 3 }
+{
+    match do_task(rt, alloc, matches, files, out) {
+        Ok(()) => DONE,
+        Err(fault) => answer_fault(&fault, err),
+    }
+}
+
+/// Answers a command line that asks for help, or is refused.
+fn answer_error<W: Out, E: Out>(error: &Error, out: &mut W, err: &mut E) -> u8
+    ensures { result ≤ 3 }
+{
+    if error.kind() == ErrorKind::OutOfMemory {
+        return answer_fault(&NO_MEMORY, err);
+    }
+    if error.use_stderr() {
+        let _ = write!(Formatted(err), "{error}");
+        return MISUSED;
+    }
+    if write!(Formatted(out), "{error}").is_err() {
+        return answer_fault(&UNWRITTEN, err);
+    }
+    DONE
+}
+
+/// Does what the subcommand names.
+fn do_task<'a, R: Threads + Wait, S: Source, W: Out>(
+    rt: &R,
+    alloc: Global,
+    matches: &ArgMatches<'a>,
+    files: &mut S,
+    out: &mut W,
+) -> Result<(), Fault<'a>> {
+    let Some((name, options)) = matches.subcommand() else {
+        return Err(Fault::Misused("no command"));
+    };
+    match Task::named(name) {
+        Some(Task::Run) => do_run(rt, alloc, options, files, out),
+        Some(Task::Schedule) => do_schedule(alloc, options, files, out),
+        Some(Task::Faults) => do_faults(alloc, options, files, out),
+        None => Err(Fault::Misused(name)),
+    }
+}
+
+/// The model that the command line names.
+fn read_model<'a>(matches: &ArgMatches<'a>) -> Result<Model, Fault<'a>> {
+    match matches.get_str("model").and_then(model_named) {
+        Some(model) => Ok(model),
+        None => Err(Fault::Misused("--model")),
+    }
+}
+
+/// Reads the file that an option names.
+fn read_option<'a, S: Source>(
+    alloc: Global,
+    matches: &ArgMatches<'a>,
+    option: &'a str,
+    files: &mut S,
+) -> Result<Vec<u8>, Fault<'a>> {
+    let Some(path) = matches.get_str(option) else {
+        return Err(Fault::Misused(option));
+    };
+    match files.read(alloc, path) {
+        Ok(text) => Ok(text),
+        Err(SourceFault::Unreadable) => Err(Fault::Unreadable(path)),
+        Err(SourceFault::Memory) => Err(NO_MEMORY),
+    }
+}
+
+/// What `run` and `schedule` have in common.
+#[derive(Clone, Copy)]
+struct Settings {
+    model: Model,
+    workers: u32,
+    list: bool,
+}
+
+/// The settings that the command line names.
+fn read_settings<'a>(matches: &ArgMatches<'a>) -> Result<Settings, Fault<'a>> {
+    let model = read_model(matches)?;
+    let Some(workers) = matches.get_one::<u32>("workers") else {
+        return Err(Fault::Misused("--workers"));
+    };
+    let list = matches.get_flag("list");
+    Ok(Settings {
+        model,
+        workers,
+        list,
+    })
+}
+
+/// `run`: both files are read before either text is looked at.
+fn do_run<'a, R: Threads + Wait, S: Source, W: Out>(
+    rt: &R,
+    alloc: Global,
+    matches: &ArgMatches<'a>,
+    files: &mut S,
+    out: &mut W,
+) -> Result<(), Fault<'a>> {
+    let Settings {
+        model,
+        workers,
+        list,
+    } = read_settings(matches)?;
+    let bench = read_option(alloc, matches, "bench", files)?;
+    let tests = read_option(alloc, matches, "tests", files)?;
+    match simulate_text_in(rt, alloc, model, &bench, &tests, workers, list, out) {
+        Ok(()) => Ok(()),
+        Err(fault) => Err(Fault::Sim(fault)),
+    }
+}
+
+/// `schedule`: the three files are read before any text is looked at.
+fn do_schedule<'a, S: Source, W: Out>(
+    alloc: Global,
+    matches: &ArgMatches<'a>,
+    files: &mut S,
+    out: &mut W,
+) -> Result<(), Fault<'a>> {
+    let Settings {
+        model,
+        workers,
+        list,
+    } = read_settings(matches)?;
+    let bench = read_option(alloc, matches, "bench", files)?;
+    let tests = read_option(alloc, matches, "tests", files)?;
+    let order = read_option(alloc, matches, "order", files)?;
+    match schedule_text_in(alloc, model, &bench, &tests, &order, workers, list, out) {
+        Ok(()) => Ok(()),
+        Err(fault) => Err(Fault::Sim(fault)),
+    }
+}
+
+/// `faults`.
+fn do_faults<'a, S: Source, W: Out>(
+    alloc: Global,
+    matches: &ArgMatches<'a>,
+    files: &mut S,
+    out: &mut W,
+) -> Result<(), Fault<'a>> {
+    let model = read_model(matches)?;
+    let bench = read_option(alloc, matches, "bench", files)?;
+    match faults_text_in(alloc, model, &bench, out) {
+        Ok(()) => Ok(()),
+        Err(fault) => Err(Fault::Sim(fault)),
+    }
+}

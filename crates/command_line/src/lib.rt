@@ -1,0 +1,16 @@
+//! The command line of `faultsim`: words in, a status out.
+//!
+//! [`run_arguments`] does what the arguments of the process ask for, on the files of the system.
+//! [`run_words`] does what any words ask for, on files of the caller's.
+#![tactic(auto)]
+
+mod arguments;
+mod command;
+mod options;
+mod source;
+mod status;
+
+pub use arguments::run_arguments;
+pub use command::run_words;
+pub use source::{Source, SourceFault};
+pub use status::status_of;

@@ -1,0 +1,91 @@
+//! Faults of a command, their words and their statuses.
+
+ghost use Rattle.std.specs.Prelude.{◌<◌, ◌≤◌};
+
+use bench_net::BenchFault;
+use block_sim::JobFault;
+use patterns::{OrderFault, TestFault};
+use report::{Formatted, Out, ReportFault, RunFault, SimFault};
+use std::fmt::Write;
+
+/// The status of a command that was done.
+pub(crate) const DONE: u8 = 0;
+
+/// The status of a refused text.
+const REFUSED: u8 = 1;
+
+/// The status of a refused command line.
+pub(crate) const MISUSED: u8 = 2;
+
+/// The status of a file, an output, memory or a thread that is refused.
+const FAILED: u8 = 3;
+
+/// Why a command was not done.
+#[derive(Clone, Copy)]
+pub(crate) enum Fault<'a> {
+    /// An argument of the process is no text.
+    NoText,
+    /// The command line lacks an option, or what it has there doesn't do.
+    Misused(&'a str),
+    /// The file at a path is refused.
+    Unreadable(&'a str),
+    /// A text is refused, or the work on it, or the output.
+    Sim(SimFault),
+}
+
+/// The output takes nothing more.
+pub(crate) const UNWRITTEN: Fault<'static> = Fault::Sim(SimFault::Report(ReportFault::Write));
+
+/// Memory is refused.
+pub(crate) const NO_MEMORY: Fault<'static> = Fault::Sim(SimFault::Memory);
+
+/// Tells a fault in one line, and answers its status, which is no other where the line can't be
+/// told.
+pub(crate) fn answer_fault<E: Out>(fault: &Fault<'_>, err: &mut E) -> u8
+    ensures failed { 0 < result }
+    ensures few { result ≤ 3 }
+{
+    let mut text = Formatted(err);
+    let _ = match fault {
+        Fault::NoText => writeln!(text, "faultsim: an argument is no text"),
+        Fault::Misused(option) => writeln!(text, "faultsim: cannot use {option}"),
+        Fault::Unreadable(path) => writeln!(text, "faultsim: cannot read {path}"),
+        Fault::Sim(fault) => writeln!(text, "faultsim: {fault}"),
+    };
+    match fault {
+        Fault::NoText | Fault::Misused(_) => MISUSED,
+        Fault::Unreadable(_) => FAILED,
+        Fault::Sim(fault) => status_of(fault),
+    }
+}
+
+/// The status of a text call's fault: 1 where a text is refused, 2 where the number of workers is,
+/// and 3 where the output, memory or a thread is, or where the run did not end.
+pub fn status_of(fault: &SimFault) -> u8
+    ensures failed { 0 < result }
+    ensures few { result ≤ 3 }
+{
+    match fault {
+        SimFault::Bench(fault) => match fault {
+            BenchFault::TooLarge(_) | BenchFault::Syntax(_) | BenchFault::Redefined(_) => REFUSED,
+            BenchFault::Undefined(_) | BenchFault::Cycle(_) | BenchFault::Empty => REFUSED,
+            BenchFault::Memory => FAILED,
+        },
+        SimFault::Tests(fault) => match fault {
+            TestFault::BadByte(_) | TestFault::BadWidth(_) | TestFault::TooMany => REFUSED,
+            TestFault::Memory => FAILED,
+        },
+        SimFault::Order(fault) => match fault {
+            OrderFault::BadNumber(_) | OrderFault::NoSuchWorker(_) | OrderFault::TooMany => REFUSED,
+            OrderFault::Memory => FAILED,
+        },
+        SimFault::Job(JobFault::TooManyPieces) => REFUSED,
+        SimFault::Job(JobFault::Memory) => FAILED,
+        SimFault::Run(fault) => match fault {
+            RunFault::NoWorkers | RunFault::TooManyWorkers => MISUSED,
+            RunFault::NoSuchMove(_) => REFUSED,
+            RunFault::Memory | RunFault::Threads | RunFault::Unfinished { .. } => FAILED,
+        },
+        SimFault::Report(ReportFault::Write) | SimFault::Memory => FAILED,
+    }
+}

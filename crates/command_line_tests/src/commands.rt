@@ -1,0 +1,142 @@
+//! Command lines: cases with all that they answer, words that are refused, and help.
+
+use crate::cases::{C17, CASES, Case, MORE_CASES, REFUSED_CASES, TRANSITION_CASES};
+use crate::screen::{Answer, Screen, Texts, Wanted, answers, run_on};
+use crate::words::{HELP, MISSING, MISUSED};
+use std::alloc::AllocError;
+use std::process::Abort;
+use std::sync::Wait;
+use std::test::Fail;
+use std::thread::Threads;
+
+/// A circuit and one test for it.
+pub const C17_FILES: Texts<'static> = Texts {
+    bench: C17,
+    tests: "11111\n",
+    order: "",
+};
+
+/// Whether the program answers a command line as a case wants.
+fn is_right<R: AllocGlobal + Threads + Wait>(
+    rt: &R,
+    line: &str,
+    case: &Case,
+) -> Result<bool, AllocError> {
+    let files = Texts {
+        bench: case.bench,
+        tests: case.tests,
+        order: case.order,
+    };
+    let wanted = Wanted {
+        stdout: case.stdout,
+        stderr: case.stderr,
+        status: case.status,
+    };
+    answers(rt, line, files, wanted)
+}
+
+/// Whether a case comes out with a number of workers.
+fn comes_out_by<R: AllocGlobal + Threads + Wait>(
+    rt: &R,
+    case: &Case,
+    workers: &str,
+) -> Result<bool, AllocError> {
+    let line = format!(in rt.alloc(); "{} --workers {workers}", case.line)?;
+    is_right(rt, &line, case)
+}
+
+/// Whether a case comes out, a run also with 1, 2 and 64 workers.
+fn comes_out<R: AllocGlobal + Threads + Wait>(rt: &R, case: &Case) -> Result<bool, AllocError> {
+    let mut right = is_right(rt, case.line, case)?;
+    if case.line.contains(" run ") {
+        for workers in ["1", "2", "64"] {
+            right &= comes_out_by(rt, case, workers)?;
+        }
+    }
+    Ok(right)
+}
+
+/// Checks that all cases come out.
+fn check_cases<R: AllocGlobal + Threads + Wait + Abort>(
+    rt: &R,
+    cases: &[Case],
+) -> Result<(), AllocError> {
+    for case in cases {
+        assert!(rt; comes_out(rt, case)?, "{}", case.name);
+    }
+    Ok(())
+}
+
+#[test]
+fn cases_come_out(rt: HostRuntime) -> Result<(), Fail> {
+    Ok(check_cases(&rt, &CASES)?)
+}
+
+#[test]
+fn more_cases_come_out(rt: HostRuntime) -> Result<(), Fail> {
+    Ok(check_cases(&rt, &MORE_CASES)?)
+}
+
+#[test]
+fn transition_cases_come_out(rt: HostRuntime) -> Result<(), Fail> {
+    Ok(check_cases(&rt, &TRANSITION_CASES)?)
+}
+
+#[test]
+fn refused_cases_come_out(rt: HostRuntime) -> Result<(), Fail> {
+    Ok(check_cases(&rt, &REFUSED_CASES)?)
+}
+
+/// Whether an answer tells that the file `none` can't be read.
+fn misses_none(told: &Answer) -> bool {
+    told.err.text() == b"faultsim: cannot read none\n".as_slice()
+        && told.out.text().is_empty()
+        && told.status == 3
+}
+
+#[test]
+fn first_missing_file_is_named(rt: HostRuntime) -> Result<(), Fail> {
+    let files = Texts {
+        bench: "x",
+        tests: "x",
+        order: "x",
+    };
+    for line in &MISSING {
+        let told = run_on(&rt, line, files, Screen::new(rt.alloc()))?;
+        assert!(rt; misses_none(&told), "{line}");
+    }
+    Ok(())
+}
+
+/// Whether a text has a part.
+fn has(text: &[u8], part: &str) -> bool {
+    str::from_utf8(text).is_ok_and(|text| text.contains(part))
+}
+
+/// Whether an answer refuses the command line, with a text that has a part.
+fn is_misused(told: &Answer, named: &str) -> bool {
+    told.status == 2 && told.out.text().is_empty() && has(told.err.text(), named)
+}
+
+#[test]
+fn misused_words_are_named(rt: HostRuntime) -> Result<(), Fail> {
+    for (line, named) in &MISUSED {
+        let told = run_on(&rt, line, C17_FILES, Screen::new(rt.alloc()))?;
+        assert!(rt; is_misused(&told, named), "{line}");
+    }
+    Ok(())
+}
+
+/// Whether an answer is help that has a part.
+fn is_help(told: &Answer, part: &str) -> bool {
+    told.status == 0 && told.err.text().is_empty() && has(told.out.text(), part)
+}
+
+#[test]
+fn help_tells_options_and_defaults(rt: HostRuntime) -> Result<(), Fail> {
+    for (line, part) in &HELP {
+        let told = run_on(&rt, line, C17_FILES, Screen::new(rt.alloc()))?;
+        assert!(rt; is_help(&told, part), "{line}: {part}");
+    }
+    Ok(())
+}

@@ -1,0 +1,17 @@
+//! Tests of the command line and of the text calls, with files and streams in memory.
+#![tactic(auto)]
+
+#[cfg(test)]
+mod cases;
+#[cfg(test)]
+mod commands;
+#[cfg(test)]
+mod limits;
+#[cfg(test)]
+mod outputs;
+#[cfg(test)]
+mod screen;
+#[cfg(test)]
+mod text_calls;
+#[cfg(test)]
+mod words;

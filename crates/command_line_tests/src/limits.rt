@@ -1,0 +1,226 @@
+//! Texts at a limit and past it.
+
+use crate::cases::BUFFER;
+use crate::screen::{Texts, Wanted, answers};
+use std::alloc::{AllocError, Global};
+use std::process::Abort;
+use std::sync::Wait;
+use std::test::Fail;
+use std::thread::Threads;
+
+/// So many copies of a part, and what stands before them and after them.
+#[derive(Clone, Copy)]
+struct Long {
+    before: &'static str,
+    part: &'static str,
+    count: u32,
+    after: &'static str,
+}
+
+/// A command line on files past a limit, and the words of the refusal.
+#[derive(Clone, Copy)]
+struct Past {
+    line: &'static str,
+    bench: Long,
+    tests: Long,
+    order: Long,
+    stderr: &'static str,
+}
+
+const NOTHING: Long = Long {
+    before: "",
+    part: "",
+    count: 0,
+    after: "",
+};
+
+/// Bench texts past each limit.
+static LONG_BENCHES: [Past; 3] = [
+    Past {
+        line: "faultsim faults --bench bench",
+        bench: Long {
+            before: "(",
+            part: "((((((((((((((((",
+            count: 1_048_576,
+            after: "",
+        },
+        tests: NOTHING,
+        order: NOTHING,
+        stderr: "faultsim: bench: more than 16777216 bytes\n",
+    },
+    Past {
+        line: "faultsim faults --bench bench",
+        bench: Long {
+            before: "",
+            part: "INPUT(a)\n",
+            count: 1_000_001,
+            after: "",
+        },
+        tests: NOTHING,
+        order: NOTHING,
+        stderr: "faultsim: bench: more than 1000000 signals\n",
+    },
+    Past {
+        line: "faultsim faults --bench bench",
+        bench: Long {
+            before: "a=OR(a",
+            part: ",a",
+            count: 4_000_000,
+            after: ")",
+        },
+        tests: NOTHING,
+        order: NOTHING,
+        stderr: "faultsim: bench: more than 4000000 sinks\n",
+    },
+];
+
+/// More moves, and more pieces, than there may be.
+static LONG_RUNS: [Past; 2] = [
+    Past {
+        line: "faultsim schedule --bench bench --tests tests --order order",
+        bench: Long {
+            before: "INPUT(a)\n",
+            ..NOTHING
+        },
+        tests: NOTHING,
+        order: Long {
+            before: "",
+            part: "0\n",
+            count: 1_000_001,
+            after: "",
+        },
+        stderr: "faultsim: order: more than 1000000 moves\n",
+    },
+    Past {
+        line: "faultsim run --bench bench --tests tests",
+        // Each of the 8,191 pins, the source and the gate have two faults: 16,386 classes.
+        bench: Long {
+            before: "INPUT(a)\nz = XOR(a",
+            part: ",a",
+            count: 8_190,
+            after: ")",
+        },
+        tests: Long {
+            before: "",
+            part: "0\n",
+            count: 65_536,
+            after: "",
+        },
+        order: NOTHING,
+        stderr: "faultsim: more than 16777216 pieces\n",
+    },
+];
+
+/// The text of a file that is long.
+fn spelled(alloc: Global, long: &Long) -> Result<String, AllocError> {
+    let mut text = String::from_str(alloc, long.before)?;
+    for _ in 0..long.count {
+        text.push_str(long.part)?;
+    }
+    text.push_str(long.after)?;
+    Ok(text)
+}
+
+/// Whether the program refuses files past a limit.
+fn refuses<R: AllocGlobal + Threads + Wait>(rt: &R, past: &Past) -> Result<bool, AllocError> {
+    let bench = spelled(rt.alloc(), &past.bench)?;
+    let tests = spelled(rt.alloc(), &past.tests)?;
+    let order = spelled(rt.alloc(), &past.order)?;
+    let files = Texts {
+        bench: &bench,
+        tests: &tests,
+        order: &order,
+    };
+    let wanted = Wanted {
+        stdout: "",
+        stderr: past.stderr,
+        status: 1,
+    };
+    answers(rt, past.line, files, wanted)
+}
+
+/// Checks that all files past a limit are refused.
+fn check_refused<R: AllocGlobal + Threads + Wait + Abort>(
+    rt: &R,
+    all: &[Past],
+) -> Result<(), AllocError> {
+    for past in all {
+        assert!(rt; refuses(rt, past)?, "{}", past.stderr);
+    }
+    Ok(())
+}
+
+#[test]
+fn bench_texts_past_a_limit_are_refused(rt: HostRuntime) -> Result<(), Fail> {
+    Ok(check_refused(&rt, &LONG_BENCHES)?)
+}
+
+#[test]
+fn runs_past_a_limit_are_refused(rt: HostRuntime) -> Result<(), Fail> {
+    Ok(check_refused(&rt, &LONG_RUNS)?)
+}
+
+/// Rows of a test text after 65,535 rows `0`, and what a listed run of the buffer on them answers.
+static LONG_TESTS: [(&str, Wanted); 5] = [
+    (
+        "1\n",
+        Wanted {
+            stdout: "\
+                stem a sa0 65535\n\
+                stem a sa1 0\n\
+                stem z sa0 65535\n\
+                stem z sa1 0\n\
+                4 of 4 (100.00%)\n\
+                ",
+            stderr: "",
+            status: 0,
+        },
+    ),
+    (
+        "2\n",
+        Wanted {
+            stdout: "",
+            stderr: "faultsim: tests line 65536: not 0 or 1\n",
+            status: 1,
+        },
+    ),
+    ("1\n0\n", MORE_THAN_65536_ROWS),
+    ("1\n2\n", MORE_THAN_65536_ROWS),
+    ("1\n00\n", MORE_THAN_65536_ROWS),
+];
+
+const MORE_THAN_65536_ROWS: Wanted = Wanted {
+    stdout: "",
+    stderr: "faultsim: tests: more than 65536 rows\n",
+    status: 1,
+};
+
+/// Whether a listed run of the buffer answers as is wanted where these rows stand last.
+fn answers_long<R: AllocGlobal + Threads + Wait>(
+    rt: &R,
+    rows: &'static str,
+    wanted: Wanted,
+) -> Result<bool, AllocError> {
+    let long = Long {
+        before: "",
+        part: "0\n",
+        count: 65_535,
+        after: rows,
+    };
+    let tests = spelled(rt.alloc(), &long)?;
+    let files = Texts {
+        bench: BUFFER,
+        tests: &tests,
+        order: "",
+    };
+    let line = "faultsim run --bench bench --tests tests --workers 4 --list";
+    answers(rt, line, files, wanted)
+}
+
+#[test]
+fn buffer_takes_65536_tests(rt: HostRuntime) -> Result<(), Fail> {
+    for (rows, wanted) in &LONG_TESTS {
+        assert!(rt; answers_long(&rt, rows, *wanted)?, "{rows}");
+    }
+    Ok(())
+}

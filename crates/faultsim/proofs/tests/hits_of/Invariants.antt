@@ -1,9 +1,0 @@
-use Rattle.block_sim.specs.Parts.{HasRoom}
-use Rattle.faultsim.proofs.tests.hits_of.Given as goal
-
--- the workspace fits the job
-abbrev pub invariant-loop-class : goal.invariant-loop-class
-invariant-loop-class l = HasRoom l.workspace l.job
-
-abbrev pub invariant-loop-block : goal.invariant-loop-block
-invariant-loop-block l = HasRoom l.workspace l.job
