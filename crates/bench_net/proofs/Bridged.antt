@@ -1,6 +1,6 @@
 -- From the lines of a text to its acceptance or refusal.
 use Rattle.std.proofs.Common.{◌≡◌, ◌<◌, ◌≤◌, ◌+◌, ℕ, zero, suc, sym, ◌∙◌, ap, subst, List, [], ◌∷◌, map, length, arith, inl, inr, ◌⊎◌}
-use Rattle.std.specs.Prelude.{Option, Some, None, slice_get, AllPairs, option_map}
+use Rattle.std.specs.Prelude.{Option, Some, None, slice_get, AllPairs, option_map, unwrap_or}
 use Rattle.std.specs.List.{All}
 use Rattle.std.proofs.lemmas.List.{length-map}
 use Rattle.std.proofs.lemmas.List.Kept.{AllPairs-cons}
@@ -14,13 +14,12 @@ use Rattle.bench_net.specs.Statement.{Name, Statement, Input, Output, Gate, Dff}
 use Rattle.bench_net.specs.Reading.{statements}
 use Rattle.bench_net.specs.Scan.{names}
 use Rattle.bench_net.specs.Circuit.{HaveArities, IsCircuit, IsStuck, sink_count}
-use Rattle.bench_net.specs.reader.Entries.{numbered_from, stated_by}
+use Rattle.bench_net.specs.reader.Entries.{numbered_from}
 use Rattle.bench_net.specs.Refusal.{at_line, IsCyclic, IsAccepted, IsRefused}
 use Rattle.bench_net.specs.Stored.{name_at, statement_of, statements_of, AreLinesOf, AreStatements, IsCyclicLine, AreRefused}
 use Rattle.lists.proofs.Places.{from_mapped}
-use Rattle.bench_net.proofs.Answered.{first_same}
 use Rattle.bench_net.proofs.Words.{arities_of_text}
-use Rattle.bench_net.proofs.Entries.{statements_numbered}
+use Rattle.bench_net.proofs.Entries.{statements_numbered, entry_at, entry_for}
 
 -- the numbers of entries, which rise, and their statements
 abbrev numbers : ℕ → List (Option Statement) → List ℕ
@@ -40,34 +39,6 @@ numbers_rise line (None ∷ stated) = numbers_rise (suc line) stated
 numbers_rise line (Some s ∷ stated) =
     AllPairs-cons (λ m n. m < n) line _ (all_above (suc line) (suc line) stated (omega arith))
     (numbers_rise (suc line) stated)
-
--- what an entry stands for, its line states, and the other way round
-entry_line : (line : ℕ) (stated : List (Option Statement)) (i n : ℕ) (s : Statement)
-    → slice_get (numbers line stated) i ≡ Some n
-    → slice_get (stated_by (numbered_from line stated)) i ≡ Some s
-    → (j : ℕ) × (n ≡ line + j) × (slice_get stated j ≡ Some (Some s))
-entry_line line [] i n s e h = let bad : None ≡ Some n = e in cc
-entry_line line (None ∷ stated) i n s e h =
-    let p = entry_line (suc line) stated i n s e h in (suc p.0, omega (arith, p.1), p.2)
-entry_line line (Some t ∷ stated) zero n s e h =
-    let k : line ≡ n = cc in (0, omega (arith, k), ap Some h)
-entry_line line (Some t ∷ stated) (suc i) n s e h =
-    let p = entry_line (suc line) stated i n s e h in (suc p.0, omega (arith, p.1), p.2)
-
-line_entry : (line : ℕ) (stated : List (Option Statement)) (j : ℕ) (s : Statement)
-    → slice_get stated j ≡ Some (Some s)
-    → (i : ℕ) × (slice_get (numbers line stated) i ≡ Some (line + j))
-    × (slice_get (stated_by (numbered_from line stated)) i ≡ Some s)
-line_entry line [] j s e = let bad : None ≡ Some (Some s) = e in cc
-line_entry line (None ∷ stated) zero s e = let bad : Some None ≡ Some (Some s) = e in cc
-line_entry line (None ∷ stated) (suc j) s e =
-    let p = line_entry (suc line) stated j s e in
-    (p.0, p.1 ∙ ap Some (omega arith), p.2)
-line_entry line (Some t ∷ stated) zero s e =
-    let same : t ≡ s = cc in (0, ap Some (omega arith), ap Some same)
-line_entry line (Some t ∷ stated) (suc j) s e =
-    let p = line_entry (suc line) stated j s e in
-    (suc p.0, p.1 ∙ ap Some (omega arith), p.2)
 
 module _ (text : List ℕ) (ns : List Name) (lines : List Line) (at : List ℕ)
     (of : AreLinesOf text ns lines at) where
@@ -97,23 +68,30 @@ module _ (text : List ℕ) (ns : List Name) (lines : List Line) (at : List ℕ)
   to_cyclic : (number : ℕ) → IsCyclicLine ns lines at number → IsCyclic of.stated number
   to_cyclic number h =
       let s : Statement = statement_of ns (line.Gate h.1 h.2) in
-      let stands =
-      slice_get-map (statement_of ns) lines h.0 ∙ ap (option_map (statement_of ns)) h.4 in
-      let there = ap (λ ks. slice_get ks h.0) (sym of.at_are) ∙ h.3 in
-      let l = entry_line 1 of.stated h.0 number s there
-      (ap (λ c. slice_get c h.0) (sym of.lines_are) ∙ stands) in
-      let is : suc l.0 ≡ number = omega (arith, l.1) in
-      let there = subst (λ k. at_line of.stated k ≡ Some (Some s)) is l.2 in
+      let there = from_mapped (λ e. e.0) (numbered_from 1 of.stated) h.0 number
+      (ap (λ ks. slice_get ks h.0) (sym of.at_are) ∙ h.3) in
+      let stands = ap (λ c. slice_get c h.0) (sym of.lines_are)
+      ∙ slice_get-map (statement_of ns) lines h.0 ∙ ap (option_map (statement_of ns)) h.4 in
+      let both = slice_get-map (λ e. e.1) (numbered_from 1 of.stated) h.0
+      ∙ ap (option_map (λ e. e.1)) there.1 in
+      let is : there.0.1 ≡ s = ap (λ o. unwrap_or o s) (sym both ∙ stands) in
+      let l = entry_at 1 of.stated h.0 there.0.0 there.0.1 there.1 in
+      let place : suc l.0 ≡ number = omega (arith, l.1, there.2) in
+      let there = subst (λ k. at_line of.stated k ≡ Some (Some s)) place
+      (l.2 ∙ ap (λ t. Some (Some t)) is) in
       let stuck = subst (λ c. IsStuck c (name_at ns h.1)) same h.5 in
       (name_at ns h.1, h.2.kind, map (name_at ns) h.2.pins.items, there, stuck)
 
   from_cyclic : (number : ℕ) → IsCyclic of.stated number → IsCyclicLine ns lines at number
   from_cyclic zero h = let bad : None ≡ Some (Some (Gate h.0 h.1 h.2)) = h.3 in cc
   from_cyclic (suc j) h =
-      let p = line_entry 1 of.stated j (Gate h.0 h.1 h.2) h.3 in
+      let p = entry_for 1 of.stated j (Gate h.0 h.1 h.2) h.3 in
       let l = from_mapped (statement_of ns) lines p.0 (Gate h.0 h.1 h.2)
-      (ap (λ c. slice_get c p.0) of.lines_are ∙ p.2) in
-      let there = ap (λ ks. slice_get ks p.0) of.at_are ∙ p.1 ∙ ap Some (omega arith) in
+      (ap (λ c. slice_get c p.0) of.lines_are ∙ slice_get-map (λ e. e.1) (numbered_from 1 of.stated) p.0
+      ∙ ap (option_map (λ e. e.1)) p.1) in
+      let there = ap (λ ks. slice_get ks p.0) of.at_are
+      ∙ slice_get-map (λ e. e.0) (numbered_from 1 of.stated) p.0 ∙ ap (option_map (λ e. e.0)) p.1
+      ∙ ap Some (omega arith) in
       by_line p.0 there l.0 l.1 l.2
     where
       by_line : (i : ℕ) → slice_get at i ≡ Some (suc j) → (l : Line) → slice_get lines i ≡ Some l
@@ -131,8 +109,8 @@ module _ (text : List ℕ) (ns : List Name) (lines : List Line) (at : List ℕ)
   refused : (f : BenchFault) → AreRefused ns lines at f → IsRefused text f
   refused (fault.Empty) r = (of.stated, of.within, sym same ∙ ap (statements_of ns) r)
   refused (fault.Cycle number) r =
-      let first = first_same _ (IsCyclic of.stated) (Some number) to_cyclic from_cyclic r in
-      (of.stated, of.within, of.no_redefinition, of.no_undefined, first)
+      let lower : (k : ℕ) → k < number → ¬ IsCyclic of.stated k = λ k lt f. r.1 k lt (from_cyclic k f) in
+      (of.stated, of.within, of.no_redefinition, of.no_undefined, (to_cyclic number r.0, lower))
   refused (fault.TooLarge limit) r = absurd r
   refused (fault.Syntax l) r = absurd r
   refused (fault.Redefined l) r = absurd r

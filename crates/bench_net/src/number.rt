@@ -1,7 +1,7 @@
 //! The names of statements as numbers.
 
-ghost use Rattle.std.specs.Prelude.{◌≡◌, ◌<◌, ◌≤◌, ◌+◌, [], ◌∷◌, ◌++◌, length, map};
-ghost use Rattle.std.specs.Prelude.{false, not, None, IfOk, IfErr, option_map, if◌then◌else◌};
+ghost use Rattle.std.specs.Prelude.{◌≡◌, ◌≢◌, ◌<◌, ◌≤◌, ◌+◌, [], ◌∷◌, ◌++◌, length, map};
+ghost use Rattle.std.specs.Prelude.{false, not, AllPairs, IfOk, IfErr, option_map, if◌then◌else◌};
 ghost use Rattle.std.specs.Prelude.{string_bytes};
 ghost use Rattle.std.specs.List.{All, list_all};
 ghost use Rattle.std.specs.Str.{IsUtf8};
@@ -11,8 +11,7 @@ ghost use Rattle.bench_net.specs.reader.Numbering.{IsNextFor, IsNumberedLine, Ar
 ghost use Rattle.std.specs.Option.{option_to_list};
 ghost use Rattle.bench_net.specs.Statement.{defined, read};
 ghost use Rattle.bench_net.specs.reader.Parsed.{stands_for, names_of};
-ghost use Rattle.bench_net.specs.reader.Entries.{names_in, is_in, redefines, reads_unknown};
-ghost use Rattle.bench_net.specs.reader.Entries.{first_at, EndsPass};
+ghost use Rattle.bench_net.specs.reader.Entries.{names_in, is_in, MayBeOf};
 
 use crate::fault::LineFault;
 use crate::line::Line;
@@ -59,8 +58,8 @@ fn add_name<'a>(names: &mut Names<'a>, name: &'a [u8]) -> Result<bool, BenchFaul
 /// Numbers the defined names in the order of their lines.
 pub fn number_names<'a>(alloc: Global, stated: &[StatedLine<'a>]) -> Result<Names<'a>, BenchFault>
     ensures numbered { IfOk result (λ names. names_of names.keys ≡ names_in stated.now) }
-    ensures once { IfOk result (λ names. first_at redefines stated.now ≡ None) }
-    ensures refused { IfErr result (EndsPass BenchFault.Redefined (first_at redefines stated.now)) }
+    ensures once { IfOk result (λ names. AllPairs (λ m n. m ≢ n) (names_in stated.now)) }
+    ensures refused { IfErr result (MayBeOf stated.now) }
 {
     let mut names = IndexSet::new(alloc);
     for line in stated {
@@ -162,12 +161,10 @@ pub fn number_lines(
 ) -> Result<Vec<Line>, BenchFault>
     requires few { length names.now.keys ≤ max_signals }
     requires own { names_of names.now.keys ≡ names_in stated.now }
+    requires once { AllPairs (λ m n. m ≢ n) (names_in stated.now) }
     ensures numbered { IfOk result (λ lines.
         AreNumberedLines (names_of names.now.keys) stated.now lines.items) }
-    ensures known { IfOk result (λ lines.
-        first_at (reads_unknown (names_of names.now.keys)) stated.now ≡ None) }
-    ensures refused { IfErr result (EndsPass BenchFault.Undefined
-        (first_at (reads_unknown (names_of names.now.keys)) stated.now)) }
+    ensures refused { IfErr result (MayBeOf stated.now) }
 {
     let mut lines = Vec::with_capacity(alloc, stated.len())?;
     let mut next = 0;

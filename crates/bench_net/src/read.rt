@@ -6,15 +6,12 @@
 //! statements, limits, definitions, and names that are read. Each pass ends at the first line with
 //! its fault, so the refusals come in this order and name the lowest line.
 
-ghost use Rattle.std.specs.Prelude.{◌≡◌, ◌⊎◌, ◌≤◌, ◌↔◌, length, map, string_bytes};
+ghost use Rattle.std.specs.Prelude.{◌≡◌, ◌≤◌, ◌↔◌, length, map, string_bytes};
 ghost use Rattle.std.specs.Prelude.{IfOk, IfErr, IsTrue};
 ghost use Rattle.std.specs.Str.Lines.{strip_carriage_return};
 ghost use Rattle.bench_net.specs.Text.{lines};
 ghost use Rattle.bench_net.specs.Circuit.{max_bytes, max_signals, max_sinks};
-ghost use Rattle.bench_net.specs.Refusal.{IsRefused};
-ghost use Rattle.bench_net.specs.reader.Entries.{entries_of, names_in, reads_in, unread};
-ghost use Rattle.bench_net.specs.reader.Entries.{EndsPass, HaveEntries};
-ghost use Rattle.bench_net.specs.reader.Plain.{stated_of};
+ghost use Rattle.bench_net.specs.reader.Entries.{entries_of, names_in, reads_in, AreStated, MayBe};
 ghost use Rattle.bench_net.specs.reader.Parsed.{stands_for};
 ghost use Rattle.bench_net.specs.Statement.{read};
 ghost use Rattle.bench_net.specs.Stored.{AreLinesOf};
@@ -56,9 +53,8 @@ fn without_return<'a>(line: &'a [u8]) -> &'a [u8]
 /// The statements of a text, each with the number of its line.
 fn read_statements<'a>(alloc: Global, text: &'a [u8]) -> Result<Vec<StatedLine<'a>>, BenchFault>
     requires { length text.now ≤ max_bytes }
-    ensures ok { IfOk result (λ stated. HaveEntries (lines text.now) (entries_of stated.items)) }
-    ensures refused { IfErr result
-        (EndsPass BenchFault.Syntax (unread 1 (map stated_of (lines text.now)))) }
+    ensures ok { IfOk result (λ stated. AreStated (lines text.now) (entries_of stated.items)) }
+    ensures refused { IfErr result (MayBe text.now) }
 {
     let mut stated = Vec::new(alloc);
     let mut number = 0;
@@ -123,8 +119,7 @@ fn sinks_fit(stated: &[StatedLine]) -> bool
 pub fn read_lines(alloc: Global, text: &[u8]) -> Result<Lines, BenchFault>
     ensures lines { IfOk result (λ r.
         AreLinesOf text.now (map string_bytes r.names.items) r.lines.items r.at.items) }
-    ensures refused { IfErr result (λ fault.
-        (fault ≡ BenchFault.Memory) ⊎ IsRefused text.now fault) }
+    ensures refused { IfErr result (MayBe text.now) }
 {
     if text.len() > MAX_BYTES {
         return Err(BenchFault::TooLarge(Limit::Bytes));

@@ -1,12 +1,13 @@
--- The statements of a text, each with the number of its line, and the first of them at fault.
-use Rattle.std.specs.Prelude.{◌≡◌, ◌⊎◌, ℕ, suc, Bool, not, List, [], ◌∷◌, ◌++◌, map, flat_map}
-use Rattle.std.specs.Prelude.{Option, Some, None, if◌then◌else◌, bytes_eq}
-use Rattle.std.specs.List.{list_all, list_any}
+-- The statements of a text, each with the number of its line.
+use Rattle.std.specs.Prelude.{◌≡◌, ◌⊎◌, ℕ, suc, Bool, List, [], ◌∷◌, map, flat_map}
+use Rattle.std.specs.Prelude.{Option, Some, None, bytes_eq}
+use Rattle.std.specs.List.{list_any, AllZip}
 use Rattle.bench_net.specs.declared.BenchFault.{BenchFault}
 use Rattle.bench_net.specs.declared.BenchFault.TheVariants.{Memory}
 use Rattle.bench_net.specs.declared.number.StatedLine.{StatedLine}
 use Rattle.bench_net.specs.Statement.{Name, Statement, defined, read}
-use Rattle.bench_net.specs.reader.Plain.{stated_of}
+use Rattle.bench_net.specs.Reading.{States}
+use Rattle.bench_net.specs.Refusal.{IsWithin, IsRefused}
 use Rattle.bench_net.specs.reader.Parsed.{stands_for}
 
 -- a statement beside the number of its line
@@ -25,49 +26,33 @@ numbered_from line [] = []
 numbered_from line (None ∷ stated) = numbered_from (suc line) stated
 numbered_from line (Some s ∷ stated) = (line, s) ∷ numbered_from (suc line) stated
 
--- the statements of entries
-abbrev pub stated_by : List Entry → List Statement
-stated_by entries = map (λ entry. entry.1) entries
-
--- the lines state these entries, counted from 1
-pub record HaveEntries (lines : List (List ℕ)) (entries : List Entry) : Type 0 where
+-- the entries are all that these lines state
+pub record AreStated (lines : List (List ℕ)) (entries : List Entry) : Type 0 where
   pub stated : List (Option Statement)
-  pub each : map stated_of lines ≡ map Some stated
+  pub each : AllZip States lines stated
   pub same : entries ≡ numbered_from 1 stated
 
--- the first line that states nothing that a line may state, where the first has this number
-abbrev pub unread : ℕ → List (Option (Option Statement)) → Option ℕ
-unread line [] = None
-unread line (None ∷ found) = Some line
-unread line (Some s ∷ found) = unread (suc line) found
+-- the lines are all that the text states, and it is within the limits
+pub record AreWithin (text : List ℕ) (lines : List StatedLine) : Type 0 where
+  pub stated : List (Option Statement)
+  pub within : IsWithin text stated
+  pub same : entries_of lines ≡ numbered_from 1 stated
 
--- the line of the first entry at which a test passes, of the names that are defined before it and
--- of its statement
-abbrev pub first_line : (List Name → Statement → Bool) → List Name → List Entry → Option ℕ
-first_line test before [] = None
-first_line test before (entry ∷ entries) =
-    if test before entry.1 then Some entry.0
-    else first_line test (before ++ defined entry.1) entries
+-- a fault is that of the text, or memory is wanting
+abbrev pub MayBe : List ℕ → BenchFault → Type 0
+MayBe text fault = (fault ≡ Memory) ⊎ IsRefused text fault
 
-abbrev pub first_at : (List Name → Statement → Bool) → List StatedLine → Option ℕ
-first_at test stated = first_line test [] (entries_of stated)
+-- and so for each text that states these lines
+abbrev pub MayBeOf : List StatedLine → BenchFault → Type 0
+MayBeOf lines fault = (text : List ℕ) → AreWithin text lines → MayBe text fault
 
 -- whether a name is one of these
 abbrev pub is_in : List Name → Name → Bool
 is_in ns n = list_any (bytes_eq n) ns
 
--- whether a statement defines a name that is defined before it, and whether it reads one that is
--- none of these
-abbrev pub redefines : List Name → Statement → Bool
-redefines before s = list_any (is_in before) (defined s)
-
-abbrev pub reads_unknown : List Name → List Name → Statement → Bool
-reads_unknown ns before s = not (list_all (is_in ns) (read s))
-
--- a pass over the lines ends at the first with its fault, or for want of memory
-abbrev pub EndsPass : (ℕ → BenchFault) → Option ℕ → BenchFault → Type 0
-EndsPass refusal first fault =
-    (fault ≡ Memory) ⊎ ((line : ℕ) × (first ≡ Some line) × (fault ≡ refusal line))
+-- the statements of lines
+abbrev pub statements_in : List StatedLine → List Statement
+statements_in lines = map (λ line. stands_for line.statement) lines
 
 -- the names that a line defines, and those that it reads
 abbrev pub defined_of : StatedLine → List Name

@@ -4,7 +4,7 @@ use Rattle.std.specs.List.{All, range_with_len}
 use Rattle.bench_net.specs.declared.line.Line.{Line}
 use Rattle.bench_net.specs.declared.number.StatedLine.{StatedLine}
 use Rattle.bench_net.specs.Statement.{Name, Statement, defined}
-use Rattle.bench_net.specs.reader.Entries.{names_in, entries_of, stated_by}
+use Rattle.bench_net.specs.reader.Entries.{names_in, statements_in}
 use Rattle.bench_net.specs.Stored.{name_at, statement_of, statements_of}
 use Rattle.bench_net.specs.Stored.{defined_numbers, read_numbers}
 
@@ -22,6 +22,6 @@ pub record IsNumberedLine (ns : List Name) (next : ℕ) (s : Statement) (line : 
 -- number has a name
 pub record AreNumberedLines (ns : List Name) (stated : List StatedLine)
     (lines : List Line) : Type 0 where
-  pub stand : statements_of ns lines ≡ stated_by (entries_of stated)
+  pub stand : statements_of ns lines ≡ statements_in stated
   pub own : flat_map defined_numbers lines ≡ range_with_len 0 (length (names_in stated))
   pub in_range : All (λ number. number < length ns) (flat_map read_numbers lines)

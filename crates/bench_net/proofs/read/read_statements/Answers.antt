@@ -1,4 +1,4 @@
-use Rattle.std.proofs.Common.{◌+◌, ◌==◌, map, rules, arith, ap}
+use Rattle.std.proofs.Common.{◌+◌, ◌==◌, map, rules, arith, ap, add-one}
 use Rattle.std.proofs.lemmas.List.{length_push}
 use Rattle.std.proofs.lemmas.Iterator.Splits.{YieldsList-from_slice_split}
 use Rattle.std.proofs.lemmas.Iterator.Consumers.{YieldsList-turn, YieldsList-end, YieldsList-so_far}
@@ -6,7 +6,8 @@ use Rattle.std.specs.Str.Lines.{strip_carriage_return}
 use borrow.Author.Tests.{tests}
 use Rattle.bench_net.specs.reader.Entries.{entries_of}
 use Rattle.bench_net.proofs.Entries.{given_nothing, given_one, refused_line, line_refused}
-use Rattle.bench_net.proofs.Numbering.{ends_pass}
+use Rattle.bench_net.proofs.Assembled.{may_be}
+use Rattle.bench_net.specs.declared.BenchFault.TheVariants.{Syntax}
 use Rattle.bench_net.proofs.read.read_statements.Goals as goal
 
 pub loop-line-preserved-in-Ok-None : goal.loop-line-preserved-in-Ok-None
@@ -37,12 +38,13 @@ returns-in-Err-clause-refused c =
     YieldsList-turn road c.loop-line.yielded _ c.loop-line.yielded_by _ _ c.in-Some.line
     c.in-Some.is c.next.ensures.steps in
     let front = YieldsList-so_far road c.loop-line.yielded _ c.loop-line.yielded_by in
-    ends_pass c.in-Err.fault _ _ (c.loop-line.number + 1) c.or_refusal.result c.or_refusal.ensures
-    (λ e. rw c.loop-line.invariant.0
+    may_be c.args.text.now c.in-Err.fault (Syntax (c.loop-line.number + 1)) c.or_refusal.result
+    c.or_refusal.ensures
+    (λ e. (c.requires, rw (c.loop-line.invariant.0, add-one)
     (refused_line c.loop-line.yielded c.in-Some.line c.without_return.result.now
     c.without_return.ensures c.args.text.now
     (entries_of c.loop-line.stated.items) front turn.0 turn.1 c.loop-line.invariant.1
-    (line_refused _ c.in-Err.fault c.in-Err.ensures e)))
+    (line_refused _ c.in-Err.fault c.in-Err.ensures e))))
 
 pub returns-clause-ok : goal.returns-clause-ok
 returns-clause-ok c =
