@@ -1,12 +1,13 @@
 -- What the passes over the lines say of the text.
-use Rattle.std.proofs.Common.{◌≡◌, ◌≢◌, ◌<◌, ◌≤◌, ◌+◌, ℕ, suc, refl, sym, ◌∙◌, ap, subst, false, List, [], length, take, map, get_or, arith, inl, inr}
-use Rattle.std.specs.Prelude.{AllPairs, Contains, Some, slice_get, slice_index_or, flat_map, option_map}
+use Rattle.std.proofs.Common.{◌≡◌, ◌≢◌, ◌<◌, ◌≤◌, ℕ, zero, suc, refl, sym, ◌∙◌, ap, subst, false, List, [], ◌∷◌, length, take, map, get_or, arith, inl, inr}
+use Rattle.std.specs.Prelude.{AllPairs, Contains, Option, Some, None, slice_get, slice_index_or, flat_map, option_map, unwrap_or}
 use Rattle.std.specs.List.{All, list_all, range_with_len}
 use Rattle.std.specs.Str.{IsUtf8}
 use Rattle.std.proofs.lemmas.Bool.{both_ways}
 use Rattle.std.proofs.lemmas.Simd.{map-map}
-use Rattle.std.proofs.lemmas.List.{take-map}
-use Rattle.std.proofs.lemmas.List.Elements.{All-contains, Contains-get_or}
+use Rattle.std.proofs.lemmas.List.{take-map, length-map}
+use Rattle.std.proofs.lemmas.List.Kept.{AllPairs-cons}
+use Rattle.std.proofs.lemmas.List.Elements.{All-nil, All-cons, All-contains, Contains-get_or}
 use Rattle.std.proofs.lemmas.List.Folds.{flat_map-map}
 use Rattle.std.proofs.lemmas.List.FromFn.{length-range_with_len, get_or-range_with_len}
 use Rattle.std.proofs.lemmas.Option.{get_or_from_slice_get, slice_get_within, slice_get-map, slice_get_read}
@@ -17,21 +18,25 @@ use Rattle.bench_net.specs.declared.fault.LineFault.TheVariants as stop
 use Rattle.bench_net.specs.declared.Limit.TheVariants.{Signals, Sinks}
 use Rattle.bench_net.specs.declared.BenchFault.{BenchFault}
 use Rattle.bench_net.specs.declared.BenchFault.TheVariants.{TooLarge, Redefined, Undefined}
+use Rattle.bench_net.specs.declared.BenchFault.TheVariants as fault
+use Rattle.bench_net.specs.declared.line.Line.TheVariants as line
 use Rattle.bench_net.specs.Text.{lines}
-use Rattle.bench_net.specs.Statement.{Name, Statement, defined, read}
+use Rattle.bench_net.specs.Statement.{Name, Statement, Input, Output, Gate, Dff, defined, read}
 use Rattle.bench_net.specs.Reading.{statements}
-use Rattle.bench_net.specs.Refusal.{NoLine, IsUndefined, IsRefused}
-use Rattle.bench_net.specs.Stored.{name_at, statements_of, read_numbers, AreLinesOf}
+use Rattle.bench_net.specs.Refusal.{at_line, IsCyclic, IsRefused}
+use Rattle.bench_net.specs.Circuit.{IsStuck, sink_count}
+use Rattle.bench_net.specs.Stored.{name_at, statement_of, statements_of, read_numbers, AreStatements, IsCyclicLine, AreRefused, AreLinesOf}
 use Rattle.bench_net.specs.reader.Parsed.{stands_for, or_refusal}
 use Rattle.bench_net.specs.reader.Entries.{Entry, entry_of, entries_of, numbered_from, statements_in, names_in, reads_in, defined_of, read_of, is_in, AreStated, AreWithin, MayBe}
 use Rattle.bench_net.specs.reader.Numbering.{AreNumberedLines}
 use Rattle.lists.proofs.Members.{Among, among, contained, mapped_from}
+use Rattle.lists.proofs.Places.{from_mapped}
 use Rattle.lists.proofs.Distinct.{Distinct, distinct_from_pairs}
 use Rattle.bench_net.proofs.Checked.{among_in, some_not}
-use Rattle.bench_net.proofs.Entries.{entry_at, statements_numbered}
+use Rattle.bench_net.proofs.Entries.{entry_at, entry_for, statements_numbered}
 use Rattle.bench_net.proofs.Faults.{names_of, redefined_lowest, undefined_lowest, no_redefinition, no_undefined}
 use Rattle.bench_net.proofs.Numbering.{reads_numbers}
-use Rattle.bench_net.proofs.Words.{names_utf8}
+use Rattle.bench_net.proofs.Words.{names_utf8, arities_of_text}
 
 -- the refusal of a text where the line has the fault
 pub may_be : (text : List ℕ) (f : LineFault) (refusal fault : BenchFault)
@@ -80,6 +85,25 @@ module _ (text : List ℕ) (stated : List StatedLine)
     };
     same = are.same;
   }
+
+-- the numbers of entries, which rise, and their statements
+abbrev numbers : ℕ → List (Option Statement) → List ℕ
+numbers line stated = map (λ entry. entry.0) (numbered_from line stated)
+
+all_above : (bound line : ℕ) (stated : List (Option Statement)) → bound ≤ line
+    → All (λ n. bound ≤ n) (numbers line stated)
+all_above bound line [] h = All-nil (λ n. bound ≤ n)
+all_above bound line (None ∷ stated) h = all_above bound (suc line) stated (omega (arith, h))
+all_above bound line (Some s ∷ stated) h =
+    All-cons (λ n. bound ≤ n) line _ h (all_above bound (suc line) stated (omega (arith, h)))
+
+numbers_rise : (line : ℕ) (stated : List (Option Statement))
+    → AllPairs (λ m n. m < n) (numbers line stated)
+numbers_rise line [] = λ i j d lt below. absurd (omega (arith, below))
+numbers_rise line (None ∷ stated) = numbers_rise (suc line) stated
+numbers_rise line (Some s ∷ stated) =
+    AllPairs-cons (λ m n. m < n) line _ (all_above (suc line) (suc line) stated (omega arith))
+    (numbers_rise (suc line) stated)
 
 -- each name that numbered lines read is among the names
 known : (ns : List Name) (ls : List Line)
@@ -148,48 +172,118 @@ module _ (text : List ℕ) (stated : List StatedLine) (of : AreWithin text state
         )
 
   -- the numbered lines are those of the text
-  pub assembled : (ns : List Name) (ls : List Line) (at : List ℕ) → ns ≡ names_in stated
-      → AllPairs (λ m n. m ≢ n) (names_in stated) → AreNumberedLines ns stated ls
-      → at ≡ map (λ line. line.number) stated → AreLinesOf text ns ls at
-  assembled ns ls at is once numbered numbers = record {
-    stated = of.stated;
-    within = of.within;
-    no_redefinition = no_redefinition of.stated (distinct_from_pairs _ (rw (← all defined) once));
-    no_undefined = no_undefined of.stated
-        (λ n has. rw (← all defined, ← is) (known ns ls numbered.in_range n
-        (among _ n (rw stand at has))));
-    numbered = record {
-      in_order = λ i s e. let e = subst (λ xs. slice_get xs i ≡ Some s) numbered.own e in
-          in_order (length (names_in stated)) i s e;
-      count =
-          ap length numbered.own ∙ length-range_with_len 0 (length (names_in stated))
-          ∙ sym (ap length is);
-      in_range =
-          λ s inside. All-contains (λ number. number < length ns)
-          (flat_map read_numbers ls) s numbered.in_range inside;
-      names_are = ap (flat_map defined) numbered.stand ∙ flat_map-map defined _ stated ∙ sym is;
-    };
-    once = rw is once;
-    lines_are = numbered.stand ∙ entries_are;
-    at_are = numbers ∙ sym (map-map (λ entry. entry.0) entry_of stated)
-        ∙ ap (map (λ entry. entry.0)) of.same;
-  }
-    where
-      entries_are : statements_in stated ≡ map (λ entry. entry.1) (numbered_from 1 of.stated)
-      entries_are =
-          sym (map-map (λ entry. entry.1) entry_of stated) ∙ ap (map (λ entry. entry.1)) of.same
+  module _ (ns : List Name) (ls : List Line) (at : List ℕ) (is : ns ≡ names_in stated)
+      (once : AllPairs (λ m n. m ≢ n) (names_in stated)) (numbered : AreNumberedLines ns stated ls)
+      (numbers_are : at ≡ map (λ line. line.number) stated) where
+    lines_are : statements_of ns ls ≡ map (λ entry. entry.1) (numbered_from 1 of.stated)
+    lines_are =
+        numbered.stand ∙ sym (map-map (λ entry. entry.1) entry_of stated)
+        ∙ ap (map (λ entry. entry.1)) of.same
 
-      stand : statements of.stated ≡ statements_of ns ls
-      stand = sym (numbered.stand ∙ entries_are ∙ statements_numbered 1 of.stated)
+    at_are : at ≡ numbers 1 of.stated
+    at_are =
+        numbers_are ∙ sym (map-map (λ entry. entry.0) entry_of stated)
+        ∙ ap (map (λ entry. entry.0)) of.same
 
-      in_order : (n i s : ℕ) → slice_get (range_with_len 0 n) i ≡ Some s → s ≡ i
-      in_order n i s e =
-          let below = slice_get_within (range_with_len 0 n) i s e in
-          omega (
-            arith,
-            below,
-            length-range_with_len 0 n,
-            get_or_from_slice_get (range_with_len
-                0 n) i s 0 e,
-            get_or-range_with_len 0 n i 0,
-          )
+    stand : statements_of ns ls ≡ statements of.stated
+    stand = lines_are ∙ statements_numbered 1 of.stated
+
+    statements_are : AreStatements ns ls at
+    statements_are = record {
+      numbered = record {
+        in_order = λ i s e. let e = subst (λ xs. slice_get xs i ≡ Some s) numbered.own e in
+            in_order (length (names_in stated)) i s e;
+        count =
+            ap length numbered.own ∙ length-range_with_len 0 (length (names_in stated))
+            ∙ sym (ap length is);
+        in_range =
+            λ s inside. All-contains (λ number. number < length ns)
+            (flat_map read_numbers ls) s numbered.in_range inside;
+        names_are = ap (flat_map defined) numbered.stand ∙ flat_map-map defined _ stated ∙ sym is;
+      };
+      once = rw is once;
+      arities = rw stand (arities_of_text text of.stated of.within.each);
+      signals = omega (arith, ap length (is ∙ all defined), of.within.signals);
+      sinks = omega (arith, ap sink_count stand, of.within.sinks);
+      line_count =
+          simp length-map at (ap length at_are) ∙ sym (simp length-map at (ap length lines_are));
+      rising = rw at_are (numbers_rise 1 of.stated);
+    }
+      where
+        in_order : (n i s : ℕ) → slice_get (range_with_len 0 n) i ≡ Some s → s ≡ i
+        in_order n i s e =
+            let below = slice_get_within (range_with_len 0 n) i s e in
+            omega (
+              arith,
+              below,
+              length-range_with_len 0 n,
+              get_or_from_slice_get (range_with_len
+                  0 n) i s 0 e,
+              get_or-range_with_len 0 n i 0,
+            )
+
+    to_cyclic : (number : ℕ) → IsCyclicLine ns ls at number → IsCyclic of.stated number
+    to_cyclic number h =
+        let s : Statement = statement_of ns (line.Gate h.1 h.2) in
+        let there = from_mapped (λ e. e.0) (numbered_from 1 of.stated) h.0 number
+        (ap (λ ks. slice_get ks h.0) (sym at_are) ∙ h.3) in
+        let stands = ap (λ c. slice_get c h.0) (sym lines_are)
+        ∙ slice_get-map (statement_of ns) ls h.0 ∙ ap (option_map (statement_of ns)) h.4 in
+        let both = slice_get-map (λ e. e.1) (numbered_from 1 of.stated) h.0
+        ∙ ap (option_map (λ e. e.1)) there.1 in
+        let is : there.0.1 ≡ s = ap (λ o. unwrap_or o s) (sym both ∙ stands) in
+        let l = entry_at 1 of.stated h.0 there.0.0 there.0.1 there.1 in
+        let place : suc l.0 ≡ number = omega (arith, l.1, there.2) in
+        let there = subst (λ k. at_line of.stated k ≡ Some (Some s)) place
+        (l.2 ∙ ap (λ t. Some (Some t)) is) in
+        let stuck = subst (λ c. IsStuck c (name_at ns h.1)) stand h.5 in
+        (name_at ns h.1, h.2.kind, map (name_at ns) h.2.pins.items, there, stuck)
+
+    from_cyclic : (number : ℕ) → IsCyclic of.stated number → IsCyclicLine ns ls at number
+    from_cyclic zero h = let bad : None ≡ Some (Some (Gate h.0 h.1 h.2)) = h.3 in cc
+    from_cyclic (suc j) h =
+        let p = entry_for 1 of.stated j (Gate h.0 h.1 h.2) h.3 in
+        let l = from_mapped (statement_of ns) ls p.0 (Gate h.0 h.1 h.2)
+        (ap (λ c. slice_get c p.0) lines_are ∙ slice_get-map (λ e. e.1) (numbered_from 1 of.stated) p.0
+        ∙ ap (option_map (λ e. e.1)) p.1) in
+        let there = ap (λ ks. slice_get ks p.0) at_are
+        ∙ slice_get-map (λ e. e.0) (numbered_from 1 of.stated) p.0 ∙ ap (option_map (λ e. e.0)) p.1
+        ∙ ap Some (omega arith) in
+        by_line p.0 there l.0 l.1 l.2
+      where
+        by_line : (i : ℕ) → slice_get at i ≡ Some (suc j) → (l : Line) → slice_get ls i ≡ Some l
+            → statement_of ns l ≡ Gate h.0 h.1 h.2 → IsCyclicLine ns ls at (suc j)
+        by_line i a (line.Input s) e is = let bad : Input (name_at ns s) ≡ Gate h.0 h.1 h.2 = is in cc
+        by_line i a (line.Output s) e is =
+            let bad : Output (name_at ns s) ≡ Gate h.0 h.1 h.2 = is in cc
+        by_line i a (line.Dff q d) e is =
+            let bad : Dff (name_at ns q) (name_at ns d) ≡ Gate h.0 h.1 h.2 = is in cc
+        by_line i a (line.Gate s g) e is =
+            let name : h.0 ≡ name_at ns s = cc in
+            let stuck = subst (λ c. IsStuck c h.0) (sym stand) h.4 in
+            (i, s, g, a, e, subst (λ n. IsStuck (statements_of ns ls) n) name stuck)
+
+    refused : (f : BenchFault) → AreRefused ns ls at f → IsRefused text f
+    refused (fault.Empty) r = (of.stated, of.within, sym stand ∙ ap (statements_of ns) r)
+    refused (fault.Cycle number) r =
+        let lower : (k : ℕ) → k < number → ¬ IsCyclic of.stated k =
+        λ k lt f. r.1 k lt (from_cyclic k f) in (
+          of.stated,
+          of.within,
+          no_redefinition of.stated (distinct_from_pairs _ (rw (← all defined) once)),
+          no_undefined of.stated (λ n has. rw (← all defined, ← is)
+              (known ns ls numbered.in_range n (among _ n (rw (sym stand) at has)))),
+          (to_cyclic number r.0, lower),
+        )
+    refused (fault.TooLarge limit) r = absurd r
+    refused (fault.Syntax l) r = absurd r
+    refused (fault.Redefined l) r = absurd r
+    refused (fault.Undefined l) r = absurd r
+    refused (fault.Memory) r = absurd r
+
+    pub assembled : AreLinesOf text ns ls at
+    assembled = record {
+      are = statements_are;
+      accepted = λ circuit. (of.stated, of.within, stand, circuit.well_formed);
+      refused = refused;
+    }

@@ -1,5 +1,5 @@
 -- The entries of lines, read one after another.
-use Rattle.std.proofs.Common.{◌≡◌, ◌<◌, ◌+◌, ◌==◌, ℕ, zero, suc, refl, sym, ◌∙◌, ap, subst, List, [], ◌∷◌, ◌++◌, length, take, map, arith, get_or, append-nil, length-append}
+use Rattle.std.proofs.Common.{◌≡◌, ◌<◌, ◌+◌, ◌==◌, ℕ, zero, suc, refl, sym, ◌∙◌, ap, subst, List, [], ◌∷◌, ◌++◌, length, take, map, arith, get_or, append-nil}
 use Rattle.std.specs.Prelude.{Option, Some, None, Err, slice_get, option_map, unwrap_or}
 use Rattle.std.specs.List.{slice_split, AllZip}
 use Rattle.std.specs.Borrow.{Bor}
@@ -8,7 +8,6 @@ use Rattle.std.proofs.lemmas.List.{map_push, length-map, take-map}
 use Rattle.std.proofs.lemmas.Slice.Zip.{AllZip-long}
 use Rattle.std.proofs.lemmas.Option.{slice_get-map, slice_get_read}
 use Rattle.indexmap.proofs.SetLemmas.{AllZip-push}
-use Rattle.bench_net.specs.Text.{lines}
 use Rattle.bench_net.specs.Statement.{Statement}
 use Rattle.bench_net.specs.Reading.{States, statements}
 use Rattle.bench_net.specs.Refusal.{IsLowest, IsSyntaxFault}

@@ -1,5 +1,5 @@
 -- Lines at fault: which places and which names make them so.
-use Rattle.std.proofs.Common.{◌≡◌, ◌<◌, ◌≤◌, ℕ, zero, suc, sym, refl, ◌∙◌, ap, subst, List, [], ◌∷◌, ◌++◌, length, take, drop, arith, inl, inr, length-take}
+use Rattle.std.proofs.Common.{◌≡◌, ◌<◌, ℕ, zero, suc, sym, refl, ◌∙◌, ap, subst, List, [], ◌∷◌, ◌++◌, take, drop, arith, inl, inr, length-take}
 use Rattle.std.specs.Prelude.{Contains, Option, Some, None, slice_get, flat_map}
 use Rattle.std.specs.List.{AllZip}
 use Rattle.std.proofs.lemmas.Option.{slice_get_within}

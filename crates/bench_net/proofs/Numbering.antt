@@ -1,7 +1,7 @@
 -- Names and their numbers: what is found, and how lines are numbered one after another.
-use Rattle.std.proofs.Common.{◌≡◌, ◌<◌, ◌+◌, ℕ, zero, suc, refl, sym, ◌∙◌, ap, subst, true, List, [], ◌∷◌, ◌++◌, length, take, drop, map, arith, get_or, add-one, inl, inr, length-append, append-nil}
-use Rattle.std.specs.Prelude.{Contains, Option, Some, flat_map, Result, Ok, Err, IfErr}
-use Rattle.std.specs.List.{All, list_all, range_with_len}
+use Rattle.std.proofs.Common.{◌≡◌, ◌<◌, ◌+◌, ℕ, zero, suc, refl, sym, ◌∙◌, ap, subst, List, [], ◌∷◌, ◌++◌, length, take, drop, map, arith, get_or, add-one, inl, inr, length-append, append-nil}
+use Rattle.std.specs.Prelude.{Contains, flat_map, Result, Ok, Err, IfErr}
+use Rattle.std.specs.List.{All, range_with_len}
 use Rattle.std.specs.Str.{IsUtf8}
 use Rattle.std.proofs.Math.Nat.{zero-add}
 use Rattle.std.proofs.Math.Seq.{get_or-append_seam}
@@ -11,7 +11,7 @@ use Rattle.std.proofs.lemmas.List.Elements.{All-append, All-contains, Contains-a
 use Rattle.bench_net.specs.declared.line.Line.{Line}
 use Rattle.bench_net.specs.declared.line.Line.TheVariants as line
 use Rattle.bench_net.specs.declared.number.StatedLine.{StatedLine}
-use Rattle.bench_net.specs.Statement.{Name, Statement, read}
+use Rattle.bench_net.specs.Statement.{Name, read}
 use Rattle.bench_net.specs.reader.Parsed.{stands_for}
 use Rattle.bench_net.specs.reader.Entries.{names_in, defined_of}
 use Rattle.bench_net.specs.Stored.{name_at, statement_of, statements_of, defined_numbers, read_numbers}

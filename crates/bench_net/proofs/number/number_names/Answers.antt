@@ -1,10 +1,10 @@
-use Rattle.std.proofs.Common.{◌≡◌, ◌≢◌, ◌∙◌, ◌∷◌, [], true, false, take, ap, subst, sym, inl, inr, refl, arith, option_map}
+use Rattle.std.proofs.Common.{◌≡◌, ◌≢◌, ◌∙◌, ◌∷◌, [], ap, subst, sym, inl, inr, refl, arith, option_map}
 use Rattle.std.specs.Prelude.{AllPairs}
 use Rattle.std.specs.Option.{option_to_list}
 use Rattle.std.proofs.lemmas.List.{take_all}
 use Rattle.std.proofs.lemmas.Bool.{not-true, not-false, both_ways}
 use Rattle.lists.proofs.Members.{Among, among}
-use Rattle.lists.proofs.Distinct.{Distinct, distinct_append}
+use Rattle.lists.proofs.Distinct.{distinct_append}
 use Rattle.bench_net.specs.reader.Parsed.{names_of}
 use Rattle.bench_net.specs.reader.Entries.{names_in, defined_of}
 use Rattle.bench_net.proofs.Assembled.{redefined}
@@ -21,9 +21,9 @@ returns-then-not-branch-clause-refused c =
     c.defined.ensures ∙ ap (λ o. option_to_list (option_map (λ m. m.now) o)) c.in-Some.is in
     let before = not-false _ (sym c.in_ok-add_name.ensures.added ∙ c.if-not-branch.true) in
     λ text of. inr (redefined text c.args.stated.now of c.loop-line.line-index line (omega arith)
-        c.line-item.is n (rw one (inl refl))
-        (rw c.loop-line.invariant.0 at (among ns n (in_contained ns n before)))
-        (rw c.loop-line.invariant.0 at c.loop-line.invariant.1))
+    c.line-item.is n (rw one (inl refl))
+    (rw c.loop-line.invariant.0 at (among ns n (in_contained ns n before)))
+    (rw c.loop-line.invariant.0 at c.loop-line.invariant.1))
 
 pub loop-line-preserved : goal.loop-line-preserved
 loop-line-preserved c =

@@ -40,11 +40,14 @@ returns-in-Err-clause-refused c =
     let front = YieldsList-so_far road c.loop-line.yielded _ c.loop-line.yielded_by in
     may_be c.args.text.now c.in-Err.fault (Syntax (c.loop-line.number + 1)) c.or_refusal.result
     c.or_refusal.ensures
-    (λ e. (c.requires, rw (c.loop-line.invariant.0, add-one)
-    (refused_line c.loop-line.yielded c.in-Some.line c.without_return.result.now
-    c.without_return.ensures c.args.text.now
-    (entries_of c.loop-line.stated.items) front turn.0 turn.1 c.loop-line.invariant.1
-    (line_refused _ c.in-Err.fault c.in-Err.ensures e))))
+    (λ e. (
+      c.requires,
+      rw (c.loop-line.invariant.0, add-one)
+          (refused_line c.loop-line.yielded c.in-Some.line c.without_return.result.now
+          c.without_return.ensures c.args.text.now
+          (entries_of c.loop-line.stated.items) front turn.0 turn.1 c.loop-line.invariant.1
+          (line_refused _ c.in-Err.fault c.in-Err.ensures e)),
+    ))
 
 pub returns-clause-ok : goal.returns-clause-ok
 returns-clause-ok c =
