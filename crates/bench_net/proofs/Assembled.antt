@@ -13,8 +13,6 @@ use Rattle.std.proofs.lemmas.List.FromFn.{length-range_with_len, get_or-range_wi
 use Rattle.std.proofs.lemmas.Option.{get_or_from_slice_get, slice_get_within, slice_get-map, slice_get_read}
 use Rattle.bench_net.specs.declared.line.Line.{Line}
 use Rattle.bench_net.specs.declared.number.StatedLine.{StatedLine}
-use Rattle.bench_net.specs.declared.fault.LineFault.{LineFault}
-use Rattle.bench_net.specs.declared.fault.LineFault.TheVariants as stop
 use Rattle.bench_net.specs.declared.Limit.TheVariants.{Signals, Sinks}
 use Rattle.bench_net.specs.declared.BenchFault.{BenchFault}
 use Rattle.bench_net.specs.declared.BenchFault.TheVariants.{TooLarge, Redefined, Undefined}
@@ -26,7 +24,7 @@ use Rattle.bench_net.specs.Reading.{statements}
 use Rattle.bench_net.specs.Refusal.{at_line, IsCyclic, IsRefused}
 use Rattle.bench_net.specs.Circuit.{IsStuck, sink_count}
 use Rattle.bench_net.specs.Stored.{name_at, statement_of, statements_of, read_numbers, AreStatements, IsCyclicLine, AreRefused, AreLinesOf}
-use Rattle.bench_net.specs.reader.Parsed.{stands_for, or_refusal}
+use Rattle.bench_net.specs.reader.Parsed.{stands_for, FailsBy}
 use Rattle.bench_net.specs.reader.Entries.{Entry, entry_of, entries_of, numbered_from, statements_in, names_in, reads_in, defined_of, read_of, is_in, AreStated, AreWithin, MayBe}
 use Rattle.bench_net.specs.reader.Numbering.{AreNumberedLines}
 use Rattle.lists.proofs.Members.{Among, among, contained, mapped_from}
@@ -38,12 +36,11 @@ use Rattle.bench_net.proofs.Faults.{names_of, redefined_lowest, undefined_lowest
 use Rattle.bench_net.proofs.Numbering.{reads_numbers}
 use Rattle.bench_net.proofs.Words.{names_utf8, arities_of_text}
 
--- the refusal of a text where the line has the fault
-pub may_be : (text : List ℕ) (f : LineFault) (refusal fault : BenchFault)
-    → fault ≡ or_refusal f refusal → (f ≡ stop.Refused → IsRefused text refusal)
-    → MayBe text fault
-may_be text stop.Refused refusal fault e h = inr (rw e (h refl))
-may_be text stop.Memory refusal fault e h = inl e
+-- the refusal of a text where a line has the fault
+pub may_be : (text : List ℕ) (refusal fault : BenchFault) (Gone : Type 0)
+    → FailsBy refusal Gone fault → (Gone → IsRefused text refusal) → MayBe text fault
+may_be text refusal fault Gone (inl e) h = inl e
+may_be text refusal fault Gone (inr p) h = inr (rw p.0 (h p.1))
 
 -- the names that statements give
 names_by : (f : Statement → List Name) (entries : List Entry) (lines : List StatedLine)

@@ -13,11 +13,9 @@ use Rattle.bench_net.specs.Reading.{States, statements}
 use Rattle.bench_net.specs.Refusal.{IsLowest, IsSyntaxFault}
 use Rattle.bench_net.specs.reader.Plain.{stated_of}
 use Rattle.bench_net.specs.reader.Entries.{Entry, entry_of, entries_of, numbered_from, AreStated}
-use Rattle.bench_net.specs.reader.Parsed.{stands_for, IsReadAs}
+use Rattle.bench_net.specs.reader.Parsed.{stands_for}
 use Rattle.bench_net.specs.declared.number.StatedLine.{StatedLine}
 use Rattle.bench_net.specs.declared.statement.Stated.{Stated}
-use Rattle.bench_net.specs.declared.fault.LineFault.{LineFault}
-use Rattle.bench_net.specs.declared.fault.LineFault.TheVariants as stop
 use Rattle.bench_net.proofs.Reader.{sound_states}
 use Rattle.bench_net.proofs.Faults.{unread_lowest}
 
@@ -120,7 +118,3 @@ module _ (parts : List (Bor (List ℕ))) (x : Bor (List ℕ)) (l : List ℕ)
     where
       split : List (List ℕ)
       split = slice_split (λ b. b == 10) text
-
-pub line_refused : (found : Option (Option Statement)) (f : LineFault)
-    → IsReadAs (option_map stands_for) found (Err f) → f ≡ stop.Refused → found ≡ None
-line_refused found f h e = rw e at h

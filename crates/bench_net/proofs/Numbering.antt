@@ -19,11 +19,6 @@ use Rattle.bench_net.specs.reader.Numbering.{IsNextFor, IsNumberedLine, AreNumbe
 use Rattle.bench_net.proofs.Checked.{defined_few}
 use Rattle.bench_net.proofs.Passes.{at_item, names_more}
 
--- what holds of every error
-pub if_err : {T E : Type 0} (r : Result T E) (P : E → Type 0) → ((e : E) → P e) → IfErr r P
-if_err (Ok x) P h = tt
-if_err (Err e) P h = h e
-
 -- the number of the name that a line defines is that of the names before it
 pub next_for : (stated : List StatedLine) (i : ℕ) (line : StatedLine) → i < length stated
     → line ≡ get_or stated i line

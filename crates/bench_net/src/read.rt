@@ -60,12 +60,11 @@ fn read_statements<'a>(alloc: Global, text: &'a [u8]) -> Result<Vec<StatedLine<'
     let mut number = 0;
     for line in text.split(|byte| *byte == b'\n') {
         number += 1;
-        match read_line(alloc, without_return(line)) {
-            Ok(None) => {}
-            Ok(Some(statement)) => {
+        match read_line(alloc, without_return(line), BenchFault::Syntax(number))? {
+            None => {}
+            Some(statement) => {
                 stated.push(StatedLine { number, statement })?;
             }
-            Err(fault) => return Err(fault.or_refusal(BenchFault::Syntax(number))),
         }
     }
     Ok(stated)

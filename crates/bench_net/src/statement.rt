@@ -1,7 +1,7 @@
 //! The statement of one line.
 
 ghost use Rattle.std.specs.Prelude.{◌≡◌, ◌↔◌, List, ◌∷◌, [], length, Some, None, IsTrue};
-ghost use Rattle.std.specs.Prelude.{option_map, option_and_then, IfOk, IfErr};
+ghost use Rattle.std.specs.Prelude.{option_map, option_and_then};
 ghost use Rattle.std.specs.Str.{str_eq_ignore_ascii_case};
 ghost use Rattle.bench_net.specs.Text.{Word, Equals};
 ghost use Rattle.bench_net.specs.Statement.{Name};
@@ -9,8 +9,7 @@ ghost use Rattle.bench_net.specs.reader.Plain.{tokens_of, kind_of, has_arity, po
 ghost use Rattle.bench_net.specs.reader.Plain.{read_tokens, stated_of};
 ghost use Rattle.bench_net.specs.reader.Parsed.{names_of, stands_for, args_in, IsReadAs};
 
-use crate::Kind;
-use crate::fault::LineFault;
+use crate::{BenchFault, Kind};
 use crate::scan::{Front, Token, next_token};
 use smallvec::SmallVec;
 use std::alloc::Global;
@@ -76,16 +75,19 @@ fn is_end(rest: &[u8]) -> bool
     matches!(next_token(rest), Front::End)
 }
 
-/// The arguments up to the parenthesis that ends the line.
-fn read_arguments<'a>(alloc: Global, bytes: &'a [u8]) -> Result<Arguments<'a>, LineFault>
-    ensures ok { IfOk result (λ args. args_in bytes.now ≡ Some (names_of args.items)) }
-    ensures refused { IfErr result (λ fault. fault ≡ LineFault.Refused → args_in bytes.now ≡ None) }
+/// The arguments up to the parenthesis that ends the line, or the refusal of the line.
+fn read_arguments<'a>(
+    alloc: Global,
+    bytes: &'a [u8],
+    refusal: BenchFault,
+) -> Result<Arguments<'a>, BenchFault>
+    ensures { IsReadAs refusal (λ args. names_of args.items) (args_in bytes.now) result }
 {
     let mut arguments = SmallVec::new(alloc);
     let mut rest = bytes;
     loop {
         let Front::Token(Token::Word(name), behind) = next_token(rest) else {
-            return Err(LineFault::Refused);
+            return Err(refusal);
         };
         match next_token(behind) {
             Front::Token(Token::Comma, more) => {
@@ -96,7 +98,7 @@ fn read_arguments<'a>(alloc: Global, bytes: &'a [u8]) -> Result<Arguments<'a>, L
                 arguments.push(name)?;
                 return Ok(arguments);
             }
-            _ => return Err(LineFault::Refused),
+            _ => return Err(refusal),
         }
     }
 }
@@ -138,45 +140,60 @@ fn driven<'a>(name: &'a [u8], word: &[u8], arguments: Arguments<'a>) -> Option<S
 }
 
 /// The statement of a line `name = ..`, from the bytes behind the equals sign.
-fn read_driven<'a>(alloc: Global, name: &'a [u8], bytes: &'a [u8]) -> Result<Stated<'a>, LineFault>
-    ensures { IsReadAs stands_for
+fn read_driven<'a>(
+    alloc: Global,
+    name: &'a [u8],
+    bytes: &'a [u8],
+    refusal: BenchFault,
+) -> Result<Stated<'a>, BenchFault>
+    ensures { IsReadAs refusal stands_for
         (option_and_then (λ ts. read_tokens (Word name.now ∷ Equals ∷ ts)) (tokens_of bytes.now)) result }
 {
     let Front::Token(Token::Word(word), rest) = next_token(bytes) else {
-        return Err(LineFault::Refused);
+        return Err(refusal);
     };
     let Front::Token(Token::Open, rest) = next_token(rest) else {
-        return Err(LineFault::Refused);
+        return Err(refusal);
     };
-    let arguments = read_arguments(alloc, rest)?;
-    driven(name, word, arguments).ok_or(LineFault::Refused)
+    let arguments = read_arguments(alloc, rest, refusal)?;
+    driven(name, word, arguments).ok_or(refusal)
 }
 
 /// The statement of a line that begins with this word, from the bytes behind it.
-fn read_behind<'a>(alloc: Global, word: &'a [u8], bytes: &'a [u8]) -> Result<Stated<'a>, LineFault>
-    ensures { IsReadAs stands_for
+fn read_behind<'a>(
+    alloc: Global,
+    word: &'a [u8],
+    bytes: &'a [u8],
+    refusal: BenchFault,
+) -> Result<Stated<'a>, BenchFault>
+    ensures { IsReadAs refusal stands_for
         (option_and_then (λ ts. read_tokens (Word word.now ∷ ts)) (tokens_of bytes.now)) result }
 {
     match next_token(bytes) {
         Front::Token(Token::Open, rest) => {
-            let arguments = read_arguments(alloc, rest)?;
-            port(word, arguments).ok_or(LineFault::Refused)
+            let arguments = read_arguments(alloc, rest, refusal)?;
+            port(word, arguments).ok_or(refusal)
         }
-        Front::Token(Token::Equals, rest) => read_driven(alloc, word, rest),
-        _ => Err(LineFault::Refused),
+        Front::Token(Token::Equals, rest) => read_driven(alloc, word, rest, refusal),
+        _ => Err(refusal),
     }
 }
 
-/// What a line states: nothing where it has no token, and else its statement.
-pub fn read_line<'a>(alloc: Global, line: &'a [u8]) -> Result<Option<Stated<'a>>, LineFault>
-    ensures { IsReadAs (option_map stands_for) (stated_of line.now) result }
+/// What a line states: nothing where it has no token, and else its statement. A line that states
+/// nothing that a line may state has this refusal.
+pub fn read_line<'a>(
+    alloc: Global,
+    line: &'a [u8],
+    refusal: BenchFault,
+) -> Result<Option<Stated<'a>>, BenchFault>
+    ensures { IsReadAs refusal (option_map stands_for) (stated_of line.now) result }
 {
     match next_token(line) {
         Front::End => Ok(None),
         Front::Token(Token::Word(word), rest) => {
-            let statement = read_behind(alloc, word, rest)?;
+            let statement = read_behind(alloc, word, rest, refusal)?;
             Ok(Some(statement))
         }
-        _ => Err(LineFault::Refused),
+        _ => Err(refusal),
     }
 }

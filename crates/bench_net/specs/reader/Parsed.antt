@@ -1,9 +1,7 @@
 -- What the functions of the line reader answer.
-use Rattle.std.specs.Prelude.{◌≡◌, ℕ, List, map, Option, Some, None}
-use Rattle.std.specs.Prelude.{option_and_then, Result, Ok, Err, ⊤}
+use Rattle.std.specs.Prelude.{◌≡◌, ◌⊎◌, ℕ, List, map, Option, Some, None}
+use Rattle.std.specs.Prelude.{option_and_then, Result, Ok, Err}
 use Rattle.std.specs.Borrow.{Bor}
-use Rattle.bench_net.specs.declared.fault.LineFault.{LineFault}
-use Rattle.bench_net.specs.declared.fault.LineFault.TheVariants as fault
 use Rattle.bench_net.specs.declared.statement.Stated.{Stated}
 use Rattle.bench_net.specs.declared.statement.Stated.TheVariants as stated
 use Rattle.bench_net.specs.declared.BenchFault.{BenchFault}
@@ -26,13 +24,11 @@ stands_for (stated.Dff q d) = Dff q.now d.now
 abbrev pub args_in : List ℕ → Option (List Name)
 args_in bytes = option_and_then args_of (tokens_of bytes)
 
--- what was read stands for what is found, and a refusal says that nothing is
-abbrev pub IsReadAs : {T S : Type 0} → (T → S) → Option S → Result T LineFault → Type 0
-IsReadAs stands found (Ok s) = found ≡ Some (stands s)
-IsReadAs stands found (Err fault.Refused) = found ≡ None
-IsReadAs stands found (Err fault.Memory) = ⊤
+-- memory is wanting, or the refusal comes where it should
+abbrev pub FailsBy : BenchFault → Type 0 → BenchFault → Type 0
+FailsBy refusal Gone fault = (fault ≡ Memory) ⊎ ((fault ≡ refusal) × Gone)
 
--- the refusal where the line has the fault
-abbrev pub or_refusal : LineFault → BenchFault → BenchFault
-or_refusal fault.Refused refusal = refusal
-or_refusal fault.Memory refusal = Memory
+-- what was read stands for what is found, and a refusal says that nothing is
+abbrev pub IsReadAs : {T S : Type 0} → BenchFault → (T → S) → Option S → Result T BenchFault → Type 0
+IsReadAs refusal stands found (Ok s) = found ≡ Some (stands s)
+IsReadAs refusal stands found (Err fault) = FailsBy refusal (found ≡ None) fault

@@ -1,5 +1,6 @@
 use Rattle.std.proofs.Common.{◌≤◌, ◌<◌, ◌∙◌, length, length-append, refl, arith, ap}
 use Rattle.std.proofs.lemmas.List.{length-map}
+use Rattle.std.proofs.lemmas.Result.{err_from_is_err_and}
 use Rattle.bench_net.specs.declared.BenchFault.TheVariants.{Undefined}
 use Rattle.bench_net.specs.reader.Parsed.{names_of}
 use Rattle.bench_net.specs.reader.Entries.{defined_of}
@@ -14,13 +15,14 @@ number_line-requires-clause-own c =
     (next_for c.args.stated.now c.loop-line.line-index c.line-item.result
     (omega arith) c.line-item.is)
 
-pub returns-in-Err-clause-refused : goal.returns-in-Err-clause-refused
-returns-in-Err-clause-refused c = λ text of.
-    may_be text c.in-Err.fault (Undefined c.line-item.result.number) c.or_refusal.result
-    c.or_refusal.ensures
-    (λ e. undefined text c.args.stated.now of c.loop-line.line-index c.line-item.result
+pub returns-in_err-numbered-clause-refused : goal.returns-in_err-numbered-clause-refused
+returns-in_err-numbered-clause-refused c =
+    let p = err_from_is_err_and c.from_residual-in_err-numbered.result c.from_residual-in_err-numbered.ensures.1 in
+    rw (p.1, p.2) (λ text of.
+    may_be text (Undefined c.line-item.result.number) _ _ c.in_err-numbered.ensures.refused
+    (undefined text c.args.stated.now of c.loop-line.line-index c.line-item.result
     (omega arith) c.line-item.is (names_of c.args.names.now.keys) c.loop-line.lines.items
-    c.requires.own c.requires.once c.loop-line.invariant.0 (c.in-Err.ensures.refused e))
+    c.requires.own c.requires.once c.loop-line.invariant.0))
 
 pub number_behind-next-requires : goal.number_behind-next-requires
 number_behind-next-requires c =
@@ -38,9 +40,9 @@ loop-line-preserved c =
     let below : i < length c.args.stated.now = omega arith in (
       rw c.in_ok-push.ensures.items
           (numbered_more (names_of c.args.names.now.keys) c.args.stated.now
-          c.loop-line.lines.items i line c.in-Ok.numbered
+          c.loop-line.lines.items i line c.in_ok-numbered.numbered
           c.loop-line.next below c.line-item.is c.loop-line.invariant.0
-          c.loop-line.invariant.1 c.in-Ok.ensures.numbered),
+          c.loop-line.invariant.1 c.in_ok-numbered.ensures.numbered),
       c.number_behind-next.ensures
           ∙ rw (names_more c.args.stated.now i line below c.line-item.is defined_of)
           (rw (length-append, c.loop-line.invariant.1) refl),
