@@ -25,7 +25,7 @@ use Rattle.bench_net.specs.Refusal.{at_line, IsCyclic, IsRefused}
 use Rattle.bench_net.specs.Circuit.{IsStuck, sink_count}
 use Rattle.bench_net.specs.Stored.{name_at, statement_of, statements_of, read_numbers, AreStatements, IsCyclicLine, AreRefused, AreLinesOf}
 use Rattle.bench_net.specs.reader.Parsed.{stands_for, FailsBy}
-use Rattle.bench_net.specs.reader.Entries.{Entry, entry_of, entries_of, numbered_from, statements_in, names_in, reads_in, defined_of, read_of, is_in, AreStated, AreWithin, MayBe}
+use Rattle.bench_net.specs.reader.Entries.{entry_of, entries_of, numbered_from, statements_in, names_in, reads_in, defined_of, read_of, is_in, AreStated, AreWithin, MayBe}
 use Rattle.bench_net.specs.reader.Numbering.{AreNumberedLines}
 use Rattle.lists.proofs.Members.{Among, among, contained, mapped_from}
 use Rattle.lists.proofs.Places.{from_mapped}
@@ -43,19 +43,20 @@ may_be text refusal fault Gone (inl e) h = inl e
 may_be text refusal fault Gone (inr p) h = inr (rw p.0 (h p.1))
 
 -- the names that statements give
-names_by : (f : Statement → List Name) (entries : List Entry) (lines : List StatedLine)
-    → entries_of lines ≡ entries
-    → flat_map (λ line. f (stands_for line.statement)) lines ≡ flat_map f (map (λ e. e.1) entries)
-names_by f entries lines e =
+names_by : (f : Statement → List Name) (lines : List StatedLine) (stated : List (Option Statement))
+    → entries_of lines ≡ numbered_from 1 stated
+    → flat_map (λ line. f (stands_for line.statement)) lines ≡ flat_map f (statements stated)
+names_by f lines stated e =
     sym (flat_map-map f (λ line. stands_for line.statement) lines)
-    ∙ ap (flat_map f) (sym (map-map (λ entry. entry.1) entry_of lines) ∙ ap (map (λ entry. entry.1)) e)
+    ∙ ap (flat_map f) (sym (map-map (λ entry. entry.1) entry_of lines)
+    ∙ ap (map (λ entry. entry.1)) e ∙ statements_numbered 1 stated)
 
 -- the limits on signals and sinks
 module _ (text : List ℕ) (stated : List StatedLine)
     (are : AreStated (lines text) (entries_of stated)) (bytes : length text ≤ 16777216) where
   same : (f : Statement → List Name)
       → flat_map (λ line. f (stands_for line.statement)) stated ≡ flat_map f (statements are.stated)
-  same f = names_by f _ stated are.same ∙ ap (flat_map f) (statements_numbered 1 are.stated)
+  same f = names_by f stated are.stated are.same
 
   pub too_many_signals : ¬ (length (names_in stated) ≤ 1000000) → IsRefused text (TooLarge Signals)
   too_many_signals more = (bytes, are.stated, are.each, omega (arith, more, ap length (same defined)))
@@ -115,7 +116,7 @@ known ns ls in_range n a =
 module _ (text : List ℕ) (stated : List StatedLine) (of : AreWithin text stated) where
   all : (f : Statement → List Name)
       → flat_map (λ line. f (stands_for line.statement)) stated ≡ flat_map f (statements of.stated)
-  all f = names_by f _ stated of.same ∙ ap (flat_map f) (statements_numbered 1 of.stated)
+  all f = names_by f stated of.stated of.same
 
   -- the defined names are UTF-8
   pub all_utf8 : (ns : List Name) → ns ≡ names_in stated → All IsUtf8 ns

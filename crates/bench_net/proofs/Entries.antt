@@ -1,6 +1,6 @@
 -- The entries of lines, read one after another.
 use Rattle.std.proofs.Common.{◌≡◌, ◌<◌, ◌+◌, ◌==◌, ℕ, zero, suc, refl, sym, ◌∙◌, ap, subst, List, [], ◌∷◌, ◌++◌, length, take, map, arith, get_or, append-nil}
-use Rattle.std.specs.Prelude.{Option, Some, None, Err, slice_get, option_map, unwrap_or}
+use Rattle.std.specs.Prelude.{Option, Some, None, slice_get, option_map, unwrap_or}
 use Rattle.std.specs.List.{slice_split, AllZip}
 use Rattle.std.specs.Borrow.{Bor}
 use Rattle.std.specs.Str.Lines.{strip_carriage_return}

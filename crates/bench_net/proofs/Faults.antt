@@ -98,16 +98,6 @@ unread_lowest text k l stated at none all = (
 
 -- ---- a line that defines a name that is defined before it
 
--- a name is defined before a place exactly where an earlier line defines it
-named_before : (stated : List Stated) (j : ℕ) (n : Name) → Among n (names_of (take j stated))
-    → (line : ℕ) × (line < suc j) × Defines stated line n
-named_before stated j n a =
-    let t = joined_from defined (statements (take j stated)) n a in
-    let at = stated_at (take j stated) t.0 t.1 in
-    let below = slice_get_within (take j stated) at.0 (Some t.0) at.1 in
-    let lt : at.0 < j = omega (arith, below, length-take j stated) in
-    (suc at.0, omega (arith, lt), (t.0, sym (in_front stated j at.0 lt) ∙ at.1, contained _ n t.2))
-
 pub earlier_named : (stated : List Stated) (j line : ℕ) (n : Name) → line < suc j
     → Defines stated line n → Among n (names_of (take j stated))
 earlier_named stated j line n lt d =
@@ -118,8 +108,12 @@ pub redefinition : (stated : List Stated) (j : ℕ) (s : Statement) (n : Name)
     → slice_get stated j ≡ Some (Some s) → Among n (defined s)
     → Among n (names_of (take j stated)) → IsRedefinition stated (suc j)
 redefinition stated j s n at here a =
-    let before = named_before stated j n a in
-    (n, before.0, (s, at, contained _ n here), before.1, before.2)
+    let t = joined_from defined (statements (take j stated)) n a in
+    let k = stated_at (take j stated) t.0 t.1 in
+    let below = slice_get_within (take j stated) k.0 (Some t.0) k.1 in
+    let lt : k.0 < j = omega (arith, below, length-take j stated) in
+    let there = sym (in_front stated j k.0 lt) ∙ k.1 in
+    (n, suc k.0, (s, at, contained _ n here), omega (arith, lt), (t.0, there, contained _ n t.2))
 
 distinct_apart : (xs ys : List Name) (n : Name)
     → Distinct (xs ++ ys) → Among n xs → Among n ys → ⊥

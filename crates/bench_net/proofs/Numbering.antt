@@ -1,12 +1,11 @@
 -- Names and their numbers: what is found, and how lines are numbered one after another.
-use Rattle.std.proofs.Common.{◌≡◌, ◌<◌, ◌+◌, ℕ, zero, suc, refl, sym, ◌∙◌, ap, subst, List, [], ◌∷◌, ◌++◌, length, take, drop, map, arith, get_or, add-one, inl, inr, length-append, append-nil}
-use Rattle.std.specs.Prelude.{Contains, flat_map, Result, Ok, Err, IfErr}
+use Rattle.std.proofs.Common.{◌≡◌, ◌<◌, ◌+◌, ℕ, zero, suc, refl, sym, ◌∙◌, ap, subst, List, [], ◌∷◌, ◌++◌, length, take, map, arith, get_or, add-one, inl, inr, length-append, append-nil}
+use Rattle.std.specs.Prelude.{Contains, flat_map}
 use Rattle.std.specs.List.{All, range_with_len}
 use Rattle.std.specs.Str.{IsUtf8}
-use Rattle.std.proofs.Math.Nat.{zero-add}
-use Rattle.std.proofs.Math.Seq.{get_or-append_seam}
+use Rattle.std.proofs.Math.Nat.{zero-add, add-zero}
 use Rattle.std.proofs.lemmas.List.{map-append, map_push, take_more}
-use Rattle.std.proofs.lemmas.List.Concat.{flat_map-append}
+use Rattle.std.proofs.lemmas.List.Concat.{flat_map-append, get_or-flat_map}
 use Rattle.std.proofs.lemmas.List.Elements.{All-append, All-contains, Contains-append_right}
 use Rattle.bench_net.specs.declared.line.Line.{Line}
 use Rattle.bench_net.specs.declared.line.Line.TheVariants as line
@@ -17,21 +16,19 @@ use Rattle.bench_net.specs.reader.Entries.{names_in, defined_of}
 use Rattle.bench_net.specs.Stored.{name_at, statement_of, statements_of, defined_numbers, read_numbers}
 use Rattle.bench_net.specs.reader.Numbering.{IsNextFor, IsNumberedLine, AreNumberedLines}
 use Rattle.bench_net.proofs.Checked.{defined_few}
-use Rattle.bench_net.proofs.Passes.{at_item, names_more}
+use Rattle.bench_net.proofs.Passes.{names_more}
 
 -- the number of the name that a line defines is that of the names before it
 pub next_for : (stated : List StatedLine) (i : ℕ) (line : StatedLine) → i < length stated
     → line ≡ get_or stated i line
     → IsNextFor (names_in stated) (length (names_in (take i stated))) (stands_for line.statement)
-next_for stated i line h e =
-    let whole =
-    ap names_in (at_item stated i line h e)
-    ∙ flat_map-append defined_of (take i stated) (line ∷ drop (suc i) stated) in
-    elim (defined_few (stands_for line.statement)) [
-      | inl none ↦ rw none refl
-      | inr one ↦ rw (whole, one.1) (ap (λ n. n ∷ []) (get_or-append_seam
-          (names_in (take i stated)) one.0 (names_in (drop (suc i) stated)) []))
-    ]
+next_for stated i line h e = elim (defined_few (stands_for line.statement)) [
+  | inl none ↦ rw none refl
+  | inr one ↦ rw one.1 (ap (λ n. n ∷ []) (
+      let place = get_or-flat_map defined_of stated i 0 line [] h (rw (← e, one.1) (omega arith)) in
+      rw (← e, one.1) at (simp add-zero at place)
+      ))
+]
 
 range_more : (a n : ℕ) → range_with_len a (n + 1) ≡ range_with_len a n ++ (a + n) ∷ []
 range_more a n = rw (add-one n) (go a n)

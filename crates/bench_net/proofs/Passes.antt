@@ -1,23 +1,17 @@
 -- Steps of the passes over the lines: names counted, names looked for.
-use Rattle.std.proofs.Common.{◌≡◌, ◌<◌, ◌≤◌, ◌+◌, ℕ, suc, refl, sym, ◌∙◌, ap, List, [], ◌∷◌, ◌++◌, length, take, drop, get_or, take-append-drop, append-nil}
+use Rattle.std.proofs.Common.{◌≡◌, ◌<◌, ◌≤◌, ◌+◌, ℕ, refl, sym, ◌∙◌, ap, List, [], ◌∷◌, ◌++◌, length, take, get_or, append-nil}
 use Rattle.std.specs.Prelude.{flat_map, bytes_eq, ◌||◌}
 use Rattle.std.specs.List.{list_any}
 use Rattle.std.specs.Borrow.{Bor}
 use Rattle.std.proofs.lemmas.List.{take_more}
 use Rattle.std.proofs.lemmas.List.Concat.{flat_map-append}
 use Rattle.std.proofs.lemmas.List.Folds.{length-flat_map-take}
-use Rattle.std.proofs.Math.Seq.{drop-cons}
 use Rattle.bench_net.specs.Statement.{Name}
 use Rattle.bench_net.specs.reader.Parsed.{names_of}
 use Rattle.bench_net.specs.reader.Entries.{is_in}
 
 module _ {A : Type 0} (xs : List A) (i : ℕ) (x : A) (h : i < length xs)
     (e : x ≡ get_or xs i x) where
-  pub at_item : xs ≡ take i xs ++ (x ∷ drop (suc i) xs)
-  at_item =
-      sym (take-append-drop i xs)
-      ∙ ap (λ ys. take i xs ++ ys) (drop-cons xs i x h ∙ ap (λ y. y ∷ drop (suc i) xs) (sym e))
-
   -- the names of one more line
   pub names_more : (f : A → List Name)
       → flat_map f (take (i + 1) xs) ≡ flat_map f (take i xs) ++ f x

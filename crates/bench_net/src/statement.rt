@@ -9,8 +9,8 @@ ghost use Rattle.bench_net.specs.reader.Plain.{tokens_of, kind_of, has_arity, po
 ghost use Rattle.bench_net.specs.reader.Plain.{read_tokens, stated_of};
 ghost use Rattle.bench_net.specs.reader.Parsed.{names_of, stands_for, args_in, IsReadAs};
 
-use crate::{BenchFault, Kind};
 use crate::scan::{Front, Token, next_token};
+use crate::{BenchFault, Kind};
 use smallvec::SmallVec;
 use std::alloc::Global;
 

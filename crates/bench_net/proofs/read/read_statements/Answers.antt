@@ -42,10 +42,13 @@ returns-in_err-read_line-clause-refused c =
     let p = err_from_is_err_and c.from_residual.result c.from_residual.ensures.1 in
     rw (p.1, p.2) (may_be c.args.text.now (Syntax (c.loop-line.number + 1)) _ _
     c.in_err-read_line.ensures
-    (λ none. (c.requires, rw (c.loop-line.invariant.0, add-one)
-    (refused_line c.loop-line.yielded c.in-Some.line c.without_return.result.now
-    c.without_return.ensures c.args.text.now
-    (entries_of c.loop-line.stated.items) front turn.0 turn.1 c.loop-line.invariant.1 none))))
+    (λ none. (
+      c.requires,
+      rw (c.loop-line.invariant.0, add-one)
+          (refused_line c.loop-line.yielded c.in-Some.line c.without_return.result.now
+          c.without_return.ensures c.args.text.now
+          (entries_of c.loop-line.stated.items) front turn.0 turn.1 c.loop-line.invariant.1 none),
+    )))
 
 pub returns-clause-ok : goal.returns-clause-ok
 returns-clause-ok c =
