@@ -1,22 +1,44 @@
 -- Names and their numbers: what is found, and how lines are numbered one after another.
-use Rattle.std.proofs.Common.{◌≡◌, ◌<◌, ◌+◌, ℕ, zero, suc, refl, sym, ◌∙◌, ap, subst, List, [], ◌∷◌, ◌++◌, length, take, map, arith, get_or, add-one, inl, inr, length-append, append-nil}
-use Rattle.std.specs.Prelude.{Contains, flat_map}
-use Rattle.std.specs.List.{All, range_with_len}
+use Rattle.std.proofs.Common.{◌≡◌, ◌<◌, ◌≤◌, ◌+◌, ℕ, zero, suc, refl, sym, ◌∙◌, ap, subst, List, [], ◌∷◌, ◌++◌, length, take, map, arith, get_or, add-one, inl, inr, length-append, append-nil}
+use Rattle.std.specs.Prelude.{Contains, flat_map, bytes_eq, ◌||◌}
+use Rattle.std.specs.List.{All, list_any, range_with_len}
+use Rattle.std.specs.Borrow.{Bor}
 use Rattle.std.specs.Str.{IsUtf8}
 use Rattle.std.proofs.Math.Nat.{zero-add, add-zero}
 use Rattle.std.proofs.lemmas.List.{map-append, map_push, take_more}
 use Rattle.std.proofs.lemmas.List.Concat.{flat_map-append, get_or-flat_map}
+use Rattle.std.proofs.lemmas.List.Folds.{length-flat_map-take}
 use Rattle.std.proofs.lemmas.List.Elements.{All-append, All-contains, Contains-append_right}
 use Rattle.bench_net.specs.declared.line.Line.{Line}
 use Rattle.bench_net.specs.declared.line.Line.TheVariants as line
 use Rattle.bench_net.specs.declared.number.StatedLine.{StatedLine}
 use Rattle.bench_net.specs.Statement.{Name, read}
-use Rattle.bench_net.specs.reader.Parsed.{stands_for}
-use Rattle.bench_net.specs.reader.Entries.{names_in, defined_of}
+use Rattle.bench_net.specs.reader.Parsed.{names_of, stands_for}
+use Rattle.bench_net.specs.reader.Entries.{is_in, names_in, defined_of}
 use Rattle.bench_net.specs.Stored.{name_at, statement_of, statements_of, defined_numbers, read_numbers}
 use Rattle.bench_net.specs.reader.Numbering.{IsNextFor, IsNumberedLine, AreNumberedLines}
 use Rattle.bench_net.proofs.Checked.{defined_few}
-use Rattle.bench_net.proofs.Passes.{names_more}
+
+module _ {A : Type 0} (xs : List A) (i : ℕ) (x : A) (h : i < length xs)
+    (e : x ≡ get_or xs i x) where
+  -- the names of one more line
+  pub names_more : (f : A → List Name)
+      → flat_map f (take (i + 1) xs) ≡ flat_map f (take i xs) ++ f x
+  names_more f =
+      ap (flat_map f) (take_more xs i x h ∙ ap (λ y. take i xs ++ y ∷ []) (sym e))
+      ∙ flat_map-append f (take i xs) (x ∷ [])
+      ∙ ap (λ ys. flat_map f (take i xs) ++ ys) (append-nil (f x))
+
+  -- the names so far and those of this line are no more than all
+  pub names_fit : (f : A → List Name)
+      → length (flat_map f (take i xs)) + length (f x) ≤ length (flat_map f xs)
+  names_fit f = rw (← e) at (length-flat_map-take f xs i x h)
+
+-- a key is looked for by its bytes
+pub key_in : (ks : List (Bor Name)) (n : Name)
+    → list_any (λ k. bytes_eq n k.now) ks ≡ is_in (names_of ks) n
+key_in [] n = refl
+key_in (k ∷ ks) n = ap (λ more. bytes_eq n k.now || more) (key_in ks n)
 
 -- the number of the name that a line defines is that of the names before it
 pub next_for : (stated : List StatedLine) (i : ℕ) (line : StatedLine) → i < length stated

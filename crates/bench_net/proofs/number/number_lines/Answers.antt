@@ -5,8 +5,7 @@ use Rattle.bench_net.specs.declared.BenchFault.TheVariants.{Undefined}
 use Rattle.bench_net.specs.reader.Parsed.{names_of}
 use Rattle.bench_net.specs.reader.Entries.{defined_of}
 use Rattle.bench_net.proofs.Assembled.{may_be, undefined}
-use Rattle.bench_net.proofs.Numbering.{next_for, numbered_more}
-use Rattle.bench_net.proofs.Passes.{names_fit, names_more}
+use Rattle.bench_net.proofs.Numbering.{next_for, numbered_more, names_fit, names_more}
 use Rattle.bench_net.proofs.number.number_lines.Goals as goal
 
 pub number_line-requires-clause-own : goal.number_line-requires-clause-own

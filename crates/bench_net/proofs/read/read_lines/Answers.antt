@@ -1,8 +1,17 @@
 use Rattle.std.proofs.Common.{◌≡◌, ◌∙◌, sym, inr, true, false, arith}
 use Rattle.std.proofs.lemmas.Result.{err_from_is_err_and}
 use Rattle.bench_net.specs.reader.Parsed.{names_of}
+use Rattle.bench_net.specs.reader.Entries.{AreWithin}
 use Rattle.bench_net.proofs.Assembled.{too_many_signals, too_many_sinks, within, all_utf8, assembled}
 use Rattle.bench_net.proofs.read.read_lines.Goals as goal
+use Rattle.bench_net.proofs.read.read_lines.Goals.{After-number_names}
+
+fits : (c : After-number_names) → AreWithin c.args.text.now c.as_slice-stated.result.now
+fits c =
+    within c.args.text.now c.as_slice-stated.result.now
+    (rw c.as_slice-stated.ensures.value c.in_ok-read.ensures.ok) (omega arith)
+    (c.signals_fit.ensures.0 c.if-not-signals_fit.false)
+    (c.sinks_fit.ensures.0 c.if-not-sinks_fit.false)
 
 pub returns-then-not-signals_fit-clause-refused : goal.returns-then-not-signals_fit-clause-refused
 returns-then-not-signals_fit-clause-refused c =
@@ -25,10 +34,7 @@ returns-in_err-numbers-clause-refused c =
     err_from_is_err_and c.from_residual-in_err-numbers.result
     c.from_residual-in_err-numbers.ensures.1 in
     rw (p.1, p.2) (c.in_err-numbers.ensures.refused c.args.text.now
-    (within c.args.text.now c.as_slice-stated.result.now
-    (rw c.as_slice-stated.ensures.value c.in_ok-read.ensures.ok) (omega arith)
-    (c.signals_fit.ensures.0 c.if-not-signals_fit.false)
-    (c.sinks_fit.ensures.0 c.if-not-sinks_fit.false)))
+    (fits (goal.at.returns-in_err-numbers-clause-refused c).After-number_names))
 
 pub returns-in_err-lines-clause-refused : goal.returns-in_err-lines-clause-refused
 returns-in_err-lines-clause-refused c =
@@ -36,28 +42,19 @@ returns-in_err-lines-clause-refused c =
     err_from_is_err_and c.from_residual-in_err-lines.result
     c.from_residual-in_err-lines.ensures.1 in
     rw (p.1, p.2) (c.in_err-lines.ensures.refused c.args.text.now
-    (within c.args.text.now c.as_slice-stated.result.now
-    (rw c.as_slice-stated.ensures.value c.in_ok-read.ensures.ok) (omega arith)
-    (c.signals_fit.ensures.0 c.if-not-signals_fit.false)
-    (c.sinks_fit.ensures.0 c.if-not-sinks_fit.false)))
+    (fits (goal.at.returns-in_err-lines-clause-refused c).After-number_names))
 
 pub own_names-requires : goal.own_names-requires
 own_names-requires c =
     all_utf8 c.args.text.now c.as_slice-stated.result.now
-    (within c.args.text.now c.as_slice-stated.result.now
-    (rw c.as_slice-stated.ensures.value c.in_ok-read.ensures.ok) (omega arith)
-    (c.signals_fit.ensures.0 c.if-not-signals_fit.false)
-    (c.sinks_fit.ensures.0 c.if-not-sinks_fit.false))
+    (fits (goal.at.own_names-requires c).After-number_names)
     (names_of c.in_ok-numbers.numbers.keys) c.in_ok-numbers.ensures.numbered
 
 pub returns-clause-lines : goal.returns-clause-lines
 returns-clause-lines c =
     rw c.in_ok-names.ensures.named
     (assembled c.args.text.now c.as_slice-stated.result.now
-    (within c.args.text.now c.as_slice-stated.result.now
-    (rw c.as_slice-stated.ensures.value c.in_ok-read.ensures.ok) (omega arith)
-    (c.signals_fit.ensures.0 c.if-not-signals_fit.false)
-    (c.sinks_fit.ensures.0 c.if-not-sinks_fit.false))
+    (fits (goal.at.returns-clause-lines c).After-number_names)
     (names_of c.in_ok-numbers.numbers.keys) c.in_ok-lines.lines.items c.in_ok-at.at.items
     c.in_ok-numbers.ensures.numbered c.in_ok-numbers.ensures.once c.in_ok-lines.ensures.numbered
     c.in_ok-at.ensures)

@@ -4,7 +4,7 @@ use Rattle.std.specs.Option.{option_to_list}
 use Rattle.std.specs.Borrow.{Bor}
 use Rattle.bench_net.specs.Statement.{Name}
 use Rattle.bench_net.specs.reader.Entries.{defined_of}
-use Rattle.bench_net.proofs.Passes.{names_fit}
+use Rattle.bench_net.proofs.Numbering.{names_fit}
 use Rattle.bench_net.proofs.read.signals_fit.Goals as goal
 
 one : (o : Option (Bor Name)) → is_some o ≡ true

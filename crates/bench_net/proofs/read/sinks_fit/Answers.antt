@@ -1,6 +1,6 @@
 use Rattle.std.proofs.Common.{arith}
 use Rattle.bench_net.specs.reader.Entries.{read_of}
-use Rattle.bench_net.proofs.Passes.{names_fit}
+use Rattle.bench_net.proofs.Numbering.{names_fit}
 use Rattle.bench_net.proofs.read.sinks_fit.Goals as goal
 
 pub returns-then-more-count : goal.returns-then-more-count
