@@ -13,7 +13,8 @@ use Rattle.std.proofs.lemmas.List.FromFn.{length-range_with_len, get_or-range_wi
 use Rattle.std.proofs.lemmas.Option.{get_or_from_slice_get, slice_get_within, slice_get-map, slice_get_read}
 use Rattle.bench_net.specs.declared.line.Line.{Line}
 use Rattle.bench_net.specs.declared.number.StatedLine.{StatedLine}
-use Rattle.bench_net.specs.declared.Limit.TheVariants.{Signals, Sinks}
+use Rattle.bench_net.specs.declared.Limit.{Limit}
+use Rattle.bench_net.specs.declared.Limit.TheVariants.{Bytes, Signals, Sinks}
 use Rattle.bench_net.specs.declared.BenchFault.{BenchFault}
 use Rattle.bench_net.specs.declared.BenchFault.TheVariants.{TooLarge, Redefined, Undefined}
 use Rattle.bench_net.specs.declared.BenchFault.TheVariants as fault
@@ -25,7 +26,7 @@ use Rattle.bench_net.specs.Refusal.{at_line, IsCyclic, IsRefused}
 use Rattle.bench_net.specs.Circuit.{IsStuck, sink_count}
 use Rattle.bench_net.specs.Stored.{name_at, statement_of, statements_of, read_numbers, AreStatements, IsCyclicLine, AreRefused, AreLinesOf}
 use Rattle.bench_net.specs.reader.Parsed.{stands_for, FailsBy}
-use Rattle.bench_net.specs.reader.Entries.{entry_of, entries_of, numbered_from, statements_in, names_in, reads_in, defined_of, read_of, is_in, AreStated, AreWithin, MayBe}
+use Rattle.bench_net.specs.reader.Entries.{entry_of, entries_of, numbered_from, statements_in, names_in, reads_in, defined_of, read_of, is_in, AreStated, AreWithin, AreFew, ArePast, MayBe}
 use Rattle.bench_net.specs.reader.Numbering.{AreNumberedLines}
 use Rattle.lists.proofs.Members.{Among, among, contained, mapped_from}
 use Rattle.lists.proofs.Places.{from_mapped}
@@ -58,28 +59,26 @@ module _ (text : List ℕ) (stated : List StatedLine)
       → flat_map (λ line. f (stands_for line.statement)) stated ≡ flat_map f (statements are.stated)
   same f = names_by f stated are.stated are.same
 
-  pub too_many_signals : ¬ (length (names_in stated) ≤ 1000000) → IsRefused text (TooLarge Signals)
-  too_many_signals more = (bytes, are.stated, are.each, omega (arith, more, ap length (same defined)))
-
-  pub too_many_sinks : length (names_in stated) ≤ 1000000 → ¬ (length (reads_in stated) ≤ 4000000)
-      → IsRefused text (TooLarge Sinks)
-  too_many_sinks signals more = (
+  pub past : (limit : Limit) → ArePast (names_in stated) (reads_in stated) limit
+      → IsRefused text (TooLarge limit)
+  past Bytes more = absurd more
+  past Signals more = (bytes, are.stated, are.each, omega (arith, more, ap length (same defined)))
+  past Sinks more = (
     bytes,
     are.stated,
     are.each,
-    omega (arith, signals, ap length (same defined)),
+    omega (arith, more, ap length (same defined)),
     omega (arith, more, ap length (same read)),
   )
 
-  pub within : length (names_in stated) ≤ 1000000 → length (reads_in stated) ≤ 4000000
-      → AreWithin text stated
-  within signals sinks = record {
+  pub within : AreFew (names_in stated) (reads_in stated) → AreWithin text stated
+  within few = record {
     stated = are.stated;
     within = record {
       bytes = bytes;
       each = are.each;
-      signals = omega (arith, signals, ap length (same defined));
-      sinks = omega (arith, sinks, ap length (same read));
+      signals = omega (arith, few, ap length (same defined));
+      sinks = omega (arith, few, ap length (same read));
     };
     same = are.same;
   }

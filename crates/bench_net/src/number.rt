@@ -32,7 +32,7 @@ pub struct StatedLine<'a> {
 pub type Names<'a> = IndexSet<&'a [u8]>;
 
 /// The name that a statement defines.
-pub fn defined<'a>(statement: &Stated<'a>) -> Option<&'a [u8]>
+fn defined<'a>(statement: &Stated<'a>) -> Option<&'a [u8]>
     ensures { defined (stands_for statement.now) ≡ option_to_list (option_map (λ n. n.now) result) }
 {
     match statement {
@@ -143,16 +143,11 @@ fn number_line(
     }
 }
 
-/// The number behind those of a statement's own names.
-fn number_behind(next: u32, statement: &Stated) -> u32
-    requires { next + length (defined (stands_for statement.now)) ≤ max_signals }
-    ensures { result ≡ next + length (defined (stands_for statement.now)) }
+/// How many names a statement defines.
+pub fn defined_count(statement: &Stated) -> u32
+    ensures { result ≡ length (defined (stands_for statement.now)) }
 {
-    if defined(statement).is_some() {
-        next + 1
-    } else {
-        next
-    }
+    u32::from(defined(statement).is_some())
 }
 
 /// The statements over numbers.
@@ -174,7 +169,7 @@ pub fn number_lines(
         let refusal = BenchFault::Undefined(line.number);
         let numbered = number_line(alloc, &line.statement, next, names, refusal)?;
         lines.push(numbered)?;
-        next = number_behind(next, &line.statement);
+        next += defined_count(&line.statement);
     }
     Ok(lines)
 }

@@ -6,18 +6,21 @@
 //! statements, limits, definitions, and names that are read. Each pass ends at the first line with
 //! its fault, so the refusals come in this order and name the lowest line.
 
-ghost use Rattle.std.specs.Prelude.{◌≡◌, ◌≤◌, ◌↔◌, length, map, string_bytes};
-ghost use Rattle.std.specs.Prelude.{IfOk, IfErr, IsTrue};
+ghost use Rattle.std.specs.Prelude.{◌≡◌, ◌≤◌, length, map, string_bytes};
+ghost use Rattle.std.specs.Prelude.{IfOk, IfErr, IfSome, IfNone};
 ghost use Rattle.std.specs.Str.Lines.{strip_carriage_return};
 ghost use Rattle.bench_net.specs.Text.{lines};
-ghost use Rattle.bench_net.specs.Circuit.{max_bytes, max_signals, max_sinks};
-ghost use Rattle.bench_net.specs.reader.Entries.{entries_of, names_in, reads_in, AreStated, MayBe};
+ghost use Rattle.bench_net.specs.Circuit.{max_bytes};
+ghost use Rattle.bench_net.specs.reader.Entries.{entries_of, names_in, reads_in, AreStated};
+ghost use Rattle.bench_net.specs.reader.Entries.{MayBe, AreFew, ArePast};
 ghost use Rattle.bench_net.specs.reader.Parsed.{stands_for};
 ghost use Rattle.bench_net.specs.Statement.{read};
 ghost use Rattle.bench_net.specs.Stored.{AreLinesOf};
 
 use crate::line::Line;
-use crate::number::{StatedLine, defined, line_numbers, number_lines, number_names, own_names};
+use crate::number::{
+    StatedLine, defined_count, line_numbers, number_lines, number_names, own_names,
+};
 use crate::statement::{Stated, read_line};
 use crate::{BenchFault, Limit};
 use std::alloc::Global;
@@ -82,35 +85,24 @@ fn read_count(statement: &Stated) -> usize
     }
 }
 
-/// Whether there are no more signals than the limit.
-fn signals_fit(stated: &[StatedLine]) -> bool
-    ensures { IsTrue result ↔ length (names_in stated.now) ≤ max_signals }
+/// What there is too much of, signals before sinks.
+fn past_limit(stated: &[StatedLine]) -> Option<Limit>
+    ensures none { IfNone result (AreFew (names_in stated.now) (reads_in stated.now)) }
+    ensures past { IfSome result (ArePast (names_in stated.now) (reads_in stated.now)) }
 {
-    let mut count = 0;
+    let mut signals: usize = 0;
+    let mut sinks: usize = 0;
     for line in stated {
-        if defined(&line.statement).is_some() {
-            if count == MAX_SIGNALS {
-                return false;
-            }
-            count += 1;
-        }
+        signals = signals.saturating_add(defined_count(&line.statement) as usize);
+        sinks = sinks.saturating_add(read_count(&line.statement));
     }
-    true
-}
-
-/// Whether there are no more sinks than the limit.
-fn sinks_fit(stated: &[StatedLine]) -> bool
-    ensures { IsTrue result ↔ length (reads_in stated.now) ≤ max_sinks }
-{
-    let mut count = 0;
-    for line in stated {
-        let more = read_count(&line.statement);
-        if more > MAX_SINKS - count {
-            return false;
-        }
-        count += more;
+    if signals > MAX_SIGNALS {
+        Some(Limit::Signals)
+    } else if sinks > MAX_SINKS {
+        Some(Limit::Sinks)
+    } else {
+        None
     }
-    true
 }
 
 /// The statements of a text over numbers, or the refusal of the text. Cycles and a text without
@@ -125,11 +117,8 @@ pub fn read_lines(alloc: Global, text: &[u8]) -> Result<Lines, BenchFault>
     }
     let read = read_statements(alloc, text)?;
     let stated = read.as_slice();
-    if !signals_fit(stated) {
-        return Err(BenchFault::TooLarge(Limit::Signals));
-    }
-    if !sinks_fit(stated) {
-        return Err(BenchFault::TooLarge(Limit::Sinks));
+    if let Some(limit) = past_limit(stated) {
+        return Err(BenchFault::TooLarge(limit));
     }
     let numbers = number_names(alloc, stated)?;
     let lines = number_lines(alloc, stated, &numbers)?;

@@ -1,9 +1,12 @@
 -- The statements of a text, each with the number of its line.
-use Rattle.std.specs.Prelude.{◌≡◌, ◌⊎◌, ℕ, suc, Bool, List, [], ◌∷◌, map, flat_map}
+use Rattle.std.specs.Prelude.{◌≡◌, ◌⊎◌, ◌<◌, ◌≤◌, ℕ, suc, Bool, length, List, [], ◌∷◌, map, flat_map}
 use Rattle.std.specs.Prelude.{Option, Some, None, bytes_eq}
 use Rattle.std.specs.List.{list_any, AllZip}
 use Rattle.bench_net.specs.declared.BenchFault.{BenchFault}
 use Rattle.bench_net.specs.declared.BenchFault.TheVariants.{Memory}
+use Rattle.bench_net.specs.declared.Limit.{Limit}
+use Rattle.bench_net.specs.declared.Limit.TheVariants.{Bytes, Signals, Sinks}
+use Rattle.bench_net.specs.Circuit.{max_signals, max_sinks}
 use Rattle.bench_net.specs.declared.number.StatedLine.{StatedLine}
 use Rattle.bench_net.specs.Statement.{Name, Statement, defined, read}
 use Rattle.bench_net.specs.Reading.{States}
@@ -67,3 +70,12 @@ names_in lines = flat_map defined_of lines
 
 abbrev pub reads_in : List StatedLine → List Name
 reads_in lines = flat_map read_of lines
+
+-- these names and reads are within the limits on signals and sinks, or past one of them
+abbrev pub AreFew : List Name → List Name → Type 0
+AreFew names reads = (length names ≤ max_signals) × (length reads ≤ max_sinks)
+
+abbrev pub ArePast : List Name → List Name → Limit → Type 0
+ArePast names reads Bytes = ⊥
+ArePast names reads Signals = max_signals < length names
+ArePast names reads Sinks = (length names ≤ max_signals) × (max_sinks < length reads)

@@ -1,4 +1,4 @@
-use Rattle.std.proofs.Common.{◌≤◌, ◌<◌, ◌∙◌, length, length-append, refl, arith, ap}
+use Rattle.std.proofs.Common.{◌≤◌, ◌<◌, length, length-append, arith, ap}
 use Rattle.std.proofs.lemmas.List.{length-map}
 use Rattle.std.proofs.lemmas.Result.{err_from_is_err_and}
 use Rattle.bench_net.specs.declared.BenchFault.TheVariants.{Undefined}
@@ -23,8 +23,8 @@ returns-in_err-numbered-clause-refused c =
     (omega arith) c.line-item.is (names_of c.args.names.now.keys) c.loop-line.lines.items
     c.requires.own c.requires.once c.loop-line.invariant.0))
 
-pub number_behind-next-requires : goal.number_behind-next-requires
-number_behind-next-requires c =
+pub overflow_add-next : goal.overflow_add-next
+overflow_add-next c =
     let fits =
     names_fit c.args.stated.now c.loop-line.line-index c.line-item.result
     (omega arith) c.line-item.is defined_of in
@@ -42,7 +42,6 @@ loop-line-preserved c =
           c.loop-line.lines.items i line c.in_ok-numbered.numbered
           c.loop-line.next below c.line-item.is c.loop-line.invariant.0
           c.loop-line.invariant.1 c.in_ok-numbered.ensures.numbered),
-      c.number_behind-next.ensures
-          ∙ rw (names_more c.args.stated.now i line below c.line-item.is defined_of)
-          (rw (length-append, c.loop-line.invariant.1) refl),
+      rw (names_more c.args.stated.now i line below c.line-item.is defined_of, length-append)
+          (omega arith),
     )

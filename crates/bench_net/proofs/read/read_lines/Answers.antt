@@ -1,8 +1,8 @@
-use Rattle.std.proofs.Common.{◌≡◌, ◌∙◌, sym, inr, true, false, arith}
+use Rattle.std.proofs.Common.{inr, arith}
 use Rattle.std.proofs.lemmas.Result.{err_from_is_err_and}
 use Rattle.bench_net.specs.reader.Parsed.{names_of}
 use Rattle.bench_net.specs.reader.Entries.{AreWithin}
-use Rattle.bench_net.proofs.Assembled.{too_many_signals, too_many_sinks, within, all_utf8, assembled}
+use Rattle.bench_net.proofs.Assembled.{past, within, all_utf8, assembled}
 use Rattle.bench_net.proofs.read.read_lines.Goals as goal
 use Rattle.bench_net.proofs.read.read_lines.Goals.{After-number_names}
 
@@ -10,23 +10,13 @@ fits : (c : After-number_names) → AreWithin c.args.text.now c.as_slice-stated.
 fits c =
     within c.args.text.now c.as_slice-stated.result.now
     (rw c.as_slice-stated.ensures.value c.in_ok-read.ensures.ok) (omega arith)
-    (c.signals_fit.ensures.0 c.if-not-signals_fit.false)
-    (c.sinks_fit.ensures.0 c.if-not-sinks_fit.false)
+    c.in_default.ensures.none
 
-pub returns-then-not-signals_fit-clause-refused : goal.returns-then-not-signals_fit-clause-refused
-returns-then-not-signals_fit-clause-refused c =
-    inr (too_many_signals c.args.text.now c.as_slice-stated.result.now
+pub returns-in-Some-clause-refused : goal.returns-in-Some-clause-refused
+returns-in-Some-clause-refused c =
+    inr (past c.args.text.now c.as_slice-stated.result.now
     (rw c.as_slice-stated.ensures.value c.in_ok-read.ensures.ok) (omega arith)
-    (λ fits. let bad : false ≡ true =
-    sym c.if-not-signals_fit.true ∙ c.signals_fit.ensures.1 fits in cc))
-
-pub returns-then-not-sinks_fit-clause-refused : goal.returns-then-not-sinks_fit-clause-refused
-returns-then-not-sinks_fit-clause-refused c =
-    inr (too_many_sinks c.args.text.now c.as_slice-stated.result.now
-    (rw c.as_slice-stated.ensures.value c.in_ok-read.ensures.ok) (omega arith)
-    (c.signals_fit.ensures.0 c.if-not-signals_fit.false)
-    (λ fits. let bad : false ≡ true = sym c.if-not-sinks_fit.true ∙ c.sinks_fit.ensures.1 fits in
-    cc))
+    c.in-Some.limit c.in-Some.ensures.past)
 
 pub returns-in_err-numbers-clause-refused : goal.returns-in_err-numbers-clause-refused
 returns-in_err-numbers-clause-refused c =
