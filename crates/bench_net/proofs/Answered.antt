@@ -75,21 +75,24 @@ is_first {X} test xs F by =
 syntax_first : (text : List ℕ) → IsFirst (IsSyntaxFault text) (first is_unread (lines text))
 syntax_first text = is_first is_unread (lines text) (IsSyntaxFault text) (record {
   none_first = λ bad. let none : None ≡ Some bad.0 = bad.1 in cc;
-  tells = λ i. (λ bad. rw bad.1 (to (stated_of bad.0) (λ s e. bad.2 s (sound_states bad.0 s e))), λ on. from i (slice_get (lines text) i) refl on);
+  tells = λ i. (
+    λ bad. rw bad.1 (to (stated_of bad.0) (λ s e. bad.2 s (sound_states bad.0 s e))),
+    from i (slice_get (lines text) i) refl,
+  );
 })
   where
     to : (o : Option Stated) → ((s : Stated) → o ≡ Some s → ⊥) → is_none o ≡ true
     to None some = refl
     to (Some s) some = absurd (some s refl)
 
+    nothing : (o : Option Stated) → is_none o ≡ true → o ≡ None
+    nothing None e = refl
+    nothing (Some s) e = cc
+
     from : (i : ℕ) (o : Option (List ℕ)) → slice_get (lines text) i ≡ o
         → told is_unread (take i (lines text)) o ≡ true → IsSyntaxFault text (suc i)
     from i None at on = cc
     from i (Some l) at on = unread text i l at (nothing (stated_of l) on)
-      where
-        nothing : (o : Option Stated) → is_none o ≡ true → o ≡ None
-        nothing None e = refl
-        nothing (Some s) e = cc
 
 -- the statement of a line that passes
 tested : (test : List Stated → Statement → Bool) (before : List Stated) (o : Option Stated)

@@ -1,5 +1,5 @@
 -- The entries of lines, read one after another.
-use Rattle.std.proofs.Common.{◌≡◌, ◌<◌, ◌+◌, ◌==◌, ℕ, zero, suc, refl, sym, ◌∙◌, ap, subst, List, [], ◌∷◌, ◌++◌, length, take, map, arith, get_or, append-nil}
+use Rattle.std.proofs.Common.{◌≡◌, ◌<◌, ◌+◌, ◌==◌, ℕ, zero, suc, refl, sym, ◌∙◌, ap, subst, List, [], ◌∷◌, ◌++◌, length, take, map, arith, get_or}
 use Rattle.std.specs.Prelude.{Option, Some, None, slice_get, option_map, unwrap_or}
 use Rattle.std.specs.List.{slice_split, AllZip}
 use Rattle.std.specs.Borrow.{Bor}
@@ -12,10 +12,7 @@ use Rattle.bench_net.specs.Statement.{Statement}
 use Rattle.bench_net.specs.Reading.{States, statements}
 use Rattle.bench_net.specs.Refusal.{IsLowest, IsSyntaxFault}
 use Rattle.bench_net.specs.reader.Plain.{stated_of}
-use Rattle.bench_net.specs.reader.Entries.{Entry, entry_of, entries_of, numbered_from, AreStated}
-use Rattle.bench_net.specs.reader.Parsed.{stands_for}
-use Rattle.bench_net.specs.declared.number.StatedLine.{StatedLine}
-use Rattle.bench_net.specs.declared.statement.Stated.{Stated}
+use Rattle.bench_net.specs.reader.Entries.{Entry, numbered_from, AreStated}
 use Rattle.bench_net.proofs.Reader.{sound_states}
 use Rattle.bench_net.proofs.Faults.{unread_lowest}
 
@@ -54,16 +51,11 @@ statements_numbered line [] = refl
 statements_numbered line (None ∷ stated) = statements_numbered (suc line) stated
 statements_numbered line (Some s ∷ stated) = ap (λ c. s ∷ c) (statements_numbered (suc line) stated)
 
--- the entry of one more line
-abbrev entry_if : ℕ → Option Statement → List Entry
-entry_if line None = []
-entry_if line (Some s) = (line, s) ∷ []
-
+-- one more line
 push : (line : ℕ) (stated : List (Option Statement)) (o : Option Statement) (n : ℕ)
     → n ≡ line + length stated
-    → numbered_from line (stated ++ o ∷ []) ≡ numbered_from line stated ++ entry_if n o
-push line [] None n e = refl
-push line [] (Some s) n e = let same : line ≡ n = omega arith in ap (λ k. (k, s) ∷ []) same
+    → numbered_from line (stated ++ o ∷ []) ≡ numbered_from line stated ++ numbered_from n (o ∷ [])
+push line [] o n e = let same : line ≡ n = omega arith in ap (λ k. numbered_from k (o ∷ [])) same
 push line (None ∷ stated) o n e = push (suc line) stated o n (omega arith)
 push line (Some t ∷ stated) o n e =
     ap (λ es. (line, t) ∷ es) (push (suc line) stated o n (omega arith))
@@ -74,9 +66,9 @@ given parts = map strip_carriage_return (map (λ x. x.now) parts)
 
 module _ (parts : List (Bor (List ℕ))) (x : Bor (List ℕ)) (l : List ℕ)
     (line_is : l ≡ strip_carriage_return x.now) where
-  given_more : (entries : List Entry) (o : Option Statement) → AreStated (given parts) entries
+  pub given_more : (entries : List Entry) (o : Option Statement) → AreStated (given parts) entries
       → stated_of l ≡ Some o
-      → AreStated (given (parts ++ x ∷ [])) (entries ++ entry_if (length parts + 1) o)
+      → AreStated (given (parts ++ x ∷ [])) (entries ++ numbered_from (length parts + 1) (o ∷ []))
   given_more entries o h e = record {
     stated = h.stated ++ o ∷ [];
     each =
@@ -86,18 +78,6 @@ module _ (parts : List (Bor (List ℕ))) (x : Bor (List ℕ)) (l : List ℕ)
         let long = simp length-map at (AllZip-long States (given parts) h.stated h.each) in
         rw h.same (sym (push 1 h.stated o (length parts + 1) (omega arith)));
   }
-
-  pub given_nothing : (entries : List Entry) → AreStated (given parts) entries
-      → stated_of l ≡ Some None → AreStated (given (parts ++ x ∷ [])) entries
-  given_nothing entries h e = rw append-nil at (given_more entries None h e)
-
-  pub given_one : (stated : List StatedLine) (s : Stated)
-      → AreStated (given parts) (entries_of stated) → stated_of l ≡ Some (Some (stands_for s))
-      → AreStated (given (parts ++ x ∷ []))
-      (entries_of (stated ++ record { number = length parts + 1; statement = s } ∷ []))
-  given_one stated s h e =
-      rw (map_push entry_of stated (record { number = length parts + 1; statement = s }))
-      (given_more (entries_of stated) (Some (stands_for s)) h e)
 
   -- the first line that states nothing that a line may state
   pub refused_line : (text : List ℕ) (entries : List Entry)

@@ -1,6 +1,6 @@
 //! The statement of one line.
 
-ghost use Rattle.std.specs.Prelude.{◌≡◌, ◌↔◌, List, ◌∷◌, [], length, Some, None, IsTrue};
+ghost use Rattle.std.specs.Prelude.{◌≡◌, List, ◌∷◌, length};
 ghost use Rattle.std.specs.Prelude.{option_map, option_and_then};
 ghost use Rattle.std.specs.Str.{str_eq_ignore_ascii_case};
 ghost use Rattle.bench_net.specs.Text.{Word, Equals};
@@ -68,13 +68,6 @@ fn takes(kind: Kind, count: usize) -> bool
     }
 }
 
-/// Whether only blanks and a comment are left.
-fn is_end(rest: &[u8]) -> bool
-    ensures { IsTrue result ↔ (tokens_of rest.now ≡ Some []) }
-{
-    matches!(next_token(rest), Front::End)
-}
-
 /// The arguments up to the parenthesis that ends the line, or the refusal of the line.
 fn read_arguments<'a>(
     alloc: Global,
@@ -94,7 +87,7 @@ fn read_arguments<'a>(
                 arguments.push(name)?;
                 rest = more;
             }
-            Front::Token(Token::Close, end) if is_end(end) => {
+            Front::Token(Token::Close, end) if matches!(next_token(end), Front::End) => {
                 arguments.push(name)?;
                 return Ok(arguments);
             }

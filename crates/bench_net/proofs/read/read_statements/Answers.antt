@@ -1,12 +1,14 @@
 use Rattle.std.proofs.Common.{◌+◌, ◌==◌, map, rules, arith, ap, add-one}
-use Rattle.std.proofs.lemmas.List.{length_push}
+use Rattle.std.proofs.lemmas.List.{length_push, map_push, append-nil}
+use Rattle.std.specs.Prelude.{Some, None}
+use Rattle.bench_net.specs.reader.Parsed.{stands_for}
 use Rattle.std.proofs.lemmas.Iterator.Splits.{YieldsList-from_slice_split}
 use Rattle.std.proofs.lemmas.Iterator.Consumers.{YieldsList-turn, YieldsList-end, YieldsList-so_far}
 use Rattle.std.proofs.lemmas.Result.{err_from_is_err_and}
 use Rattle.std.specs.Str.Lines.{strip_carriage_return}
 use borrow.Author.Tests.{tests}
-use Rattle.bench_net.specs.reader.Entries.{entries_of}
-use Rattle.bench_net.proofs.Entries.{given_nothing, given_one, refused_line}
+use Rattle.bench_net.specs.reader.Entries.{entry_of, entries_of}
+use Rattle.bench_net.proofs.Entries.{given_more, refused_line}
 use Rattle.bench_net.proofs.Assembled.{may_be}
 use Rattle.bench_net.specs.declared.BenchFault.TheVariants.{Syntax}
 use Rattle.bench_net.proofs.read.read_statements.Goals as goal
@@ -15,18 +17,18 @@ pub loop-line-preserved-in-None-2 : goal.loop-line-preserved-in-None-2
 loop-line-preserved-in-None-2 c =
     let n = length_push c.loop-line.yielded c.in-Some.line in
     let read = rw c.in-None-2.is at c.in_ok-read_line.ensures in
-    let more = given_nothing c.loop-line.yielded c.in-Some.line c.without_return.result.now
-    c.without_return.ensures _ c.loop-line.invariant.1 read in
-    (omega arith, more)
+    let more = given_more c.loop-line.yielded c.in-Some.line c.without_return.result.now
+    c.without_return.ensures _ None c.loop-line.invariant.1 read in
+    (omega arith, rw append-nil at more)
 
 pub loop-line-preserved : goal.loop-line-preserved
 loop-line-preserved c =
     let n = length_push c.loop-line.yielded c.in-Some.line in
     let read = rw c.in-Some-2.is at c.in_ok-read_line.ensures in (
       omega arith,
-      rw (c.in_ok-push-in-Some-2.ensures.items, c.loop-line.invariant.0)
-          (given_one c.loop-line.yielded c.in-Some.line c.without_return.result.now
-          c.without_return.ensures c.loop-line.stated.items c.in-Some-2.statement
+      rw (c.in_ok-push-in-Some-2.ensures.items, c.loop-line.invariant.0, map_push entry_of c.loop-line.stated.items _)
+          (given_more c.loop-line.yielded c.in-Some.line c.without_return.result.now
+          c.without_return.ensures _ (Some (stands_for c.in-Some-2.statement))
           c.loop-line.invariant.1 read),
     )
 
