@@ -210,14 +210,9 @@ module _ (text : List ℕ) (stated : List StatedLine) (of : AreWithin text state
         in_order : (n i s : ℕ) → slice_get (range_with_len 0 n) i ≡ Some s → s ≡ i
         in_order n i s e =
             let below = slice_get_within (range_with_len 0 n) i s e in
-            omega (
-              arith,
-              below,
-              length-range_with_len 0 n,
-              get_or_from_slice_get (range_with_len
-                  0 n) i s 0 e,
-              get_or-range_with_len 0 n i 0,
-            )
+            let at = get_or_from_slice_get (range_with_len 0 n) i s 0 e in
+            let is = get_or-range_with_len 0 n i 0 in
+            omega (arith, below, at, is, length-range_with_len 0 n)
 
     to_cyclic : (number : ℕ) → IsCyclicLine ns ls at number → IsCyclic of.stated number
     to_cyclic number h =
