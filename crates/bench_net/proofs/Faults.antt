@@ -6,7 +6,7 @@ use Rattle.std.proofs.lemmas.Option.{slice_get_within}
 use Rattle.std.proofs.lemmas.List.Concat.{flat_map-append}
 use Rattle.std.proofs.lemmas.List.Elements.{filter_map-append}
 use Rattle.bench_net.specs.Text.{lines}
-use Rattle.bench_net.specs.Statement.{Name, Statement, Input, Output, Gate, Dff, defined, read}
+use Rattle.bench_net.specs.Statement.{Name, Statement, defined, read}
 use Rattle.bench_net.specs.Reading.{States, statements}
 use Rattle.bench_net.specs.Scan.{names}
 use Rattle.bench_net.specs.Refusal.{at_line, IsLowest, NoLine, IsSyntaxFault, Defines, IsRedefinition, IsUndefined}
@@ -14,6 +14,7 @@ use Rattle.bench_net.specs.reader.Plain.{stated_of}
 use Rattle.lists.proofs.Members.{Among, among, contained, among_left, among_right, among_joined, joined_from}
 use Rattle.lists.proofs.Distinct.{Distinct, distinct_append}
 use Rattle.bench_net.proofs.Reader.{complete_states}
+use Rattle.bench_net.proofs.Checked.{defined_few}
 
 abbrev pub Stated : Type 0
 Stated = Option Statement
@@ -139,34 +140,25 @@ no_redefinition stated once (suc j) bad =
         ∙ flat_map-append defined (statements (take j stated)) _
 
 -- and the other way round
-one : (s : Statement) → Distinct (defined s)
-one (Input n) = (λ a. a, tt)
-one (Output n) = tt
-one (Gate n kind args) = (λ a. a, tt)
-one (Dff q d) = (λ a. a, tt)
-
-one_more : (x : Stated) (more : List Stated) → NoLine (IsRedefinition (x ∷ more))
-    → NoLine (IsRedefinition more)
-one_more x more none line bad =
-    none (suc line) (bad.0, suc bad.1, on line bad.0 bad.2, omega (arith, bad.3), on bad.1 bad.0 bad.4)
+once_from : (stated : List Stated)
+    → ((i j : ℕ) (s t : Statement) (n : Name) → i < j → slice_get stated i ≡ Some (Some s)
+    → slice_get stated j ≡ Some (Some t) → Among n (defined s) → Among n (defined t) → ⊥)
+    → Distinct (names_of stated)
+once_from [] none = tt
+once_from (None ∷ more) none =
+    once_from more (λ i j s t n lt. none (suc i) (suc j) s t n (omega (arith, lt)))
+once_from (Some s ∷ more) none =
+    distinct_append (defined s) (names_of more) one
+    (once_from more (λ i j s t n lt. none (suc i) (suc j) s t n (omega (arith, lt))))
+    (λ n a b. let t = joined_from defined (statements more) n b in
+    let k = stated_at more t.0 t.1 in none 0 (suc k.0) s t.0 n (omega arith) refl k.1 a t.2)
   where
-    on : (line : ℕ) (n : Name) → Defines more line n → Defines (x ∷ more) (suc line) n
-    on zero n d = let bad : None ≡ Some (Some d.0) = d.1 in cc
-    on (suc i) n d = d
+    one : Distinct (defined s)
+    one = elim (defined_few s) [ inl none ↦ rw none tt | inr some ↦ rw some.1 (λ a. a, tt) ]
 
 pub once_each : (stated : List Stated) → NoLine (IsRedefinition stated) → Distinct (names_of stated)
-once_each [] none = tt
-once_each (None ∷ more) none = once_each more (one_more None more none)
-once_each (Some s ∷ more) none =
-    distinct_append (defined s) (names_of more) (one s)
-    (once_each more (one_more (Some s) more none)) apart
-  where
-    apart : (n : Name) → Among n (defined s) → Among n (names_of more) → ⊥
-    apart n a b =
-        let t = joined_from defined (statements more) n b in
-        let at = stated_at more t.0 t.1 in
-        none (suc (suc at.0))
-        (n, 1, (t.0, at.1, contained _ n t.2), omega arith, (s, refl, contained _ n a))
+once_each stated none = once_from stated (λ i j s t n lt at_i at_j a b. none (suc j)
+    (n, suc i, (t, at_j, contained _ n b), omega (arith, lt), (s, at_i, contained _ n a)))
 
 pub redefined_lowest : (stated : List Stated) (j : ℕ) (s : Statement) (n : Name)
     → slice_get stated j ≡ Some (Some s) → Among n (defined s)
