@@ -36,10 +36,8 @@ fn defined<'a>(statement: &Stated<'a>) -> Option<&'a [u8]>
     ensures { defined (stands_for statement.now) ≡ option_to_list (option_map (λ n. n.now) result) }
 {
     match statement {
-        Stated::Input(name) => Some(*name),
+        Stated::Input(name) | Stated::Gate(name, _, _) | Stated::Dff(name, _) => Some(*name),
         Stated::Output(_) => None,
-        Stated::Gate(name, _, _) => Some(*name),
-        Stated::Dff(q, _) => Some(*q),
     }
 }
 

@@ -79,9 +79,8 @@ fn read_count(statement: &Stated) -> usize
 {
     match statement {
         Stated::Input(_) => 0,
-        Stated::Output(_) => 1,
+        Stated::Output(_) | Stated::Dff(_, _) => 1,
         Stated::Gate(_, _, arguments) => arguments.len(),
-        Stated::Dff(_, _) => 1,
     }
 }
 
