@@ -26,8 +26,7 @@ use Rattle.bench_net.specs.Refusal.{at_line, IsCyclic, IsRefused}
 use Rattle.bench_net.specs.Circuit.{IsStuck, sink_count}
 use Rattle.bench_net.specs.Stored.{name_at, statement_of, statements_of, read_numbers, AreStatements, IsCyclicLine, AreRefused, AreLinesOf}
 use Rattle.bench_net.specs.reader.Parsed.{stands_for, FailsBy}
-use Rattle.bench_net.specs.reader.Entries.{entry_of, entries_of, numbered_from, statements_in, names_in, reads_in, defined_of, read_of, is_in, AreStated, AreWithin, AreFew, ArePast, MayBe}
-use Rattle.bench_net.specs.reader.Numbering.{AreNumberedLines}
+use Rattle.bench_net.specs.reader.Entries.{entry_of, entries_of, numbered_from, statements_in, names_in, reads_in, defined_of, read_of, is_in, AreStated, AreWithin, AreFew, ArePast, MayBe, AreNumberedLines}
 use Rattle.lists.proofs.Members.{Among, among, contained, mapped_from}
 use Rattle.lists.proofs.Places.{from_mapped}
 use Rattle.lists.proofs.Distinct.{Distinct, distinct_from_pairs}

@@ -14,9 +14,8 @@ use Rattle.bench_net.specs.declared.line.Line.TheVariants as line
 use Rattle.bench_net.specs.declared.number.StatedLine.{StatedLine}
 use Rattle.bench_net.specs.Statement.{Name, read}
 use Rattle.bench_net.specs.reader.Parsed.{names_of, stands_for}
-use Rattle.bench_net.specs.reader.Entries.{is_in, names_in, defined_of}
+use Rattle.bench_net.specs.reader.Entries.{is_in, names_in, defined_of, IsNextFor, IsNumberedLine, AreNumberedLines}
 use Rattle.bench_net.specs.Stored.{name_at, statement_of, statements_of, defined_numbers, read_numbers}
-use Rattle.bench_net.specs.reader.Numbering.{IsNextFor, IsNumberedLine, AreNumberedLines}
 use Rattle.bench_net.proofs.Checked.{defined_few}
 
 module _ {A : Type 0} (xs : List A) (i : ℕ) (x : A) (h : i < length xs)
