@@ -63,7 +63,9 @@ is_first {X} test xs F by =
       where
         none : NoLine F
         none zero f = by.none_first f
-        none (suc k) f = below (suc k) (omega (arith, e, within k (slice_get xs k) refl ((by.tells k).0 f))) f
+        none (suc k) f =
+            let inside = within k (slice_get xs k) refl ((by.tells k).0 f) in
+            below (suc k) (omega (arith, e, inside)) f
     go (suc n) i e below =
         cond_both (told test (take i xs) (slice_get xs i)) _ _ (IsFirst F)
         (λ on. ((by.tells i).1 on, λ line lt. below line (omega (arith, lt))))
@@ -118,16 +120,23 @@ redefined_first stated = is_first (of_statement redefines) stated (IsRedefinitio
 
 undefined_first : (stated : List Stated)
     → IsFirst (IsUndefined stated) (first (of_statement (reads_unknown (statements stated))) stated)
-undefined_first stated = is_first (of_statement (reads_unknown (statements stated))) stated (IsUndefined stated) (record {
+undefined_first stated = is_first (of_statement unknown) stated (IsUndefined stated) (record {
   none_first = λ bad. let none : None ≡ Some (Some bad.1.0) = bad.1.1 in cc;
   tells = λ i. (
     λ bad. let known = each_passes (is_in (names_of stated)) (read bad.1.0) bad.0 in
-        rw bad.1.1 (ap not (false_from_ne_true _ (λ all. bad.2 (in_contained _ _ (known all bad.1.2))))),
-    λ on. let t = tested (reads_unknown (statements stated)) (take i stated) (slice_get stated i) on in
-        let n = some_not (is_in (names_of stated)) (read t.0) (not-true _ t.2) in
-        (n.0, (t.0, t.1, contained _ n.0 n.1), λ has. both_ways _ n.2 (among_in _ n.0 (among _ n.0 has))),
+        rw bad.1.1 (ap not
+        (false_from_ne_true _ (λ all. bad.2 (in_contained _ _ (known all bad.1.2))))),
+    λ on. let t = tested unknown (take i stated) (slice_get stated i) on in
+        let n = some_not (is_in (names_of stated)) (read t.0) (not-true _ t.2) in (
+          n.0,
+          (t.0, t.1, contained _ n.0 n.1),
+          λ has. both_ways _ n.2 (among_in _ n.0 (among _ n.0 has)),
+        ),
   );
 })
+  where
+    unknown : List Stated → Statement → Bool
+    unknown = reads_unknown (statements stated)
 
 cyclic_first : (stated : List Stated)
     → IsFirst (IsCyclic stated) (first (of_statement (is_stuck (statements stated))) stated)
@@ -221,7 +230,8 @@ all_read (l ∷ ls) some = go (stated_of l) refl (all_read ls (λ i. some (suc i
     go : (o : Option Stated) → stated_of l ≡ o → AllZip States ls (filter_map stated_of ls)
         → AllZip States (l ∷ ls) (filter_map stated_of (l ∷ ls))
     go None e more =
-        absurd (some 0 l refl (λ s h. let bad : None ≡ Some s = sym e ∙ complete_states l s h in cc))
+        absurd (some 0 l refl
+        (λ s h. let bad : None ≡ Some s = sym e ∙ complete_states l s h in cc))
     go (Some s) e more = rw e (sound_states l s e, more)
 
 read_all : (ls : List (List ℕ)) (stated : List Stated) → AllZip States ls stated

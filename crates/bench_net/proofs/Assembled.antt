@@ -235,7 +235,8 @@ module _ (text : List ℕ) (stated : List StatedLine) (of : AreWithin text state
     from_cyclic (suc j) h =
         let p = entry_for 1 of.stated j (Gate h.0 h.1 h.2) h.3 in
         let l = from_mapped (statement_of ns) ls p.0 (Gate h.0 h.1 h.2)
-        (ap (λ c. slice_get c p.0) lines_are ∙ slice_get-map (λ e. e.1) (numbered_from 1 of.stated) p.0
+        (ap (λ c. slice_get c p.0) lines_are
+        ∙ slice_get-map (λ e. e.1) (numbered_from 1 of.stated) p.0
         ∙ ap (option_map (λ e. e.1)) p.1) in
         let there = ap (λ ks. slice_get ks p.0) at_are
         ∙ slice_get-map (λ e. e.0) (numbered_from 1 of.stated) p.0 ∙ ap (option_map (λ e. e.0)) p.1
@@ -244,7 +245,8 @@ module _ (text : List ℕ) (stated : List StatedLine) (of : AreWithin text state
       where
         by_line : (i : ℕ) → slice_get at i ≡ Some (suc j) → (l : Line) → slice_get ls i ≡ Some l
             → statement_of ns l ≡ Gate h.0 h.1 h.2 → IsCyclicLine ns ls at (suc j)
-        by_line i a (line.Input s) e is = let bad : Input (name_at ns s) ≡ Gate h.0 h.1 h.2 = is in cc
+        by_line i a (line.Input s) e is =
+            let bad : Input (name_at ns s) ≡ Gate h.0 h.1 h.2 = is in cc
         by_line i a (line.Output s) e is =
             let bad : Output (name_at ns s) ≡ Gate h.0 h.1 h.2 = is in cc
         by_line i a (line.Dff q d) e is =

@@ -72,7 +72,11 @@ module _ (parts : List (Bor (List ℕ))) (x : Bor (List ℕ)) (l : List ℕ)
   given_more entries o h e = record {
     stated = h.stated ++ o ∷ [];
     each =
-        rw (map_push (λ y. y.now) parts x, map_push strip_carriage_return (map (λ y. y.now) parts) x.now, ← line_is)
+        rw (
+          map_push (λ y. y.now) parts x,
+          map_push strip_carriage_return (map (λ y. y.now) parts) x.now,
+          ← line_is,
+        )
         (AllZip-push States (given parts) h.stated l o h.each (sound_states l o e));
     same =
         let long = simp length-map at (AllZip-long States (given parts) h.stated h.each) in

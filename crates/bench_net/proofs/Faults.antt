@@ -119,7 +119,7 @@ redefinition stated j s n at here a =
 distinct_apart : (xs ys : List Name) (n : Name)
     → Distinct (xs ++ ys) → Among n xs → Among n ys → ⊥
 distinct_apart [] ys n d a b = a
-distinct_apart (x ∷ xs) ys n d (inl e) b = d.0 (among_right xs ys x (subst (λ y. Among y ys) (sym e) b))
+distinct_apart (x ∷ xs) ys n d (inl e) b = d.0 (among_right xs ys x (rw (← e) at b))
 distinct_apart (x ∷ xs) ys n d (inr a) b = distinct_apart xs ys n d.1 a b
 
 -- where each name is defined once, no line defines one again
@@ -164,7 +164,8 @@ pub redefined_lowest : (stated : List Stated) (j : ℕ) (s : Statement) (n : Nam
     → slice_get stated j ≡ Some (Some s) → Among n (defined s)
     → Among n (names_of (take j stated)) → Distinct (names_of (take j stated))
     → IsLowest (IsRedefinition stated) (suc j)
-redefined_lowest stated j s n at here before once = (redefinition stated j s n at here before, lower)
+redefined_lowest stated j s n at here before once =
+    (redefinition stated j s n at here before, lower)
   where
     lower : (line : ℕ) → line < suc j → ¬ IsRedefinition stated line
     lower line lt bad = no_redefinition (take j stated) once line (

@@ -140,7 +140,8 @@ fn read_driven<'a>(
     refusal: BenchFault,
 ) -> Result<Stated<'a>, BenchFault>
     ensures { IsReadAs refusal stands_for
-        (option_and_then (λ ts. read_tokens (Word name.now ∷ Equals ∷ ts)) (tokens_of bytes.now)) result }
+        (option_and_then (λ ts. read_tokens (Word name.now ∷ Equals ∷ ts)) (tokens_of bytes.now))
+        result }
 {
     let Front::Token(Token::Word(word), rest) = next_token(bytes) else {
         return Err(refusal);

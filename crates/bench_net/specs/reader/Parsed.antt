@@ -29,6 +29,7 @@ abbrev pub FailsBy : BenchFault → Type 0 → BenchFault → Type 0
 FailsBy refusal Gone fault = (fault ≡ Memory) ⊎ ((fault ≡ refusal) × Gone)
 
 -- what was read stands for what is found, and a refusal says that nothing is
-abbrev pub IsReadAs : {T S : Type 0} → BenchFault → (T → S) → Option S → Result T BenchFault → Type 0
+abbrev pub IsReadAs : {T S : Type 0} → BenchFault → (T → S) → Option S → Result T BenchFault
+    → Type 0
 IsReadAs refusal stands found (Ok s) = found ≡ Some (stands s)
 IsReadAs refusal stands found (Err fault) = FailsBy refusal (found ≡ None) fault

@@ -16,7 +16,9 @@ number_line-requires-clause-own c =
 
 pub returns-in_err-numbered-clause-refused : goal.returns-in_err-numbered-clause-refused
 returns-in_err-numbered-clause-refused c =
-    let p = err_from_is_err_and c.from_residual-in_err-numbered.result c.from_residual-in_err-numbered.ensures.1 in
+    let p =
+    err_from_is_err_and c.from_residual-in_err-numbered.result
+    c.from_residual-in_err-numbered.ensures.1 in
     rw (p.1, p.2) (λ text of.
     may_be text (Undefined c.line-item.result.number) _ _ c.in_err-numbered.ensures.refused
     (undefined text c.args.stated.now of c.loop-line.line-index c.line-item.result

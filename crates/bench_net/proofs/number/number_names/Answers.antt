@@ -3,7 +3,7 @@ use Rattle.std.specs.Prelude.{AllPairs}
 use Rattle.std.specs.Option.{option_to_list}
 use Rattle.std.proofs.lemmas.List.{take_all}
 use Rattle.std.proofs.lemmas.Bool.{not-true, not-false, both_ways}
-use Rattle.lists.proofs.Members.{Among, among}
+use Rattle.lists.proofs.Members.{among}
 use Rattle.lists.proofs.Distinct.{distinct_append}
 use Rattle.bench_net.specs.reader.Parsed.{names_of}
 use Rattle.bench_net.specs.reader.Entries.{names_in, defined_of}
@@ -39,7 +39,10 @@ loop-line-preserved c =
           ∙ rw (c.if-not-branch.false, c.loop-line.invariant.0, more, one) refl,
       rw (c.in_ok-add_name.ensures.names, c.if-not-branch.false)
           (distinct_append ns (n ∷ []) c.loop-line.invariant.1 (λ a. a, tt)
-          (λ m a b. elim b [ inl e ↦ both_ways _ new (among_in ns n (subst (λ x. Among x ns) (sym e) a)) | inr a ↦ absurd a ])),
+          (λ m a b. elim b [
+            | inl e ↦ both_ways _ new (among_in ns n (rw (← e) at a))
+            | inr a ↦ absurd a
+          ])),
     )
 
 pub returns-clause-once : goal.returns-clause-once

@@ -6,4 +6,5 @@ use Rattle.bench_net.proofs.number.number_names.Given as goal
 
 abbrev pub invariant-loop-line : goal.invariant-loop-line
 invariant-loop-line l =
-    (names_of l.names.keys ≡ names_in (take l.line-index l.stated)) × Distinct (names_of l.names.keys)
+    (names_of l.names.keys ≡ names_in (take l.line-index l.stated))
+    × Distinct (names_of l.names.keys)

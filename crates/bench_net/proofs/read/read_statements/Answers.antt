@@ -26,7 +26,11 @@ loop-line-preserved c =
     let n = length_push c.loop-line.yielded c.in-Some.line in
     let read = rw c.in-Some-2.is at c.in_ok-read_line.ensures in (
       omega arith,
-      rw (c.in_ok-push-in-Some-2.ensures.items, c.loop-line.invariant.0, map_push entry_of c.loop-line.stated.items _)
+      rw (
+        c.in_ok-push-in-Some-2.ensures.items,
+        c.loop-line.invariant.0,
+        map_push entry_of c.loop-line.stated.items _,
+      )
           (given_more c.loop-line.yielded c.in-Some.line c.without_return.result.now
           c.without_return.ensures _ (Some (stands_for c.in-Some-2.statement))
           c.loop-line.invariant.1 read),
