@@ -1,38 +1,61 @@
 -- The entries of lines, read one after another.
-use Rattle.std.proofs.Common.{◌≡◌, ◌<◌, ◌+◌, ◌==◌, ℕ, suc, refl, sym, ◌∙◌, ap, List, [], ◌∷◌, ◌++◌, length, take, drop, map, arith, get_or, append-nil}
-use Rattle.std.specs.Prelude.{Option, Some, None, Err, option_map}
-use Rattle.std.specs.List.{slice_split}
+use Rattle.std.proofs.Common.{◌≡◌, ◌<◌, ◌+◌, ◌==◌, ℕ, zero, suc, refl, sym, ◌∙◌, ap, subst, List, [], ◌∷◌, ◌++◌, length, take, map, arith, get_or}
+use Rattle.std.specs.Prelude.{Option, Some, None, slice_get, option_map, unwrap_or}
+use Rattle.std.specs.List.{slice_split, AllZip}
 use Rattle.std.specs.Borrow.{Bor}
 use Rattle.std.specs.Str.Lines.{strip_carriage_return}
-use Rattle.std.proofs.lemmas.List.{map_push, map-append, length-map}
-use Rattle.bench_net.specs.Text.{lines}
+use Rattle.std.proofs.lemmas.List.{map_push, length-map, take-map}
+use Rattle.std.proofs.lemmas.Slice.Zip.{AllZip-long}
+use Rattle.std.proofs.lemmas.Option.{slice_get-map, slice_get_read}
+use Rattle.indexmap.proofs.SetLemmas.{AllZip-push}
 use Rattle.bench_net.specs.Statement.{Statement}
-use Rattle.bench_net.specs.Reading.{statements}
+use Rattle.bench_net.specs.Reading.{States, statements}
+use Rattle.bench_net.specs.Refusal.{IsLowest, IsSyntaxFault}
 use Rattle.bench_net.specs.reader.Plain.{stated_of}
-use Rattle.bench_net.specs.reader.Entries.{Entry, entry_of, entries_of, stated_by, numbered_from, unread, HaveEntries}
-use Rattle.bench_net.specs.reader.Parsed.{stands_for, IsReadAs}
-use Rattle.bench_net.specs.declared.number.StatedLine.{StatedLine}
-use Rattle.bench_net.specs.declared.statement.Stated.{Stated}
-use Rattle.bench_net.specs.declared.fault.LineFault.{LineFault}
-use Rattle.bench_net.specs.declared.fault.LineFault.TheVariants as stop
-use Rattle.bench_net.proofs.Passes.{at_item}
+use Rattle.bench_net.specs.reader.Entries.{Entry, numbered_from, AreStated}
+use Rattle.bench_net.proofs.Reader.{sound_states}
+use Rattle.bench_net.proofs.Faults.{unread_lowest}
+
+-- what an entry stands for, its line states, behind the same statements
+pub entry_at : (line : ℕ) (stated : List (Option Statement)) (i n : ℕ) (s : Statement)
+    → slice_get (numbered_from line stated) i ≡ Some (n, s)
+    → (j : ℕ) × (n ≡ line + j) × (slice_get stated j ≡ Some (Some s))
+    × (statements (take j stated) ≡ map (λ e. e.1) (take i (numbered_from line stated)))
+entry_at line [] i n s e = let bad : None ≡ Some (n, s) = e in cc
+entry_at line (None ∷ stated) i n s e =
+    let p = entry_at (suc line) stated i n s e in (suc p.0, omega (arith, p.1), p.2, p.3)
+entry_at line (Some t ∷ stated) zero n s e =
+    let same : (line, t) ≡ (n, s) = ap (λ o. unwrap_or o (n, s)) e in
+    (0, omega (arith, ap (λ p. p.0) same), ap (λ p. Some (Some p.1)) same, refl)
+entry_at line (Some t ∷ stated) (suc i) n s e =
+    let p = entry_at (suc line) stated i n s e in
+    (suc p.0, omega (arith, p.1), p.2, ap (λ c. t ∷ c) p.3)
+
+-- and what a line states has an entry
+pub entry_for : (line : ℕ) (stated : List (Option Statement)) (j : ℕ) (s : Statement)
+    → slice_get stated j ≡ Some (Some s)
+    → (i : ℕ) × (slice_get (numbered_from line stated) i ≡ Some (line + j, s))
+entry_for line [] j s e = let bad : None ≡ Some (Some s) = e in cc
+entry_for line (None ∷ stated) zero s e = let bad : Some None ≡ Some (Some s) = e in cc
+entry_for line (None ∷ stated) (suc j) s e =
+    let p = entry_for (suc line) stated j s e in (p.0, p.1 ∙ ap (λ n. Some (n, s)) (omega arith))
+entry_for line (Some t ∷ stated) zero s e =
+    let same : t ≡ s = cc in (0, rw same (ap (λ n. Some (n, s)) (omega arith)))
+entry_for line (Some t ∷ stated) (suc j) s e =
+    let p = entry_for (suc line) stated j s e in
+    (suc p.0, p.1 ∙ ap (λ n. Some (n, s)) (omega arith))
 
 pub statements_numbered : (line : ℕ) (stated : List (Option Statement))
-    → stated_by (numbered_from line stated) ≡ statements stated
+    → map (λ e. e.1) (numbered_from line stated) ≡ statements stated
 statements_numbered line [] = refl
 statements_numbered line (None ∷ stated) = statements_numbered (suc line) stated
 statements_numbered line (Some s ∷ stated) = ap (λ c. s ∷ c) (statements_numbered (suc line) stated)
 
--- the entry of one more line
-abbrev entry_if : ℕ → Option Statement → List Entry
-entry_if line None = []
-entry_if line (Some s) = (line, s) ∷ []
-
+-- one more line
 push : (line : ℕ) (stated : List (Option Statement)) (o : Option Statement) (n : ℕ)
     → n ≡ line + length stated
-    → numbered_from line (stated ++ o ∷ []) ≡ numbered_from line stated ++ entry_if n o
-push line [] None n e = refl
-push line [] (Some s) n e = let same : line ≡ n = omega arith in ap (λ k. (k, s) ∷ []) same
+    → numbered_from line (stated ++ o ∷ []) ≡ numbered_from line stated ++ numbered_from n (o ∷ [])
+push line [] o n e = let same : line ≡ n = omega arith in ap (λ k. numbered_from k (o ∷ [])) same
 push line (None ∷ stated) o n e = push (suc line) stated o n (omega arith)
 push line (Some t ∷ stated) o n e =
     ap (λ es. (line, t) ∷ es) (push (suc line) stated o n (omega arith))
@@ -41,81 +64,41 @@ push line (Some t ∷ stated) o n e =
 abbrev pub given : List (Bor (List ℕ)) → List (List ℕ)
 given parts = map strip_carriage_return (map (λ x. x.now) parts)
 
--- as many as what they state
-given_count : (parts : List (Bor (List ℕ))) (stated : List (Option Statement))
-    → map stated_of (given parts) ≡ map Some stated → length stated ≡ length parts
-given_count parts stated e = sym (simp length-map at (ap length e))
-
 module _ (parts : List (Bor (List ℕ))) (x : Bor (List ℕ)) (l : List ℕ)
     (line_is : l ≡ strip_carriage_return x.now) where
-  given_more : (entries : List Entry) (o : Option Statement) → HaveEntries (given parts) entries
+  pub given_more : (entries : List Entry) (o : Option Statement) → AreStated (given parts) entries
       → stated_of l ≡ Some o
-      → HaveEntries (given (parts ++ x ∷ [])) (entries ++ entry_if (length parts + 1) o)
+      → AreStated (given (parts ++ x ∷ [])) (entries ++ numbered_from (length parts + 1) (o ∷ []))
   given_more entries o h e = record {
     stated = h.stated ++ o ∷ [];
     each =
         rw (
           map_push (λ y. y.now) parts x,
-          map_push strip_carriage_return (map
-              (λ y. y.now) parts) x.now,
+          map_push strip_carriage_return (map (λ y. y.now) parts) x.now,
           ← line_is,
-          map_push stated_of (given parts) l,
-          e,
-          h.each,
         )
-        (sym (map_push Some h.stated o));
-    same = let count = given_count parts h.stated h.each in
-        ap (λ es. es ++ entry_if (length parts + 1) o) h.same
-        ∙ sym (push 1 h.stated o (length parts + 1) (omega arith));
+        (AllZip-push States (given parts) h.stated l o h.each (sound_states l o e));
+    same =
+        let long = simp length-map at (AllZip-long States (given parts) h.stated h.each) in
+        rw h.same (sym (push 1 h.stated o (length parts + 1) (omega arith)));
   }
-
-  pub given_nothing : (entries : List Entry) → HaveEntries (given parts) entries
-      → stated_of l ≡ Some None → HaveEntries (given (parts ++ x ∷ [])) entries
-  given_nothing entries h e = rw append-nil at (given_more entries None h e)
-
-  pub given_one : (stated : List StatedLine) (s : Stated)
-      → HaveEntries (given parts) (entries_of stated) → stated_of l ≡ Some (Some (stands_for s))
-      → HaveEntries (given (parts ++ x ∷ []))
-      (entries_of (stated ++ record { number = length parts + 1; statement = s } ∷ []))
-  given_one stated s h e =
-      rw (map_push entry_of stated (record { number = length parts + 1; statement = s }))
-      (given_more (entries_of stated) (Some (stands_for s)) h e)
 
   -- the first line that states nothing that a line may state
   pub refused_line : (text : List ℕ) (entries : List Entry)
       → map (λ y. y.now) parts ≡ take (length parts) (slice_split (λ b. b == 10) text)
       → length parts < length (slice_split (λ b. b == 10) text)
       → x.now ≡ get_or (slice_split (λ b. b == 10) text) (length parts) x.now
-      → HaveEntries (given parts) entries → stated_of l ≡ None
-      → unread 1 (map stated_of (lines text)) ≡ Some (length parts + 1)
+      → AreStated (given parts) entries → stated_of l ≡ None
+      → IsLowest (IsSyntaxFault text) (suc (length parts))
   refused_line text entries so_far below turn h none =
-      rw (
-        at_item (slice_split (λ b. b == 10) text) (length parts) x.now below turn,
-        ← so_far,
-        map-append strip_carriage_return (map (λ y. y.now) parts)
-            (x.now ∷ drop (suc (length parts)) (slice_split (λ b. b == 10) text)),
-        ← line_is,
-        map-append stated_of (given parts)
-            (l ∷ map strip_carriage_return
-            (drop (suc (length parts)) (slice_split (λ b. b == 10) text))),
-        none,
-        h.each,
-      )
-      (unread_at 1 h.stated
-      (map stated_of (map strip_carriage_return
-      (drop (suc (length parts)) (slice_split (λ b. b == 10) text)))) ∙ ap Some count)
+      unread_lowest text (length parts) l h.stated
+      (slice_get-map strip_carriage_return split (length parts)
+      ∙ ap (option_map strip_carriage_return)
+      (slice_get_read split (length split) (length parts) x.now refl below turn)
+      ∙ ap Some (sym line_is)) none
+      (subst (λ ls. AllZip States ls h.stated)
+      (ap (map strip_carriage_return) so_far
+      ∙ sym (take-map strip_carriage_return (length parts) split)) h.each)
     where
-      count : 1 + length h.stated ≡ length parts + 1
-      count = let same = given_count parts h.stated h.each in omega arith
-
-      unread_at : (line : ℕ) (stated : List (Option Statement))
-          (more : List (Option (Option Statement)))
-          → unread line (map Some stated ++ None ∷ more) ≡ Some (line + length stated)
-      unread_at line [] more = let e : line ≡ line + 0 = omega arith in ap Some e
-      unread_at line (s ∷ stated) more =
-          let e : suc line + length stated ≡ line + suc (length stated) = omega arith in
-          unread_at (suc line) stated more ∙ ap Some e
-
-pub line_refused : (found : Option (Option Statement)) (f : LineFault)
-    → IsReadAs (option_map stands_for) found (Err f) → f ≡ stop.Refused → found ≡ None
-line_refused found f h e = rw e at h
+      split : List (List ℕ)
+      split = slice_split (λ b. b == 10) text

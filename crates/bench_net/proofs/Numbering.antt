@@ -1,55 +1,55 @@
 -- Names and their numbers: what is found, and how lines are numbered one after another.
-use Rattle.std.proofs.Common.{◌≡◌, ◌<◌, ◌+◌, ℕ, zero, suc, refl, sym, ◌∙◌, ap, subst, true, List, [], ◌∷◌, ◌++◌, length, take, drop, map, arith, get_or, add-one, inl, inr, length-append, append-nil}
-use Rattle.std.specs.Prelude.{Contains, Option, Some, flat_map, Result, Ok, Err, IfErr}
-use Rattle.std.specs.List.{All, list_all, range_with_len}
+use Rattle.std.proofs.Common.{◌≡◌, ◌<◌, ◌≤◌, ◌+◌, ℕ, zero, suc, refl, sym, ◌∙◌, ap, subst, List, [], ◌∷◌, ◌++◌, length, take, map, arith, get_or, add-one, inl, inr, length-append, append-nil}
+use Rattle.std.specs.Prelude.{Contains, flat_map, bytes_eq, ◌||◌}
+use Rattle.std.specs.List.{All, list_any, range_with_len}
+use Rattle.std.specs.Borrow.{Bor}
 use Rattle.std.specs.Str.{IsUtf8}
-use Rattle.std.proofs.Math.Nat.{zero-add}
-use Rattle.std.proofs.Math.Seq.{get_or-append_seam}
-use Rattle.std.proofs.lemmas.Bool.{and_from}
+use Rattle.std.proofs.Math.Nat.{zero-add, add-zero}
 use Rattle.std.proofs.lemmas.List.{map-append, map_push, take_more}
-use Rattle.std.proofs.lemmas.List.Concat.{flat_map-append}
-use Rattle.std.proofs.lemmas.List.Elements.{All-append, All-contains, All-head, All-tail, Contains-append_right, Contains-get_or}
+use Rattle.std.proofs.lemmas.List.Concat.{flat_map-append, get_or-flat_map}
+use Rattle.std.proofs.lemmas.List.Folds.{length-flat_map-take}
+use Rattle.std.proofs.lemmas.List.Elements.{All-append, All-contains, Contains-append_right}
 use Rattle.bench_net.specs.declared.line.Line.{Line}
 use Rattle.bench_net.specs.declared.line.Line.TheVariants as line
 use Rattle.bench_net.specs.declared.number.StatedLine.{StatedLine}
-use Rattle.bench_net.specs.declared.fault.LineFault.{LineFault}
-use Rattle.bench_net.specs.declared.fault.LineFault.TheVariants as stop
-use Rattle.bench_net.specs.declared.BenchFault.{BenchFault}
-use Rattle.bench_net.specs.Statement.{Name, Statement, read}
-use Rattle.bench_net.specs.reader.Parsed.{stands_for, or_refusal}
-use Rattle.bench_net.specs.reader.Entries.{entry_of, is_in, names_in, defined_of, EndsPass}
+use Rattle.bench_net.specs.Statement.{Name, read}
+use Rattle.bench_net.specs.reader.Parsed.{names_of, stands_for}
+use Rattle.bench_net.specs.reader.Entries.{is_in, names_in, defined_of, IsNextFor, IsNumberedLine, AreNumberedLines}
 use Rattle.bench_net.specs.Stored.{name_at, statement_of, statements_of, defined_numbers, read_numbers}
-use Rattle.bench_net.specs.reader.Numbering.{IsNextFor, IsNumberedLine, AreNumberedLines}
-use Rattle.lists.proofs.Members.{among}
-use Rattle.bench_net.proofs.Checked.{among_in, defined_few}
-use Rattle.bench_net.proofs.Passes.{at_item, names_more}
+use Rattle.bench_net.proofs.Checked.{defined_few}
 
--- what holds of every error
-pub if_err : {T E : Type 0} (r : Result T E) (P : E → Type 0) → ((e : E) → P e) → IfErr r P
-if_err (Ok x) P h = tt
-if_err (Err e) P h = h e
+module _ {A : Type 0} (xs : List A) (i : ℕ) (x : A) (h : i < length xs)
+    (e : x ≡ get_or xs i x) where
+  -- the names of one more line
+  pub names_more : (f : A → List Name)
+      → flat_map f (take (i + 1) xs) ≡ flat_map f (take i xs) ++ f x
+  names_more f =
+      ap (flat_map f) (take_more xs i x h ∙ ap (λ y. take i xs ++ y ∷ []) (sym e))
+      ∙ flat_map-append f (take i xs) (x ∷ [])
+      ∙ ap (λ ys. flat_map f (take i xs) ++ ys) (append-nil (f x))
 
--- a fault of a line is want of memory, or ends the pass
-pub ends_pass : (f : LineFault) (refusal : ℕ → BenchFault) (first : Option ℕ) (line : ℕ)
-    (answer : BenchFault)
-    → answer ≡ or_refusal f (refusal line) → (f ≡ stop.Refused → first ≡ Some line)
-    → EndsPass refusal first answer
-ends_pass stop.Refused refusal first line answer e h = inr (line, h refl, e)
-ends_pass stop.Memory refusal first line answer e h = inl e
+  -- the names so far and those of this line are no more than all
+  pub names_fit : (f : A → List Name)
+      → length (flat_map f (take i xs)) + length (f x) ≤ length (flat_map f xs)
+  names_fit f = rw (← e) at (length-flat_map-take f xs i x h)
+
+-- a key is looked for by its bytes
+pub key_in : (ks : List (Bor Name)) (n : Name)
+    → list_any (λ k. bytes_eq n k.now) ks ≡ is_in (names_of ks) n
+key_in [] n = refl
+key_in (k ∷ ks) n = ap (λ more. bytes_eq n k.now || more) (key_in ks n)
 
 -- the number of the name that a line defines is that of the names before it
 pub next_for : (stated : List StatedLine) (i : ℕ) (line : StatedLine) → i < length stated
     → line ≡ get_or stated i line
     → IsNextFor (names_in stated) (length (names_in (take i stated))) (stands_for line.statement)
-next_for stated i line h e =
-    let whole =
-    ap names_in (at_item stated i line h e)
-    ∙ flat_map-append defined_of (take i stated) (line ∷ drop (suc i) stated) in
-    elim (defined_few (stands_for line.statement)) [
-      | inl none ↦ rw none refl
-      | inr one ↦ rw (whole, one.1) (ap (λ n. n ∷ []) (get_or-append_seam
-          (names_in (take i stated)) one.0 (names_in (drop (suc i) stated)) []))
-    ]
+next_for stated i line h e = elim (defined_few (stands_for line.statement)) [
+  | inl none ↦ rw none refl
+  | inr one ↦ rw one.1 (ap (λ n. n ∷ []) (
+      let place = get_or-flat_map defined_of stated i 0 line [] h (rw (← e, one.1) (omega arith)) in
+      rw (← e, one.1) at (simp add-zero at place)
+      ))
+]
 
 range_more : (a n : ℕ) → range_with_len a (n + 1) ≡ range_with_len a n ++ (a + n) ∷ []
 range_more a n = rw (add-one n) (go a n)
@@ -67,8 +67,8 @@ pub numbered_more : (ns : List Name) (stated : List StatedLine) (lines : List Li
     → AreNumberedLines ns (take (i + 1) stated) (lines ++ l ∷ [])
 numbered_more ns stated lines i new l next h e so_far count one = record {
   stand = map_push (statement_of ns) lines l
-      ∙ rw (so_far.stand, one.stands, items, map_push entry_of (take i stated) new)
-      (sym (map_push (λ entry. entry.1) (map entry_of (take i stated)) (entry_of new)));
+      ∙ rw (so_far.stand, one.stands, items)
+      (sym (map_push (λ line. stands_for line.statement) (take i stated) new));
   own = more defined_numbers ∙ rw (so_far.own, one.own) own;
   in_range = rw (more read_numbers) (All-append below _ _ so_far.in_range one.in_range);
 }
@@ -106,21 +106,6 @@ reads_numbers ns [] = refl
 reads_numbers ns (l ∷ lines) =
     rw (reads_of ns l, reads_numbers ns lines)
     (sym (map-append (name_at ns) (read_numbers l) (flat_map read_numbers lines)))
-
--- each name that a numbered line reads is among the names
-pub all_known : (ns : List Name) (next : ℕ) (s : Statement) (l : Line) → IsNumberedLine ns next s l
-    → list_all (is_in ns) (read s) ≡ true
-all_known ns next s l h = rw (← h.stands, reads_of ns l) (go (read_numbers l) h.in_range)
-  where
-    go : (ks : List ℕ) → All (λ k. k < length ns) ks
-        → list_all (is_in ns) (map (name_at ns) ks) ≡ true
-    go [] all = refl
-    go (k ∷ ks) all =
-        and_from _ _
-        (among_in ns (name_at ns k)
-        (among ns (name_at ns k)
-        (Contains-get_or ns k [] (All-head (λ m. m < length ns) k ks all))))
-        (go ks (All-tail (λ m. m < length ns) k ks all))
 
 -- a name that is still to come
 pub utf8_in_rest : (done ns : List Name) (n : Name) (rest : List Name) → done ++ (n ∷ rest) ≡ ns

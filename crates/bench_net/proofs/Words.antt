@@ -14,7 +14,7 @@ use Rattle.bench_net.specs.Reading.{States, LinesState, statements}
 use Rattle.bench_net.specs.Scan.{names}
 use Rattle.bench_net.specs.Circuit.{HaveArities}
 use Rattle.lists.proofs.Members.{Among, among, each_passes, joined_from}
-use Rattle.bench_net.proofs.Answered.{stated_at}
+use Rattle.bench_net.proofs.Faults.{stated_at}
 
 word_ascii : (b : ℕ) → is_word_byte b ≡ true → b < 128
 word_ascii b e =

@@ -1,4 +1,3 @@
 pub mod Plain
 pub mod Parsed
 pub mod Entries
-pub mod Numbering

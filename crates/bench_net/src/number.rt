@@ -1,20 +1,18 @@
 //! The names of statements as numbers.
 
-ghost use Rattle.std.specs.Prelude.{◌≡◌, ◌<◌, ◌≤◌, ◌+◌, [], ◌∷◌, ◌++◌, length, map};
-ghost use Rattle.std.specs.Prelude.{false, not, None, IfOk, IfErr, option_map, if◌then◌else◌};
+ghost use Rattle.std.specs.Prelude.{◌≡◌, ◌≢◌, ◌<◌, ◌≤◌, ◌+◌, [], ◌∷◌, ◌++◌, length, map};
+ghost use Rattle.std.specs.Prelude.{false, not, AllPairs, IfOk, IfErr, option_map, if◌then◌else◌};
 ghost use Rattle.std.specs.Prelude.{string_bytes};
 ghost use Rattle.std.specs.List.{All, list_all};
 ghost use Rattle.std.specs.Str.{IsUtf8};
 ghost use Rattle.bench_net.specs.Circuit.{max_signals};
 ghost use Rattle.bench_net.specs.Stored.{name_at};
-ghost use Rattle.bench_net.specs.reader.Numbering.{IsNextFor, IsNumberedLine, AreNumberedLines};
+ghost use Rattle.bench_net.specs.reader.Entries.{IsNextFor, IsNumberedLine, AreNumberedLines};
 ghost use Rattle.std.specs.Option.{option_to_list};
 ghost use Rattle.bench_net.specs.Statement.{defined, read};
-ghost use Rattle.bench_net.specs.reader.Parsed.{stands_for, names_of};
-ghost use Rattle.bench_net.specs.reader.Entries.{names_in, is_in, redefines, reads_unknown};
-ghost use Rattle.bench_net.specs.reader.Entries.{first_at, EndsPass};
+ghost use Rattle.bench_net.specs.reader.Parsed.{stands_for, names_of, FailsBy};
+ghost use Rattle.bench_net.specs.reader.Entries.{names_in, is_in, MayBeOf};
 
-use crate::fault::LineFault;
 use crate::line::Line;
 use crate::statement::Stated;
 use crate::{BenchFault, GateLine};
@@ -34,14 +32,12 @@ pub struct StatedLine<'a> {
 pub type Names<'a> = IndexSet<&'a [u8]>;
 
 /// The name that a statement defines.
-pub fn defined<'a>(statement: &Stated<'a>) -> Option<&'a [u8]>
+fn defined<'a>(statement: &Stated<'a>) -> Option<&'a [u8]>
     ensures { defined (stands_for statement.now) ≡ option_to_list (option_map (λ n. n.now) result) }
 {
     match statement {
-        Stated::Input(name) => Some(*name),
+        Stated::Input(name) | Stated::Gate(name, _, _) | Stated::Dff(name, _) => Some(*name),
         Stated::Output(_) => None,
-        Stated::Gate(name, _, _) => Some(*name),
-        Stated::Dff(q, _) => Some(*q),
     }
 }
 
@@ -59,8 +55,8 @@ fn add_name<'a>(names: &mut Names<'a>, name: &'a [u8]) -> Result<bool, BenchFaul
 /// Numbers the defined names in the order of their lines.
 pub fn number_names<'a>(alloc: Global, stated: &[StatedLine<'a>]) -> Result<Names<'a>, BenchFault>
     ensures numbered { IfOk result (λ names. names_of names.keys ≡ names_in stated.now) }
-    ensures once { IfOk result (λ names. first_at redefines stated.now ≡ None) }
-    ensures refused { IfErr result (EndsPass BenchFault.Redefined (first_at redefines stated.now)) }
+    ensures once { IfOk result (λ names. AllPairs (λ m n. m ≢ n) (names_in stated.now)) }
+    ensures refused { IfErr result (MayBeOf stated.now) }
 {
     let mut names = IndexSet::new(alloc);
     for line in stated {
@@ -74,84 +70,82 @@ pub fn number_names<'a>(alloc: Global, stated: &[StatedLine<'a>]) -> Result<Name
     Ok(names)
 }
 
-/// The number of a defined name.
-fn number_of(names: &Names, name: &[u8]) -> Result<u32, LineFault>
+/// The number of a defined name, or the refusal.
+fn number_of(names: &Names, name: &[u8], refusal: BenchFault) -> Result<u32, BenchFault>
     requires { length names.now.keys ≤ max_signals }
     ensures within { IfOk result (λ number. number < length (names_of names.now.keys)) }
     ensures named { IfOk result (λ number. name_at (names_of names.now.keys) number ≡ name.now) }
-    ensures refused { IfErr result (λ fault. fault ≡ LineFault.Refused) }
+    ensures refused { IfErr result (λ fault. fault ≡ refusal) }
     ensures missing { IfErr result (λ fault. is_in (names_of names.now.keys) name.now ≡ false) }
 {
     match names.get_index_of(name) {
         Some(index) => Ok(index as u32),
-        None => Err(LineFault::Refused),
+        None => Err(refusal),
     }
 }
 
-/// The numbers of the names of a gate's arguments.
+/// The numbers of the names of a gate's arguments, or the refusal where one is not defined.
 fn number_pins(
     alloc: Global,
     arguments: &[&[u8]],
     names: &Names,
-) -> Result<SmallVec<u32, 4>, LineFault>
+    refusal: BenchFault,
+) -> Result<SmallVec<u32, 4>, BenchFault>
     requires { length names.now.keys ≤ max_signals }
     ensures within { IfOk result (λ pins.
         All (λ number. number < length (names_of names.now.keys)) pins.items) }
     ensures named { IfOk result (λ pins.
         map (name_at (names_of names.now.keys)) pins.items ≡ names_of arguments.now) }
-    ensures refused { IfErr result (λ fault. fault ≡ LineFault.Refused
-        → list_all (is_in (names_of names.now.keys)) (names_of arguments.now) ≡ false) }
+    ensures refused { IfErr result (FailsBy refusal
+        (list_all (is_in (names_of names.now.keys)) (names_of arguments.now) ≡ false)) }
 {
     let mut pins = SmallVec::new(alloc);
     for argument in arguments {
-        let number = number_of(names, *argument)?;
+        let number = number_of(names, *argument, refusal)?;
         pins.push(number)?;
     }
     Ok(pins)
 }
 
-/// The statement over numbers; `next` is the number of the name that it defines.
+/// The statement over numbers, or the refusal where a name is not defined; `next` is the number of
+/// the name that it defines.
 fn number_line(
     alloc: Global,
     statement: &Stated,
     next: u32,
     names: &Names,
-) -> Result<Line, LineFault>
+    refusal: BenchFault,
+) -> Result<Line, BenchFault>
     requires few { length names.now.keys ≤ max_signals }
     requires own { IsNextFor (names_of names.now.keys) next (stands_for statement.now) }
     ensures numbered { IfOk result
         (IsNumberedLine (names_of names.now.keys) next (stands_for statement.now)) }
-    ensures refused { IfErr result (λ fault. fault ≡ LineFault.Refused
-        → list_all (is_in (names_of names.now.keys)) (read (stands_for statement.now)) ≡ false) }
+    ensures refused { IfErr result (FailsBy refusal
+        (list_all (is_in (names_of names.now.keys)) (read (stands_for statement.now)) ≡ false)) }
 {
     match statement {
         Stated::Input(_) => Ok(Line::Input(next)),
         Stated::Output(name) => {
-            let number = number_of(names, *name)?;
+            let number = number_of(names, *name, refusal)?;
             Ok(Line::Output(number))
         }
         Stated::Gate(_, kind, arguments) => {
             let kind = *kind;
-            let pins = number_pins(alloc, arguments.as_slice(), names)?;
+            let pins = number_pins(alloc, arguments.as_slice(), names, refusal)?;
             Ok(Line::Gate(next, GateLine { kind, pins }))
         }
         Stated::Dff(_, data) => {
-            let number = number_of(names, *data)?;
+            let number = number_of(names, *data, refusal)?;
             Ok(Line::Dff(next, number))
         }
     }
 }
 
-/// The number behind those of a statement's own names.
-fn number_behind(next: u32, statement: &Stated) -> u32
-    requires { next + length (defined (stands_for statement.now)) ≤ max_signals }
-    ensures { result ≡ next + length (defined (stands_for statement.now)) }
+/// How many names a statement defines.
+pub fn defined_count(statement: &Stated) -> u32
+    ensures { result ≡ length (defined (stands_for statement.now)) }
 {
-    if defined(statement).is_some() {
-        next + 1
-    } else {
-        next
-    }
+    u32::from(defined(statement).is_some())
 }
 
 /// The statements over numbers.
@@ -162,22 +156,18 @@ pub fn number_lines(
 ) -> Result<Vec<Line>, BenchFault>
     requires few { length names.now.keys ≤ max_signals }
     requires own { names_of names.now.keys ≡ names_in stated.now }
+    requires once { AllPairs (λ m n. m ≢ n) (names_in stated.now) }
     ensures numbered { IfOk result (λ lines.
         AreNumberedLines (names_of names.now.keys) stated.now lines.items) }
-    ensures known { IfOk result (λ lines.
-        first_at (reads_unknown (names_of names.now.keys)) stated.now ≡ None) }
-    ensures refused { IfErr result (EndsPass BenchFault.Undefined
-        (first_at (reads_unknown (names_of names.now.keys)) stated.now)) }
+    ensures refused { IfErr result (MayBeOf stated.now) }
 {
     let mut lines = Vec::with_capacity(alloc, stated.len())?;
     let mut next = 0;
     for line in stated {
-        let numbered = match number_line(alloc, &line.statement, next, names) {
-            Ok(numbered) => numbered,
-            Err(fault) => return Err(fault.or_refusal(BenchFault::Undefined(line.number))),
-        };
+        let refusal = BenchFault::Undefined(line.number);
+        let numbered = number_line(alloc, &line.statement, next, names, refusal)?;
         lines.push(numbered)?;
-        next = number_behind(next, &line.statement);
+        next += defined_count(&line.statement);
     }
     Ok(lines)
 }

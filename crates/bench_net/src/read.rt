@@ -6,21 +6,21 @@
 //! statements, limits, definitions, and names that are read. Each pass ends at the first line with
 //! its fault, so the refusals come in this order and name the lowest line.
 
-ghost use Rattle.std.specs.Prelude.{◌≡◌, ◌⊎◌, ◌≤◌, ◌↔◌, length, map, string_bytes};
-ghost use Rattle.std.specs.Prelude.{IfOk, IfErr, IsTrue};
+ghost use Rattle.std.specs.Prelude.{◌≡◌, ◌≤◌, length, map, string_bytes};
+ghost use Rattle.std.specs.Prelude.{IfOk, IfErr, IfSome, IfNone};
 ghost use Rattle.std.specs.Str.Lines.{strip_carriage_return};
 ghost use Rattle.bench_net.specs.Text.{lines};
-ghost use Rattle.bench_net.specs.Circuit.{max_bytes, max_signals, max_sinks};
-ghost use Rattle.bench_net.specs.Refusal.{IsRefused};
-ghost use Rattle.bench_net.specs.reader.Entries.{entries_of, names_in, reads_in, unread};
-ghost use Rattle.bench_net.specs.reader.Entries.{EndsPass, HaveEntries};
-ghost use Rattle.bench_net.specs.reader.Plain.{stated_of};
+ghost use Rattle.bench_net.specs.Circuit.{max_bytes};
+ghost use Rattle.bench_net.specs.reader.Entries.{entries_of, names_in, reads_in, AreStated};
+ghost use Rattle.bench_net.specs.reader.Entries.{MayBe, AreFew, ArePast};
 ghost use Rattle.bench_net.specs.reader.Parsed.{stands_for};
 ghost use Rattle.bench_net.specs.Statement.{read};
 ghost use Rattle.bench_net.specs.Stored.{AreLinesOf};
 
 use crate::line::Line;
-use crate::number::{StatedLine, defined, line_numbers, number_lines, number_names, own_names};
+use crate::number::{
+    StatedLine, defined_count, line_numbers, number_lines, number_names, own_names,
+};
 use crate::statement::{Stated, read_line};
 use crate::{BenchFault, Limit};
 use std::alloc::Global;
@@ -56,20 +56,18 @@ fn without_return<'a>(line: &'a [u8]) -> &'a [u8]
 /// The statements of a text, each with the number of its line.
 fn read_statements<'a>(alloc: Global, text: &'a [u8]) -> Result<Vec<StatedLine<'a>>, BenchFault>
     requires { length text.now ≤ max_bytes }
-    ensures ok { IfOk result (λ stated. HaveEntries (lines text.now) (entries_of stated.items)) }
-    ensures refused { IfErr result
-        (EndsPass BenchFault.Syntax (unread 1 (map stated_of (lines text.now)))) }
+    ensures ok { IfOk result (λ stated. AreStated (lines text.now) (entries_of stated.items)) }
+    ensures refused { IfErr result (MayBe text.now) }
 {
     let mut stated = Vec::new(alloc);
     let mut number = 0;
     for line in text.split(|byte| *byte == b'\n') {
         number += 1;
-        match read_line(alloc, without_return(line)) {
-            Ok(None) => {}
-            Ok(Some(statement)) => {
+        match read_line(alloc, without_return(line), BenchFault::Syntax(number))? {
+            None => {}
+            Some(statement) => {
                 stated.push(StatedLine { number, statement })?;
             }
-            Err(fault) => return Err(fault.or_refusal(BenchFault::Syntax(number))),
         }
     }
     Ok(stated)
@@ -81,41 +79,29 @@ fn read_count(statement: &Stated) -> usize
 {
     match statement {
         Stated::Input(_) => 0,
-        Stated::Output(_) => 1,
+        Stated::Output(_) | Stated::Dff(_, _) => 1,
         Stated::Gate(_, _, arguments) => arguments.len(),
-        Stated::Dff(_, _) => 1,
     }
 }
 
-/// Whether there are no more signals than the limit.
-fn signals_fit(stated: &[StatedLine]) -> bool
-    ensures { IsTrue result ↔ length (names_in stated.now) ≤ max_signals }
+/// What there is too much of, signals before sinks.
+fn past_limit(stated: &[StatedLine]) -> Option<Limit>
+    ensures none { IfNone result (AreFew (names_in stated.now) (reads_in stated.now)) }
+    ensures past { IfSome result (ArePast (names_in stated.now) (reads_in stated.now)) }
 {
-    let mut count = 0;
+    let mut signals: usize = 0;
+    let mut sinks: usize = 0;
     for line in stated {
-        if defined(&line.statement).is_some() {
-            if count == MAX_SIGNALS {
-                return false;
-            }
-            count += 1;
-        }
+        signals = signals.saturating_add(defined_count(&line.statement) as usize);
+        sinks = sinks.saturating_add(read_count(&line.statement));
     }
-    true
-}
-
-/// Whether there are no more sinks than the limit.
-fn sinks_fit(stated: &[StatedLine]) -> bool
-    ensures { IsTrue result ↔ length (reads_in stated.now) ≤ max_sinks }
-{
-    let mut count = 0;
-    for line in stated {
-        let more = read_count(&line.statement);
-        if more > MAX_SINKS - count {
-            return false;
-        }
-        count += more;
+    if signals > MAX_SIGNALS {
+        Some(Limit::Signals)
+    } else if sinks > MAX_SINKS {
+        Some(Limit::Sinks)
+    } else {
+        None
     }
-    true
 }
 
 /// The statements of a text over numbers, or the refusal of the text. Cycles and a text without
@@ -123,19 +109,15 @@ fn sinks_fit(stated: &[StatedLine]) -> bool
 pub fn read_lines(alloc: Global, text: &[u8]) -> Result<Lines, BenchFault>
     ensures lines { IfOk result (λ r.
         AreLinesOf text.now (map string_bytes r.names.items) r.lines.items r.at.items) }
-    ensures refused { IfErr result (λ fault.
-        (fault ≡ BenchFault.Memory) ⊎ IsRefused text.now fault) }
+    ensures refused { IfErr result (MayBe text.now) }
 {
     if text.len() > MAX_BYTES {
         return Err(BenchFault::TooLarge(Limit::Bytes));
     }
     let read = read_statements(alloc, text)?;
     let stated = read.as_slice();
-    if !signals_fit(stated) {
-        return Err(BenchFault::TooLarge(Limit::Signals));
-    }
-    if !sinks_fit(stated) {
-        return Err(BenchFault::TooLarge(Limit::Sinks));
+    if let Some(limit) = past_limit(stated) {
+        return Err(BenchFault::TooLarge(limit));
     }
     let numbers = number_names(alloc, stated)?;
     let lines = number_lines(alloc, stated, &numbers)?;

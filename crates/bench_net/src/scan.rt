@@ -45,11 +45,7 @@ fn blank_len(bytes: &[u8]) -> usize
     ensures counted { result ≡ prefix_len is_blank bytes.now }
     ensures within { result ≤ length bytes.now }
 {
-    let mut len = 0;
-    while len < bytes.len() && is_blank(bytes[len]) {
-        len += 1;
-    }
-    len
+    bytes.iter().take_while(|byte| is_blank(**byte)).count()
 }
 
 /// How many word bytes the bytes begin with.
@@ -57,11 +53,7 @@ fn word_len(bytes: &[u8]) -> usize
     ensures counted { result ≡ prefix_len is_word_byte bytes.now }
     ensures within { result ≤ length bytes.now }
 {
-    let mut len = 0;
-    while len < bytes.len() && is_word_byte(bytes[len]) {
-        len += 1;
-    }
-    len
+    bytes.iter().take_while(|byte| is_word_byte(**byte)).count()
 }
 
 /// The token that bytes without a blank in front begin with.

@@ -1,18 +1,16 @@
 //! The statement of one line.
 
-ghost use Rattle.std.specs.Prelude.{◌≡◌, ◌≢◌, ◌↔◌, ℕ, List, ◌∷◌, [], length, Some, None, IsTrue};
-ghost use Rattle.std.specs.Prelude.{option_map, option_and_then, IfSome, IfNone, IfOk, IfErr};
+ghost use Rattle.std.specs.Prelude.{◌≡◌, List, ◌∷◌, length};
+ghost use Rattle.std.specs.Prelude.{option_map, option_and_then};
 ghost use Rattle.std.specs.Str.{str_eq_ignore_ascii_case};
-ghost use Rattle.bench_net.specs.Text.{Token as TextToken, Word};
+ghost use Rattle.bench_net.specs.Text.{Word, Equals};
 ghost use Rattle.bench_net.specs.Statement.{Name};
-ghost use Rattle.bench_net.specs.reader.Plain.{tokens_of, kind_of, has_arity, gate_with, cell_with};
-ghost use Rattle.bench_net.specs.reader.Plain.{driven_by, read_tokens, stated_of, Leads};
-ghost use Rattle.bench_net.specs.reader.Parsed.{names_of, stands_for, args_in, port_of};
-ghost use Rattle.bench_net.specs.reader.Parsed.{driven_tokens, IsArgument, IsReadAs};
+ghost use Rattle.bench_net.specs.reader.Plain.{tokens_of, kind_of, has_arity, port, driven_by};
+ghost use Rattle.bench_net.specs.reader.Plain.{read_tokens, stated_of};
+ghost use Rattle.bench_net.specs.reader.Parsed.{names_of, stands_for, args_in, IsReadAs};
 
-use crate::Kind;
-use crate::fault::LineFault;
 use crate::scan::{Front, Token, next_token};
+use crate::{BenchFault, Kind};
 use smallvec::SmallVec;
 use std::alloc::Global;
 
@@ -26,13 +24,6 @@ pub enum Stated<'a> {
     Output(&'a [u8]),
     Gate(&'a [u8], Kind, Arguments<'a>),
     Dff(&'a [u8], &'a [u8]),
-}
-
-/// An argument, and the bytes of the arguments behind it where there are more.
-#[derive(Clone, Copy)]
-struct Argument<'a> {
-    name: &'a [u8],
-    more: Option<&'a [u8]>,
 }
 
 /// Whether the word is the keyword, in any ASCII case.
@@ -77,69 +68,37 @@ fn takes(kind: Kind, count: usize) -> bool
     }
 }
 
-/// Whether only blanks and a comment are left.
-fn is_end(rest: &[u8]) -> bool
-    ensures { IsTrue result ↔ (tokens_of rest.now ≡ Some []) }
-{
-    matches!(next_token(rest), Front::End)
-}
-
-/// The word at the front, and what stands behind it.
-fn leading_word<'a>(bytes: &'a [u8]) -> Option<(&'a [u8], &'a [u8])>
-    ensures found { IfSome result (λ p. Leads bytes.now (Word p.0.now) p.1.now) }
-    ensures none { IfNone result ((w : List ℕ) (ts : List TextToken)
-        → tokens_of bytes.now ≢ Some (Word w ∷ ts)) }
-{
-    match next_token(bytes) {
-        Front::Token(Token::Word(word), rest) => Some((word, rest)),
-        _ => None,
-    }
-}
-
-/// The argument at the front: a word with a comma behind it, or one with the parenthesis that ends
-/// the line.
-fn leading_argument<'a>(bytes: &'a [u8]) -> Option<Argument<'a>>
-    ensures { IsArgument bytes.now result }
-{
-    let (name, rest) = leading_word(bytes)?;
-    match next_token(rest) {
-        Front::Token(Token::Comma, more) => Some(Argument {
-            name,
-            more: Some(more),
-        }),
-        Front::Token(Token::Close, rest) => {
-            if is_end(rest) {
-                Some(Argument { name, more: None })
-            } else {
-                None
-            }
-        }
-        _ => None,
-    }
-}
-
-/// The arguments up to the parenthesis that ends the line.
-fn read_arguments<'a>(alloc: Global, bytes: &'a [u8]) -> Result<Arguments<'a>, LineFault>
-    ensures ok { IfOk result (λ args. args_in bytes.now ≡ Some (names_of args.items)) }
-    ensures refused { IfErr result (λ fault. fault ≡ LineFault.Refused → args_in bytes.now ≡ None) }
+/// The arguments up to the parenthesis that ends the line, or the refusal of the line.
+fn read_arguments<'a>(
+    alloc: Global,
+    bytes: &'a [u8],
+    refusal: BenchFault,
+) -> Result<Arguments<'a>, BenchFault>
+    ensures { IsReadAs refusal (λ args. names_of args.items) (args_in bytes.now) result }
 {
     let mut arguments = SmallVec::new(alloc);
     let mut rest = bytes;
     loop {
-        let Some(argument) = leading_argument(rest) else {
-            return Err(LineFault::Refused);
+        let Front::Token(Token::Word(name), behind) = next_token(rest) else {
+            return Err(refusal);
         };
-        arguments.push(argument.name)?;
-        match argument.more {
-            None => return Ok(arguments),
-            Some(more) => rest = more,
+        match next_token(behind) {
+            Front::Token(Token::Comma, more) => {
+                arguments.push(name)?;
+                rest = more;
+            }
+            Front::Token(Token::Close, end) if matches!(next_token(end), Front::End) => {
+                arguments.push(name)?;
+                return Ok(arguments);
+            }
+            _ => return Err(refusal),
         }
     }
 }
 
 /// `INPUT ( n )` or `OUTPUT ( n )`, from the word before the parenthesis and the arguments.
 fn port<'a>(word: &[u8], arguments: Arguments<'a>) -> Option<Stated<'a>>
-    ensures { option_map stands_for result ≡ port_of word.now (names_of arguments.entry.items) }
+    ensures { option_map stands_for result ≡ port word.now (names_of arguments.entry.items) }
 {
     let [name] = arguments.as_slice() else {
         return None;
@@ -154,11 +113,17 @@ fn port<'a>(word: &[u8], arguments: Arguments<'a>) -> Option<Stated<'a>>
     }
 }
 
-/// `n = KIND ( a , b , .. )`, from the name, the word and the arguments.
-fn gate<'a>(name: &'a [u8], word: &[u8], arguments: Arguments<'a>) -> Option<Stated<'a>>
+/// `q = DFF ( d )` or `n = KIND ( a , b , .. )`, from the name, the word and the arguments.
+fn driven<'a>(name: &'a [u8], word: &[u8], arguments: Arguments<'a>) -> Option<Stated<'a>>
     ensures { option_map stands_for result
-        ≡ gate_with name.now (names_of arguments.entry.items) (kind_of word.now) }
+        ≡ driven_by name.now word.now (names_of arguments.entry.items) }
 {
+    if is_keyword(word, b"DFF") {
+        let [data] = arguments.as_slice() else {
+            return None;
+        };
+        return Some(Stated::Dff(name, *data));
+    }
     let kind = kind_named(word)?;
     if takes(kind, arguments.len()) {
         Some(Stated::Gate(name, kind, arguments))
@@ -167,73 +132,62 @@ fn gate<'a>(name: &'a [u8], word: &[u8], arguments: Arguments<'a>) -> Option<Sta
     }
 }
 
-/// `q = DFF ( d )`, from the name and the arguments.
-fn cell<'a>(name: &'a [u8], arguments: Arguments<'a>) -> Option<Stated<'a>>
-    ensures { option_map stands_for result ≡ cell_with name.now (names_of arguments.entry.items) }
-{
-    let [data] = arguments.as_slice() else {
-        return None;
-    };
-    Some(Stated::Dff(name, *data))
-}
-
-/// The statement that drives a name, from the word before the parenthesis and the arguments.
-fn driven<'a>(name: &'a [u8], word: &[u8], arguments: Arguments<'a>) -> Option<Stated<'a>>
-    ensures { option_map stands_for result
-        ≡ driven_by name.now word.now (names_of arguments.entry.items) }
-{
-    if is_keyword(word, b"DFF") {
-        cell(name, arguments)
-    } else {
-        gate(name, word, arguments)
-    }
-}
-
 /// The statement of a line `name = ..`, from the bytes behind the equals sign.
-fn read_driven<'a>(alloc: Global, name: &'a [u8], bytes: &'a [u8]) -> Result<Stated<'a>, LineFault>
-    ensures { IsReadAs stands_for
-        (option_and_then (driven_tokens name.now) (tokens_of bytes.now)) result }
+fn read_driven<'a>(
+    alloc: Global,
+    name: &'a [u8],
+    bytes: &'a [u8],
+    refusal: BenchFault,
+) -> Result<Stated<'a>, BenchFault>
+    ensures { IsReadAs refusal stands_for
+        (option_and_then (λ ts. read_tokens (Word name.now ∷ Equals ∷ ts)) (tokens_of bytes.now))
+        result }
 {
-    let Some((word, rest)) = leading_word(bytes) else {
-        return Err(LineFault::Refused);
+    let Front::Token(Token::Word(word), rest) = next_token(bytes) else {
+        return Err(refusal);
     };
     let Front::Token(Token::Open, rest) = next_token(rest) else {
-        return Err(LineFault::Refused);
+        return Err(refusal);
     };
-    let arguments = read_arguments(alloc, rest)?;
-    driven(name, word, arguments).ok_or(LineFault::Refused)
-}
-
-/// The statement of a line `word ( .. )`, from the bytes behind the parenthesis.
-fn read_port<'a>(alloc: Global, word: &'a [u8], bytes: &'a [u8]) -> Result<Stated<'a>, LineFault>
-    ensures { IsReadAs stands_for (option_and_then (port_of word.now) (args_in bytes.now)) result }
-{
-    let arguments = read_arguments(alloc, bytes)?;
-    port(word, arguments).ok_or(LineFault::Refused)
+    let arguments = read_arguments(alloc, rest, refusal)?;
+    driven(name, word, arguments).ok_or(refusal)
 }
 
 /// The statement of a line that begins with this word, from the bytes behind it.
-fn read_behind<'a>(alloc: Global, word: &'a [u8], bytes: &'a [u8]) -> Result<Stated<'a>, LineFault>
-    ensures { IsReadAs stands_for
+fn read_behind<'a>(
+    alloc: Global,
+    word: &'a [u8],
+    bytes: &'a [u8],
+    refusal: BenchFault,
+) -> Result<Stated<'a>, BenchFault>
+    ensures { IsReadAs refusal stands_for
         (option_and_then (λ ts. read_tokens (Word word.now ∷ ts)) (tokens_of bytes.now)) result }
 {
     match next_token(bytes) {
-        Front::Token(Token::Open, rest) => read_port(alloc, word, rest),
-        Front::Token(Token::Equals, rest) => read_driven(alloc, word, rest),
-        _ => Err(LineFault::Refused),
+        Front::Token(Token::Open, rest) => {
+            let arguments = read_arguments(alloc, rest, refusal)?;
+            port(word, arguments).ok_or(refusal)
+        }
+        Front::Token(Token::Equals, rest) => read_driven(alloc, word, rest, refusal),
+        _ => Err(refusal),
     }
 }
 
-/// What a line states: nothing where it has no token, and else its statement.
-pub fn read_line<'a>(alloc: Global, line: &'a [u8]) -> Result<Option<Stated<'a>>, LineFault>
-    ensures { IsReadAs (option_map stands_for) (stated_of line.now) result }
+/// What a line states: nothing where it has no token, and else its statement. A line that states
+/// nothing that a line may state has this refusal.
+pub fn read_line<'a>(
+    alloc: Global,
+    line: &'a [u8],
+    refusal: BenchFault,
+) -> Result<Option<Stated<'a>>, BenchFault>
+    ensures { IsReadAs refusal (option_map stands_for) (stated_of line.now) result }
 {
     match next_token(line) {
         Front::End => Ok(None),
         Front::Token(Token::Word(word), rest) => {
-            let statement = read_behind(alloc, word, rest)?;
+            let statement = read_behind(alloc, word, rest, refusal)?;
             Ok(Some(statement))
         }
-        _ => Err(LineFault::Refused),
+        _ => Err(refusal),
     }
 }

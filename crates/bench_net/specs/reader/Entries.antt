@@ -1,12 +1,20 @@
--- The statements of a text, each with the number of its line, and the first of them at fault.
-use Rattle.std.specs.Prelude.{◌≡◌, ◌⊎◌, ℕ, suc, Bool, not, List, [], ◌∷◌, ◌++◌, map, flat_map}
-use Rattle.std.specs.Prelude.{Option, Some, None, if◌then◌else◌, bytes_eq}
-use Rattle.std.specs.List.{list_all, list_any}
+-- The statements of a text, each with the number of its line, and the stored lines that stand for
+-- them.
+use Rattle.std.specs.Prelude.{◌≡◌, ◌⊎◌, ◌<◌, ◌≤◌, ℕ, suc, Bool, length, List, [], ◌∷◌, map, flat_map}
+use Rattle.std.specs.Prelude.{Option, Some, None, bytes_eq}
+use Rattle.std.specs.List.{All, AllZip, list_any, range_with_len}
 use Rattle.bench_net.specs.declared.BenchFault.{BenchFault}
 use Rattle.bench_net.specs.declared.BenchFault.TheVariants.{Memory}
+use Rattle.bench_net.specs.declared.Limit.{Limit}
+use Rattle.bench_net.specs.declared.Limit.TheVariants.{Bytes, Signals, Sinks}
+use Rattle.bench_net.specs.Circuit.{max_signals, max_sinks}
+use Rattle.bench_net.specs.declared.line.Line.{Line}
+use Rattle.bench_net.specs.Stored.{name_at, statement_of, statements_of}
+use Rattle.bench_net.specs.Stored.{defined_numbers, read_numbers}
 use Rattle.bench_net.specs.declared.number.StatedLine.{StatedLine}
 use Rattle.bench_net.specs.Statement.{Name, Statement, defined, read}
-use Rattle.bench_net.specs.reader.Plain.{stated_of}
+use Rattle.bench_net.specs.Reading.{States}
+use Rattle.bench_net.specs.Refusal.{IsWithin, IsRefused}
 use Rattle.bench_net.specs.reader.Parsed.{stands_for}
 
 -- a statement beside the number of its line
@@ -25,49 +33,33 @@ numbered_from line [] = []
 numbered_from line (None ∷ stated) = numbered_from (suc line) stated
 numbered_from line (Some s ∷ stated) = (line, s) ∷ numbered_from (suc line) stated
 
--- the statements of entries
-abbrev pub stated_by : List Entry → List Statement
-stated_by entries = map (λ entry. entry.1) entries
-
--- the lines state these entries, counted from 1
-pub record HaveEntries (lines : List (List ℕ)) (entries : List Entry) : Type 0 where
+-- the entries are all that these lines state
+pub record AreStated (lines : List (List ℕ)) (entries : List Entry) : Type 0 where
   pub stated : List (Option Statement)
-  pub each : map stated_of lines ≡ map Some stated
+  pub each : AllZip States lines stated
   pub same : entries ≡ numbered_from 1 stated
 
--- the first line that states nothing that a line may state, where the first has this number
-abbrev pub unread : ℕ → List (Option (Option Statement)) → Option ℕ
-unread line [] = None
-unread line (None ∷ found) = Some line
-unread line (Some s ∷ found) = unread (suc line) found
+-- the lines are all that the text states, and it is within the limits
+pub record AreWithin (text : List ℕ) (lines : List StatedLine) : Type 0 where
+  pub stated : List (Option Statement)
+  pub within : IsWithin text stated
+  pub same : entries_of lines ≡ numbered_from 1 stated
 
--- the line of the first entry at which a test passes, of the names that are defined before it and
--- of its statement
-abbrev pub first_line : (List Name → Statement → Bool) → List Name → List Entry → Option ℕ
-first_line test before [] = None
-first_line test before (entry ∷ entries) =
-    if test before entry.1 then Some entry.0
-    else first_line test (before ++ defined entry.1) entries
+-- a fault is that of the text, or memory is wanting
+abbrev pub MayBe : List ℕ → BenchFault → Type 0
+MayBe text fault = (fault ≡ Memory) ⊎ IsRefused text fault
 
-abbrev pub first_at : (List Name → Statement → Bool) → List StatedLine → Option ℕ
-first_at test stated = first_line test [] (entries_of stated)
+-- and so for each text that states these lines
+abbrev pub MayBeOf : List StatedLine → BenchFault → Type 0
+MayBeOf lines fault = (text : List ℕ) → AreWithin text lines → MayBe text fault
 
 -- whether a name is one of these
 abbrev pub is_in : List Name → Name → Bool
 is_in ns n = list_any (bytes_eq n) ns
 
--- whether a statement defines a name that is defined before it, and whether it reads one that is
--- none of these
-abbrev pub redefines : List Name → Statement → Bool
-redefines before s = list_any (is_in before) (defined s)
-
-abbrev pub reads_unknown : List Name → List Name → Statement → Bool
-reads_unknown ns before s = not (list_all (is_in ns) (read s))
-
--- a pass over the lines ends at the first with its fault, or for want of memory
-abbrev pub EndsPass : (ℕ → BenchFault) → Option ℕ → BenchFault → Type 0
-EndsPass refusal first fault =
-    (fault ≡ Memory) ⊎ ((line : ℕ) × (first ≡ Some line) × (fault ≡ refusal line))
+-- the statements of lines
+abbrev pub statements_in : List StatedLine → List Statement
+statements_in lines = map (λ line. stands_for line.statement) lines
 
 -- the names that a line defines, and those that it reads
 abbrev pub defined_of : StatedLine → List Name
@@ -82,3 +74,30 @@ names_in lines = flat_map defined_of lines
 
 abbrev pub reads_in : List StatedLine → List Name
 reads_in lines = flat_map read_of lines
+
+-- these names and reads are within the limits on signals and sinks, or past one of them
+abbrev pub AreFew : List Name → List Name → Type 0
+AreFew names reads = (length names ≤ max_signals) × (length reads ≤ max_sinks)
+
+abbrev pub ArePast : List Name → List Name → Limit → Type 0
+ArePast names reads Bytes = ⊥
+ArePast names reads Signals = max_signals < length names
+ArePast names reads Sinks = (length names ≤ max_signals) × (max_sinks < length reads)
+
+-- the number is that of the name that the statement defines, if it defines one
+abbrev pub IsNextFor : List Name → ℕ → Statement → Type 0
+IsNextFor ns next s = map (λ n. name_at ns next) (defined s) ≡ defined s
+
+-- the stored line stands for the statement, whose own name has this number
+pub record IsNumberedLine (ns : List Name) (next : ℕ) (s : Statement) (line : Line) : Type 0 where
+  pub stands : statement_of ns line ≡ s
+  pub own : defined_numbers line ≡ map (λ n. next) (defined s)
+  pub in_range : All (λ number. number < length ns) (read_numbers line)
+
+-- the stored lines stand for the statements of these lines; own numbers go in order, and each
+-- number has a name
+pub record AreNumberedLines (ns : List Name) (stated : List StatedLine)
+    (lines : List Line) : Type 0 where
+  pub stand : statements_of ns lines ≡ statements_in stated
+  pub own : flat_map defined_numbers lines ≡ range_with_len 0 (length (names_in stated))
+  pub in_range : All (λ number. number < length ns) (flat_map read_numbers lines)

@@ -72,15 +72,16 @@ driven_by n w args =
     if str_eq_ignore_ascii_case w (codes "DFF") then cell_with n args
     else gate_with n args (kind_of w)
 
-abbrev pub port : List ℕ → Name → Option Statement
-port w n =
+abbrev pub port : List ℕ → List Name → Option Statement
+port w (n ∷ []) =
     if str_eq_ignore_ascii_case w (codes "INPUT") then Some (Input n)
     else if str_eq_ignore_ascii_case w (codes "OUTPUT") then Some (Output n)
     else None
+port w _ = None
 
 -- the statement that tokens read as
 abbrev pub read_tokens : List Token → Option Statement
-read_tokens (Word w ∷ Open ∷ Word n ∷ Close ∷ []) = port w n
+read_tokens (Word w ∷ Open ∷ tokens) = option_and_then (port w) (args_of tokens)
 read_tokens (Word n ∷ Equals ∷ Word w ∷ Open ∷ tokens) =
     option_and_then (driven_by n w) (args_of tokens)
 read_tokens _ = None

@@ -1,42 +1,52 @@
-use Rattle.std.proofs.Common.{◌≡◌, ◌∙◌, ◌∷◌, [], true, false, take, ap, sym, inr, refl, arith, option_map}
+use Rattle.std.proofs.Common.{◌≡◌, ◌≢◌, ◌∙◌, ◌∷◌, [], ap, subst, sym, inl, inr, refl, arith, option_map}
+use Rattle.std.specs.Prelude.{AllPairs}
 use Rattle.std.specs.Option.{option_to_list}
-use Rattle.std.proofs.lemmas.Bool.{not-true, not-false}
-use Rattle.bench_net.specs.reader.Parsed.{stands_for}
-use Rattle.bench_net.specs.reader.Entries.{names_in, defined_of, is_in, redefines}
-use Rattle.bench_net.proofs.Passes.{names_more, pass_ends, pass_on, redefines_one}
+use Rattle.std.proofs.lemmas.List.{take_all}
+use Rattle.std.proofs.lemmas.Bool.{not-true, not-false, both_ways}
+use Rattle.lists.proofs.Members.{among}
+use Rattle.lists.proofs.Distinct.{distinct_append}
+use Rattle.bench_net.specs.reader.Parsed.{names_of}
+use Rattle.bench_net.specs.reader.Entries.{names_in, defined_of}
+use Rattle.bench_net.proofs.Assembled.{redefined}
+use Rattle.bench_net.proofs.Checked.{in_contained, among_in, pairs_distinct}
+use Rattle.bench_net.proofs.Numbering.{names_more}
 use Rattle.bench_net.proofs.number.number_names.Goals as goal
 
 pub returns-then-not-branch-clause-refused : goal.returns-then-not-branch-clause-refused
 returns-then-not-branch-clause-refused c =
     let line = c.line-item.result in
     let n = c.in-Some.name.now in
+    let ns = names_of c.loop-line.names.keys in
     let one : defined_of line ≡ n ∷ [] =
     c.defined.ensures ∙ ap (λ o. option_to_list (option_map (λ m. m.now) o)) c.in-Some.is in
-    let before : is_in (names_in (take c.loop-line.line-index c.args.stated.now)) n ≡ true =
-    ap (λ ns. is_in ns n) (sym c.loop-line.invariant.0)
-    ∙ not-false _ (sym c.in_ok-add_name.ensures.added ∙ c.if-not-branch.true) in
-    inr (
-      line.number,
-      pass_ends redefines c.args.stated.now c.loop-line.line-index line (omega
-          arith) c.line-item.is c.loop-line.invariant.1
-          (redefines_one _ (stands_for line.statement) n one ∙ before),
-      refl,
-    )
+    let before = not-false _ (sym c.in_ok-add_name.ensures.added ∙ c.if-not-branch.true) in
+    λ text of. inr (redefined text c.args.stated.now of c.loop-line.line-index line (omega arith)
+    c.line-item.is n (rw one (inl refl))
+    (rw c.loop-line.invariant.0 at (among ns n (in_contained ns n before)))
+    (rw c.loop-line.invariant.0 at c.loop-line.invariant.1))
 
 pub loop-line-preserved : goal.loop-line-preserved
 loop-line-preserved c =
     let line = c.line-item.result in
     let n = c.in-Some.name.now in
+    let ns = names_of c.loop-line.names.keys in
     let one : defined_of line ≡ n ∷ [] =
     c.defined.ensures ∙ ap (λ o. option_to_list (option_map (λ m. m.now) o)) c.in-Some.is in
     let more = names_more c.args.stated.now c.loop-line.line-index line (omega arith)
     c.line-item.is defined_of in
-    let new : is_in (names_in (take c.loop-line.line-index c.args.stated.now)) n ≡ false =
-    ap (λ ns. is_in ns n) (sym c.loop-line.invariant.0)
-    ∙ not-true _ (sym c.in_ok-add_name.ensures.added ∙ c.if-not-branch.false) in (
+    let new = not-true _ (sym c.in_ok-add_name.ensures.added ∙ c.if-not-branch.false) in (
       c.in_ok-add_name.ensures.names
           ∙ rw (c.if-not-branch.false, c.loop-line.invariant.0, more, one) refl,
-      pass_on redefines c.args.stated.now c.loop-line.line-index line
-          (omega arith) c.line-item.is c.loop-line.invariant.1
-          (redefines_one _ (stands_for line.statement) n one ∙ new),
+      rw (c.in_ok-add_name.ensures.names, c.if-not-branch.false)
+          (distinct_append ns (n ∷ []) c.loop-line.invariant.1 (λ a. a, tt)
+          (λ m a b. elim b [
+            | inl e ↦ both_ways _ new (among_in ns n (rw (← e) at a))
+            | inr a ↦ absurd a
+          ])),
     )
+
+pub returns-clause-once : goal.returns-clause-once
+returns-clause-once c =
+    let whole = take_all c.loop-line.line-index c.args.stated.now (omega arith) in
+    subst (AllPairs (λ m n. m ≢ n)) (c.loop-line.invariant.0 ∙ ap names_in whole)
+    (pairs_distinct _ c.loop-line.invariant.1)

@@ -1,8 +1,8 @@
 use Rattle.std.proofs.Common.{◌≡◌, length}
-use Rattle.bench_net.specs.reader.Entries.{entries_of, HaveEntries}
+use Rattle.bench_net.specs.reader.Entries.{entries_of, AreStated}
 use Rattle.bench_net.proofs.Entries.{given}
 use Rattle.bench_net.proofs.read.read_statements.Given as goal
 
 abbrev pub invariant-loop-line : goal.invariant-loop-line
 invariant-loop-line l =
-    (l.number ≡ length l.yielded) × HaveEntries (given l.yielded) (entries_of l.stated.items)
+    (l.number ≡ length l.yielded) × AreStated (given l.yielded) (entries_of l.stated.items)

@@ -2,7 +2,7 @@ use Rattle.std.proofs.Common.{◌≡◌, ◌-◌, ℕ, List, length, take, drop,
 use Rattle.std.proofs.lemmas.List.{take_all}
 use Rattle.bench_net.specs.Text.{is_blank}
 use Rattle.bench_net.specs.reader.Plain.{IsFront}
-use Rattle.bench_net.proofs.Front.{behind_blanks, parted}
+use Rattle.bench_net.proofs.Plain.{behind_blanks, parted}
 use Rattle.bench_net.proofs.scan.next_token.Goals as goal
 
 whole : (line : List ℕ) (n : ℕ) → take (length line - n) (drop n line) ≡ drop n line

@@ -1,0 +1,198 @@
+-- Lines at fault: which places and which names make them so.
+use Rattle.std.proofs.Common.{◌≡◌, ◌<◌, ℕ, zero, suc, sym, refl, ◌∙◌, ap, subst, List, [], ◌∷◌, ◌++◌, take, drop, arith, inl, inr, length-take}
+use Rattle.std.specs.Prelude.{Contains, Option, Some, None, slice_get, flat_map}
+use Rattle.std.specs.List.{AllZip}
+use Rattle.std.proofs.lemmas.Option.{slice_get_within}
+use Rattle.std.proofs.lemmas.List.Concat.{flat_map-append}
+use Rattle.std.proofs.lemmas.List.Elements.{filter_map-append}
+use Rattle.bench_net.specs.Text.{lines}
+use Rattle.bench_net.specs.Statement.{Name, Statement, defined, read}
+use Rattle.bench_net.specs.Reading.{States, statements}
+use Rattle.bench_net.specs.Scan.{names}
+use Rattle.bench_net.specs.Refusal.{at_line, IsLowest, NoLine, IsSyntaxFault, Defines, IsRedefinition, IsUndefined}
+use Rattle.bench_net.specs.reader.Plain.{stated_of}
+use Rattle.lists.proofs.Members.{Among, among, contained, among_left, among_right, among_joined, joined_from}
+use Rattle.lists.proofs.Distinct.{Distinct, distinct_append}
+use Rattle.bench_net.proofs.Reader.{complete_states}
+use Rattle.bench_net.proofs.Checked.{defined_few}
+
+abbrev pub Stated : Type 0
+Stated = Option Statement
+
+-- the names that lines define
+abbrev pub names_of : List Stated → List Name
+names_of stated = names (statements stated)
+
+-- ---- places
+
+-- the lines before a place
+pub in_front : {X : Type 0} (xs : List X) (j k : ℕ) → k < j
+    → slice_get (take j xs) k ≡ slice_get xs k
+in_front xs zero k lt = absurd (omega (arith, lt))
+in_front [] (suc j) k lt = refl
+in_front (x ∷ xs) (suc j) zero lt = refl
+in_front (x ∷ xs) (suc j) (suc k) lt = in_front xs j k (omega (arith, lt))
+
+at_front : {X : Type 0} (xs : List X) (j line : ℕ) → line < suc j
+    → at_line (take j xs) line ≡ at_line xs line
+at_front xs j zero lt = refl
+at_front xs j (suc k) lt = in_front xs j k (omega (arith, lt))
+
+-- the lines around a place
+around : {X : Type 0} (xs : List X) (i : ℕ) (x : X) → slice_get xs i ≡ Some x
+    → xs ≡ take i xs ++ (x ∷ drop (suc i) xs)
+around [] i x e = let bad : None ≡ Some x = e in cc
+around (y ∷ xs) zero x e = let same : y ≡ x = cc in ap (λ z. z ∷ xs) same
+around (y ∷ xs) (suc i) x e = ap (λ ys. y ∷ ys) (around xs i x e)
+
+-- what a line states is among the statements, and the other way round
+stated_among : (stated : List Stated) (i : ℕ) (s : Statement)
+    → slice_get stated i ≡ Some (Some s) → Among s (statements stated)
+stated_among [] i s e = let bad : None ≡ Some (Some s) = e in cc
+stated_among (None ∷ stated) zero s e = let bad : Some None ≡ Some (Some s) = e in cc
+stated_among (None ∷ stated) (suc i) s e = stated_among stated i s e
+stated_among (Some t ∷ stated) zero s e = let same : t ≡ s = cc in inl same
+stated_among (Some t ∷ stated) (suc i) s e = inr (stated_among stated i s e)
+
+pub stated_at : (stated : List Stated) (s : Statement) → Among s (statements stated)
+    → (i : ℕ) × (slice_get stated i ≡ Some (Some s))
+stated_at [] s a = absurd a
+stated_at (None ∷ stated) s a = let f = stated_at stated s a in (suc f.0, f.1)
+stated_at (Some t ∷ stated) s (inl e) = (0, ap (λ x. Some (Some x)) e)
+stated_at (Some t ∷ stated) s (inr a) = let f = stated_at stated s a in (suc f.0, f.1)
+
+pub line_among : (stated : List Stated) (line : ℕ) (s : Statement)
+    → at_line stated line ≡ Some (Some s) → Among s (statements stated)
+line_among stated zero s e = let bad : None ≡ Some (Some s) = e in cc
+line_among stated (suc i) s e = stated_among stated i s e
+
+-- ---- a line that states nothing that a line may state
+
+-- each of lines that state something does
+pub states_each : (ls : List (List ℕ)) (stated : List Stated) (k : ℕ) (l : List ℕ)
+    → AllZip States ls stated → slice_get ls k ≡ Some l → (s : Stated) × States l s
+states_each [] stated k l all e = let bad : None ≡ Some l = e in cc
+states_each (m ∷ ls) [] k l all e = absurd all
+states_each (m ∷ ls) (s ∷ stated) zero l all e =
+    let same : m ≡ l = cc in (s, subst (λ x. States x s) same all.0)
+states_each (m ∷ ls) (s ∷ stated) (suc k) l all e = states_each ls stated k l all.1 e
+
+pub no_unread : (text : List ℕ) (stated : List Stated) (front : List (List ℕ)) (line : ℕ)
+    → AllZip States front stated → at_line front line ≡ at_line (lines text) line
+    → ¬ IsSyntaxFault text line
+no_unread text stated front zero all same bad = let none : None ≡ Some bad.0 = bad.1 in cc
+no_unread text stated front (suc k) all same bad =
+    let s = states_each front stated k bad.0 all (same ∙ bad.1) in bad.2 s.0 s.1
+
+pub unread : (text : List ℕ) (k : ℕ) (l : List ℕ) → slice_get (lines text) k ≡ Some l
+    → stated_of l ≡ None → IsSyntaxFault text (suc k)
+unread text k l at none =
+    (l, at, λ s h. let bad : None ≡ Some s = sym none ∙ complete_states l s h in cc)
+
+pub unread_lowest : (text : List ℕ) (k : ℕ) (l : List ℕ) (stated : List Stated)
+    → slice_get (lines text) k ≡ Some l → stated_of l ≡ None
+    → AllZip States (take k (lines text)) stated → IsLowest (IsSyntaxFault text) (suc k)
+unread_lowest text k l stated at none all = (
+  unread text k l at none,
+  λ line lt. no_unread text stated _ line all (at_front (lines text) k line lt),
+)
+
+-- ---- a line that defines a name that is defined before it
+
+pub earlier_named : (stated : List Stated) (j line : ℕ) (n : Name) → line < suc j
+    → Defines stated line n → Among n (names_of (take j stated))
+earlier_named stated j line n lt d =
+    let there = line_among (take j stated) line d.0 (at_front stated j line lt ∙ d.1) in
+    among_joined defined _ d.0 n there (among _ n d.2)
+
+pub redefinition : (stated : List Stated) (j : ℕ) (s : Statement) (n : Name)
+    → slice_get stated j ≡ Some (Some s) → Among n (defined s)
+    → Among n (names_of (take j stated)) → IsRedefinition stated (suc j)
+redefinition stated j s n at here a =
+    let t = joined_from defined (statements (take j stated)) n a in
+    let k = stated_at (take j stated) t.0 t.1 in
+    let below = slice_get_within (take j stated) k.0 (Some t.0) k.1 in
+    let lt : k.0 < j = omega (arith, below, length-take j stated) in
+    let there = sym (in_front stated j k.0 lt) ∙ k.1 in
+    (n, suc k.0, (s, at, contained _ n here), omega (arith, lt), (t.0, there, contained _ n t.2))
+
+distinct_apart : (xs ys : List Name) (n : Name)
+    → Distinct (xs ++ ys) → Among n xs → Among n ys → ⊥
+distinct_apart [] ys n d a b = a
+distinct_apart (x ∷ xs) ys n d (inl e) b = d.0 (among_right xs ys x (rw (← e) at b))
+distinct_apart (x ∷ xs) ys n d (inr a) b = distinct_apart xs ys n d.1 a b
+
+-- where each name is defined once, no line defines one again
+pub no_redefinition : (stated : List Stated) → Distinct (names_of stated)
+    → NoLine (IsRedefinition stated)
+no_redefinition stated once zero bad = let none : None ≡ Some (Some bad.2.0) = bad.2.1 in cc
+no_redefinition stated once (suc j) bad =
+    let n : Name = bad.0 in
+    distinct_apart (names_of (take j stated)) _ n
+    (subst Distinct parts once) (earlier_named stated j bad.1 n bad.3 bad.4)
+    (among_left (defined bad.2.0) _ n (among _ n bad.2.2))
+  where
+    parts : names_of stated ≡ names_of (take j stated)
+        ++ (defined bad.2.0 ++ names_of (drop (suc j) stated))
+    parts =
+        ap names_of (around stated j (Some bad.2.0) bad.2.1)
+        ∙ ap names (filter_map-append (λ s. s) (take j stated) _)
+        ∙ flat_map-append defined (statements (take j stated)) _
+
+-- and the other way round
+once_from : (stated : List Stated)
+    → ((i j : ℕ) (s t : Statement) (n : Name) → i < j → slice_get stated i ≡ Some (Some s)
+    → slice_get stated j ≡ Some (Some t) → Among n (defined s) → Among n (defined t) → ⊥)
+    → Distinct (names_of stated)
+once_from [] none = tt
+once_from (None ∷ more) none =
+    once_from more (λ i j s t n lt. none (suc i) (suc j) s t n (omega (arith, lt)))
+once_from (Some s ∷ more) none =
+    distinct_append (defined s) (names_of more) one
+    (once_from more (λ i j s t n lt. none (suc i) (suc j) s t n (omega (arith, lt))))
+    (λ n a b. let t = joined_from defined (statements more) n b in
+    let k = stated_at more t.0 t.1 in none 0 (suc k.0) s t.0 n (omega arith) refl k.1 a t.2)
+  where
+    one : Distinct (defined s)
+    one = elim (defined_few s) [ inl none ↦ rw none tt | inr some ↦ rw some.1 (λ a. a, tt) ]
+
+pub once_each : (stated : List Stated) → NoLine (IsRedefinition stated) → Distinct (names_of stated)
+once_each stated none = once_from stated (λ i j s t n lt at_i at_j a b. none (suc j)
+    (n, suc i, (t, at_j, contained _ n b), omega (arith, lt), (s, at_i, contained _ n a)))
+
+pub redefined_lowest : (stated : List Stated) (j : ℕ) (s : Statement) (n : Name)
+    → slice_get stated j ≡ Some (Some s) → Among n (defined s)
+    → Among n (names_of (take j stated)) → Distinct (names_of (take j stated))
+    → IsLowest (IsRedefinition stated) (suc j)
+redefined_lowest stated j s n at here before once =
+    (redefinition stated j s n at here before, lower)
+  where
+    lower : (line : ℕ) → line < suc j → ¬ IsRedefinition stated line
+    lower line lt bad = no_redefinition (take j stated) once line (
+      bad.0,
+      bad.1,
+      (bad.2.0, at_front stated j line lt ∙ bad.2.1, bad.2.2),
+      bad.3,
+      (bad.4.0, at_front stated j bad.1 (omega (arith, lt, bad.3)) ∙ bad.4.1, bad.4.2),
+    )
+
+-- ---- a line that reads a name that no line defines
+
+pub undefined_lowest : (stated : List Stated) (j : ℕ) (s : Statement) (n : Name)
+    → slice_get stated j ≡ Some (Some s) → Among n (read s) → ¬ Contains (names_of stated) n
+    → ((m : Name) → Among m (flat_map read (statements (take j stated)))
+    → Contains (names_of stated) m) → IsLowest (IsUndefined stated) (suc j)
+undefined_lowest stated j s n at here not known = ((n, (s, at, contained _ n here), not), lower)
+  where
+    lower : (line : ℕ) → line < suc j → ¬ IsUndefined stated line
+    lower line lt bad =
+        let there = line_among (take j stated) line bad.1.0
+        (at_front stated j line lt ∙ bad.1.1) in
+        bad.2 (known bad.0 (among_joined read _ bad.1.0 bad.0 there (among _ _ bad.1.2)))
+
+pub no_undefined : (stated : List Stated)
+    → ((n : Name) → Contains (flat_map read (statements stated)) n → Contains (names_of stated) n)
+    → NoLine (IsUndefined stated)
+no_undefined stated known line bad =
+    let s = line_among stated line bad.1.0 bad.1.1 in
+    bad.2 (known bad.0 (contained _ _ (among_joined read _ bad.1.0 _ s (among _ _ bad.1.2))))
