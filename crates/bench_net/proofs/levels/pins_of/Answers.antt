@@ -1,0 +1,32 @@
+use Rattle.std.proofs.Common.{◌≡◌, ◌∙◌, ℕ, [], sym, ap, refl}
+use Rattle.std.specs.Prelude.{Some, slice_index}
+use Rattle.std.proofs.lemmas.Option.{slice_get_within}
+use Rattle.bench_net.specs.declared.GateLine.{GateLine}
+use Rattle.bench_net.specs.declared.line.Line.{Line}
+use Rattle.bench_net.specs.declared.line.Line.TheVariants as line
+use Rattle.bench_net.specs.Marks.{pins_in}
+use Rattle.bench_net.specs.Tables.{line_gate}
+use Rattle.bench_net.proofs.Listed.{line_at, line_read}
+use Rattle.bench_net.proofs.levels.pins_of.Goals as goal
+
+pub bounds-lines-definitions : goal.bounds-lines-definitions
+bounds-lines-definitions c =
+    let at = line_at c.args.lines.now c.args.definitions.now c.args.signal c.requires.definitions c.requires.below in
+    slice_get_within c.args.lines.now (slice_index c.args.definitions.now c.args.signal) at.0 at.1
+
+pub returns-in-Gate : goal.returns-in-Gate
+returns-in-Gate c =
+    let read = line_read c.args.lines.now c.args.definitions.now c.args.signal c.index-lines-definitions.result c.requires.definitions c.requires.below c.index-lines-definitions.is in
+    c.as_slice.ensures ∙ sym (ap (λ o. pins_in (line_gate o)) (read ∙ ap Some c.in-Gate.is))
+
+-- a line that is no gate's has no pins
+no_pins : (l : Line) → ((s : ℕ) (gate : GateLine) → l ≡ line.Gate s gate → ⊥) → pins_in (line_gate (Some l)) ≡ []
+no_pins (line.Input s) none = refl
+no_pins (line.Output s) none = refl
+no_pins (line.Gate s gate) none = absurd (none s gate refl)
+no_pins (line.Dff q d) none = refl
+
+pub returns-in_default : goal.returns-in_default
+returns-in_default c =
+    let read = line_read c.args.lines.now c.args.definitions.now c.args.signal c.index-lines-definitions.result c.requires.definitions c.requires.below c.index-lines-definitions.is in
+    sym (ap (λ o. pins_in (line_gate o)) read ∙ no_pins c.index-lines-definitions.result c.in_default.not-Gate)
