@@ -6,7 +6,7 @@ use Rattle.bench_net.specs.declared.line.Line.{Line}
 use Rattle.bench_net.specs.declared.line.Line.TheVariants as line
 use Rattle.bench_net.specs.Marks.{pins_in}
 use Rattle.bench_net.specs.Tables.{line_gate}
-use Rattle.bench_net.proofs.Listed.{line_at, line_read}
+use Rattle.bench_net.proofs.Listed.{line_at, line_read, no_gate}
 use Rattle.bench_net.proofs.levels.pins_of.Goals as goal
 
 pub bounds-lines-definitions : goal.bounds-lines-definitions
@@ -19,14 +19,7 @@ returns-in-Gate c =
     let read = line_read c.args.lines.now c.args.definitions.now c.args.signal c.index-lines-definitions.result c.requires.definitions c.requires.below c.index-lines-definitions.is in
     c.as_slice.ensures ∙ sym (ap (λ o. pins_in (line_gate o)) (read ∙ ap Some c.in-Gate.is))
 
--- a line that is no gate's has no pins
-no_pins : (l : Line) → ((s : ℕ) (gate : GateLine) → l ≡ line.Gate s gate → ⊥) → pins_in (line_gate (Some l)) ≡ []
-no_pins (line.Input s) none = refl
-no_pins (line.Output s) none = refl
-no_pins (line.Gate s gate) none = absurd (none s gate refl)
-no_pins (line.Dff q d) none = refl
-
 pub returns-in_default : goal.returns-in_default
 returns-in_default c =
     let read = line_read c.args.lines.now c.args.definitions.now c.args.signal c.index-lines-definitions.result c.requires.definitions c.requires.below c.index-lines-definitions.is in
-    sym (ap (λ o. pins_in (line_gate o)) read ∙ no_pins c.index-lines-definitions.result c.in_default.not-Gate)
+    sym (ap (λ o. pins_in (line_gate o)) read ∙ ap pins_in (no_gate c.index-lines-definitions.result c.in_default.not-Gate))

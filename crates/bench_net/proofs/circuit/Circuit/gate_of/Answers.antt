@@ -9,6 +9,7 @@ use Rattle.bench_net.specs.Statement.{Statement}
 use Rattle.bench_net.specs.Scan.{names, gate_of}
 use Rattle.bench_net.specs.Tables.{line_gate}
 use Rattle.bench_net.specs.Inside.{IsDefinition}
+use Rattle.bench_net.proofs.Listed.{no_gate}
 use Rattle.bench_net.proofs.circuit.Circuit.gate_of.Goals as goal
 
 -- the line that is read at the place that is read
@@ -33,13 +34,6 @@ returns-in-Gate c =
     let below = subst (λ s. c.args.signal < length (names s)) (sym c.self.view_is) c.requires in
     let found = (drives c.args.self.now lines places c.args.signal c.index.result.now (subst (λ s. IsDefinition s lines c.args.signal (slice_index places c.args.signal)) c.self.view_is (c.self.invariant.definitions_are c.args.signal below)) (omega (arith, below, c.self.invariant.definition_count)) c.index.ensures).1 c.index-2.result.now c.index-2.ensures in
     ap (λ l. line_gate (Some l)) (sym c.in-Gate.is) ∙ found
-
--- a line that is no gate's drives no gate
-no_gate : (l : Line) → ((s : ℕ) (gate : GateLine) → l ≡ line.Gate s gate → ⊥) → line_gate (Some l) ≡ None
-no_gate (line.Input s) not_gate = refl
-no_gate (line.Output s) not_gate = refl
-no_gate (line.Gate s gate) not_gate = absurd (not_gate s gate refl)
-no_gate (line.Dff q d) not_gate = refl
 
 pub returns-in_default : goal.returns-in_default
 returns-in_default c =
