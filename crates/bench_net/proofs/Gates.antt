@@ -27,34 +27,28 @@ use Rattle.bench_net.proofs.Reader.{some_args}
 abbrev pub pins : List Statement → ℕ → List ℕ
 pins c s = pins_in (gate_of c s)
 
--- a source is defined by a statement that is no gate's
-SourceStatement : List Statement → Name → Type 0
-SourceStatement c n = (st : Statement) × Among st c × (defined st ≡ n ∷ []) × ((b : List Statement) → gate_line b (Some st) ≡ None)
-
-of_input : (c : List Statement) (n : Name) → Among n (inputs c) → SourceStatement c n
-unfolding SourceStatement
+-- a source is an input's name, or a cell's q
+of_input : (c : List Statement) (n : Name) → Among n (inputs c) → Among (Input n) c
 of_input [] n a = absurd a
-of_input (Input m ∷ c) n (inl e) = (Input m, inl refl, ap (λ x. x ∷ []) e, λ b. refl)
-of_input (Input m ∷ c) n (inr a) = let at = of_input c n a in (at.0, inr at.1, at.2, at.3)
-of_input (Output m ∷ c) n a = let at = of_input c n a in (at.0, inr at.1, at.2, at.3)
-of_input (Gate m kind args ∷ c) n a = let at = of_input c n a in (at.0, inr at.1, at.2, at.3)
-of_input (Dff q d ∷ c) n a = let at = of_input c n a in (at.0, inr at.1, at.2, at.3)
+of_input (Input m ∷ c) n (inl e) = inl (ap Input e)
+of_input (Input m ∷ c) n (inr a) = inr (of_input c n a)
+of_input (Output m ∷ c) n a = inr (of_input c n a)
+of_input (Gate m kind args ∷ c) n a = inr (of_input c n a)
+of_input (Dff q d ∷ c) n a = inr (of_input c n a)
 
-of_cell : (c : List Statement) (n : Name) → Among n (map (λ cell. cell.0) (cells c)) → SourceStatement c n
-unfolding SourceStatement
+pub of_cell : (c : List Statement) (n : Name) → Among n (map (λ cell. cell.0) (cells c)) → (d : Name) × Among (Dff n d) c
 of_cell [] n a = absurd a
-of_cell (Dff q d ∷ c) n (inl e) = (Dff q d, inl refl, ap (λ x. x ∷ []) e, λ b. refl)
-of_cell (Dff q d ∷ c) n (inr a) = let at = of_cell c n a in (at.0, inr at.1, at.2, at.3)
-of_cell (Input m ∷ c) n a = let at = of_cell c n a in (at.0, inr at.1, at.2, at.3)
-of_cell (Output m ∷ c) n a = let at = of_cell c n a in (at.0, inr at.1, at.2, at.3)
-of_cell (Gate m kind args ∷ c) n a = let at = of_cell c n a in (at.0, inr at.1, at.2, at.3)
+of_cell (Dff q d ∷ c) n (inl e) = (d, inl (ap (λ x. Dff x d) e))
+of_cell (Dff q d ∷ c) n (inr a) = let at = of_cell c n a in (at.0, inr at.1)
+of_cell (Input m ∷ c) n a = let at = of_cell c n a in (at.0, inr at.1)
+of_cell (Output m ∷ c) n a = let at = of_cell c n a in (at.0, inr at.1)
+of_cell (Gate m kind args ∷ c) n a = let at = of_cell c n a in (at.0, inr at.1)
 
 pub source_statement : (c : List Statement) (n : Name) → Among n (sources c)
     → (st : Statement) × Among st c × (defined st ≡ n ∷ []) × ((b : List Statement) → gate_line b (Some st) ≡ None)
-unfolding SourceStatement
 source_statement c n a = elim (among_append (inputs c) (map (λ cell. cell.0) (cells c)) n a) [
-  | inl b ↦ of_input c n b
-  | inr b ↦ of_cell c n b
+  | inl b ↦ (Input n, of_input c n b, refl, λ w. refl)
+  | inr b ↦ (let at = of_cell c n b in (Dff n at.0, at.1, refl, λ w. refl))
 ]
 
 pub named : (c : List Statement) (st : Statement) (n : Name) → Among st c → defined st ≡ n ∷ [] → Among n (names c)

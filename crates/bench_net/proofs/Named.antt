@@ -22,7 +22,7 @@ use Rattle.lists.proofs.Distinct.{Distinct}
 use Rattle.lists.proofs.Places.{placed}
 use Rattle.bench_net.proofs.Checked.{same_bytes, bytes_refl}
 use Rattle.bench_net.proofs.Numbers.{signal-name_of, name_of-signal}
-use Rattle.bench_net.proofs.Gates.{named_number}
+use Rattle.bench_net.proofs.Gates.{named, named_number, of_cell}
 
 -- each line holds the numbers of its statement's names
 pub data AreStated (number : Name → ℕ) : List Statement → List Line → Type 0 where
@@ -105,20 +105,12 @@ position_after (x ∷ before) after q once =
       | inr off ↦ rw off (ap (λ n. 1 + n) (position_after before after q once.1) ∙ one-add (length before))
     ]
 
-cell_defined : (c : List Statement) (q : Name) → Among q (map (λ cell. cell.0) (cells c)) → Among q (names c)
-cell_defined [] q a = absurd a
-cell_defined (Input m ∷ c) q a = inr (cell_defined c q a)
-cell_defined (Output m ∷ c) q a = cell_defined c q a
-cell_defined (Gate m kind args ∷ c) q a = inr (cell_defined c q a)
-cell_defined (Dff p d ∷ c) q (inl e) = inl e
-cell_defined (Dff p d ∷ c) q (inr a) = inr (cell_defined c q a)
-
 pub cells_once : (c : List Statement) → Distinct (names c) → Distinct (map (λ cell. cell.0) (cells c))
 cells_once [] once = tt
 cells_once (Input m ∷ c) once = cells_once c once.1
 cells_once (Output m ∷ c) once = cells_once c once
 cells_once (Gate m kind args ∷ c) once = cells_once c once.1
-cells_once (Dff q d ∷ c) once = ((λ a. once.0 (cell_defined c q a)), cells_once c once.1)
+cells_once (Dff q d ∷ c) once = ((λ a. let at = of_cell c q a in once.0 (named c (Dff q at.0) q at.1 refl)), cells_once c once.1)
 
 module _ (whole : List Statement) (n : Name) (named : Contains (names whole) n) where
   -- a name that has the number of this one is this one

@@ -1,9 +1,6 @@
-use Rattle.std.proofs.Common.{◌≡◌, ◌∙◌, ℕ, [], sym, ap, refl}
+use Rattle.std.proofs.Common.{◌∙◌, sym, ap}
 use Rattle.std.specs.Prelude.{Some, slice_index}
 use Rattle.std.proofs.lemmas.Option.{slice_get_within}
-use Rattle.bench_net.specs.declared.GateLine.{GateLine}
-use Rattle.bench_net.specs.declared.line.Line.{Line}
-use Rattle.bench_net.specs.declared.line.Line.TheVariants as line
 use Rattle.bench_net.specs.Marks.{pins_in}
 use Rattle.bench_net.specs.Tables.{line_gate}
 use Rattle.bench_net.proofs.Listed.{line_at, line_read, no_gate}

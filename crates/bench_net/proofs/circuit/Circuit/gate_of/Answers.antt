@@ -1,10 +1,8 @@
-use Rattle.std.proofs.Common.{◌≡◌, ◌<◌, ◌∙◌, ℕ, List, arith, ap, sym, subst, refl, length, get_or}
-use Rattle.std.specs.Prelude.{Some, None, slice_get, slice_index}
+use Rattle.std.proofs.Common.{◌≡◌, ◌<◌, ◌∙◌, ℕ, List, arith, ap, sym, subst, length, get_or}
+use Rattle.std.specs.Prelude.{Some, slice_get, slice_index}
 use Rattle.std.proofs.lemmas.List.{get_or_read}
 use Rattle.std.proofs.lemmas.Option.{slice_get_within, get_or_from_slice_get}
-use Rattle.bench_net.specs.declared.GateLine.{GateLine}
 use Rattle.bench_net.specs.declared.line.Line.{Line}
-use Rattle.bench_net.specs.declared.line.Line.TheVariants as line
 use Rattle.bench_net.specs.Statement.{Statement}
 use Rattle.bench_net.specs.Scan.{names, gate_of}
 use Rattle.bench_net.specs.Tables.{line_gate}
