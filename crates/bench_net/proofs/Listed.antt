@@ -1,12 +1,15 @@
 -- Tables that are lists of lines: where each signal is defined, and its place among the sources.
-use Rattle.std.proofs.Common.{◌≡◌, ◌≢◌, ◌<◌, ◌≤◌, ◌+◌, ℕ, sym, ◌∙◌, ap, cond, true, false, List, [], ◌∷◌, ◌++◌, map, length, take, get_or, set, filter, arith, inl, inr, ◌⊎◌}
-use Rattle.std.specs.Prelude.{Option, Some, None, slice_get}
+use Rattle.std.proofs.Common.{◌≡◌, ◌≢◌, ◌<◌, ◌≤◌, ◌+◌, ℕ, sym, ◌∙◌, ap, refl, cond, true, false, List, [], ◌∷◌, ◌++◌, map, length, take, get_or, set, filter, arith, inl, inr, ◌⊎◌}
+use Rattle.std.specs.Prelude.{Option, Some, None, slice_get, slice_index, option_map}
 use Rattle.std.proofs.lemmas.Bool.{cases_eq, cases_lt}
 use Rattle.std.proofs.lemmas.List.{map_push, length-set, append-nil, get_or-set_same, get_or-set_other}
 use Rattle.std.proofs.lemmas.List.Elements.{filter_more}
-use Rattle.std.proofs.lemmas.Option.{slice_get-get_or, slice_get_within, get_or_from_slice_get}
+use Rattle.std.proofs.lemmas.Option.{slice_get-get_or, slice_get_within, get_or_from_slice_get, slice_get-map}
+use Rattle.bench_net.specs.declared.GateLine.{GateLine}
 use Rattle.bench_net.specs.declared.line.Line.{Line}
-use Rattle.bench_net.specs.Tables.{defines_number}
+use Rattle.bench_net.specs.declared.line.Line.TheVariants as line
+use Rattle.bench_net.specs.Tables.{defines_number, line_gate, AreDefinitions}
+use Rattle.lists.proofs.Places.{from_mapped}
 
 -- ---- definitions
 
@@ -25,6 +28,28 @@ defined_same lines places i l lt at defines before =
     let passes : defines_number (get_or lines i l) ≡ false = ap defines_number (sym at) ∙ defines in
     let kept : filter defines_number (take (i + 1) lines) ≡ filter defines_number (take i lines) = filter_more defines_number lines i l lt ∙ (ap (λ b. filter defines_number (take i lines) ++ cond b (get_or lines i l ∷ []) []) passes ∙ append-nil (filter defines_number (take i lines))) in
     before ∙ ap (map Some) (sym kept)
+
+-- the line at the place of a signal is that signal's among the lines that define one
+pub line_at : (lines : List Line) (places : List ℕ) (s : ℕ) → AreDefinitions lines places → s < length places
+    → (l : Line) × (slice_get lines (slice_index places s) ≡ Some l) × (slice_get (filter defines_number lines) s ≡ Some l)
+line_at lines places s are lt =
+    let e = slice_get-map (slice_get lines) places s ∙ ap (option_map (slice_get lines)) (slice_get-get_or places s 0 lt) in
+    let p = from_mapped Some (filter defines_number lines) s (slice_get lines (slice_index places s)) (ap (λ xs. slice_get xs s) (sym are) ∙ e) in
+    (p.0, sym p.2, p.1)
+
+-- and so is the line that is read there
+pub line_read : (lines : List Line) (places : List ℕ) (s : ℕ) (l : Line) → AreDefinitions lines places → s < length places → l ≡ get_or lines (slice_index places s) l
+    → slice_get (filter defines_number lines) s ≡ Some l
+line_read lines places s l are lt read =
+    let at = line_at lines places s are lt in
+    at.2 ∙ ap Some (sym (get_or_from_slice_get lines (slice_index places s) at.0 l at.1) ∙ sym read)
+
+-- a line that is no gate's drives no gate
+pub no_gate : (l : Line) → ((s : ℕ) (gate : GateLine) → l ≡ line.Gate s gate → ⊥) → line_gate (Some l) ≡ None
+no_gate (line.Input s) not_gate = refl
+no_gate (line.Output s) not_gate = refl
+no_gate (line.Gate s gate) not_gate = absurd (not_gate s gate refl)
+no_gate (line.Dff q d) not_gate = refl
 
 -- ---- places among the sources
 

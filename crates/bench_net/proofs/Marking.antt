@@ -1,23 +1,18 @@
 -- Levels, and the marks of a search for them.
-use Rattle.std.proofs.Common.{◌≡◌, ◌≢◌, ◌<◌, ◌≤◌, ◌+◌, ℕ, zero, suc, max, sym, ◌∙◌, ap, subst, refl, cond, Bool, true, false, not, List, [], ◌∷◌, ◌++◌, map, length, get_or, set, filter, arith, inl, inr, ◌⊎◌}
-use Rattle.std.specs.Prelude.{Option, Some, None, slice_get, slice_index, All, Contains, count_by, fold, unwrap_or}
-use Rattle.std.specs.List.{enumerate_from}
+use Rattle.std.proofs.Common.{◌≡◌, ◌≢◌, ◌<◌, ◌≤◌, ◌+◌, ℕ, zero, suc, max, sym, ◌∙◌, ap, subst, refl, cond, false, List, [], ◌∷◌, ◌++◌, map, length, take, get_or, set, arith, inl, inr, ◌⊎◌}
+use Rattle.std.specs.Prelude.{Some, slice_get, slice_index, Contains, count_by, fold, sum_by}
 use Rattle.std.proofs.lemmas.Bool.{cases_lt}
-use Rattle.std.proofs.lemmas.List.{same_lists, length-map, length-set, length_push, get_or-map, get_or_append_left, get_or_push, get_or_default}
-use Rattle.std.proofs.lemmas.List.Sums.{fold_push, sum_by-set}
-use Rattle.std.proofs.lemmas.List.Elements.{Contains-get_or, Contains-append_left, Contains-push, Contains-push_cases, All-append, All-cons, All-nil, All-pop}
+use Rattle.std.proofs.lemmas.List.{length-map, length-set, get_or-map, take_all, take_more}
+use Rattle.std.proofs.lemmas.List.Sums.{sum_by-set, count_by-le-length}
+use Rattle.std.proofs.lemmas.List.Elements.{Contains-get_or}
 use Rattle.std.proofs.lemmas.Option.{slice_get_within, get_or_from_slice_get}
 use Rattle.bench_net.specs.declared.levels.Mark.{Mark}
-use Rattle.bench_net.specs.declared.levels.Mark.TheVariants.{Waits, Level}
-use Rattle.bench_net.specs.declared.levels.LevelFault.{LevelFault}
-use Rattle.bench_net.specs.declared.levels.LevelFault.TheVariants.{Memory, Cycle}
-use Rattle.bench_net.specs.declared.Sink.{Sink}
-use Rattle.bench_net.specs.declared.Sink.TheVariants.{Pin}
+use Rattle.bench_net.specs.declared.levels.Mark.TheVariants.{Unknown, Open, Level}
+use Rattle.bench_net.specs.declared.levels.LevelFault.TheVariants.{Cycle}
 use Rattle.bench_net.specs.Level.{greatest}
-use Rattle.bench_net.specs.Tables.{row_of}
-use Rattle.bench_net.specs.Marks.{mark_from, level_from, AreLevelsOf, HasPinIn, IsLevelFault, AreReaders, HasLevelAt, of_source, of_gate, HaveLevelsUpTo, IsMark, has_level, height, AreMarks, IsLevelled, WaitsAt, IsSearch, IsNextMark, IsFirstWaiting}
-use Rattle.lists.proofs.Members.{Among, among, contained, among_filter, filtered_from, among_map, mapped_from}
-use Rattle.lists.proofs.Places.{among_numbered, numbered_at, within_place}
+use Rattle.bench_net.specs.Marks.{level_above, AreLevelsOf, HaveLevels, no_signal, one_more, IsLevelFault, has_level, IsMark, IsPath, IsSearch, level_in}
+use Rattle.lists.proofs.Members.{Among, among, contained}
+use Rattle.lists.proofs.Places.{within_place}
 use Rattle.bench_net.proofs.Listed.{written}
 
 -- ---- the greatest of some numbers
@@ -39,277 +34,255 @@ greatest-within [] m h = omega arith
 greatest-within (x ∷ xs) m h =
     omega (arith, greatest-cons x xs, h 0 (omega arith), greatest-within xs m (λ i lt. h (suc i) (omega (arith, lt))))
 
-module _ (pins : ℕ → Option (List ℕ)) where
-  -- ---- a signal has at most one level, and none if it is stuck
+-- the sum over marks after a change
+pub sum_set : (f : Mark → ℕ) (marks : List Mark) (g : ℕ) (old m : Mark) → slice_get marks g ≡ Some old
+    → sum_by f (set marks g m) + f old ≡ sum_by f marks + f m
+sum_set f marks g old m at =
+    let is = ap f (get_or_from_slice_get marks g old old at) in
+    omega (arith, sum_by-set f marks g m old (slice_get_within marks g old at), is)
 
-  source_level : (s k : ℕ) → HasLevelAt pins s k → pins s ≡ None → k ≡ 0
-  source_level s k (of_source _ _ none is) e = is
-  source_level s k (of_gate _ _ read levels has count each is) e = let bad : None ≡ Some read = sym e ∙ has in cc
+count_set : (marks : List Mark) (g : ℕ) (old m : Mark) → slice_get marks g ≡ Some old → has_level old ≡ false
+    → count_by has_level (set marks g m) ≡ count_by has_level marks + cond (has_level m) 1 0
+count_set marks g old m at none =
+    omega (arith, sum_set (λ x. cond (has_level x) 1 0) marks g old m at, ap {B = ℕ} (λ b. cond b 1 0) none)
 
-  gate_level : (s k : ℕ) (read : List ℕ) → HasLevelAt pins s k → pins s ≡ Some read
-      → (levels : List ℕ) × (length levels ≡ length read) × ((i : ℕ) → i < length read → HasLevelAt pins (slice_index read i) (slice_index levels i)) × (k ≡ 1 + greatest levels)
-  gate_level s k read (of_source _ _ none is) e = let bad : None ≡ Some read = sym none ∙ e in cc
-  gate_level s k read (of_gate _ _ other levels has count each is) e =
-      let both : Some other ≡ Some read = sym has ∙ e in
-      let same : other ≡ read = cc in
-      subst (λ r. (levels : List ℕ) × (length levels ≡ length r) × ((i : ℕ) → i < length r → HasLevelAt pins (slice_index r i) (slice_index levels i)) × (k ≡ 1 + greatest levels)) same (levels, count, each, is)
+module _ {pins : ℕ → List ℕ} where
+  -- ---- levels
 
-  pub one_level : (s j k : ℕ) → HasLevelAt pins s j → HasLevelAt pins s k → j ≡ k
-  one_level s j k (of_source _ _ none is) other = is ∙ sym (source_level s k other none)
-  one_level s j k (of_gate _ _ read levels has count each is) other =
-      let o = gate_level s k read other has in
-      let same : levels ≡ o.0 = same_lists levels o.0 (count ∙ sym o.1) (λ i d lt. sym (get_or_default levels i 0 d lt)
-      ∙ (one_level (slice_index read i) (slice_index levels i) (slice_index o.0 i) (each i (omega (arith, lt, count))) (o.2 i (omega (arith, lt, count)))
-      ∙ get_or_default o.0 i 0 d (omega (arith, lt, count, o.1)))) in
-      is ∙ (ap (λ ls. 1 + greatest ls) same ∙ sym o.3)
+  -- signals have one level above them
+  one_level : (ps : List ℕ) (j k : ℕ) → HaveLevels pins ps j → HaveLevels pins ps k → j ≡ k
+  one_level ps j k no_signal no_signal = refl
+  one_level ps j k (one_more p qs i a _ here rest is) (one_more _ _ h b _ there more same) =
+      omega (arith, one_level (pins p) i h here there, one_level qs a b rest more, is, same)
 
-  pub not_stuck : (members : List ℕ) → ((m : ℕ) → Contains members m → HasPinIn pins members m) → (s k : ℕ) → HasLevelAt pins s k → Contains members s → ⊥
-  not_stuck members stuck s k (of_source _ _ none is) has =
-      let next = stuck s has in
-      let bad : None ≡ Some next.0 = sym none ∙ next.2 in cc
-  not_stuck members stuck s k (of_gate _ _ read levels reads count each is) has =
-      let next = stuck s has in
-      let both : Some next.0 ≡ Some read = sym next.2 ∙ reads in
-      let same : next.0 ≡ read = cc in
-      let at : Contains read next.1 = subst (λ r. Contains r next.1) same next.3 in
-      let p : slice_index read at.0 ≡ next.1 = get_or_default read at.0 0 next.1 at.1 ∙ at.2 in
-      not_stuck members stuck (slice_index read at.0) (slice_index levels at.0) (each at.0 at.1) (subst (Contains members) (sym p) next.4)
+  -- the level above signals by a table of all levels
+  above_is : (levels ps : List ℕ) (k : ℕ) → HaveLevels pins ps k
+      → ((p : ℕ) → Among p ps → HaveLevels pins (pins p) (slice_index levels p))
+      → k ≡ level_above (map (slice_index levels) ps)
+  above_is levels ps k no_signal all = refl
+  above_is levels ps k (one_more p qs i a _ here rest is) all =
+      omega (arith, is, one_level (pins p) i (slice_index levels p) here (all p (inl refl)), above_is levels qs a rest (λ q b. all q (inr b)))
 
-  -- signals that all have a level
-  pub levels_are : (n : ℕ) (levels : List ℕ) → ((s p : ℕ) (read : List ℕ) → s < n → pins s ≡ Some read → Contains read p → p < n)
-      → length levels ≡ n → ((s : ℕ) → s < n → HasLevelAt pins s (slice_index levels s)) → AreLevelsOf pins n levels
-  levels_are n levels below count at = record { count = count; each = λ s lt. each s lt (pins s) refl }
-    where
-      each : (s : ℕ) → s < n → (o : Option (List ℕ)) → pins s ≡ o → slice_index levels s ≡ level_from (slice_index levels) (pins s)
-      each s lt None e = source_level s (slice_index levels s) (at s lt) e ∙ sym (ap (level_from (slice_index levels)) e)
-      each s lt (Some read) e =
-          let l = gate_level s (slice_index levels s) read (at s lt) e in
-          let same : l.0 ≡ map (slice_index levels) read = same_lists l.0 (map (slice_index levels) read) (l.1 ∙ sym (length-map read (slice_index levels))) (λ i d i_lt.
-          let in_read : i < length read = omega (arith, i_lt, l.1) in
-          let p : ℕ = slice_index read i in
-          sym (get_or_default l.0 i 0 d i_lt) ∙ (one_level p (slice_index l.0 i) (slice_index levels p) (l.2 i in_read) (at p (below s p read lt e (Contains-get_or read i 0 in_read)))
-          ∙ sym (get_or-map (slice_index levels) read i 0 d in_read))) in
-          l.3 ∙ (ap (λ ls. 1 + greatest ls) same ∙ sym (ap (level_from (slice_index levels)) e))
-
-  -- ---- the pins before a pin
-
-  pub up_to_none : (read : List ℕ) → HaveLevelsUpTo pins read 0 0
-  up_to_none read = record { levels = []; count = refl; each = λ i lt. absurd (omega (arith, lt)); is_greatest = refl }
-
-  pub up_to_more : (read : List ℕ) (pin above k : ℕ) → HaveLevelsUpTo pins read pin above → HasLevelAt pins (slice_index read pin) k → HaveLevelsUpTo pins read (pin + 1) (max above k)
-  up_to_more read pin above k up has = record {
-    levels = up.levels ++ k ∷ [];
-    count = length_push up.levels k ∙ ap (λ n. n + 1) up.count;
-    each = λ i lt. each i lt (cases_lt i pin);
-    is_greatest = ap (λ a. max a k) up.is_greatest ∙ sym (fold_push max 0 up.levels k);
-  }
-    where
-      each : (i : ℕ) → i < pin + 1 → (i < pin) ⊎ (pin ≤ i) → HasLevelAt pins (slice_index read i) (slice_index (up.levels ++ k ∷ []) i)
-      each i lt (inl before) = subst (HasLevelAt pins (slice_index read i)) (sym (get_or_append_left up.levels (k ∷ []) 0 i (omega (arith, before, up.count)))) (up.each i before)
-      each i lt (inr after) =
-          let here : pin ≡ i = omega arith in
-          subst (HasLevelAt pins (slice_index read i)) (sym (get_or_push up.levels k 0 i (up.count ∙ here))) (subst (λ j. HasLevelAt pins (slice_index read j) k) here has)
-
-  -- the marks before any gate is told of a level
-  pub first_are : (n : ℕ) (marks : List Mark) → length marks ≡ n → ((s : ℕ) → s < n → slice_get marks s ≡ Some (mark_from (pins s))) → ((s : ℕ) → s < n → pins s ≢ Some []) → AreMarks pins n marks
-  first_are n marks count at have = record {
+  levels_are : (n : ℕ) (levels : List ℕ) → ((s p : ℕ) → Contains (pins s) p → p < n) → length levels ≡ n
+      → ((s : ℕ) → s < n → HaveLevels pins (pins s) (slice_index levels s)) → AreLevelsOf pins n levels
+  levels_are n levels below count at = record {
     count = count;
-    each = λ s m e. let lt : s < n = omega (arith, slice_get_within marks s m e, count) in (mark s m lt (pins s) refl (sym (at s lt) ∙ e)).0;
-    small = λ s m e. let lt : s < n = omega (arith, slice_get_within marks s m e, count) in omega (arith, (mark s m lt (pins s) refl (sym (at s lt) ∙ e)).1);
-  }
-    where
-      mark : (s : ℕ) (m : Mark) → s < n → (o : Option (List ℕ)) → pins s ≡ o → Some (mark_from (pins s)) ≡ Some m → IsMark pins s m × (height m ≡ 0)
-      mark s m lt None e is =
-          let both : Some (Level 0) ≡ Some m = sym (ap (λ o. Some (mark_from o)) e) ∙ is in
-          let same : Level 0 ≡ m = cc both in
-          subst (λ x. IsMark pins s x × (height x ≡ 0)) same (of_source s 0 e refl, refl)
-      mark s m lt (Some []) e is = absurd (have s lt e)
-      mark s m lt (Some (p ∷ read)) e is =
-          let both : Some (Waits 0 0) ≡ Some m = sym (ap (λ o. Some (mark_from o)) e) ∙ is in
-          let same : Waits 0 0 ≡ m = cc both in
-          subst (λ x. IsMark pins s x × (height x ≡ 0)) same ((p ∷ read, e, omega arith, up_to_none (p ∷ read)), refl)
-
-  -- what a waiting gate reads
-  pub waits_on : (n : ℕ) (marks : List Mark) (g pin above : ℕ) (read : List ℕ) → AreMarks pins n marks → slice_get marks g ≡ Some (Waits pin above) → read ≡ unwrap_or (pins g) []
-      → (pins g ≡ Some read) × (pin < length read) × HaveLevelsUpTo pins read pin above
-  waits_on n marks g pin above read are waits is =
-      let mark : IsMark pins g (Waits pin above) = are.each g (Waits pin above) waits in
-      let same : mark.0 ≡ read = sym (is ∙ ap (λ o. unwrap_or o []) mark.1) in
-      subst (λ r. (pins g ≡ Some r) × (pin < length r) × HaveLevelsUpTo pins r pin above) same (mark.1, mark.2, mark.3)
-
-  -- ---- a mark is changed
-
-  abbrev pub one_if_level : Mark → ℕ
-  one_if_level m = cond (has_level m) 1 0
-
-  -- how many have a level after a gate that waited has its next mark
-  count_next : (marks : List Mark) (g pin above : ℕ) (m : Mark) → slice_get marks g ≡ Some (Waits pin above) → count_by has_level (set marks g m) ≡ count_by has_level marks + one_if_level m
-  count_next marks g pin above m waits =
-      let old : one_if_level (get_or marks g (Level 0)) ≡ 0 = ap one_if_level (get_or_from_slice_get marks g (Waits pin above) (Level 0) waits) in
-      omega (arith, sum_by-set one_if_level marks g m (Level 0) (slice_get_within marks g (Waits pin above) waits), old)
-
-  pub waits_next : (marks : List Mark) (g pin above at most : ℕ) (read : List ℕ) → slice_get marks g ≡ Some (Waits pin above) → pins g ≡ Some read → at < length read → HaveLevelsUpTo pins read at most
-      → most ≤ count_by has_level marks → (¬ IsLevelled marks (slice_index read at)) → IsNextMark pins marks g (Waits at most)
-  waits_next marks g pin above at most read waits is lt up small none = record {
-    is_mark = (read, is, lt, up);
-    small = omega (arith, count_next marks g pin above (Waits at most) waits);
-    waits = λ i a other e has.
-        let pin_same : at ≡ i = cc in
-        let both : Some read ≡ Some other = sym is ∙ has in
-        let same : read ≡ other = cc in
-        λ l. none (subst (IsLevelled marks) (ap (λ r. slice_index r i) (sym same) ∙ ap (slice_index read) (sym pin_same)) l);
+    each = λ s lt. above_is levels (pins s) (slice_index levels s) (at s lt) (λ p a. at p (below s p (contained (pins s) p a)));
   }
 
-  pub levelled_next : (marks : List Mark) (g pin above most : ℕ) (read : List ℕ) → slice_get marks g ≡ Some (Waits pin above) → pins g ≡ Some read → HaveLevelsUpTo pins read (length read) most
-      → most ≤ count_by has_level marks → IsNextMark pins marks g (Level (most + 1))
-  levelled_next marks g pin above most read waits is up small = record {
-    is_mark = of_gate g (most + 1) read up.levels is up.count up.each (omega (arith, up.is_greatest));
-    small = omega (arith, count_next marks g pin above (Level (most + 1)) waits);
-    waits = λ i a other e has. let bad : Level (most + 1) ≡ Waits i a = e in cc;
-  }
+  -- one more signal with a level
+  pushed : (ps : List ℕ) (a p k : ℕ) → HaveLevels pins ps a → HaveLevels pins (pins p) k → HaveLevels pins (ps ++ p ∷ []) (max a (k + 1))
+  pushed ps a p k no_signal has = one_more p [] k 0 (max 0 (k + 1)) has no_signal (omega arith)
+  pushed ps a p k (one_more q qs i b _ here rest is) has =
+      one_more q (qs ++ p ∷ []) i (max b (k + 1)) (max a (k + 1)) here (pushed qs b p k rest has) (omega (arith, is))
 
-  marks_next : (n : ℕ) (marks : List Mark) (g pin above : ℕ) (m : Mark) → AreMarks pins n marks → slice_get marks g ≡ Some (Waits pin above) → IsNextMark pins marks g m → AreMarks pins n (set marks g m)
-  marks_next n marks g pin above m are waits next = record {
-    count = length-set marks g m ∙ are.count;
-    each = λ s x e. each s x (written marks g m s x e);
-    small = λ s x e. small s x (written marks g m s x e);
-  }
-    where
-      each : (s : ℕ) (x : Mark) → ((s ≡ g) × (x ≡ m)) ⊎ ((s ≢ g) × (slice_get marks s ≡ Some x)) → IsMark pins s x
-      each s x (inl h) = rw (h.0, h.1) next.is_mark
-      each s x (inr h) = are.each s x h.1
+-- ---- a path that meets itself, and what a mark says
 
-      small : (s : ℕ) (x : Mark) → ((s ≡ g) × (x ≡ m)) ⊎ ((s ≢ g) × (slice_get marks s ≡ Some x)) → height x ≤ count_by has_level (set marks g m)
-      small s x (inl h) = omega (arith, next.small, ap height h.1)
-      small s x (inr h) = omega (arith, are.small s x h.1, count_next marks g pin above m waits)
+module _ (pins : ℕ → List ℕ) where
+  reads_on : (start g : ℕ) (path all : List ℕ) → IsPath pins start (g ∷ path) → ((s : ℕ) → Among s (g ∷ path) → Among s all) → (q : ℕ) → Contains (pins g) q → Contains all q
+      → (m : ℕ) → Among m (g ∷ path) → (p : ℕ) × Contains (pins m) p × Contains all p
+  reads_on start g path all is inside q reads has m (inl e) = (q, subst (λ x. Contains (pins x) q) e reads, has)
+  reads_on start g [] all is inside q reads has m (inr a) = absurd a
+  reads_on start g (h ∷ path) all is inside q reads has m (inr a) =
+      reads_on start h path all is.1 (λ s b. inside s (inr b)) g is.0 (contained all g (inside g (inl refl))) m a
 
-  -- ---- the search goes on
+  start_on : (start g : ℕ) (path : List ℕ) → IsPath pins start (g ∷ path) → Among start (g ∷ path)
+  start_on start g [] is = inl is
+  start_on start g (h ∷ path) is = inr (start_on start h path is.1)
 
-  -- a sink with no gate that waits for it
-  pub passed : (n : ℕ) (marks : List Mark) (ready : List ℕ) (row : List Sink) (sink : Sink) → IsSearch pins n marks ready (sink ∷ row)
-      → ((g pin above : ℕ) → sink ≡ Pin g pin → slice_get marks g ≡ Some (Waits pin above) → ⊥) → IsSearch pins n marks ready row
-  passed n marks ready row sink state none = record {
-    marks_are = state.marks_are;
-    ready_below = state.ready_below;
-    row_below = λ g i c. state.row_below g i (contained (sink ∷ row) (Pin g i) (inr (among row (Pin g i) c)));
-    told = λ g i p w l. told g i p w (state.told g i p w l);
-  }
-    where
-      told : (g i p : ℕ) → WaitsAt pins marks g i p → Contains ready p ⊎ Contains (sink ∷ row) (Pin g i) → Contains ready p ⊎ Contains row (Pin g i)
-      told g i p w (inl c) = inl c
-      told g i p w (inr c) = at (among (sink ∷ row) (Pin g i) c)
+  weaker : (s a b : ℕ) (m : Mark) → a ≤ b → IsMark pins a s m → IsMark pins b s m
+  weaker s a b Unknown le is = tt
+  weaker s a b (Open pin level) le is = (is.0, omega (arith, is.1, le))
+  weaker s a b (Level k) le is = (is.0, omega (arith, is.1, le))
+
+-- ---- a mark is changed
+
+module _ {pins : ℕ → List ℕ} where
+  module _ {n start begun : ℕ} {marks : List Mark} {path : List ℕ} (state : IsSearch pins n start begun marks path) where
+    marked : (later : ℕ) (rest : List ℕ) (g : ℕ) (old m : Mark) → slice_get marks g ≡ Some old → has_level old ≡ false → m ≢ Unknown
+        → IsMark pins (count_by has_level marks + cond (has_level m) 1 0) g m
+        → ((s pin level : ℕ) → ((s ≡ g) × (Open pin level ≡ m)) ⊎ ((s ≢ g) × Contains path s) → Contains rest s)
+        → ((s : ℕ) → Contains rest s → s < n) → IsPath pins start rest → ((s : ℕ) → s < later → (s < begun) ⊎ (s ≡ g))
+        → IsSearch pins n start later (set marks g m) rest
+    marked later rest g old m at none known is on below path_is begins = record {
+      count = length-set marks g m ∙ state.count;
+      each = λ s x e. each s x (written marks g m s x e);
+      open_on = λ s pin level e. opens s pin level (written marks g m s (Open pin level) e);
+      path_below = below;
+      path_is = path_is;
+      begun_are = λ s lt e. begins_are s (begins s lt) (written marks g m s Unknown e);
+      lower = state.lower;
+    }
+      where
+        count : count_by has_level (set marks g m) ≡ count_by has_level marks + cond (has_level m) 1 0
+        count = count_set marks g old m at none
+
+        each : (s : ℕ) (x : Mark) → ((s ≡ g) × (x ≡ m)) ⊎ ((s ≢ g) × (slice_get marks s ≡ Some x)) → IsMark pins (count_by has_level (set marks g m)) s x
+        each s x (inl h) = rw (h.0, h.1, count) is
+        each s x (inr h) = weaker pins s (count_by has_level marks) (count_by has_level (set marks g m)) x (omega (arith, count)) (state.each s x h.1)
+
+        opens : (s pin level : ℕ) → ((s ≡ g) × (Open pin level ≡ m)) ⊎ ((s ≢ g) × (slice_get marks s ≡ Some (Open pin level))) → Contains rest s
+        opens s pin level (inl h) = on s pin level (inl h)
+        opens s pin level (inr h) = on s pin level (inr (h.0, state.open_on s pin level h.1))
+
+        begins_are : (s : ℕ) → (s < begun) ⊎ (s ≡ g) → ((s ≡ g) × (Unknown ≡ m)) ⊎ ((s ≢ g) × (slice_get marks s ≡ Some Unknown)) → ⊥
+        begins_are s h (inl new) = known (sym new.1)
+        begins_are s (inl lt) (inr same) = state.begun_are s lt same.1
+        begins_are s (inr e) (inr same) = same.0 e
+
+    shorter : (g : ℕ) (rest : List ℕ) → IsPath pins start (g ∷ rest) → IsPath pins start rest
+    shorter g [] is = tt
+    shorter g (h ∷ rest) is = is.1
+
+    pub small : (s : ℕ) {k : ℕ} → slice_get marks s ≡ Some (Level k) → k < n
+    small s {k} at = omega (arith, (state.each s (Level k) at).1, count_by-le-length has_level marks, state.count)
+
+    -- the last gate of the path isn't open
+    pub dropped : {g : ℕ} {rest : List ℕ} → path ≡ g ∷ rest → ((pin level : ℕ) → slice_get marks g ≡ Some (Open pin level) → ⊥) → IsSearch pins n start begun marks rest
+    dropped {g} {rest} is closed = record {
+      count = state.count;
+      each = state.each;
+      open_on = λ s pin level e. other s pin level e (among (g ∷ rest) s (subst (λ xs. Contains xs s) is (state.open_on s pin level e)));
+      path_below = λ s has. state.path_below s (subst (λ xs. Contains xs s) (sym is) (contained (g ∷ rest) s (inr (among rest s has))));
+      path_is = shorter g rest (subst (IsPath pins start) is state.path_is);
+      begun_are = state.begun_are;
+      lower = state.lower;
+    }
+      where
+        other : (s pin level : ℕ) → slice_get marks s ≡ Some (Open pin level) → Among s (g ∷ rest) → Contains rest s
+        other s pin level e (inl same) = absurd (closed pin level (ap (slice_get marks) same ∙ e))
+        other s pin level e (inr a) = contained rest s a
+
+    module _ {g pin level : ℕ} {rest : List ℕ} (is : path ≡ g ∷ rest) (at : slice_get marks g ≡ Some (Open pin level)) where
+      mark : HaveLevels pins (take pin (pins g)) level × (level ≤ count_by has_level marks)
+      mark = state.each g (Open pin level) at
+
+      here : IsPath pins start (g ∷ rest)
+      here = subst (IsPath pins start) is state.path_is
+
+      on_path : (s : ℕ) → Contains path s → Among s (g ∷ rest)
+      on_path s has = among (g ∷ rest) s (subst (λ xs. Contains xs s) is has)
+
+      below : (s : ℕ) → Among s (g ∷ rest) → s < n
+      below s a = state.path_below s (subst (λ xs. Contains xs s) (sym is) (contained (g ∷ rest) s a))
+
+      -- all its pins have levels
+      pub finished : length (pins g) ≤ pin → IsSearch pins n start begun (set marks g (Level level)) rest
+      finished le =
+          marked begun rest g (Open pin level) (Level level) at refl (λ e. cc e) (subst (λ ps. HaveLevels pins ps level) (take_all pin (pins g) le) mark.0, omega (arith, mark.1))
+          (λ s i j h. still s i j h) (λ s has. below s (inr (among rest s has))) (shorter g rest here) (λ s lt. inl lt)
         where
-          at : Among (Pin g i) (sink ∷ row) → Contains ready p ⊎ Contains row (Pin g i)
-          at (inl e) = absurd (none g i w.0 e w.2)
-          at (inr a) = inr (contained row (Pin g i) a)
+          still : (s i j : ℕ) → ((s ≡ g) × (Open i j ≡ Level level)) ⊎ ((s ≢ g) × Contains path s) → Contains rest s
+          still s i j (inl h) = let bad : Open i j ≡ Level level = h.1 in cc bad
+          still s i j (inr h) = other (on_path s h.1)
+            where
+              other : Among s (g ∷ rest) → Contains rest s
+              other (inl e) = absurd (h.0 (sym e))
+              other (inr a) = contained rest s a
 
-  -- a gate that waited has its next mark, and is ready if that is a level
-  pub moved : (n : ℕ) (marks : List Mark) (ready later : List ℕ) (row : List Sink) (g pin above : ℕ) (m : Mark) → IsSearch pins n marks ready (Pin g pin ∷ row) → slice_get marks g ≡ Some (Waits pin above)
-      → IsNextMark pins marks g m → later ≡ ready ++ cond (has_level m) (g ∷ []) [] → IsSearch pins n (set marks g m) later row
-  moved n marks ready later row g pin above m state waits next is = record {
-    marks_are = marks_next n marks g pin above m state.marks_are waits next;
-    ready_below = subst (All (λ s. s < n)) (sym is) (All-append (λ s. s < n) ready (cond (has_level m) (g ∷ []) []) state.ready_below (one (has_level m)));
-    row_below = λ h i c. state.row_below h i (contained (Pin g pin ∷ row) (Pin h i) (inr (among row (Pin h i) c)));
-    told = λ h i p w l. level h i p w l.0 (written marks g m p (Level l.0) l.1);
+      module _ {p : ℕ} (lt : pin < length (pins g)) (reads : p ≡ get_or (pins g) pin 0) where
+        -- the next pin's signal has a level
+        pub advanced : {k : ℕ} → slice_get marks p ≡ Some (Level k) → IsSearch pins n start begun (set marks g (Open (pin + 1) (max level (k + 1)))) (g ∷ rest)
+        advanced {k} known =
+            let has = state.each p (Level k) known in
+            marked begun (g ∷ rest) g (Open pin level) (Open (pin + 1) (max level (k + 1))) at refl (λ e. cc e)
+            (subst (λ ps. HaveLevels pins ps (max level (k + 1))) (sym (take_more (pins g) pin 0 lt ∙ ap (λ x. take pin (pins g) ++ x ∷ []) (sym reads))) (pushed (take pin (pins g)) level p k mark.0 has.0), omega (arith, mark.1, has.1))
+            (λ s i j h. still s i j h) (λ s in_path. below s (among (g ∷ rest) s in_path)) here (λ s less. inl less)
+          where
+            still : (s i j : ℕ) → ((s ≡ g) × (Open i j ≡ Open (pin + 1) (max level (k + 1)))) ⊎ ((s ≢ g) × Contains path s) → Contains (g ∷ rest) s
+            still s i j (inl h) = contained (g ∷ rest) s (inl (sym h.0))
+            still s i j (inr h) = subst (λ xs. Contains xs s) is h.1
+
+        read : Contains (pins g) p
+        read = subst (Contains (pins g)) (sym reads) (Contains-get_or (pins g) pin 0 lt)
+
+        -- it is unknown
+        pub opened : slice_get marks p ≡ Some Unknown → IsSearch pins n start begun (set marks p (Open 0 0)) (p ∷ g ∷ rest)
+        opened unknown =
+            marked begun (p ∷ g ∷ rest) p Unknown (Open 0 0) unknown refl (λ e. cc e) (no_signal, omega arith)
+            (λ s i j h. still s i j h) (λ s in_path. on s (among (p ∷ g ∷ rest) s in_path)) (read, here) (λ s less. inl less)
+          where
+            still : (s i j : ℕ) → ((s ≡ p) × (Open i j ≡ Open 0 0)) ⊎ ((s ≢ p) × Contains path s) → Contains (p ∷ g ∷ rest) s
+            still s i j (inl h) = contained (p ∷ g ∷ rest) s (inl (sym h.0))
+            still s i j (inr h) = contained (p ∷ g ∷ rest) s (inr (on_path s h.1))
+
+            on : (s : ℕ) → Among s (p ∷ g ∷ rest) → s < n
+            on s (inl e) = omega (arith, e, slice_get_within marks p Unknown unknown, state.count)
+            on s (inr a) = below s a
+
+        -- it is open, so the path meets itself
+        pub met : {i j : ℕ} → slice_get marks p ≡ Some (Open i j) → IsLevelFault pins n (Cycle start)
+        met {i} {j} again =
+            let on = contained (g ∷ rest) p (on_path p (state.open_on p i j again)) in
+            let first = start_on pins start g rest here in
+            (below start first, (g ∷ rest, (λ m has. reads_on pins start g rest (g ∷ rest) here (λ s a. a) p read on m (among (g ∷ rest) m has)), contained (g ∷ rest) start first), state.lower)
+
+  -- ---- a search begins and ends
+
+  pub begun_at : {n start : ℕ} {marks : List Mark} → IsSearch pins n start start marks [] → slice_get marks start ≡ Some Unknown → IsSearch pins n start (start + 1) (set marks start (Open 0 0)) (start ∷ [])
+  begun_at {n} {start} {marks} state unknown =
+      marked state (start + 1) (start ∷ []) start Unknown (Open 0 0) unknown refl (λ e. cc e) (no_signal, omega arith)
+      (λ s i j h. still s i j h) (λ s has. on s (among (start ∷ []) s has)) refl (λ s lt. cases s lt (cases_lt s start))
+    where
+      still : (s i j : ℕ) → ((s ≡ start) × (Open i j ≡ Open 0 0)) ⊎ ((s ≢ start) × Contains [] s) → Contains (start ∷ []) s
+      still s i j (inl h) = contained (start ∷ []) s (inl (sym h.0))
+      still s i j (inr h) = absurd (omega (arith, h.1.1))
+
+      on : (s : ℕ) → Among s (start ∷ []) → s < n
+      on s (inl e) = omega (arith, e, slice_get_within marks start Unknown unknown, state.count)
+      on s (inr a) = absurd a
+
+      cases : (s : ℕ) → s < start + 1 → (s < start) ⊎ (start ≤ s) → (s < start) ⊎ (s ≡ start)
+      cases s lt (inl less) = inl less
+      cases s lt (inr le) = inr (omega arith)
+
+  -- a signal that is known is known to the next search
+  pub begun_more : {n start : ℕ} {marks : List Mark} → IsSearch pins n start start marks [] → slice_get marks start ≢ Some Unknown → IsSearch pins n start (start + 1) marks []
+  begun_more {n} {start} {marks} state known = record {
+    count = state.count;
+    each = state.each;
+    open_on = state.open_on;
+    path_below = state.path_below;
+    path_is = tt;
+    begun_are = λ s lt e. known_at s lt e (cases_lt s start);
+    lower = state.lower;
   }
     where
-      one : (b : Bool) → All (λ s. s < n) (cond b (g ∷ []) [])
-      one true = All-cons (λ s. s < n) g [] (omega (arith, slice_get_within marks g (Waits pin above) waits, state.marks_are.count)) (All-nil (λ s. s < n))
-      one false = All-nil (λ s. s < n)
+      known_at : (s : ℕ) → s < start + 1 → slice_get marks s ≡ Some Unknown → (s < start) ⊎ (start ≤ s) → ⊥
+      known_at s lt e (inl less) = state.begun_are s less e
+      known_at s lt e (inr le) = let same : s ≡ start = omega arith in known (ap (slice_get marks) (sym same) ∙ e)
 
-      grows : (p : ℕ) → Contains ready p → Contains later p
-      grows p c = subst (λ xs. Contains xs p) (sym is) (Contains-append_left ready (cond (has_level m) (g ∷ []) []) p c)
+  -- where no signal is open, each that was met has a level
+  pub level_at : {n start begun : ℕ} {marks : List Mark} (s : ℕ) → IsSearch pins n start begun marks [] → s < begun → s < n → (k : ℕ) × (slice_get marks s ≡ Some (Level k))
+  level_at {n} {start} {begun} {marks} s state met lt = let m = within_place marks s (omega (arith, lt, state.count)) in go m.0 m.1
+    where
+      go : (m : Mark) → slice_get marks s ≡ Some m → (k : ℕ) × (slice_get marks s ≡ Some (Level k))
+      go Unknown e = absurd (state.begun_are s met e)
+      go (Open pin level) e = absurd (omega (arith, (state.open_on s pin level e).1))
+      go (Level k) e = (k, e)
 
-      has : has_level m ≡ true → Contains later g
-      has on = subst (λ xs. Contains xs g) (sym (is ∙ ap (λ b. ready ++ cond b (g ∷ []) []) on)) (Contains-push ready g)
-
-      listed : (h i p : ℕ) → h ≢ g → Contains ready p ⊎ Contains (Pin g pin ∷ row) (Pin h i) → Contains later p ⊎ Contains row (Pin h i)
-      listed h i p ne (inl c) = inl (grows p c)
-      listed h i p ne (inr c) = at (among (Pin g pin ∷ row) (Pin h i) c)
-        where
-          at : Among (Pin h i) (Pin g pin ∷ row) → Contains later p ⊎ Contains row (Pin h i)
-          at (inl e) = let same : h ≡ g = cc in absurd (ne same)
-          at (inr a) = inr (contained row (Pin h i) a)
-
-      wait : (h i p : ℕ) (w : WaitsAt pins (set marks g m) h i p) → IsLevelled marks p → ((h ≡ g) × (Waits i w.0 ≡ m)) ⊎ ((h ≢ g) × (slice_get marks h ≡ Some (Waits i w.0))) → Contains later p ⊎ Contains row (Pin h i)
-      wait h i p w l (inl same) = absurd (next.waits i w.0 w.1 (sym same.1) (ap pins (sym same.0) ∙ w.3) (subst (IsLevelled marks) (sym w.4) l))
-      wait h i p w l (inr old) = listed h i p old.0 (state.told h i p (w.0, w.1, old.1, w.3, w.4) l)
-
-      level : (h i p : ℕ) → WaitsAt pins (set marks g m) h i p → (k : ℕ) → ((p ≡ g) × (Level k ≡ m)) ⊎ ((p ≢ g) × (slice_get marks p ≡ Some (Level k))) → Contains later p ⊎ Contains row (Pin h i)
-      level h i p w k (inl same) = inl (subst (Contains later) (sym same.0) (has (ap has_level (sym same.1))))
-      level h i p w k (inr old) = wait h i p w (k, old.1) (written marks g m h (Waits i w.0) w.2)
-
-  -- a ready signal is taken to tell its row
-  pub taken : (n : ℕ) (marks : List Mark) (ready rest : List ℕ) (s : ℕ) (starts : List ℕ) (sinks : List Sink) → AreReaders pins n starts sinks → IsSearch pins n marks ready [] → ready ≡ rest ++ s ∷ []
-      → IsSearch pins n marks rest (row_of starts sinks s)
-  taken n marks ready rest s starts sinks readers state is = record {
-    marks_are = state.marks_are;
-    ready_below = (All-pop (λ p. p < n) ready rest (Some s) is state.ready_below).0;
-    row_below = λ g i c. readers.gates_below s g i (All-pop (λ p. p < n) ready rest (Some s) is state.ready_below).1 c;
-    told = λ g i p w l. told g i p w (state.told g i p w l);
+  pub next_start : {n start : ℕ} {marks : List Mark} → IsSearch pins n start (start + 1) marks [] → start < n → IsSearch pins n (start + 1) (start + 1) marks []
+  next_start {n} {start} {marks} state lt = record {
+    count = state.count;
+    each = state.each;
+    open_on = state.open_on;
+    path_below = state.path_below;
+    path_is = tt;
+    begun_are = state.begun_are;
+    lower = λ s less. let k = level_at s state less (omega (arith, less, lt)) in (k.0, (state.each s (Level k.0) k.1).0);
   }
+
+  -- a search over all signals has marked all levels
+  pub settled : {n start : ℕ} {marks : List Mark} → IsSearch pins n start n marks [] → ((s p : ℕ) → Contains (pins s) p → p < n)
+      → AreLevelsOf pins n (map level_in marks) × ((s : ℕ) → s < length (map level_in marks) → slice_index (map level_in marks) s ≤ length (map level_in marks))
+  settled {n} {start} {marks} state below =
+      (levels_are n (map level_in marks) below count (λ s lt. (at s lt).0), λ s lt. omega (arith, count, (at s (omega (arith, lt, count))).1))
     where
-      told : (g i p : ℕ) → WaitsAt pins marks g i p → Contains ready p ⊎ Contains [] (Pin g i) → Contains rest p ⊎ Contains (row_of starts sinks s) (Pin g i)
-      told g i p w (inr c) = absurd (omega (arith, c.1))
-      told g i p w (inl c) = go (Contains-push_cases rest s p (subst (λ xs. Contains xs p) is c))
-        where
-          in_read : i < length w.1
-          in_read =
-              let mark : IsMark pins g (Waits i w.0) = state.marks_are.each g (Waits i w.0) w.2 in
-              let both : Some mark.0 ≡ Some w.1 = sym mark.1 ∙ w.3 in
-              let same : mark.0 ≡ w.1 = cc both in
-              omega (arith, mark.2, ap length same)
+      count : length (map level_in marks) ≡ n
+      count = length-map marks level_in ∙ state.count
 
-          go : Contains rest p ⊎ (s ≡ p) → Contains rest p ⊎ Contains (row_of starts sinks s) (Pin g i)
-          go (inl old) = inl old
-          go (inr e) = inr (subst (λ q. Contains (row_of starts sinks q) (Pin g i)) (w.4 ∙ sym e) (readers.pins_listed g i w.1 (omega (arith, slice_get_within marks g (Waits i w.0) w.2, state.marks_are.count)) w.3 in_read))
-
-  -- ---- the search is done
-
-  -- the signals whose gates wait
-  waiting : List Mark → List ℕ
-  waiting marks = map (λ at. at.0) (filter (λ at. not (has_level at.1)) (enumerate_from 0 marks))
-
-  in_waiting : (marks : List Mark) (s i a : ℕ) → slice_get marks s ≡ Some (Waits i a) → Among s (waiting marks)
-  unfolding waiting
-  in_waiting marks s i a e = among_map (λ at. at.0) (filter (λ at. not (has_level at.1)) (enumerate_from 0 marks)) (s, Waits i a) (among_filter (λ at. not (has_level at.1)) (enumerate_from 0 marks) (s, Waits i a) (among_numbered marks s (Waits i a) e) refl)
-
-  waits_in : (marks : List Mark) (s : ℕ) → Among s (waiting marks) → (i a : ℕ) × (slice_get marks s ≡ Some (Waits i a))
-  unfolding waiting
-  waits_in marks s b =
-      let at = mapped_from (λ at. at.0) (filter (λ at. not (has_level at.1)) (enumerate_from 0 marks)) s b in
-      let kept = filtered_from (λ at. not (has_level at.1)) (enumerate_from 0 marks) at.0 at.1 in
-      go at.0.1 kept.1 (ap (slice_get marks) (sym at.2) ∙ numbered_at marks at.0 kept.0)
-    where
-      go : (m : Mark) → not (has_level m) ≡ true → slice_get marks s ≡ Some m → (i a : ℕ) × (slice_get marks s ≡ Some (Waits i a))
-      go (Waits i a) off e = (i, a, e)
-      go (Level k) off e = cc
-
-  pub lowest_fault : (n : ℕ) (marks : List Mark) (fault : LevelFault) → ((s p : ℕ) (read : List ℕ) → s < n → pins s ≡ Some read → Contains read p → p < n)
-      → IsSearch pins n marks [] [] → IsFirstWaiting marks fault → IsLevelFault pins n fault
-  lowest_fault n marks Memory below state first = tt
-  lowest_fault n marks (Cycle s) below state first =
-      (omega (arith, first.0, state.marks_are.count), ((waiting marks, stuck, contained (waiting marks) s (here s first.0 first.1)), λ low lt at. free low (first.2 low lt) at))
-    where
-      here : (p : ℕ) → p < length marks → (¬ IsLevelled marks p) → Among p (waiting marks)
-      here p lt none = let m = within_place marks p lt in go m.0 m.1
-        where
-          go : (m : Mark) → slice_get marks p ≡ Some m → Among p (waiting marks)
-          go (Waits i a) e = in_waiting marks p i a e
-          go (Level k) e = absurd (none (k, e))
-
-      stuck : (m : ℕ) → Contains (waiting marks) m → HasPinIn pins (waiting marks) m
-      stuck m c =
-          let w = waits_in marks m (among (waiting marks) m c) in
-          let mark : IsMark pins m (Waits w.0 w.1) = state.marks_are.each m (Waits w.0 w.1) w.2 in
-          let p : ℕ = slice_index mark.0 w.0 in
-          let reads : Contains mark.0 p = Contains-get_or mark.0 w.0 0 mark.2 in
-          let m_lt : m < n = omega (arith, slice_get_within marks m (Waits w.0 w.1) w.2, state.marks_are.count) in
-          (mark.0, p, mark.1, reads, contained (waiting marks) p (here p (omega (arith, below m p mark.0 m_lt mark.1 reads, state.marks_are.count)) (λ l. nowhere (state.told m w.0 p (w.1, mark.0, w.2, mark.1, refl) l))))
-        where
-          nowhere : {A B : Type 0} {x : A} {y : B} → Contains [] x ⊎ Contains [] y → ⊥
-          nowhere (inl c) = omega (arith, c.1)
-          nowhere (inr c) = omega (arith, c.1)
-
-      free : (low : ℕ) → IsLevelled marks low → (at : (members : List ℕ) × ((m : ℕ) → Contains members m → HasPinIn pins members m) × Contains members low) → ⊥
-      free low l at = not_stuck at.0 at.1 low l.0 (state.marks_are.each low (Level l.0) l.1) at.2
+      at : (s : ℕ) → s < n → HaveLevels pins (pins s) (slice_index (map level_in marks) s) × (slice_index (map level_in marks) s < n)
+      at s lt =
+          let k = level_at s state lt lt in
+          let is : slice_index (map level_in marks) s ≡ k.0 = get_or-map level_in marks s (Level 0) 0 (omega (arith, lt, state.count)) ∙ ap level_in (get_or_from_slice_get marks s (Level k.0) (Level 0) k.1) in
+          rw is ((state.each s (Level k.0) k.1).0, small state s k.1)

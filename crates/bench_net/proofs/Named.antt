@@ -1,273 +1,214 @@
--- Numbers and names: what stored lines say by numbers, and their statements by names.
-use Rattle.std.proofs.Common.{◌≡◌, ◌≢◌, ◌<◌, ◌==◌, ℕ, sym, ◌∙◌, ap, subst, refl, List, [], ◌∷◌, ◌++◌, map, length, filter, arith, inl, inr}
-use Rattle.std.specs.Prelude.{Some, None, slice_get, slice_index, Contains, AllPairs, flat_map, bytes_eq, option_map, is_some}
-use Rattle.std.specs.List.{filter_map}
-use Rattle.std.proofs.lemmas.Bool.{eq-eqb, ne_eqb, cases_eq, false_from_ne_true}
-use Rattle.std.proofs.lemmas.List.{map-append, length-map}
-use Rattle.std.proofs.lemmas.List.Elements.{Contains-get_or}
-use Rattle.std.proofs.lemmas.Option.{slice_get-get_or, slice_get-map, slice_get_within}
+-- Numbers and names: the stored lines hold the numbers of their statements' names.
+use Rattle.std.proofs.Common.{◌≡◌, ◌≢◌, ◌<◌, ◌==◌, ◌+◌, ℕ, zero, suc, sym, ◌∙◌, ap, subst, refl, true, false, List, [], ◌∷◌, ◌++◌, map, length, filter, arith, inl, inr, length-append}
+use Rattle.std.specs.Prelude.{Some, slice_get, Contains, AllPairs, flat_map, bytes_eq}
+use Rattle.std.specs.List.{filter_map, enumerate_from, position_or_len}
+use Rattle.std.proofs.Math.Numerals.{one-add}
+use Rattle.std.proofs.lemmas.Bool.{eq-eqb, ne_eqb, cases_Bool}
+use Rattle.std.proofs.lemmas.List.{map-append, append_assoc}
+use Rattle.std.proofs.lemmas.List.Elements.{Contains-get_or, filter-append}
+use Rattle.std.proofs.lemmas.Option.{slice_get-get_or, slice_get_within}
 use Rattle.bench_net.specs.declared.GateLine.{GateLine}
-use Rattle.bench_net.specs.declared.ScanCell.{ScanCell}
+use Rattle.bench_net.specs.declared.Sink.{Sink}
+use Rattle.bench_net.specs.declared.Sink.TheVariants.{Pin, Data, Out}
+use Rattle.bench_net.specs.declared.sinks.Reader.{Reader}
 use Rattle.bench_net.specs.declared.line.Line.{Line}
 use Rattle.bench_net.specs.declared.line.Line.TheVariants as line
-use Rattle.bench_net.specs.Statement.{Name, Input, Gate, Dff, defines}
-use Rattle.bench_net.specs.Scan.{signal, name_of, inputs, outputs, cells, sources}
-use Rattle.bench_net.specs.Stored.{name_at, statement_of, statements_of, defined_numbers, AreNumbered}
-use Rattle.bench_net.specs.Tables.{input_number, output_number, cell_numbers, defined_number, defines_number, AreDefinitions}
-use Rattle.bench_net.specs.Marks.{gate_pins, line_pins}
-use Rattle.lists.proofs.Members.{Among, among, contained, among_filter}
+use Rattle.bench_net.specs.Statement.{Name, Statement, Input, Output, Gate, Dff, defines}
+use Rattle.bench_net.specs.Scan.{names, signal, gate_line, cell, inputs, outputs, cells, sources, places, pins_of, sinks}
+use Rattle.bench_net.specs.Stored.{name_at, statements_of, defined_numbers, read_numbers, AreNumbered}
+use Rattle.bench_net.specs.Tables.{input_number, output_number, cell_numbers, defines_number, source_signals, pin_readers, output_readers, line_readers, all_readers, sinks_at, line_gate}
+use Rattle.lists.proofs.Members.{Among, contained, among_left, among_right}
+use Rattle.lists.proofs.Distinct.{Distinct}
+use Rattle.lists.proofs.Places.{placed}
 use Rattle.bench_net.proofs.Checked.{same_bytes, bytes_refl}
-use Rattle.bench_net.proofs.Numbers.{signal-name_of}
-use Rattle.lists.proofs.Places.{placed, within_place, at_place, from_mapped}
+use Rattle.bench_net.proofs.Numbers.{signal-name_of, name_of-signal}
+use Rattle.bench_net.proofs.Gates.{named, named_number, of_cell}
 
--- names that are numbered, each once
-pub record AreNamed (ns : List Name) (lines : List Line) : Type 0 where
-  pub numbered : AreNumbered ns lines
-  pub once : AllPairs (λ m n. m ≢ n) ns
+-- each line holds the numbers of its statement's names
+pub data AreStated (number : Name → ℕ) : List Statement → List Line → Type 0 where
+  no_line : AreStated number [] []
+  input : (n : Name) (s : ℕ) (c : List Statement) (ls : List Line) → s ≡ number n → AreStated number c ls
+      → AreStated number (Input n ∷ c) (line.Input s ∷ ls)
+  output : (n : Name) (s : ℕ) (c : List Statement) (ls : List Line) → s ≡ number n → AreStated number c ls
+      → AreStated number (Output n ∷ c) (line.Output s ∷ ls)
+  gate : (n : Name) (s : ℕ) (args : List Name) (g : GateLine) (c : List Statement) (ls : List Line) → s ≡ number n → g.pins.items ≡ map number args
+      → AreStated number c ls → AreStated number (Gate n g.kind args ∷ c) (line.Gate s g ∷ ls)
+  flip_flop : (q d : Name) (s t : ℕ) (c : List Statement) (ls : List Line) → s ≡ number q → t ≡ number d → AreStated number c ls
+      → AreStated number (Dff q d ∷ c) (line.Dff s t ∷ ls)
 
--- ---- the name of a number, and the number of a name
+-- ---- lists of signals
 
-pub name_of_at : (ns : List Name) (lines : List Line) (s : ℕ) → AreNamed ns lines → s < length ns
-    → name_of (statements_of ns lines) s ≡ Some (name_at ns s)
-name_of_at ns lines s named lt =
-    ap (λ xs. slice_get xs s) named.numbered.names_are ∙ slice_get-get_or ns s [] lt
+module _ {number : Name → ℕ} where
+  pub inputs_are : (c : List Statement) (ls : List Line) → AreStated number c ls → filter_map input_number ls ≡ map number (inputs c)
+  inputs_are c ls no_line = refl
+  inputs_are c ls (input n s b ks e are) = let rest = inputs_are b ks are in cc
+  inputs_are c ls (output n s b ks e are) = inputs_are b ks are
+  inputs_are c ls (gate n s args g b ks e ps are) = inputs_are b ks are
+  inputs_are c ls (flip_flop q d s t b ks e h are) = inputs_are b ks are
 
-pub at_among : (ns : List Name) (s : ℕ) → s < length ns → Among (name_at ns s) ns
-at_among ns s lt = among ns _ (Contains-get_or ns s [] lt)
+  pub outputs_are : (c : List Statement) (ls : List Line) → AreStated number c ls → filter_map output_number ls ≡ map number (outputs c)
+  outputs_are c ls no_line = refl
+  outputs_are c ls (input n s b ks e are) = outputs_are b ks are
+  outputs_are c ls (output n s b ks e are) = let rest = outputs_are b ks are in cc
+  outputs_are c ls (gate n s args g b ks e ps are) = outputs_are b ks are
+  outputs_are c ls (flip_flop q d s t b ks e h are) = outputs_are b ks are
 
-pub signal_at : (ns : List Name) (lines : List Line) (s : ℕ) → AreNamed ns lines → s < length ns
-    → signal (statements_of ns lines) (name_at ns s) ≡ s
-signal_at ns lines s named lt =
-    let same = named.numbered.names_are in
-    signal-name_of (statements_of ns lines) s (name_at ns s)
-    (subst (AllPairs (λ m n. m ≢ n)) (sym same) named.once) (name_of_at ns lines s named lt)
-    (subst (λ xs. Contains xs (name_at ns s)) (sym same)
-    (contained ns (name_at ns s) (at_among ns s lt)))
+  pub cells_are : (c : List Statement) (ls : List Line) → AreStated number c ls
+      → map {B = ℕ × ℕ} (λ cell. (cell.q, cell.d)) (filter_map cell_numbers ls) ≡ map (λ cell. (number cell.0, number cell.1)) (cells c)
+  cells_are c ls no_line = refl
+  cells_are c ls (input n s b ks e are) = cells_are b ks are
+  cells_are c ls (output n s b ks e are) = cells_are b ks are
+  cells_are c ls (gate n s args g b ks e ps are) = cells_are b ks are
+  cells_are c ls (flip_flop q d s t b ks e h are) = let rest = cells_are b ks are in cc
 
--- two numbers have one name only where they are one
-pub same_number : (ns : List Name) (lines : List Line) (s t : ℕ) → AreNamed ns lines → s < length ns
-    → t < length ns → name_at ns s ≡ name_at ns t → s ≡ t
-same_number ns lines s t named s_lt t_lt e =
-    sym (signal_at ns lines s named s_lt)
-    ∙ (ap (signal (statements_of ns lines)) e ∙ signal_at ns lines t named t_lt)
+  pub qs_are : (c : List Statement) (ls : List Line) → AreStated number c ls → map (λ cell. cell.q) (filter_map cell_numbers ls) ≡ map number (map (λ cell. cell.0) (cells c))
+  qs_are c ls no_line = refl
+  qs_are c ls (input n s b ks e are) = qs_are b ks are
+  qs_are c ls (output n s b ks e are) = qs_are b ks are
+  qs_are c ls (gate n s args g b ks e ps are) = qs_are b ks are
+  qs_are c ls (flip_flop q d s t b ks e h are) = let rest = qs_are b ks are in cc
 
-pub bytes_at : (ns : List Name) (lines : List Line) (s t : ℕ) → AreNamed ns lines → s < length ns
-    → t < length ns → bytes_eq (name_at ns s) (name_at ns t) ≡ (t == s)
-bytes_at ns lines s t named s_lt t_lt = elim (cases_eq t s) [
-  | inl e ↦ rw e (bytes_refl (name_at ns s) ∙ sym (eq-eqb s s refl))
-  | inr ne ↦ false_from_ne_true _ (λ h. ne (sym (same_number ns lines s t named s_lt t_lt
-      (same_bytes (name_at ns s) (name_at ns t) h)))) ∙ sym (ne_eqb t s ne)
-]
+  pub sources_are : (c : List Statement) (ls : List Line) → AreStated number c ls → source_signals ls ≡ map number (sources c)
+  sources_are c ls are =
+      let ins = inputs_are c ls are in
+      let qs = qs_are c ls are in
+      let all = map-append number (inputs c) (map (λ cell. cell.0) (cells c)) in
+      rw (ins, qs) (sym all)
 
--- the numbers of the names of numbers
-pub map_signal : (ns : List Name) (lines : List Line) (xs : List ℕ) → AreNamed ns lines
-    → ((s : ℕ) → Among s xs → s < length ns)
-    → map (signal (statements_of ns lines)) (map (name_at ns) xs) ≡ xs
-map_signal ns lines [] named below = refl
-map_signal ns lines (x ∷ xs) named below =
-    let first = signal_at ns lines x named (below x (inl refl)) in
-    let rest = map_signal ns lines xs named (λ s a. below s (inr a)) in
-    cc
+-- ---- gates
 
--- ---- inputs, outputs and cells
+pub gate_is : (whole c : List Statement) (ls : List Line) (s : ℕ) → AreStated (signal whole) c ls
+    → line_gate (slice_get (filter defines_number ls) s) ≡ gate_line whole (slice_get (filter defines c) s)
+gate_is whole c ls s no_line = refl
+gate_is whole c ls zero (input n t b ks e are) = refl
+gate_is whole c ls (suc s) (input n t b ks e are) = gate_is whole b ks s are
+gate_is whole c ls s (output n t b ks e are) = gate_is whole b ks s are
+gate_is whole c ls zero (gate n t args g b ks e ps are) = ap (λ xs. Some (g.kind, xs)) ps
+gate_is whole c ls (suc s) (gate n t args g b ks e ps are) = gate_is whole b ks s are
+gate_is whole c ls zero (flip_flop q d t u b ks e h are) = refl
+gate_is whole c ls (suc s) (flip_flop q d t u b ks e h are) = gate_is whole b ks s are
 
-pub inputs_are : (ns : List Name) (lines : List Line)
-    → inputs (statements_of ns lines) ≡ map (name_at ns) (filter_map input_number lines)
-inputs_are ns [] = refl
-inputs_are ns (line.Input s ∷ lines) = ap (λ xs. name_at ns s ∷ xs) (inputs_are ns lines)
-inputs_are ns (line.Output s ∷ lines) = inputs_are ns lines
-inputs_are ns (line.Gate s g ∷ lines) = inputs_are ns lines
-inputs_are ns (line.Dff q d ∷ lines) = inputs_are ns lines
+-- ---- sinks
 
-pub outputs_are : (ns : List Name) (lines : List Line)
-    → outputs (statements_of ns lines) ≡ map (name_at ns) (filter_map output_number lines)
-outputs_are ns [] = refl
-outputs_are ns (line.Input s ∷ lines) = outputs_are ns lines
-outputs_are ns (line.Output s ∷ lines) = ap (λ xs. name_at ns s ∷ xs) (outputs_are ns lines)
-outputs_are ns (line.Gate s g ∷ lines) = outputs_are ns lines
-outputs_are ns (line.Dff q d ∷ lines) = outputs_are ns lines
+sinks-append : (xs ys : List Reader) (s : ℕ) → sinks_at (xs ++ ys) s ≡ sinks_at xs s ++ sinks_at ys s
+sinks-append xs ys s =
+    ap (map (λ reader. reader.sink)) (filter-append (λ reader. reader.signal == s) xs ys)
+    ∙ map-append (λ reader. reader.sink) (filter (λ reader. reader.signal == s) xs) (filter (λ reader. reader.signal == s) ys)
 
-abbrev pub cell_names : List Name → ScanCell → Name × Name
-cell_names ns cell = (name_at ns cell.q, name_at ns cell.d)
+-- ---- the cells' names are defined once
 
-pub cells_are : (ns : List Name) (lines : List Line)
-    → cells (statements_of ns lines) ≡ map (cell_names ns) (filter_map cell_numbers lines)
-cells_are ns [] = refl
-cells_are ns (line.Input s ∷ lines) = cells_are ns lines
-cells_are ns (line.Output s ∷ lines) = cells_are ns lines
-cells_are ns (line.Gate s g ∷ lines) = cells_are ns lines
-cells_are ns (line.Dff q d ∷ lines) =
-    ap (λ xs. (name_at ns q, name_at ns d) ∷ xs) (cells_are ns lines)
+position_after : (before after : List Name) (q : Name) → Distinct (before ++ q ∷ after) → position_or_len (bytes_eq q) (before ++ q ∷ after) ≡ length before
+position_after [] after q once = rw (bytes_refl q) refl
+position_after (x ∷ before) after q once =
+    elim (cases_Bool (bytes_eq q x)) [
+      | inl on ↦ absurd (once.0 (among_right before (q ∷ after) x (inl (same_bytes q x on))))
+      | inr off ↦ rw off (ap (λ n. 1 + n) (position_after before after q once.1) ∙ one-add (length before))
+    ]
 
--- the numbers of the sources, in the order of a test row
-abbrev pub source_numbers : List Line → List ℕ
-source_numbers lines =
-    filter_map input_number lines ++ map (λ cell. cell.q) (filter_map cell_numbers lines)
+pub cells_once : (c : List Statement) → Distinct (names c) → Distinct (map (λ cell. cell.0) (cells c))
+cells_once [] once = tt
+cells_once (Input m ∷ c) once = cells_once c once.1
+cells_once (Output m ∷ c) once = cells_once c once
+cells_once (Gate m kind args ∷ c) once = cells_once c once.1
+cells_once (Dff q d ∷ c) once = ((λ a. let at = of_cell c q a in once.0 (named c (Dff q at.0) q at.1 refl)), cells_once c once.1)
 
-pub q_names : (ns : List Name) (xs : List ScanCell)
-    → map (λ cell. cell.0) (map (cell_names ns) xs) ≡ map (name_at ns) (map (λ cell. cell.q) xs)
-q_names ns [] = refl
-q_names ns (x ∷ xs) = ap (λ ys. name_at ns x.q ∷ ys) (q_names ns xs)
+module _ (whole : List Statement) (n : Name) (named : Contains (names whole) n) where
+  -- a name that has the number of this one is this one
+  bytes_at : (d : Name) → bytes_eq n d ≡ (signal whole d == signal whole n)
+  bytes_at d = elim (cases_Bool (bytes_eq n d)) [
+    | inl on ↦ on ∙ sym (eq-eqb (signal whole d) (signal whole n) (ap (signal whole) (sym (same_bytes n d on))))
+    | inr off ↦ off ∙ sym (ne_eqb (signal whole d) (signal whole n) (λ e. differs off e))
+  ]
+    where
+      differs : bytes_eq n d ≡ false → signal whole d ≡ signal whole n → ⊥
+      differs off e =
+          let at = name_of-signal whole n named in
+          let both : Some d ≡ Some n = sym (named_number whole d (signal whole n) e (slice_get_within (names whole) (signal whole n) n at)) ∙ at in
+          let same : d ≡ n = cc both in
+          let on : bytes_eq n d ≡ true = ap (bytes_eq n) same ∙ bytes_refl n in
+          let bad : true ≡ false = sym on ∙ off in cc bad
 
-pub sources_are : (ns : List Name) (lines : List Line)
-    → sources (statements_of ns lines) ≡ map (name_at ns) (source_numbers lines)
-sources_are ns lines =
-    ap (λ xs. xs ++ map (λ cell. cell.0) (cells (statements_of ns lines))) (inputs_are ns lines)
-    ∙ (ap (λ xs. map (name_at ns) (filter_map input_number lines) ++ xs)
-    (ap (map (λ cell. cell.0)) (cells_are ns lines)
-    ∙ q_names ns (filter_map cell_numbers lines))
-    ∙ sym (map-append (name_at ns) (filter_map input_number lines)
-    (map (λ cell. cell.q) (filter_map cell_numbers lines))))
+  -- numbered readers of one kind
+  numbered : (kind : ℕ → Sink) (k : ℕ) (xs : List Name)
+      → sinks_at (map (λ at. record { signal = at.1; sink = kind at.0 }) (enumerate_from k (map (signal whole) xs))) (signal whole n)
+      ≡ map kind (map (λ at. at.0) (filter (λ at. bytes_eq n at.1) (enumerate_from k xs)))
+  numbered kind k [] = refl
+  numbered kind k (x ∷ xs) =
+      let same = bytes_at x in
+      let later = numbered kind (k + 1) xs in
+      elim (cases_Bool (signal whole x == signal whole n)) [
+        | inl on ↦ rw (same, on) (ap (λ rest. kind k ∷ rest) later)
+        | inr off ↦ rw (same, off) later
+      ]
 
--- ---- definitions
+  -- the sinks of the lines from one on, before which these cells stand
+  line_sinks : (before : List Name) (c : List Statement) (ls : List Line) → AreStated (signal whole) c ls
+      → Distinct (before ++ map (λ cell. cell.0) (cells c)) → map (λ cell. cell.0) (cells whole) ≡ before ++ map (λ cell. cell.0) (cells c)
+      → sinks_at (line_readers (length before) ls) (signal whole n) ≡ flat_map (pins_of whole n) c
+  line_sinks before c ls no_line once is = refl
+  line_sinks before c ls (input m s b ks e are) once is = line_sinks before b ks are once is
+  line_sinks before c ls (output m s b ks e are) once is = line_sinks before b ks are once is
+  line_sinks before c ls (gate m s args g b ks e ps are) once is =
+      let first = ap (λ xs. sinks_at (pin_readers s xs) (signal whole n)) ps ∙ numbered (Pin s) 0 args in
+      let rest = line_sinks before b ks are once is in
+      sinks-append (pin_readers s g.pins.items) (line_readers (length before) ks) (signal whole n)
+      ∙ (ap (λ xs. xs ++ sinks_at (line_readers (length before) ks) (signal whole n)) first
+      ∙ (ap (λ ys. map (λ pin. Pin s pin) (places n args) ++ ys) rest
+      ∙ ap (λ u. map (λ pin. Pin u pin) (places n args) ++ flat_map (pins_of whole n) b) e))
+  line_sinks before c ls (flip_flop q d s t b ks e h are) once is =
+      let same = bytes_at d in
+      let later = line_sinks (before ++ q ∷ []) b ks are (rw (append_assoc before (q ∷ []) (map (λ cell. cell.0) (cells b))) once) (is ∙ sym (append_assoc before (q ∷ []) (map (λ cell. cell.0) (cells b)))) in
+      let rest = ap (λ k. sinks_at (line_readers k ks) (signal whole n)) (sym (length-append before (q ∷ []))) ∙ later in
+      let own : cell whole q ≡ length before = ap (position_or_len (bytes_eq q)) is ∙ position_after before (map (λ cell. cell.0) (cells b)) q once in
+      elim (cases_Bool (signal whole d == signal whole n)) [
+        | inl on ↦ rw (h, same, on) (ap (λ k. Data k ∷ sinks_at (line_readers (length before + 1) ks) (signal whole n)) (sym own) ∙ ap (λ ys. Data (cell whole q) ∷ ys) rest)
+        | inr off ↦ rw (h, same, off) rest
+      ]
 
-pub definers_are : (ns : List Name) (lines : List Line)
-    → filter defines (statements_of ns lines) ≡ map (statement_of ns) (filter defines_number lines)
-definers_are ns [] = refl
-definers_are ns (line.Input s ∷ lines) =
-    ap (λ xs. Input (name_at ns s) ∷ xs) (definers_are ns lines)
-definers_are ns (line.Output s ∷ lines) = definers_are ns lines
-definers_are ns (line.Gate s g ∷ lines) =
-    ap (λ xs. Gate (name_at ns s) g.kind (map (name_at ns) g.pins.items) ∷ xs)
-    (definers_are ns lines)
-definers_are ns (line.Dff q d ∷ lines) =
-    ap (λ xs. Dff (name_at ns q) (name_at ns d) ∷ xs) (definers_are ns lines)
+  pub sinks_are : (lines : List Line) → AreStated (signal whole) whole lines → Distinct (map (λ cell. cell.0) (cells whole))
+      → sinks_at (all_readers lines (filter_map output_number lines)) (signal whole n) ≡ sinks whole n
+  sinks_are lines are once =
+      sinks-append (line_readers 0 lines) (output_readers (filter_map output_number lines)) (signal whole n)
+      ∙ (ap (λ xs. xs ++ sinks_at (output_readers (filter_map output_number lines)) (signal whole n)) (line_sinks [] whole lines are once refl)
+      ∙ ap (λ ys. flat_map (pins_of whole n) whole ++ ys) (ap (λ os. sinks_at (output_readers os) (signal whole n)) (outputs_are whole lines are) ∙ numbered Out 0 (outputs whole)))
 
-numbers_of : (lines : List Line)
-    → map defined_number (filter defines_number lines) ≡ map Some (flat_map defined_numbers lines)
-numbers_of [] = refl
-numbers_of (line.Input s ∷ lines) = ap (λ xs. Some s ∷ xs) (numbers_of lines)
-numbers_of (line.Output s ∷ lines) = numbers_of lines
-numbers_of (line.Gate s g ∷ lines) = ap (λ xs. Some s ∷ xs) (numbers_of lines)
-numbers_of (line.Dff q d ∷ lines) = ap (λ xs. Some q ∷ xs) (numbers_of lines)
+-- ---- numbered lines are such lines
 
-definer_count : (lines : List Line)
-    → length (filter defines_number lines) ≡ length (flat_map defined_numbers lines)
-definer_count lines = simp length-map at (ap length (numbers_of lines))
+-- the numbers that lines hold are below the number of names
+pub defined_in : (ns : List Name) (lines : List Line) (s : ℕ) → AreNumbered ns lines → Among s (flat_map defined_numbers lines) → s < length ns
+defined_in ns lines s numbered a =
+    let at = placed (flat_map defined_numbers lines) s a in
+    omega (arith, numbered.in_order at.0 s at.1, slice_get_within (flat_map defined_numbers lines) at.0 s at.1, numbered.count)
 
--- a line that defines a signal stands at that signal's place among those that do
-pub number_place : (ns : List Name) (lines : List Line) (i : ℕ) (l : Line) → AreNumbered ns lines
-    → slice_get (filter defines_number lines) i ≡ Some l → defined_number l ≡ Some i
-number_place ns lines i l numbered e =
-    let at =
-    slice_get-map defined_number (filter defines_number lines) i
-    ∙ ap (option_map defined_number) e in
-    let n = from_mapped Some (flat_map defined_numbers lines) i (defined_number l)
-    (ap (λ xs. slice_get xs i) (sym (numbers_of lines)) ∙ at) in
-    sym n.2 ∙ ap Some (numbered.in_order i n.0 n.1)
+module _ (ns : List Name) (lines : List Line) (are : AreNumbered ns lines) (once : AllPairs (λ m n. m ≢ n) ns) where
+  pub signal_at : (s : ℕ) → s < length ns → signal (statements_of ns lines) (name_at ns s) ≡ s
+  signal_at s lt =
+      let same = are.names_are in
+      signal-name_of (statements_of ns lines) s (name_at ns s) (subst (AllPairs (λ m n. m ≢ n)) (sym same) once)
+      (ap (λ xs. slice_get xs s) same ∙ slice_get-get_or ns s [] lt)
+      (subst (λ xs. Contains xs (name_at ns s)) (sym same) (Contains-get_or ns s [] lt))
 
--- the line of each signal, and the signal of each line
-pub line_of : (ns : List Name) (lines : List Line) (s : ℕ) → AreNumbered ns lines → s < length ns
-    → (l : Line) × (slice_get (filter defines_number lines) s ≡ Some l) ×
-    (defined_number l ≡ Some s)
-line_of ns lines s numbered lt =
-    let l =
-    within_place (filter defines_number lines) s
-    (omega (arith, lt, definer_count lines, numbered.count)) in
-    (l.0, l.1, number_place ns lines s l.0 numbered l.1)
+  signals_at : (xs : List ℕ) → ((s : ℕ) → Among s xs → s < length ns) → xs ≡ map (signal (statements_of ns lines)) (map (name_at ns) xs)
+  signals_at [] below = refl
+  signals_at (x ∷ xs) below =
+      let first = signal_at x (below x (inl refl)) in
+      let rest = signals_at xs (λ s a. below s (inr a)) in
+      cc
 
-pub only_line : (ns : List Name) (lines : List Line) (l : Line) (s : ℕ) → AreNumbered ns lines
-    → Among l lines → defined_number l ≡ Some s → slice_get (filter defines_number lines) s ≡ Some l
-only_line ns lines l s numbered a d =
-    let at =
-    placed (filter defines_number lines) l
-    (among_filter defines_number lines l a (ap is_some d)) in
-    let both : Some at.0 ≡ Some s = sym (number_place ns lines at.0 l numbered at.1) ∙ d in
-    let same : at.0 ≡ s = cc in
-    rw same at at.1
+  go : (ls : List Line) → ((s : ℕ) → Among s (flat_map defined_numbers ls) → s < length ns) → ((s : ℕ) → Among s (flat_map read_numbers ls) → s < length ns)
+      → AreStated (signal (statements_of ns lines)) (statements_of ns ls) ls
+  go [] own reads = no_line
+  go (line.Input s ∷ ls) own reads =
+      input (name_at ns s) s (statements_of ns ls) ls (sym (signal_at s (own s (inl refl)))) (go ls (λ t a. own t (inr a)) reads)
+  go (line.Output s ∷ ls) own reads =
+      output (name_at ns s) s (statements_of ns ls) ls (sym (signal_at s (reads s (inl refl)))) (go ls own (λ t a. reads t (inr a)))
+  go (line.Gate s g ∷ ls) own reads =
+      gate (name_at ns s) s (map (name_at ns) g.pins.items) g (statements_of ns ls) ls (sym (signal_at s (own s (inl refl))))
+      (signals_at g.pins.items (λ t a. reads t (among_left g.pins.items (flat_map read_numbers ls) t a)))
+      (go ls (λ t a. own t (inr a)) (λ t a. reads t (among_right g.pins.items (flat_map read_numbers ls) t a)))
+  go (line.Dff q d ∷ ls) own reads =
+      flip_flop (name_at ns q) (name_at ns d) q d (statements_of ns ls) ls (sym (signal_at q (own q (inl refl)))) (sym (signal_at d (reads d (inl refl))))
+      (go ls (λ t a. own t (inr a)) (λ t a. reads t (inr a)))
 
--- a defined number is below the number of names
-pub defined_below : (ns : List Name) (lines : List Line) (l : Line) (s : ℕ) → AreNumbered ns lines
-    → Among l lines → defined_number l ≡ Some s → s < length ns
-defined_below ns lines l s numbered a d =
-    omega (
-      arith,
-      slice_get_within (filter defines_number lines) s l (only_line ns lines l s
-          numbered a d),
-      definer_count lines,
-      numbered.count,
-    )
-
--- ---- the table of definitions
-
-pub definition_count : (ns : List Name) (lines : List Line) (places : List ℕ) → AreNumbered ns lines
-    → AreDefinitions lines places → length places ≡ length ns
-definition_count ns lines places numbered are =
-    simp length-map at (ap length are) ∙ (definer_count lines ∙ numbered.count)
-
--- the line at the place of a signal's definition
-pub placed_line : (lines : List Line) (places : List ℕ) (s : ℕ) → AreDefinitions lines places
-    → s < length places → slice_get lines (slice_index places s) ≡ slice_get
-    (filter defines_number lines) s
-placed_line lines places s are lt =
-    let e =
-    slice_get-map (slice_get lines) places s
-    ∙ ap (option_map (slice_get lines)) (slice_get-get_or places s 0 lt) in
-    let p =
-    from_mapped Some (filter defines_number lines) s (slice_get lines (slice_index places s))
-    (ap (λ xs. slice_get xs s) (sym are) ∙ e) in
-    sym p.2 ∙ sym p.1
-
--- the line that defines a signal, by the table
-pub line_at : (ns : List Name) (lines : List Line) (places : List ℕ) (s : ℕ) → AreNumbered ns lines
-    → AreDefinitions lines places → s < length ns
-    → (l : Line) × (slice_get lines (slice_index places s) ≡ Some l) × (defined_number l ≡ Some s) ×
-    (slice_get (filter defines_number lines) s ≡ Some l)
-line_at ns lines places s numbered are lt =
-    let l = line_of ns lines s numbered lt in (
-      l.0,
-      placed_line lines places s are (omega
-          (arith, lt, definition_count ns lines places numbered are)) ∙ l.1,
-      l.2,
-      l.1,
-    )
-
--- the gate line of a signal gives its pins
-pub pins_of_line : (ns : List Name) (lines : List Line) (places : List ℕ) (s : ℕ) (gate : GateLine)
-    → AreNumbered ns lines → AreDefinitions lines places → Among (line.Gate s gate) lines
-    → gate_pins lines places s ≡ Some gate.pins.items
-pins_of_line ns lines places s gate numbered are a =
-    let lt = defined_below ns lines (line.Gate s gate) s numbered a refl in
-    ap line_pins (placed_line lines places s are
-    (omega (arith, lt, definition_count ns lines places numbered are))
-    ∙ only_line ns lines (line.Gate s gate) s numbered a refl)
-
--- a line that is no gate's gives none
-pub no_pins : (ns : List Name) (lines : List Line) (places : List ℕ) (s : ℕ) (l : Line)
-    → AreNumbered ns lines → AreDefinitions lines places → Among l lines → defined_number l ≡ Some s
-    → line_pins (Some l) ≡ None → gate_pins lines places s ≡ None
-no_pins ns lines places s l numbered are a d none =
-    let lt = defined_below ns lines l s numbered a d in
-    ap line_pins (placed_line lines places s are
-    (omega (arith, lt, definition_count ns lines places numbered are))
-    ∙ only_line ns lines l s numbered a d) ∙ none
-
--- the gate line of a signal with pins
-pub gate_line_at : (ns : List Name) (lines : List Line) (places : List ℕ) (s : ℕ) (pins : List ℕ)
-    → AreNumbered ns lines → AreDefinitions lines places → s < length ns
-    → gate_pins lines places s ≡ Some pins
-    → (gate : GateLine) × (slice_get lines (slice_index places s) ≡ Some (line.Gate s gate)) ×
-    (gate.pins.items ≡ pins)
-gate_line_at ns lines places s pins numbered are lt is =
-    let l = line_at ns lines places s numbered are lt in
-    go l.0 l.1 l.2 (sym (ap line_pins l.1) ∙ is)
-  where
-    go : (l : Line) → slice_get lines (slice_index places s) ≡ Some l → defined_number l ≡ Some s
-        → line_pins (Some l) ≡ Some pins
-        → (gate : GateLine) × (slice_get lines (slice_index places s) ≡ Some (line.Gate s gate)) ×
-        (gate.pins.items ≡ pins)
-    go (line.Input t) e d p = let bad : None ≡ Some pins = p in cc
-    go (line.Output t) e d p = let bad : None ≡ Some pins = p in cc
-    go (line.Dff q t) e d p = let bad : None ≡ Some pins = p in cc
-    go (line.Gate t g) e d p =
-        let t_is : t ≡ s = cc in
-        let same : g.pins.items ≡ pins = cc in
-        (g, e ∙ ap (λ u. Some (line.Gate u g)) t_is, same)
-
-pub gate_at : (ns : List Name) (lines : List Line) (places : List ℕ) (s : ℕ) (pins : List ℕ)
-    → AreNumbered ns lines → AreDefinitions lines places → s < length ns
-    → gate_pins lines places s ≡ Some pins
-    → (gate : GateLine) × Among (line.Gate s gate) lines × (gate.pins.items ≡ pins)
-gate_at ns lines places s pins numbered are lt is =
-    let g = gate_line_at ns lines places s pins numbered are lt is in
-    (g.0, at_place lines (slice_index places s) (line.Gate s g.0) g.1, g.2)
+  pub stated : AreStated (signal (statements_of ns lines)) (statements_of ns lines) lines
+  stated = go lines (λ s a. defined_in ns lines s are a) (λ s a. are.in_range s (contained (flat_map read_numbers lines) s a))

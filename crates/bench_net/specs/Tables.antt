@@ -3,6 +3,7 @@ use Rattle.std.specs.Prelude.{◌≡◌, ◌≢◌, ℕ, ◌+◌, ◌<◌, ◌�
 use Rattle.std.specs.List.{enumerate_from, filter_map}
 use Rattle.bench_net.specs.declared.tables.Tables.{Tables}
 pub use Rattle.bench_net.specs.Stored.{defined_number}
+use Rattle.bench_net.specs.declared.Kind.{Kind}
 use Rattle.bench_net.specs.declared.line.Line.{Line}
 use Rattle.bench_net.specs.declared.line.Line.TheVariants as line
 use Rattle.bench_net.specs.declared.ScanCell.{ScanCell}
@@ -24,6 +25,11 @@ output_number _ = None
 abbrev pub cell_numbers : Line → Option ScanCell
 cell_numbers (line.Dff q d) = Some (record { q = q; d = d })
 cell_numbers _ = None
+
+-- the kind and the pins of a gate line
+abbrev pub line_gate : Option Line → Option (Kind × List ℕ)
+line_gate (Some (line.Gate s g)) = Some (g.kind, g.pins.items)
+line_gate _ = None
 
 -- a line defines a signal
 abbrev pub defines_number : Line → Bool

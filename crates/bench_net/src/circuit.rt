@@ -36,7 +36,8 @@ impl Model for Circuit {
     ghost view = { λ c. statements_of (map string_bytes c.names.items) c.lines.items };
 
     ghost invariant = { λ c.
-        IsInside (map string_bytes c.names.items) c.lines.items c.tables c.levels };
+        IsInside (statements_of (map string_bytes c.names.items) c.lines.items)
+        (map string_bytes c.names.items) c.lines.items c.tables c.levels };
 }
 
 impl Circuit {
@@ -158,7 +159,7 @@ pub fn circuit_of(alloc: Global, lines: Lines) -> Result<Circuit, BenchFault>
         return Err(BenchFault::Empty);
     }
     let tables = tables_of(alloc, &lines, names.len())?;
-    match levels_of(alloc, &lines, &tables.definitions, &tables.sinks) {
+    match levels_of(alloc, &lines, &tables.definitions) {
         Ok(levels) => Ok(Circuit {
             names,
             lines,

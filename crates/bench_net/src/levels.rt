@@ -1,17 +1,14 @@
 //! The levels of signals, or a gate that has none: on a cycle of gates or fed by one.
 
-ghost use Rattle.std.specs.Prelude.{◌≡◌, ◌≢◌, ◌+◌, ◌^◌, ◌<◌, ◌≤◌, ℕ, List, length, slice_index, slice_get, unwrap_or, count_by, All, Contains, Some, None, [], ◌∷◌, IfOk, IfErr, OnOk};
+ghost use Rattle.std.specs.Prelude.{◌≡◌, ◌+◌, ◌<◌, ◌≤◌, ℕ, List, length, map, reverse, slice_index, sum_by, [], ◌∷◌, IfOk, IfErr, OnOk};
 ghost use Rattle.bench_net.specs.Level.{greatest};
 ghost use Rattle.bench_net.specs.Rows.{AreRows};
-ghost use Rattle.bench_net.specs.Marks.{gate_pins, IsGraph, AreReaders, AreLevelsOf, IsLevelFault, AreMarks, IsSearch, IsNextMark, IsLevelled, AreMarkedLevels, IsFirstWaiting, has_level, line_pins, mark_from};
-ghost use Rattle.bench_net.specs.declared.levels.Mark.{Mark};
-ghost use Rattle.bench_net.specs.declared.Sink.{Sink};
+ghost use Rattle.bench_net.specs.Tables.{AreDefinitions};
+ghost use Rattle.bench_net.specs.Marks.{gate_pins, IsGraph, AreLevelsOf, IsLevelFault, IsSearch, steps, level_in};
 ghost use Rattle.bench_net.specs.declared.levels.LevelFault.TheVariants.{Memory};
 
-use crate::Sink;
 use crate::line::Line;
 use crate::rows::rows_of;
-use crate::sinks::SinkRows;
 use std::alloc::{AllocError, AllocFailed, Global};
 
 /// The level of each signal, the signals in the order of their levels, and the greatest level.
@@ -46,19 +43,20 @@ impl<T: Drop> From<AllocFailed<T>> for LevelFault {
     }
 }
 
-/// What is known of a signal: its level, or that its gate waits for the signal of a pin, where
-/// `above` is the greatest level of the pins before it.
-#[derive(Clone, Copy, Debug, PartialEq, Eq)]
+/// What is known of a signal: nothing, its level, or that its gate is open. The signals of the pins
+/// of an open gate before `pin` have levels, and `level` is one more than the greatest of them.
+#[derive(Clone, Copy)]
 enum Mark {
-    Waits { pin: u32, above: u32 },
+    Unknown,
+    Open { pin: u32, level: u32 },
     Level(u32),
 }
 
-/// The signals that the pins of a gate read; none for a source.
+/// The signals that the pins of a signal's gate read; none for a source.
 fn pins_of<'a>(lines: &'a [Line], definitions: &[u32], signal: u32) -> &'a [u32]
     requires below { signal < length definitions.now }
-    requires graph { IsGraph lines.now definitions.now }
-    ensures { result.now ≡ unwrap_or (gate_pins lines.now definitions.now signal) [] }
+    requires definitions { AreDefinitions lines.now definitions.now }
+    ensures { result.now ≡ gate_pins lines.now signal }
 {
     match &lines[definitions[signal as usize] as usize] {
         Line::Gate(_, driver) => driver.pins.as_slice(),
@@ -66,183 +64,116 @@ fn pins_of<'a>(lines: &'a [Line], definitions: &[u32], signal: u32) -> &'a [u32]
     }
 }
 
-/// The next mark of a gate that waits at `pin`: it goes on to the first pin whose signal has no
-/// level.
-fn next_mark(
+/// Goes one pin on at the last open gate of the path: past a pin whose signal has a level, to a
+/// signal that is unknown, or out of the gate with a level. A pin that reads an open signal closes
+/// a cycle.
+fn visit(
     lines: &[Line],
     definitions: &[u32],
-    marks: &[Mark],
+    start: u32,
     gate: u32,
-    pin: u32,
-    mut above: u32,
-) -> Mark
-    requires graph { IsGraph lines.now definitions.now }
-    requires marks { AreMarks (gate_pins lines.now definitions.now) (length definitions.now)
-        marks.now }
-    requires waits { slice_get marks.now gate ≡ Some (Mark.Waits pin above) }
-    ensures { IsNextMark (gate_pins lines.now definitions.now) marks.now gate result }
-{
-    let pins = pins_of(lines, definitions, gate);
-    for at in pin as usize..pins.len() {
-        match marks[pins[at] as usize] {
-            Mark::Level(level) => above = above.max(level),
-            Mark::Waits { .. } => {
-                return Mark::Waits {
-                    pin: at as u32,
-                    above,
-                };
-            }
-        }
-    }
-    Mark::Level(above + 1)
-}
-
-/// Tells a gate that the signal of a pin has a level. If the gate waits there, it goes on, and it
-/// is ready to tell its own readers if all its pins have levels.
-fn tell_gate(
-    lines: &[Line],
-    definitions: &[u32],
-    gate: u32,
-    pin: u32,
     marks: &mut Vec<Mark>,
-    ready: &mut Vec<u32>,
-) -> Result<(), AllocError>
+    path: &mut Vec<u32>,
+) -> Result<(), LevelFault>
     requires graph { IsGraph lines.now definitions.now }
-    requires marks { AreMarks (gate_pins lines.now definitions.now) (length definitions.now)
-        marks.old.items }
-    requires gate { gate < length definitions.now }
-    ensures search { OnOk result ((row : List Sink)
-        → IsSearch (gate_pins lines.now definitions.now) (length definitions.now)
-        marks.old.items ready.old.items (Sink.Pin gate pin ∷ row)
-        → IsSearch (gate_pins lines.now definitions.now) (length definitions.now)
-        marks.new.items ready.new.items row) }
-    ensures count { OnOk result (length ready.new.items + count_by has_level marks.old.items
-        ≡ length ready.old.items + count_by has_level marks.new.items) }
+    requires search { IsSearch (gate_pins lines.now) (length definitions.now) start (start + 1)
+        marks.old.items (gate ∷ reverse path.old.items) }
+    ensures search { OnOk result (IsSearch (gate_pins lines.now) (length definitions.now) start
+        (start + 1) marks.new.items (reverse path.new.items)) }
+    ensures less { OnOk result (sum_by steps marks.new.items + length path.new.items
+        ≤ sum_by steps marks.old.items + length path.old.items) }
+    ensures fault { IfErr result (IsLevelFault (gate_pins lines.now) (length definitions.now)) }
 {
-    let Mark::Waits { pin: at, above } = marks[gate as usize] else {
+    let Mark::Open { pin, level } = marks[gate as usize] else {
         return Ok(());
     };
-    if at != pin {
+    let pins = pins_of(lines, definitions, gate);
+    if pin as usize >= pins.len() {
+        marks[gate as usize] = Mark::Level(level);
         return Ok(());
     }
-    let mark = next_mark(lines, definitions, marks, gate, pin, above);
-    marks[gate as usize] = mark;
-    if let Mark::Level(_) = mark {
-        ready.push(gate)?;
+    let signal = pins[pin as usize];
+    path.push(gate)?;
+    match marks[signal as usize] {
+        Mark::Level(lower) => {
+            marks[gate as usize] = Mark::Open {
+                pin: pin + 1,
+                level: level.max(lower + 1),
+            };
+        }
+        Mark::Unknown => {
+            marks[signal as usize] = Mark::Open { pin: 0, level: 0 };
+            path.push(signal)?;
+        }
+        Mark::Open { .. } => return Err(LevelFault::Cycle(start)),
     }
     Ok(())
 }
 
-/// Tells the readers of a signal that it has a level.
-fn tell_readers(
+/// Marks a signal with its level, and with theirs all signals that it takes. Each lower signal has
+/// a level.
+fn settle(
     lines: &[Line],
     definitions: &[u32],
-    row: &[Sink],
+    start: u32,
     marks: &mut Vec<Mark>,
-    ready: &mut Vec<u32>,
-) -> Result<(), AllocError>
+    path: &mut Vec<u32>,
+) -> Result<(), LevelFault>
     requires graph { IsGraph lines.now definitions.now }
-    requires search { IsSearch (gate_pins lines.now definitions.now) (length definitions.now)
-        marks.old.items ready.old.items row.now }
-    ensures search { OnOk result (IsSearch (gate_pins lines.now definitions.now)
-        (length definitions.now) marks.new.items ready.new.items []) }
-    ensures count { OnOk result (length ready.new.items + count_by has_level marks.old.items
-        ≡ length ready.old.items + count_by has_level marks.new.items) }
+    requires start { start < length definitions.now }
+    requires search { IsSearch (gate_pins lines.now) (length definitions.now) start start
+        marks.old.items [] }
+    requires path { path.old.items ≡ [] }
+    ensures search { OnOk result (IsSearch (gate_pins lines.now) (length definitions.now)
+        (start + 1) (start + 1) marks.new.items []) }
+    ensures path { OnOk result (path.new.items ≡ []) }
+    ensures fault { IfErr result (IsLevelFault (gate_pins lines.now) (length definitions.now)) }
 {
-    for sink in row {
-        if let Sink::Pin { gate, pin } = sink {
-            tell_gate(lines, definitions, *gate, *pin, marks, ready)?;
-        }
+    if let Mark::Unknown = marks[start as usize] {
+        marks[start as usize] = Mark::Open { pin: 0, level: 0 };
+        path.push(start)?;
+    }
+    while let Some(gate) = path.pop() {
+        visit(lines, definitions, start, gate, marks, path)?;
     }
     Ok(())
 }
 
-/// The mark of a line's signal before any gate is told of a level: a source has level 0.
-fn first_mark(line: &Line) -> Mark
-    ensures { result ≡ mark_from (line_pins (Some line.now)) }
+/// The level in a mark, and 0 in a mark without one.
+fn level_in(mark: &Mark) -> u32
+    ensures { result ≡ level_in mark.now }
 {
-    match line {
-        Line::Gate(_, _) => Mark::Waits { pin: 0, above: 0 },
-        _ => Mark::Level(0),
+    match mark {
+        Mark::Level(level) => *level,
+        _ => 0,
     }
 }
 
-/// The marks before any gate is told of a level.
-fn first_marks(alloc: Global, lines: &[Line], definitions: &[u32]) -> Result<Vec<Mark>, AllocError>
-    requires { IsGraph lines.now definitions.now }
-    ensures { IfOk result (λ marks. AreMarks
-        (gate_pins lines.now definitions.now) (length definitions.now) marks.items) }
+/// The levels in marks.
+fn levels_in(alloc: Global, marks: &[Mark]) -> Result<Vec<u32>, AllocError>
+    ensures { IfOk result (λ levels. levels.items ≡ map level_in marks.now) }
 {
-    let mut marks = Vec::with_capacity(alloc, definitions.len())?;
-    for place in definitions {
-        marks.push(first_mark(&lines[*place as usize]))?;
-    }
-    Ok(marks)
-}
-
-/// The signals that have a level.
-fn levelled(alloc: Global, marks: &[Mark]) -> Result<Vec<u32>, AllocError>
-    requires { length marks.now < 2 ^ 32 }
-    ensures below { IfOk result (λ ready. All (λ s. s < length marks.now) ready.items) }
-    ensures all { IfOk result (λ ready. (s : ℕ) → IsLevelled marks.now s → Contains ready.items s) }
-{
-    let mut ready = Vec::new(alloc);
-    for signal in 0..marks.len() {
-        if let Mark::Level(_) = marks[signal] {
-            ready.push(signal as u32)?;
-        }
-    }
-    Ok(ready)
-}
-
-/// The levels of marks that all have one; else the lowest signal that has none is at fault.
-fn marked_levels(alloc: Global, marks: &[Mark]) -> Result<Vec<u32>, LevelFault>
-    requires { length marks.now < 2 ^ 32 }
-    ensures levels { IfOk result (λ levels. AreMarkedLevels marks.now levels.items) }
-    ensures fault { IfErr result (IsFirstWaiting marks.now) }
-{
-    let mut levels = Vec::with_capacity(alloc, marks.len())?;
-    for (signal, mark) in marks.iter().enumerate() {
-        match mark {
-            Mark::Level(level) => levels.push(*level)?,
-            Mark::Waits { .. } => return Err(LevelFault::Cycle(signal as u32)),
-        }
-    }
-    Ok(levels)
+    marks.iter().map(|mark| level_in(mark)).collect(alloc)
 }
 
 /// The level of each signal: 0 for a source, and for a gate one more than the greatest of its pins'
-/// signals. A signal with a level is taken once to tell its readers, and a gate goes past each of
-/// its pins once, so the time is linear in the number of pins. The gates that wait at the end wait
-/// for one another.
-fn signal_levels(
-    alloc: Global,
-    lines: &[Line],
-    definitions: &[u32],
-    sinks: &SinkRows,
-) -> Result<Vec<u32>, LevelFault>
+/// signals. The signals are settled in order, each behind the signals that it takes. A gate goes
+/// past each of its pins once, so the time is linear in the number of pins. A path that meets
+/// itself is on a cycle, and fed by it is the signal from which it started.
+fn signal_levels(alloc: Global, lines: &[Line], definitions: &[u32]) -> Result<Vec<u32>, LevelFault>
     requires graph { IsGraph lines.now definitions.now }
-    requires readers { AreReaders (gate_pins lines.now definitions.now) (length definitions.now)
-        sinks.now.starts.items sinks.now.sinks.items }
-    ensures levels { IfOk result (λ levels. AreLevelsOf
-        (gate_pins lines.now definitions.now) (length definitions.now) levels.items) }
+    ensures levels { IfOk result (λ levels. AreLevelsOf (gate_pins lines.now)
+        (length definitions.now) levels.items) }
     ensures small { IfOk result (λ levels. (s : ℕ) → s < length levels.items
         → slice_index levels.items s ≤ length levels.items) }
-    ensures fault { IfErr result (IsLevelFault
-        (gate_pins lines.now definitions.now) (length definitions.now)) }
+    ensures fault { IfErr result (IsLevelFault (gate_pins lines.now) (length definitions.now)) }
 {
-    let mut marks = first_marks(alloc, lines, definitions)?;
-    let mut ready = levelled(alloc, &marks)?;
-    while let Some(signal) = ready.pop() {
-        tell_readers(
-            lines,
-            definitions,
-            sinks.row(signal),
-            &mut marks,
-            &mut ready,
-        )?;
+    let mut marks = vec![in alloc; Mark::Unknown; definitions.len()]?;
+    let mut path = Vec::new(alloc);
+    for start in 0..definitions.len() as u32 {
+        settle(lines, definitions, start, &mut marks, &mut path)?;
     }
-    marked_levels(alloc, &marks)
+    Ok(levels_in(alloc, &marks)?)
 }
 
 /// The greatest of some levels, and 0 where there is none.
@@ -256,26 +187,17 @@ fn greatest(levels: &[u32]) -> u32
     greatest
 }
 
-/// The levels of lines whose definitions stand at these places, and whose signals have these
-/// readers.
-pub fn levels_of(
-    alloc: Global,
-    lines: &[Line],
-    definitions: &[u32],
-    sinks: &SinkRows,
-) -> Result<Levels, LevelFault>
+/// The levels of lines whose definitions stand at these places.
+pub fn levels_of(alloc: Global, lines: &[Line], definitions: &[u32]) -> Result<Levels, LevelFault>
     requires graph { IsGraph lines.now definitions.now }
-    requires readers { AreReaders (gate_pins lines.now definitions.now) (length definitions.now)
-        sinks.now.starts.items sinks.now.sinks.items }
-    ensures levels { IfOk result (λ l. AreLevelsOf
-        (gate_pins lines.now definitions.now) (length definitions.now) l.levels.items) }
+    ensures levels { IfOk result (λ l. AreLevelsOf (gate_pins lines.now)
+        (length definitions.now) l.levels.items) }
     ensures order { IfOk result (λ l. (starts : List ℕ)
         × AreRows l.levels.items (l.depth + 1) starts l.order.items) }
     ensures depth { IfOk result (λ l. l.depth ≡ greatest l.levels.items) }
-    ensures fault { IfErr result (IsLevelFault
-        (gate_pins lines.now definitions.now) (length definitions.now)) }
+    ensures fault { IfErr result (IsLevelFault (gate_pins lines.now) (length definitions.now)) }
 {
-    let levels = signal_levels(alloc, lines, definitions, sinks)?;
+    let levels = signal_levels(alloc, lines, definitions)?;
     let depth = greatest(&levels);
     let order = rows_of(alloc, &levels, depth as usize + 1)?.places;
     Ok(Levels {

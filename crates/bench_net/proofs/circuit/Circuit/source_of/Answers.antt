@@ -1,15 +1,29 @@
-use Rattle.std.proofs.Common.{◌≡◌, ◌≢◌, ◌<◌, ℕ, arith, ap, subst, length, map, string_bytes}
-use Rattle.std.specs.Prelude.{IfSome, IfNone, slice_get}
-use Rattle.bench_net.specs.Scan.{sources, name_of, names}
-use Rattle.bench_net.proofs.Calls.{read_place_some, read_place_none, name_count}
+use Rattle.std.proofs.Common.{◌≡◌, ◌<◌, ℕ, List, arith, refl, sym, subst, length}
+use Rattle.std.specs.Prelude.{◌≢◌, Option, Some, None, IfSome, IfNone, slice_get}
+use Rattle.std.proofs.lemmas.Option.{slice_get_read}
+use Rattle.bench_net.specs.Statement.{Statement}
+use Rattle.bench_net.specs.Scan.{names, sources, name_of}
+use Rattle.bench_net.specs.Inside.{IsPlace}
 use Rattle.bench_net.proofs.circuit.Circuit.source_of.Goals as goal
+
+some_place : (c : List Statement) (s : ℕ) (place : Option ℕ) → IsPlace c s place → IfSome place (λ i. slice_get (sources c) i ≡ name_of c s)
+some_place c s None is = tt
+some_place c s (Some i) is = is
+
+no_place : (c : List Statement) (s : ℕ) (place : Option ℕ) → IsPlace c s place → IfNone place ((i : ℕ) → slice_get (sources c) i ≢ name_of c s)
+no_place c s None is = is
+no_place c s (Some i) is = tt
 
 pub returns-clause-place : goal.returns-clause-place
 returns-clause-place c =
-    let below : c.args.signal < length (map string_bytes c.self.inside.names.items) = omega (arith, c.requires, ap (λ s. length (names s)) c.self.view_is, name_count (map string_bytes c.self.inside.names.items) c.self.inside.lines.items c.self.inside.tables c.self.inside.levels c.self.invariant) in
-    subst (λ s. IfSome c.index.result.now (λ i. slice_get (sources s) i ≡ name_of s c.args.signal)) c.self.view_is (read_place_some (map string_bytes c.self.inside.names.items) c.self.inside.lines.items c.self.inside.tables c.self.inside.levels c.args.signal c.index.result.now c.self.invariant below c.index.ensures)
+    let places = c.self.inside.tables.source_places.items in
+    let below = subst (λ s. c.args.signal < length (names s)) (sym c.self.view_is) c.requires in
+    let read = slice_get_read places (length places) c.args.signal c.index.result.now refl (omega (arith, below, c.self.invariant.place_count)) c.index.ensures in
+    some_place c.args.self.now c.args.signal c.index.result.now (subst (λ s. IsPlace s c.args.signal c.index.result.now) c.self.view_is (c.self.invariant.places_are c.args.signal c.index.result.now read))
 
 pub returns-clause-none : goal.returns-clause-none
 returns-clause-none c =
-    let below : c.args.signal < length (map string_bytes c.self.inside.names.items) = omega (arith, c.requires, ap (λ s. length (names s)) c.self.view_is, name_count (map string_bytes c.self.inside.names.items) c.self.inside.lines.items c.self.inside.tables c.self.inside.levels c.self.invariant) in
-    subst (λ s. IfNone c.index.result.now ((i : ℕ) → slice_get (sources s) i ≢ name_of s c.args.signal)) c.self.view_is (read_place_none (map string_bytes c.self.inside.names.items) c.self.inside.lines.items c.self.inside.tables c.self.inside.levels c.args.signal c.index.result.now c.self.invariant below c.index.ensures)
+    let places = c.self.inside.tables.source_places.items in
+    let below = subst (λ s. c.args.signal < length (names s)) (sym c.self.view_is) c.requires in
+    let read = slice_get_read places (length places) c.args.signal c.index.result.now refl (omega (arith, below, c.self.invariant.place_count)) c.index.ensures in
+    no_place c.args.self.now c.args.signal c.index.result.now (subst (λ s. IsPlace s c.args.signal c.index.result.now) c.self.view_is (c.self.invariant.places_are c.args.signal c.index.result.now read))
