@@ -211,11 +211,11 @@ module _ {pins : ℕ → List ℕ} where
             on s (inr a) = below s a
 
         -- it is open, so the path meets itself
-        pub met : {i j : ℕ} → slice_get marks p ≡ Some (Open i j) → IsLevelFault pins n (Cycle start)
-        met {i} {j} again =
+        pub met : {i j : ℕ} (s : ℕ) → s ≡ start → slice_get marks p ≡ Some (Open i j) → IsLevelFault pins n (Cycle s)
+        met {i} {j} s same again =
             let on = contained (g ∷ rest) p (on_path p (state.open_on p i j again)) in
             let first = start_on pins start g rest here in
-            (below start first, (g ∷ rest, (λ m has. reads_on pins start g rest (g ∷ rest) here (λ s a. a) p read on m (among (g ∷ rest) m has)), contained (g ∷ rest) start first), state.lower)
+            subst (λ k. IsLevelFault pins n (Cycle k)) (sym same) (below start first, (g ∷ rest, (λ m has. reads_on pins start g rest (g ∷ rest) here (λ s a. a) p read on m (among (g ∷ rest) m has)), contained (g ∷ rest) start first), state.lower)
 
   -- ---- a search begins and ends
 

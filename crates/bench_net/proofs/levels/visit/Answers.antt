@@ -78,7 +78,7 @@ returns-in-Open-index-clause-fault c =
     let at = at_gate c.requires.search c.index.result.now c.index.ensures in
     let again = at_place c.requires.search (get_or c.pins_of-pins.result.now c.in-Open.pin 0) c.index-2.result.now (pin_below c.requires.graph c.args.gate c.in-Open.pin c.pins_of-pins.result.now c.pins_of-pins.ensures (omega arith)) c.index-2.ensures in
     met c.requires.search refl (at ∙ ap Some c.in-Open.is)
-    (omega (arith, ap length c.pins_of-pins.ensures)) (ap (λ ps. get_or ps c.in-Open.pin 0) c.pins_of-pins.ensures) (again ∙ ap Some c.in-Open-index.is)
+    (omega (arith, ap length c.pins_of-pins.ensures)) (ap (λ ps. get_or ps c.in-Open.pin 0) c.pins_of-pins.ensures) _ (omega arith) (again ∙ ap Some c.in-Open-index.is)
 
 pub returns-in-Level-clause-search : goal.returns-in-Level-clause-search
 returns-in-Level-clause-search c =
