@@ -11,7 +11,8 @@ processors are busy with something else.
 
 It builds baseline.cpp with g++ and the program with `rt run`, makes circuits and tests with
 generate.py in a temporary folder, runs both in turn, and prints for each case the ratio of the
-least times. Ratios alone are printed: times depend on the machine.
+least times, for a run also that beside the baseline with --no-trim, which looks at whole blocks,
+and the most memory that each had. Times depend on the machine, so their ratios alone are printed.
 """
 
 import argparse
@@ -74,6 +75,20 @@ def timed(words):
     return time.perf_counter() - begin, (done.returncode, done.stdout, done.stderr)
 
 
+# A process of its own starts the program, since a process counts what it had before it became another.
+MEMORY = """
+import os, sys
+quiet = [(os.POSIX_SPAWN_OPEN, number, os.devnull, os.O_WRONLY, 0) for number in (1, 2)]
+child = os.posix_spawn(sys.argv[1], sys.argv[1:], os.environ, file_actions=quiet)
+print(os.wait4(child, 0)[2].ru_maxrss)
+"""
+
+
+def memory(words):
+    """The most memory that a run had at one time, in MB."""
+    return int(run([sys.executable, "-c", MEMORY, *words])) / 1024
+
+
 def compare_workers(folder, baseline, rounds, only):
     for title, circuit, tests in WORKER_CASES:
         if only not in title:
@@ -132,21 +147,26 @@ def main():
                 continue
             bench = generated(folder, "bench", circuit.split(), line)
             words = ["faults", "--bench", bench]
-            whole = []
+            # The baseline also looks at whole blocks.
+            ways = [[]]
             if tests is not None:
                 rows = generated(folder, "tests", ["tests", "--bench", bench, "--count", str(tests)])
                 words = ["run", "--bench", bench, "--tests", rows, "--workers", "1", "--list"]
-                # The baseline looks at whole blocks too.
-                whole = ["--no-trim"]
-            ours, theirs = [], []
+                ways = [[], ["--no-trim"]]
+            least = {}
             for _ in range(options.rounds):
-                mine, out = timed([str(PROGRAM), *words])
-                other, expected = timed([str(baseline), *words, *whole])
-                if out != expected:
-                    sys.exit(f"{title}: the reports differ")
-                ours.append(mine)
-                theirs.append(other)
-            print(f"{title}: {min(ours) / min(theirs):.2f}", flush=True)
+                for program, more in [(PROGRAM, []), *((baseline, way) for way in ways)]:
+                    took, out = timed([str(program), *words, *more])
+                    if out != least.setdefault("out", out):
+                        sys.exit(f"{title}: the reports differ")
+                    key = (program, *more)
+                    least[key] = min(took, least.get(key, took))
+            ratios = [least[PROGRAM,] / least[(baseline, *way)] for way in ways]
+            line = f"{title}: {ratios[0]:.2f}"
+            if len(ratios) > 1:
+                line += f" ({ratios[1]:.2f} with --no-trim)"
+            ours, theirs = memory([str(PROGRAM), *words]), memory([str(baseline), *words])
+            print(f"{line}, {ours:.0f} MB beside {theirs:.0f}", flush=True)
 
 
 if __name__ == "__main__":
