@@ -209,6 +209,7 @@ module _ (ns : List Name) (lines : List Line) (at : List ℕ) (are : AreStatemen
     inputs_are = tabled.inputs_are ∙ inputs_are c lines all;
     cells_are = ap (map {B = ℕ × ℕ} (λ cell. (cell.q, cell.d))) tabled.cells_are ∙ cells_are c lines all;
     outputs_are = tabled.outputs_are ∙ outputs_are c lines all;
+    source_count = ap length (tabled.sources_are ∙ sources_are c lines all) ∙ length-map (sources c) (signal c);
     place_count = tabled.places_are.count ∙ sym name_count;
     places_are = λ s place e. place_at s place e (omega (arith, slice_get_within tables.source_places.items s place e, tabled.places_are.count, name_count));
     definition_count = count tables.definitions.items tabled.definitions_are ∙ sym name_count;

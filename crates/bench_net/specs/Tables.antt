@@ -123,6 +123,7 @@ pub record AreTables (lines : List Line) (signals : ℕ) (tables : Tables) : Typ
   pub inputs_are : tables.inputs.items ≡ filter_map input_number lines
   pub cells_are : tables.cells.items ≡ filter_map cell_numbers lines
   pub outputs_are : tables.outputs.items ≡ filter_map output_number lines
+  pub sources_are : tables.sources.items ≡ source_signals lines
   pub places_are : ArePlaces (source_signals lines) signals tables.source_places.items
   pub definitions_are : AreDefinitions lines tables.definitions.items
   pub sinks_are : AreSinkRows (all_readers lines (filter_map output_number lines)) signals

@@ -4,6 +4,7 @@ ghost use Rattle.std.specs.Prelude.{◌≡◌, ◌≢◌, ◌<◌, ◌≤◌, �
 ghost use Rattle.bench_net.specs.declared.Kind.{Kind};
 ghost use Rattle.bench_net.specs.Scan.{names, signal, name_of, gate_of, inputs, outputs, cells, sources, sinks};
 ghost use Rattle.bench_net.specs.Circuit.{IsCircuit};
+ghost use Rattle.bench_net.specs.Tables.{line_gate};
 ghost use Rattle.bench_net.specs.Level.{HasLevel, HasDepth, IsLevelOrder};
 ghost use Rattle.bench_net.specs.Stored.{statements_of, AreStatements, AreRefused};
 
@@ -56,7 +57,7 @@ impl Circuit {
         ensures count { result ≡ length (sources self.now) }
         ensures some { 1 ≤ result }
     {
-        (self.tables.inputs.len() + self.tables.cells.len()) as u32
+        self.tables.sources.len() as u32
     }
 
     /// The signals of the INPUT lines, in order.
@@ -106,10 +107,18 @@ impl Circuit {
         ensures { option_map {U = Kind × List ℕ} (λ g. (g.now.kind, g.now.pins.items)) result
             ≡ gate_of self.now signal }
     {
-        match &self.lines[self.tables.definitions[signal as usize] as usize] {
+        match self.line_of(signal) {
             Line::Gate(_, gate) => Some(gate),
-            _ => None,
+            Line::Input(_) | Line::Output(_) | Line::Dff(_, _) => None,
         }
+    }
+
+    /// The line that defines a signal.
+    fn line_of(&self, signal: u32) -> &Line
+        requires { signal < length (names self.now) }
+        ensures { line_gate (Some result.now) ≡ gate_of self.now signal }
+    {
+        &self.lines[self.tables.definitions[signal as usize] as usize]
     }
 
     /// The readers of a signal: gate pins and data pins by the line of the reader and then by pin,

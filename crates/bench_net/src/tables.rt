@@ -18,6 +18,8 @@ pub struct Tables {
     pub cells: Vec<ScanCell>,
     /// The signals of the OUTPUT lines.
     pub outputs: Vec<u32>,
+    /// The signals that take a bit of a test, in the order of a test row.
+    pub sources: Vec<u32>,
     /// Of each signal its place in a test row.
     pub source_places: Vec<Option<u32>>,
     /// Of each signal the place of the line that defines it.
@@ -154,6 +156,7 @@ pub fn tables_of(alloc: Global, lines: &[Line], signals: usize) -> Result<Tables
         inputs,
         cells,
         outputs,
+        sources,
         source_places,
         definitions,
         sinks,
