@@ -1,8 +1,7 @@
 -- What the passes over the lines say of the text.
 use Rattle.std.proofs.Common.{◌≡◌, ◌≢◌, ◌<◌, ◌≤◌, ℕ, zero, suc, refl, sym, ◌∙◌, ap, subst, false, List, [], ◌∷◌, length, take, map, get_or, arith, inl, inr}
-use Rattle.std.specs.Prelude.{AllPairs, Contains, Option, Some, None, slice_get, slice_index_or, flat_map, option_map, unwrap_or}
+use Rattle.std.specs.Prelude.{AllPairs, Contains, Option, Some, None, slice_get, flat_map, option_map, unwrap_or}
 use Rattle.std.specs.List.{All, list_all, range_with_len}
-use Rattle.std.specs.Str.{IsUtf8}
 use Rattle.std.proofs.lemmas.Bool.{both_ways}
 use Rattle.std.proofs.lemmas.Simd.{map-map}
 use Rattle.std.proofs.lemmas.List.{take-map, length-map}
@@ -34,7 +33,7 @@ use Rattle.bench_net.proofs.Checked.{among_in, some_not}
 use Rattle.bench_net.proofs.Entries.{entry_at, entry_for, statements_numbered}
 use Rattle.bench_net.proofs.Faults.{names_of, redefined_lowest, undefined_lowest, no_redefinition, no_undefined}
 use Rattle.bench_net.proofs.Numbering.{reads_numbers}
-use Rattle.bench_net.proofs.Words.{names_utf8, arities_of_text}
+use Rattle.bench_net.proofs.Words.{arities_of_text}
 
 -- the refusal of a text where a line has the fault
 pub may_be : (text : List ℕ) (refusal fault : BenchFault) (Gone : Type 0)
@@ -115,13 +114,6 @@ module _ (text : List ℕ) (stated : List StatedLine) (of : AreWithin text state
   all : (f : Statement → List Name)
       → flat_map (λ line. f (stands_for line.statement)) stated ≡ flat_map f (statements of.stated)
   all f = names_by f stated of.stated of.same
-
-  -- the defined names are UTF-8
-  pub all_utf8 : (ns : List Name) → ns ≡ names_in stated → All IsUtf8 ns
-  all_utf8 ns is k d below =
-      names_utf8 (lines text) of.stated of.within.each (slice_index_or ns k d)
-      (subst (Among (slice_index_or ns k d)) (is ∙ all defined)
-      (among _ _ (Contains-get_or ns k d below)))
 
   -- a line of the text, and the lines before it
   module _ (i : ℕ) (line : StatedLine) (h : i < length stated)

@@ -1,14 +1,13 @@
 -- Names and their numbers: what is found, and how lines are numbered one after another.
-use Rattle.std.proofs.Common.{◌≡◌, ◌<◌, ◌≤◌, ◌+◌, ℕ, zero, suc, refl, sym, ◌∙◌, ap, subst, List, [], ◌∷◌, ◌++◌, length, take, map, arith, get_or, add-one, inl, inr, length-append, append-nil}
-use Rattle.std.specs.Prelude.{Contains, flat_map, bytes_eq, ◌||◌}
-use Rattle.std.specs.List.{All, list_any, range_with_len}
+use Rattle.std.proofs.Common.{◌≡◌, ◌<◌, ◌≤◌, ◌+◌, ℕ, zero, suc, refl, sym, ◌∙◌, ap, List, [], ◌∷◌, ◌++◌, length, take, map, arith, get_or, add-one, inl, inr, length-append, append-nil}
+use Rattle.std.specs.Prelude.{flat_map, bytes_eq, ◌||◌}
+use Rattle.std.specs.List.{list_any, range_with_len}
 use Rattle.std.specs.Borrow.{Bor}
-use Rattle.std.specs.Str.{IsUtf8}
 use Rattle.std.proofs.Math.Nat.{zero-add, add-zero}
 use Rattle.std.proofs.lemmas.List.{map-append, map_push, take_more}
 use Rattle.std.proofs.lemmas.List.Concat.{flat_map-append, get_or-flat_map}
 use Rattle.std.proofs.lemmas.List.Folds.{length-flat_map-take}
-use Rattle.std.proofs.lemmas.List.Elements.{All-append, All-contains, Contains-append_right}
+use Rattle.std.proofs.lemmas.List.Elements.{All-append}
 use Rattle.bench_net.specs.declared.line.Line.{Line}
 use Rattle.bench_net.specs.declared.line.Line.TheVariants as line
 use Rattle.bench_net.specs.declared.number.StatedLine.{StatedLine}
@@ -106,11 +105,3 @@ reads_numbers ns [] = refl
 reads_numbers ns (l ∷ lines) =
     rw (reads_of ns l, reads_numbers ns lines)
     (sym (map-append (name_at ns) (read_numbers l) (flat_map read_numbers lines)))
-
--- a name that is still to come
-pub utf8_in_rest : (done ns : List Name) (n : Name) (rest : List Name) → done ++ (n ∷ rest) ≡ ns
-    → All IsUtf8 ns → IsUtf8 n
-utf8_in_rest done ns n rest e all =
-    All-contains IsUtf8 ns n all
-    (subst (λ ms. Contains ms n) e
-    (Contains-append_right done (n ∷ rest) n (0, omega arith, refl)))

@@ -1,5 +1,5 @@
--- What a line spells, of its statement: a defined name is a word, so it is UTF-8, and a gate has the arity of its kind.
-use Rattle.std.proofs.Common.{◌≡◌, ◌<◌, ◌≤◌, ℕ, zero, suc, subst, true, not, ◌&&◌, List, [], ◌∷◌, arith, inl, inr, leb}
+-- What is known of words and of the statements of lines: a word is UTF-8, and a gate has the arity of its kind.
+use Rattle.std.proofs.Common.{◌≡◌, ◌<◌, ◌≤◌, ℕ, zero, suc, subst, true, not, ◌&&◌, List, [], ◌∷◌, arith, leb}
 use Rattle.std.specs.Prelude.{Option, None, Some, slice_get, ◌==◌}
 use Rattle.std.specs.List.{All, AllZip, list_all}
 use Rattle.std.specs.Str.{IsUtf8}
@@ -8,12 +8,11 @@ use Rattle.std.proofs.lemmas.Bool.{leb-true, and_parts}
 use Rattle.std.proofs.lemmas.List.Elements.{Contains-get_or}
 use Rattle.std.proofs.lemmas.Str.{IsUtf8-from_ascii}
 use Rattle.std.proofs.lemmas.Str.Ascii.{IsAscii-from_all}
-use Rattle.bench_net.specs.Text.{is_word_byte, is_mark, Spells, lines}
-use Rattle.bench_net.specs.Statement.{Name, Statement, Input, Output, Gate, Dff, defined}
+use Rattle.bench_net.specs.Text.{is_word_byte, is_mark, lines}
+use Rattle.bench_net.specs.Statement.{Statement, Gate}
 use Rattle.bench_net.specs.Reading.{States, LinesState, statements}
-use Rattle.bench_net.specs.Scan.{names}
 use Rattle.bench_net.specs.Circuit.{HaveArities}
-use Rattle.lists.proofs.Members.{Among, among, each_passes, joined_from}
+use Rattle.lists.proofs.Members.{among, each_passes}
 use Rattle.bench_net.proofs.Faults.{stated_at}
 
 word_ascii : (b : ℕ) → is_word_byte b ≡ true → b < 128
@@ -27,19 +26,8 @@ all_ascii : (w : List ℕ) → list_all is_word_byte w ≡ true → All (λ b. b
 all_ascii w e k d below =
     word_ascii _ (each_passes is_word_byte w _ e (Contains-get_or w k d below))
 
--- the name that a statement of a line defines is a word of the line
-defined_word : (line : List ℕ) (s : Statement) (n : Name) → States line (Some s)
-    → Among n (defined s) → list_all is_word_byte n ≡ true
-defined_word line (Input m) n h (inl e) = let spells = subst (Spells line) h.2.2 h.1 in
-    rw e at spells.6.6.4.1
-defined_word line (Gate m kind args) n h (inl e) = let spells = subst (Spells line) h.2.3 h.1 in
-    rw e at spells.4.1
-defined_word line (Dff q d) n h (inl e) = let spells = subst (Spells line) h.2.2 h.1 in
-    rw e at spells.4.1
-defined_word line (Input m) n h (inr a) = absurd a
-defined_word line (Output m) n h a = absurd a
-defined_word line (Gate m kind args) n h (inr a) = absurd a
-defined_word line (Dff q d) n h (inr a) = absurd a
+pub word_utf8 : (w : List ℕ) → list_all is_word_byte w ≡ true → IsUtf8 w
+word_utf8 w e = IsUtf8-from_ascii w (IsAscii-from_all w (all_ascii w e))
 
 -- the line that states something
 states_at : (ls : List (List ℕ)) (stated : List (Option Statement)) (i : ℕ) (s : Option Statement)
@@ -49,15 +37,6 @@ states_at ls [] i s all at = let bad : None ≡ Some s = at in cc
 states_at [] (t ∷ stated) i s all at = absurd all
 states_at (l ∷ ls) (t ∷ stated) zero s all at = let e : t ≡ s = cc in (l, subst (States l) e all.0)
 states_at (l ∷ ls) (t ∷ stated) (suc i) s all at = states_at ls stated i s all.1 at
-
--- each name that the lines define is UTF-8
-pub names_utf8 : (ls : List (List ℕ)) (stated : List (Option Statement)) → AllZip States ls stated
-    → (n : Name) → Among n (names (statements stated)) → IsUtf8 n
-names_utf8 ls stated each n inside =
-    let s = joined_from defined (statements stated) n inside in
-    let place = stated_at stated s.0 s.1 in
-    let line = states_at ls stated place.0 (Some s.0) each place.1 in
-    IsUtf8-from_ascii n (IsAscii-from_all n (all_ascii n (defined_word line.0 s.0 n line.1 s.2)))
 
 -- the statements of a text have the arities of their kinds
 pub arities_of_text : (text : List ℕ) (stated : List (Option Statement)) → LinesState text stated

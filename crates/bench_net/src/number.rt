@@ -4,7 +4,6 @@ ghost use Rattle.std.specs.Prelude.{◌≡◌, ◌≢◌, ◌<◌, ◌≤◌, �
 ghost use Rattle.std.specs.Prelude.{false, not, AllPairs, IfOk, IfErr, option_map, if◌then◌else◌};
 ghost use Rattle.std.specs.Prelude.{string_bytes};
 ghost use Rattle.std.specs.List.{All, list_all};
-ghost use Rattle.std.specs.Str.{IsUtf8};
 ghost use Rattle.bench_net.specs.Circuit.{max_signals};
 ghost use Rattle.bench_net.specs.Stored.{name_at};
 ghost use Rattle.bench_net.specs.reader.Entries.{IsNextFor, IsNumberedLine, AreNumberedLines};
@@ -19,7 +18,6 @@ use crate::{BenchFault, GateLine};
 use indexmap::IndexSet;
 use smallvec::SmallVec;
 use std::alloc::{AllocError, Global};
-use std::str;
 
 /// A statement with the number of its line in the text, from 1.
 #[derive(Drop)]
@@ -29,10 +27,10 @@ pub struct StatedLine<'a> {
 }
 
 /// The names in the order of their definitions; the number of a name is its place.
-pub type Names<'a> = IndexSet<&'a [u8]>;
+pub type Names<'a> = IndexSet<&'a str>;
 
 /// The name that a statement defines.
-fn defined<'a>(statement: &Stated<'a>) -> Option<&'a [u8]>
+fn defined<'a>(statement: &Stated<'a>) -> Option<&'a str>
     ensures { defined (stands_for statement.now) ≡ option_to_list (option_map (λ n. n.now) result) }
 {
     match statement {
@@ -42,7 +40,7 @@ fn defined<'a>(statement: &Stated<'a>) -> Option<&'a [u8]>
 }
 
 /// Adds a name behind the others, and says whether it is new.
-fn add_name<'a>(names: &mut Names<'a>, name: &'a [u8]) -> Result<bool, BenchFault>
+fn add_name<'a>(names: &mut Names<'a>, name: &'a str) -> Result<bool, BenchFault>
     ensures added { IfOk result (λ added. added ≡ not (is_in (names_of names.old.keys) name.now)) }
     ensures names { IfOk result (λ added. names_of names.new.keys
         ≡ names_of names.old.keys ++ (if added then name.now ∷ [] else [])) }
@@ -71,7 +69,7 @@ pub fn number_names<'a>(alloc: Global, stated: &[StatedLine<'a>]) -> Result<Name
 }
 
 /// The number of a defined name, or the refusal.
-fn number_of(names: &Names, name: &[u8], refusal: BenchFault) -> Result<u32, BenchFault>
+fn number_of(names: &Names, name: &str, refusal: BenchFault) -> Result<u32, BenchFault>
     requires { length names.now.keys ≤ max_signals }
     ensures within { IfOk result (λ number. number < length (names_of names.now.keys)) }
     ensures named { IfOk result (λ number. name_at (names_of names.now.keys) number ≡ name.now) }
@@ -87,7 +85,7 @@ fn number_of(names: &Names, name: &[u8], refusal: BenchFault) -> Result<u32, Ben
 /// The numbers of the names of a gate's arguments, or the refusal where one is not defined.
 fn number_pins(
     alloc: Global,
-    arguments: &[&[u8]],
+    arguments: &[&str],
     names: &Names,
     refusal: BenchFault,
 ) -> Result<SmallVec<u32, 4>, BenchFault>
@@ -172,27 +170,14 @@ pub fn number_lines(
     Ok(lines)
 }
 
-/// A name as a text of its own.
-fn own_name(alloc: Global, name: &[u8]) -> Result<String, AllocError>
-    requires { IsUtf8 name.now }
-    ensures { IfOk result (λ owned. string_bytes owned ≡ name.now) }
-{
-    match str::from_utf8(name) {
-        Ok(text) => String::from_str(alloc, text),
-        Err(_) => unreachable!(),
-    }
-}
-
 /// The names as texts of their own.
 pub fn own_names(alloc: Global, names: &Names) -> Result<Vec<String>, BenchFault>
-    requires { All IsUtf8 (names_of names.now.keys) }
     ensures named { IfOk result (λ owned. map string_bytes owned.items ≡ names_of names.now.keys) }
     ensures refused { IfErr result (λ fault. fault ≡ BenchFault.Memory) }
 {
     let mut owned = Vec::with_capacity(alloc, names.len())?;
     for name in names.iter() {
-        let name = own_name(alloc, *name)?;
-        owned.push(name)?;
+        owned.push(String::from_str(alloc, *name)?)?;
     }
     Ok(owned)
 }

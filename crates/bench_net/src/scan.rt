@@ -2,8 +2,11 @@
 
 ghost use Rattle.std.specs.Prelude.{◌≡◌, ◌<◌, ◌≤◌, length, take, drop};
 ghost use Rattle.std.specs.List.{prefix_len};
+ghost use Rattle.std.specs.Str.{IsUtf8};
 ghost use Rattle.bench_net.specs.Text.{is_blank, is_word_byte};
 ghost use Rattle.bench_net.specs.reader.Plain.{IsFront, IsPlainStart};
+
+use std::str;
 
 /// A token of a line: a mark, or a word, which borrows the line.
 #[derive(Clone, Copy)]
@@ -12,7 +15,7 @@ pub enum Token<'a> {
     Close,
     Comma,
     Equals,
-    Word(&'a [u8]),
+    Word(&'a str),
 }
 
 /// What stands at the front of a line, behind its blanks.
@@ -84,7 +87,18 @@ fn word_at<'a>(bytes: &'a [u8]) -> Front<'a>
         return Front::Bad;
     }
     let (word, rest) = bytes.split_at(len);
-    Front::Token(Token::Word(word), rest)
+    Front::Token(Token::Word(word_text(word)), rest)
+}
+
+/// A word as a text.
+fn word_text<'a>(word: &'a [u8]) -> &'a str
+    requires { IsUtf8 word.now }
+    ensures { result.now ≡ word.now }
+{
+    match str::from_utf8(word) {
+        Ok(text) => text,
+        Err(_) => unreachable!(),
+    }
 }
 
 /// What stands at the front of a line.

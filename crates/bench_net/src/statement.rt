@@ -15,43 +15,43 @@ use smallvec::SmallVec;
 use std::alloc::Global;
 
 /// The names of a gate's arguments, in order.
-pub type Arguments<'a> = SmallVec<&'a [u8], 4>;
+pub type Arguments<'a> = SmallVec<&'a str, 4>;
 
 /// A statement by its names, which borrow the text.
 #[derive(Drop)]
 pub enum Stated<'a> {
-    Input(&'a [u8]),
-    Output(&'a [u8]),
-    Gate(&'a [u8], Kind, Arguments<'a>),
-    Dff(&'a [u8], &'a [u8]),
+    Input(&'a str),
+    Output(&'a str),
+    Gate(&'a str, Kind, Arguments<'a>),
+    Dff(&'a str, &'a str),
 }
 
 /// Whether the word is the keyword, in any ASCII case.
-fn is_keyword(word: &[u8], keyword: &[u8]) -> bool
+fn is_keyword(word: &str, keyword: &str) -> bool
     ensures { result ≡ str_eq_ignore_ascii_case word.now keyword.now }
 {
     word.eq_ignore_ascii_case(keyword)
 }
 
 /// The kind that a word names, in any ASCII case.
-fn kind_named(word: &[u8]) -> Option<Kind>
+fn kind_named(word: &str) -> Option<Kind>
     ensures { result ≡ kind_of word.now }
 {
-    if is_keyword(word, b"AND") {
+    if is_keyword(word, "AND") {
         Some(Kind::And)
-    } else if is_keyword(word, b"NAND") {
+    } else if is_keyword(word, "NAND") {
         Some(Kind::Nand)
-    } else if is_keyword(word, b"OR") {
+    } else if is_keyword(word, "OR") {
         Some(Kind::Or)
-    } else if is_keyword(word, b"NOR") {
+    } else if is_keyword(word, "NOR") {
         Some(Kind::Nor)
-    } else if is_keyword(word, b"XOR") {
+    } else if is_keyword(word, "XOR") {
         Some(Kind::Xor)
-    } else if is_keyword(word, b"XNOR") {
+    } else if is_keyword(word, "XNOR") {
         Some(Kind::Xnor)
-    } else if is_keyword(word, b"NOT") {
+    } else if is_keyword(word, "NOT") {
         Some(Kind::Not)
-    } else if is_keyword(word, b"BUFF") || is_keyword(word, b"BUF") {
+    } else if is_keyword(word, "BUFF") || is_keyword(word, "BUF") {
         Some(Kind::Buff)
     } else {
         None
@@ -97,16 +97,16 @@ fn read_arguments<'a>(
 }
 
 /// `INPUT ( n )` or `OUTPUT ( n )`, from the word before the parenthesis and the arguments.
-fn port<'a>(word: &[u8], arguments: Arguments<'a>) -> Option<Stated<'a>>
+fn port<'a>(word: &str, arguments: Arguments<'a>) -> Option<Stated<'a>>
     ensures { option_map stands_for result ≡ port word.now (names_of arguments.entry.items) }
 {
     let [name] = arguments.as_slice() else {
         return None;
     };
     let name = *name;
-    if is_keyword(word, b"INPUT") {
+    if is_keyword(word, "INPUT") {
         Some(Stated::Input(name))
-    } else if is_keyword(word, b"OUTPUT") {
+    } else if is_keyword(word, "OUTPUT") {
         Some(Stated::Output(name))
     } else {
         None
@@ -114,11 +114,11 @@ fn port<'a>(word: &[u8], arguments: Arguments<'a>) -> Option<Stated<'a>>
 }
 
 /// `q = DFF ( d )` or `n = KIND ( a , b , .. )`, from the name, the word and the arguments.
-fn driven<'a>(name: &'a [u8], word: &[u8], arguments: Arguments<'a>) -> Option<Stated<'a>>
+fn driven<'a>(name: &'a str, word: &str, arguments: Arguments<'a>) -> Option<Stated<'a>>
     ensures { option_map stands_for result
         ≡ driven_by name.now word.now (names_of arguments.entry.items) }
 {
-    if is_keyword(word, b"DFF") {
+    if is_keyword(word, "DFF") {
         let [data] = arguments.as_slice() else {
             return None;
         };
@@ -135,7 +135,7 @@ fn driven<'a>(name: &'a [u8], word: &[u8], arguments: Arguments<'a>) -> Option<S
 /// The statement of a line `name = ..`, from the bytes behind the equals sign.
 fn read_driven<'a>(
     alloc: Global,
-    name: &'a [u8],
+    name: &'a str,
     bytes: &'a [u8],
     refusal: BenchFault,
 ) -> Result<Stated<'a>, BenchFault>
@@ -156,7 +156,7 @@ fn read_driven<'a>(
 /// The statement of a line that begins with this word, from the bytes behind it.
 fn read_behind<'a>(
     alloc: Global,
-    word: &'a [u8],
+    word: &'a str,
     bytes: &'a [u8],
     refusal: BenchFault,
 ) -> Result<Stated<'a>, BenchFault>

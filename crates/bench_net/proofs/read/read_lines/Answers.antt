@@ -2,7 +2,7 @@ use Rattle.std.proofs.Common.{inr, arith}
 use Rattle.std.proofs.lemmas.Result.{err_from_is_err_and}
 use Rattle.bench_net.specs.reader.Parsed.{names_of}
 use Rattle.bench_net.specs.reader.Entries.{AreWithin}
-use Rattle.bench_net.proofs.Assembled.{past, within, all_utf8, assembled}
+use Rattle.bench_net.proofs.Assembled.{past, within, assembled}
 use Rattle.bench_net.proofs.read.read_lines.Goals as goal
 use Rattle.bench_net.proofs.read.read_lines.Goals.{After-number_names}
 
@@ -33,12 +33,6 @@ returns-in_err-lines-clause-refused c =
     c.from_residual-in_err-lines.ensures.1 in
     rw (p.1, p.2) (c.in_err-lines.ensures.refused c.args.text.now
     (fits (goal.at.returns-in_err-lines-clause-refused c).After-number_names))
-
-pub own_names-requires : goal.own_names-requires
-own_names-requires c =
-    all_utf8 c.args.text.now c.as_slice-stated.result.now
-    (fits (goal.at.own_names-requires c).After-number_names)
-    (names_of c.in_ok-numbers.numbers.keys) c.in_ok-numbers.ensures.numbered
 
 pub returns-clause-lines : goal.returns-clause-lines
 returns-clause-lines c =

@@ -1,9 +1,7 @@
-use Rattle.std.proofs.Common.{◌≡◌, ◌<◌, ◌∙◌, ℕ, List, arith, ap, sym, subst, length}
-use Rattle.std.specs.Prelude.{Some, Option, slice_index}
+use Rattle.std.proofs.Common.{◌<◌, ◌∙◌, arith, ap, sym, subst, length}
+use Rattle.std.specs.Prelude.{Some}
 use Rattle.std.proofs.lemmas.List.{get_or_read}
 use Rattle.std.proofs.lemmas.Option.{slice_get_within, get_or_from_slice_get}
-use Rattle.bench_net.specs.declared.Kind.{Kind}
-use Rattle.bench_net.specs.declared.line.Line.{Line}
 use Rattle.bench_net.specs.Scan.{names, gate_of}
 use Rattle.bench_net.specs.Tables.{line_gate}
 use Rattle.bench_net.specs.Inside.{HasGate}

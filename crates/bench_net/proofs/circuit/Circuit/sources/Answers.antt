@@ -1,4 +1,4 @@
-use Rattle.std.proofs.Common.{◌≡◌, arith, ap, length}
+use Rattle.std.proofs.Common.{arith, ap, length}
 use Rattle.bench_net.specs.Scan.{names, sources}
 use Rattle.bench_net.proofs.Counted.{few_sources}
 use Rattle.bench_net.proofs.SomeSource.{some_source}
