@@ -4,8 +4,8 @@ use Rattle.std.specs.Prelude.{Option, Some, None, slice_get, slice_index, slice_
 use Rattle.std.proofs.lemmas.Bool.{cases_order}
 use Rattle.std.proofs.lemmas.List.{length-map}
 use Rattle.std.specs.List.{filter_map}
-use Rattle.std.proofs.lemmas.List.FromFn.{get_or-map-range_with_len, length-map-range_with_len}
-use Rattle.std.proofs.lemmas.List.Elements.{Contains-get_or}
+use Rattle.std.proofs.lemmas.List.FromFn.{get_or-map-range_with_len, length-map-range_with_len, length-range_with_len}
+use Rattle.std.proofs.lemmas.List.Elements.{Contains-get_or, All-contains}
 use Rattle.std.proofs.lemmas.Option.{slice_get_within, slice_get-map, slice_get-get_or, get_or_from_slice_get}
 use Rattle.bench_net.specs.declared.GateLine.{GateLine}
 use Rattle.bench_net.specs.declared.line.Line.{Line}
@@ -31,9 +31,9 @@ use Rattle.bench_net.proofs.Counted.{few_lines, few_sources, output_count, outpu
 use Rattle.bench_net.proofs.Gates.{pins, source_statement, named, signal_below, named_number, not_stuck, stuck_name, numbering, has_level, has_depth, level_order}
 use Rattle.bench_net.proofs.Listed.{line_at}
 use Rattle.bench_net.proofs.Marking.{greatest-at}
-use Rattle.bench_net.proofs.Named.{AreStated, no_line, input, output, gate, flip_flop, stated, inputs_are, outputs_are, cells_are, sources_are, sinks_are, cells_once, gate_is, signal_at}
+use Rattle.bench_net.proofs.Named.{AreStated, no_line, input, output, gate, flip_flop, stated, inputs_are, outputs_are, cells_are, sources_are, sinks_are, cells_once, gate_is, signal_at, own_place}
 use Rattle.bench_net.proofs.Numbers.{signal-name_of}
-use Rattle.bench_net.proofs.Numbering.{reads_numbers}
+use Rattle.bench_net.proofs.Numbering.{reads_numbers, known}
 
 -- signals with levels have them wherever the pins are the same
 carried : (f g : ℕ → List ℕ) → ((s : ℕ) → f s ≡ g s) → (ps : List ℕ) (k : ℕ) → HaveLevels f ps k → HaveLevels g ps k
@@ -140,10 +140,10 @@ module _ (ns : List Name) (lines : List Line) (at : List ℕ) (are : AreStatemen
   }
     where
       reads_below : (s : ℕ) → Among s (flat_map read_numbers lines) → s < length ns
-      reads_below s a = are.numbered.in_range s (contained _ s a)
+      reads_below s a = All-contains (λ x. x < length ns) (flat_map read_numbers lines) s are.numbered.in_range (contained _ s a)
 
       line_total : length lines < 2 ^ 31
-      line_total = omega (arith, few_lines lines, read_count, are.sinks, are.signals, are.numbered.count)
+      line_total = omega (arith, few_lines lines, read_count, are.sinks, are.signals, ap length are.numbered.own, length-range_with_len 0 (length ns))
 
   module _ (places : List ℕ) (defs : AreDefinitions lines places) where
     pub count : length places ≡ length ns
@@ -167,7 +167,7 @@ module _ (ns : List Name) (lines : List Line) (at : List ℕ) (are : AreStatemen
       few = omega (arith, count, are.signals);
       definitions_are = defs;
       few_pins = λ s. omega (arith, (reads s).0, read_count, are.sinks);
-      pins_below = λ s p has. omega (arith, count, are.numbered.in_range p (contained _ p ((reads s).1 p (among (gate_pins lines s) p has))));
+      pins_below = λ s p has. omega (arith, count, All-contains (λ x. x < length ns) (flat_map read_numbers lines) p are.numbered.in_range (contained _ p ((reads s).1 p (among (gate_pins lines s) p has))));
     }
 
   -- ---- the pins of signals are those of their statements
@@ -201,9 +201,7 @@ module _ (ns : List Name) (lines : List Line) (at : List ℕ) (are : AreStatemen
 
         defined : (n : Name) → Contains (flat_map read (statements_of ns lines)) n → Contains (names (statements_of ns lines)) n
         defined n c =
-            let found = mapped_from (name_at ns) (flat_map read_numbers lines) n (subst (Among n) (reads_numbers ns lines) (among (flat_map read (statements_of ns lines)) n c)) in
-            let lt = are.numbered.in_range found.0 (contained (flat_map read_numbers lines) found.0 found.1) in
-            subst (λ xs. Contains xs n) (sym are.numbered.names_are) (subst (Contains ns) found.2 (Contains-get_or ns found.0 [] lt))
+            subst (λ xs. Contains xs n) (sym are.numbered.names_are) (known ns lines are.numbered.in_range n (among _ n c))
 
   pub inside : (tables : Tables) (table : Levels) → AreTables lines (length ns) tables → AreLevelsOf (gate_pins lines) (length ns) table.levels.items
       → table.order.items ≡ flat_map (λ row. row) (rows_of (table.depth + 1) (places_by table.levels.items))
@@ -287,7 +285,7 @@ module _ (ns : List Name) (lines : List Line) (at : List ℕ) (are : AreStatemen
               let i : ℕ = cyclic.0 in
               let u : ℕ = cyclic.1 in
               let before = earlier_place at i (slice_index places s) lower _ are.rising cyclic.3 there less in
-              let rising = (counted 0 (flat_map defined_numbers lines) (λ j x e. omega (arith, are.numbered.in_order j x e))).0 in
+              let rising = (counted 0 (flat_map defined_numbers lines) (λ j x e. omega (arith, (own_place ns lines j x are.numbered e).0))).0 in
               let below : u < s = omega (arith, same, earlier lines i (slice_index places s) u t cyclic.2 g rising cyclic.4 here before) in
               let has = fault.2 u below in
               let level = carried (gate_pins lines) (pins (statements_of ns lines)) same_pins (gate_pins lines u) has.0 has.1 in

@@ -1,15 +1,14 @@
 -- What the passes over the lines say of the text.
 use Rattle.std.proofs.Common.{◌≡◌, ◌≢◌, ◌<◌, ◌≤◌, ℕ, zero, suc, refl, sym, ◌∙◌, ap, subst, false, List, [], ◌∷◌, length, take, map, get_or, arith, inl, inr}
-use Rattle.std.specs.Prelude.{AllPairs, Contains, Option, Some, None, slice_get, flat_map, option_map, unwrap_or}
-use Rattle.std.specs.List.{All, list_all, range_with_len}
+use Rattle.std.specs.Prelude.{AllPairs, Option, Some, None, slice_get, flat_map, option_map, unwrap_or}
+use Rattle.std.specs.List.{All, list_all}
 use Rattle.std.proofs.lemmas.Bool.{both_ways}
 use Rattle.std.proofs.lemmas.Simd.{map-map}
 use Rattle.std.proofs.lemmas.List.{take-map, length-map}
 use Rattle.std.proofs.lemmas.List.Kept.{AllPairs-cons}
-use Rattle.std.proofs.lemmas.List.Elements.{All-nil, All-cons, All-contains, Contains-get_or}
+use Rattle.std.proofs.lemmas.List.Elements.{All-nil, All-cons}
 use Rattle.std.proofs.lemmas.List.Folds.{flat_map-map}
-use Rattle.std.proofs.lemmas.List.FromFn.{length-range_with_len, get_or-range_with_len}
-use Rattle.std.proofs.lemmas.Option.{get_or_from_slice_get, slice_get_within, slice_get-map, slice_get_read}
+use Rattle.std.proofs.lemmas.Option.{slice_get-map, slice_get_read}
 use Rattle.bench_net.specs.declared.line.Line.{Line}
 use Rattle.bench_net.specs.declared.number.StatedLine.{StatedLine}
 use Rattle.bench_net.specs.declared.Limit.{Limit}
@@ -23,16 +22,16 @@ use Rattle.bench_net.specs.Statement.{Name, Statement, Input, Output, Gate, Dff,
 use Rattle.bench_net.specs.Reading.{statements}
 use Rattle.bench_net.specs.Refusal.{at_line, IsCyclic, IsRefused}
 use Rattle.bench_net.specs.Circuit.{IsStuck, sink_count}
-use Rattle.bench_net.specs.Stored.{name_at, statement_of, statements_of, read_numbers, AreStatements, IsCyclicLine, AreRefused, AreLinesOf}
+use Rattle.bench_net.specs.Stored.{name_at, statement_of, statements_of, AreStatements, IsCyclicLine, AreRefused, AreLinesOf}
 use Rattle.bench_net.specs.reader.Parsed.{stands_for, FailsBy}
 use Rattle.bench_net.specs.reader.Entries.{entry_of, entries_of, numbered_from, statements_in, names_in, reads_in, defined_of, read_of, is_in, AreStated, AreWithin, AreFew, ArePast, MayBe, AreNumberedLines}
-use Rattle.lists.proofs.Members.{Among, among, contained, mapped_from}
+use Rattle.lists.proofs.Members.{Among, among}
 use Rattle.lists.proofs.Places.{from_mapped}
 use Rattle.lists.proofs.Distinct.{Distinct, distinct_from_pairs}
 use Rattle.bench_net.proofs.Checked.{among_in, some_not}
 use Rattle.bench_net.proofs.Entries.{entry_at, entry_for, statements_numbered}
 use Rattle.bench_net.proofs.Faults.{names_of, redefined_lowest, undefined_lowest, no_redefinition, no_undefined}
-use Rattle.bench_net.proofs.Numbering.{reads_numbers}
+use Rattle.bench_net.proofs.Numbering.{known}
 use Rattle.bench_net.proofs.Words.{arities_of_text}
 
 -- the refusal of a text where a line has the fault
@@ -99,16 +98,6 @@ numbers_rise line (None ∷ stated) = numbers_rise (suc line) stated
 numbers_rise line (Some s ∷ stated) =
     AllPairs-cons (λ m n. m < n) line _ (all_above (suc line) (suc line) stated (omega arith))
     (numbers_rise (suc line) stated)
-
--- each name that numbered lines read is among the names
-known : (ns : List Name) (ls : List Line)
-    → All (λ number. number < length ns) (flat_map read_numbers ls)
-    → (n : Name) → Among n (flat_map read (statements_of ns ls)) → Contains ns n
-known ns ls in_range n a =
-    let k = mapped_from (name_at ns) (flat_map read_numbers ls) n
-    (subst (Among n) (reads_numbers ns ls) a) in
-    subst (Contains ns) k.2 (Contains-get_or ns k.0 [] (All-contains (λ number. number < length ns)
-    (flat_map read_numbers ls) k.0 in_range (contained _ k.0 k.1)))
 
 module _ (text : List ℕ) (stated : List StatedLine) (of : AreWithin text stated) where
   all : (f : Statement → List Name)
@@ -179,14 +168,8 @@ module _ (text : List ℕ) (stated : List StatedLine) (of : AreWithin text state
     statements_are : AreStatements ns ls at
     statements_are = record {
       numbered = record {
-        in_order = λ i s e. let e = subst (λ xs. slice_get xs i ≡ Some s) numbered.own e in
-            in_order (length (names_in stated)) i s e;
-        count =
-            ap length numbered.own ∙ length-range_with_len 0 (length (names_in stated))
-            ∙ sym (ap length is);
-        in_range =
-            λ s inside. All-contains (λ number. number < length ns)
-            (flat_map read_numbers ls) s numbered.in_range inside;
+        own = rw is numbered.own;
+        in_range = numbered.in_range;
         names_are = ap (flat_map defined) numbered.stand ∙ flat_map-map defined _ stated ∙ sym is;
       };
       once = rw is once;
@@ -197,13 +180,6 @@ module _ (text : List ℕ) (stated : List StatedLine) (of : AreWithin text state
           simp length-map at (ap length at_are) ∙ sym (simp length-map at (ap length lines_are));
       rising = rw at_are (numbers_rise 1 of.stated);
     }
-      where
-        in_order : (n i s : ℕ) → slice_get (range_with_len 0 n) i ≡ Some s → s ≡ i
-        in_order n i s e =
-            let below = slice_get_within (range_with_len 0 n) i s e in
-            let at = get_or_from_slice_get (range_with_len 0 n) i s 0 e in
-            let is = get_or-range_with_len 0 n i 0 in
-            omega (arith, below, at, is, length-range_with_len 0 n)
 
     to_cyclic : (number : ℕ) → IsCyclicLine ns ls at number → IsCyclic of.stated number
     to_cyclic number h =

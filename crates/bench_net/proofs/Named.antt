@@ -1,12 +1,13 @@
 -- Numbers and names: the stored lines hold the numbers of their statements' names.
+use Rattle.std.proofs.lemmas.List.FromFn.{get_or-range_with_len, length-range_with_len}
 use Rattle.std.proofs.Common.{◌≡◌, ◌≢◌, ◌<◌, ◌==◌, ◌+◌, ℕ, zero, suc, sym, ◌∙◌, ap, subst, refl, true, false, List, [], ◌∷◌, ◌++◌, map, length, filter, arith, inl, inr, length-append}
 use Rattle.std.specs.Prelude.{Some, slice_get, Contains, AllPairs, flat_map, bytes_eq}
-use Rattle.std.specs.List.{filter_map, enumerate_from, position_or_len}
+use Rattle.std.specs.List.{filter_map, enumerate_from, position_or_len, range_with_len}
 use Rattle.std.proofs.Math.Numerals.{one-add}
 use Rattle.std.proofs.lemmas.Bool.{eq-eqb, ne_eqb, cases_Bool}
 use Rattle.std.proofs.lemmas.List.{map-append, append_assoc}
-use Rattle.std.proofs.lemmas.List.Elements.{Contains-get_or, filter-append}
-use Rattle.std.proofs.lemmas.Option.{slice_get-get_or, slice_get_within}
+use Rattle.std.proofs.lemmas.List.Elements.{Contains-get_or, filter-append, All-contains}
+use Rattle.std.proofs.lemmas.Option.{slice_get-get_or, slice_get_within, get_or_from_slice_get}
 use Rattle.bench_net.specs.declared.GateLine.{GateLine}
 use Rattle.bench_net.specs.declared.Sink.{Sink}
 use Rattle.bench_net.specs.declared.Sink.TheVariants.{Pin, Data, Out}
@@ -174,11 +175,17 @@ module _ (whole : List Statement) (n : Name) (named : Contains (names whole) n) 
 
 -- ---- numbered lines are such lines
 
--- the numbers that lines hold are below the number of names
-pub defined_in : (ns : List Name) (lines : List Line) (s : ℕ) → AreNumbered ns lines → Among s (flat_map defined_numbers lines) → s < length ns
-defined_in ns lines s numbered a =
-    let at = placed (flat_map defined_numbers lines) s a in
-    omega (arith, numbered.in_order at.0 s at.1, slice_get_within (flat_map defined_numbers lines) at.0 s at.1, numbered.count)
+-- the number that a line defines is its place among them, and below the number of names
+pub own_place : (ns : List Name) (lines : List Line) (i s : ℕ) → AreNumbered ns lines
+    → slice_get (flat_map defined_numbers lines) i ≡ Some s → (s ≡ i) × (s < length ns)
+own_place ns lines i s numbered at =
+    let all = range_with_len 0 (length ns) in
+    let here = subst (λ xs. slice_get xs i ≡ Some s) numbered.own at in
+    let within = slice_get_within all i s here in
+    let is = get_or_from_slice_get all i s 0 here in
+    let there = get_or-range_with_len 0 (length ns) i 0 in
+    let count = length-range_with_len 0 (length ns) in
+    (omega (arith, is, there, within, count), omega (arith, is, there, within, count))
 
 module _ (ns : List Name) (lines : List Line) (are : AreNumbered ns lines) (once : AllPairs (λ m n. m ≢ n) ns) where
   pub signal_at : (s : ℕ) → s < length ns → signal (statements_of ns lines) (name_at ns s) ≡ s
@@ -211,4 +218,4 @@ module _ (ns : List Name) (lines : List Line) (are : AreNumbered ns lines) (once
       (go ls (λ t a. own t (inr a)) (λ t a. reads t (inr a)))
 
   pub stated : AreStated (signal (statements_of ns lines)) (statements_of ns lines) lines
-  stated = go lines (λ s a. defined_in ns lines s are a) (λ s a. are.in_range s (contained (flat_map read_numbers lines) s a))
+  stated = go lines (λ s a. let at = placed (flat_map defined_numbers lines) s a in (own_place ns lines at.0 s are at.1).1) (λ s a. All-contains (λ x. x < length ns) (flat_map read_numbers lines) s are.in_range (contained _ s a))

@@ -1,13 +1,14 @@
 -- Names and their numbers: what is found, and how lines are numbered one after another.
-use Rattle.std.proofs.Common.{◌≡◌, ◌<◌, ◌≤◌, ◌+◌, ℕ, zero, suc, refl, sym, ◌∙◌, ap, List, [], ◌∷◌, ◌++◌, length, take, map, arith, get_or, add-one, inl, inr, length-append, append-nil}
-use Rattle.std.specs.Prelude.{flat_map, bytes_eq, ◌||◌}
-use Rattle.std.specs.List.{list_any, range_with_len}
+use Rattle.lists.proofs.Members.{Among, contained, mapped_from}
+use Rattle.std.proofs.Common.{◌≡◌, ◌<◌, ◌≤◌, ◌+◌, ℕ, zero, suc, refl, sym, ◌∙◌, ap, List, [], ◌∷◌, ◌++◌, length, take, map, arith, get_or, add-one, inl, inr, length-append, append-nil, subst}
+use Rattle.std.specs.Prelude.{flat_map, bytes_eq, ◌||◌, Contains}
+use Rattle.std.specs.List.{list_any, range_with_len, All}
 use Rattle.std.specs.Borrow.{Bor}
 use Rattle.std.proofs.Math.Nat.{zero-add, add-zero}
 use Rattle.std.proofs.lemmas.List.{map-append, map_push, take_more}
 use Rattle.std.proofs.lemmas.List.Concat.{flat_map-append, get_or-flat_map}
 use Rattle.std.proofs.lemmas.List.Folds.{length-flat_map-take}
-use Rattle.std.proofs.lemmas.List.Elements.{All-append}
+use Rattle.std.proofs.lemmas.List.Elements.{All-append, All-contains, Contains-get_or}
 use Rattle.bench_net.specs.declared.line.Line.{Line}
 use Rattle.bench_net.specs.declared.line.Line.TheVariants as line
 use Rattle.bench_net.specs.declared.number.StatedLine.{StatedLine}
@@ -105,3 +106,13 @@ reads_numbers ns [] = refl
 reads_numbers ns (l ∷ lines) =
     rw (reads_of ns l, reads_numbers ns lines)
     (sym (map-append (name_at ns) (read_numbers l) (flat_map read_numbers lines)))
+
+-- each name that numbered lines read is among the names
+pub known : (ns : List Name) (ls : List Line)
+    → All (λ number. number < length ns) (flat_map read_numbers ls)
+    → (n : Name) → Among n (flat_map read (statements_of ns ls)) → Contains ns n
+known ns ls in_range n a =
+    let k = mapped_from (name_at ns) (flat_map read_numbers ls) n
+    (subst (Among n) (reads_numbers ns ls) a) in
+    subst (Contains ns) k.2 (Contains-get_or ns k.0 [] (All-contains (λ number. number < length ns)
+    (flat_map read_numbers ls) k.0 in_range (contained _ k.0 k.1)))

@@ -1,6 +1,6 @@
 -- Tables of stored lines, by the numbers that the lines hold.
-use Rattle.std.specs.Prelude.{◌≡◌, ◌≢◌, ℕ, ◌+◌, ◌<◌, ◌≤◌, ◌^◌, ◌==◌, Bool, List, [], ◌∷◌, ◌++◌, map, filter, length, All, Contains, Option, Some, None, is_some, slice_get}
-use Rattle.std.specs.List.{enumerate_from, filter_map}
+use Rattle.std.specs.Prelude.{◌≡◌, ◌≢◌, ℕ, ◌+◌, ◌<◌, ◌^◌, Bool, List, [], ◌∷◌, ◌++◌, map, filter, length, All, Option, Some, None, is_some, slice_get}
+use Rattle.std.specs.List.{filter_map}
 use Rattle.bench_net.specs.declared.tables.Tables.{Tables}
 pub use Rattle.bench_net.specs.Stored.{defined_number, read_numbers}
 use Rattle.bench_net.specs.declared.Kind.{Kind}
