@@ -1,4 +1,6 @@
 -- Numbered statements with levels are a circuit with its tables, and without are refused.
+use Rattle.std.specs.List.Sorted.{IsPermutation}
+use Rattle.std.specs.List.{range_with_len}
 use Rattle.std.proofs.Common.{◌≡◌, ◌≢◌, ◌<◌, ◌≤◌, ◌+◌, ◌^◌, ℕ, zero, suc, get_or, map, sym, ◌∙◌, ap, subst, refl, List, [], ◌∷◌, ◌++◌, length, filter, arith, inl, inr}
 use Rattle.std.specs.Prelude.{Option, Some, None, slice_get, slice_index, slice_index_or, Contains, AllPairs, flat_map, option_map}
 use Rattle.std.proofs.lemmas.Bool.{cases_order}
@@ -20,7 +22,7 @@ use Rattle.bench_net.specs.Level.{greatest}
 use Rattle.bench_net.specs.Refusal.{IsLowest}
 use Rattle.bench_net.specs.Stored.{name_at, statement_of, statements_of, defined_numbers, read_numbers, AreStatements, IsCyclicLine}
 use Rattle.bench_net.specs.declared.Sink.{Sink}
-use Rattle.bench_net.specs.Rows.{items_at, rows_of, places_by}
+use Rattle.bench_net.specs.Rows.{items_at, GoesFirst}
 use Rattle.bench_net.specs.Tables.{output_number, defines_number, line_gate, all_readers, source_signals, AreTableLines, AreTables, AreDefinitions}
 use Rattle.bench_net.specs.Marks.{level_above, pins_in, gate_pins, IsGraph, AreLevelsOf, HaveLevels, no_signal, one_more, IsStuckAt, IsLevelFault}
 use Rattle.bench_net.specs.Inside.{IsInside, IsPlace}
@@ -30,7 +32,6 @@ use Rattle.lists.proofs.Distinct.{distinct_from_pairs}
 use Rattle.bench_net.proofs.Counted.{few_lines, few_sources, output_count, outputs_read, line_count}
 use Rattle.bench_net.proofs.Gates.{pins, source_statement, named, signal_below, named_number, not_stuck, stuck_name, numbering, has_level, has_depth, level_order}
 use Rattle.bench_net.proofs.Listed.{line_at}
-use Rattle.bench_net.proofs.Marking.{greatest-at}
 use Rattle.bench_net.proofs.Named.{AreStated, no_line, input, output, gate, flip_flop, stated, inputs_are, outputs_are, cells_are, sources_are, sinks_are, cells_once, gate_is, signal_at, own_place}
 use Rattle.bench_net.proofs.Numbers.{signal-name_of}
 use Rattle.bench_net.proofs.Numbering.{reads_numbers, known}
@@ -204,9 +205,9 @@ module _ (ns : List Name) (lines : List Line) (at : List ℕ) (are : AreStatemen
             subst (λ xs. Contains xs n) (sym are.numbered.names_are) (known ns lines are.numbered.in_range n (among _ n c))
 
   pub inside : (tables : Tables) (table : Levels) → AreTables lines (length ns) tables → AreLevelsOf (gate_pins lines) (length ns) table.levels.items
-      → table.order.items ≡ flat_map (λ row. row) (rows_of (table.depth + 1) (places_by table.levels.items))
+      → IsPermutation (range_with_len 0 (length table.levels.items)) table.order.items → AllPairs (GoesFirst table.levels.items) table.order.items
       → table.depth ≡ greatest table.levels.items → lines ≢ [] → IsInside (statements_of ns lines) ns lines tables table
-  inside tables table tabled by_lines order depth some = record {
+  inside tables table tabled by_lines listed ordered depth some = record {
     circuit = circuit table.levels.items by_lines some;
     names_are = are.numbered.names_are;
     inputs_are = tabled.inputs_are ∙ inputs_are c lines all;
@@ -229,7 +230,7 @@ module _ (ns : List Name) (lines : List Line) (at : List ℕ) (are : AreStatemen
         ∙ (ap (items_at readers) (sym number) ∙ sinks_are c n has lines all (cells_once c (distinct_from_pairs (names c) once))));
     level_count = by_lines.count ∙ sym name_count;
     levels_are = has_level c once are.arities table.levels.items (by_names table.levels.items by_lines);
-    order_is = level_order c once are.arities table.levels.items (by_names table.levels.items by_lines) table.order.items table.depth order (λ i lt. omega (arith, greatest-at table.levels.items i lt, depth));
+    order_is = level_order c once are.arities table.levels.items (by_names table.levels.items by_lines) table.order.items listed ordered;
     depth_is = has_depth c once are.arities table.levels.items (by_names table.levels.items by_lines) table.depth depth;
   }
     where
