@@ -1,8 +1,10 @@
 -- Each text is accepted or refused, in one way, and the plain reader answers which.
 use Rattle.std.proofs.Common.{◌≡◌, ◌<◌, ◌≤◌, ◌+◌, ℕ, zero, suc, refl, sym, ◌∙◌, ap, subst, Bool, true, false, not, List, [], ◌∷◌, length, take, arith, add-one, inl, inr, ◌⊎◌}
-use Rattle.std.specs.Prelude.{◌≢◌, Contains, Option, Some, None, Result, Ok, Err, slice_get, filter_map, flat_map, is_none, IsTrue, ◌↔◌}
-use Rattle.std.specs.List.{AllZip}
-use Rattle.std.proofs.lemmas.Bool.{both_ways, cond_both, cond-true, cond-false, ltb-true, ltb-false, lt-ltb, le-ltb, not-true, true_from_ne_false, false_from_ne_true}
+use Rattle.std.specs.Prelude.{◌≢◌, if◌then◌else◌, ◌==◌, Contains, Option, Some, None, Result, Ok, Err, slice_get, filter_map, flat_map, is_none, IsTrue, ◌↔◌}
+use Rattle.std.specs.List.{AllZip, list_any}
+use Rattle.std.specs.Option.{option_or}
+use Rattle.std.proofs.lemmas.List.{nil_from_length}
+use Rattle.std.proofs.lemmas.Bool.{eqb-true, eqb-false, ne_eqb, both_ways, cond_both, cond-true, cond-false, ltb-true, ltb-false, lt-ltb, le-ltb, not-true, true_from_ne_false, false_from_ne_true}
 use Rattle.std.proofs.lemmas.Option.{slice_get_within}
 use borrow.Author.Count.{below_more}
 use Rattle.bench_net.specs.declared.Limit.TheVariants.{Bytes, Signals, Sinks}
@@ -14,12 +16,12 @@ use Rattle.bench_net.specs.Reading.{States, LinesState, statements}
 use Rattle.bench_net.specs.Circuit.{IsWellFormed, IsStuckSet, max_bytes, max_signals, max_sinks, sink_count}
 use Rattle.bench_net.specs.Refusal.{at_line, IsLowest, NoLine, IsWithin, IsSyntaxFault, IsRedefinition, IsUndefined, IsCyclic, IsAccepted, IsRefused}
 use Rattle.bench_net.specs.reader.Plain.{stated_of}
-use Rattle.bench_net.proofs.Reader.{sound_states, complete_states}
+use Rattle.bench_net.proofs.Reader.{sound_states, complete_states, unstated}
 use Rattle.lists.proofs.Members.{Among, among, contained, each_passes, some_passes, joined_from}
 use Rattle.lists.proofs.Distinct.{distinct_from_pairs}
-use Rattle.bench_net.proofs.Answer.{is_in, stuck_names, told, first_from, first, of_statement, is_unread, redefines, reads_unknown, is_stuck, line_or, statements_or, answer_by, answer_stated, answer_text}
+use Rattle.bench_net.proofs.Answer.{is_in, stuck_names, first, before, said, is_unread, redefines, reads_unknown, is_stuck, line_or, answer_by, answer_stated, answer_text}
 use Rattle.bench_net.proofs.Checked.{any_true, in_contained, among_in, some_not, pairs_distinct}
-use Rattle.bench_net.proofs.Faults.{Stated, names_of, stated_at, line_among, unread, no_unread, redefinition, earlier_named, no_redefinition, no_undefined, once_each}
+use Rattle.bench_net.proofs.Faults.{Stated, names_of, stated_at, line_among, unread, no_unread, Says, earlier, no_redefinition, no_undefined, once_each}
 use Rattle.bench_net.proofs.Settled.{stuck_set, stuck_left, none_stuck, numbering}
 
 -- ---- the first line with a fault
@@ -38,125 +40,120 @@ first_one F (Some k) (Some l) a b =
     let not_more : l < k → ⊥ = λ h. a.1 l h b.0 in
     ap Some (omega arith)
 
--- a line has the fault exactly where it passes the test
-record Tells {X : Type 0} (test : List X → X → Bool) (xs : List X) (F : ℕ → Type 0) : Type 0 where
-  none_first : ¬ F 0
-  tells : (i : ℕ) → F (suc i) ↔ (told test (take i xs) (slice_get xs i) ≡ true)
+-- the fault is that of the lines below a number that pass a test
+record IsTold (F : ℕ → Type 0) (test : ℕ → Bool) (behind : ℕ) : Type 0 where
+  within : (line : ℕ) → F line → line < behind
+  tells : (line : ℕ) → F line ↔ (test line ≡ true)
 
-is_first : {X : Type 0} (test : List X → X → Bool) (xs : List X) (F : ℕ → Type 0)
-    → Tells test xs F → IsFirst F (first test xs)
-is_first {X} test xs F by =
-    go (length xs) 0 (omega arith)
-    (below_more (λ k. ¬ F k) 0 (λ k lt. absurd (omega (arith, lt))) by.none_first)
+is_first : (F : ℕ → Type 0) (test : ℕ → Bool) (behind : ℕ) → IsTold F test behind
+    → IsFirst F (first test behind)
+is_first F test behind by = all (first test behind) (go behind)
   where
-    passes : ℕ → Bool
-    passes k = told test (take k xs) (slice_get xs k)
+    Below : ℕ → Option ℕ → Type 0
+    Below n None = (line : ℕ) → line < n → ¬ F line
+    Below n (Some line) = IsLowest F line
 
-    within : (k : ℕ) (o : Option X) → slice_get xs k ≡ o → told test (take k xs) o ≡ true
-        → k < length xs
-    within k None at e = cc
-    within k (Some x) at e = slice_get_within xs k x at
+    more : (n : ℕ) (o : Option ℕ) → Below n o
+        → Below (suc n) (option_or o (if test n then Some n else None))
+    more n (Some line) is = is
+    more n None none =
+        cond_both (test n) (Some n) None (Below (suc n)) (λ on. ((by.tells n).1 on, none))
+        (λ off line lt. below_more (λ k. ¬ F k) n none (λ f. both_ways _ off ((by.tells n).0 f)) line
+        (omega (arith, lt)))
 
-    go : (n i : ℕ) → n + i ≡ length xs → ((line : ℕ) → line < i + 1 → ¬ F line)
-        → IsFirst F (first_from test xs i n)
-    go zero i e below = none
-      where
-        none : NoLine F
-        none zero f = by.none_first f
-        none (suc k) f =
-            let inside = within k (slice_get xs k) refl ((by.tells k).0 f) in
-            below (suc k) (omega (arith, e, inside)) f
-    go (suc n) i e below =
-        cond_both (told test (take i xs) (slice_get xs i)) _ _ (IsFirst F)
-        (λ on. ((by.tells i).1 on, λ line lt. below line (omega (arith, lt))))
-        (λ off. go n (suc i) (omega (arith, e)) (λ line lt. below_more (λ k. ¬ F k) (i + 1) below
-        (rw add-one (λ f. both_ways _ off ((by.tells i).0 f))) line (omega (arith, lt))))
+    go : (n : ℕ) → Below n (first test n)
+    go zero = λ line lt. absurd (omega (arith, lt))
+    go (suc n) = more n (first test n) (go n)
+
+    all : (o : Option ℕ) → Below behind o → IsFirst F o
+    all None none = λ line f. none line (by.within line f) f
+    all (Some line) is = is
 
 -- ---- the four faults
 
-syntax_first : (text : List ℕ) → IsFirst (IsSyntaxFault text) (first is_unread (lines text))
-syntax_first text = is_first is_unread (lines text) (IsSyntaxFault text) (record {
-  none_first = λ bad. let none : None ≡ Some bad.0 = bad.1 in cc;
-  tells = λ i. (
-    λ bad. rw bad.1 (to (stated_of bad.0) (λ s e. bad.2 s (sound_states bad.0 s e))),
-    from i (slice_get (lines text) i) refl,
+at_within : {X : Type 0} (xs : List X) (line : ℕ) (x : X) → at_line xs line ≡ Some x
+    → line < suc (length xs)
+at_within xs zero x at = omega arith
+at_within xs (suc i) x at = omega (arith, slice_get_within xs i x at)
+
+syntax_first : (text : List ℕ) → IsFirst (IsSyntaxFault text)
+    (first (λ line. is_unread (at_line (lines text) line)) (suc (length (lines text))))
+syntax_first text = is_first (IsSyntaxFault text) _ _ (record {
+  within = λ line bad. at_within (lines text) line bad.0 bad.1;
+  tells = λ line. (
+    λ bad. rw (bad.1, (unstated bad.0).0 bad.2) refl,
+    from line (at_line (lines text) line) refl,
   );
 })
   where
-    to : (o : Option Stated) → ((s : Stated) → o ≡ Some s → ⊥) → is_none o ≡ true
-    to None some = refl
-    to (Some s) some = absurd (some s refl)
-
     nothing : (o : Option Stated) → is_none o ≡ true → o ≡ None
     nothing None e = refl
     nothing (Some s) e = cc
 
-    from : (i : ℕ) (o : Option (List ℕ)) → slice_get (lines text) i ≡ o
-        → told is_unread (take i (lines text)) o ≡ true → IsSyntaxFault text (suc i)
-    from i None at on = cc
-    from i (Some l) at on = unread text i l at (nothing (stated_of l) on)
+    from : (line : ℕ) (o : Option (List ℕ)) → at_line (lines text) line ≡ o → is_unread o ≡ true
+        → IsSyntaxFault text line
+    from line None at on = cc
+    from line (Some l) at on = (l, at, (unstated l).1 (nothing (stated_of l) on))
 
--- the statement of a line that passes
-tested : (test : List Stated → Statement → Bool) (before : List Stated) (o : Option Stated)
-    → told (of_statement test) before o ≡ true
-    → (s : Statement) × (o ≡ Some (Some s)) × (test before s ≡ true)
-tested test before None e = cc
-tested test before (Some None) e = cc
-tested test before (Some (Some s)) e = (s, refl, e)
+-- a line says a name that has a property, where the property is tested
+some_name : (f : Statement → List Name) (o : Option Stated) (P : Name → Type 0) (test : Name → Bool)
+    → ((n : Name) → P n ↔ (test n ≡ true))
+    → ((n : Name) × ((s : Statement) × (o ≡ Some (Some s)) × Contains (f s) n) × P n)
+    ↔ (list_any test (said f o) ≡ true)
+some_name f o P test tells = (
+  λ h. rw h.1.1 (any_true test (f h.1.0) h.0 (among _ h.0 h.1.2) ((tells h.0).0 h.2)),
+  from o,
+)
+  where
+    from : (o : Option Stated) → list_any test (said f o) ≡ true
+        → (n : Name) × ((s : Statement) × (o ≡ Some (Some s)) × Contains (f s) n) × P n
+    from (Some (Some s)) on =
+        let n = some_passes test (f s) on in (n.0, (s, refl, n.1), (tells n.0).1 n.2)
+    from None on = cc
+    from (Some None) on = cc
 
 redefined_first : (stated : List Stated)
-    → IsFirst (IsRedefinition stated) (first (of_statement redefines) stated)
-redefined_first stated = is_first (of_statement redefines) stated (IsRedefinition stated) (record {
-  none_first = λ bad. let none : None ≡ Some (Some bad.2.0) = bad.2.1 in cc;
-  tells = λ i. (
-    λ bad. rw bad.2.1 (any_true (is_in (names_of (take i stated))) (defined bad.2.0) bad.0
-        (among _ bad.0 bad.2.2)
-        (among_in _ bad.0 (earlier_named stated i bad.1 bad.0 bad.3 bad.4))),
-    λ on. let t = tested redefines (take i stated) (slice_get stated i) on in
-        let n = some_passes (is_in (names_of (take i stated))) (defined t.0) t.2 in
-        redefinition stated i t.0 n.0 t.1 (among _ n.0 n.1) (among _ n.0 (in_contained _ n.0 n.2)),
-  );
+    → IsFirst (IsRedefinition stated) (first (redefines stated) (suc (length stated)))
+redefined_first stated = is_first (IsRedefinition stated) _ _ (record {
+  within = λ line bad. at_within stated line (Some bad.2.0) bad.2.1;
+  tells = λ line. let told = some_name defined (at_line stated line)
+      (λ n. (there : ℕ) × (there < line) × Says defined stated there n)
+      (is_in (names_of (before stated line))) (λ n. let e = earlier defined stated line n in
+      (λ d. among_in _ n (e.0 d), λ on. e.1 (among _ n (in_contained _ n on)))) in (
+        λ bad. told.0 (bad.0, bad.2, (bad.1, bad.3, bad.4)),
+        λ on. let d = told.1 on in (d.0, d.2.0, d.1, d.2.1, d.2.2),
+      );
 })
 
 undefined_first : (stated : List Stated)
-    → IsFirst (IsUndefined stated) (first (of_statement (reads_unknown (statements stated))) stated)
-undefined_first stated = is_first (of_statement unknown) stated (IsUndefined stated) (record {
-  none_first = λ bad. let none : None ≡ Some (Some bad.1.0) = bad.1.1 in cc;
-  tells = λ i. (
-    λ bad. let known = each_passes (is_in (names_of stated)) (read bad.1.0) bad.0 in
-        rw bad.1.1 (ap not
-        (false_from_ne_true _ (λ all. bad.2 (in_contained _ _ (known all bad.1.2))))),
-    λ on. let t = tested unknown (take i stated) (slice_get stated i) on in
-        let n = some_not (is_in (names_of stated)) (read t.0) (not-true _ t.2) in (
-          n.0,
-          (t.0, t.1, contained _ n.0 n.1),
-          λ has. both_ways _ n.2 (among_in _ n.0 (among _ n.0 has)),
-        ),
-  );
+    → IsFirst (IsUndefined stated) (first (reads_unknown stated) (suc (length stated)))
+undefined_first stated = is_first (IsUndefined stated) _ _ (record {
+  within = λ line bad. at_within stated line (Some bad.1.0) bad.1.1;
+  tells = λ line. some_name read (at_line stated line) (λ n. ¬ Contains (names_of stated) n)
+      (λ n. not (is_in (names_of stated) n)) (λ n. (
+        λ new. ap not (false_from_ne_true _ (λ on. new (in_contained _ n on))),
+        λ off has. both_ways _ (not-true _ off) (among_in _ n (among _ n has)),
+      ));
 })
-  where
-    unknown : List Stated → Statement → Bool
-    unknown = reads_unknown (statements stated)
 
-cyclic_first : (stated : List Stated)
-    → IsFirst (IsCyclic stated) (first (of_statement (is_stuck (statements stated))) stated)
-cyclic_first stated = is_first (of_statement (is_stuck c)) stated (IsCyclic stated) (record {
-  none_first = λ bad. let none : None ≡ Some (Some (Gate bad.0 bad.1 bad.2)) = bad.3 in cc;
-  tells = λ i. (
+cyclic_first : (stated : List Stated) → IsFirst (IsCyclic stated)
+    (first (λ line. is_stuck (statements stated) (at_line stated line)) (suc (length stated)))
+cyclic_first stated = is_first (IsCyclic stated) _ _ (record {
+  within = λ line bad. at_within stated line _ bad.3;
+  tells = λ line. (
     λ bad. rw bad.3 (stuck_left c bad.0 bad.4),
-    λ on. let t = tested (is_stuck c) (take i stated) (slice_get stated i) on in from i t.0 t.1 t.2,
+    from line (at_line stated line) refl,
   );
 })
   where
     c : List Statement
     c = statements stated
 
-    from : (i : ℕ) (s : Statement) → slice_get stated i ≡ Some (Some s)
-        → is_stuck c (take i stated) s ≡ true → IsCyclic stated (suc i)
-    from i (Input n) at on = cc
-    from i (Output n) at on = cc
-    from i (Dff q d) at on = cc
-    from i (Gate n kind args) at on = (n, kind, args, at, (is_in (stuck_names c), stuck_set c, on))
+    from : (line : ℕ) (o : Option Stated) → at_line stated line ≡ o → is_stuck c o ≡ true
+        → IsCyclic stated line
+    from line (Some (Some (Gate n kind args))) at on =
+        (n, kind, args, at, (is_in (stuck_names c), stuck_set c, on))
+    from line _ at on = cc
 
 -- ---- a text without a fault is well-formed
 
@@ -174,12 +171,8 @@ well stated some once known acyclic = record {
     all_known n has =
         let r = joined_from read (statements stated) n (among _ n has) in
         let l = stated_at stated r.0 r.1 in
-        let on : is_in (names_of stated) n ≡ false → ⊥ = λ off. known (suc l.0) (
-          n,
-          (r.0, l.1, contained _ n r.2),
-          λ inside. both_ways _ off (among_in _ n (among _ n inside)),
-        ) in
-        in_contained _ n (true_from_ne_false _ on)
+        in_contained _ n (true_from_ne_false _ (λ off. known (suc l.0) (n, (r.0, l.1, contained _ n r.2),
+        λ inside. both_ways _ off (among_in _ n (among _ n inside)))))
 
     free : (members : Name → Bool) → IsStuckSet (statements stated) members
         → (n : Name) → ¬ IsTrue (members n)
@@ -196,16 +189,14 @@ IsAnswer text (Err fault) = IsRefused text fault
 
 late : (text : List ℕ) (stated : List Stated) (r u y : Option ℕ) → IsWithin text stated
     → IsFirst (IsRedefinition stated) r → IsFirst (IsUndefined stated) u
-    → IsFirst (IsCyclic stated) y → (c : List Statement) → c ≡ statements stated
-    → IsAnswer text (answer_by r u y c)
-late text stated (Some l) u y within once known free c e = (stated, within, once)
-late text stated None (Some l) y within once known free c e = (stated, within, once, known)
-late text stated None None (Some l) within once known free c e =
-    (stated, within, once, known, free)
-late text stated None None None within once known free [] e = (stated, within, sym e)
-late text stated None None None within once known free (s ∷ c) e =
-    let some : statements stated ≢ [] = λ none. let bad : s ∷ c ≡ [] = e ∙ none in cc in
-    (stated, within, e, rw e (well stated some once known free))
+    → IsFirst (IsCyclic stated) y → IsAnswer text (answer_by r u y (statements stated))
+late text stated (Some l) u y within once known free = (stated, within, once)
+late text stated None (Some l) y within once known free = (stated, within, once, known)
+late text stated None None (Some l) within once known free = (stated, within, once, known, free)
+late text stated None None None within once known free =
+    cond_both _ (Err Empty) (Ok (statements stated)) (IsAnswer text)
+    (λ e. (stated, within, nil_from_length _ (eqb-true _ 0 e)))
+    (λ off. (stated, within, refl, well stated (λ none. eqb-false _ 0 off (ap length none)) once known free))
 
 by_limits : (text : List ℕ) (stated : List Stated) → length text ≤ max_bytes
     → LinesState text stated → IsAnswer text (answer_stated stated)
@@ -213,25 +204,22 @@ by_limits text stated bytes each =
     cond_both _ _ _ (IsAnswer text) (λ e. (bytes, stated, each, ltb-true _ _ e))
     (λ f. cond_both _ _ _ (IsAnswer text)
     (λ e. (bytes, stated, each, ltb-false _ _ f, ltb-true _ _ e))
-    (λ e. late text stated _ _ _ (within (ltb-false _ _ f) (ltb-false _ _ e))
-    (redefined_first stated) (undefined_first stated) (cyclic_first stated) _ refl))
-  where
-    within : length (names_of stated) ≤ max_signals → sink_count (statements stated) ≤ max_sinks
-        → IsWithin text stated
-    within signals sinks = record { bytes = bytes; each = each; signals = signals; sinks = sinks }
+    (λ e. late text stated _ _ _ (record {
+      bytes = bytes;
+      each = each;
+      signals = ltb-false _ _ f;
+      sinks = ltb-false _ _ e;
+    }) (redefined_first stated) (undefined_first stated) (cyclic_first stated)))
 
 -- lines of which none is at fault state what is read
-all_read : (ls : List (List ℕ))
-    → ((i : ℕ) (l : List ℕ) → slice_get ls i ≡ Some l → ¬ ((s : Stated) → ¬ States l s))
+all_read : (ls : List (List ℕ)) → ((i : ℕ) (l : List ℕ) → slice_get ls i ≡ Some l → stated_of l ≢ None)
     → AllZip States ls (filter_map stated_of ls)
 all_read [] some = tt
 all_read (l ∷ ls) some = go (stated_of l) refl (all_read ls (λ i. some (suc i)))
   where
     go : (o : Option Stated) → stated_of l ≡ o → AllZip States ls (filter_map stated_of ls)
         → AllZip States (l ∷ ls) (filter_map stated_of (l ∷ ls))
-    go None e more =
-        absurd (some 0 l refl
-        (λ s h. let bad : None ≡ Some s = sym e ∙ complete_states l s h in cc))
+    go None e more = absurd (some 0 l refl e)
     go (Some s) e more = rw e (sound_states l s e, more)
 
 read_all : (ls : List (List ℕ)) (stated : List Stated) → AllZip States ls stated
@@ -246,12 +234,13 @@ read_all (l ∷ ls) (s ∷ stated) all =
 answered : (text : List ℕ) → IsAnswer text (answer_text text)
 answered text =
     cond_both _ _ _ (IsAnswer text) (λ e. ltb-true _ _ e)
-    (λ e. go (ltb-false _ _ e) (first is_unread (lines text)) (syntax_first text))
+    (λ e. go (ltb-false _ _ e) _ (syntax_first text))
   where
     go : length text ≤ max_bytes → (o : Option ℕ) → IsFirst (IsSyntaxFault text) o
         → IsAnswer text (line_or Syntax o (answer_stated (filter_map stated_of (lines text))))
     go bytes None none =
-        by_limits text _ bytes (all_read (lines text) (λ i l at bad. none (suc i) (l, at, bad)))
+        by_limits text _ bytes
+        (all_read (lines text) (λ i l at e. none (suc i) (unread text i l at e)))
     go bytes (Some l) bad = (bytes, bad)
 
 pub accepted_by : (text : List ℕ) (c : List Statement) → answer_text text ≡ Ok c → IsAccepted text c
@@ -316,24 +305,18 @@ exact text (Err (Cycle l)) h = answer_is text h.0 h.1 None None (Some l) h.2 h.3
 exact text (Err Empty) h =
     answer_is text h.0 h.1 None None None (λ l bad. none l bad.2.0 bad.2.1)
     (λ l bad. none l bad.1.0 bad.1.1) (λ l bad. none l _ bad.3)
-    ∙ ap statements_or h.2
+    ∙ rw h.2 refl
   where
     none : (line : ℕ) (s : Statement) → at_line h.0 line ≡ Some (Some s) → ⊥
     none line s at = subst (Among s) h.2 (line_among h.0 line s at)
 exact text (Err Memory) h = absurd h
-exact text (Ok c) h = rw h.2 (go (rw h.2 at h.3))
-  where
-    some : (d : List Statement) → d ≢ [] → statements_or d ≡ Ok d
-    some [] ne = absurd (ne refl)
-    some (s ∷ d) ne = refl
-
-    go : IsWellFormed (statements h.0) → answer_text text ≡ Ok (statements h.0)
-    go well =
-        let number = well.acyclic in
-        answer_is text h.0 h.1 None None None
-        (no_redefinition h.0 (distinct_from_pairs _ well.once)) (no_undefined h.0 well.all_defined)
-        (λ l bad. none_stuck _ number.0 number.1 bad.4.0 bad.4.1 bad.0 bad.4.2)
-        ∙ some (statements h.0) well.some
+exact text (Ok c) h =
+    let well : IsWellFormed (statements h.0) = rw h.2 at h.3 in
+    let number = well.acyclic in
+    answer_is text h.0 h.1 None None None
+    (no_redefinition h.0 (distinct_from_pairs _ well.once)) (no_undefined h.0 well.all_defined)
+    (λ l bad. none_stuck _ number.0 number.1 bad.4.0 bad.4.1 bad.0 bad.4.2)
+    ∙ cond-false _ _ _ (ne_eqb _ 0 (λ e. well.some (nil_from_length _ e))) ∙ ap Ok (sym h.2)
 
 pub one_answer : (text : List ℕ) (r s : Result (List Statement) BenchFault)
     → IsAnswer text r → IsAnswer text s → r ≡ s

@@ -1,8 +1,9 @@
 -- Lines at fault: which places and which names make them so.
 use Rattle.std.proofs.Common.{◌≡◌, ◌<◌, ℕ, zero, suc, sym, refl, ◌∙◌, ap, subst, List, [], ◌∷◌, ◌++◌, take, drop, arith, inl, inr, length-take}
-use Rattle.std.specs.Prelude.{Contains, Option, Some, None, slice_get, flat_map}
+use Rattle.std.specs.Prelude.{Contains, IsSomeAnd, ◌↔◌, Option, Some, None, slice_get, flat_map}
 use Rattle.std.specs.List.{AllZip}
-use Rattle.std.proofs.lemmas.Option.{slice_get_within}
+use Rattle.std.proofs.lemmas.Option.{slice_get_within, MatchOption-at_some}
+use Rattle.std.proofs.lemmas.Slice.Zip.{AllZip-left}
 use Rattle.std.proofs.lemmas.List.Concat.{flat_map-append}
 use Rattle.std.proofs.lemmas.List.Elements.{filter_map-append}
 use Rattle.bench_net.specs.Text.{lines}
@@ -13,7 +14,8 @@ use Rattle.bench_net.specs.Refusal.{at_line, IsLowest, NoLine, IsSyntaxFault, De
 use Rattle.bench_net.specs.reader.Plain.{stated_of}
 use Rattle.lists.proofs.Members.{Among, among, contained, among_left, among_right, among_joined, joined_from}
 use Rattle.lists.proofs.Distinct.{Distinct, distinct_append}
-use Rattle.bench_net.proofs.Reader.{complete_states}
+use Rattle.bench_net.proofs.Reader.{unstated}
+use Rattle.bench_net.proofs.Answer.{before}
 use Rattle.bench_net.proofs.Checked.{defined_few}
 
 abbrev pub Stated : Type 0
@@ -68,26 +70,21 @@ line_among stated (suc i) s e = stated_among stated i s e
 
 -- ---- a line that states nothing that a line may state
 
--- each of lines that state something does
-pub states_each : (ls : List (List ℕ)) (stated : List Stated) (k : ℕ) (l : List ℕ)
-    → AllZip States ls stated → slice_get ls k ≡ Some l → (s : Stated) × States l s
-states_each [] stated k l all e = let bad : None ≡ Some l = e in cc
-states_each (m ∷ ls) [] k l all e = absurd all
-states_each (m ∷ ls) (s ∷ stated) zero l all e =
-    let same : m ≡ l = cc in (s, subst (λ x. States x s) same all.0)
-states_each (m ∷ ls) (s ∷ stated) (suc k) l all e = states_each ls stated k l all.1 e
-
 pub no_unread : (text : List ℕ) (stated : List Stated) (front : List (List ℕ)) (line : ℕ)
     → AllZip States front stated → at_line front line ≡ at_line (lines text) line
     → ¬ IsSyntaxFault text line
 no_unread text stated front zero all same bad = let none : None ≡ Some bad.0 = bad.1 in cc
 no_unread text stated front (suc k) all same bad =
-    let s = states_each front stated k bad.0 all (same ∙ bad.1) in bad.2 s.0 s.1
+    go (slice_get stated k) (MatchOption-at_some (Unit {0}) _ bad.0 (same ∙ bad.1)
+    (AllZip-left States front stated all k))
+  where
+    go : (o : Option Stated) → IsSomeAnd o (States bad.0) → ⊥
+    go None h = h
+    go (Some s) h = bad.2 s h
 
 pub unread : (text : List ℕ) (k : ℕ) (l : List ℕ) → slice_get (lines text) k ≡ Some l
     → stated_of l ≡ None → IsSyntaxFault text (suc k)
-unread text k l at none =
-    (l, at, λ s h. let bad : None ≡ Some s = sym none ∙ complete_states l s h in cc)
+unread text k l at none = (l, at, (unstated l).1 none)
 
 pub unread_lowest : (text : List ℕ) (k : ℕ) (l : List ℕ) (stated : List Stated)
     → slice_get (lines text) k ≡ Some l → stated_of l ≡ None
@@ -99,22 +96,24 @@ unread_lowest text k l stated at none all = (
 
 -- ---- a line that defines a name that is defined before it
 
-pub earlier_named : (stated : List Stated) (j line : ℕ) (n : Name) → line < suc j
-    → Defines stated line n → Among n (names_of (take j stated))
-earlier_named stated j line n lt d =
-    let there = line_among (take j stated) line d.0 (at_front stated j line lt ∙ d.1) in
-    among_joined defined _ d.0 n there (among _ n d.2)
+-- the line states a statement with this name among those that f gives
+abbrev pub Says : (Statement → List Name) → List Stated → ℕ → Name → Type 0
+Says f stated line n = (s : Statement) × (at_line stated line ≡ Some (Some s)) × Contains (f s) n
 
-pub redefinition : (stated : List Stated) (j : ℕ) (s : Statement) (n : Name)
-    → slice_get stated j ≡ Some (Some s) → Among n (defined s)
-    → Among n (names_of (take j stated)) → IsRedefinition stated (suc j)
-redefinition stated j s n at here a =
-    let t = joined_from defined (statements (take j stated)) n a in
-    let k = stated_at (take j stated) t.0 t.1 in
-    let below = slice_get_within (take j stated) k.0 (Some t.0) k.1 in
-    let lt : k.0 < j = omega (arith, below, length-take j stated) in
-    let there = sym (in_front stated j k.0 lt) ∙ k.1 in
-    (n, suc k.0, (s, at, contained _ n here), omega (arith, lt), (t.0, there, contained _ n t.2))
+-- what earlier lines say is what the lines in front say
+pub earlier : (f : Statement → List Name) (stated : List Stated) (line : ℕ) (n : Name)
+    → ((there : ℕ) × (there < line) × Says f stated there n)
+    ↔ Among n (flat_map f (statements (before stated line)))
+earlier f stated zero n = (λ e. absurd (omega (arith, e.1)), λ a. absurd a)
+earlier f stated (suc j) n = (
+  λ e. let there = line_among (take j stated) e.0 e.2.0 (at_front stated j e.0 e.1 ∙ e.2.1) in
+      among_joined f _ e.2.0 n there (among _ n e.2.2),
+  λ a. let t = joined_from f (statements (take j stated)) n a in
+      let k = stated_at (take j stated) t.0 t.1 in
+      let below = slice_get_within (take j stated) k.0 (Some t.0) k.1 in
+      let lt : k.0 < j = omega (arith, below, length-take j stated) in
+      (suc k.0, omega (arith, lt), (t.0, sym (in_front stated j k.0 lt) ∙ k.1, contained _ n t.2)),
+)
 
 distinct_apart : (xs ys : List Name) (n : Name)
     → Distinct (xs ++ ys) → Among n xs → Among n ys → ⊥
@@ -129,7 +128,7 @@ no_redefinition stated once zero bad = let none : None ≡ Some (Some bad.2.0) =
 no_redefinition stated once (suc j) bad =
     let n : Name = bad.0 in
     distinct_apart (names_of (take j stated)) _ n
-    (subst Distinct parts once) (earlier_named stated j bad.1 n bad.3 bad.4)
+    (subst Distinct parts once) ((earlier defined stated (suc j) n).0 (bad.1, bad.3, bad.4))
     (among_left (defined bad.2.0) _ n (among _ n bad.2.2))
   where
     parts : names_of stated ≡ names_of (take j stated)
@@ -164,17 +163,17 @@ pub redefined_lowest : (stated : List Stated) (j : ℕ) (s : Statement) (n : Nam
     → slice_get stated j ≡ Some (Some s) → Among n (defined s)
     → Among n (names_of (take j stated)) → Distinct (names_of (take j stated))
     → IsLowest (IsRedefinition stated) (suc j)
-redefined_lowest stated j s n at here before once =
-    (redefinition stated j s n at here before, lower)
+redefined_lowest stated j s n at here front once = (
+  let e = (earlier defined stated (suc j) n).1 front in
+  (n, e.0, (s, at, contained _ n here), e.1, e.2),
+  λ line lt bad. no_redefinition (take j stated) once line
+  (bad.0, bad.1, in_take line bad.0 lt bad.2, bad.3,
+  in_take bad.1 bad.0 (omega (arith, lt, bad.3)) bad.4),
+)
   where
-    lower : (line : ℕ) → line < suc j → ¬ IsRedefinition stated line
-    lower line lt bad = no_redefinition (take j stated) once line (
-      bad.0,
-      bad.1,
-      (bad.2.0, at_front stated j line lt ∙ bad.2.1, bad.2.2),
-      bad.3,
-      (bad.4.0, at_front stated j bad.1 (omega (arith, lt, bad.3)) ∙ bad.4.1, bad.4.2),
-    )
+    in_take : (line : ℕ) (m : Name) → line < suc j → Says defined stated line m
+        → Says defined (take j stated) line m
+    in_take line m lt d = (d.0, at_front stated j line lt ∙ d.1, d.2)
 
 -- ---- a line that reads a name that no line defines
 
@@ -182,13 +181,10 @@ pub undefined_lowest : (stated : List Stated) (j : ℕ) (s : Statement) (n : Nam
     → slice_get stated j ≡ Some (Some s) → Among n (read s) → ¬ Contains (names_of stated) n
     → ((m : Name) → Among m (flat_map read (statements (take j stated)))
     → Contains (names_of stated) m) → IsLowest (IsUndefined stated) (suc j)
-undefined_lowest stated j s n at here not known = ((n, (s, at, contained _ n here), not), lower)
-  where
-    lower : (line : ℕ) → line < suc j → ¬ IsUndefined stated line
-    lower line lt bad =
-        let there = line_among (take j stated) line bad.1.0
-        (at_front stated j line lt ∙ bad.1.1) in
-        bad.2 (known bad.0 (among_joined read _ bad.1.0 bad.0 there (among _ _ bad.1.2)))
+undefined_lowest stated j s n at here not known = (
+  (n, (s, at, contained _ n here), not),
+  λ line lt bad. bad.2 (known bad.0 ((earlier read stated (suc j) bad.0).0 (line, lt, bad.1))),
+)
 
 pub no_undefined : (stated : List Stated)
     → ((n : Name) → Contains (flat_map read (statements stated)) n → Contains (names_of stated) n)
