@@ -1,6 +1,7 @@
--- Each text is accepted or refused, in one way, and the plain reader answers which.
+-- A plain program for the reader's answer: each text is accepted or refused, in one way, and it says
+-- which.
 use Rattle.std.proofs.Common.{◌≡◌, ◌<◌, ◌≤◌, ◌+◌, ℕ, zero, suc, refl, sym, ◌∙◌, ap, subst, Bool, true, false, not, List, [], ◌∷◌, length, take, arith, add-one, inl, inr, ◌⊎◌}
-use Rattle.std.specs.Prelude.{◌≢◌, if◌then◌else◌, ◌==◌, Contains, Option, Some, None, Result, Ok, Err, slice_get, filter_map, flat_map, is_none, IsTrue, ◌↔◌}
+use Rattle.std.specs.Prelude.{◌≢◌, if◌then◌else◌, ◌==◌, nat_lt, Contains, Option, Some, None, Result, Ok, Err, slice_get, filter_map, flat_map, is_none, IsTrue, ◌↔◌}
 use Rattle.std.specs.List.{AllZip, list_any}
 use Rattle.std.specs.Option.{option_or}
 use Rattle.std.proofs.lemmas.List.{nil_from_length}
@@ -12,17 +13,76 @@ use Rattle.bench_net.specs.declared.BenchFault.{BenchFault}
 use Rattle.bench_net.specs.declared.BenchFault.TheVariants.{TooLarge, Syntax, Redefined, Undefined, Cycle, Empty, Memory}
 use Rattle.bench_net.specs.Text.{lines}
 use Rattle.bench_net.specs.Statement.{Name, Statement, Input, Output, Gate, Dff, defined, read}
+use Rattle.bench_net.specs.Scan.{names}
 use Rattle.bench_net.specs.Reading.{States, LinesState, statements}
 use Rattle.bench_net.specs.Circuit.{IsWellFormed, IsStuckSet, max_bytes, max_signals, max_sinks, sink_count}
 use Rattle.bench_net.specs.Refusal.{at_line, IsLowest, NoLine, IsWithin, IsSyntaxFault, IsRedefinition, IsUndefined, IsCyclic, IsAccepted, IsRefused}
 use Rattle.bench_net.specs.reader.Plain.{stated_of}
+use Rattle.bench_net.specs.reader.Entries.{is_in}
 use Rattle.bench_net.proofs.Reader.{sound_states, complete_states, unstated}
 use Rattle.lists.proofs.Members.{Among, among, contained, each_passes, some_passes, joined_from}
 use Rattle.lists.proofs.Distinct.{distinct_from_pairs}
-use Rattle.bench_net.proofs.Answer.{is_in, stuck_names, first, before, said, is_unread, redefines, reads_unknown, is_stuck, line_or, answer_by, answer_stated, answer_text}
 use Rattle.bench_net.proofs.Checked.{any_true, in_contained, among_in, some_not, pairs_distinct}
-use Rattle.bench_net.proofs.Faults.{Stated, names_of, stated_at, line_among, unread, no_unread, Says, earlier, no_redefinition, no_undefined, once_each}
-use Rattle.bench_net.proofs.Settled.{stuck_set, stuck_left, none_stuck, numbering}
+use Rattle.bench_net.proofs.Faults.{Stated, before, names_of, stated_at, line_among, unread, no_unread, Says, earlier, no_redefinition, no_undefined, once_each}
+use Rattle.bench_net.proofs.Settled.{stuck_names, stuck_set, stuck_left, none_stuck, numbering}
+
+-- ---- the program
+
+-- the first line below a number that passes
+abbrev pub first : (ℕ → Bool) → ℕ → Option ℕ
+first test zero = None
+first test (suc line) = option_or (first test line) (if test line then Some line else None)
+
+-- the names that the statement of a line has
+abbrev pub said : (Statement → List Name) → Option (Option Statement) → List Name
+said f (Some (Some s)) = f s
+said f _ = []
+
+-- the faults of lines
+abbrev pub is_unread : Option (List ℕ) → Bool
+is_unread (Some line) = is_none (stated_of line)
+is_unread None = false
+
+abbrev pub redefines : List (Option Statement) → ℕ → Bool
+redefines stated line =
+    list_any (is_in (names (statements (before stated line)))) (said defined (at_line stated line))
+
+abbrev pub reads_unknown : List (Option Statement) → ℕ → Bool
+reads_unknown stated line =
+    list_any (λ n. not (is_in (names (statements stated)) n)) (said read (at_line stated line))
+
+abbrev pub is_stuck : List Statement → Option (Option Statement) → Bool
+is_stuck c (Some (Some (Gate n kind args))) = is_in (stuck_names c) n
+is_stuck c _ = false
+
+abbrev pub line_or : (ℕ → BenchFault) → Option ℕ → Result (List Statement) BenchFault
+    → Result (List Statement) BenchFault
+line_or fault None later = later
+line_or fault (Some line) later = Err (fault line)
+
+-- the answer past the limits, from the first line with each fault
+abbrev pub answer_by : Option ℕ → Option ℕ → Option ℕ → List Statement
+    → Result (List Statement) BenchFault
+answer_by r u y c =
+    line_or Redefined r (line_or Undefined u (line_or Cycle y
+    (if length c == 0 then Err Empty else Ok c)))
+
+abbrev pub answer_stated : List (Option Statement) → Result (List Statement) BenchFault
+answer_stated stated =
+    let c = statements stated in
+    let behind = suc (length stated) in
+    if nat_lt max_signals (length (names c)) then Err (TooLarge Signals)
+    else if nat_lt max_sinks (sink_count c) then Err (TooLarge Sinks)
+    else answer_by (first (redefines stated) behind) (first (reads_unknown stated) behind)
+    (first (λ line. is_stuck c (at_line stated line)) behind) c
+
+-- the reader's answer to a text
+abbrev pub answer_text : List ℕ → Result (List Statement) BenchFault
+answer_text text =
+    let ls = lines text in
+    if nat_lt max_bytes (length text) then Err (TooLarge Bytes)
+    else line_or Syntax (first (λ line. is_unread (at_line ls line)) (suc (length ls)))
+    (answer_stated (filter_map stated_of ls))
 
 -- ---- the first line with a fault
 

@@ -1,21 +1,26 @@
--- Lines at fault: which places and which names make them so.
-use Rattle.std.proofs.Common.{◌≡◌, ◌<◌, ℕ, zero, suc, sym, refl, ◌∙◌, ap, subst, List, [], ◌∷◌, ◌++◌, take, drop, arith, inl, inr, length-take}
-use Rattle.std.specs.Prelude.{Contains, IsSomeAnd, ◌↔◌, Option, Some, None, slice_get, flat_map}
-use Rattle.std.specs.List.{AllZip}
+-- Lines of a text: which words make their names, and which places and which names make them faulty.
+use Rattle.std.proofs.Common.{◌≡◌, ◌<◌, ◌≤◌, ℕ, zero, suc, sym, refl, ◌∙◌, ap, subst, true, not, ◌&&◌, leb, List, [], ◌∷◌, ◌++◌, take, drop, arith, inl, inr, length-take}
+use Rattle.std.specs.Prelude.{Contains, IsSomeAnd, ◌↔◌, ◌==◌, Option, Some, None, slice_get, slice_index_or, flat_map}
+use Rattle.std.specs.List.{All, AllZip, list_all}
+use Rattle.std.specs.Str.{IsUtf8}
+use Rattle.std.specs.Int.{is_in_range}
+use Rattle.std.proofs.lemmas.Bool.{leb-true, and_parts}
 use Rattle.std.proofs.lemmas.Option.{slice_get_within, MatchOption-at_some}
 use Rattle.std.proofs.lemmas.Slice.Zip.{AllZip-left}
+use Rattle.std.proofs.lemmas.Str.{IsUtf8-from_ascii}
+use Rattle.std.proofs.lemmas.Str.Ascii.{IsAscii-from_all}
 use Rattle.std.proofs.lemmas.List.Concat.{flat_map-append}
-use Rattle.std.proofs.lemmas.List.Elements.{filter_map-append}
-use Rattle.bench_net.specs.Text.{lines}
-use Rattle.bench_net.specs.Statement.{Name, Statement, defined, read}
-use Rattle.bench_net.specs.Reading.{States, statements}
+use Rattle.std.proofs.lemmas.List.Elements.{filter_map-append, Contains-get_or}
+use Rattle.bench_net.specs.Text.{is_word_byte, is_mark, Spells, lines}
+use Rattle.bench_net.specs.Statement.{Name, Statement, Input, Output, Gate, Dff, defined, read}
+use Rattle.bench_net.specs.Reading.{States, LinesState, statements}
 use Rattle.bench_net.specs.Scan.{names}
+use Rattle.bench_net.specs.Circuit.{HaveArities}
 use Rattle.bench_net.specs.Refusal.{at_line, IsLowest, NoLine, IsSyntaxFault, Defines, IsRedefinition, IsUndefined}
 use Rattle.bench_net.specs.reader.Plain.{stated_of}
-use Rattle.lists.proofs.Members.{Among, among, contained, among_left, among_right, among_joined, joined_from}
+use Rattle.lists.proofs.Members.{Among, among, contained, among_left, among_right, among_joined, joined_from, each_passes}
 use Rattle.lists.proofs.Distinct.{Distinct, distinct_append}
 use Rattle.bench_net.proofs.Reader.{unstated}
-use Rattle.bench_net.proofs.Answer.{before}
 use Rattle.bench_net.proofs.Checked.{defined_few}
 
 abbrev pub Stated : Type 0
@@ -68,6 +73,52 @@ pub line_among : (stated : List Stated) (line : ℕ) (s : Statement)
 line_among stated zero s e = let bad : None ≡ Some (Some s) = e in cc
 line_among stated (suc i) s e = stated_among stated i s e
 
+-- ---- what lines spell: a defined name is a word, so it is UTF-8, and a gate has its kind's arity
+
+-- the line that states a statement
+line_of : (ls : List (List ℕ)) (stated : List Stated) (s : Statement) → AllZip States ls stated
+    → Among s (statements stated) → (line : List ℕ) × States line (Some s)
+line_of ls [] s all a = absurd a
+line_of [] (t ∷ stated) s all a = absurd all
+line_of (l ∷ ls) (None ∷ stated) s all a = line_of ls stated s all.1 a
+line_of (l ∷ ls) (Some t ∷ stated) s all (inl e) = (l, subst (λ x. States l (Some x)) e all.0)
+line_of (l ∷ ls) (Some t ∷ stated) s all (inr a) = line_of ls stated s all.1 a
+
+word_ascii : (w : List ℕ) → list_all is_word_byte w ≡ true → All (λ b. b < 128) w
+word_ascii w e k d below =
+    let b : ℕ = slice_index_or w k d in
+    let on = each_passes is_word_byte w b e (Contains-get_or w k d below) in
+    let p = and_parts (is_in_range 33 126 b && not (is_mark b)) (not (b == 35)) on in
+    let q = and_parts (is_in_range 33 126 b) (not (is_mark b)) p.0 in
+    let high : b ≤ 126 = leb-true b 126 (and_parts (leb 33 b) (leb b 126) q.0).1 in
+    omega (arith, high)
+
+-- the name that a statement of a line defines is a word of the line
+defined_word : (line : List ℕ) (s : Statement) (n : Name) → States line (Some s)
+    → Among n (defined s) → list_all is_word_byte n ≡ true
+defined_word line (Input m) n h (inl e) =
+    let spells = subst (Spells line) h.2.2 h.1 in rw e at spells.6.6.4.1
+defined_word line (Gate m kind args) n h (inl e) =
+    let spells = subst (Spells line) h.2.3 h.1 in rw e at spells.4.1
+defined_word line (Dff q d) n h (inl e) =
+    let spells = subst (Spells line) h.2.2 h.1 in rw e at spells.4.1
+defined_word line (Output m) n h a = absurd a
+defined_word line _ n h (inr a) = absurd a
+
+-- each name that the lines define is UTF-8
+pub names_utf8 : (ls : List (List ℕ)) (stated : List Stated) → AllZip States ls stated
+    → (n : Name) → Among n (names_of stated) → IsUtf8 n
+names_utf8 ls stated each n inside =
+    let s = joined_from defined (statements stated) n inside in
+    let line = line_of ls stated s.0 each s.1 in
+    IsUtf8-from_ascii n (IsAscii-from_all n (word_ascii n (defined_word line.0 s.0 n line.1 s.2)))
+
+-- the statements of a text have the arities of their kinds
+pub arities_of_text : (text : List ℕ) (stated : List Stated) → LinesState text stated
+    → HaveArities (statements stated)
+arities_of_text text stated each n kind args at =
+    (line_of (lines text) stated (Gate n kind args) each (among _ _ at)).1.2.2
+
 -- ---- a line that states nothing that a line may state
 
 pub no_unread : (text : List ℕ) (stated : List Stated) (front : List (List ℕ)) (line : ℕ)
@@ -95,6 +146,11 @@ unread_lowest text k l stated at none all = (
 )
 
 -- ---- a line that defines a name that is defined before it
+
+-- the lines before one
+abbrev pub before : {X : Type 0} → List X → ℕ → List X
+before xs zero = []
+before xs (suc i) = take i xs
 
 -- the line states a statement with this name among those that f gives
 abbrev pub Says : (Statement → List Name) → List Stated → ℕ → Name → Type 0

@@ -8,7 +8,7 @@ use Rattle.bench_net.specs.Statement.{Name, Statement}
 use Rattle.bench_net.specs.Scan.{signal, inputs, cells, sources}
 use Rattle.bench_net.specs.Inside.{IsInside}
 use Rattle.bench_net.proofs.Counted.{few_sources}
-use Rattle.bench_net.proofs.SomeSource.{some_source}
+use Rattle.bench_net.proofs.Settled.{some_source}
 use Rattle.bench_net.proofs.circuit.Circuit.sources.Goals as goal
 
 source_count : {c : List Statement} {ns : List Name} {lines : List Line} {tables : Tables} {levels : Levels} → IsInside c ns lines tables levels
