@@ -28,32 +28,37 @@ use Rattle.bench_net.proofs.Settled.{stuck_names, stuck_set, stuck_left, none_st
 
 -- ---- the program
 
--- the first line below a number that passes
-abbrev pub first : (ℕ → Bool) → ℕ → Option ℕ
-first test zero = None
-first test (suc line) = option_or (first test line) (if test line then Some line else None)
+-- the first line that passes a test of its number and of what stands there
+abbrev pub passes : {Y : Type 0} → (Y → Bool) → Option Y → Bool
+passes test None = false
+passes test (Some y) = test y
 
--- the names that the statement of a line has
-abbrev pub said : (Statement → List Name) → Option (Option Statement) → List Name
-said f (Some (Some s)) = f s
-said f _ = []
+abbrev pub first_below : (ℕ → Bool) → ℕ → Option ℕ
+first_below test zero = None
+first_below test (suc line) =
+    option_or (first_below test line) (if test line then Some line else None)
+
+abbrev pub first : {Y : Type 0} → (ℕ → Y → Bool) → List Y → Option ℕ
+first test ys = first_below (λ line. passes (test line) (at_line ys line)) (suc (length ys))
+
+-- the names that f gives for what a line states
+abbrev pub said : (Statement → List Name) → Stated → List Name
+said f None = []
+said f (Some s) = f s
 
 -- the faults of lines
-abbrev pub is_unread : Option (List ℕ) → Bool
-is_unread (Some line) = is_none (stated_of line)
-is_unread None = false
+abbrev pub is_unread : ℕ → List ℕ → Bool
+is_unread line bytes = is_none (stated_of bytes)
 
-abbrev pub redefines : List (Option Statement) → ℕ → Bool
-redefines stated line =
-    list_any (is_in (names (statements (before stated line)))) (said defined (at_line stated line))
+abbrev pub redefines : List Stated → ℕ → Stated → Bool
+redefines stated line y = list_any (is_in (names_of (before stated line))) (said defined y)
 
-abbrev pub reads_unknown : List (Option Statement) → ℕ → Bool
-reads_unknown stated line =
-    list_any (λ n. not (is_in (names (statements stated)) n)) (said read (at_line stated line))
+abbrev pub reads_unknown : List Statement → ℕ → Stated → Bool
+reads_unknown c line y = list_any (λ n. not (is_in (names c) n)) (said read y)
 
-abbrev pub is_stuck : List Statement → Option (Option Statement) → Bool
-is_stuck c (Some (Some (Gate n kind args))) = is_in (stuck_names c) n
-is_stuck c _ = false
+abbrev pub is_stuck : List Statement → ℕ → Stated → Bool
+is_stuck c line (Some (Gate n kind args)) = is_in (stuck_names c) n
+is_stuck c line _ = false
 
 abbrev pub line_or : (ℕ → BenchFault) → Option ℕ → Result (List Statement) BenchFault
     → Result (List Statement) BenchFault
@@ -67,22 +72,20 @@ answer_by r u y c =
     line_or Redefined r (line_or Undefined u (line_or Cycle y
     (if length c == 0 then Err Empty else Ok c)))
 
-abbrev pub answer_stated : List (Option Statement) → Result (List Statement) BenchFault
+abbrev pub answer_stated : List Stated → Result (List Statement) BenchFault
 answer_stated stated =
     let c = statements stated in
-    let behind = suc (length stated) in
     if nat_lt max_signals (length (names c)) then Err (TooLarge Signals)
     else if nat_lt max_sinks (sink_count c) then Err (TooLarge Sinks)
-    else answer_by (first (redefines stated) behind) (first (reads_unknown stated) behind)
-    (first (λ line. is_stuck c (at_line stated line)) behind) c
+    else answer_by (first (redefines stated) stated) (first (reads_unknown c) stated)
+    (first (is_stuck c) stated) c
 
 -- the reader's answer to a text
 abbrev pub answer_text : List ℕ → Result (List Statement) BenchFault
 answer_text text =
     let ls = lines text in
     if nat_lt max_bytes (length text) then Err (TooLarge Bytes)
-    else line_or Syntax (first (λ line. is_unread (at_line ls line)) (suc (length ls)))
-    (answer_stated (filter_map stated_of ls))
+    else line_or Syntax (first is_unread ls) (answer_stated (filter_map stated_of ls))
 
 -- ---- the first line with a fault
 
@@ -100,120 +103,96 @@ first_one F (Some k) (Some l) a b =
     let not_more : l < k → ⊥ = λ h. a.1 l h b.0 in
     ap Some (omega arith)
 
--- the fault is that of the lines below a number that pass a test
-record IsTold (F : ℕ → Type 0) (test : ℕ → Bool) (behind : ℕ) : Type 0 where
-  within : (line : ℕ) → F line → line < behind
-  tells : (line : ℕ) → F line ↔ (test line ≡ true)
-
-is_first : (F : ℕ → Type 0) (test : ℕ → Bool) (behind : ℕ) → IsTold F test behind
-    → IsFirst F (first test behind)
-is_first F test behind by = all (first test behind) (go behind)
+-- where the lines that have the fault are those that pass
+is_first : {Y : Type 0} (ys : List Y) (F : ℕ → Type 0) (test : ℕ → Y → Bool)
+    → ((line : ℕ) → F line → (y : Y) × (at_line ys line ≡ Some y) × (test line y ≡ true))
+    → ((line : ℕ) (y : Y) → at_line ys line ≡ Some y → test line y ≡ true → F line)
+    → IsFirst F (first test ys)
+is_first {Y} ys F test to from = all (first test ys) (go (suc (length ys)))
   where
+    tested : ℕ → Bool
+    tested line = passes (test line) (at_line ys line)
+
+    found : (line : ℕ) (o : Option Y) → at_line ys line ≡ o → passes (test line) o ≡ true → F line
+    found line None at on = cc
+    found line (Some y) at on = from line y at on
+
     Below : ℕ → Option ℕ → Type 0
     Below n None = (line : ℕ) → line < n → ¬ F line
     Below n (Some line) = IsLowest F line
 
     more : (n : ℕ) (o : Option ℕ) → Below n o
-        → Below (suc n) (option_or o (if test n then Some n else None))
+        → Below (suc n) (option_or o (if tested n then Some n else None))
     more n (Some line) is = is
     more n None none =
-        cond_both (test n) (Some n) None (Below (suc n)) (λ on. ((by.tells n).1 on, none))
-        (λ off line lt. below_more (λ k. ¬ F k) n none (λ f. both_ways _ off ((by.tells n).0 f)) line
-        (omega (arith, lt)))
+        cond_both (tested n) (Some n) None (Below (suc n))
+        (λ on. (found n (at_line ys n) refl on, none))
+        (λ off line lt. below_more (λ k. ¬ F k) n none
+        (λ f. let t = to n f in both_ways _ off (rw t.1 t.2)) line (omega (arith, lt)))
 
-    go : (n : ℕ) → Below n (first test n)
+    go : (n : ℕ) → Below n (first_below tested n)
     go zero = λ line lt. absurd (omega (arith, lt))
-    go (suc n) = more n (first test n) (go n)
+    go (suc n) = more n (first_below tested n) (go n)
 
-    all : (o : Option ℕ) → Below behind o → IsFirst F o
-    all None none = λ line f. none line (by.within line f) f
+    within : (line : ℕ) (y : Y) → at_line ys line ≡ Some y → line < suc (length ys)
+    within zero y at = omega arith
+    within (suc i) y at = omega (arith, slice_get_within ys i y at)
+
+    all : (o : Option ℕ) → Below (suc (length ys)) o → IsFirst F o
+    all None none = λ line f. let t = to line f in none line (within line t.0 t.1) f
     all (Some line) is = is
 
 -- ---- the four faults
 
-at_within : {X : Type 0} (xs : List X) (line : ℕ) (x : X) → at_line xs line ≡ Some x
-    → line < suc (length xs)
-at_within xs zero x at = omega arith
-at_within xs (suc i) x at = omega (arith, slice_get_within xs i x at)
-
-syntax_first : (text : List ℕ) → IsFirst (IsSyntaxFault text)
-    (first (λ line. is_unread (at_line (lines text) line)) (suc (length (lines text))))
-syntax_first text = is_first (IsSyntaxFault text) _ _ (record {
-  within = λ line bad. at_within (lines text) line bad.0 bad.1;
-  tells = λ line. (
-    λ bad. rw (bad.1, (unstated bad.0).0 bad.2) refl,
-    from line (at_line (lines text) line) refl,
-  );
-})
+syntax_first : (text : List ℕ) → IsFirst (IsSyntaxFault text) (first is_unread (lines text))
+syntax_first text = is_first (lines text) (IsSyntaxFault text) is_unread
+    (λ line bad. (bad.0, bad.1, rw ((unstated bad.0).0 bad.2) refl))
+    (λ line bytes at on. (bytes, at, (unstated bytes).1 (nothing (stated_of bytes) on)))
   where
     nothing : (o : Option Stated) → is_none o ≡ true → o ≡ None
     nothing None e = refl
     nothing (Some s) e = cc
 
-    from : (line : ℕ) (o : Option (List ℕ)) → at_line (lines text) line ≡ o → is_unread o ≡ true
-        → IsSyntaxFault text line
-    from line None at on = cc
-    from line (Some l) at on = (l, at, (unstated l).1 (nothing (stated_of l) on))
+module _ (stated : List Stated) where
+  redefined_first : IsFirst (IsRedefinition stated) (first (redefines stated) stated)
+  redefined_first = is_first stated (IsRedefinition stated) (redefines stated)
+      (λ line bad. (Some bad.2.0, bad.2.1, any_true _ (defined bad.2.0) bad.0 (among _ _ bad.2.2)
+      (among_in _ _ ((earlier defined stated line bad.0).0 (bad.1, bad.3, bad.4)))))
+      from
+    where
+      from : (line : ℕ) (y : Stated) → at_line stated line ≡ Some y → redefines stated line y ≡ true
+          → IsRedefinition stated line
+      from line None at on = cc
+      from line (Some s) at on =
+          let n = some_passes (is_in (names_of (before stated line))) (defined s) on in
+          let e = (earlier defined stated line n.0).1 (among _ _ (in_contained _ _ n.2)) in
+          (n.0, e.0, (s, at, n.1), e.1, e.2)
 
--- a line says a name that has a property, where the property is tested
-some_name : (f : Statement → List Name) (o : Option Stated) (P : Name → Type 0) (test : Name → Bool)
-    → ((n : Name) → P n ↔ (test n ≡ true))
-    → ((n : Name) × ((s : Statement) × (o ≡ Some (Some s)) × Contains (f s) n) × P n)
-    ↔ (list_any test (said f o) ≡ true)
-some_name f o P test tells = (
-  λ h. rw h.1.1 (any_true test (f h.1.0) h.0 (among _ h.0 h.1.2) ((tells h.0).0 h.2)),
-  from o,
-)
-  where
-    from : (o : Option Stated) → list_any test (said f o) ≡ true
-        → (n : Name) × ((s : Statement) × (o ≡ Some (Some s)) × Contains (f s) n) × P n
-    from (Some (Some s)) on =
-        let n = some_passes test (f s) on in (n.0, (s, refl, n.1), (tells n.0).1 n.2)
-    from None on = cc
-    from (Some None) on = cc
+  undefined_first : IsFirst (IsUndefined stated) (first (reads_unknown (statements stated)) stated)
+  undefined_first = is_first stated (IsUndefined stated) (reads_unknown (statements stated))
+      (λ line bad. (Some bad.1.0, bad.1.1, any_true _ (read bad.1.0) bad.0 (among _ _ bad.1.2)
+      (ap not (false_from_ne_true _ (λ on. bad.2 (in_contained _ _ on))))))
+      from
+    where
+      from : (line : ℕ) (y : Stated) → at_line stated line ≡ Some y
+          → reads_unknown (statements stated) line y ≡ true → IsUndefined stated line
+      from line None at on = cc
+      from line (Some s) at on =
+          let n = some_passes (λ n. not (is_in (names_of stated) n)) (read s) on in
+          (n.0, (s, at, n.1), λ has. both_ways _ (not-true _ n.2) (among_in _ _ (among _ _ has)))
 
-redefined_first : (stated : List Stated)
-    → IsFirst (IsRedefinition stated) (first (redefines stated) (suc (length stated)))
-redefined_first stated = is_first (IsRedefinition stated) _ _ (record {
-  within = λ line bad. at_within stated line (Some bad.2.0) bad.2.1;
-  tells = λ line. let told = some_name defined (at_line stated line)
-      (λ n. (there : ℕ) × (there < line) × Says defined stated there n)
-      (is_in (names_of (before stated line))) (λ n. let e = earlier defined stated line n in
-      (λ d. among_in _ n (e.0 d), λ on. e.1 (among _ n (in_contained _ n on)))) in (
-        λ bad. told.0 (bad.0, bad.2, (bad.1, bad.3, bad.4)),
-        λ on. let d = told.1 on in (d.0, d.2.0, d.1, d.2.1, d.2.2),
-      );
-})
+  cyclic_first : IsFirst (IsCyclic stated) (first (is_stuck (statements stated)) stated)
+  cyclic_first = is_first stated (IsCyclic stated) (is_stuck c)
+      (λ line bad. (Some (Gate bad.0 bad.1 bad.2), bad.3, stuck_left c bad.0 bad.4)) from
+    where
+      c : List Statement
+      c = statements stated
 
-undefined_first : (stated : List Stated)
-    → IsFirst (IsUndefined stated) (first (reads_unknown stated) (suc (length stated)))
-undefined_first stated = is_first (IsUndefined stated) _ _ (record {
-  within = λ line bad. at_within stated line (Some bad.1.0) bad.1.1;
-  tells = λ line. some_name read (at_line stated line) (λ n. ¬ Contains (names_of stated) n)
-      (λ n. not (is_in (names_of stated) n)) (λ n. (
-        λ new. ap not (false_from_ne_true _ (λ on. new (in_contained _ n on))),
-        λ off has. both_ways _ (not-true _ off) (among_in _ n (among _ n has)),
-      ));
-})
-
-cyclic_first : (stated : List Stated) → IsFirst (IsCyclic stated)
-    (first (λ line. is_stuck (statements stated) (at_line stated line)) (suc (length stated)))
-cyclic_first stated = is_first (IsCyclic stated) _ _ (record {
-  within = λ line bad. at_within stated line _ bad.3;
-  tells = λ line. (
-    λ bad. rw bad.3 (stuck_left c bad.0 bad.4),
-    from line (at_line stated line) refl,
-  );
-})
-  where
-    c : List Statement
-    c = statements stated
-
-    from : (line : ℕ) (o : Option Stated) → at_line stated line ≡ o → is_stuck c o ≡ true
-        → IsCyclic stated line
-    from line (Some (Some (Gate n kind args))) at on =
-        (n, kind, args, at, (is_in (stuck_names c), stuck_set c, on))
-    from line _ at on = cc
+      from : (line : ℕ) (y : Stated) → at_line stated line ≡ Some y → is_stuck c line y ≡ true
+          → IsCyclic stated line
+      from line (Some (Gate n kind args)) at on =
+          (n, kind, args, at, (is_in (stuck_names c), stuck_set c, on))
+      from line _ at on = cc
 
 -- ---- a text without a fault is well-formed
 
