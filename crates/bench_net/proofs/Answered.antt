@@ -194,31 +194,22 @@ module _ (stated : List Stated) where
           (n, kind, args, at, (is_in (stuck_names c), stuck_set c, on))
       from line _ at on = cc
 
--- ---- a text without a fault is well-formed
-
-well : (stated : List Stated) → statements stated ≢ [] → NoLine (IsRedefinition stated)
-    → NoLine (IsUndefined stated) → NoLine (IsCyclic stated) → IsWellFormed (statements stated)
-well stated some once known acyclic = record {
-  some = some;
-  once = pairs_distinct _ (once_each stated once);
-  all_defined = all_known;
-  acyclic = numbering (statements stated) free;
-}
-  where
-    all_known : (n : Name) → Contains (flat_map read (statements stated)) n
-        → Contains (names_of stated) n
-    all_known n has =
+  -- a text without a fault is well-formed
+  well : statements stated ≢ [] → NoLine (IsRedefinition stated) → NoLine (IsUndefined stated)
+      → NoLine (IsCyclic stated) → IsWellFormed (statements stated)
+  well some once known acyclic = record {
+    some = some;
+    once = pairs_distinct _ (once_each stated once);
+    all_defined = λ n has.
         let r = joined_from read (statements stated) n (among _ n has) in
         let l = stated_at stated r.0 r.1 in
         in_contained _ n (true_from_ne_false _ (λ off. known (suc l.0) (n, (r.0, l.1, contained _ n r.2),
-        λ inside. both_ways _ off (among_in _ n (among _ n inside)))))
-
-    free : (members : Name → Bool) → IsStuckSet (statements stated) members
-        → (n : Name) → ¬ IsTrue (members n)
-    free members set n inside =
+        λ inside. both_ways _ off (among_in _ n (among _ n inside)))));
+    acyclic = numbering (statements stated) (λ members set n inside.
         let a = (set n inside).1 in
         let l = stated_at stated (Gate n a.0 a.1) (among _ _ a.2) in
-        acyclic (suc l.0) (n, a.0, a.1, l.1, (members, set, inside))
+        acyclic (suc l.0) (n, a.0, a.1, l.1, (members, set, inside)));
+  }
 
 -- ---- the answers
 
@@ -235,20 +226,8 @@ late text stated None None (Some l) within once known free = (stated, within, on
 late text stated None None None within once known free =
     cond_both _ (Err Empty) (Ok (statements stated)) (IsAnswer text)
     (λ e. (stated, within, nil_from_length _ (eqb-true _ 0 e)))
-    (λ off. (stated, within, refl, well stated (λ none. eqb-false _ 0 off (ap length none)) once known free))
-
-by_limits : (text : List ℕ) (stated : List Stated) → length text ≤ max_bytes
-    → LinesState text stated → IsAnswer text (answer_stated stated)
-by_limits text stated bytes each =
-    cond_both _ _ _ (IsAnswer text) (λ e. (bytes, stated, each, ltb-true _ _ e))
-    (λ f. cond_both _ _ _ (IsAnswer text)
-    (λ e. (bytes, stated, each, ltb-false _ _ f, ltb-true _ _ e))
-    (λ e. late text stated _ _ _ (record {
-      bytes = bytes;
-      each = each;
-      signals = ltb-false _ _ f;
-      sinks = ltb-false _ _ e;
-    }) (redefined_first stated) (undefined_first stated) (cyclic_first stated)))
+    (λ off. (stated, within, refl,
+    well stated (λ none. eqb-false _ 0 off (ap length none)) once known free))
 
 -- lines of which none is at fault state what is read
 all_read : (ls : List (List ℕ)) → ((i : ℕ) (l : List ℕ) → slice_get ls i ≡ Some l → stated_of l ≢ None)
@@ -275,12 +254,23 @@ answered text =
     cond_both _ _ _ (IsAnswer text) (λ e. ltb-true _ _ e)
     (λ e. go (ltb-false _ _ e) _ (syntax_first text))
   where
+    stated : List Stated
+    stated = filter_map stated_of (lines text)
+
     go : length text ≤ max_bytes → (o : Option ℕ) → IsFirst (IsSyntaxFault text) o
-        → IsAnswer text (line_or Syntax o (answer_stated (filter_map stated_of (lines text))))
-    go bytes None none =
-        by_limits text _ bytes
-        (all_read (lines text) (λ i l at e. none (suc i) (unread text i l at e)))
+        → IsAnswer text (line_or Syntax o (answer_stated stated))
     go bytes (Some l) bad = (bytes, bad)
+    go bytes None none =
+        let each = all_read (lines text) (λ i l at e. none (suc i) (unread text i l at e)) in
+        cond_both _ _ _ (IsAnswer text) (λ e. (bytes, stated, each, ltb-true _ _ e))
+        (λ f. cond_both _ _ _ (IsAnswer text)
+        (λ e. (bytes, stated, each, ltb-false _ _ f, ltb-true _ _ e))
+        (λ e. late text stated _ _ _ (record {
+          bytes = bytes;
+          each = each;
+          signals = ltb-false _ _ f;
+          sinks = ltb-false _ _ e;
+        }) (redefined_first stated) (undefined_first stated) (cyclic_first stated)))
 
 pub accepted_by : (text : List ℕ) (c : List Statement) → answer_text text ≡ Ok c → IsAccepted text c
 accepted_by text c e = subst (IsAnswer text) e (answered text)
@@ -329,33 +319,33 @@ answer_is text stated within r u y once known free =
 
 exact : (text : List ℕ) (r : Result (List Statement) BenchFault) → IsAnswer text r
     → answer_text text ≡ r
-exact text (Err (TooLarge Bytes)) h = cond-true _ _ _ (lt-ltb _ _ h)
-exact text (Err (Syntax l)) h = read_answer text (Some l) h.0 h.1
-exact text (Err (TooLarge Signals)) h =
-    stated_answer text h.1 h.0 h.2 ∙ rw (lt-ltb _ (length (names_of h.1)) h.3) refl
-exact text (Err (TooLarge Sinks)) h =
-    stated_answer text h.1 h.0 h.2
-    ∙ rw (le-ltb _ (length (names_of h.1)) h.3, lt-ltb _ (sink_count (statements h.1)) h.4) refl
-exact text (Err (Redefined l)) h =
-    answer_is text h.0 h.1 (Some l) _ _ h.2 (undefined_first h.0) (cyclic_first h.0)
-exact text (Err (Undefined l)) h =
-    answer_is text h.0 h.1 None (Some l) _ h.2 h.3 (cyclic_first h.0)
-exact text (Err (Cycle l)) h = answer_is text h.0 h.1 None None (Some l) h.2 h.3 h.4
-exact text (Err Empty) h =
-    answer_is text h.0 h.1 None None None (λ l bad. none l bad.2.0 bad.2.1)
+exact text (Err (TooLarge Bytes)) past = cond-true _ _ _ (lt-ltb _ _ past)
+exact text (Err (Syntax l)) (bytes, is) = read_answer text (Some l) bytes is
+exact text (Err (TooLarge Signals)) (bytes, stated, each, past) =
+    stated_answer text stated bytes each ∙ rw (lt-ltb _ (length (names_of stated)) past) refl
+exact text (Err (TooLarge Sinks)) (bytes, stated, each, few, past) =
+    stated_answer text stated bytes each
+    ∙ rw (le-ltb _ (length (names_of stated)) few, lt-ltb _ (sink_count (statements stated)) past) refl
+exact text (Err (Redefined l)) (stated, within, is) =
+    answer_is text stated within (Some l) _ _ is (undefined_first stated) (cyclic_first stated)
+exact text (Err (Undefined l)) (stated, within, once, is) =
+    answer_is text stated within None (Some l) _ once is (cyclic_first stated)
+exact text (Err (Cycle l)) (stated, within, once, known, is) =
+    answer_is text stated within None None (Some l) once known is
+exact text (Err Empty) (stated, within, empty) =
+    let none = λ (line : ℕ) (s : Statement) (at : at_line stated line ≡ Some (Some s)).
+    subst (Among s) empty (line_among stated line s at) in
+    answer_is text stated within None None None (λ l bad. none l bad.2.0 bad.2.1)
     (λ l bad. none l bad.1.0 bad.1.1) (λ l bad. none l _ bad.3)
-    ∙ rw h.2 refl
-  where
-    none : (line : ℕ) (s : Statement) → at_line h.0 line ≡ Some (Some s) → ⊥
-    none line s at = subst (Among s) h.2 (line_among h.0 line s at)
-exact text (Err Memory) h = absurd h
-exact text (Ok c) h =
-    let well : IsWellFormed (statements h.0) = rw h.2 at h.3 in
+    ∙ rw empty refl
+exact text (Err Memory) bad = absurd bad
+exact text (Ok c) (stated, within, same, is) =
+    let well : IsWellFormed (statements stated) = rw same at is in
     let number = well.acyclic in
-    answer_is text h.0 h.1 None None None
-    (no_redefinition h.0 (distinct_from_pairs _ well.once)) (no_undefined h.0 well.all_defined)
+    answer_is text stated within None None None
+    (no_redefinition stated (distinct_from_pairs _ well.once)) (no_undefined stated well.all_defined)
     (λ l bad. none_stuck _ number.0 number.1 bad.4.0 bad.4.1 bad.0 bad.4.2)
-    ∙ cond-false _ _ _ (ne_eqb _ 0 (λ e. well.some (nil_from_length _ e))) ∙ ap Ok (sym h.2)
+    ∙ cond-false _ _ _ (ne_eqb _ 0 (λ e. well.some (nil_from_length _ e))) ∙ ap Ok (sym same)
 
 pub one_answer : (text : List ℕ) (r s : Result (List Statement) BenchFault)
     → IsAnswer text r → IsAnswer text s → r ≡ s
