@@ -146,12 +146,8 @@ is_first {Y} ys F test to from = all (first test ys) (go (suc (length ys)))
 
 syntax_first : (text : List ℕ) → IsFirst (IsSyntaxFault text) (first is_unread (lines text))
 syntax_first text = is_first (lines text) (IsSyntaxFault text) is_unread
-    (λ line bad. (bad.0, bad.1, rw ((unstated bad.0).0 bad.2) refl))
-    (λ line bytes at on. (bytes, at, (unstated bytes).1 (nothing (stated_of bytes) on)))
-  where
-    nothing : (o : Option Stated) → is_none o ≡ true → o ≡ None
-    nothing None e = refl
-    nothing (Some s) e = cc
+    (λ line bad. (bad.0, bad.1, (unstated bad.0).0 bad.2))
+    (λ line bytes at on. (bytes, at, (unstated bytes).1 on))
 
 module _ (stated : List Stated) where
   redefined_first : IsFirst (IsRedefinition stated) (first (redefines stated) stated)

@@ -135,7 +135,7 @@ no_unread text stated front (suc k) all same bad =
 
 pub unread : (text : List ℕ) (k : ℕ) (l : List ℕ) → slice_get (lines text) k ≡ Some l
     → stated_of l ≡ None → IsSyntaxFault text (suc k)
-unread text k l at none = (l, at, (unstated l).1 none)
+unread text k l at none = (l, at, (unstated l).1 (rw none refl))
 
 pub unread_lowest : (text : List ℕ) (k : ℕ) (l : List ℕ) (stated : List Stated)
     → slice_get (lines text) k ≡ Some l → stated_of l ≡ None

@@ -1,12 +1,10 @@
 //! The statement of one line.
 
-ghost use Rattle.std.specs.Prelude.{◌≡◌, List, ◌∷◌, length};
-ghost use Rattle.std.specs.Prelude.{option_map, option_and_then};
+ghost use Rattle.std.specs.Prelude.{◌≡◌, List, ◌∷◌, length, option_map, option_and_then};
 ghost use Rattle.std.specs.Str.{str_eq_ignore_ascii_case};
 ghost use Rattle.bench_net.specs.Text.{Word, Equals};
 ghost use Rattle.bench_net.specs.Statement.{Name};
-ghost use Rattle.bench_net.specs.reader.Plain.{tokens_of, kind_of, has_arity, port, driven_by};
-ghost use Rattle.bench_net.specs.reader.Plain.{read_tokens, stated_of};
+ghost use Rattle.bench_net.specs.reader.Plain.{tokens_of, kind_of, has_arity, port, driven_by, read_tokens, stated_of};
 ghost use Rattle.bench_net.specs.reader.Parsed.{names_of, stands_for, args_in, IsReadAs};
 
 use crate::scan::{Front, Token, next_token};

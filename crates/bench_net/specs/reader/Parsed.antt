@@ -1,6 +1,5 @@
 -- What the functions of the line reader answer.
-use Rattle.std.specs.Prelude.{◌≡◌, ◌⊎◌, ℕ, List, map, Option, Some, None}
-use Rattle.std.specs.Prelude.{option_and_then, Result, Ok, Err}
+use Rattle.std.specs.Prelude.{◌≡◌, ◌⊎◌, ℕ, List, map, Option, Some, None, option_and_then, Result, Ok, Err}
 use Rattle.std.specs.Borrow.{Bor}
 use Rattle.bench_net.specs.declared.statement.Stated.{Stated}
 use Rattle.bench_net.specs.declared.statement.Stated.TheVariants as stated

@@ -1,6 +1,5 @@
 -- The tokens and the statement of a line, computed from its front.
-use Rattle.std.specs.Prelude.{◌≡◌, ◌<◌, ℕ, Bool, false, ◌==◌, nat_le, List, [], ◌∷◌, length}
-use Rattle.std.specs.Prelude.{Option, Some, None, if◌then◌else◌, option_map, option_and_then, codes}
+use Rattle.std.specs.Prelude.{◌≡◌, ◌<◌, ℕ, Bool, false, ◌==◌, nat_le, List, [], ◌∷◌, length, Option, Some, None, if◌then◌else◌, option_map, option_and_then, codes}
 use Rattle.std.specs.List.{find}
 use Rattle.std.specs.Str.{str_eq_ignore_ascii_case}
 use Rattle.bench_net.specs.declared.Kind.{Kind}
@@ -9,8 +8,7 @@ use Rattle.bench_net.specs.declared.scan.Token.{Token as Found}
 use Rattle.bench_net.specs.declared.scan.Token.TheVariants as found
 use Rattle.bench_net.specs.declared.scan.Front.{Front}
 use Rattle.bench_net.specs.declared.scan.Front.TheVariants as front
-use Rattle.bench_net.specs.Text.{Token, Open, Close, Comma, Equals, Word}
-use Rattle.bench_net.specs.Text.{is_blank, is_mark, is_word_byte}
+use Rattle.bench_net.specs.Text.{Token, Open, Close, Comma, Equals, Word, is_blank, is_mark, is_word_byte}
 use Rattle.bench_net.specs.Statement.{Name, Statement, Input, Output, Gate, Dff}
 use Rattle.bench_net.specs.Reading.{names_kind}
 
@@ -59,9 +57,8 @@ has_arity Not args = length args == 1
 has_arity Buff args = length args == 1
 has_arity _ args = nat_le 1 (length args)
 
-abbrev pub gate_with : Name → List Name → Option Kind → Option Statement
-gate_with n args None = None
-gate_with n args (Some kind) = if has_arity kind args then Some (Gate n kind args) else None
+abbrev pub gate_with : Name → List Name → Kind → Option Statement
+gate_with n args kind = if has_arity kind args then Some (Gate n kind args) else None
 
 abbrev pub cell_with : Name → List Name → Option Statement
 cell_with q (d ∷ []) = Some (Dff q d)
@@ -70,7 +67,7 @@ cell_with q _ = None
 abbrev pub driven_by : Name → List ℕ → List Name → Option Statement
 driven_by n w args =
     if str_eq_ignore_ascii_case w (codes "DFF") then cell_with n args
-    else gate_with n args (kind_of w)
+    else option_and_then (gate_with n args) (kind_of w)
 
 abbrev pub port : List ℕ → List Name → Option Statement
 port w (n ∷ []) =
