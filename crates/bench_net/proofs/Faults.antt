@@ -33,17 +33,13 @@ names_of stated = names (statements stated)
 -- ---- places
 
 -- the lines before a place
-pub in_front : {X : Type 0} (xs : List X) (j k : ℕ) → k < j
-    → slice_get (take j xs) k ≡ slice_get xs k
-in_front xs zero k lt = absurd (omega (arith, lt))
-in_front [] (suc j) k lt = refl
-in_front (x ∷ xs) (suc j) zero lt = refl
-in_front (x ∷ xs) (suc j) (suc k) lt = in_front xs j k (omega (arith, lt))
-
 at_front : {X : Type 0} (xs : List X) (j line : ℕ) → line < suc j
     → at_line (take j xs) line ≡ at_line xs line
 at_front xs j zero lt = refl
-at_front xs j (suc k) lt = in_front xs j k (omega (arith, lt))
+at_front xs zero (suc k) lt = absurd (omega (arith, lt))
+at_front [] (suc j) (suc k) lt = refl
+at_front (x ∷ xs) (suc j) (suc zero) lt = refl
+at_front (x ∷ xs) (suc j) (suc (suc k)) lt = at_front xs j (suc k) (omega (arith, lt))
 
 -- the lines around a place
 around : {X : Type 0} (xs : List X) (i : ℕ) (x : X) → slice_get xs i ≡ Some x
@@ -53,13 +49,14 @@ around (y ∷ xs) zero x e = let same : y ≡ x = cc in ap (λ z. z ∷ xs) same
 around (y ∷ xs) (suc i) x e = ap (λ ys. y ∷ ys) (around xs i x e)
 
 -- what a line states is among the statements, and the other way round
-stated_among : (stated : List Stated) (i : ℕ) (s : Statement)
-    → slice_get stated i ≡ Some (Some s) → Among s (statements stated)
-stated_among [] i s e = let bad : None ≡ Some (Some s) = e in cc
-stated_among (None ∷ stated) zero s e = let bad : Some None ≡ Some (Some s) = e in cc
-stated_among (None ∷ stated) (suc i) s e = stated_among stated i s e
-stated_among (Some t ∷ stated) zero s e = let same : t ≡ s = cc in inl same
-stated_among (Some t ∷ stated) (suc i) s e = inr (stated_among stated i s e)
+pub line_among : (stated : List Stated) (line : ℕ) (s : Statement)
+    → at_line stated line ≡ Some (Some s) → Among s (statements stated)
+line_among stated zero s e = let bad : None ≡ Some (Some s) = e in cc
+line_among [] (suc i) s e = let bad : None ≡ Some (Some s) = e in cc
+line_among (None ∷ stated) (suc zero) s e = let bad : Some None ≡ Some (Some s) = e in cc
+line_among (None ∷ stated) (suc (suc i)) s e = line_among stated (suc i) s e
+line_among (Some t ∷ stated) (suc zero) s e = let same : t ≡ s = cc in inl same
+line_among (Some t ∷ stated) (suc (suc i)) s e = inr (line_among stated (suc i) s e)
 
 pub stated_at : (stated : List Stated) (s : Statement) → Among s (statements stated)
     → (i : ℕ) × (slice_get stated i ≡ Some (Some s))
@@ -67,11 +64,6 @@ stated_at [] s a = absurd a
 stated_at (None ∷ stated) s a = let f = stated_at stated s a in (suc f.0, f.1)
 stated_at (Some t ∷ stated) s (inl e) = (0, ap (λ x. Some (Some x)) e)
 stated_at (Some t ∷ stated) s (inr a) = let f = stated_at stated s a in (suc f.0, f.1)
-
-pub line_among : (stated : List Stated) (line : ℕ) (s : Statement)
-    → at_line stated line ≡ Some (Some s) → Among s (statements stated)
-line_among stated zero s e = let bad : None ≡ Some (Some s) = e in cc
-line_among stated (suc i) s e = stated_among stated i s e
 
 -- ---- what lines spell: a defined name is a word, so it is UTF-8, and a gate has its kind's arity
 
@@ -167,8 +159,8 @@ earlier f stated (suc j) n = (
   λ a. let t = joined_from f (statements (take j stated)) n a in
       let k = stated_at (take j stated) t.0 t.1 in
       let below = slice_get_within (take j stated) k.0 (Some t.0) k.1 in
-      let lt : k.0 < j = omega (arith, below, length-take j stated) in
-      (suc k.0, omega (arith, lt), (t.0, sym (in_front stated j k.0 lt) ∙ k.1, contained _ n t.2)),
+      let lt : suc k.0 < suc j = omega (arith, below, length-take j stated) in
+      (suc k.0, lt, (t.0, sym (at_front stated j (suc k.0) lt) ∙ k.1, contained _ n t.2)),
 )
 
 distinct_apart : (xs ys : List Name) (n : Name)
