@@ -17,7 +17,7 @@ use Rattle.bench_net.specs.Scan.{names}
 use Rattle.bench_net.specs.Reading.{States, LinesState, statements}
 use Rattle.bench_net.specs.Circuit.{IsWellFormed, IsStuckSet, max_bytes, max_signals, max_sinks, sink_count}
 use Rattle.bench_net.specs.Refusal.{at_line, IsLowest, NoLine, IsWithin, IsSyntaxFault, IsRedefinition, IsUndefined, IsCyclic, IsAccepted, IsRefused}
-use Rattle.bench_net.specs.reader.Plain.{stated_of}
+use Rattle.bench_net.specs.reader.Parsed.{stated_of}
 use Rattle.bench_net.specs.reader.Entries.{is_in}
 use Rattle.bench_net.proofs.Reader.{sound_states, complete_states, unstated}
 use Rattle.lists.proofs.Members.{Among, among, contained, each_passes, some_passes, joined_from}

@@ -17,7 +17,7 @@ use Rattle.bench_net.specs.Reading.{States, LinesState, statements}
 use Rattle.bench_net.specs.Scan.{names}
 use Rattle.bench_net.specs.Circuit.{HaveArities}
 use Rattle.bench_net.specs.Refusal.{at_line, IsLowest, NoLine, IsSyntaxFault, Defines, IsRedefinition, IsUndefined}
-use Rattle.bench_net.specs.reader.Plain.{stated_of}
+use Rattle.bench_net.specs.reader.Parsed.{stated_of}
 use Rattle.lists.proofs.Members.{Among, among, contained, among_left, among_right, among_joined, joined_from, each_passes}
 use Rattle.lists.proofs.Distinct.{Distinct, distinct_append}
 use Rattle.bench_net.proofs.Reader.{unstated}

@@ -3,7 +3,7 @@
 ghost use Rattle.std.specs.Prelude.{◌≡◌, ◌<◌, ◌≤◌, length, take, drop};
 ghost use Rattle.std.specs.List.{prefix_len};
 ghost use Rattle.bench_net.specs.Text.{is_blank, is_word_byte};
-ghost use Rattle.bench_net.specs.reader.Plain.{IsFront, IsPlainStart};
+ghost use Rattle.bench_net.specs.reader.Parsed.{IsFront, IsPlainStart};
 
 /// A token of a line: a mark, or a word, which borrows the line.
 #[derive(Clone, Copy)]

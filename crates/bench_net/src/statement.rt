@@ -4,8 +4,7 @@ ghost use Rattle.std.specs.Prelude.{◌≡◌, List, ◌∷◌, length, option_m
 ghost use Rattle.std.specs.Str.{str_eq_ignore_ascii_case};
 ghost use Rattle.bench_net.specs.Text.{Word, Equals};
 ghost use Rattle.bench_net.specs.Statement.{Name};
-ghost use Rattle.bench_net.specs.reader.Plain.{tokens_of, kind_of, has_arity, port, driven_by, read_tokens, stated_of};
-ghost use Rattle.bench_net.specs.reader.Parsed.{names_of, stands_for, args_in, IsReadAs};
+ghost use Rattle.bench_net.specs.reader.Parsed.{tokens_of, kind_of, has_arity, port, driven_by, read_tokens, stated_of, names_of, stands_for, args_in, IsReadAs};
 
 use crate::scan::{Front, Token, next_token};
 use crate::{BenchFault, Kind};

@@ -1,8 +1,8 @@
 use Rattle.std.proofs.Common.{◌≡◌, ◌-◌, ℕ, List, length, take, drop, arith, subst, length-drop}
 use Rattle.std.proofs.lemmas.List.{take_rest}
 use Rattle.bench_net.specs.Text.{is_blank}
-use Rattle.bench_net.specs.reader.Plain.{IsFront}
-use Rattle.bench_net.proofs.Plain.{behind_blanks, parted}
+use Rattle.bench_net.specs.reader.Parsed.{IsFront}
+use Rattle.bench_net.proofs.Reader.{behind_blanks, parted}
 use Rattle.bench_net.proofs.scan.next_token.Goals as goal
 
 pub token_at-requires : goal.token_at-requires

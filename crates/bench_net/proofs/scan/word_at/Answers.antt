@@ -1,5 +1,5 @@
 use Rattle.std.proofs.Common.{◌<◌, arith}
-use Rattle.bench_net.proofs.Plain.{word_leads}
+use Rattle.bench_net.proofs.Reader.{word_leads}
 use Rattle.bench_net.proofs.scan.word_at.Goals as goal
 
 pub returns : goal.returns
