@@ -1,5 +1,4 @@
--- A plain program for the reader's answer: each text is accepted or refused, in one way, and it says
--- which.
+-- Each text is accepted or refused, in one way, and a plain program says which.
 use Rattle.std.proofs.Common.{◌≡◌, ◌<◌, ◌≤◌, ◌+◌, ℕ, zero, suc, refl, sym, ◌∙◌, ap, subst, Bool, true, false, not, List, [], ◌∷◌, length, take, arith, add-one, inl, inr, ◌⊎◌}
 use Rattle.std.specs.Prelude.{◌≢◌, if◌then◌else◌, ◌==◌, nat_lt, Contains, Option, Some, None, Result, Ok, Err, slice_get, filter_map, flat_map, is_none, IsTrue, ◌↔◌}
 use Rattle.std.specs.List.{AllZip, list_any}

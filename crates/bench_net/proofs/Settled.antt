@@ -1,5 +1,5 @@
--- Stuck sets: a numbering of names exists exactly where none but the empty one does, and so a circuit
--- has a source.
+-- Stuck sets: a numbering of names exists exactly where none but the empty one does, and so a
+-- circuit has a source.
 use Rattle.std.proofs.Common.{◌≡◌, ◌<◌, ◌≤◌, ◌+◌, ◌++◌, ℕ, zero, suc, sym, ap, subst, refl, cond, Bool, true, false, ◌&&◌, List, [], ◌∷◌, length, length-append, filter, map, arith, inl, inr, get_or}
 use Rattle.std.specs.Prelude.{IsTrue, Contains, flat_map, bytes_eq, if◌then◌else◌}
 use Rattle.std.specs.List.{list_all, list_any}
@@ -43,28 +43,17 @@ pub stuck : (c : List Statement) (ns : List Name)
     → list_all (λ n. list_any (gate_fed ns n) c) ns ≡ true → IsStuckSet c (is_in ns)
 stuck c ns e n inside =
     let at : Contains ns n = in_contained ns n inside in
-    let found =
-    some_passes (gate_fed ns n) c (each_passes (λ m. list_any (gate_fed ns m) c) ns n e at) in
-    go found.0 found.1 found.2
+    let s = some_passes (gate_fed ns n) c (each_passes (λ m. is_fed c ns m) ns n e at) in
+    go s.0 s.1 s.2
   where
     go : (s : Statement) → Contains c s → gate_fed ns n s ≡ true
         → (a : Name) × HasArgument c n a × IsTrue (is_in ns a)
     go (Gate m kind args) at passes =
         let p = and_parts (bytes_eq n m) (list_any (is_in ns) args) passes in
-        let found = some_passes (is_in ns) args p.1 in (
-          found.0,
-          (
-            kind,
-            args,
-            subst (λ x. Contains c (Gate x kind args)) (sym
-                (same_bytes n m p.0)) at,
-            found.1,
-          ),
-          found.2,
-        )
-    go (Input m) at passes = cc
-    go (Output m) at passes = cc
-    go (Dff q d) at passes = cc
+        let a = some_passes (is_in ns) args p.1 in
+        let here = subst (λ x. Contains c (Gate x kind args)) (sym (same_bytes n m p.0)) at in
+        (a.0, (kind, args, here, a.1), a.2)
+    go _ at passes = cc
 
 -- what is left after so many rounds, each of which keeps the names that are fed by what was left
 -- before, or of names that all are
@@ -135,7 +124,8 @@ rises : (c : List Statement) (n a : Name) → HasArgument c n a → (k : ℕ) (n
 rises c n a h zero ns none inside = absurd (rw none at inside)
 rises c n a h (suc k) ns none inside =
     rw (among_in ns n inside) (cond_both (is_in ns a) _ _
-    (λ r. r < suc (rank c k (filter (is_fed c ns) ns) n)) (λ on. elim (cases_Bool (list_all (is_fed c ns) ns)) [
+    (λ r. r < suc (rank c k (filter (is_fed c ns) ns) n))
+    (λ on. elim (cases_Bool (list_all (is_fed c ns) ns)) [
       | inl all ↦ absurd (rw (rw all at none) at inside)
       | inr off ↦ omega (
         arith,
@@ -187,7 +177,8 @@ some_source c is = elim (cases_lt 0 (length (sources c))) [
   | inl some ↦ omega (arith, some)
   | inr none ↦ (let number = is.well_formed.acyclic in
     let some = Contains-get_or (names c) 0 [] (some_signal c is.well_formed) in
-    absurd (none_stuck c number.0 number.1 (is_in (names c)) (all_stuck none) _ (among_in _ _ (among _ _ some))))
+    absurd (none_stuck c number.0 number.1 (is_in (names c)) (all_stuck none) _
+    (among_in _ _ (among _ _ some))))
 ]
   where
     all_stuck : length (sources c) ≤ 0 → IsStuckSet c (is_in (names c))
