@@ -198,8 +198,8 @@ module _ (stated : List Stated) where
     all_defined = λ n has.
         let r = joined_from read (statements stated) n (among _ n has) in
         let l = stated_at stated r.0 r.1 in
-        in_contained _ n (true_from_ne_false _ (λ off. known (suc l.0) (n, (r.0, l.1, contained _ n r.2),
-        λ inside. both_ways _ off (among_in _ n (among _ n inside)))));
+        in_contained _ n (true_from_ne_false _ (λ off. known (suc l.0)
+        (n, (r.0, l.1, contained _ n r.2), λ has. both_ways _ off (among_in _ n (among _ n has)))));
     acyclic = numbering (statements stated) (λ members set n inside.
         let a = (set n inside).1 in
         let l = stated_at stated (Gate n a.0 a.1) (among _ _ a.2) in
@@ -225,7 +225,8 @@ late text stated None None None within once known free =
     well stated (λ none. eqb-false _ 0 off (ap length none)) once known free))
 
 -- lines of which none is at fault state what is read
-all_read : (ls : List (List ℕ)) → ((i : ℕ) (l : List ℕ) → slice_get ls i ≡ Some l → stated_of l ≢ None)
+all_read : (ls : List (List ℕ))
+    → ((i : ℕ) (l : List ℕ) → slice_get ls i ≡ Some l → stated_of l ≢ None)
     → AllZip States ls (filter_map stated_of ls)
 all_read [] some = tt
 all_read (l ∷ ls) some = go (stated_of l) refl (all_read ls (λ i. some (suc i)))
@@ -320,7 +321,8 @@ exact text (Err (TooLarge Signals)) (bytes, stated, each, past) =
     stated_answer text stated bytes each ∙ rw (lt-ltb _ (length (names_of stated)) past) refl
 exact text (Err (TooLarge Sinks)) (bytes, stated, each, few, past) =
     stated_answer text stated bytes each
-    ∙ rw (le-ltb _ (length (names_of stated)) few, lt-ltb _ (sink_count (statements stated)) past) refl
+    ∙ rw (le-ltb _ (length (names_of stated)) few)
+    (rw (lt-ltb _ (sink_count (statements stated)) past) refl)
 exact text (Err (Redefined l)) (stated, within, is) =
     answer_is text stated within (Some l) _ _ is (undefined_first stated) (cyclic_first stated)
 exact text (Err (Undefined l)) (stated, within, once, is) =
@@ -338,8 +340,8 @@ exact text (Ok c) (stated, within, same, is) =
     let well : IsWellFormed (statements stated) = rw same at is in
     let number = well.acyclic in
     answer_is text stated within None None None
-    (no_redefinition stated (distinct_from_pairs _ well.once)) (no_undefined stated well.all_defined)
-    (λ l bad. none_stuck _ number.0 number.1 bad.4.0 bad.4.1 bad.0 bad.4.2)
+    (no_redefinition stated (distinct_from_pairs _ well.once))
+    (no_undefined stated well.all_defined) (λ l bad. none_stuck _ number.0 number.1 bad.4.0 bad.4.1 bad.0 bad.4.2)
     ∙ cond-false _ _ _ (ne_eqb _ 0 (λ e. well.some (nil_from_length _ e))) ∙ ap Ok (sym same)
 
 pub one_answer : (text : List ℕ) (r s : Result (List Statement) BenchFault)

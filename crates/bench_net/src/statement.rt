@@ -129,27 +129,6 @@ fn driven<'a>(name: &'a [u8], word: &[u8], arguments: Arguments<'a>) -> Option<S
     }
 }
 
-/// The statement of a line `name = ..`, from the bytes behind the equals sign.
-fn read_driven<'a>(
-    alloc: Global,
-    name: &'a [u8],
-    bytes: &'a [u8],
-    refusal: BenchFault,
-) -> Result<Stated<'a>, BenchFault>
-    ensures { IsReadAs refusal stands_for
-        (option_and_then (λ ts. read_tokens (Word name.now ∷ Equals ∷ ts)) (tokens_of bytes.now))
-        result }
-{
-    let Front::Token(Token::Word(word), rest) = next_token(bytes) else {
-        return Err(refusal);
-    };
-    let Front::Token(Token::Open, rest) = next_token(rest) else {
-        return Err(refusal);
-    };
-    let arguments = read_arguments(alloc, rest, refusal)?;
-    driven(name, word, arguments).ok_or(refusal)
-}
-
 /// The statement of a line that begins with this word, from the bytes behind it.
 fn read_behind<'a>(
     alloc: Global,
@@ -165,7 +144,16 @@ fn read_behind<'a>(
             let arguments = read_arguments(alloc, rest, refusal)?;
             port(word, arguments).ok_or(refusal)
         }
-        Front::Token(Token::Equals, rest) => read_driven(alloc, word, rest, refusal),
+        Front::Token(Token::Equals, rest) => {
+            let Front::Token(Token::Word(kind), rest) = next_token(rest) else {
+                return Err(refusal);
+            };
+            let Front::Token(Token::Open, rest) = next_token(rest) else {
+                return Err(refusal);
+            };
+            let arguments = read_arguments(alloc, rest, refusal)?;
+            driven(word, kind, arguments).ok_or(refusal)
+        }
         _ => Err(refusal),
     }
 }
