@@ -3,7 +3,7 @@
 ghost use Rattle.std.specs.Prelude.{◌≡◌, ◌<◌, ◌≤◌, length, take, drop};
 ghost use Rattle.std.specs.List.{prefix_len};
 ghost use Rattle.bench_net.specs.Text.{is_blank, is_word_byte};
-ghost use Rattle.bench_net.specs.reader.Parsed.{IsFront, IsPlainStart};
+ghost use Rattle.bench_net.specs.reader.Parsed.{IsFront};
 
 /// A token of a line: a mark, or a word, which borrows the line.
 #[derive(Clone, Copy)]
@@ -70,21 +70,15 @@ fn token_at<'a>(bytes: &'a [u8]) -> Front<'a>
         b')' => Front::Token(Token::Close, rest),
         b',' => Front::Token(Token::Comma, rest),
         b'=' => Front::Token(Token::Equals, rest),
-        _ => word_at(bytes),
+        _ => {
+            let len = word_len(bytes);
+            if len == 0 {
+                return Front::Bad;
+            }
+            let (word, rest) = bytes.split_at(len);
+            Front::Token(Token::Word(word), rest)
+        }
     }
-}
-
-/// The word that the bytes begin with, where they begin with a word byte.
-fn word_at<'a>(bytes: &'a [u8]) -> Front<'a>
-    requires { IsPlainStart bytes.now }
-    ensures { IsFront bytes.now result }
-{
-    let len = word_len(bytes);
-    if len == 0 {
-        return Front::Bad;
-    }
-    let (word, rest) = bytes.split_at(len);
-    Front::Token(Token::Word(word), rest)
 }
 
 /// What stands at the front of a line.

@@ -116,11 +116,6 @@ IsFront line (front.Token token rest) = Leads line (token_of token) rest.now
 IsFront line front.End = tokens_of line ≡ Some []
 IsFront line front.Bad = tokens_of line ≡ None
 
--- the bytes begin with neither a blank nor a mark nor `#`
-abbrev pub IsPlainStart : List ℕ → Type 0
-IsPlainStart [] = ⊥
-IsPlainStart (b ∷ line) = ((b == 35) ≡ false) × (is_blank b ≡ false) × (is_mark b ≡ false)
-
 -- the names that references point to
 abbrev pub names_of : List (Bor Name) → List Name
 names_of args = map (λ a. a.now) args
