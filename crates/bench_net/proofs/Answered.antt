@@ -1,6 +1,6 @@
 -- Each text is accepted or refused, in one way, and a plain program says which.
-use Rattle.std.proofs.Common.{◌≡◌, ◌<◌, ◌≤◌, ◌+◌, ℕ, zero, suc, refl, sym, ◌∙◌, ap, subst, Bool, true, false, not, List, [], ◌∷◌, length, take, arith, add-one, inl, inr, ◌⊎◌}
-use Rattle.std.specs.Prelude.{◌≢◌, if◌then◌else◌, ◌==◌, nat_lt, Contains, Option, Some, None, Result, Ok, Err, slice_get, filter_map, flat_map, is_none, IsTrue, ◌↔◌}
+use Rattle.std.proofs.Common.{◌≡◌, ◌<◌, ◌≤◌, ℕ, zero, suc, refl, sym, ◌∙◌, ap, subst, Bool, true, false, not, List, [], ◌∷◌, length, arith, inl, inr, ◌⊎◌}
+use Rattle.std.specs.Prelude.{◌≢◌, if◌then◌else◌, ◌==◌, nat_lt, Option, Some, None, Result, Ok, Err, slice_get, filter_map, is_none}
 use Rattle.std.specs.List.{AllZip, list_any}
 use Rattle.std.specs.Option.{option_or}
 use Rattle.std.proofs.lemmas.List.{nil_from_length}
@@ -11,18 +11,18 @@ use Rattle.bench_net.specs.declared.Limit.TheVariants.{Bytes, Signals, Sinks}
 use Rattle.bench_net.specs.declared.BenchFault.{BenchFault}
 use Rattle.bench_net.specs.declared.BenchFault.TheVariants.{TooLarge, Syntax, Redefined, Undefined, Cycle, Empty, Memory}
 use Rattle.bench_net.specs.Text.{lines}
-use Rattle.bench_net.specs.Statement.{Name, Statement, Input, Output, Gate, Dff, defined, read}
+use Rattle.bench_net.specs.Statement.{Name, Statement, Gate, defined, read}
 use Rattle.bench_net.specs.Scan.{names}
 use Rattle.bench_net.specs.Reading.{States, LinesState, statements}
-use Rattle.bench_net.specs.Circuit.{IsWellFormed, IsStuckSet, max_bytes, max_signals, max_sinks, sink_count}
+use Rattle.bench_net.specs.Circuit.{IsWellFormed, max_bytes, max_signals, max_sinks, sink_count}
 use Rattle.bench_net.specs.Refusal.{at_line, IsLowest, NoLine, IsWithin, IsSyntaxFault, IsRedefinition, IsUndefined, IsCyclic, IsAccepted, IsRefused}
 use Rattle.bench_net.specs.reader.Parsed.{stated_of}
 use Rattle.bench_net.specs.reader.Entries.{is_in}
 use Rattle.bench_net.proofs.Reader.{sound_states, complete_states, unstated}
-use Rattle.lists.proofs.Members.{Among, among, contained, each_passes, some_passes, joined_from}
+use Rattle.lists.proofs.Members.{Among, among, contained, some_passes, joined_from}
 use Rattle.lists.proofs.Distinct.{distinct_from_pairs}
-use Rattle.bench_net.proofs.Checked.{any_true, in_contained, among_in, some_not, pairs_distinct}
-use Rattle.bench_net.proofs.Faults.{Stated, before, names_of, stated_at, line_among, unread, no_unread, Says, earlier, no_redefinition, no_undefined, once_each}
+use Rattle.bench_net.proofs.Checked.{any_true, in_contained, among_in, pairs_distinct}
+use Rattle.bench_net.proofs.Faults.{Stated, before, names_of, stated_at, line_among, unread, no_unread, earlier, no_redefinition, no_undefined, once_each}
 use Rattle.bench_net.proofs.Settled.{stuck_names, stuck_set, stuck_left, none_stuck, numbering}
 
 -- ---- the program
@@ -151,8 +151,8 @@ syntax_first text = is_first (lines text) (IsSyntaxFault text) is_unread
 module _ (stated : List Stated) where
   redefined_first : IsFirst (IsRedefinition stated) (first (redefines stated) stated)
   redefined_first = is_first stated (IsRedefinition stated) (redefines stated)
-      (λ line bad. (Some bad.2.0, bad.2.1, any_true _ (defined bad.2.0) bad.0 (among _ _ bad.2.2)
-      (among_in _ _ ((earlier defined stated line bad.0).0 (bad.1, bad.3, bad.4)))))
+      (λ line (n, there, here, lt, says). let e = (earlier defined stated line n).0 (there, lt, says) in
+      (Some here.0, here.1, any_true _ (defined here.0) n (among _ _ here.2) (among_in _ _ e)))
       from
     where
       from : (line : ℕ) (y : Stated) → at_line stated line ≡ Some y → redefines stated line y ≡ true
@@ -165,8 +165,8 @@ module _ (stated : List Stated) where
 
   undefined_first : IsFirst (IsUndefined stated) (first (reads_unknown (statements stated)) stated)
   undefined_first = is_first stated (IsUndefined stated) (reads_unknown (statements stated))
-      (λ line bad. (Some bad.1.0, bad.1.1, any_true _ (read bad.1.0) bad.0 (among _ _ bad.1.2)
-      (ap not (false_from_ne_true _ (λ on. bad.2 (in_contained _ _ on))))))
+      (λ line (n, here, new). let e = false_from_ne_true _ (λ on. new (in_contained _ n on)) in
+      (Some here.0, here.1, any_true _ (read here.0) n (among _ _ here.2) (ap not e)))
       from
     where
       from : (line : ℕ) (y : Stated) → at_line stated line ≡ Some y
@@ -221,8 +221,8 @@ late text stated None None (Some l) within once known free = (stated, within, on
 late text stated None None None within once known free =
     cond_both _ (Err Empty) (Ok (statements stated)) (IsAnswer text)
     (λ e. (stated, within, nil_from_length _ (eqb-true _ 0 e)))
-    (λ off. (stated, within, refl,
-    well stated (λ none. eqb-false _ 0 off (ap length none)) once known free))
+    (λ off. let some = λ (none : statements stated ≡ []). eqb-false _ 0 off (ap length none) in
+    (stated, within, refl, well stated some once known free))
 
 -- lines of which none is at fault state what is read
 all_read : (ls : List (List ℕ))

@@ -16,7 +16,7 @@ use Rattle.bench_net.specs.Statement.{Name, Statement, Input, Output, Gate, Dff,
 use Rattle.bench_net.specs.Reading.{States, LinesState, statements}
 use Rattle.bench_net.specs.Scan.{names}
 use Rattle.bench_net.specs.Circuit.{HaveArities}
-use Rattle.bench_net.specs.Refusal.{at_line, IsLowest, NoLine, IsSyntaxFault, Defines, IsRedefinition, IsUndefined}
+use Rattle.bench_net.specs.Refusal.{at_line, IsLowest, NoLine, IsSyntaxFault, IsRedefinition, IsUndefined}
 use Rattle.bench_net.specs.reader.Parsed.{stated_of}
 use Rattle.lists.proofs.Members.{Among, among, contained, among_left, among_right, among_joined, joined_from, each_passes}
 use Rattle.lists.proofs.Distinct.{Distinct, distinct_append}
@@ -213,10 +213,10 @@ pub redefined_lowest : (stated : List Stated) (j : ℕ) (s : Statement) (n : Nam
     → IsLowest (IsRedefinition stated) (suc j)
 redefined_lowest stated j s n at here front once = (
   let e = (earlier defined stated (suc j) n).1 front in
-  (n, e.0, (s, at, contained _ n here), e.1, e.2),
-  λ line lt bad. no_redefinition (take j stated) once line
-  (bad.0, bad.1, in_take line bad.0 lt bad.2, bad.3,
-  in_take bad.1 bad.0 (omega (arith, lt, bad.3)) bad.4),
+      (n, e.0, (s, at, contained _ n here), e.1, e.2),
+  λ line lt (m, there, here, less, says).
+      let says = in_take there m (omega (arith, lt, less)) says in
+      no_redefinition (take j stated) once line (m, there, in_take line m lt here, less, says),
 )
   where
     in_take : (line : ℕ) (m : Name) → line < suc j → Says defined stated line m

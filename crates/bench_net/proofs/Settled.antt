@@ -1,6 +1,6 @@
 -- Stuck sets: a numbering of names exists exactly where none but the empty one does, and so a
 -- circuit has a source.
-use Rattle.std.proofs.Common.{◌≡◌, ◌<◌, ◌≤◌, ◌+◌, ◌++◌, ℕ, zero, suc, sym, ap, subst, refl, cond, Bool, true, false, ◌&&◌, List, [], ◌∷◌, length, length-append, filter, map, arith, inl, inr, get_or}
+use Rattle.std.proofs.Common.{◌≡◌, ◌<◌, ◌≤◌, ◌+◌, ℕ, zero, suc, sym, ap, subst, refl, cond, Bool, true, false, ◌&&◌, List, [], ◌∷◌, length, length-append, filter, map, arith, inl, inr, get_or}
 use Rattle.std.specs.Prelude.{IsTrue, Contains, flat_map, bytes_eq, if◌then◌else◌}
 use Rattle.std.specs.List.{list_all, list_any}
 use Rattle.std.proofs.lemmas.Bool.{and_parts, and_from, cond_both, cases_Bool, cases_lt}
@@ -176,9 +176,9 @@ pub some_source : (c : List Statement) → IsCircuit c → 1 ≤ length (sources
 some_source c is = elim (cases_lt 0 (length (sources c))) [
   | inl some ↦ omega (arith, some)
   | inr none ↦ (let number = is.well_formed.acyclic in
-    let some = Contains-get_or (names c) 0 [] (some_signal c is.well_formed) in
-    absurd (none_stuck c number.0 number.1 (is_in (names c)) (all_stuck none) _
-    (among_in _ _ (among _ _ some))))
+      let some = Contains-get_or (names c) 0 [] (some_signal c is.well_formed) in
+      absurd (none_stuck c number.0 number.1 (is_in (names c)) (all_stuck none) _
+      (among_in _ _ (among _ _ some))))
 ]
   where
     all_stuck : length (sources c) ≤ 0 → IsStuckSet c (is_in (names c))
