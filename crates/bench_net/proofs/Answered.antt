@@ -151,7 +151,7 @@ syntax_first text = is_first (lines text) (IsSyntaxFault text) is_unread
 module _ (stated : List Stated) where
   redefined_first : IsFirst (IsRedefinition stated) (first (redefines stated) stated)
   redefined_first = is_first stated (IsRedefinition stated) (redefines stated)
-      (λ line (n, there, here, lt, says). let e = (earlier defined stated line n).0 (there, lt, says) in
+      (λ line (n, i, here, lt, says). let e = (earlier defined stated line n).0 (i, lt, says) in
       (Some here.0, here.1, any_true _ (defined here.0) n (among _ _ here.2) (among_in _ _ e)))
       from
     where
@@ -341,7 +341,8 @@ exact text (Ok c) (stated, within, same, is) =
     let number = well.acyclic in
     answer_is text stated within None None None
     (no_redefinition stated (distinct_from_pairs _ well.once))
-    (no_undefined stated well.all_defined) (λ l bad. none_stuck _ number.0 number.1 bad.4.0 bad.4.1 bad.0 bad.4.2)
+    (no_undefined stated well.all_defined)
+    (λ l bad. none_stuck _ number.0 number.1 bad.4.0 bad.4.1 bad.0 bad.4.2)
     ∙ cond-false _ _ _ (ne_eqb _ 0 (λ e. well.some (nil_from_length _ e))) ∙ ap Ok (sym same)
 
 pub one_answer : (text : List ℕ) (r s : Result (List Statement) BenchFault)

@@ -1,5 +1,5 @@
--- The tokens and the statement of a line, computed from its front, and what the functions of the line
--- reader answer.
+-- The tokens and the statement of a line, computed from its front, and what the functions that
+-- read lines answer.
 use Rattle.std.specs.Prelude.{◌≡◌, ◌⊎◌, ◌<◌, ℕ, Bool, false, ◌==◌, nat_le, List, [], ◌∷◌, length, map, Option, Some, None, if◌then◌else◌, option_map, option_and_then, codes, Result, Ok, Err}
 use Rattle.std.specs.List.{find}
 use Rattle.std.specs.Str.{str_eq_ignore_ascii_case}
