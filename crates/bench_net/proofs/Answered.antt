@@ -1,26 +1,90 @@
--- Each text is accepted or refused, in one way, and the plain reader answers which.
-use Rattle.std.proofs.Common.{◌≡◌, ◌<◌, ◌≤◌, ◌+◌, ℕ, zero, suc, refl, sym, ◌∙◌, ap, subst, Bool, true, false, not, List, [], ◌∷◌, length, take, arith, add-one, inl, inr, ◌⊎◌}
-use Rattle.std.specs.Prelude.{◌≢◌, Contains, Option, Some, None, Result, Ok, Err, slice_get, filter_map, flat_map, is_none, IsTrue, ◌↔◌}
-use Rattle.std.specs.List.{AllZip}
-use Rattle.std.proofs.lemmas.Bool.{both_ways, cond_both, cond-true, cond-false, ltb-true, ltb-false, lt-ltb, le-ltb, not-true, true_from_ne_false, false_from_ne_true}
+-- Each text is accepted or refused, in one way, and a plain program says which.
+use Rattle.std.proofs.Common.{◌≡◌, ◌<◌, ◌≤◌, ℕ, zero, suc, refl, sym, ◌∙◌, ap, subst, Bool, true, false, not, List, [], ◌∷◌, length, arith, inl, inr, ◌⊎◌}
+use Rattle.std.specs.Prelude.{◌≢◌, if◌then◌else◌, ◌==◌, nat_lt, Option, Some, None, Result, Ok, Err, slice_get, filter_map, is_none}
+use Rattle.std.specs.List.{AllZip, list_any}
+use Rattle.std.specs.Option.{option_or}
+use Rattle.std.proofs.lemmas.List.{nil_from_length}
+use Rattle.std.proofs.lemmas.Bool.{eqb-true, eqb-false, ne_eqb, both_ways, cond_both, cond-true, cond-false, ltb-true, ltb-false, lt-ltb, le-ltb, not-true, true_from_ne_false, false_from_ne_true}
 use Rattle.std.proofs.lemmas.Option.{slice_get_within}
 use borrow.Author.Count.{below_more}
 use Rattle.bench_net.specs.declared.Limit.TheVariants.{Bytes, Signals, Sinks}
 use Rattle.bench_net.specs.declared.BenchFault.{BenchFault}
 use Rattle.bench_net.specs.declared.BenchFault.TheVariants.{TooLarge, Syntax, Redefined, Undefined, Cycle, Empty, Memory}
 use Rattle.bench_net.specs.Text.{lines}
-use Rattle.bench_net.specs.Statement.{Name, Statement, Input, Output, Gate, Dff, defined, read}
+use Rattle.bench_net.specs.Statement.{Name, Statement, Gate, defined, read}
+use Rattle.bench_net.specs.Scan.{names}
 use Rattle.bench_net.specs.Reading.{States, LinesState, statements}
-use Rattle.bench_net.specs.Circuit.{IsWellFormed, IsStuckSet, max_bytes, max_signals, max_sinks, sink_count}
+use Rattle.bench_net.specs.Circuit.{IsWellFormed, max_bytes, max_signals, max_sinks, sink_count}
 use Rattle.bench_net.specs.Refusal.{at_line, IsLowest, NoLine, IsWithin, IsSyntaxFault, IsRedefinition, IsUndefined, IsCyclic, IsAccepted, IsRefused}
-use Rattle.bench_net.specs.reader.Plain.{stated_of}
-use Rattle.bench_net.proofs.Reader.{sound_states, complete_states}
-use Rattle.lists.proofs.Members.{Among, among, contained, each_passes, some_passes, joined_from}
+use Rattle.bench_net.specs.reader.Parsed.{stated_of}
+use Rattle.bench_net.specs.reader.Entries.{is_in}
+use Rattle.bench_net.proofs.Reader.{sound_states, complete_states, unstated}
+use Rattle.lists.proofs.Members.{Among, among, contained, some_passes, joined_from}
 use Rattle.lists.proofs.Distinct.{distinct_from_pairs}
-use Rattle.bench_net.proofs.Answer.{is_in, stuck_names, told, first_from, first, of_statement, is_unread, redefines, reads_unknown, is_stuck, line_or, statements_or, answer_by, answer_stated, answer_text}
-use Rattle.bench_net.proofs.Checked.{any_true, in_contained, among_in, some_not, pairs_distinct}
-use Rattle.bench_net.proofs.Faults.{Stated, names_of, stated_at, line_among, unread, no_unread, redefinition, earlier_named, no_redefinition, no_undefined, once_each}
-use Rattle.bench_net.proofs.Settled.{stuck_set, stuck_left, none_stuck, numbering}
+use Rattle.bench_net.proofs.Checked.{any_true, in_contained, among_in, pairs_distinct}
+use Rattle.bench_net.proofs.Faults.{Stated, before, names_of, stated_at, line_among, unread, no_unread, earlier, no_redefinition, no_undefined, once_each}
+use Rattle.bench_net.proofs.Settled.{stuck_names, stuck_set, stuck_left, none_stuck, numbering}
+
+-- ---- the program
+
+-- the first line that passes a test of its number and of what stands there
+abbrev pub passes : {Y : Type 0} → (Y → Bool) → Option Y → Bool
+passes test None = false
+passes test (Some y) = test y
+
+abbrev pub first_below : (ℕ → Bool) → ℕ → Option ℕ
+first_below test zero = None
+first_below test (suc line) =
+    option_or (first_below test line) (if test line then Some line else None)
+
+abbrev pub first : {Y : Type 0} → (ℕ → Y → Bool) → List Y → Option ℕ
+first test ys = first_below (λ line. passes (test line) (at_line ys line)) (suc (length ys))
+
+-- the names that f gives for what a line states
+abbrev pub said : (Statement → List Name) → Stated → List Name
+said f None = []
+said f (Some s) = f s
+
+-- the faults of lines
+abbrev pub is_unread : ℕ → List ℕ → Bool
+is_unread line bytes = is_none (stated_of bytes)
+
+abbrev pub redefines : List Stated → ℕ → Stated → Bool
+redefines stated line y = list_any (is_in (names_of (before stated line))) (said defined y)
+
+abbrev pub reads_unknown : List Statement → ℕ → Stated → Bool
+reads_unknown c line y = list_any (λ n. not (is_in (names c) n)) (said read y)
+
+abbrev pub is_stuck : List Statement → ℕ → Stated → Bool
+is_stuck c line (Some (Gate n kind args)) = is_in (stuck_names c) n
+is_stuck c line _ = false
+
+abbrev pub line_or : (ℕ → BenchFault) → Option ℕ → Result (List Statement) BenchFault
+    → Result (List Statement) BenchFault
+line_or fault None later = later
+line_or fault (Some line) later = Err (fault line)
+
+-- the answer past the limits, from the first line with each fault
+abbrev pub answer_by : Option ℕ → Option ℕ → Option ℕ → List Statement
+    → Result (List Statement) BenchFault
+answer_by r u y c =
+    line_or Redefined r (line_or Undefined u (line_or Cycle y
+    (if length c == 0 then Err Empty else Ok c)))
+
+abbrev pub answer_stated : List Stated → Result (List Statement) BenchFault
+answer_stated stated =
+    let c = statements stated in
+    if nat_lt max_signals (length (names c)) then Err (TooLarge Signals)
+    else if nat_lt max_sinks (sink_count c) then Err (TooLarge Sinks)
+    else answer_by (first (redefines stated) stated) (first (reads_unknown c) stated)
+    (first (is_stuck c) stated) c
+
+-- the reader's answer to a text
+abbrev pub answer_text : List ℕ → Result (List Statement) BenchFault
+answer_text text =
+    let ls = lines text in
+    if nat_lt max_bytes (length text) then Err (TooLarge Bytes)
+    else line_or Syntax (first is_unread ls) (answer_stated (filter_map stated_of ls))
 
 -- ---- the first line with a fault
 
@@ -38,155 +102,109 @@ first_one F (Some k) (Some l) a b =
     let not_more : l < k → ⊥ = λ h. a.1 l h b.0 in
     ap Some (omega arith)
 
--- a line has the fault exactly where it passes the test
-record Tells {X : Type 0} (test : List X → X → Bool) (xs : List X) (F : ℕ → Type 0) : Type 0 where
-  none_first : ¬ F 0
-  tells : (i : ℕ) → F (suc i) ↔ (told test (take i xs) (slice_get xs i) ≡ true)
-
-is_first : {X : Type 0} (test : List X → X → Bool) (xs : List X) (F : ℕ → Type 0)
-    → Tells test xs F → IsFirst F (first test xs)
-is_first {X} test xs F by =
-    go (length xs) 0 (omega arith)
-    (below_more (λ k. ¬ F k) 0 (λ k lt. absurd (omega (arith, lt))) by.none_first)
+-- where the lines that have the fault are those that pass
+is_first : {Y : Type 0} (ys : List Y) (F : ℕ → Type 0) (test : ℕ → Y → Bool)
+    → ((line : ℕ) → F line → (y : Y) × (at_line ys line ≡ Some y) × (test line y ≡ true))
+    → ((line : ℕ) (y : Y) → at_line ys line ≡ Some y → test line y ≡ true → F line)
+    → IsFirst F (first test ys)
+is_first {Y} ys F test to from = all (first test ys) (go (suc (length ys)))
   where
-    passes : ℕ → Bool
-    passes k = told test (take k xs) (slice_get xs k)
+    tested : ℕ → Bool
+    tested line = passes (test line) (at_line ys line)
 
-    within : (k : ℕ) (o : Option X) → slice_get xs k ≡ o → told test (take k xs) o ≡ true
-        → k < length xs
-    within k None at e = cc
-    within k (Some x) at e = slice_get_within xs k x at
+    found : (line : ℕ) (o : Option Y) → at_line ys line ≡ o → passes (test line) o ≡ true → F line
+    found line None at on = cc
+    found line (Some y) at on = from line y at on
 
-    go : (n i : ℕ) → n + i ≡ length xs → ((line : ℕ) → line < i + 1 → ¬ F line)
-        → IsFirst F (first_from test xs i n)
-    go zero i e below = none
-      where
-        none : NoLine F
-        none zero f = by.none_first f
-        none (suc k) f =
-            let inside = within k (slice_get xs k) refl ((by.tells k).0 f) in
-            below (suc k) (omega (arith, e, inside)) f
-    go (suc n) i e below =
-        cond_both (told test (take i xs) (slice_get xs i)) _ _ (IsFirst F)
-        (λ on. ((by.tells i).1 on, λ line lt. below line (omega (arith, lt))))
-        (λ off. go n (suc i) (omega (arith, e)) (λ line lt. below_more (λ k. ¬ F k) (i + 1) below
-        (rw add-one (λ f. both_ways _ off ((by.tells i).0 f))) line (omega (arith, lt))))
+    Below : ℕ → Option ℕ → Type 0
+    Below n None = (line : ℕ) → line < n → ¬ F line
+    Below n (Some line) = IsLowest F line
+
+    more : (n : ℕ) (o : Option ℕ) → Below n o
+        → Below (suc n) (option_or o (if tested n then Some n else None))
+    more n (Some line) is = is
+    more n None none =
+        cond_both (tested n) (Some n) None (Below (suc n))
+        (λ on. (found n (at_line ys n) refl on, none))
+        (λ off line lt. below_more (λ k. ¬ F k) n none
+        (λ f. let t = to n f in both_ways _ off (rw t.1 t.2)) line (omega (arith, lt)))
+
+    go : (n : ℕ) → Below n (first_below tested n)
+    go zero = λ line lt. absurd (omega (arith, lt))
+    go (suc n) = more n (first_below tested n) (go n)
+
+    within : (line : ℕ) (y : Y) → at_line ys line ≡ Some y → line < suc (length ys)
+    within zero y at = omega arith
+    within (suc i) y at = omega (arith, slice_get_within ys i y at)
+
+    all : (o : Option ℕ) → Below (suc (length ys)) o → IsFirst F o
+    all None none = λ line f. let t = to line f in none line (within line t.0 t.1) f
+    all (Some line) is = is
 
 -- ---- the four faults
 
 syntax_first : (text : List ℕ) → IsFirst (IsSyntaxFault text) (first is_unread (lines text))
-syntax_first text = is_first is_unread (lines text) (IsSyntaxFault text) (record {
-  none_first = λ bad. let none : None ≡ Some bad.0 = bad.1 in cc;
-  tells = λ i. (
-    λ bad. rw bad.1 (to (stated_of bad.0) (λ s e. bad.2 s (sound_states bad.0 s e))),
-    from i (slice_get (lines text) i) refl,
-  );
-})
-  where
-    to : (o : Option Stated) → ((s : Stated) → o ≡ Some s → ⊥) → is_none o ≡ true
-    to None some = refl
-    to (Some s) some = absurd (some s refl)
+syntax_first text = is_first (lines text) (IsSyntaxFault text) is_unread
+    (λ line bad. (bad.0, bad.1, (unstated bad.0).0 bad.2))
+    (λ line bytes at on. (bytes, at, (unstated bytes).1 on))
 
-    nothing : (o : Option Stated) → is_none o ≡ true → o ≡ None
-    nothing None e = refl
-    nothing (Some s) e = cc
+module _ (stated : List Stated) where
+  redefined_first : IsFirst (IsRedefinition stated) (first (redefines stated) stated)
+  redefined_first = is_first stated (IsRedefinition stated) (redefines stated)
+      (λ line (n, i, here, lt, says). let e = (earlier defined stated line n).0 (i, lt, says) in
+      (Some here.0, here.1, any_true _ (defined here.0) n (among _ _ here.2) (among_in _ _ e)))
+      from
+    where
+      from : (line : ℕ) (y : Stated) → at_line stated line ≡ Some y → redefines stated line y ≡ true
+          → IsRedefinition stated line
+      from line None at on = cc
+      from line (Some s) at on =
+          let n = some_passes (is_in (names_of (before stated line))) (defined s) on in
+          let e = (earlier defined stated line n.0).1 (among _ _ (in_contained _ _ n.2)) in
+          (n.0, e.0, (s, at, n.1), e.1, e.2)
 
-    from : (i : ℕ) (o : Option (List ℕ)) → slice_get (lines text) i ≡ o
-        → told is_unread (take i (lines text)) o ≡ true → IsSyntaxFault text (suc i)
-    from i None at on = cc
-    from i (Some l) at on = unread text i l at (nothing (stated_of l) on)
+  undefined_first : IsFirst (IsUndefined stated) (first (reads_unknown (statements stated)) stated)
+  undefined_first = is_first stated (IsUndefined stated) (reads_unknown (statements stated))
+      (λ line (n, here, new). let e = false_from_ne_true _ (λ on. new (in_contained _ n on)) in
+      (Some here.0, here.1, any_true _ (read here.0) n (among _ _ here.2) (ap not e)))
+      from
+    where
+      from : (line : ℕ) (y : Stated) → at_line stated line ≡ Some y
+          → reads_unknown (statements stated) line y ≡ true → IsUndefined stated line
+      from line None at on = cc
+      from line (Some s) at on =
+          let n = some_passes (λ n. not (is_in (names_of stated) n)) (read s) on in
+          (n.0, (s, at, n.1), λ has. both_ways _ (not-true _ n.2) (among_in _ _ (among _ _ has)))
 
--- the statement of a line that passes
-tested : (test : List Stated → Statement → Bool) (before : List Stated) (o : Option Stated)
-    → told (of_statement test) before o ≡ true
-    → (s : Statement) × (o ≡ Some (Some s)) × (test before s ≡ true)
-tested test before None e = cc
-tested test before (Some None) e = cc
-tested test before (Some (Some s)) e = (s, refl, e)
+  cyclic_first : IsFirst (IsCyclic stated) (first (is_stuck (statements stated)) stated)
+  cyclic_first = is_first stated (IsCyclic stated) (is_stuck c)
+      (λ line bad. (Some (Gate bad.0 bad.1 bad.2), bad.3, stuck_left c bad.0 bad.4)) from
+    where
+      c : List Statement
+      c = statements stated
 
-redefined_first : (stated : List Stated)
-    → IsFirst (IsRedefinition stated) (first (of_statement redefines) stated)
-redefined_first stated = is_first (of_statement redefines) stated (IsRedefinition stated) (record {
-  none_first = λ bad. let none : None ≡ Some (Some bad.2.0) = bad.2.1 in cc;
-  tells = λ i. (
-    λ bad. rw bad.2.1 (any_true (is_in (names_of (take i stated))) (defined bad.2.0) bad.0
-        (among _ bad.0 bad.2.2)
-        (among_in _ bad.0 (earlier_named stated i bad.1 bad.0 bad.3 bad.4))),
-    λ on. let t = tested redefines (take i stated) (slice_get stated i) on in
-        let n = some_passes (is_in (names_of (take i stated))) (defined t.0) t.2 in
-        redefinition stated i t.0 n.0 t.1 (among _ n.0 n.1) (among _ n.0 (in_contained _ n.0 n.2)),
-  );
-})
+      from : (line : ℕ) (y : Stated) → at_line stated line ≡ Some y → is_stuck c line y ≡ true
+          → IsCyclic stated line
+      from line (Some (Gate n kind args)) at on =
+          (n, kind, args, at, (is_in (stuck_names c), stuck_set c, on))
+      from line _ at on = cc
 
-undefined_first : (stated : List Stated)
-    → IsFirst (IsUndefined stated) (first (of_statement (reads_unknown (statements stated))) stated)
-undefined_first stated = is_first (of_statement unknown) stated (IsUndefined stated) (record {
-  none_first = λ bad. let none : None ≡ Some (Some bad.1.0) = bad.1.1 in cc;
-  tells = λ i. (
-    λ bad. let known = each_passes (is_in (names_of stated)) (read bad.1.0) bad.0 in
-        rw bad.1.1 (ap not
-        (false_from_ne_true _ (λ all. bad.2 (in_contained _ _ (known all bad.1.2))))),
-    λ on. let t = tested unknown (take i stated) (slice_get stated i) on in
-        let n = some_not (is_in (names_of stated)) (read t.0) (not-true _ t.2) in (
-          n.0,
-          (t.0, t.1, contained _ n.0 n.1),
-          λ has. both_ways _ n.2 (among_in _ n.0 (among _ n.0 has)),
-        ),
-  );
-})
-  where
-    unknown : List Stated → Statement → Bool
-    unknown = reads_unknown (statements stated)
-
-cyclic_first : (stated : List Stated)
-    → IsFirst (IsCyclic stated) (first (of_statement (is_stuck (statements stated))) stated)
-cyclic_first stated = is_first (of_statement (is_stuck c)) stated (IsCyclic stated) (record {
-  none_first = λ bad. let none : None ≡ Some (Some (Gate bad.0 bad.1 bad.2)) = bad.3 in cc;
-  tells = λ i. (
-    λ bad. rw bad.3 (stuck_left c bad.0 bad.4),
-    λ on. let t = tested (is_stuck c) (take i stated) (slice_get stated i) on in from i t.0 t.1 t.2,
-  );
-})
-  where
-    c : List Statement
-    c = statements stated
-
-    from : (i : ℕ) (s : Statement) → slice_get stated i ≡ Some (Some s)
-        → is_stuck c (take i stated) s ≡ true → IsCyclic stated (suc i)
-    from i (Input n) at on = cc
-    from i (Output n) at on = cc
-    from i (Dff q d) at on = cc
-    from i (Gate n kind args) at on = (n, kind, args, at, (is_in (stuck_names c), stuck_set c, on))
-
--- ---- a text without a fault is well-formed
-
-well : (stated : List Stated) → statements stated ≢ [] → NoLine (IsRedefinition stated)
-    → NoLine (IsUndefined stated) → NoLine (IsCyclic stated) → IsWellFormed (statements stated)
-well stated some once known acyclic = record {
-  some = some;
-  once = pairs_distinct _ (once_each stated once);
-  all_defined = all_known;
-  acyclic = numbering (statements stated) free;
-}
-  where
-    all_known : (n : Name) → Contains (flat_map read (statements stated)) n
-        → Contains (names_of stated) n
-    all_known n has =
+  -- a text without a fault is well-formed
+  well : statements stated ≢ [] → NoLine (IsRedefinition stated) → NoLine (IsUndefined stated)
+      → NoLine (IsCyclic stated) → IsWellFormed (statements stated)
+  well some once known acyclic = record {
+    some = some;
+    once = pairs_distinct _ (once_each stated once);
+    all_defined = λ n has.
         let r = joined_from read (statements stated) n (among _ n has) in
         let l = stated_at stated r.0 r.1 in
-        let on : is_in (names_of stated) n ≡ false → ⊥ = λ off. known (suc l.0) (
-          n,
-          (r.0, l.1, contained _ n r.2),
-          λ inside. both_ways _ off (among_in _ n (among _ n inside)),
-        ) in
-        in_contained _ n (true_from_ne_false _ on)
-
-    free : (members : Name → Bool) → IsStuckSet (statements stated) members
-        → (n : Name) → ¬ IsTrue (members n)
-    free members set n inside =
+        in_contained _ n (true_from_ne_false _ (λ off. known (suc l.0)
+        (n, (r.0, l.1, contained _ n r.2), λ has. both_ways _ off (among_in _ n (among _ n has)))));
+    acyclic = numbering (statements stated) (λ members set n inside.
         let a = (set n inside).1 in
         let l = stated_at stated (Gate n a.0 a.1) (among _ _ a.2) in
-        acyclic (suc l.0) (n, a.0, a.1, l.1, (members, set, inside))
+        acyclic (suc l.0) (n, a.0, a.1, l.1, (members, set, inside)));
+  }
 
 -- ---- the answers
 
@@ -196,42 +214,26 @@ IsAnswer text (Err fault) = IsRefused text fault
 
 late : (text : List ℕ) (stated : List Stated) (r u y : Option ℕ) → IsWithin text stated
     → IsFirst (IsRedefinition stated) r → IsFirst (IsUndefined stated) u
-    → IsFirst (IsCyclic stated) y → (c : List Statement) → c ≡ statements stated
-    → IsAnswer text (answer_by r u y c)
-late text stated (Some l) u y within once known free c e = (stated, within, once)
-late text stated None (Some l) y within once known free c e = (stated, within, once, known)
-late text stated None None (Some l) within once known free c e =
-    (stated, within, once, known, free)
-late text stated None None None within once known free [] e = (stated, within, sym e)
-late text stated None None None within once known free (s ∷ c) e =
-    let some : statements stated ≢ [] = λ none. let bad : s ∷ c ≡ [] = e ∙ none in cc in
-    (stated, within, e, rw e (well stated some once known free))
-
-by_limits : (text : List ℕ) (stated : List Stated) → length text ≤ max_bytes
-    → LinesState text stated → IsAnswer text (answer_stated stated)
-by_limits text stated bytes each =
-    cond_both _ _ _ (IsAnswer text) (λ e. (bytes, stated, each, ltb-true _ _ e))
-    (λ f. cond_both _ _ _ (IsAnswer text)
-    (λ e. (bytes, stated, each, ltb-false _ _ f, ltb-true _ _ e))
-    (λ e. late text stated _ _ _ (within (ltb-false _ _ f) (ltb-false _ _ e))
-    (redefined_first stated) (undefined_first stated) (cyclic_first stated) _ refl))
-  where
-    within : length (names_of stated) ≤ max_signals → sink_count (statements stated) ≤ max_sinks
-        → IsWithin text stated
-    within signals sinks = record { bytes = bytes; each = each; signals = signals; sinks = sinks }
+    → IsFirst (IsCyclic stated) y → IsAnswer text (answer_by r u y (statements stated))
+late text stated (Some l) u y within once known free = (stated, within, once)
+late text stated None (Some l) y within once known free = (stated, within, once, known)
+late text stated None None (Some l) within once known free = (stated, within, once, known, free)
+late text stated None None None within once known free =
+    cond_both _ (Err Empty) (Ok (statements stated)) (IsAnswer text)
+    (λ e. (stated, within, nil_from_length _ (eqb-true _ 0 e)))
+    (λ off. let some = λ (none : statements stated ≡ []). eqb-false _ 0 off (ap length none) in
+    (stated, within, refl, well stated some once known free))
 
 -- lines of which none is at fault state what is read
 all_read : (ls : List (List ℕ))
-    → ((i : ℕ) (l : List ℕ) → slice_get ls i ≡ Some l → ¬ ((s : Stated) → ¬ States l s))
+    → ((i : ℕ) (l : List ℕ) → slice_get ls i ≡ Some l → stated_of l ≢ None)
     → AllZip States ls (filter_map stated_of ls)
 all_read [] some = tt
 all_read (l ∷ ls) some = go (stated_of l) refl (all_read ls (λ i. some (suc i)))
   where
     go : (o : Option Stated) → stated_of l ≡ o → AllZip States ls (filter_map stated_of ls)
         → AllZip States (l ∷ ls) (filter_map stated_of (l ∷ ls))
-    go None e more =
-        absurd (some 0 l refl
-        (λ s h. let bad : None ≡ Some s = sym e ∙ complete_states l s h in cc))
+    go None e more = absurd (some 0 l refl e)
     go (Some s) e more = rw e (sound_states l s e, more)
 
 read_all : (ls : List (List ℕ)) (stated : List Stated) → AllZip States ls stated
@@ -246,13 +248,25 @@ read_all (l ∷ ls) (s ∷ stated) all =
 answered : (text : List ℕ) → IsAnswer text (answer_text text)
 answered text =
     cond_both _ _ _ (IsAnswer text) (λ e. ltb-true _ _ e)
-    (λ e. go (ltb-false _ _ e) (first is_unread (lines text)) (syntax_first text))
+    (λ e. go (ltb-false _ _ e) _ (syntax_first text))
   where
+    stated : List Stated
+    stated = filter_map stated_of (lines text)
+
     go : length text ≤ max_bytes → (o : Option ℕ) → IsFirst (IsSyntaxFault text) o
-        → IsAnswer text (line_or Syntax o (answer_stated (filter_map stated_of (lines text))))
-    go bytes None none =
-        by_limits text _ bytes (all_read (lines text) (λ i l at bad. none (suc i) (l, at, bad)))
+        → IsAnswer text (line_or Syntax o (answer_stated stated))
     go bytes (Some l) bad = (bytes, bad)
+    go bytes None none =
+        let each = all_read (lines text) (λ i l at e. none (suc i) (unread text i l at e)) in
+        cond_both _ _ _ (IsAnswer text) (λ e. (bytes, stated, each, ltb-true _ _ e))
+        (λ f. cond_both _ _ _ (IsAnswer text)
+        (λ e. (bytes, stated, each, ltb-false _ _ f, ltb-true _ _ e))
+        (λ e. late text stated _ _ _ (record {
+          bytes = bytes;
+          each = each;
+          signals = ltb-false _ _ f;
+          sinks = ltb-false _ _ e;
+        }) (redefined_first stated) (undefined_first stated) (cyclic_first stated)))
 
 pub accepted_by : (text : List ℕ) (c : List Statement) → answer_text text ≡ Ok c → IsAccepted text c
 accepted_by text c e = subst (IsAnswer text) e (answered text)
@@ -301,39 +315,35 @@ answer_is text stated within r u y once known free =
 
 exact : (text : List ℕ) (r : Result (List Statement) BenchFault) → IsAnswer text r
     → answer_text text ≡ r
-exact text (Err (TooLarge Bytes)) h = cond-true _ _ _ (lt-ltb _ _ h)
-exact text (Err (Syntax l)) h = read_answer text (Some l) h.0 h.1
-exact text (Err (TooLarge Signals)) h =
-    stated_answer text h.1 h.0 h.2 ∙ rw (lt-ltb _ (length (names_of h.1)) h.3) refl
-exact text (Err (TooLarge Sinks)) h =
-    stated_answer text h.1 h.0 h.2
-    ∙ rw (le-ltb _ (length (names_of h.1)) h.3, lt-ltb _ (sink_count (statements h.1)) h.4) refl
-exact text (Err (Redefined l)) h =
-    answer_is text h.0 h.1 (Some l) _ _ h.2 (undefined_first h.0) (cyclic_first h.0)
-exact text (Err (Undefined l)) h =
-    answer_is text h.0 h.1 None (Some l) _ h.2 h.3 (cyclic_first h.0)
-exact text (Err (Cycle l)) h = answer_is text h.0 h.1 None None (Some l) h.2 h.3 h.4
-exact text (Err Empty) h =
-    answer_is text h.0 h.1 None None None (λ l bad. none l bad.2.0 bad.2.1)
+exact text (Err (TooLarge Bytes)) past = cond-true _ _ _ (lt-ltb _ _ past)
+exact text (Err (Syntax l)) (bytes, is) = read_answer text (Some l) bytes is
+exact text (Err (TooLarge Signals)) (bytes, stated, each, past) =
+    stated_answer text stated bytes each ∙ rw (lt-ltb _ (length (names_of stated)) past) refl
+exact text (Err (TooLarge Sinks)) (bytes, stated, each, few, past) =
+    stated_answer text stated bytes each
+    ∙ rw (le-ltb _ (length (names_of stated)) few)
+    (rw (lt-ltb _ (sink_count (statements stated)) past) refl)
+exact text (Err (Redefined l)) (stated, within, is) =
+    answer_is text stated within (Some l) _ _ is (undefined_first stated) (cyclic_first stated)
+exact text (Err (Undefined l)) (stated, within, once, is) =
+    answer_is text stated within None (Some l) _ once is (cyclic_first stated)
+exact text (Err (Cycle l)) (stated, within, once, known, is) =
+    answer_is text stated within None None (Some l) once known is
+exact text (Err Empty) (stated, within, empty) =
+    let none = λ (line : ℕ) (s : Statement) (at : at_line stated line ≡ Some (Some s)).
+    subst (Among s) empty (line_among stated line s at) in
+    answer_is text stated within None None None (λ l bad. none l bad.2.0 bad.2.1)
     (λ l bad. none l bad.1.0 bad.1.1) (λ l bad. none l _ bad.3)
-    ∙ ap statements_or h.2
-  where
-    none : (line : ℕ) (s : Statement) → at_line h.0 line ≡ Some (Some s) → ⊥
-    none line s at = subst (Among s) h.2 (line_among h.0 line s at)
-exact text (Err Memory) h = absurd h
-exact text (Ok c) h = rw h.2 (go (rw h.2 at h.3))
-  where
-    some : (d : List Statement) → d ≢ [] → statements_or d ≡ Ok d
-    some [] ne = absurd (ne refl)
-    some (s ∷ d) ne = refl
-
-    go : IsWellFormed (statements h.0) → answer_text text ≡ Ok (statements h.0)
-    go well =
-        let number = well.acyclic in
-        answer_is text h.0 h.1 None None None
-        (no_redefinition h.0 (distinct_from_pairs _ well.once)) (no_undefined h.0 well.all_defined)
-        (λ l bad. none_stuck _ number.0 number.1 bad.4.0 bad.4.1 bad.0 bad.4.2)
-        ∙ some (statements h.0) well.some
+    ∙ rw empty refl
+exact text (Err Memory) bad = absurd bad
+exact text (Ok c) (stated, within, same, is) =
+    let well : IsWellFormed (statements stated) = rw same at is in
+    let number = well.acyclic in
+    answer_is text stated within None None None
+    (no_redefinition stated (distinct_from_pairs _ well.once))
+    (no_undefined stated well.all_defined)
+    (λ l bad. none_stuck _ number.0 number.1 bad.4.0 bad.4.1 bad.0 bad.4.2)
+    ∙ cond-false _ _ _ (ne_eqb _ 0 (λ e. well.some (nil_from_length _ e))) ∙ ap Ok (sym same)
 
 pub one_answer : (text : List ℕ) (r s : Result (List Statement) BenchFault)
     → IsAnswer text r → IsAnswer text s → r ≡ s

@@ -30,9 +30,8 @@ use Rattle.lists.proofs.Places.{from_mapped}
 use Rattle.lists.proofs.Distinct.{Distinct, distinct_from_pairs}
 use Rattle.bench_net.proofs.Checked.{among_in, some_not}
 use Rattle.bench_net.proofs.Entries.{entry_at, entry_for, statements_numbered}
-use Rattle.bench_net.proofs.Faults.{names_of, redefined_lowest, undefined_lowest, no_redefinition, no_undefined}
+use Rattle.bench_net.proofs.Faults.{names_of, arities_of_text, redefined_lowest, undefined_lowest, no_redefinition, no_undefined}
 use Rattle.bench_net.proofs.Numbering.{known}
-use Rattle.bench_net.proofs.Words.{arities_of_text}
 
 -- the refusal of a text where a line has the fault
 pub may_be : (text : List ℕ) (refusal fault : BenchFault) (Gone : Type 0)

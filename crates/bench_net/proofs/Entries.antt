@@ -11,7 +11,7 @@ use Rattle.indexmap.proofs.SetLemmas.{AllZip-push}
 use Rattle.bench_net.specs.Statement.{Statement}
 use Rattle.bench_net.specs.Reading.{States, statements}
 use Rattle.bench_net.specs.Refusal.{IsLowest, IsSyntaxFault}
-use Rattle.bench_net.specs.reader.Plain.{stated_of}
+use Rattle.bench_net.specs.reader.Parsed.{stated_of}
 use Rattle.bench_net.specs.reader.Entries.{Entry, numbered_from, AreStated}
 use Rattle.bench_net.proofs.Reader.{sound_states}
 use Rattle.bench_net.proofs.Faults.{unread_lowest}

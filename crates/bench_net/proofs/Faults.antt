@@ -1,19 +1,26 @@
--- Lines at fault: which places and which names make them so.
-use Rattle.std.proofs.Common.{◌≡◌, ◌<◌, ℕ, zero, suc, sym, refl, ◌∙◌, ap, subst, List, [], ◌∷◌, ◌++◌, take, drop, arith, inl, inr, length-take}
-use Rattle.std.specs.Prelude.{Contains, Option, Some, None, slice_get, flat_map}
-use Rattle.std.specs.List.{AllZip}
-use Rattle.std.proofs.lemmas.Option.{slice_get_within}
+-- Lines of a text: which words make their names, and which places and which names make them faulty.
+use Rattle.std.proofs.Common.{◌≡◌, ◌<◌, ◌≤◌, ℕ, zero, suc, sym, refl, ◌∙◌, ap, subst, true, not, ◌&&◌, leb, List, [], ◌∷◌, ◌++◌, take, drop, arith, inl, inr, length-take}
+use Rattle.std.specs.Prelude.{Contains, IsSomeAnd, ◌↔◌, ◌==◌, Option, Some, None, slice_get, slice_index_or, flat_map}
+use Rattle.std.specs.List.{AllZip, list_all}
+use Rattle.std.specs.Str.{IsUtf8}
+use Rattle.std.specs.Int.{is_in_range}
+use Rattle.std.proofs.lemmas.Bool.{leb-true, and_parts}
+use Rattle.std.proofs.lemmas.Option.{slice_get_within, MatchOption-at_some}
+use Rattle.std.proofs.lemmas.Slice.Zip.{AllZip-left}
+use Rattle.std.proofs.lemmas.Str.{IsUtf8-from_ascii}
+use Rattle.std.proofs.lemmas.Str.Ascii.{IsAscii-from_all}
 use Rattle.std.proofs.lemmas.List.Concat.{flat_map-append}
-use Rattle.std.proofs.lemmas.List.Elements.{filter_map-append}
-use Rattle.bench_net.specs.Text.{lines}
-use Rattle.bench_net.specs.Statement.{Name, Statement, defined, read}
-use Rattle.bench_net.specs.Reading.{States, statements}
+use Rattle.std.proofs.lemmas.List.Elements.{filter_map-append, Contains-get_or}
+use Rattle.bench_net.specs.Text.{is_word_byte, is_mark, lines}
+use Rattle.bench_net.specs.Statement.{Name, Statement, Gate, defined, read}
+use Rattle.bench_net.specs.Reading.{States, LinesState, statements}
 use Rattle.bench_net.specs.Scan.{names}
-use Rattle.bench_net.specs.Refusal.{at_line, IsLowest, NoLine, IsSyntaxFault, Defines, IsRedefinition, IsUndefined}
-use Rattle.bench_net.specs.reader.Plain.{stated_of}
-use Rattle.lists.proofs.Members.{Among, among, contained, among_left, among_right, among_joined, joined_from}
+use Rattle.bench_net.specs.Circuit.{HaveArities}
+use Rattle.bench_net.specs.Refusal.{at_line, IsLowest, NoLine, IsSyntaxFault, IsRedefinition, IsUndefined}
+use Rattle.bench_net.specs.reader.Parsed.{stated_of}
+use Rattle.lists.proofs.Members.{Among, among, contained, among_left, among_right, among_joined, joined_from, each_passes}
 use Rattle.lists.proofs.Distinct.{Distinct, distinct_append}
-use Rattle.bench_net.proofs.Reader.{complete_states}
+use Rattle.bench_net.proofs.Reader.{unstated}
 use Rattle.bench_net.proofs.Checked.{defined_few}
 
 abbrev pub Stated : Type 0
@@ -26,17 +33,13 @@ names_of stated = names (statements stated)
 -- ---- places
 
 -- the lines before a place
-pub in_front : {X : Type 0} (xs : List X) (j k : ℕ) → k < j
-    → slice_get (take j xs) k ≡ slice_get xs k
-in_front xs zero k lt = absurd (omega (arith, lt))
-in_front [] (suc j) k lt = refl
-in_front (x ∷ xs) (suc j) zero lt = refl
-in_front (x ∷ xs) (suc j) (suc k) lt = in_front xs j k (omega (arith, lt))
-
 at_front : {X : Type 0} (xs : List X) (j line : ℕ) → line < suc j
     → at_line (take j xs) line ≡ at_line xs line
 at_front xs j zero lt = refl
-at_front xs j (suc k) lt = in_front xs j k (omega (arith, lt))
+at_front xs zero (suc k) lt = absurd (omega (arith, lt))
+at_front [] (suc j) (suc k) lt = refl
+at_front (x ∷ xs) (suc j) (suc zero) lt = refl
+at_front (x ∷ xs) (suc j) (suc (suc k)) lt = at_front xs j (suc k) (omega (arith, lt))
 
 -- the lines around a place
 around : {X : Type 0} (xs : List X) (i : ℕ) (x : X) → slice_get xs i ≡ Some x
@@ -46,13 +49,14 @@ around (y ∷ xs) zero x e = let same : y ≡ x = cc in ap (λ z. z ∷ xs) same
 around (y ∷ xs) (suc i) x e = ap (λ ys. y ∷ ys) (around xs i x e)
 
 -- what a line states is among the statements, and the other way round
-stated_among : (stated : List Stated) (i : ℕ) (s : Statement)
-    → slice_get stated i ≡ Some (Some s) → Among s (statements stated)
-stated_among [] i s e = let bad : None ≡ Some (Some s) = e in cc
-stated_among (None ∷ stated) zero s e = let bad : Some None ≡ Some (Some s) = e in cc
-stated_among (None ∷ stated) (suc i) s e = stated_among stated i s e
-stated_among (Some t ∷ stated) zero s e = let same : t ≡ s = cc in inl same
-stated_among (Some t ∷ stated) (suc i) s e = inr (stated_among stated i s e)
+pub line_among : (stated : List Stated) (line : ℕ) (s : Statement)
+    → at_line stated line ≡ Some (Some s) → Among s (statements stated)
+line_among stated zero s e = let bad : None ≡ Some (Some s) = e in cc
+line_among [] (suc i) s e = let bad : None ≡ Some (Some s) = e in cc
+line_among (None ∷ stated) (suc zero) s e = let bad : Some None ≡ Some (Some s) = e in cc
+line_among (None ∷ stated) (suc (suc i)) s e = line_among stated (suc i) s e
+line_among (Some t ∷ stated) (suc zero) s e = let same : t ≡ s = cc in inl same
+line_among (Some t ∷ stated) (suc (suc i)) s e = inr (line_among stated (suc i) s e)
 
 pub stated_at : (stated : List Stated) (s : Statement) → Among s (statements stated)
     → (i : ℕ) × (slice_get stated i ≡ Some (Some s))
@@ -61,33 +65,50 @@ stated_at (None ∷ stated) s a = let f = stated_at stated s a in (suc f.0, f.1)
 stated_at (Some t ∷ stated) s (inl e) = (0, ap (λ x. Some (Some x)) e)
 stated_at (Some t ∷ stated) s (inr a) = let f = stated_at stated s a in (suc f.0, f.1)
 
-pub line_among : (stated : List Stated) (line : ℕ) (s : Statement)
-    → at_line stated line ≡ Some (Some s) → Among s (statements stated)
-line_among stated zero s e = let bad : None ≡ Some (Some s) = e in cc
-line_among stated (suc i) s e = stated_among stated i s e
+-- ---- what is known of words and of gates: they are UTF-8, and have the arity of their kind
+
+-- the line that states a statement
+line_of : (ls : List (List ℕ)) (stated : List Stated) (s : Statement) → AllZip States ls stated
+    → Among s (statements stated) → (line : List ℕ) × States line (Some s)
+line_of ls [] s all a = absurd a
+line_of [] (t ∷ stated) s all a = absurd all
+line_of (l ∷ ls) (None ∷ stated) s all a = line_of ls stated s all.1 a
+line_of (l ∷ ls) (Some t ∷ stated) s all (inl e) = (l, subst (λ x. States l (Some x)) e all.0)
+line_of (l ∷ ls) (Some t ∷ stated) s all (inr a) = line_of ls stated s all.1 a
+
+-- a word is UTF-8
+pub word_utf8 : (w : List ℕ) → list_all is_word_byte w ≡ true → IsUtf8 w
+word_utf8 w e = IsUtf8-from_ascii w (IsAscii-from_all w (λ k d below.
+    let b : ℕ = slice_index_or w k d in
+    let on = each_passes is_word_byte w b e (Contains-get_or w k d below) in
+    let p = and_parts (is_in_range 33 126 b && not (is_mark b)) (not (b == 35)) on in
+    let q = and_parts (is_in_range 33 126 b) (not (is_mark b)) p.0 in
+    let high : b ≤ 126 = leb-true b 126 (and_parts (leb 33 b) (leb b 126) q.0).1 in
+    omega (arith, high)))
+
+-- the statements of a text have the arities of their kinds
+pub arities_of_text : (text : List ℕ) (stated : List Stated) → LinesState text stated
+    → HaveArities (statements stated)
+arities_of_text text stated each n kind args at =
+    (line_of (lines text) stated (Gate n kind args) each (among _ _ at)).1.2.2
 
 -- ---- a line that states nothing that a line may state
-
--- each of lines that state something does
-pub states_each : (ls : List (List ℕ)) (stated : List Stated) (k : ℕ) (l : List ℕ)
-    → AllZip States ls stated → slice_get ls k ≡ Some l → (s : Stated) × States l s
-states_each [] stated k l all e = let bad : None ≡ Some l = e in cc
-states_each (m ∷ ls) [] k l all e = absurd all
-states_each (m ∷ ls) (s ∷ stated) zero l all e =
-    let same : m ≡ l = cc in (s, subst (λ x. States x s) same all.0)
-states_each (m ∷ ls) (s ∷ stated) (suc k) l all e = states_each ls stated k l all.1 e
 
 pub no_unread : (text : List ℕ) (stated : List Stated) (front : List (List ℕ)) (line : ℕ)
     → AllZip States front stated → at_line front line ≡ at_line (lines text) line
     → ¬ IsSyntaxFault text line
 no_unread text stated front zero all same bad = let none : None ≡ Some bad.0 = bad.1 in cc
 no_unread text stated front (suc k) all same bad =
-    let s = states_each front stated k bad.0 all (same ∙ bad.1) in bad.2 s.0 s.1
+    go (slice_get stated k) (MatchOption-at_some (Unit {0}) _ bad.0 (same ∙ bad.1)
+    (AllZip-left States front stated all k))
+  where
+    go : (o : Option Stated) → IsSomeAnd o (States bad.0) → ⊥
+    go None h = h
+    go (Some s) h = bad.2 s h
 
 pub unread : (text : List ℕ) (k : ℕ) (l : List ℕ) → slice_get (lines text) k ≡ Some l
     → stated_of l ≡ None → IsSyntaxFault text (suc k)
-unread text k l at none =
-    (l, at, λ s h. let bad : None ≡ Some s = sym none ∙ complete_states l s h in cc)
+unread text k l at none = (l, at, (unstated l).1 (rw none refl))
 
 pub unread_lowest : (text : List ℕ) (k : ℕ) (l : List ℕ) (stated : List Stated)
     → slice_get (lines text) k ≡ Some l → stated_of l ≡ None
@@ -99,22 +120,29 @@ unread_lowest text k l stated at none all = (
 
 -- ---- a line that defines a name that is defined before it
 
-pub earlier_named : (stated : List Stated) (j line : ℕ) (n : Name) → line < suc j
-    → Defines stated line n → Among n (names_of (take j stated))
-earlier_named stated j line n lt d =
-    let there = line_among (take j stated) line d.0 (at_front stated j line lt ∙ d.1) in
-    among_joined defined _ d.0 n there (among _ n d.2)
+-- the lines before one
+abbrev pub before : {X : Type 0} → List X → ℕ → List X
+before xs zero = []
+before xs (suc i) = take i xs
 
-pub redefinition : (stated : List Stated) (j : ℕ) (s : Statement) (n : Name)
-    → slice_get stated j ≡ Some (Some s) → Among n (defined s)
-    → Among n (names_of (take j stated)) → IsRedefinition stated (suc j)
-redefinition stated j s n at here a =
-    let t = joined_from defined (statements (take j stated)) n a in
-    let k = stated_at (take j stated) t.0 t.1 in
-    let below = slice_get_within (take j stated) k.0 (Some t.0) k.1 in
-    let lt : k.0 < j = omega (arith, below, length-take j stated) in
-    let there = sym (in_front stated j k.0 lt) ∙ k.1 in
-    (n, suc k.0, (s, at, contained _ n here), omega (arith, lt), (t.0, there, contained _ n t.2))
+-- the line states a statement with this name among those that f gives
+abbrev pub Says : (Statement → List Name) → List Stated → ℕ → Name → Type 0
+Says f stated line n = (s : Statement) × (at_line stated line ≡ Some (Some s)) × Contains (f s) n
+
+-- what earlier lines say is what the lines in front say
+pub earlier : (f : Statement → List Name) (stated : List Stated) (line : ℕ) (n : Name)
+    → ((there : ℕ) × (there < line) × Says f stated there n)
+    ↔ Among n (flat_map f (statements (before stated line)))
+earlier f stated zero n = (λ e. absurd (omega (arith, e.1)), λ a. absurd a)
+earlier f stated (suc j) n = (
+  λ e. let there = line_among (take j stated) e.0 e.2.0 (at_front stated j e.0 e.1 ∙ e.2.1) in
+      among_joined f _ e.2.0 n there (among _ n e.2.2),
+  λ a. let t = joined_from f (statements (take j stated)) n a in
+      let k = stated_at (take j stated) t.0 t.1 in
+      let below = slice_get_within (take j stated) k.0 (Some t.0) k.1 in
+      let lt : suc k.0 < suc j = omega (arith, below, length-take j stated) in
+      (suc k.0, lt, (t.0, sym (at_front stated j (suc k.0) lt) ∙ k.1, contained _ n t.2)),
+)
 
 distinct_apart : (xs ys : List Name) (n : Name)
     → Distinct (xs ++ ys) → Among n xs → Among n ys → ⊥
@@ -129,7 +157,7 @@ no_redefinition stated once zero bad = let none : None ≡ Some (Some bad.2.0) =
 no_redefinition stated once (suc j) bad =
     let n : Name = bad.0 in
     distinct_apart (names_of (take j stated)) _ n
-    (subst Distinct parts once) (earlier_named stated j bad.1 n bad.3 bad.4)
+    (subst Distinct parts once) ((earlier defined stated (suc j) n).0 (bad.1, bad.3, bad.4))
     (among_left (defined bad.2.0) _ n (among _ n bad.2.2))
   where
     parts : names_of stated ≡ names_of (take j stated)
@@ -164,17 +192,17 @@ pub redefined_lowest : (stated : List Stated) (j : ℕ) (s : Statement) (n : Nam
     → slice_get stated j ≡ Some (Some s) → Among n (defined s)
     → Among n (names_of (take j stated)) → Distinct (names_of (take j stated))
     → IsLowest (IsRedefinition stated) (suc j)
-redefined_lowest stated j s n at here before once =
-    (redefinition stated j s n at here before, lower)
+redefined_lowest stated j s n at here front once = (
+  let e = (earlier defined stated (suc j) n).1 front in
+      (n, e.0, (s, at, contained _ n here), e.1, e.2),
+  λ line lt (m, there, here, less, says).
+      let says = in_take there m (omega (arith, lt, less)) says in
+      no_redefinition (take j stated) once line (m, there, in_take line m lt here, less, says),
+)
   where
-    lower : (line : ℕ) → line < suc j → ¬ IsRedefinition stated line
-    lower line lt bad = no_redefinition (take j stated) once line (
-      bad.0,
-      bad.1,
-      (bad.2.0, at_front stated j line lt ∙ bad.2.1, bad.2.2),
-      bad.3,
-      (bad.4.0, at_front stated j bad.1 (omega (arith, lt, bad.3)) ∙ bad.4.1, bad.4.2),
-    )
+    in_take : (line : ℕ) (m : Name) → line < suc j → Says defined stated line m
+        → Says defined (take j stated) line m
+    in_take line m lt d = (d.0, at_front stated j line lt ∙ d.1, d.2)
 
 -- ---- a line that reads a name that no line defines
 
@@ -182,13 +210,10 @@ pub undefined_lowest : (stated : List Stated) (j : ℕ) (s : Statement) (n : Nam
     → slice_get stated j ≡ Some (Some s) → Among n (read s) → ¬ Contains (names_of stated) n
     → ((m : Name) → Among m (flat_map read (statements (take j stated)))
     → Contains (names_of stated) m) → IsLowest (IsUndefined stated) (suc j)
-undefined_lowest stated j s n at here not known = ((n, (s, at, contained _ n here), not), lower)
-  where
-    lower : (line : ℕ) → line < suc j → ¬ IsUndefined stated line
-    lower line lt bad =
-        let there = line_among (take j stated) line bad.1.0
-        (at_front stated j line lt ∙ bad.1.1) in
-        bad.2 (known bad.0 (among_joined read _ bad.1.0 bad.0 there (among _ _ bad.1.2)))
+undefined_lowest stated j s n at here not known = (
+  (n, (s, at, contained _ n here), not),
+  λ line lt bad. bad.2 (known bad.0 ((earlier read stated (suc j) bad.0).0 (line, lt, bad.1))),
+)
 
 pub no_undefined : (stated : List Stated)
     → ((n : Name) → Contains (flat_map read (statements stated)) n → Contains (names_of stated) n)

@@ -1,15 +1,20 @@
--- A numbering of names exists exactly where no stuck set but the empty one does.
-use Rattle.std.proofs.Common.{◌≡◌, ◌<◌, ◌≤◌, ◌+◌, ℕ, zero, suc, sym, ap, subst, refl, cond, Bool, true, false, List, [], ◌∷◌, length, filter, arith, inl, inr}
-use Rattle.std.specs.Prelude.{IsTrue}
-use Rattle.std.specs.List.{list_all}
-use Rattle.std.proofs.lemmas.Bool.{and_parts, and_from, cond_both, cases_Bool}
+-- Stuck sets: a numbering of names exists exactly where none but the empty one does, and so a
+-- circuit has a source.
+use Rattle.std.proofs.Common.{◌≡◌, ◌<◌, ◌≤◌, ◌+◌, ℕ, zero, suc, sym, ap, subst, refl, cond, Bool, true, false, ◌&&◌, List, [], ◌∷◌, length, length-append, filter, map, arith, inl, inr, get_or}
+use Rattle.std.specs.Prelude.{IsTrue, Contains, flat_map, bytes_eq, if◌then◌else◌}
+use Rattle.std.specs.List.{list_all, list_any}
+use Rattle.std.proofs.lemmas.Bool.{and_parts, and_from, cond_both, cases_Bool, cases_lt}
+use Rattle.std.proofs.lemmas.List.Elements.{Contains-get_or}
 use Rattle.std.proofs.lemmas.List.Sums.{length-filter, count_by-le-length}
-use Rattle.bench_net.specs.Statement.{Name, Statement, Gate, defined}
-use Rattle.bench_net.specs.Scan.{names}
-use Rattle.bench_net.specs.Circuit.{HasArgument, IsNumbering, IsStuckSet, IsStuck}
-use Rattle.lists.proofs.Members.{Among, among, among_joined, among_filter}
-use Rattle.bench_net.proofs.Answer.{is_in, gate_fed, is_fed, left_over, stuck_names}
-use Rattle.bench_net.proofs.Checked.{bytes_refl, any_true, among_in, in_contained, stuck}
+use Rattle.bench_net.specs.declared.Kind.{Kind}
+use Rattle.bench_net.specs.Statement.{Name, Statement, Input, Output, Gate, Dff, defined, read}
+use Rattle.bench_net.specs.Scan.{names, inputs, cells, sources}
+use Rattle.bench_net.specs.Circuit.{HasArgument, IsNumbering, IsStuckSet, IsStuck, IsWellFormed, IsCircuit}
+use Rattle.bench_net.specs.reader.Entries.{is_in}
+use Rattle.lists.proofs.Members.{Among, among, contained, among_joined, among_filter, each_passes, some_passes}
+use Rattle.bench_net.proofs.Checked.{bytes_refl, same_bytes, any_true, among_in, in_contained}
+use Rattle.bench_net.proofs.Numbers.{read_named}
+use Rattle.bench_net.proofs.Reader.{some_args}
 
 -- ---- from a numbering to no stuck set
 
@@ -25,7 +30,42 @@ none_stuck c number numbered members stuck n inside = descend c number members n
 
 -- ---- what is left after some rounds
 
--- of what doesn't all pass, fewer pass, and all of what does
+-- a gate has this name and an argument among those
+abbrev pub gate_fed : List Name → Name → Statement → Bool
+gate_fed ns n (Gate m kind args) = bytes_eq n m && list_any (is_in ns) args
+gate_fed ns n _ = false
+
+abbrev pub is_fed : List Statement → List Name → Name → Bool
+is_fed c ns n = list_any (gate_fed ns n) c
+
+-- names each of which has a gate line with an argument among them are a stuck set
+pub stuck : (c : List Statement) (ns : List Name)
+    → list_all (λ n. list_any (gate_fed ns n) c) ns ≡ true → IsStuckSet c (is_in ns)
+stuck c ns e n inside =
+    let at : Contains ns n = in_contained ns n inside in
+    let s = some_passes (gate_fed ns n) c (each_passes (λ m. is_fed c ns m) ns n e at) in
+    go s.0 s.1 s.2
+  where
+    go : (s : Statement) → Contains c s → gate_fed ns n s ≡ true
+        → (a : Name) × HasArgument c n a × IsTrue (is_in ns a)
+    go (Gate m kind args) at passes =
+        let p = and_parts (bytes_eq n m) (list_any (is_in ns) args) passes in
+        let a = some_passes (is_in ns) args p.1 in
+        let here = subst (λ x. Contains c (Gate x kind args)) (sym (same_bytes n m p.0)) at in
+        (a.0, (kind, args, here, a.1), a.2)
+    go _ at passes = cc
+
+-- what is left after so many rounds, each of which keeps the names that are fed by what was left
+-- before, or of names that all are
+abbrev pub left_over : List Statement → ℕ → List Name → List Name
+left_over c zero ns = ns
+left_over c (suc k) ns =
+    if list_all (is_fed c ns) ns then ns else left_over c k (filter (is_fed c ns) ns)
+
+abbrev pub stuck_names : List Statement → List Name
+stuck_names c = left_over c (length (names c)) (names c)
+
+-- of what doesn't all pass, fewer pass
 fewer : {X : Type 0} (p : X → Bool) (xs : List X) → list_all p xs ≡ false
     → length (filter p xs) < length xs
 fewer p [] e = let bad : true ≡ false = e in cc
@@ -34,25 +74,13 @@ fewer p (x ∷ xs) e = elim (cases_Bool (p x)) [
   | inr off ↦ rw off (omega (arith, length-filter p xs, count_by-le-length p xs))
 ]
 
-all_kept : {X : Type 0} (p : X → Bool) (xs : List X) → list_all p xs ≡ true → filter p xs ≡ xs
-all_kept p [] e = refl
-all_kept p (x ∷ xs) e =
-    let h = and_parts (p x) (list_all p xs) e in rw h.0 (ap (λ ys. x ∷ ys) (all_kept p xs h.1))
-
-resting : (c : List Statement) (k : ℕ) (ns : List Name) → list_all (is_fed c ns) ns ≡ true
-    → left_over c k ns ≡ ns
-resting c zero ns e = refl
-resting c (suc k) ns e = rw (all_kept (is_fed c ns) ns e) (resting c k ns e)
-
 -- after as many rounds as there are names, each that is left is fed by one that is
 left_fed : (c : List Statement) (k : ℕ) (ns : List Name) → length ns ≤ k
     → list_all (is_fed c (left_over c k ns)) (left_over c k ns) ≡ true
 left_fed c zero [] h = refl
 left_fed c zero (n ∷ ns) h = absurd (omega (arith, h))
-left_fed c (suc k) ns h = elim (cases_Bool (list_all (is_fed c ns) ns)) [
-  | inl e ↦ subst (λ ms. list_all (is_fed c ms) ms ≡ true) (sym (resting c (suc k) ns e)) e
-  | inr e ↦ left_fed c k (filter (is_fed c ns) ns) (omega (arith, h, fewer (is_fed c ns) ns e))
-]
+left_fed c (suc k) ns h = cond_both _ ns _ (λ ms. list_all (is_fed c ms) ms ≡ true) (λ on. on)
+    (λ off. left_fed c k (filter (is_fed c ns) ns) (omega (arith, h, fewer (is_fed c ns) ns off)))
 
 pub stuck_set : (c : List Statement) → IsStuckSet c (is_in (stuck_names c))
 stuck_set c = stuck c (stuck_names c) (left_fed c (length (names c)) (names c) (omega arith))
@@ -73,11 +101,12 @@ argument_feeds c ns n a h inside =
 stays : (c : List Statement) (members : Name → Bool) → IsStuckSet c members
     → (k : ℕ) (ns : List Name) → ((n : Name) → IsTrue (members n) → Among n ns)
     → (n : Name) → IsTrue (members n) → Among n (left_over c k ns)
-stays c members set zero ns all = all
-stays c members set (suc k) ns all =
-    stays c members set k (filter (is_fed c ns) ns)
-    (λ n inside. let next = set n inside in among_filter (is_fed c ns) ns n (all n inside)
-    (argument_feeds c ns n next.0 next.1 (all next.0 next.2)))
+stays c members set zero ns all n inside = all n inside
+stays c members set (suc k) ns all n inside =
+    cond_both (list_all (is_fed c ns) ns) _ _ (Among n) (λ _. all n inside)
+    (λ _. stays c members set k (filter (is_fed c ns) ns) (λ m inside. let next = set m inside in
+    among_filter (is_fed c ns) ns m (all m inside)
+    (argument_feeds c ns m next.0 next.1 (all next.0 next.2))) n inside)
 
 pub stuck_left : (c : List Statement) (n : Name) → IsStuck c n → is_in (stuck_names c) n ≡ true
 stuck_left c n stuck =
@@ -96,12 +125,15 @@ rises c n a h zero ns none inside = absurd (rw none at inside)
 rises c n a h (suc k) ns none inside =
     rw (among_in ns n inside) (cond_both (is_in ns a) _ _
     (λ r. r < suc (rank c k (filter (is_fed c ns) ns) n))
-    (λ on. omega (
-      arith,
-      rises c n a h k (filter (is_fed c ns) ns) none
-          (among_filter (is_fed c ns) ns n inside
-          (argument_feeds c ns n a h (among ns a (in_contained ns a on)))),
-    )) (λ off. omega arith))
+    (λ on. elim (cases_Bool (list_all (is_fed c ns) ns)) [
+      | inl all ↦ absurd (rw (rw all at none) at inside)
+      | inr off ↦ omega (
+        arith,
+        rises c n a h k (filter (is_fed c ns) ns) (rw off at none)
+            (among_filter (is_fed c ns) ns n inside
+            (argument_feeds c ns n a h (among ns a (in_contained ns a on)))),
+      )
+    ]) (λ off. omega arith))
 
 pub numbering : (c : List Statement)
     → ((members : Name → Bool) → IsStuckSet c members → (n : Name) → ¬ IsTrue (members n))
@@ -117,3 +149,43 @@ numbering c free = (
     none (n ∷ ns) e =
         let inside : Among n (stuck_names c) = subst (Among n) (sym e) (inl refl) in
         absurd (free (is_in (stuck_names c)) (stuck_set c) n (among_in (stuck_names c) n inside))
+
+-- ---- a circuit has a source
+
+-- a well-formed list defines a name
+pub some_signal : (c : List Statement) → IsWellFormed c → 0 < length (names c)
+some_signal [] well = absurd (well.some refl)
+some_signal (Input n ∷ c) well = omega arith
+some_signal (Gate n kind args ∷ c) well = omega arith
+some_signal (Dff q d ∷ c) well = omega arith
+some_signal (Output n ∷ c) well = let at = well.all_defined n (contained (flat_map read (Output n ∷ c)) n (inl refl)) in omega (arith, at.1)
+
+-- where there is no source, each defined name is a gate's
+driven : (c : List Statement) → length (sources c) ≤ 0 → (n : Name) → Among n (names c)
+    → (kind : Kind) × (args : List Name) × Among (Gate n kind args) c
+driven [] none n a = absurd a
+driven (Input m ∷ c) none n a = absurd (omega (arith, none))
+driven (Dff q d ∷ c) none n a =
+    absurd (omega (arith, none, length-append (inputs c) (q ∷ map (λ cell. cell.0) (cells c))))
+driven (Output m ∷ c) none n a = let g = driven c none n a in (g.0, g.1, inr g.2)
+driven (Gate m kind args ∷ c) none n (inl e) = (kind, args, inl (ap (λ x. Gate x kind args) e))
+driven (Gate m kind args ∷ c) none n (inr a) = let g = driven c none n a in (g.0, g.1, inr g.2)
+
+-- so all defined names would be stuck
+pub some_source : (c : List Statement) → IsCircuit c → 1 ≤ length (sources c)
+some_source c is = elim (cases_lt 0 (length (sources c))) [
+  | inl some ↦ omega (arith, some)
+  | inr none ↦ (let number = is.well_formed.acyclic in
+      let some = Contains-get_or (names c) 0 [] (some_signal c is.well_formed) in
+      absurd (none_stuck c number.0 number.1 (is_in (names c)) (all_stuck none) _
+      (among_in _ _ (among _ _ some))))
+]
+  where
+    all_stuck : length (sources c) ≤ 0 → IsStuckSet c (is_in (names c))
+    all_stuck none n inside =
+        let g = driven c none n (among _ n (in_contained (names c) n inside)) in
+        let at = contained c (Gate n g.0 g.1) g.2 in
+        let first = Contains-get_or g.1 0 [] (some_args g.0 g.1 (is.arities n g.0 g.1 at)) in
+        let a : Name = get_or g.1 0 [] in
+        let defined = read_named c (Gate n g.0 g.1) a is.well_formed g.2 (among _ a first) in
+        (a, (g.0, g.1, at, first), among_in (names c) a (among _ a defined))

@@ -4,7 +4,7 @@ ghost use Rattle.std.specs.Prelude.{◌≡◌, ◌<◌, ◌≤◌, length, take,
 ghost use Rattle.std.specs.List.{prefix_len};
 ghost use Rattle.std.specs.Str.{IsUtf8};
 ghost use Rattle.bench_net.specs.Text.{is_blank, is_word_byte};
-ghost use Rattle.bench_net.specs.reader.Plain.{IsFront, IsPlainStart};
+ghost use Rattle.bench_net.specs.reader.Parsed.{IsFront};
 
 use std::str;
 
@@ -73,21 +73,15 @@ fn token_at<'a>(bytes: &'a [u8]) -> Front<'a>
         b')' => Front::Token(Token::Close, rest),
         b',' => Front::Token(Token::Comma, rest),
         b'=' => Front::Token(Token::Equals, rest),
-        _ => word_at(bytes),
+        _ => {
+            let len = word_len(bytes);
+            if len == 0 {
+                return Front::Bad;
+            }
+            let (word, rest) = bytes.split_at(len);
+            Front::Token(Token::Word(word_text(word)), rest)
+        }
     }
-}
-
-/// The word that the bytes begin with, where they begin with a word byte.
-fn word_at<'a>(bytes: &'a [u8]) -> Front<'a>
-    requires { IsPlainStart bytes.now }
-    ensures { IsFront bytes.now result }
-{
-    let len = word_len(bytes);
-    if len == 0 {
-        return Front::Bad;
-    }
-    let (word, rest) = bytes.split_at(len);
-    Front::Token(Token::Word(word_text(word)), rest)
 }
 
 /// A word as a text.

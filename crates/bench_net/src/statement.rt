@@ -1,13 +1,10 @@
 //! The statement of one line.
 
-ghost use Rattle.std.specs.Prelude.{◌≡◌, List, ◌∷◌, length};
-ghost use Rattle.std.specs.Prelude.{option_map, option_and_then};
+ghost use Rattle.std.specs.Prelude.{◌≡◌, List, ◌∷◌, length, option_map, option_and_then};
 ghost use Rattle.std.specs.Str.{str_eq_ignore_ascii_case};
 ghost use Rattle.bench_net.specs.Text.{Word, Equals};
 ghost use Rattle.bench_net.specs.Statement.{Name};
-ghost use Rattle.bench_net.specs.reader.Plain.{tokens_of, kind_of, has_arity, port, driven_by};
-ghost use Rattle.bench_net.specs.reader.Plain.{read_tokens, stated_of};
-ghost use Rattle.bench_net.specs.reader.Parsed.{names_of, stands_for, args_in, IsReadAs};
+ghost use Rattle.bench_net.specs.reader.Parsed.{tokens_of, kind_of, has_arity, port, driven_by, read_tokens, stated_of, names_of, stands_for, args_in, IsReadAs};
 
 use crate::scan::{Front, Token, next_token};
 use crate::{BenchFault, Kind};
@@ -132,27 +129,6 @@ fn driven<'a>(name: &'a str, word: &str, arguments: Arguments<'a>) -> Option<Sta
     }
 }
 
-/// The statement of a line `name = ..`, from the bytes behind the equals sign.
-fn read_driven<'a>(
-    alloc: Global,
-    name: &'a str,
-    bytes: &'a [u8],
-    refusal: BenchFault,
-) -> Result<Stated<'a>, BenchFault>
-    ensures { IsReadAs refusal stands_for
-        (option_and_then (λ ts. read_tokens (Word name.now ∷ Equals ∷ ts)) (tokens_of bytes.now))
-        result }
-{
-    let Front::Token(Token::Word(word), rest) = next_token(bytes) else {
-        return Err(refusal);
-    };
-    let Front::Token(Token::Open, rest) = next_token(rest) else {
-        return Err(refusal);
-    };
-    let arguments = read_arguments(alloc, rest, refusal)?;
-    driven(name, word, arguments).ok_or(refusal)
-}
-
 /// The statement of a line that begins with this word, from the bytes behind it.
 fn read_behind<'a>(
     alloc: Global,
@@ -168,7 +144,16 @@ fn read_behind<'a>(
             let arguments = read_arguments(alloc, rest, refusal)?;
             port(word, arguments).ok_or(refusal)
         }
-        Front::Token(Token::Equals, rest) => read_driven(alloc, word, rest, refusal),
+        Front::Token(Token::Equals, rest) => {
+            let Front::Token(Token::Word(kind), rest) = next_token(rest) else {
+                return Err(refusal);
+            };
+            let Front::Token(Token::Open, rest) = next_token(rest) else {
+                return Err(refusal);
+            };
+            let arguments = read_arguments(alloc, rest, refusal)?;
+            driven(word, kind, arguments).ok_or(refusal)
+        }
         _ => Err(refusal),
     }
 }

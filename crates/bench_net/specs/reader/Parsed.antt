@@ -1,13 +1,120 @@
--- What the functions of the line reader answer.
-use Rattle.std.specs.Prelude.{◌≡◌, ◌⊎◌, ℕ, List, map, Option, Some, None}
-use Rattle.std.specs.Prelude.{option_and_then, Result, Ok, Err}
+-- The tokens and the statement of a line, computed from its front, and what the functions that
+-- read lines answer.
+use Rattle.std.specs.Prelude.{◌≡◌, ◌⊎◌, ◌<◌, ℕ, Bool, false, ◌==◌, nat_le, List, [], ◌∷◌, length, map, Option, Some, None, if◌then◌else◌, option_map, option_and_then, codes, Result, Ok, Err}
+use Rattle.std.specs.List.{find}
+use Rattle.std.specs.Str.{str_eq_ignore_ascii_case}
 use Rattle.std.specs.Borrow.{Bor}
-use Rattle.bench_net.specs.declared.statement.Stated.{Stated}
-use Rattle.bench_net.specs.declared.statement.Stated.TheVariants as stated
+use Rattle.bench_net.specs.declared.Kind.{Kind}
+use Rattle.bench_net.specs.declared.Kind.TheVariants.{And, Nand, Or, Nor, Xor, Xnor, Not, Buff}
 use Rattle.bench_net.specs.declared.BenchFault.{BenchFault}
 use Rattle.bench_net.specs.declared.BenchFault.TheVariants.{Memory}
+use Rattle.bench_net.specs.declared.scan.Token.{Token as Found}
+use Rattle.bench_net.specs.declared.scan.Token.TheVariants as found
+use Rattle.bench_net.specs.declared.scan.Front.{Front}
+use Rattle.bench_net.specs.declared.scan.Front.TheVariants as front
+use Rattle.bench_net.specs.declared.statement.Stated.{Stated}
+use Rattle.bench_net.specs.declared.statement.Stated.TheVariants as stated
+use Rattle.bench_net.specs.Text.{Token, Open, Close, Comma, Equals, Word, is_blank, is_mark, is_word_byte}
 use Rattle.bench_net.specs.Statement.{Name, Statement, Input, Output, Gate, Dff}
-use Rattle.bench_net.specs.reader.Plain.{tokens_of, args_of}
+use Rattle.bench_net.specs.Reading.{names_kind}
+
+abbrev pub mark_of : ℕ → Token
+mark_of b = if b == 40 then Open else if b == 41 then Close else if b == 44 then Comma else Equals
+
+-- whether the bytes begin with a word byte
+abbrev pub starts_word : List ℕ → Bool
+starts_word [] = false
+starts_word (b ∷ bytes) = is_word_byte b
+
+-- a word byte before these tokens: at the front of the word that the bytes begin with, or a word of
+-- its own
+abbrev pub onto_word : ℕ → List Token → List Token
+onto_word b (Word w ∷ tokens) = Word (b ∷ w) ∷ tokens
+onto_word b tokens = Word (b ∷ []) ∷ tokens
+
+abbrev pub with_byte : ℕ → Bool → List Token → List Token
+with_byte b joins tokens = if joins then onto_word b tokens else Word (b ∷ []) ∷ tokens
+
+-- the tokens of a line, or None where it has a byte that isn't allowed
+abbrev pub tokens_of : List ℕ → Option (List Token)
+tokens_of [] = Some []
+tokens_of (b ∷ line) =
+    if b == 35 then Some []
+    else if is_blank b then tokens_of line
+    else if is_mark b then option_map (λ tokens. mark_of b ∷ tokens) (tokens_of line)
+    else if is_word_byte b then option_map (with_byte b (starts_word line)) (tokens_of line)
+    else None
+
+abbrev pub kinds : List Kind
+kinds = And ∷ Nand ∷ Or ∷ Nor ∷ Xor ∷ Xnor ∷ Not ∷ Buff ∷ []
+
+-- the kind that a word names, in any ASCII case
+abbrev pub kind_of : List ℕ → Option Kind
+kind_of w = find (names_kind w) kinds
+
+-- the arguments before a closing parenthesis that ends the line
+abbrev pub args_of : List Token → Option (List Name)
+args_of (Word a ∷ Close ∷ []) = Some (a ∷ [])
+args_of (Word a ∷ Comma ∷ tokens) = option_map (λ args. a ∷ args) (args_of tokens)
+args_of _ = None
+
+abbrev pub has_arity : Kind → List Name → Bool
+has_arity Not args = length args == 1
+has_arity Buff args = length args == 1
+has_arity _ args = nat_le 1 (length args)
+
+abbrev pub gate_with : Name → List Name → Kind → Option Statement
+gate_with n args kind = if has_arity kind args then Some (Gate n kind args) else None
+
+abbrev pub cell_with : Name → List Name → Option Statement
+cell_with q (d ∷ []) = Some (Dff q d)
+cell_with q _ = None
+
+abbrev pub driven_by : Name → List ℕ → List Name → Option Statement
+driven_by n w args =
+    if str_eq_ignore_ascii_case w (codes "DFF") then cell_with n args
+    else option_and_then (gate_with n args) (kind_of w)
+
+abbrev pub port : List ℕ → List Name → Option Statement
+port w (n ∷ []) =
+    if str_eq_ignore_ascii_case w (codes "INPUT") then Some (Input n)
+    else if str_eq_ignore_ascii_case w (codes "OUTPUT") then Some (Output n)
+    else None
+port w _ = None
+
+-- the statement that tokens read as
+abbrev pub read_tokens : List Token → Option Statement
+read_tokens (Word w ∷ Open ∷ tokens) = option_and_then (port w) (args_of tokens)
+read_tokens (Word n ∷ Equals ∷ Word w ∷ Open ∷ tokens) =
+    option_and_then (driven_by n w) (args_of tokens)
+read_tokens _ = None
+
+-- what the line states: None where it is at fault
+abbrev pub stated_by : List Token → Option (Option Statement)
+stated_by [] = Some None
+stated_by (token ∷ tokens) = option_map Some (read_tokens (token ∷ tokens))
+
+abbrev pub stated_of : List ℕ → Option (Option Statement)
+stated_of line = option_and_then stated_by (tokens_of line)
+
+-- the token that the scanner's token stands for
+abbrev pub token_of : Found → Token
+token_of found.Open = Open
+token_of found.Close = Close
+token_of found.Comma = Comma
+token_of found.Equals = Equals
+token_of (found.Word w) = Word w.now
+
+-- a token stands at the front of a line, and what stands behind it is shorter than the line
+pub record Leads (line : List ℕ) (token : Token) (rest : List ℕ) : Type 0 where
+  pub tokens : tokens_of line ≡ option_map (λ ts. token ∷ ts) (tokens_of rest)
+  pub shorter : length rest < length line
+
+-- what stands at the front of a line
+abbrev pub IsFront : List ℕ → Front → Type 0
+IsFront line (front.Token token rest) = Leads line (token_of token) rest.now
+IsFront line front.End = tokens_of line ≡ Some []
+IsFront line front.Bad = tokens_of line ≡ None
 
 -- the names that references point to
 abbrev pub names_of : List (Bor Name) → List Name
