@@ -1,112 +1,62 @@
 -- Numbered statements with levels are a circuit with its tables, and without are refused.
+use mathlib.Core.Path.{fun_ext}
+use Rattle.bench_net.proofs.Grouped.{range_rises}
+use Rattle.bench_net.proofs.Faults.{around}
+use Rattle.bench_net.specs.declared.Kind.{Kind}
+use Rattle.std.proofs.lemmas.List.Concat.{flat_map-append}
 use Rattle.std.specs.List.Sorted.{IsPermutation}
 use Rattle.std.specs.List.{range_with_len}
-use Rattle.std.proofs.Common.{◌≡◌, ◌≢◌, ◌<◌, ◌≤◌, ◌+◌, ◌^◌, ℕ, zero, suc, get_or, map, sym, ◌∙◌, ap, subst, refl, List, [], ◌∷◌, ◌++◌, length, filter, arith, inl, inr}
+use Rattle.std.proofs.Common.{◌≡◌, ◌≢◌, ◌<◌, ◌≤◌, ◌^◌, ℕ, suc, get_or, map, sym, ◌∙◌, ap, subst, refl, List, [], ◌∷◌, ◌++◌, length, filter, arith, inl, inr, take, drop}
 use Rattle.std.specs.Prelude.{Option, Some, None, slice_get, slice_index, slice_index_or, Contains, AllPairs, flat_map, option_map}
-use Rattle.std.proofs.lemmas.Bool.{cases_order}
-use Rattle.std.proofs.lemmas.List.{length-map}
+use Rattle.std.proofs.lemmas.List.{length-map, take-map, take-append-drop}
 use Rattle.std.specs.List.{filter_map}
 use Rattle.std.proofs.lemmas.List.FromFn.{get_or-map-range_with_len, length-map-range_with_len, length-range_with_len}
 use Rattle.std.proofs.lemmas.List.Elements.{Contains-get_or, All-contains}
-use Rattle.std.proofs.lemmas.Option.{slice_get_within, slice_get-map, slice_get-get_or, get_or_from_slice_get}
+use Rattle.std.proofs.lemmas.Option.{slice_get_within, slice_get-map, slice_get-get_or}
 use Rattle.bench_net.specs.declared.GateLine.{GateLine}
 use Rattle.bench_net.specs.declared.line.Line.{Line}
 use Rattle.bench_net.specs.declared.line.Line.TheVariants as line
 use Rattle.bench_net.specs.declared.tables.Tables.{Tables}
 use Rattle.bench_net.specs.declared.levels.Levels.{Levels}
 use Rattle.bench_net.specs.declared.levels.LevelFault.TheVariants.{Cycle}
-use Rattle.bench_net.specs.Statement.{Name, Statement, read}
-use Rattle.bench_net.specs.Scan.{names, signal, name_of, sources}
+use Rattle.bench_net.specs.Statement.{Name, Statement, read, Input, Output, Gate, Dff}
+use Rattle.bench_net.specs.Scan.{names, signal, sources}
 use Rattle.bench_net.specs.Circuit.{IsCircuit, IsStuck, sink_count}
 use Rattle.bench_net.specs.Level.{greatest}
-use Rattle.bench_net.specs.Refusal.{IsLowest}
-use Rattle.bench_net.specs.Stored.{name_at, statement_of, statements_of, defined_numbers, read_numbers, AreStatements, IsCyclicLine}
+use Rattle.bench_net.specs.Stored.{name_at, statement_of, statements_of, defined_numbers, read_numbers, AreStatements, IsFirstStuck}
 use Rattle.bench_net.specs.declared.Sink.{Sink}
 use Rattle.bench_net.specs.Rows.{items_at, GoesFirst}
-use Rattle.bench_net.specs.Tables.{output_number, defines_number, line_gate, all_readers, source_signals, AreTableLines, AreTables, AreDefinitions}
-use Rattle.bench_net.specs.Marks.{level_above, pins_in, gate_pins, IsGraph, AreLevelsOf, HaveLevels, no_signal, one_more, IsStuckAt, IsLevelFault}
+use Rattle.bench_net.specs.Tables.{output_number, defines_number, line_gate, all_readers, source_signals, AreTableLines, AreTables, AreDefinitions, defined_number}
+use Rattle.bench_net.specs.Marks.{pins_in, gate_pins, IsGraph, AreLevelsOf, HaveLevels, IsStuckAt, IsLevelFault}
 use Rattle.bench_net.specs.Inside.{IsInside, IsPlace}
-use Rattle.lists.proofs.Members.{Among, among, contained, mapped_from, filtered_from, among_joined}
-use Rattle.lists.proofs.Places.{at_place, from_mapped}
+use Rattle.lists.proofs.Members.{Among, among, contained, mapped_from, filtered_from, among_joined, among_left, among_right}
+use Rattle.lists.proofs.Places.{at_place, from_mapped, placed}
 use Rattle.lists.proofs.Distinct.{distinct_from_pairs}
 use Rattle.bench_net.proofs.Counted.{few_lines, few_sources, output_count, outputs_read, line_count}
 use Rattle.bench_net.proofs.Gates.{pins, source_statement, named, signal_below, named_number, not_stuck, stuck_name, numbering, has_level, has_depth, level_order}
 use Rattle.bench_net.proofs.Listed.{line_at}
-use Rattle.bench_net.proofs.Named.{AreStated, no_line, input, output, gate, flip_flop, stated, inputs_are, outputs_are, cells_are, sources_are, sinks_are, cells_once, gate_is, signal_at, own_place}
+use Rattle.bench_net.proofs.Named.{AreStated, stated, inputs_are, outputs_are, cells_are, sources_are, sinks_are, cells_once, gate_is, signal_at, own_place}
 use Rattle.bench_net.proofs.Numbers.{signal-name_of}
 use Rattle.bench_net.proofs.Numbering.{reads_numbers, known}
 
--- signals with levels have them wherever the pins are the same
-carried : (f g : ℕ → List ℕ) → ((s : ℕ) → f s ≡ g s) → (ps : List ℕ) (k : ℕ) → HaveLevels f ps k → HaveLevels g ps k
-carried f g same ps k no_signal = no_signal
-carried f g same ps k (one_more p qs i a _ here rest is) =
-    one_more p qs i a k (subst (λ xs. HaveLevels g xs i) (same p) (carried f g same (f p) i here)) (carried f g same qs a rest) is
+-- the lines that define a signal hold the numbers that are defined
+numbers_defined : (ls : List Line)
+    → map defined_number (filter defines_number ls) ≡ map Some (flat_map defined_numbers ls)
+numbers_defined [] = refl
+numbers_defined (line.Input s ∷ ls) = ap (λ xs. Some s ∷ xs) (numbers_defined ls)
+numbers_defined (line.Output s ∷ ls) = numbers_defined ls
+numbers_defined (line.Gate s g ∷ ls) = ap (λ xs. Some s ∷ xs) (numbers_defined ls)
+numbers_defined (line.Dff q d ∷ ls) = ap (λ xs. Some q ∷ xs) (numbers_defined ls)
 
--- ---- the lines that define a signal
-
-definer_count : {number : Name → ℕ} (c : List Statement) (ls : List Line) → AreStated number c ls → length (filter defines_number ls) ≡ length (names c)
-definer_count c ls no_line = refl
-definer_count c ls (input n s b ks e are) = omega (arith, definer_count b ks are)
-definer_count c ls (output n s b ks e are) = definer_count b ks are
-definer_count c ls (gate n s args g b ks e ps are) = omega (arith, definer_count b ks are)
-definer_count c ls (flip_flop q d s t b ks e h are) = omega (arith, definer_count b ks are)
-
--- the gate line of a signal holds the number of the signal's name
-gate_name : {number : Name → ℕ} (c : List Statement) (ls : List Line) (s t : ℕ) (g : GateLine) → AreStated number c ls
-    → slice_get (filter defines_number ls) s ≡ Some (line.Gate t g) → (n : Name) × (name_of c s ≡ Some n) × (t ≡ number n)
-gate_name c ls s t g no_line at = let bad : None ≡ Some (line.Gate t g) = at in cc
-gate_name c ls zero t g (input n u b ks e are) at = let bad : Some (line.Input u) ≡ Some (line.Gate t g) = at in cc
-gate_name c ls (suc s) t g (input n u b ks e are) at = gate_name b ks s t g are at
-gate_name c ls s t g (output n u b ks e are) at = gate_name b ks s t g are at
-gate_name {number} c ls zero t g (gate n u args h b ks e ps are) at =
-    let both : Some (line.Gate u h) ≡ Some (line.Gate t g) = at in
-    let same : u ≡ t = cc both in
-    (n, refl, sym same ∙ e)
-gate_name c ls (suc s) t g (gate n u args h b ks e ps are) at = gate_name b ks s t g are at
-gate_name c ls zero t g (flip_flop q d u v b ks e h are) at = let bad : Some (line.Dff u v) ≡ Some (line.Gate t g) = at in cc
-gate_name c ls (suc s) t g (flip_flop q d u v b ks e h are) at = gate_name b ks s t g are at
-
--- the numbers that lines define rise with the lines
-Rising : List ℕ → Type 0
-Rising [] = Unit {0}
-Rising (x ∷ xs) = ((y : ℕ) → Among y xs → x < y) × Rising xs
-
-rising_behind : (xs ys : List ℕ) → Rising (xs ++ ys) → Rising ys
-unfolding Rising
-rising_behind [] ys r = r
-rising_behind (x ∷ xs) ys r = rising_behind xs ys r.1
-
-counted : (m : ℕ) (xs : List ℕ) → ((i s : ℕ) → slice_get xs i ≡ Some s → s ≡ m + i) → Rising xs × ((y : ℕ) → Among y xs → m ≤ y)
-unfolding Rising
-counted m [] h = (tt, λ y a. absurd a)
-counted m (x ∷ xs) h =
-    let first : x ≡ m = omega (arith, h 0 x refl) in
-    let rest = counted (m + 1) xs (λ i s e. omega (arith, h (suc i) s e)) in
-    ((λ y a. omega (arith, first, rest.1 y a), rest.0), λ y a. elim a [ inl e ↦ omega (arith, first, e) | inr b ↦ omega (arith, rest.1 y b) ])
-
-earlier : (ls : List Line) (i j t s : ℕ) (g h : GateLine) → Rising (flat_map defined_numbers ls) → slice_get ls i ≡ Some (line.Gate t g) → slice_get ls j ≡ Some (line.Gate s h) → i < j → t < s
-unfolding Rising
-earlier [] i j t s g h r at_i at_j lt = let bad : None ≡ Some (line.Gate t g) = at_i in cc
-earlier (l ∷ ls) i zero t s g h r at_i at_j lt = absurd (omega (arith, lt))
-earlier (l ∷ ls) zero (suc j) t s g h r at_i at_j lt =
-    let same : l ≡ line.Gate t g = cc in
-    let later = among_joined defined_numbers ls (line.Gate s h) s (at_place ls j (line.Gate s h) at_j) (inl refl) in
-    (subst (λ x. Rising (defined_numbers x ++ flat_map defined_numbers ls)) same r).0 s later
-earlier (l ∷ ls) (suc i) (suc j) t s g h r at_i at_j lt =
-    earlier ls i j t s g h (rising_behind (defined_numbers l) (flat_map defined_numbers ls) r) at_i at_j (omega (arith, lt))
-
--- in a rising list a lesser number stands earlier
-earlier_place : (at : List ℕ) (i j m n : ℕ) → AllPairs (λ x y. x < y) at → slice_get at i ≡ Some m → slice_get at j ≡ Some n → m < n → i < j
-earlier_place at i j m n rising at_i at_j lt =
-    let m_is = get_or_from_slice_get at i m 0 at_i in
-    let n_is = get_or_from_slice_get at j n 0 at_j in
-    elim (cases_order i j) [
-      | inl e ↦ absurd (omega (arith, lt, m_is, n_is, ap (λ k. get_or at k 0) e))
-      | inr order ↦ elim order [
-        | inl less ↦ less
-        | inr more ↦ absurd (omega (arith, rising j i 0 more (slice_get_within at i m at_i)))
-      ]
-    ]
+-- of numbers that rise, those before one are lower
+before : (xs ys : List ℕ) (t u : ℕ) → AllPairs (λ i j. i < j) (xs ++ t ∷ ys) → Among u xs → u < t
+before [] ys t u rise a = absurd a
+before (x ∷ xs) ys t u rise (inl e) =
+    let at = contained (xs ++ t ∷ ys) t (among_right xs (t ∷ ys) t (inl refl)) in
+    omega (arith, e, at.2, rise 0 (suc at.0) t (omega arith) (omega (arith, at.1)))
+before (x ∷ xs) ys t u rise (inr a) =
+    before xs ys t u
+    (λ i j d less lt. rise (suc i) (suc j) d (omega (arith, less)) (omega (arith, lt))) a
 
 module _ (ns : List Name) (lines : List Line) (at : List ℕ) (are : AreStatements ns lines at) where
   once : AllPairs (λ m n. m ≢ n) (names (statements_of ns lines))
@@ -148,7 +98,20 @@ module _ (ns : List Name) (lines : List Line) (at : List ℕ) (are : AreStatemen
 
   module _ (places : List ℕ) (defs : AreDefinitions lines places) where
     pub count : length places ≡ length ns
-    count = simp length-map at (ap length defs) ∙ (definer_count (statements_of ns lines) lines all ∙ name_count)
+    count = simp length-map at (ap length defs) ∙ simp length-map at (ap length (numbers_defined lines))
+        ∙ ap length are.numbered.own ∙ length-range_with_len 0 (length ns)
+
+    -- a gate line holds its signal's number
+    own : (s t : ℕ) (g : GateLine)
+        → slice_get (filter defines_number lines) s ≡ Some (line.Gate t g) → t ≡ s
+    own s t g e =
+        let there = ap (λ xs. slice_get xs s) (sym (numbers_defined lines))
+        ∙ slice_get-map defined_number (filter defines_number lines) s
+        ∙ ap (option_map defined_number) e in
+        let p = from_mapped Some (flat_map defined_numbers lines) s (Some t) there in
+        let both : Some p.0 ≡ Some t = p.2 in
+        let same : p.0 ≡ t = cc in
+        sym same ∙ (own_place ns lines s p.0 are.numbered p.1).0
 
     -- the pins of a signal are what a line reads
     reads : (s : ℕ) → (length (gate_pins lines s) ≤ length (flat_map read_numbers lines)) × ((p : ℕ) → Among p (gate_pins lines s) → Among p (flat_map read_numbers lines))
@@ -173,15 +136,12 @@ module _ (ns : List Name) (lines : List Line) (at : List ℕ) (are : AreStatemen
 
   -- ---- the pins of signals are those of their statements
 
-  same_pins : (s : ℕ) → gate_pins lines s ≡ pins (statements_of ns lines) s
-  same_pins s = ap pins_in (gate_is (statements_of ns lines) (statements_of ns lines) lines s all)
+  same_pins : gate_pins lines ≡ pins (statements_of ns lines)
+  same_pins = fun_ext (λ s. ap pins_in (gate_is (statements_of ns lines) (statements_of ns lines) lines s all))
 
   module _ (levels : List ℕ) (by_lines : AreLevelsOf (gate_pins lines) (length ns) levels) where
     by_names : AreLevelsOf (pins (statements_of ns lines)) (length (names (statements_of ns lines))) levels
-    by_names = record {
-      count = by_lines.count ∙ sym name_count;
-      each = λ s lt. by_lines.each s (omega (arith, lt, name_count)) ∙ ap (λ ps. level_above (map (slice_index levels) ps)) (same_pins s);
-    }
+    by_names = rw (same_pins, sym name_count) at by_lines
 
     pub circuit : lines ≢ [] → IsCircuit (statements_of ns lines)
     circuit some = record {
@@ -251,44 +211,75 @@ module _ (ns : List Name) (lines : List Line) (at : List ℕ) (are : AreStatemen
           tabled.places_are.none s i e (ap (λ xs. slice_get xs i) (sources_are (statements_of ns lines) lines all)
           ∙ (slice_get-map (signal (statements_of ns lines)) (sources (statements_of ns lines)) i ∙ (ap (option_map (signal (statements_of ns lines))) (same ∙ at) ∙ ap Some number)))
 
-  -- a signal without a level is on the lowest line at fault
-  pub refused : (places : List ℕ) (s : ℕ) → AreDefinitions lines places → IsLevelFault (gate_pins lines) (length places) (Cycle s)
-      → (slice_index places s < length at) × IsLowest (IsCyclicLine ns lines at) (slice_index at (slice_index places s))
+  -- the line of the first signal without a level is the first that is stuck
+  pub refused : (places : List ℕ) (s : ℕ) → AreDefinitions lines places
+      → IsLevelFault (gate_pins lines) (length places) (Cycle s)
+      → IsFirstStuck (statements_of ns lines) (slice_index places s)
   refused places s defs fault = go l.0 l.1 l.2
     where
-      l : (l : Line) × (slice_get lines (slice_index places s) ≡ Some l) × (slice_get (filter defines_number lines) s ≡ Some l)
+      c : List Statement
+      c = statements_of ns lines
+
+      place : ℕ
+      place = slice_index places s
+
+      l : (l : Line) × (slice_get lines place ≡ Some l)
+          × (slice_get (filter defines_number lines) s ≡ Some l)
       l = line_at lines places s defs fault.0
 
       read_by : (p : ℕ) × Contains (gate_pins lines s) p × Contains fault.1.0 p
       read_by = fault.1.1 s fault.1.2
 
-      stuck : IsStuckAt (pins (statements_of ns lines)) s
-      stuck = (fault.1.0, (λ m has. let x = fault.1.1 m has in (x.0, subst (λ ps. Contains ps x.0) (same_pins m) x.1, x.2)), fault.1.2)
+      number : (u : ℕ) (h : GateLine) → Among (line.Gate u h) lines → signal c (name_at ns u) ≡ u
+      number u h a =
+          let at = placed _ u (among_joined defined_numbers lines (line.Gate u h) u a (inl refl)) in
+          signal_at ns lines are.numbered are.once u (own_place ns lines at.0 u are.numbered at.1).1
 
-      go : (l : Line) → slice_get lines (slice_index places s) ≡ Some l → slice_get (filter defines_number lines) s ≡ Some l
-          → (slice_index places s < length at) × IsLowest (IsCyclicLine ns lines at) (slice_index at (slice_index places s))
-      go (line.Input t) here own = absurd (omega (arith, (subst (λ o. Contains (pins_in (line_gate o)) read_by.0) own read_by.1).1))
-      go (line.Output t) here own = absurd (omega (arith, (subst (λ o. Contains (pins_in (line_gate o)) read_by.0) own read_by.1).1))
-      go (line.Dff q d) here own = absurd (omega (arith, (subst (λ o. Contains (pins_in (line_gate o)) read_by.0) own read_by.1).1))
-      go (line.Gate t g) here own =
-          let within : slice_index places s < length at = omega (arith, slice_get_within lines (slice_index places s) (line.Gate t g) here, are.line_count) in
-          let own_name = gate_name (statements_of ns lines) lines s t g all own in
-          let n : Name = own_name.0 in
-          let number = signal-name_of (statements_of ns lines) s n once own_name.1 (contained (names (statements_of ns lines)) n (at_place (names (statements_of ns lines)) s n own_name.1)) in
-          let same : t ≡ s = own_name.2 ∙ number in
-          let name : name_at ns t ≡ n = ap (name_at ns) same ∙ get_or_from_slice_get ns s n [] (ap (λ xs. slice_get xs s) (sym are.numbered.names_are) ∙ own_name.1) in
-          let there = slice_get-get_or at (slice_index places s) 0 within in
-          (within, ((slice_index places s, t, g, there, here, subst (IsStuck (statements_of ns lines)) (sym name) (stuck_name (statements_of ns lines) once s n number stuck)), λ lower less cyclic. free t g here there same lower less cyclic))
+      go : (l : Line) → slice_get lines place ≡ Some l
+          → slice_get (filter defines_number lines) s ≡ Some l → IsFirstStuck c place
+      go (line.Gate t g) here own_line = (
+        name_at ns t,
+        g.kind,
+        map (name_at ns) g.pins.items,
+        slice_get-map (statement_of ns) lines place ∙ ap (option_map (statement_of ns)) here,
+        stuck_name c once s (name_at ns t) (number t g (at_place lines place _ here) ∙ same)
+            (subst (λ f. IsStuckAt f s) same_pins fault.1),
+        λ m other more has.
+            let x = mapped_from (statement_of ns) (take place lines) (Gate m other more)
+            (rw (take-map (statement_of ns) place lines) at (among _ _ has)) in
+            free m other more x.0 x.1 x.2,
+      )
         where
-          free : (t : ℕ) (g : GateLine) → slice_get lines (slice_index places s) ≡ Some (line.Gate t g) → slice_get at (slice_index places s) ≡ Some (slice_index at (slice_index places s)) → t ≡ s
-              → (lower : ℕ) → lower < slice_index at (slice_index places s) → ¬ IsCyclicLine ns lines at lower
-          free t g here there same lower less cyclic =
-              let i : ℕ = cyclic.0 in
-              let u : ℕ = cyclic.1 in
-              let before = earlier_place at i (slice_index places s) lower _ are.rising cyclic.3 there less in
-              let rising = (counted 0 (flat_map defined_numbers lines) (λ j x e. omega (arith, (own_place ns lines j x are.numbered e).0))).0 in
-              let below : u < s = omega (arith, same, earlier lines i (slice_index places s) u t cyclic.2 g rising cyclic.4 here before) in
-              let has = fault.2 u below in
-              let level = carried (gate_pins lines) (pins (statements_of ns lines)) same_pins (gate_pins lines u) has.0 has.1 in
-              not_stuck (statements_of ns lines) once u has.0 (name_at ns u) (signal_at ns lines are.numbered are.once u (omega (arith, below, fault.0, count places defs)))
-              (subst (λ ps. HaveLevels (pins (statements_of ns lines)) ps has.0) (same_pins u) level) cyclic.5
+          same : t ≡ s
+          same = own places defs s t g own_line
+
+          lower : (u : ℕ) (h : GateLine) → Among (line.Gate u h) (take place lines) → u < s
+          lower u h a =
+              let front = flat_map defined_numbers (take place lines) in
+              let all : flat_map defined_numbers lines ≡ front ++ t ∷ flat_map defined_numbers (drop (suc place) lines) =
+              ap (flat_map defined_numbers) (around lines place (line.Gate t g) here)
+              ∙ flat_map-append defined_numbers (take place lines) _ in
+              let rise = rw (sym are.numbered.own ∙ all) at (range_rises (length ns)) in
+              omega (arith, same, before front _ t u rise (among_joined defined_numbers (take place lines) (line.Gate u h) u a (inl refl)))
+
+          free : (m : Name) (other : Kind) (more : List Name) (l : Line)
+              → Among l (take place lines) → statement_of ns l ≡ Gate m other more → ¬ IsStuck c m
+          free m other more (line.Gate u h) a e =
+              let name : name_at ns u ≡ m = cc in
+              let level = fault.2 u (lower u h a) in
+              let there = among_left (take place lines) (drop place lines) _ a in
+              let own = number u h (rw (take-append-drop place lines) at there) in
+              not_stuck c once u level.0 m (rw name at own)
+              (subst (λ f. HaveLevels f (f u) level.0) same_pins level.1)
+          free m other more (line.Input u) a e =
+              let bad : Input (name_at ns u) ≡ Gate m other more = e in cc
+          free m other more (line.Output u) a e =
+              let bad : Output (name_at ns u) ≡ Gate m other more = e in cc
+          free m other more (line.Dff q d) a e =
+              let bad : Dff (name_at ns q) (name_at ns d) ≡ Gate m other more = e in cc
+      go (line.Input t) here own_line =
+          absurd (omega (arith, (subst (λ o. Contains (pins_in (line_gate o)) read_by.0) own_line read_by.1).1))
+      go (line.Output t) here own_line =
+          absurd (omega (arith, (subst (λ o. Contains (pins_in (line_gate o)) read_by.0) own_line read_by.1).1))
+      go (line.Dff q d) here own_line =
+          absurd (omega (arith, (subst (λ o. Contains (pins_in (line_gate o)) read_by.0) own_line read_by.1).1))

@@ -1,14 +1,12 @@
 -- What the passes over the lines say of the text.
-use Rattle.std.proofs.Common.{◌≡◌, ◌≢◌, ◌<◌, ◌≤◌, ℕ, zero, suc, refl, sym, ◌∙◌, ap, subst, false, List, [], ◌∷◌, length, take, map, get_or, arith, inl, inr}
-use Rattle.std.specs.Prelude.{AllPairs, Option, Some, None, slice_get, flat_map, option_map, unwrap_or}
-use Rattle.std.specs.List.{All, list_all}
+use Rattle.std.proofs.Common.{◌≡◌, ◌≢◌, ◌<◌, ◌≤◌, ℕ, suc, refl, sym, ◌∙◌, ap, false, List, length, take, map, get_or, arith, inl, inr}
+use Rattle.std.specs.Prelude.{AllPairs, Option, Some, slice_get, flat_map, option_map}
+use Rattle.std.specs.List.{list_all}
 use Rattle.std.proofs.lemmas.Bool.{both_ways}
 use Rattle.std.proofs.lemmas.Simd.{map-map}
 use Rattle.std.proofs.lemmas.List.{take-map, length-map}
-use Rattle.std.proofs.lemmas.List.Kept.{AllPairs-cons}
-use Rattle.std.proofs.lemmas.List.Elements.{All-nil, All-cons}
 use Rattle.std.proofs.lemmas.List.Folds.{flat_map-map}
-use Rattle.std.proofs.lemmas.Option.{slice_get-map, slice_get_read}
+use Rattle.std.proofs.lemmas.Option.{slice_get-map, slice_get_read, slice_get_within, get_or_from_slice_get}
 use Rattle.bench_net.specs.declared.line.Line.{Line}
 use Rattle.bench_net.specs.declared.number.StatedLine.{StatedLine}
 use Rattle.bench_net.specs.declared.Limit.{Limit}
@@ -16,21 +14,20 @@ use Rattle.bench_net.specs.declared.Limit.TheVariants.{Bytes, Signals, Sinks}
 use Rattle.bench_net.specs.declared.BenchFault.{BenchFault}
 use Rattle.bench_net.specs.declared.BenchFault.TheVariants.{TooLarge, Redefined, Undefined}
 use Rattle.bench_net.specs.declared.BenchFault.TheVariants as fault
-use Rattle.bench_net.specs.declared.line.Line.TheVariants as line
 use Rattle.bench_net.specs.Text.{lines}
-use Rattle.bench_net.specs.Statement.{Name, Statement, Input, Output, Gate, Dff, defined, read}
+use Rattle.bench_net.specs.Statement.{Name, Statement, Gate, defined, read}
 use Rattle.bench_net.specs.Reading.{statements}
-use Rattle.bench_net.specs.Refusal.{at_line, IsCyclic, IsRefused}
-use Rattle.bench_net.specs.Circuit.{IsStuck, sink_count}
-use Rattle.bench_net.specs.Stored.{name_at, statement_of, statements_of, AreStatements, IsCyclicLine, AreRefused, AreLinesOf}
+use Rattle.bench_net.specs.Refusal.{IsRefused}
+use Rattle.bench_net.specs.Circuit.{sink_count}
+use Rattle.bench_net.specs.Stored.{statements_of, AreStatements, AreRefused, AreLinesOf}
 use Rattle.bench_net.specs.reader.Parsed.{stands_for, FailsBy}
 use Rattle.bench_net.specs.reader.Entries.{entry_of, entries_of, numbered_from, statements_in, names_in, reads_in, defined_of, read_of, is_in, AreStated, AreWithin, AreFew, ArePast, MayBe, AreNumberedLines}
-use Rattle.lists.proofs.Members.{Among, among}
+use Rattle.lists.proofs.Members.{Among, among, contained}
 use Rattle.lists.proofs.Places.{from_mapped}
 use Rattle.lists.proofs.Distinct.{Distinct, distinct_from_pairs}
 use Rattle.bench_net.proofs.Checked.{among_in, some_not}
-use Rattle.bench_net.proofs.Entries.{entry_at, entry_for, statements_numbered}
-use Rattle.bench_net.proofs.Faults.{names_of, arities_of_text, redefined_lowest, undefined_lowest, no_redefinition, no_undefined}
+use Rattle.bench_net.proofs.Entries.{entry_at, statements_numbered}
+use Rattle.bench_net.proofs.Faults.{names_of, arities_of_text, redefined_lowest, undefined_lowest, cyclic_lowest, no_redefinition, no_undefined}
 use Rattle.bench_net.proofs.Numbering.{known}
 
 -- the refusal of a text where a line has the fault
@@ -78,25 +75,6 @@ module _ (text : List ℕ) (stated : List StatedLine)
     };
     same = are.same;
   }
-
--- the numbers of entries, which rise, and their statements
-abbrev numbers : ℕ → List (Option Statement) → List ℕ
-numbers line stated = map (λ entry. entry.0) (numbered_from line stated)
-
-all_above : (bound line : ℕ) (stated : List (Option Statement)) → bound ≤ line
-    → All (λ n. bound ≤ n) (numbers line stated)
-all_above bound line [] h = All-nil (λ n. bound ≤ n)
-all_above bound line (None ∷ stated) h = all_above bound (suc line) stated (omega (arith, h))
-all_above bound line (Some s ∷ stated) h =
-    All-cons (λ n. bound ≤ n) line _ h (all_above bound (suc line) stated (omega (arith, h)))
-
-numbers_rise : (line : ℕ) (stated : List (Option Statement))
-    → AllPairs (λ m n. m < n) (numbers line stated)
-numbers_rise line [] = λ i j d lt below. absurd (omega (arith, below))
-numbers_rise line (None ∷ stated) = numbers_rise (suc line) stated
-numbers_rise line (Some s ∷ stated) =
-    AllPairs-cons (λ m n. m < n) line _ (all_above (suc line) (suc line) stated (omega arith))
-    (numbers_rise (suc line) stated)
 
 module _ (text : List ℕ) (stated : List StatedLine) (of : AreWithin text stated) where
   all : (f : Statement → List Name)
@@ -156,11 +134,6 @@ module _ (text : List ℕ) (stated : List StatedLine) (of : AreWithin text state
         numbered.stand ∙ sym (map-map (λ entry. entry.1) entry_of stated)
         ∙ ap (map (λ entry. entry.1)) of.same
 
-    at_are : at ≡ numbers 1 of.stated
-    at_are =
-        numbers_are ∙ sym (map-map (λ entry. entry.0) entry_of stated)
-        ∙ ap (map (λ entry. entry.0)) of.same
-
     stand : statements_of ns ls ≡ statements of.stated
     stand = lines_are ∙ statements_numbered 1 of.stated
 
@@ -176,64 +149,31 @@ module _ (text : List ℕ) (stated : List StatedLine) (of : AreWithin text state
       signals = omega (arith, ap length (is ∙ all defined), of.within.signals);
       sinks = omega (arith, ap sink_count stand, of.within.sinks);
       line_count =
-          simp length-map at (ap length at_are) ∙ sym (simp length-map at (ap length lines_are));
-      rising = rw at_are (numbers_rise 1 of.stated);
+          simp length-map at (ap length numbers_are) ∙ sym (simp length-map at (ap length numbered.stand));
     }
-
-    to_cyclic : (number : ℕ) → IsCyclicLine ns ls at number → IsCyclic of.stated number
-    to_cyclic number h =
-        let s : Statement = statement_of ns (line.Gate h.1 h.2) in
-        let there = from_mapped (λ e. e.0) (numbered_from 1 of.stated) h.0 number
-        (ap (λ ks. slice_get ks h.0) (sym at_are) ∙ h.3) in
-        let stands = ap (λ c. slice_get c h.0) (sym lines_are)
-        ∙ slice_get-map (statement_of ns) ls h.0 ∙ ap (option_map (statement_of ns)) h.4 in
-        let both = slice_get-map (λ e. e.1) (numbered_from 1 of.stated) h.0
-        ∙ ap (option_map (λ e. e.1)) there.1 in
-        let is : there.0.1 ≡ s = ap (λ o. unwrap_or o s) (sym both ∙ stands) in
-        let l = entry_at 1 of.stated h.0 there.0.0 there.0.1 there.1 in
-        let place : suc l.0 ≡ number = omega (arith, l.1, there.2) in
-        let there = subst (λ k. at_line of.stated k ≡ Some (Some s)) place
-        (l.2 ∙ ap (λ t. Some (Some t)) is) in
-        let stuck = subst (λ c. IsStuck c (name_at ns h.1)) stand h.5 in
-        (name_at ns h.1, h.2.kind, map (name_at ns) h.2.pins.items, there, stuck)
-
-    from_cyclic : (number : ℕ) → IsCyclic of.stated number → IsCyclicLine ns ls at number
-    from_cyclic zero h = let bad : None ≡ Some (Some (Gate h.0 h.1 h.2)) = h.3 in cc
-    from_cyclic (suc j) h =
-        let p = entry_for 1 of.stated j (Gate h.0 h.1 h.2) h.3 in
-        let l = from_mapped (statement_of ns) ls p.0 (Gate h.0 h.1 h.2)
-        (ap (λ c. slice_get c p.0) lines_are
-        ∙ slice_get-map (λ e. e.1) (numbered_from 1 of.stated) p.0
-        ∙ ap (option_map (λ e. e.1)) p.1) in
-        let there = ap (λ ks. slice_get ks p.0) at_are
-        ∙ slice_get-map (λ e. e.0) (numbered_from 1 of.stated) p.0 ∙ ap (option_map (λ e. e.0)) p.1
-        ∙ ap Some (omega arith) in
-        by_line p.0 there l.0 l.1 l.2
-      where
-        by_line : (i : ℕ) → slice_get at i ≡ Some (suc j) → (l : Line) → slice_get ls i ≡ Some l
-            → statement_of ns l ≡ Gate h.0 h.1 h.2 → IsCyclicLine ns ls at (suc j)
-        by_line i a (line.Input s) e is =
-            let bad : Input (name_at ns s) ≡ Gate h.0 h.1 h.2 = is in cc
-        by_line i a (line.Output s) e is =
-            let bad : Output (name_at ns s) ≡ Gate h.0 h.1 h.2 = is in cc
-        by_line i a (line.Dff q d) e is =
-            let bad : Dff (name_at ns q) (name_at ns d) ≡ Gate h.0 h.1 h.2 = is in cc
-        by_line i a (line.Gate s g) e is =
-            let name : h.0 ≡ name_at ns s = cc in
-            let stuck = subst (λ c. IsStuck c h.0) (sym stand) h.4 in
-            (i, s, g, a, e, subst (λ n. IsStuck (statements_of ns ls) n) name stuck)
 
     refused : (f : BenchFault) → AreRefused ns ls at f → IsRefused text f
     refused (fault.Empty) r = (of.stated, of.within, sym stand ∙ ap (statements_of ns) r)
-    refused (fault.Cycle number) r =
-        let lower : (k : ℕ) → k < number → ¬ IsCyclic of.stated k =
-        λ k lt f. r.1 k lt (from_cyclic k f) in (
+    refused (fault.Cycle number) (i, numbered_at, (n, kind, args, here, stuck, free)) =
+        let l = from_mapped (λ line. line.number) stated i number (rw numbers_are at numbered_at) in
+        let p = place i l.0 (slice_get_within stated i l.0 l.1)
+        (sym (get_or_from_slice_get stated i l.0 l.0 l.1)) in
+        let read = slice_get-map (λ line. stands_for line.statement) stated i
+        ∙ ap (option_map (λ line. stands_for line.statement)) l.1 in
+        let both : Some (stands_for l.0.statement) ≡ Some (Gate n kind args) =
+        sym read ∙ ap (λ c. slice_get c i) (sym numbered.stand) ∙ here in
+        let states : stands_for l.0.statement ≡ Gate n kind args = cc in
+        let line_is : number ≡ suc p.0 = sym l.2 ∙ p.1 in
+        let before = p.3 ∙ sym (take-map (λ line. stands_for line.statement) i stated)
+        ∙ ap (take i) (sym numbered.stand) in (
           of.stated,
           of.within,
           no_redefinition of.stated (distinct_from_pairs _ (rw (← all defined) once)),
           no_undefined of.stated (λ n has. rw (← all defined, ← is)
               (known ns ls numbered.in_range n (among _ n (rw (sym stand) at has)))),
-          (to_cyclic number r.0, lower),
+          rw line_is (cyclic_lowest of.stated p.0 n kind args (p.2 ∙ ap (λ s. Some (Some s)) states)
+              (rw stand at stuck) (λ m other more a. rw (← stand)
+              (free m other more (contained _ _ (rw before at a))))),
         )
     refused (fault.TooLarge limit) r = absurd r
     refused (fault.Syntax l) r = absurd r

@@ -31,20 +31,6 @@ entry_at line (Some t ∷ stated) (suc i) n s e =
     let p = entry_at (suc line) stated i n s e in
     (suc p.0, omega (arith, p.1), p.2, ap (λ c. t ∷ c) p.3)
 
--- and what a line states has an entry
-pub entry_for : (line : ℕ) (stated : List (Option Statement)) (j : ℕ) (s : Statement)
-    → slice_get stated j ≡ Some (Some s)
-    → (i : ℕ) × (slice_get (numbered_from line stated) i ≡ Some (line + j, s))
-entry_for line [] j s e = let bad : None ≡ Some (Some s) = e in cc
-entry_for line (None ∷ stated) zero s e = let bad : Some None ≡ Some (Some s) = e in cc
-entry_for line (None ∷ stated) (suc j) s e =
-    let p = entry_for (suc line) stated j s e in (p.0, p.1 ∙ ap (λ n. Some (n, s)) (omega arith))
-entry_for line (Some t ∷ stated) zero s e =
-    let same : t ≡ s = cc in (0, rw same (ap (λ n. Some (n, s)) (omega arith)))
-entry_for line (Some t ∷ stated) (suc j) s e =
-    let p = entry_for (suc line) stated j s e in
-    (suc p.0, p.1 ∙ ap (λ n. Some (n, s)) (omega arith))
-
 pub statements_numbered : (line : ℕ) (stated : List (Option Statement))
     → map (λ e. e.1) (numbered_from line stated) ≡ statements stated
 statements_numbered line [] = refl

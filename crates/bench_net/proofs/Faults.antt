@@ -15,10 +15,11 @@ use Rattle.bench_net.specs.Text.{is_word_byte, is_mark, lines}
 use Rattle.bench_net.specs.Statement.{Name, Statement, Gate, defined, read}
 use Rattle.bench_net.specs.Reading.{States, LinesState, statements}
 use Rattle.bench_net.specs.Scan.{names}
-use Rattle.bench_net.specs.Circuit.{HaveArities}
-use Rattle.bench_net.specs.Refusal.{at_line, IsLowest, NoLine, IsSyntaxFault, IsRedefinition, IsUndefined}
+use Rattle.bench_net.specs.Circuit.{HaveArities, IsStuck}
+use Rattle.bench_net.specs.Refusal.{at_line, IsLowest, NoLine, IsSyntaxFault, IsRedefinition, IsUndefined, IsCyclic}
 use Rattle.bench_net.specs.reader.Parsed.{stated_of}
 use Rattle.lists.proofs.Members.{Among, among, contained, among_left, among_right, among_joined, joined_from, each_passes}
+use Rattle.bench_net.specs.declared.Kind.{Kind}
 use Rattle.lists.proofs.Distinct.{Distinct, distinct_append}
 use Rattle.bench_net.proofs.Reader.{unstated}
 use Rattle.bench_net.proofs.Checked.{defined_few}
@@ -42,7 +43,7 @@ at_front (x ∷ xs) (suc j) (suc zero) lt = refl
 at_front (x ∷ xs) (suc j) (suc (suc k)) lt = at_front xs j (suc k) (omega (arith, lt))
 
 -- the lines around a place
-around : {X : Type 0} (xs : List X) (i : ℕ) (x : X) → slice_get xs i ≡ Some x
+pub around : {X : Type 0} (xs : List X) (i : ℕ) (x : X) → slice_get xs i ≡ Some x
     → xs ≡ take i xs ++ (x ∷ drop (suc i) xs)
 around [] i x e = let bad : None ≡ Some x = e in cc
 around (y ∷ xs) zero x e = let same : y ≡ x = cc in ap (λ z. z ∷ xs) same
@@ -221,3 +222,18 @@ pub no_undefined : (stated : List Stated)
 no_undefined stated known line bad =
     let s = line_among stated line bad.1.0 bad.1.1 in
     bad.2 (known bad.0 (contained _ _ (among_joined read _ bad.1.0 _ s (among _ _ bad.1.2))))
+
+-- ---- a gate line that is on a cycle or fed by one
+
+pub cyclic_lowest : (stated : List Stated) (j : ℕ) (n : Name) (kind : Kind) (args : List Name)
+    → slice_get stated j ≡ Some (Some (Gate n kind args)) → IsStuck (statements stated) n
+    → ((m : Name) (other : Kind) (more : List Name)
+    → Among (Gate m other more) (statements (take j stated)) → ¬ IsStuck (statements stated) m)
+    → IsLowest (IsCyclic stated) (suc j)
+cyclic_lowest stated j n kind args at stuck free = ((n, kind, args, at, stuck), lower)
+  where
+    lower : (line : ℕ) → line < suc j → ¬ IsCyclic stated line
+    lower line lt bad =
+        let there = line_among (take j stated) line (Gate bad.0 bad.1 bad.2)
+        (at_front stated j line lt ∙ bad.3) in
+        free bad.0 bad.1 bad.2 there bad.4
