@@ -1,15 +1,15 @@
 //! The levels of signals, or a gate that has none: on a cycle of gates or fed by one.
 
-ghost use Rattle.std.specs.Prelude.{◌≡◌, ◌+◌, ◌^◌, ◌<◌, ◌≤◌, ℕ, length, map, reverse, slice_index, sum_by, AllPairs, [], ◌∷◌, IfOk, IfErr, OnOk};
+ghost use Rattle.std.specs.Prelude.{◌≡◌, ◌+◌, ◌^◌, ◌<◌, ◌≤◌, ℕ, length, map, reverse, slice_index, sum_by, All, [], ◌∷◌, IfOk, IfErr, OnOk};
 ghost use Rattle.bench_net.specs.Level.{greatest};
-ghost use Rattle.std.specs.List.{range_with_len};
-ghost use Rattle.std.specs.List.Sorted.{IsPermutation};
-ghost use Rattle.bench_net.specs.Rows.{GoesFirst};
+ghost use Rattle.std.specs.List.{flat_map};
+ghost use Rattle.bench_net.specs.Rows.{places_by, rows_of};
 ghost use Rattle.bench_net.specs.Tables.{AreDefinitions};
 ghost use Rattle.bench_net.specs.Marks.{gate_pins, IsGraph, AreLevelsOf, IsLevelFault, IsSearch, steps, level_in};
 ghost use Rattle.bench_net.specs.declared.levels.LevelFault.TheVariants.{Memory};
 
 use crate::line::Line;
+use crate::rows::{add, empty};
 use std::alloc::{AllocError, AllocFailed, Global};
 
 /// The level of each signal, the signals in the order of their levels, and the greatest level.
@@ -165,6 +165,8 @@ fn signal_levels(alloc: Global, lines: &[Line], definitions: &[u32]) -> Result<V
     requires graph { IsGraph lines.now definitions.now }
     ensures levels { IfOk result (λ levels. AreLevelsOf (gate_pins lines.now)
         (length definitions.now) levels.items) }
+    ensures small { IfOk result (λ levels. (s : ℕ) → s < length levels.items
+        → slice_index levels.items s ≤ length levels.items) }
     ensures fault { IfErr result (IsLevelFault (gate_pins lines.now) (length definitions.now)) }
 {
     let mut marks = vec![in alloc; Mark::Unknown; definitions.len()]?;
@@ -186,30 +188,29 @@ fn greatest(levels: &[u32]) -> u32
     greatest
 }
 
-/// The level of a signal, and 0 of none.
-fn level_at(levels: &[u32], signal: u32) -> u32
-    ensures { result ≡ slice_index levels.now signal }
+/// The rows one behind the other.
+fn joined(alloc: Global, rows: &[Vec<u32>]) -> Result<Vec<u32>, AllocError>
+    ensures { IfOk result (λ joined. joined.items ≡ flat_map (λ row. row.items) rows.now) }
 {
-    levels.get(signal as usize).copied().unwrap_or(0)
+    let mut joined = Vec::new(alloc);
+    for row in rows {
+        joined.extend_from_slice(row)?;
+    }
+    Ok(joined)
 }
 
-/// All signals, by number.
-fn all_signals(alloc: Global, count: u32) -> Result<Vec<u32>, AllocError>
-    ensures { IfOk result (λ signals. signals.items ≡ range_with_len 0 count) }
+/// The signals of each level up to the greatest, by number.
+fn by_level(alloc: Global, levels: &[u32], depth: u32) -> Result<Vec<Vec<u32>>, AllocError>
+    requires few { length levels.now < 2 ^ 32 }
+    requires below { All (λ level. level < depth + 1) levels.now }
+    ensures { IfOk result (λ rows. map (λ row. row.items) rows.items
+        ≡ rows_of (depth + 1) (places_by levels.now)) }
 {
-    (0..count).collect(alloc)
-}
-
-/// The signals by level, and within a level by number.
-fn by_level(alloc: Global, levels: &[u32]) -> Result<Vec<u32>, AllocError>
-    requires { length levels.now < 2 ^ 32 }
-    ensures all { IfOk result (λ order.
-        IsPermutation (range_with_len 0 (length levels.now)) order.items) }
-    ensures ordered { IfOk result (λ order. AllPairs (GoesFirst levels.now) order.items) }
-{
-    let mut order = all_signals(alloc, levels.len() as u32)?;
-    order.sort_by_key(|signal| level_at(levels, *signal))?;
-    Ok(order)
+    let mut rows = empty(alloc, depth as usize + 1)?;
+    for (signal, level) in levels.iter().enumerate() {
+        add(&mut rows, *level, signal as u32)?;
+    }
+    Ok(rows)
 }
 
 /// The levels of lines whose definitions stand at these places.
@@ -217,15 +218,14 @@ pub fn levels_of(alloc: Global, lines: &[Line], definitions: &[u32]) -> Result<L
     requires graph { IsGraph lines.now definitions.now }
     ensures levels { IfOk result (λ l. AreLevelsOf (gate_pins lines.now)
         (length definitions.now) l.levels.items) }
-    ensures all { IfOk result (λ l.
-        IsPermutation (range_with_len 0 (length l.levels.items)) l.order.items) }
-    ensures ordered { IfOk result (λ l. AllPairs (GoesFirst l.levels.items) l.order.items) }
+    ensures order { IfOk result (λ l. l.order.items
+        ≡ flat_map (λ row. row) (rows_of (l.depth + 1) (places_by l.levels.items))) }
     ensures depth { IfOk result (λ l. l.depth ≡ greatest l.levels.items) }
     ensures fault { IfErr result (IsLevelFault (gate_pins lines.now) (length definitions.now)) }
 {
     let levels = signal_levels(alloc, lines, definitions)?;
     let depth = greatest(&levels);
-    let order = by_level(alloc, &levels)?;
+    let order = joined(alloc, &by_level(alloc, &levels, depth)?)?;
     Ok(Levels {
         levels,
         order,

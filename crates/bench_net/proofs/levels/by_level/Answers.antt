@@ -1,14 +1,8 @@
-use Rattle.std.proofs.Common.{rules}
-use Rattle.std.specs.Prelude.{slice_index, length}
-use Rattle.std.proofs.lemmas.Fn.{always_returns_same}
-use Rattle.std.proofs.lemmas.List.Sorted.{IsNonDecreasingBy-from_sort_by_key}
-use Rattle.bench_net.proofs.Grouped.{sorted_by, range_rises}
+use Rattle.std.proofs.Common.{◌∙◌, ◌+◌, arith}
+use Rattle.std.proofs.Math.ListN.{drop_of_length-le}
+use Rattle.bench_net.specs.Rows.{places_by}
+use Rattle.bench_net.proofs.Grouped.{grouped}
 use Rattle.bench_net.proofs.levels.by_level.Goals as goal
 
-pub returns-clause-ordered : goal.returns-clause-ordered
-returns-clause-ordered c =
-    let key = slice_index c.args.levels.now in
-    let rise = rw (← c.in_ok-order.ensures) at (range_rises (length c.args.levels.now)) in
-    sorted_by c.args.levels.now c.in_ok-order.order.items c.sort_by_key.new.self.items rise
-    (IsNonDecreasingBy-from_sort_by_key key _ c.in_ok-sort_by_key.ensures.sorted (λ a r q k. search rules))
-    (c.sort_by_key.ensures.stable key (always_returns_same _ _ _ (λ a r q k. search rules)))
+pub returns : goal.returns
+returns c = (rw (drop_of_length-le c.args.levels.now {i = c.loop-signal.signal} (omega arith)) at c.loop-signal.invariant.rows) ∙ grouped (c.args.depth + 1) (places_by c.args.levels.now)
