@@ -1,16 +1,15 @@
 -- Numbered statements with levels are a circuit with its tables, and without are refused.
 use mathlib.Core.Path.{fun_ext}
-use Rattle.bench_net.proofs.Grouped.{range_rises}
-use Rattle.bench_net.proofs.Faults.{around}
-use Rattle.bench_net.specs.declared.Kind.{Kind}
 use Rattle.std.proofs.lemmas.List.Concat.{flat_map-append}
-use Rattle.std.specs.List.Sorted.{IsPermutation}
-use Rattle.std.specs.List.{range_with_len}
-use Rattle.std.proofs.Common.{◌≡◌, ◌≢◌, ◌<◌, ◌≤◌, ◌^◌, ℕ, suc, get_or, map, sym, ◌∙◌, ap, subst, refl, List, [], ◌∷◌, ◌++◌, length, filter, arith, inl, inr, take, drop}
+use Rattle.std.proofs.lemmas.List.FromFn.{length-range_with_len}
+use Rattle.bench_net.proofs.Faults.{around}
+use Rattle.bench_net.proofs.Grouped.{range_rises}
+use Rattle.bench_net.proofs.Marking.{greatest-at}
+use Rattle.bench_net.specs.declared.Kind.{Kind}
+use Rattle.std.proofs.Common.{◌≡◌, ◌≢◌, ◌<◌, ◌≤◌, ◌+◌, ℕ, suc, get_or, map, sym, ◌∙◌, ap, subst, refl, List, [], ◌∷◌, ◌++◌, length, filter, arith, inl, inr, take, drop}
 use Rattle.std.specs.Prelude.{Option, Some, None, slice_get, slice_index, slice_index_or, Contains, AllPairs, flat_map, option_map}
 use Rattle.std.proofs.lemmas.List.{length-map, take-map, take-append-drop}
 use Rattle.std.specs.List.{filter_map}
-use Rattle.std.proofs.lemmas.List.FromFn.{get_or-map-range_with_len, length-map-range_with_len, length-range_with_len}
 use Rattle.std.proofs.lemmas.List.Elements.{Contains-get_or, All-contains}
 use Rattle.std.proofs.lemmas.Option.{slice_get_within, slice_get-map, slice_get-get_or}
 use Rattle.bench_net.specs.declared.GateLine.{GateLine}
@@ -24,15 +23,15 @@ use Rattle.bench_net.specs.Scan.{names, signal, sources}
 use Rattle.bench_net.specs.Circuit.{IsCircuit, IsStuck, sink_count}
 use Rattle.bench_net.specs.Level.{greatest}
 use Rattle.bench_net.specs.Stored.{name_at, statement_of, statements_of, defined_numbers, read_numbers, AreStatements, IsFirstStuck}
-use Rattle.bench_net.specs.declared.Sink.{Sink}
-use Rattle.bench_net.specs.Rows.{items_at, GoesFirst}
-use Rattle.bench_net.specs.Tables.{output_number, defines_number, line_gate, all_readers, source_signals, AreTableLines, AreTables, AreDefinitions, defined_number}
+use Rattle.bench_net.specs.declared.sinks.Reader.{Reader}
+use Rattle.bench_net.specs.Rows.{AreRows}
+use Rattle.bench_net.specs.Tables.{output_number, defines_number, line_gate, all_readers, sinks_at, source_signals, AreTableLines, AreTables, AreDefinitions, defined_number}
 use Rattle.bench_net.specs.Marks.{pins_in, gate_pins, IsGraph, AreLevelsOf, HaveLevels, IsStuckAt, IsLevelFault}
 use Rattle.bench_net.specs.Inside.{IsInside, IsPlace}
 use Rattle.lists.proofs.Members.{Among, among, contained, mapped_from, filtered_from, among_joined, among_left, among_right}
 use Rattle.lists.proofs.Places.{at_place, from_mapped, placed}
 use Rattle.lists.proofs.Distinct.{distinct_from_pairs}
-use Rattle.bench_net.proofs.Counted.{few_lines, few_sources, output_count, outputs_read, line_count}
+use Rattle.bench_net.proofs.Counted.{few_lines, few_sources, line_reads, reader_count, reader_reads, line_count, all_fit}
 use Rattle.bench_net.proofs.Gates.{pins, source_statement, named, signal_below, named_number, not_stuck, stuck_name, numbering, has_level, has_depth, level_order}
 use Rattle.bench_net.proofs.Listed.{line_at}
 use Rattle.bench_net.proofs.Named.{AreStated, stated, inputs_are, outputs_are, cells_are, sources_are, sinks_are, cells_once, gate_is, signal_at, own_place}
@@ -79,22 +78,18 @@ module _ (ns : List Name) (lines : List Line) (at : List ℕ) (are : AreStatemen
 
   pub table_lines : AreTableLines lines (length ns)
   table_lines = record {
-    few_lines = line_total;
+    few_lines = omega (arith, few_lines lines, read_count, are.sinks, are.signals, ap length are.numbered.own, length-range_with_len 0 (length ns));
     few_signals = omega (arith, are.signals);
     few_sources = omega (arith, ap length (sources_are (statements_of ns lines) lines all), length-map (sources (statements_of ns lines)) (signal (statements_of ns lines)), (few_sources (statements_of ns lines)).1, name_count, are.signals);
     sources_below = λ i d lt. source_in (get_or (source_signals lines) i d) (among _ _ (Contains-get_or (source_signals lines) i d lt));
-    few_outputs = omega (arith, output_count lines, line_total);
-    outputs_below = λ i d lt. reads_below _ (outputs_read lines _ (among _ _ (Contains-get_or (filter_map output_number lines) i d lt)));
-    lines_fit = λ i d lt.
-        let a = among lines _ (Contains-get_or lines i d lt) in
-        (omega (arith, line_count lines _ a, read_count, are.sinks), λ j s h. reads_below _ (among_joined read_numbers lines _ _ a (among _ _ (Contains-get_or (read_numbers (get_or lines i d)) j s h))));
+    few_outputs = omega (arith, line_reads 0 lines, read_count, are.sinks);
+    few_readers = omega (arith, reader_count lines, read_count, are.sinks);
+    readers_below = λ i d lt. All-contains (λ x. x < length ns) (flat_map read_numbers lines) (get_or readers i d).signal are.numbered.in_range (contained _ _ (reader_reads lines (get_or readers i d) (among readers (get_or readers i d) (Contains-get_or readers i d lt))));
+    pins_fit = λ l has. all_fit lines l (omega (arith, read_count, are.sinks)) (among lines l has);
   }
     where
-      reads_below : (s : ℕ) → Among s (flat_map read_numbers lines) → s < length ns
-      reads_below s a = All-contains (λ x. x < length ns) (flat_map read_numbers lines) s are.numbered.in_range (contained _ s a)
-
-      line_total : length lines < 2 ^ 31
-      line_total = omega (arith, few_lines lines, read_count, are.sinks, are.signals, ap length are.numbered.own, length-range_with_len 0 (length ns))
+      readers : List Reader
+      readers = all_readers lines (filter_map output_number lines)
 
   module _ (places : List ℕ) (defs : AreDefinitions lines places) where
     pub count : length places ≡ length ns
@@ -165,9 +160,9 @@ module _ (ns : List Name) (lines : List Line) (at : List ℕ) (are : AreStatemen
             subst (λ xs. Contains xs n) (sym are.numbered.names_are) (known ns lines are.numbered.in_range n (among _ n c))
 
   pub inside : (tables : Tables) (table : Levels) → AreTables lines (length ns) tables → AreLevelsOf (gate_pins lines) (length ns) table.levels.items
-      → IsPermutation (range_with_len 0 (length table.levels.items)) table.order.items → AllPairs (GoesFirst table.levels.items) table.order.items
+      → (starts : List ℕ) → AreRows table.levels.items (table.depth + 1) starts table.order.items
       → table.depth ≡ greatest table.levels.items → lines ≢ [] → IsInside (statements_of ns lines) ns lines tables table
-  inside tables table tabled by_lines listed ordered depth some = record {
+  inside tables table tabled by_lines starts rows depth some = record {
     circuit = circuit table.levels.items by_lines some;
     names_are = are.numbered.names_are;
     inputs_are = tabled.inputs_are ∙ inputs_are c lines all;
@@ -180,25 +175,20 @@ module _ (ns : List Name) (lines : List Line) (at : List ℕ) (are : AreStatemen
     definitions_are = λ s lt.
         let l = line_at lines tables.definitions.items s tabled.definitions_are (omega (arith, lt, name_count, count tables.definitions.items tabled.definitions_are)) in
         (l.0, l.1, ap line_gate (sym l.2) ∙ gate_is c c lines s all);
-    sink_count = omega (arith, length-map tables.sinks.items (λ row. row.items), ap length tabled.sinks_are, length-map-range_with_len (items_at readers) 0 (length ns), name_count);
+    have_rows = λ s lt. tabled.sinks_are.have_rows s (omega (arith, lt, name_count));
     sinks_are = λ s n e.
         let has = contained (names c) n (at_place (names c) s n e) in
         let number = signal-name_of c s n once e has in
-        let lt : s < length ns = omega (arith, slice_get_within (names c) s n e, name_count) in
-        ap (λ rows. slice_index_or rows s []) tabled.sinks_are
-        ∙ (get_or-map-range_with_len (items_at readers) 0 (length ns) s s [] lt (omega arith)
-        ∙ (ap (items_at readers) (sym number) ∙ sinks_are c n has lines all (cells_once c (distinct_from_pairs (names c) once))));
+        tabled.sinks_are.rows s (omega (arith, slice_get_within (names c) s n e, name_count))
+        ∙ (ap (sinks_at (all_readers lines (filter_map output_number lines))) (sym number) ∙ sinks_are c n has lines all (cells_once c (distinct_from_pairs (names c) once)));
     level_count = by_lines.count ∙ sym name_count;
     levels_are = has_level c once are.arities table.levels.items (by_names table.levels.items by_lines);
-    order_is = level_order c once are.arities table.levels.items (by_names table.levels.items by_lines) table.order.items listed ordered;
+    order_is = level_order c once are.arities table.levels.items (by_names table.levels.items by_lines) table.order.items starts (table.depth + 1) rows (λ i lt. omega (arith, greatest-at table.levels.items i lt, depth));
     depth_is = has_depth c once are.arities table.levels.items (by_names table.levels.items by_lines) table.depth depth;
   }
     where
       c : List Statement
       c = statements_of ns lines
-
-      readers : List (ℕ × Sink)
-      readers = all_readers lines (filter_map output_number lines)
 
       place_at : (s : ℕ) (place : Option ℕ) → slice_get tables.source_places.items s ≡ Some place → s < length (names (statements_of ns lines)) → IsPlace (statements_of ns lines) s place
       place_at s (Some i) e lt =

@@ -1,13 +1,12 @@
 -- Levels and stuck gates of a statement list, by the numbers of its signals.
 use Rattle.std.proofs.Common.{◌≡◌, ◌≢◌, ◌<◌, ◌≤◌, ◌+◌, ◌==◌, ℕ, max, sym, ◌∙◌, ap, subst, refl, Bool, true, List, [], ◌∷◌, map, length, get_or, filter, arith, inl, inr}
-use Rattle.std.specs.Prelude.{Option, Some, None, slice_get, slice_index, slice_index_or, Contains, AllPairs, bytes_eq, flat_map}
-use Rattle.std.specs.List.{list_any, position_or_len, range_with_len}
+use Rattle.std.specs.Prelude.{Option, Some, None, slice_get, slice_index, slice_index_or, Contains, AllPairs, bytes_eq}
+use Rattle.std.specs.List.{list_any, position_or_len}
 use Rattle.std.proofs.lemmas.Bool.{eq-eqb, eqb-true, cases_Bool}
 use Rattle.std.proofs.Math.Numerals.{one-add}
 use Rattle.std.proofs.lemmas.List.Elements.{Contains-get_or}
 use Rattle.std.proofs.lemmas.List.{length-map, same_lists, get_or-map, get_or_default}
 use Rattle.std.proofs.lemmas.Option.{slice_get-get_or, slice_get_within}
-use Rattle.std.proofs.lemmas.List.Folds.{flat_map-map}
 use Rattle.std.proofs.lemmas.Simd.{map-map}
 use Rattle.bench_net.specs.declared.Kind.{Kind}
 use Rattle.bench_net.specs.Statement.{Name, Statement, Input, Gate, Output, Dff, defined, defines}
@@ -15,13 +14,13 @@ use Rattle.bench_net.specs.Scan.{names, signal, name_of, definition, gate_line, 
 use Rattle.bench_net.specs.Circuit.{HaveArities, IsNumbering, IsStuckSet, IsStuck}
 use Rattle.bench_net.specs.Level.{greatest, AreLevels, HasLevel, IsLevelOrder, HasDepth}
 use Rattle.bench_net.specs.Marks.{pins_in, level_above, AreLevelsOf, HaveLevels, no_signal, one_more, IsStuckAt}
-use Rattle.bench_net.specs.Rows.{items_at, rows_of, places_by}
+use Rattle.bench_net.specs.Rows.{AreRows}
 use Rattle.lists.proofs.Members.{Among, among, contained, some_passes, among_filter, among_append, among_map, among_joined, mapped_from}
 use Rattle.lists.proofs.Places.{placed}
 use Rattle.bench_net.proofs.Checked.{any_true, same_bytes}
 use Rattle.bench_net.proofs.Numbers.{at_position, definition_defines, signal-name_of}
 use Rattle.bench_net.proofs.Marking.{greatest-cons}
-use Rattle.bench_net.proofs.Grouped.{GoesFirst, place_listed, places_ordered, place_count}
+use Rattle.bench_net.proofs.Grouped.{place_listed, places_ordered}
 use Rattle.bench_net.proofs.Reader.{some_args}
 
 -- the signals that the gate of a signal reads
@@ -201,12 +200,10 @@ module _ (c : List Statement) (once : AllPairs (λ m n. m ≢ n) (names c)) wher
                 get_or-map (λ x. slice_index levels (signal c x)) (names c) k [] d lt
                 ∙ (ap (slice_index levels) (signal-name_of c k n once (slice_get-get_or (names c) k [] lt) (Contains-get_or (names c) k [] lt)) ∙ get_or_default levels k 0 d (omega (arith, lt, are.count)))
 
-    pub level_order : (order : List ℕ) (depth : ℕ) → order ≡ flat_map (λ row. row) (rows_of (depth + 1) (places_by levels)) → ((i : ℕ) → i < length levels → get_or levels i 0 < depth + 1) → IsLevelOrder c order
-    level_order order depth is below =
-        let rows = is ∙ flat_map-map (λ row. row) (items_at (places_by levels)) (range_with_len 0 (depth + 1)) in record {
-          all = λ s lt. let within : s < length levels = omega (arith, lt, are.count) in
-              contained order s (subst (Among s) (sym rows) (place_listed levels (depth + 1) s within (below s within)));
-          count = ap length is ∙ (place_count levels (depth + 1) below ∙ are.count);
-          ordered = λ a b d less lt. let goes = subst (AllPairs (GoesFirst levels)) (sym rows) (places_ordered levels 0 (depth + 1)) a b d less lt in
-              (get_or levels (get_or order a d) 0, get_or levels (get_or order b d) 0, has_level (get_or order a d) (omega (arith, goes.0, are.count)), has_level (get_or order b d) (omega (arith, goes.1, are.count)), goes.2);
-        }
+    pub level_order : (order starts : List ℕ) (count : ℕ) → AreRows levels count starts order → ((i : ℕ) → i < length levels → get_or levels i 0 < count) → IsLevelOrder c order
+    level_order order starts count rows below = record {
+      all = λ s lt. let within : s < length levels = omega (arith, lt, are.count) in place_listed levels starts order count s rows within (below s within);
+      count = rows.places_count ∙ are.count;
+      ordered = λ a b d less lt. let goes = places_ordered levels starts order count rows a b d less lt in
+          (get_or levels (get_or order a d) 0, get_or levels (get_or order b d) 0, has_level (get_or order a d) (omega (arith, goes.0, are.count)), has_level (get_or order b d) (omega (arith, goes.1, are.count)), goes.2);
+    }

@@ -11,13 +11,13 @@ use Rattle.std.proofs.lemmas.Option.{slice_get-get_or, slice_get_within, get_or_
 use Rattle.bench_net.specs.declared.GateLine.{GateLine}
 use Rattle.bench_net.specs.declared.Sink.{Sink}
 use Rattle.bench_net.specs.declared.Sink.TheVariants.{Pin, Data, Out}
+use Rattle.bench_net.specs.declared.sinks.Reader.{Reader}
 use Rattle.bench_net.specs.declared.line.Line.{Line}
 use Rattle.bench_net.specs.declared.line.Line.TheVariants as line
 use Rattle.bench_net.specs.Statement.{Name, Statement, Input, Output, Gate, Dff, defines}
 use Rattle.bench_net.specs.Scan.{names, signal, gate_line, cell, inputs, outputs, cells, sources, places, pins_of, sinks}
 use Rattle.bench_net.specs.Stored.{name_at, statements_of, defined_numbers, read_numbers, AreNumbered}
-use Rattle.bench_net.specs.Tables.{input_number, output_number, cell_numbers, defines_number, source_signals, pin_readers, output_readers, line_readers, all_readers, line_gate}
-use Rattle.bench_net.specs.Rows.{items_at, keyed}
+use Rattle.bench_net.specs.Tables.{input_number, output_number, cell_numbers, defines_number, source_signals, pin_readers, output_readers, line_readers, all_readers, sinks_at, line_gate}
 use Rattle.lists.proofs.Members.{Among, contained, among_left, among_right}
 use Rattle.lists.proofs.Distinct.{Distinct}
 use Rattle.lists.proofs.Places.{placed}
@@ -91,10 +91,10 @@ gate_is whole c ls (suc s) (flip_flop q d t u b ks e h are) = gate_is whole b ks
 
 -- ---- sinks
 
-sinks-append : (xs ys : List (ℕ × Sink)) (s : ℕ) → items_at (xs ++ ys) s ≡ items_at xs s ++ items_at ys s
+sinks-append : (xs ys : List Reader) (s : ℕ) → sinks_at (xs ++ ys) s ≡ sinks_at xs s ++ sinks_at ys s
 sinks-append xs ys s =
-    ap (map (λ reader. reader.1)) (filter-append (λ reader. reader.0 == s) xs ys)
-    ∙ map-append (λ reader. reader.1) (filter (λ reader. reader.0 == s) xs) (filter (λ reader. reader.0 == s) ys)
+    ap (map (λ reader. reader.sink)) (filter-append (λ reader. reader.signal == s) xs ys)
+    ∙ map-append (λ reader. reader.sink) (filter (λ reader. reader.signal == s) xs) (filter (λ reader. reader.signal == s) ys)
 
 -- ---- the cells' names are defined once
 
@@ -131,7 +131,7 @@ module _ (whole : List Statement) (n : Name) (named : Contains (names whole) n) 
 
   -- numbered readers of one kind
   numbered : (kind : ℕ → Sink) (k : ℕ) (xs : List Name)
-      → items_at (keyed kind k (map (signal whole) xs)) (signal whole n)
+      → sinks_at (map (λ at. record { signal = at.1; sink = kind at.0 }) (enumerate_from k (map (signal whole) xs))) (signal whole n)
       ≡ map kind (map (λ at. at.0) (filter (λ at. bytes_eq n at.1) (enumerate_from k xs)))
   numbered kind k [] = refl
   numbered kind k (x ∷ xs) =
@@ -145,33 +145,33 @@ module _ (whole : List Statement) (n : Name) (named : Contains (names whole) n) 
   -- the sinks of the lines from one on, before which these cells stand
   line_sinks : (before : List Name) (c : List Statement) (ls : List Line) → AreStated (signal whole) c ls
       → Distinct (before ++ map (λ cell. cell.0) (cells c)) → map (λ cell. cell.0) (cells whole) ≡ before ++ map (λ cell. cell.0) (cells c)
-      → items_at (line_readers (length before) ls) (signal whole n) ≡ flat_map (pins_of whole n) c
+      → sinks_at (line_readers (length before) ls) (signal whole n) ≡ flat_map (pins_of whole n) c
   line_sinks before c ls no_line once is = refl
   line_sinks before c ls (input m s b ks e are) once is = line_sinks before b ks are once is
   line_sinks before c ls (output m s b ks e are) once is = line_sinks before b ks are once is
   line_sinks before c ls (gate m s args g b ks e ps are) once is =
-      let first = ap (λ xs. items_at (pin_readers s xs) (signal whole n)) ps ∙ numbered (Pin s) 0 args in
+      let first = ap (λ xs. sinks_at (pin_readers s xs) (signal whole n)) ps ∙ numbered (Pin s) 0 args in
       let rest = line_sinks before b ks are once is in
       sinks-append (pin_readers s g.pins.items) (line_readers (length before) ks) (signal whole n)
-      ∙ (ap (λ xs. xs ++ items_at (line_readers (length before) ks) (signal whole n)) first
+      ∙ (ap (λ xs. xs ++ sinks_at (line_readers (length before) ks) (signal whole n)) first
       ∙ (ap (λ ys. map (λ pin. Pin s pin) (places n args) ++ ys) rest
       ∙ ap (λ u. map (λ pin. Pin u pin) (places n args) ++ flat_map (pins_of whole n) b) e))
   line_sinks before c ls (flip_flop q d s t b ks e h are) once is =
       let same = bytes_at d in
       let later = line_sinks (before ++ q ∷ []) b ks are (rw (append_assoc before (q ∷ []) (map (λ cell. cell.0) (cells b))) once) (is ∙ sym (append_assoc before (q ∷ []) (map (λ cell. cell.0) (cells b)))) in
-      let rest = ap (λ k. items_at (line_readers k ks) (signal whole n)) (sym (length-append before (q ∷ []))) ∙ later in
+      let rest = ap (λ k. sinks_at (line_readers k ks) (signal whole n)) (sym (length-append before (q ∷ []))) ∙ later in
       let own : cell whole q ≡ length before = ap (position_or_len (bytes_eq q)) is ∙ position_after before (map (λ cell. cell.0) (cells b)) q once in
       elim (cases_Bool (signal whole d == signal whole n)) [
-        | inl on ↦ rw (h, same, on) (ap (λ k. Data k ∷ items_at (line_readers (length before + 1) ks) (signal whole n)) (sym own) ∙ ap (λ ys. Data (cell whole q) ∷ ys) rest)
+        | inl on ↦ rw (h, same, on) (ap (λ k. Data k ∷ sinks_at (line_readers (length before + 1) ks) (signal whole n)) (sym own) ∙ ap (λ ys. Data (cell whole q) ∷ ys) rest)
         | inr off ↦ rw (h, same, off) rest
       ]
 
   pub sinks_are : (lines : List Line) → AreStated (signal whole) whole lines → Distinct (map (λ cell. cell.0) (cells whole))
-      → items_at (all_readers lines (filter_map output_number lines)) (signal whole n) ≡ sinks whole n
+      → sinks_at (all_readers lines (filter_map output_number lines)) (signal whole n) ≡ sinks whole n
   sinks_are lines are once =
       sinks-append (line_readers 0 lines) (output_readers (filter_map output_number lines)) (signal whole n)
-      ∙ (ap (λ xs. xs ++ items_at (output_readers (filter_map output_number lines)) (signal whole n)) (line_sinks [] whole lines are once refl)
-      ∙ ap (λ ys. flat_map (pins_of whole n) whole ++ ys) (ap (λ os. items_at (output_readers os) (signal whole n)) (outputs_are whole lines are) ∙ numbered Out 0 (outputs whole)))
+      ∙ (ap (λ xs. xs ++ sinks_at (output_readers (filter_map output_number lines)) (signal whole n)) (line_sinks [] whole lines are once refl)
+      ∙ ap (λ ys. flat_map (pins_of whole n) whole ++ ys) (ap (λ os. sinks_at (output_readers os) (signal whole n)) (outputs_are whole lines are) ∙ numbered Out 0 (outputs whole)))
 
 -- ---- numbered lines are such lines
 

@@ -1,5 +1,5 @@
 -- What a circuit holds: a statement list with tables that answer as its calls do.
-use Rattle.std.specs.Prelude.{◌≡◌, ◌≢◌, ℕ, ◌<◌, List, length, map, Option, Some, None, slice_get, slice_index, slice_index_or, []}
+use Rattle.std.specs.Prelude.{◌≡◌, ◌≢◌, ℕ, ◌<◌, List, length, map, Option, Some, None, slice_get, slice_index}
 use Rattle.bench_net.specs.declared.Kind.{Kind}
 use Rattle.bench_net.specs.declared.line.Line.{Line}
 use Rattle.bench_net.specs.declared.tables.Tables.{Tables}
@@ -8,7 +8,7 @@ use Rattle.bench_net.specs.Statement.{Name, Statement}
 use Rattle.bench_net.specs.Scan.{names, signal, name_of, gate_of, inputs, outputs, cells, sources, sinks}
 use Rattle.bench_net.specs.Circuit.{IsCircuit}
 use Rattle.bench_net.specs.Level.{HasLevel, HasDepth, IsLevelOrder}
-use Rattle.bench_net.specs.Tables.{line_gate}
+use Rattle.bench_net.specs.Tables.{HasRow, row_of, line_gate}
 
 -- the place of a signal in a test row, or none
 abbrev pub IsPlace : List Statement → ℕ → Option ℕ → Type 0
@@ -36,9 +36,10 @@ pub record IsInside (c : List Statement) (ns : List Name) (lines : List Line) (t
   pub definition_count : length tables.definitions.items ≡ length (names c)
   pub definitions_are : (s : ℕ) → s < length (names c)
       → HasGate lines (gate_of c s) (slice_index tables.definitions.items s)
-  pub sink_count : length tables.sinks.items ≡ length (names c)
+  pub have_rows : (s : ℕ) → s < length (names c)
+      → HasRow tables.sinks.starts.items tables.sinks.sinks.items s
   pub sinks_are : (s : ℕ) (n : Name) → name_of c s ≡ Some n
-      → slice_index_or (map (λ row. row.items) tables.sinks.items) s [] ≡ sinks c n
+      → row_of tables.sinks.starts.items tables.sinks.sinks.items s ≡ sinks c n
   pub level_count : length levels.levels.items ≡ length (names c)
   pub levels_are : (s : ℕ) → s < length (names c)
       → HasLevel c s (slice_index levels.levels.items s)

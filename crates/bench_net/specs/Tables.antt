@@ -1,15 +1,15 @@
 -- Tables of stored lines, by the numbers that the lines hold.
-use Rattle.std.specs.Prelude.{◌≡◌, ◌≢◌, ℕ, ◌+◌, ◌<◌, ◌^◌, Bool, List, [], ◌∷◌, ◌++◌, map, filter, length, All, Option, Some, None, is_some, slice_get}
-use Rattle.std.specs.List.{filter_map}
+use Rattle.std.specs.Prelude.{◌≡◌, ◌≢◌, ℕ, ◌+◌, ◌<◌, ◌≤◌, ◌^◌, ◌==◌, Bool, List, [], ◌∷◌, ◌++◌, map, filter, length, All, Contains, Option, Some, None, is_some, slice_get, slice_index, slice_index_or, slice_range}
+use Rattle.std.specs.List.{enumerate_from, filter_map}
 use Rattle.bench_net.specs.declared.tables.Tables.{Tables}
-pub use Rattle.bench_net.specs.Stored.{defined_number, read_numbers}
+pub use Rattle.bench_net.specs.Stored.{defined_number}
 use Rattle.bench_net.specs.declared.Kind.{Kind}
 use Rattle.bench_net.specs.declared.line.Line.{Line}
 use Rattle.bench_net.specs.declared.line.Line.TheVariants as line
 use Rattle.bench_net.specs.declared.ScanCell.{ScanCell}
 use Rattle.bench_net.specs.declared.Sink.{Sink}
 use Rattle.bench_net.specs.declared.Sink.TheVariants.{Pin, Data, Out}
-use Rattle.bench_net.specs.Rows.{keyed, rows_of}
+use Rattle.bench_net.specs.declared.sinks.Reader.{Reader}
 
 -- the number that an INPUT line defines
 abbrev pub input_number : Line → Option ℕ
@@ -45,30 +45,61 @@ pub record ArePlaces (sources : List ℕ) (signals : ℕ) (places : List (Option
   pub some : (s i : ℕ) → slice_get places s ≡ Some (Some i) → slice_get sources i ≡ Some s
   pub none : (s i : ℕ) → slice_get places s ≡ Some None → slice_get sources i ≢ Some s
 
--- the pins of a gate by the signals that they read, and the outputs by theirs
-abbrev pub pin_readers : ℕ → List ℕ → List (ℕ × Sink)
-pin_readers gate pins = keyed (Pin gate) 0 pins
+-- the pins of a gate as readers, in order
+abbrev pub pin_readers : ℕ → List ℕ → List Reader
+pin_readers gate pins =
+    map (λ at. record { signal = at.1; sink = Pin gate at.0 }) (enumerate_from 0 pins)
 
-abbrev pub output_readers : List ℕ → List (ℕ × Sink)
-output_readers outputs = keyed Out 0 outputs
+-- the outputs as readers, in order
+abbrev pub output_readers : List ℕ → List Reader
+output_readers outputs =
+    map (λ at. record { signal = at.1; sink = Out at.0 }) (enumerate_from 0 outputs)
 
 -- the gate pins and data pins of lines, in order, where the first cell has this number
-abbrev pub line_readers : ℕ → List Line → List (ℕ × Sink)
+abbrev pub line_readers : ℕ → List Line → List Reader
 line_readers cell [] = []
 line_readers cell (line.Input s ∷ lines) = line_readers cell lines
 line_readers cell (line.Output s ∷ lines) = line_readers cell lines
 line_readers cell (line.Gate s gate ∷ lines) =
     pin_readers s gate.pins.items ++ line_readers cell lines
-line_readers cell (line.Dff q d ∷ lines) = (d, Data cell) ∷ line_readers (cell + 1) lines
+line_readers cell (line.Dff q d ∷ lines) =
+    record { signal = d; sink = Data cell } ∷ line_readers (cell + 1) lines
 
 -- the readers of all signals: gate pins and data pins by their lines, then the outputs
-abbrev pub all_readers : List Line → List ℕ → List (ℕ × Sink)
+abbrev pub all_readers : List Line → List ℕ → List Reader
 all_readers lines outputs = line_readers 0 lines ++ output_readers outputs
 
--- a line's pins can be numbered, and what it reads is below a number of signals
-abbrev pub LineFits : ℕ → Line → Type 0
-LineFits signals l =
-    (length (read_numbers l) < 2 ^ 32) × All (λ s. s < signals) (read_numbers l)
+-- the reader at a place, and past the last one a reader of nothing
+abbrev pub no_reader : Reader
+no_reader = record { signal = 0; sink = Out 0 }
+
+abbrev pub reader_at : List Reader → ℕ → Reader
+reader_at readers place = slice_index_or readers place no_reader
+
+-- the sinks of one signal among the readers
+abbrev pub sinks_at : List Reader → ℕ → List Sink
+sinks_at readers s = map (λ reader. reader.sink) (filter (λ reader. reader.signal == s) readers)
+
+-- a signal has a row of sinks
+pub record HasRow (starts : List ℕ) (sinks : List Sink) (s : ℕ) : Type 0 where
+  pub known : s + 1 < length starts
+  pub in_order : slice_index starts s ≤ slice_index starts (s + 1)
+  pub within : slice_index starts (s + 1) ≤ length sinks
+
+-- the row of a signal
+abbrev pub row_of : List ℕ → List Sink → ℕ → List Sink
+row_of starts sinks s = slice_range sinks (slice_index starts s) (slice_index starts (s + 1))
+
+-- the sinks of each signal below a number, row by row
+pub record AreSinkRows (readers : List Reader) (signals : ℕ) (starts : List ℕ)
+    (sinks : List Sink) : Type 0 where
+  pub have_rows : (s : ℕ) → s < signals → HasRow starts sinks s
+  pub rows : (s : ℕ) → s < signals → row_of starts sinks s ≡ sinks_at readers s
+
+-- a line's pins can be numbered
+abbrev pub PinsFit : Line → Type 0
+PinsFit (line.Gate s gate) = length gate.pins.items < 2 ^ 32
+PinsFit _ = Unit {0}
 
 -- the signals of the inputs, and then those of the cells' outputs
 abbrev pub source_signals : List Line → List ℕ
@@ -82,8 +113,10 @@ pub record AreTableLines (lines : List Line) (signals : ℕ) : Type 0 where
   pub few_sources : length (source_signals lines) < 2 ^ 31
   pub sources_below : All (λ s. s < signals) (source_signals lines)
   pub few_outputs : length (filter_map output_number lines) < 2 ^ 31
-  pub outputs_below : All (λ s. s < signals) (filter_map output_number lines)
-  pub lines_fit : All (LineFits signals) lines
+  pub few_readers : length (all_readers lines (filter_map output_number lines)) < 2 ^ 31
+  pub readers_below : All (λ reader. reader.signal < signals)
+      (all_readers lines (filter_map output_number lines))
+  pub pins_fit : (l : Line) → Contains lines l → PinsFit l
 
 -- the tables of lines over numbered signals
 pub record AreTables (lines : List Line) (signals : ℕ) (tables : Tables) : Type 0 where
@@ -93,5 +126,5 @@ pub record AreTables (lines : List Line) (signals : ℕ) (tables : Tables) : Typ
   pub sources_are : tables.sources.items ≡ source_signals lines
   pub places_are : ArePlaces (source_signals lines) signals tables.source_places.items
   pub definitions_are : AreDefinitions lines tables.definitions.items
-  pub sinks_are : map (λ row. row.items) tables.sinks.items
-      ≡ rows_of signals (all_readers lines (filter_map output_number lines))
+  pub sinks_are : AreSinkRows (all_readers lines (filter_map output_number lines)) signals
+      tables.sinks.starts.items tables.sinks.sinks.items

@@ -127,7 +127,7 @@ impl Circuit {
         requires { signal < length (names self.now) }
         ensures { (n : List ℕ) → name_of self.now signal ≡ Some n → result.now ≡ sinks self.now n }
     {
-        self.tables.sinks[signal as usize].as_slice()
+        self.tables.sinks.row(signal)
     }
 
     /// The level of a signal: 0 for a source, and for a gate one more than the greatest level of

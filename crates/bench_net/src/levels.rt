@@ -1,15 +1,14 @@
 //! The levels of signals, or a gate that has none: on a cycle of gates or fed by one.
 
-ghost use Rattle.std.specs.Prelude.{◌≡◌, ◌+◌, ◌^◌, ◌<◌, ◌≤◌, ℕ, length, map, reverse, slice_index, sum_by, All, [], ◌∷◌, IfOk, IfErr, OnOk};
+ghost use Rattle.std.specs.Prelude.{◌≡◌, ◌+◌, ◌<◌, ◌≤◌, ℕ, List, length, map, reverse, slice_index, sum_by, [], ◌∷◌, IfOk, IfErr, OnOk};
 ghost use Rattle.bench_net.specs.Level.{greatest};
-ghost use Rattle.std.specs.List.{flat_map};
-ghost use Rattle.bench_net.specs.Rows.{places_by, rows_of};
+ghost use Rattle.bench_net.specs.Rows.{AreRows};
 ghost use Rattle.bench_net.specs.Tables.{AreDefinitions};
 ghost use Rattle.bench_net.specs.Marks.{gate_pins, IsGraph, AreLevelsOf, IsLevelFault, IsSearch, steps, level_in};
 ghost use Rattle.bench_net.specs.declared.levels.LevelFault.TheVariants.{Memory};
 
 use crate::line::Line;
-use crate::rows::{add, empty};
+use crate::rows::rows_of;
 use std::alloc::{AllocError, AllocFailed, Global};
 
 /// The level of each signal, the signals in the order of their levels, and the greatest level.
@@ -188,44 +187,19 @@ fn greatest(levels: &[u32]) -> u32
     greatest
 }
 
-/// The rows one behind the other.
-fn joined(alloc: Global, rows: &[Vec<u32>]) -> Result<Vec<u32>, AllocError>
-    ensures { IfOk result (λ joined. joined.items ≡ flat_map (λ row. row.items) rows.now) }
-{
-    let mut joined = Vec::new(alloc);
-    for row in rows {
-        joined.extend_from_slice(row)?;
-    }
-    Ok(joined)
-}
-
-/// The signals of each level up to the greatest, by number.
-fn by_level(alloc: Global, levels: &[u32], depth: u32) -> Result<Vec<Vec<u32>>, AllocError>
-    requires few { length levels.now < 2 ^ 32 }
-    requires below { All (λ level. level < depth + 1) levels.now }
-    ensures { IfOk result (λ rows. map (λ row. row.items) rows.items
-        ≡ rows_of (depth + 1) (places_by levels.now)) }
-{
-    let mut rows = empty(alloc, depth as usize + 1)?;
-    for (signal, level) in levels.iter().enumerate() {
-        add(&mut rows, *level, signal as u32)?;
-    }
-    Ok(rows)
-}
-
 /// The levels of lines whose definitions stand at these places.
 pub fn levels_of(alloc: Global, lines: &[Line], definitions: &[u32]) -> Result<Levels, LevelFault>
     requires graph { IsGraph lines.now definitions.now }
     ensures levels { IfOk result (λ l. AreLevelsOf (gate_pins lines.now)
         (length definitions.now) l.levels.items) }
-    ensures order { IfOk result (λ l. l.order.items
-        ≡ flat_map (λ row. row) (rows_of (l.depth + 1) (places_by l.levels.items))) }
+    ensures order { IfOk result (λ l. (starts : List ℕ)
+        × AreRows l.levels.items (l.depth + 1) starts l.order.items) }
     ensures depth { IfOk result (λ l. l.depth ≡ greatest l.levels.items) }
     ensures fault { IfErr result (IsLevelFault (gate_pins lines.now) (length definitions.now)) }
 {
     let levels = signal_levels(alloc, lines, definitions)?;
     let depth = greatest(&levels);
-    let order = joined(alloc, &by_level(alloc, &levels, depth)?)?;
+    let order = rows_of(alloc, &levels, depth as usize + 1)?.places;
     Ok(Levels {
         levels,
         order,

@@ -1,59 +1,88 @@
 //! The sinks of each signal.
 
-ghost use Rattle.std.specs.Prelude.{◌≡◌, ◌^◌, ◌<◌, ◌≤◌, ◌+◌, map, length, All, Contains, OnOk, IfOk};
-ghost use Rattle.bench_net.specs.Rows.{added, rows_of};
-ghost use Rattle.bench_net.specs.Tables.{pin_readers, output_readers, line_readers, all_readers, LineFits};
+ghost use Rattle.std.specs.Prelude.{◌≡◌, ◌++◌, ◌^◌, ◌<◌, ◌+◌, ◌≤◌, map, length, slice_index, All, Contains, OnOk, IfOk};
+ghost use Rattle.bench_net.specs.Tables.{pin_readers, output_readers, line_readers, all_readers, reader_at, row_of, HasRow, AreSinkRows, PinsFit};
 ghost use Rattle.bench_net.specs.declared.line.Line.{Line};
 
 use crate::Sink;
 use crate::line::Line;
-use crate::rows::{add, empty};
+use crate::rows::rows_of;
 use std::alloc::{AllocError, Global};
 
-/// Adds the pins of a gate, in order, each to the sinks of the signal that it reads.
-fn add_pins(sinks: &mut Vec<Vec<Sink>>, gate: u32, pins: &[u32]) -> Result<(), AllocError>
-    requires few { length pins.now < 2 ^ 32 }
-    requires below { All (λ signal. signal < length sinks.old.items) pins.now }
-    ensures len { OnOk result (length sinks.new.items ≡ length sinks.old.items) }
-    ensures rows { OnOk result (map (λ row. row.items) sinks.new.items
-        ≡ added (map (λ row. row.items) sinks.old.items) (pin_readers gate pins.now)) }
+/// A sink, and the signal that it reads.
+#[derive(Clone, Copy)]
+struct Reader {
+    signal: u32,
+    sink: Sink,
+}
+
+/// The sinks of all signals: those of signal `s` are `sinks[starts[s]..starts[s + 1]]`.
+#[derive(Drop)]
+pub struct SinkRows {
+    pub starts: Vec<u32>,
+    pub sinks: Vec<Sink>,
+}
+
+impl SinkRows {
+    /// The sinks of a signal.
+    pub fn row(&self, signal: u32) -> &[Sink]
+        requires { HasRow self.now.starts.items self.now.sinks.items signal }
+        ensures { result.now ≡ row_of self.now.starts.items self.now.sinks.items signal }
+    {
+        let start = self.starts[signal as usize] as usize;
+        let end = self.starts[signal as usize + 1] as usize;
+        &self.sinks[start..end]
+    }
+}
+
+/// Adds the pins of a gate, in order.
+fn add_pins(readers: &mut Vec<Reader>, gate: u32, pins: &[u32]) -> Result<(), AllocError>
+    requires { length pins.now < 2 ^ 32 }
+    ensures { OnOk result (readers.new.items ≡ readers.old.items ++ pin_readers gate pins.now) }
 {
     for (pin, signal) in pins.iter().enumerate() {
-        let pin = pin as u32;
-        add(sinks, *signal, Sink::Pin { gate, pin })?;
+        let sink = Sink::Pin {
+            gate,
+            pin: pin as u32,
+        };
+        readers.push(Reader {
+            signal: *signal,
+            sink,
+        })?;
     }
     Ok(())
 }
 
 /// Adds the outputs, in order.
-fn add_outputs(sinks: &mut Vec<Vec<Sink>>, outputs: &[u32]) -> Result<(), AllocError>
-    requires few { length outputs.now < 2 ^ 32 }
-    requires below { All (λ signal. signal < length sinks.old.items) outputs.now }
-    ensures len { OnOk result (length sinks.new.items ≡ length sinks.old.items) }
-    ensures rows { OnOk result (map (λ row. row.items) sinks.new.items
-        ≡ added (map (λ row. row.items) sinks.old.items) (output_readers outputs.now)) }
+fn add_outputs(readers: &mut Vec<Reader>, outputs: &[u32]) -> Result<(), AllocError>
+    requires { length outputs.now < 2 ^ 32 }
+    ensures { OnOk result (readers.new.items ≡ readers.old.items ++ output_readers outputs.now) }
 {
     for (output, signal) in outputs.iter().enumerate() {
-        let output = output as u32;
-        add(sinks, *signal, Sink::Out { output })?;
+        let sink = Sink::Out {
+            output: output as u32,
+        };
+        readers.push(Reader {
+            signal: *signal,
+            sink,
+        })?;
     }
     Ok(())
 }
 
 /// Adds the gate pins and data pins of the lines, in order.
-fn add_lines(sinks: &mut Vec<Vec<Sink>>, lines: &[Line]) -> Result<(), AllocError>
+fn add_lines(readers: &mut Vec<Reader>, lines: &[Line]) -> Result<(), AllocError>
     requires few { length lines.now < 2 ^ 32 }
-    requires fit { All (LineFits (length sinks.old.items)) lines.now }
-    ensures len { OnOk result (length sinks.new.items ≡ length sinks.old.items) }
-    ensures rows { OnOk result (map (λ row. row.items) sinks.new.items
-        ≡ added (map (λ row. row.items) sinks.old.items) (line_readers 0 lines.now)) }
+    requires pins { (l : Line) → Contains lines.now l → PinsFit l }
+    ensures { OnOk result (readers.new.items ≡ readers.old.items ++ line_readers 0 lines.now) }
 {
     let mut cell = 0;
     for line in lines {
         match line {
-            Line::Gate(gate, driver) => add_pins(sinks, *gate, driver.pins.as_slice())?,
+            Line::Gate(gate, driver) => add_pins(readers, *gate, driver.pins.as_slice())?,
             Line::Dff(_, d) => {
-                add(sinks, *d, Sink::Data { cell })?;
+                let sink = Sink::Data { cell };
+                readers.push(Reader { signal: *d, sink })?;
                 cell += 1;
             }
             Line::Input(_) | Line::Output(_) => {}
@@ -62,23 +91,62 @@ fn add_lines(sinks: &mut Vec<Vec<Sink>>, lines: &[Line]) -> Result<(), AllocErro
     Ok(())
 }
 
+/// The sinks of the readers at these places.
+fn sinks_of(alloc: Global, readers: &[Reader], places: &[u32]) -> Result<Vec<Sink>, AllocError>
+    requires { All (λ place. place < length readers.now) places.now }
+    ensures { IfOk result (λ sinks. sinks.items
+        ≡ map (λ place. (reader_at readers.now place).sink) places.now) }
+{
+    let mut sinks = Vec::with_capacity(alloc, places.len())?;
+    for place in places {
+        sinks.push(readers[*place as usize].sink)?;
+    }
+    Ok(sinks)
+}
+
+/// The readers of all signals: gate pins and data pins by their lines, then the outputs.
+fn readers_of(alloc: Global, lines: &[Line], outputs: &[u32]) -> Result<Vec<Reader>, AllocError>
+    requires few_lines { length lines.now < 2 ^ 32 }
+    requires few_outputs { length outputs.now < 2 ^ 32 }
+    requires pins { (l : Line) → Contains lines.now l → PinsFit l }
+    ensures { IfOk result (λ readers. readers.items ≡ all_readers lines.now outputs.now) }
+{
+    let mut readers = Vec::new(alloc);
+    add_lines(&mut readers, lines)?;
+    add_outputs(&mut readers, outputs)?;
+    Ok(readers)
+}
+
+/// The signal that each reader reads.
+fn signals_of(alloc: Global, readers: &[Reader]) -> Result<Vec<u32>, AllocError>
+    ensures { IfOk result (λ signals. signals.items ≡ map (λ reader. reader.signal) readers.now) }
+{
+    readers.iter().map(|reader| reader.signal).collect(alloc)
+}
+
 /// The sinks of each signal below `signals`: gate pins and data pins by the line of the reader and
 /// then by pin, and after these the outputs.
-pub fn sinks_of(
+pub fn sink_rows(
     alloc: Global,
     lines: &[Line],
     outputs: &[u32],
     signals: usize,
-) -> Result<Vec<Vec<Sink>>, AllocError>
+) -> Result<SinkRows, AllocError>
     requires few_lines { length lines.now < 2 ^ 32 }
+    requires few_signals { signals + 1 < 2 ^ 32 }
     requires few_outputs { length outputs.now < 2 ^ 32 }
-    requires lines { All (LineFits signals) lines.now }
-    requires outputs { All (λ signal. signal < signals) outputs.now }
-    ensures { IfOk result (λ sinks. map (λ row. row.items) sinks.items
-        ≡ rows_of signals (all_readers lines.now outputs.now)) }
+    requires few_readers { length (all_readers lines.now outputs.now) < 2 ^ 32 }
+    requires pins { (l : Line) → Contains lines.now l → PinsFit l }
+    requires below { All (λ reader. reader.signal < signals) (all_readers lines.now outputs.now) }
+    ensures { IfOk result (λ rows. AreSinkRows (all_readers lines.now outputs.now) signals
+        rows.starts.items rows.sinks.items) }
 {
-    let mut sinks = empty(alloc, signals)?;
-    add_lines(&mut sinks, lines)?;
-    add_outputs(&mut sinks, outputs)?;
-    Ok(sinks)
+    let readers = readers_of(alloc, lines, outputs)?;
+    let keys = signals_of(alloc, &readers)?;
+    let rows = rows_of(alloc, &keys, signals)?;
+    let sinks = sinks_of(alloc, &readers, &rows.places)?;
+    Ok(SinkRows {
+        starts: rows.starts,
+        sinks,
+    })
 }

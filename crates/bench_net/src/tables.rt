@@ -4,9 +4,9 @@ ghost use Rattle.std.specs.Prelude.{◌≡◌, ◌^◌, ◌++◌, ◌<◌, map, 
 ghost use Rattle.std.specs.List.{filter_map};
 ghost use Rattle.bench_net.specs.Tables.{input_number, output_number, cell_numbers, defined_number, AreDefinitions, ArePlaces, AreTableLines, AreTables};
 
+use crate::ScanCell;
 use crate::line::Line;
-use crate::sinks::sinks_of;
-use crate::{ScanCell, Sink};
+use crate::sinks::{SinkRows, sink_rows};
 use std::alloc::{AllocError, Global};
 
 /// What is computed in passes over the lines of a circuit.
@@ -25,7 +25,7 @@ pub struct Tables {
     /// Of each signal the place of the line that defines it.
     pub definitions: Vec<u32>,
     /// Of each signal its readers.
-    pub sinks: Vec<Vec<Sink>>,
+    pub sinks: SinkRows,
 }
 
 /// The signal that an INPUT line defines.
@@ -151,7 +151,7 @@ pub fn tables_of(alloc: Global, lines: &[Line], signals: usize) -> Result<Tables
     let sources = sources(alloc, &inputs, &cells)?;
     let source_places = source_places(alloc, &sources, signals)?;
     let definitions = definitions(alloc, lines)?;
-    let sinks = sinks_of(alloc, lines, &outputs, signals)?;
+    let sinks = sink_rows(alloc, lines, &outputs, signals)?;
     Ok(Tables {
         inputs,
         cells,

@@ -46,7 +46,7 @@ pub invariant_of-result : goal.invariant_of-result
 invariant_of-result c =
     let are = tabled c.args.lines c.deref.result.now c.len.result c.in_ok-tables.tables c.deref.ensures.value (omega (arith, c.len.ensures)) c.in_ok-tables.ensures in
     let by = levelled c.args.lines c.deref-2.result.now c.deref-3.result.now c.in_ok-tables.tables c.in-Ok.levels.levels.items c.requires are c.deref-2.ensures.value c.deref-3.ensures.value c.in-Ok.ensures.levels in
-    inside (ns_of c.args.lines) c.args.lines.lines.items c.args.lines.at.items c.requires c.in_ok-tables.tables c.in-Ok.levels are by c.in-Ok.ensures.order c.in-Ok.ensures.depth (some c.args.lines c.if-is_empty.ensures (omega arith))
+    inside (ns_of c.args.lines) c.args.lines.lines.items c.args.lines.at.items c.requires c.in_ok-tables.tables c.in-Ok.levels are by c.in-Ok.ensures.order.0 c.in-Ok.ensures.order.1 c.in-Ok.ensures.depth (some c.args.lines c.if-is_empty.ensures (omega arith))
 
 pub returns-in-Ok-clause-accepted : goal.returns-in-Ok-clause-accepted
 returns-in-Ok-clause-accepted c =

@@ -1,10 +1,6 @@
-use Rattle.std.proofs.Common.{◌≡◌, map, length, drop}
-use Rattle.bench_net.specs.declared.Sink.TheVariants.{Out}
-use Rattle.bench_net.specs.Rows.{added, keyed}
+use Rattle.std.proofs.Common.{◌≡◌, ◌++◌, take}
+use Rattle.bench_net.specs.Tables.{output_readers}
 use Rattle.bench_net.proofs.sinks.add_outputs.Given as goal
 
 abbrev pub invariant-loop-output : goal.invariant-loop-output
-invariant-loop-output l = record {
-  len : length l.sinks.items ≡ length l.fn.sinks.items;
-  rows : added (map (λ row. row.items) l.sinks.items) (keyed (Out) l.output (drop l.output l.outputs)) ≡ added (map (λ row. row.items) l.fn.sinks.items) (keyed (Out) 0 l.outputs);
-}
+invariant-loop-output l = l.readers.items ≡ l.fn.readers.items ++ output_readers (take l.output l.outputs)
