@@ -1,14 +1,12 @@
 -- Tables that are lists of lines: where each signal is defined, and its place among the sources.
-use Rattle.std.proofs.Common.{◌≡◌, ◌≢◌, ◌<◌, ◌≤◌, ◌+◌, ℕ, sym, ◌∙◌, ap, refl, cond, true, false, List, [], ◌∷◌, ◌++◌, map, length, take, get_or, set, filter, arith, inl, inr, ◌⊎◌}
+use Rattle.std.proofs.Common.{◌≡◌, ◌≢◌, ◌<◌, ◌≤◌, ◌+◌, ℕ, sym, ◌∙◌, ap, cond, true, false, List, [], ◌∷◌, ◌++◌, map, length, take, get_or, set, filter, arith, inl, inr, ◌⊎◌}
 use Rattle.std.specs.Prelude.{Option, Some, None, slice_get, slice_index, option_map}
 use Rattle.std.proofs.lemmas.Bool.{cases_eq, cases_lt}
 use Rattle.std.proofs.lemmas.List.{map_push, length-set, append-nil, get_or-set_same, get_or-set_other}
 use Rattle.std.proofs.lemmas.List.Elements.{filter_more}
 use Rattle.std.proofs.lemmas.Option.{slice_get-get_or, slice_get_within, get_or_from_slice_get, slice_get-map}
-use Rattle.bench_net.specs.declared.GateLine.{GateLine}
 use Rattle.bench_net.specs.declared.line.Line.{Line}
-use Rattle.bench_net.specs.declared.line.Line.TheVariants as line
-use Rattle.bench_net.specs.Tables.{defines_number, line_gate, AreDefinitions}
+use Rattle.bench_net.specs.Tables.{defines_number, AreDefinitions}
 use Rattle.lists.proofs.Places.{from_mapped}
 
 -- ---- definitions
@@ -43,13 +41,6 @@ pub line_read : (lines : List Line) (places : List ℕ) (s : ℕ) (l : Line) →
 line_read lines places s l are lt read =
     let at = line_at lines places s are lt in
     at.2 ∙ ap Some (sym (get_or_from_slice_get lines (slice_index places s) at.0 l at.1) ∙ sym read)
-
--- a line that is no gate's drives no gate
-pub no_gate : (l : Line) → ((s : ℕ) (gate : GateLine) → l ≡ line.Gate s gate → ⊥) → line_gate (Some l) ≡ None
-no_gate (line.Input s) not_gate = refl
-no_gate (line.Output s) not_gate = refl
-no_gate (line.Gate s gate) not_gate = absurd (not_gate s gate refl)
-no_gate (line.Dff q d) not_gate = refl
 
 -- ---- places among the sources
 

@@ -60,7 +60,8 @@ fn pins_of<'a>(lines: &'a [Line], definitions: &[u32], signal: u32) -> &'a [u32]
 {
     match &lines[definitions[signal as usize] as usize] {
         Line::Gate(_, driver) => driver.pins.as_slice(),
-        _ => &[],
+        Line::Dff(_, _) => &[],
+        Line::Input(_) | Line::Output(_) => &[],
     }
 }
 
