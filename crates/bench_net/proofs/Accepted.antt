@@ -114,12 +114,10 @@ module _ (ns : List Name) (lines : List Line) (at : List ℕ) (are : AreStatemen
       where
         go : (o : Option Line) → slice_get (filter defines_number lines) s ≡ o → (length (pins_in (line_gate o)) ≤ length (flat_map read_numbers lines)) × ((p : ℕ) → Among p (pins_in (line_gate o)) → Among p (flat_map read_numbers lines))
         go None e = (omega arith, λ p a. absurd a)
-        go (Some (line.Input t)) e = (omega arith, λ p a. absurd a)
-        go (Some (line.Output t)) e = (omega arith, λ p a. absurd a)
-        go (Some (line.Dff q d)) e = (omega arith, λ p a. absurd a)
         go (Some (line.Gate t g)) e =
             let in_lines = (filtered_from defines_number lines (line.Gate t g) (at_place (filter defines_number lines) s (line.Gate t g) e)).0 in
             (line_count lines (line.Gate t g) in_lines, λ p a. among_joined read_numbers lines (line.Gate t g) p in_lines a)
+        go (Some _) e = (omega arith, λ p a. absurd a)
 
     pub graph : IsGraph lines places
     graph = record {
@@ -261,15 +259,6 @@ module _ (ns : List Name) (lines : List Line) (at : List ℕ) (are : AreStatemen
               let own = number u h (rw (take-append-drop place lines) at there) in
               not_stuck c once u level.0 m (rw name at own)
               (subst (λ f. HaveLevels f (f u) level.0) same_pins level.1)
-          free m other more (line.Input u) a e =
-              let bad : Input (name_at ns u) ≡ Gate m other more = e in cc
-          free m other more (line.Output u) a e =
-              let bad : Output (name_at ns u) ≡ Gate m other more = e in cc
-          free m other more (line.Dff q d) a e =
-              let bad : Dff (name_at ns q) (name_at ns d) ≡ Gate m other more = e in cc
-      go (line.Input t) here own_line =
-          absurd (omega (arith, (subst (λ o. Contains (pins_in (line_gate o)) read_by.0) own_line read_by.1).1))
-      go (line.Output t) here own_line =
-          absurd (omega (arith, (subst (λ o. Contains (pins_in (line_gate o)) read_by.0) own_line read_by.1).1))
-      go (line.Dff q d) here own_line =
+          free m other more _ a e = cc e
+      go _ here own_line =
           absurd (omega (arith, (subst (λ o. Contains (pins_in (line_gate o)) read_by.0) own_line read_by.1).1))

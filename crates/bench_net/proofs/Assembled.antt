@@ -175,11 +175,7 @@ module _ (text : List ℕ) (stated : List StatedLine) (of : AreWithin text state
               (rw stand at stuck) (λ m other more a. rw (← stand)
               (free m other more (contained _ _ (rw before at a))))),
         )
-    refused (fault.TooLarge limit) r = absurd r
-    refused (fault.Syntax l) r = absurd r
-    refused (fault.Redefined l) r = absurd r
-    refused (fault.Undefined l) r = absurd r
-    refused (fault.Memory) r = absurd r
+    refused _ r = absurd r
 
     pub assembled : AreLinesOf text ns ls at
     assembled = record {

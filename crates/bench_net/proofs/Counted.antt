@@ -19,10 +19,8 @@ use Rattle.lists.proofs.Members.{Among, among_left, among_right, among_append}
 
 few : (c : List Statement) → length (inputs c) + length (cells c) ≤ length (names c)
 few [] = omega arith
-few (Input n ∷ c) = omega (arith, few c)
-few (Output n ∷ c) = few c
-few (Gate n kind args ∷ c) = omega (arith, few c)
 few (Dff q d ∷ c) = omega (arith, few c)
+few (_ ∷ c) = omega (arith, few c)
 
 pub few_sources : (c : List Statement) → (length (sources c) ≡ length (inputs c) + length (cells c)) × (length (sources c) ≤ length (names c))
 few_sources c =
@@ -33,10 +31,8 @@ few_sources c =
 -- each line defines or reads
 pub few_lines : (lines : List Line) → length lines ≤ length (flat_map defined_numbers lines) + length (flat_map read_numbers lines)
 few_lines [] = omega arith
-few_lines (line.Input s ∷ lines) = omega (arith, few_lines lines)
-few_lines (line.Output s ∷ lines) = omega (arith, few_lines lines)
 few_lines (line.Gate s g ∷ lines) = omega (arith, few_lines lines, length-append g.pins.items (flat_map read_numbers lines))
-few_lines (line.Dff q d ∷ lines) = omega (arith, few_lines lines)
+few_lines (_ ∷ lines) = omega (arith, few_lines lines)
 
 -- ---- readers
 
@@ -95,7 +91,5 @@ line_count (k ∷ lines) l (inl e) = omega (arith, ap (λ x. length (read_number
 line_count (k ∷ lines) l (inr a) = omega (arith, line_count lines l a, length-append (read_numbers k) (flat_map read_numbers lines))
 
 pub all_fit : (lines : List Line) (l : Line) → length (flat_map read_numbers lines) < 2 ^ 32 → Among l lines → PinsFit l
-all_fit lines (line.Input s) few a = tt
-all_fit lines (line.Output s) few a = tt
 all_fit lines (line.Gate s g) few a = omega (arith, line_count lines (line.Gate s g) a, few)
-all_fit lines (line.Dff q d) few a = tt
+all_fit lines _ few a = tt

@@ -32,17 +32,13 @@ of_input : (c : List Statement) (n : Name) → Among n (inputs c) → Among (Inp
 of_input [] n a = absurd a
 of_input (Input m ∷ c) n (inl e) = inl (ap Input e)
 of_input (Input m ∷ c) n (inr a) = inr (of_input c n a)
-of_input (Output m ∷ c) n a = inr (of_input c n a)
-of_input (Gate m kind args ∷ c) n a = inr (of_input c n a)
-of_input (Dff q d ∷ c) n a = inr (of_input c n a)
+of_input (_ ∷ c) n a = inr (of_input c n a)
 
 pub of_cell : (c : List Statement) (n : Name) → Among n (map (λ cell. cell.0) (cells c)) → (d : Name) × Among (Dff n d) c
 of_cell [] n a = absurd a
 of_cell (Dff q d ∷ c) n (inl e) = (d, inl (ap (λ x. Dff x d) e))
 of_cell (Dff q d ∷ c) n (inr a) = let at = of_cell c n a in (at.0, inr at.1)
-of_cell (Input m ∷ c) n a = let at = of_cell c n a in (at.0, inr at.1)
-of_cell (Output m ∷ c) n a = let at = of_cell c n a in (at.0, inr at.1)
-of_cell (Gate m kind args ∷ c) n a = let at = of_cell c n a in (at.0, inr at.1)
+of_cell (_ ∷ c) n a = let at = of_cell c n a in (at.0, inr at.1)
 
 pub source_statement : (c : List Statement) (n : Name) → Among n (sources c)
     → (st : Statement) × Among st c × (defined st ≡ n ∷ []) × ((b : List Statement) → gate_line b (Some st) ≡ None)
@@ -58,10 +54,8 @@ pub signal_below : (c : List Statement) (n : Name) → Among n (names c) → sig
 signal_below c n a = slice_get_within (names c) (signal c n) n (at_position (names c) n a)
 
 defines_some : (st : Statement) (n : Name) → defined st ≡ n ∷ [] → defines st ≡ true
-defines_some (Input m) n d = refl
 defines_some (Output m) n d = cc
-defines_some (Gate m kind args) n d = refl
-defines_some (Dff q t) n d = refl
+defines_some _ n d = refl
 
 -- a number below that of all names is the number of its name alone
 at_number : (ns : List Name) (n : Name) → position_or_len (bytes_eq n) ns < length ns → slice_get ns (position_or_len (bytes_eq n) ns) ≡ Some n
@@ -109,14 +103,12 @@ module _ (c : List Statement) (once : AllPairs (λ m n. m ≢ n) (names c)) wher
     where
       go : (o : Option Statement) → definition c s ≡ o → Among p (pins_in (gate_line c o)) → GateAt s (pins_in (gate_line c (definition c s)))
       go None e b = absurd b
-      go (Some (Input m)) e b = absurd b
-      go (Some (Output m)) e b = absurd b
-      go (Some (Dff q d)) e b = absurd b
       go (Some (Gate m kind args)) e b =
           let own = definition_defines c s (Gate m kind args) e in
           let both : m ∷ [] ≡ own.0 ∷ [] = own.1 in
           let same : own.0 ≡ m = cc both in
           (m, kind, args, own.3, own.2 ∙ ap Some same, sym (ap (λ o. pins_in (gate_line c o)) e))
+      go (Some _) e b = absurd b
 
   -- ---- stuck gates
 

@@ -5,6 +5,8 @@ use Rattle.std.specs.Prelude.{Some, slice_get, Contains, AllPairs, flat_map, byt
 use Rattle.std.specs.List.{filter_map, enumerate_from, position_or_len, range_with_len}
 use Rattle.std.proofs.Math.Numerals.{one-add}
 use Rattle.std.proofs.lemmas.Bool.{eq-eqb, ne_eqb, cases_Bool}
+use Rattle.std.proofs.lemmas.Simd.{map-map}
+use Rattle.bench_net.specs.declared.ScanCell.{ScanCell}
 use Rattle.std.proofs.lemmas.List.{map-append, append_assoc}
 use Rattle.std.proofs.lemmas.List.Elements.{Contains-get_or, filter-append, All-contains}
 use Rattle.std.proofs.lemmas.Option.{slice_get-get_or, slice_get_within, get_or_from_slice_get}
@@ -62,12 +64,11 @@ module _ {number : Name → ℕ} where
   cells_are c ls (gate n s args g b ks e ps are) = cells_are b ks are
   cells_are c ls (flip_flop q d s t b ks e h are) = let rest = cells_are b ks are in cc
 
-  pub qs_are : (c : List Statement) (ls : List Line) → AreStated number c ls → map (λ cell. cell.q) (filter_map cell_numbers ls) ≡ map number (map (λ cell. cell.0) (cells c))
-  qs_are c ls no_line = refl
-  qs_are c ls (input n s b ks e are) = qs_are b ks are
-  qs_are c ls (output n s b ks e are) = qs_are b ks are
-  qs_are c ls (gate n s args g b ks e ps are) = qs_are b ks are
-  qs_are c ls (flip_flop q d s t b ks e h are) = let rest = qs_are b ks are in cc
+  qs_are : (c : List Statement) (ls : List Line) → AreStated number c ls
+      → map (λ cell. cell.q) (filter_map cell_numbers ls) ≡ map number (map (λ cell. cell.0) (cells c))
+  qs_are c ls are =
+      sym (map-map {B = ℕ × ℕ} (λ cell. cell.0) (λ (cell : ScanCell). (cell.q, cell.d)) (filter_map cell_numbers ls))
+      ∙ ap (map (λ cell. cell.0)) (cells_are c ls are) ∙ map-map _ _ (cells c) ∙ sym (map-map number (λ cell. cell.0) (cells c))
 
   pub sources_are : (c : List Statement) (ls : List Line) → AreStated number c ls → source_signals ls ≡ map number (sources c)
   sources_are c ls are =
@@ -108,10 +109,9 @@ position_after (x ∷ before) after q once =
 
 pub cells_once : (c : List Statement) → Distinct (names c) → Distinct (map (λ cell. cell.0) (cells c))
 cells_once [] once = tt
-cells_once (Input m ∷ c) once = cells_once c once.1
 cells_once (Output m ∷ c) once = cells_once c once
-cells_once (Gate m kind args ∷ c) once = cells_once c once.1
 cells_once (Dff q d ∷ c) once = ((λ a. let at = of_cell c q a in once.0 (named c (Dff q at.0) q at.1 refl)), cells_once c once.1)
+cells_once (_ ∷ c) once = cells_once c once.1
 
 module _ (whole : List Statement) (n : Name) (named : Contains (names whole) n) where
   -- a name that has the number of this one is this one

@@ -96,9 +96,7 @@ numbered_more ns stated lines i new l next h e so_far count one = record {
 reads_of : (ns : List Name) (l : Line)
     → read (statement_of ns l) ≡ map (name_at ns) (read_numbers l)
 reads_of ns (line.Input s) = refl
-reads_of ns (line.Output s) = refl
-reads_of ns (line.Gate s gate) = refl
-reads_of ns (line.Dff q d) = refl
+reads_of ns _ = refl
 
 pub reads_numbers : (ns : List Name) (lines : List Line)
     → flat_map read (statements_of ns lines) ≡ map (name_at ns) (flat_map read_numbers lines)

@@ -155,10 +155,8 @@ numbering c free = (
 -- a well-formed list defines a name
 pub some_signal : (c : List Statement) → IsWellFormed c → 0 < length (names c)
 some_signal [] well = absurd (well.some refl)
-some_signal (Input n ∷ c) well = omega arith
-some_signal (Gate n kind args ∷ c) well = omega arith
-some_signal (Dff q d ∷ c) well = omega arith
 some_signal (Output n ∷ c) well = let at = well.all_defined n (contained (flat_map read (Output n ∷ c)) n (inl refl)) in omega (arith, at.1)
+some_signal (_ ∷ c) well = omega arith
 
 -- where there is no source, each defined name is a gate's
 driven : (c : List Statement) → length (sources c) ≤ 0 → (n : Name) → Among n (names c)
