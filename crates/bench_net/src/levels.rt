@@ -181,11 +181,7 @@ fn signal_levels(alloc: Global, lines: &[Line], definitions: &[u32]) -> Result<V
 fn greatest(levels: &[u32]) -> u32
     ensures { result ≡ greatest levels.now }
 {
-    let mut greatest = 0;
-    for level in levels {
-        greatest = greatest.max(*level);
-    }
-    greatest
+    levels.iter().fold(0, |greatest, level| greatest.max(*level))
 }
 
 /// The levels of lines whose definitions stand at these places.
