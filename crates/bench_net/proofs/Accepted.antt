@@ -18,7 +18,7 @@ use Rattle.bench_net.specs.declared.line.Line.TheVariants as line
 use Rattle.bench_net.specs.declared.tables.Tables.{Tables}
 use Rattle.bench_net.specs.declared.levels.Levels.{Levels}
 use Rattle.bench_net.specs.declared.levels.LevelFault.TheVariants.{Cycle}
-use Rattle.bench_net.specs.Statement.{Name, Statement, read, Input, Output, Gate, Dff}
+use Rattle.bench_net.specs.Statement.{Name, Statement, read, Gate}
 use Rattle.bench_net.specs.Scan.{names, signal, sources}
 use Rattle.bench_net.specs.Circuit.{IsCircuit, IsStuck, sink_count}
 use Rattle.bench_net.specs.Level.{greatest}

@@ -9,7 +9,7 @@ use Rattle.bench_net.specs.declared.line.Line.TheVariants as line
 use Rattle.bench_net.specs.declared.Sink.{Sink}
 use Rattle.bench_net.specs.declared.Sink.TheVariants.{Pin, Out}
 use Rattle.bench_net.specs.declared.sinks.Reader.{Reader}
-use Rattle.bench_net.specs.Statement.{Statement, Input, Output, Gate, Dff}
+use Rattle.bench_net.specs.Statement.{Statement, Dff}
 use Rattle.bench_net.specs.Scan.{names, inputs, cells, sources}
 use Rattle.bench_net.specs.Stored.{defined_numbers, read_numbers}
 use Rattle.bench_net.specs.Tables.{output_number, pin_readers, output_readers, line_readers, all_readers, PinsFit}

@@ -77,6 +77,7 @@ fn visit(
     path: &mut Vec<u32>,
 ) -> Result<(), LevelFault>
     requires graph { IsGraph lines.now definitions.now }
+    requires gate { gate < length marks.old.items }
     requires search { IsSearch (gate_pins lines.now) (length definitions.now) start (start + 1)
         marks.old.items (gate ∷ reverse path.old.items) }
     ensures search { OnOk result (IsSearch (gate_pins lines.now) (length definitions.now) start
@@ -181,7 +182,9 @@ fn signal_levels(alloc: Global, lines: &[Line], definitions: &[u32]) -> Result<V
 fn greatest(levels: &[u32]) -> u32
     ensures { result ≡ greatest levels.now }
 {
-    levels.iter().fold(0, |greatest, level| greatest.max(*level))
+    levels
+        .iter()
+        .fold(0, |greatest, level| greatest.max(*level))
 }
 
 /// The levels of lines whose definitions stand at these places.

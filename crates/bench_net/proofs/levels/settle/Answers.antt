@@ -1,6 +1,6 @@
-use Rattle.std.proofs.Common.{◌≡◌, ◌∙◌, ◌+◌, sym, ap, subst, refl, arith, length, reverse}
+use Rattle.std.proofs.Common.{◌≡◌, ◌∷◌, [], ◌∙◌, ◌+◌, sym, ap, subst, refl, arith, length, reverse}
 use Rattle.std.specs.Prelude.{Some}
-use Rattle.std.proofs.lemmas.List.{nil_from_length}
+use Rattle.std.proofs.lemmas.List.{nil_from_length, reverse-append}
 use Rattle.std.proofs.lemmas.Option.{slice_get_read}
 use Rattle.bench_net.specs.declared.levels.Mark.TheVariants.{Unknown}
 use Rattle.bench_net.specs.Marks.{gate_pins, IsSearch}
@@ -16,6 +16,11 @@ loop-gate-init c =
       | in-Unknown+in_ok-push w ↦ rw (w.marks-is, w.path-is, w.in_ok-push.ensures.items, c.requires.path) (begun_at c.requires.search (read ∙ ap Some w.in-Unknown.is))
       | in_default w ↦ rw (w.marks-is, w.path-is, c.requires.path) (begun_more c.requires.search (λ e. let both : Some c.index.result.now ≡ Some Unknown = sym read ∙ e in let same : c.index.result.now ≡ Unknown = cc both in w.in_default.not-Unknown same))
     ]
+
+pub visit-requires-clause-gate : goal.visit-requires-clause-gate
+visit-requires-clause-gate c =
+    let is = ap reverse c.in-Some.ensures.items ∙ reverse-append c.pop.new.self.items (c.in-Some.gate ∷ []) in
+    omega (arith, c.loop-gate.invariant.count, c.loop-gate.invariant.path_below c.in-Some.gate (rw is (0, omega arith, refl)))
 
 pub returns-clause-search : goal.returns-clause-search
 returns-clause-search c =

@@ -27,10 +27,6 @@ pin_below graph gate pin pins is lt = graph.pins_below gate (get_or pins pin 0) 
 longer : (path rest : List ℕ) (gate : ℕ) → rest ≡ path ++ gate ∷ [] → reverse rest ≡ gate ∷ reverse path
 longer path rest gate e = ap reverse e ∙ reverse-append path (gate ∷ [])
 
-pub index-requires : goal.index-requires
-index-requires c =
-    omega (arith, c.requires.search.count, below c.requires.search)
-
 pub returns-in_default : goal.returns-in_default
 returns-in_default c =
     let at = at_gate c.requires.search c.index.result.now c.index.ensures in
@@ -40,14 +36,6 @@ returns-in_default c =
       less = omega arith;
       fault = tt;
     }
-
-pub pins_of-pins-requires-clause-below : goal.pins_of-pins-requires-clause-below
-pins_of-pins-requires-clause-below c =
-    below c.requires.search
-
-pub index_mut-requires : goal.index_mut-requires
-index_mut-requires c =
-    omega (arith, c.requires.search.count, below c.requires.search)
 
 pub returns-then-pin-pins-clause-search : goal.returns-then-pin-pins-clause-search
 returns-then-pin-pins-clause-search c =
@@ -64,10 +52,6 @@ overflow_add-lower c =
     let p : ℕ = get_or c.pins_of-pins.result.now c.in-Open.pin 0 in
     let at = at_place c.requires.search (get_or c.pins_of-pins.result.now c.in-Open.pin 0) c.index-2.result.now (pin_below c.requires.graph c.args.gate c.in-Open.pin c.pins_of-pins.result.now c.pins_of-pins.ensures (omega arith)) c.index-2.ensures in
     omega (arith, c.requires.graph.few, small c.requires.search p (at ∙ ap Some c.in-Level.is))
-
-pub index_mut-requires-in-Level : goal.index_mut-requires-in-Level
-index_mut-requires-in-Level c =
-    omega (arith, c.requires.search.count, below c.requires.search)
 
 pub index_mut-requires-in-Unknown : goal.index_mut-requires-in-Unknown
 index_mut-requires-in-Unknown c =
