@@ -1,12 +1,12 @@
 -- What the passes over the lines say of the text.
-use Rattle.std.proofs.Common.{◌≡◌, ◌≢◌, ◌<◌, ◌≤◌, ℕ, suc, refl, sym, ◌∙◌, ap, false, List, length, take, map, get_or, arith, inl, inr}
-use Rattle.std.specs.Prelude.{AllPairs, Option, Some, slice_get, flat_map, option_map}
+use Rattle.std.proofs.Common.{◌≡◌, ◌≢◌, ◌<◌, ◌≤◌, ℕ, zero, suc, refl, sym, ◌∙◌, ap, false, List, [], ◌∷◌, length, filter, take, map, get_or, arith, inl, inr}
+use Rattle.std.specs.Prelude.{AllPairs, Option, Some, None, slice_get, flat_map, option_map}
 use Rattle.std.specs.List.{list_all}
-use Rattle.std.proofs.lemmas.Bool.{both_ways}
+use Rattle.std.proofs.lemmas.Bool.{cases_Bool, both_ways}
 use Rattle.std.proofs.lemmas.Simd.{map-map}
 use Rattle.std.proofs.lemmas.List.{take-map, length-map}
 use Rattle.std.proofs.lemmas.List.Folds.{flat_map-map}
-use Rattle.std.proofs.lemmas.Option.{slice_get-map, slice_get_read, slice_get_within, get_or_from_slice_get}
+use Rattle.std.proofs.lemmas.Option.{slice_get-map, slice_get_read}
 use Rattle.bench_net.specs.declared.line.Line.{Line}
 use Rattle.bench_net.specs.declared.number.StatedLine.{StatedLine}
 use Rattle.bench_net.specs.declared.Limit.{Limit}
@@ -15,15 +15,15 @@ use Rattle.bench_net.specs.declared.BenchFault.{BenchFault}
 use Rattle.bench_net.specs.declared.BenchFault.TheVariants.{TooLarge, Redefined, Undefined}
 use Rattle.bench_net.specs.declared.BenchFault.TheVariants as fault
 use Rattle.bench_net.specs.Text.{lines}
-use Rattle.bench_net.specs.Statement.{Name, Statement, Gate, defined, read}
+use Rattle.bench_net.specs.Statement.{Name, Statement, Output, Gate, defined, defines, read}
+use Rattle.bench_net.specs.Scan.{names}
 use Rattle.bench_net.specs.Reading.{statements}
 use Rattle.bench_net.specs.Refusal.{IsRefused}
 use Rattle.bench_net.specs.Circuit.{sink_count}
 use Rattle.bench_net.specs.Stored.{statements_of, AreStatements, AreRefused, AreLinesOf}
 use Rattle.bench_net.specs.reader.Parsed.{stands_for, FailsBy}
-use Rattle.bench_net.specs.reader.Entries.{entry_of, entries_of, numbered_from, statements_in, names_in, reads_in, defined_of, read_of, is_in, AreStated, AreWithin, AreFew, ArePast, MayBe, AreNumberedLines}
-use Rattle.lists.proofs.Members.{Among, among, contained}
-use Rattle.lists.proofs.Places.{from_mapped}
+use Rattle.bench_net.specs.reader.Entries.{Entry, entry_of, entries_of, numbered_from, statements_in, names_in, reads_in, defined_of, read_of, is_in, AreStated, AreWithin, AreFew, ArePast, MayBe, AreNumberedLines}
+use Rattle.lists.proofs.Members.{Among, among, among_joined}
 use Rattle.lists.proofs.Distinct.{Distinct, distinct_from_pairs}
 use Rattle.bench_net.proofs.Checked.{among_in, some_not}
 use Rattle.bench_net.proofs.Entries.{entry_at, statements_numbered}
@@ -75,6 +75,41 @@ module _ (text : List ℕ) (stated : List StatedLine)
     };
     same = are.same;
   }
+
+-- the entries that define a name, and their numbers
+abbrev pub definers : List Entry → List Entry
+definers entries = filter (λ e. defines e.1) entries
+
+definers_of : (lines : List StatedLine) → map (λ e. e.0) (definers (entries_of lines))
+    ≡ map (λ line. line.number) (filter (λ line. defines (stands_for line.statement)) lines)
+definers_of [] = refl
+definers_of (l ∷ lines) = elim (cases_Bool (defines (stands_for l.statement))) [
+  | inl on ↦ rw on (ap (λ ks. l.number ∷ ks) (definers_of lines))
+  | inr off ↦ rw off (definers_of lines)
+]
+
+definer_count : (entries : List Entry)
+    → length (definers entries) ≡ length (names (map (λ e. e.1) entries))
+definer_count [] = refl
+definer_count ((k, Output n) ∷ entries) = definer_count entries
+definer_count (_ ∷ entries) = ap suc (definer_count entries)
+
+-- the entry that defines the name of a number, and the numbers of the names before it
+definer_at : (entries : List Entry) (s number : ℕ) (st : Statement)
+    → slice_get (map (λ e. e.0) (definers entries)) s ≡ Some number
+    → slice_get (filter defines (map (λ e. e.1) entries)) s ≡ Some st
+    → (i : ℕ) × (slice_get entries i ≡ Some (number, st))
+    × ((m : Name) → Among m (names (map (λ e. e.1) (take i entries)))
+    → (t : ℕ) × (t < s) × (slice_get (names (map (λ e. e.1) entries)) t ≡ Some m))
+definer_at [] s number st e h = let bad : None ≡ Some number = e in cc
+definer_at ((k, Output n) ∷ entries) s number st e h =
+    let d = definer_at entries s number st e h in (suc d.0, d.1, d.2)
+definer_at (l ∷ entries) zero number st e h = (0, cc, λ m a. absurd a)
+definer_at (l ∷ entries) (suc s) number st e h =
+    let d = definer_at entries s number st e h in (suc d.0, d.1, λ m a. elim a [
+      | inl first ↦ (0, omega arith, ap Some first)
+      | inr b ↦ (let t = d.2 m b in (suc t.0, omega (arith, t.1), t.2))
+    ])
 
 module _ (text : List ℕ) (stated : List StatedLine) (of : AreWithin text stated) where
   all : (f : Statement → List Name)
@@ -128,8 +163,16 @@ module _ (text : List ℕ) (stated : List StatedLine) (of : AreWithin text state
   -- the numbered lines are those of the text
   module _ (ns : List Name) (ls : List Line) (at : List ℕ) (is : ns ≡ names_in stated)
       (once : AllPairs (λ m n. m ≢ n) (names_in stated)) (numbered : AreNumberedLines ns stated ls)
-      (numbers_are : at ≡ map (λ line. line.number) stated) where
-    lines_are : statements_of ns ls ≡ map (λ entry. entry.1) (numbered_from 1 of.stated)
+      (numbers_are : at ≡ map (λ line. line.number)
+      (filter (λ line. defines (stands_for line.statement)) stated)) where
+    abbrev entries : List Entry
+    entries = numbered_from 1 of.stated
+
+    numbers_at : at ≡ map (λ e. e.0) (definers entries)
+    numbers_at = numbers_are ∙ sym (definers_of stated)
+        ∙ ap (λ es. map (λ e. e.0) (definers es)) of.same
+
+    lines_are : statements_of ns ls ≡ map (λ entry. entry.1) entries
     lines_are =
         numbered.stand ∙ sym (map-map (λ entry. entry.1) entry_of stated)
         ∙ ap (map (λ entry. entry.1)) of.same
@@ -137,43 +180,41 @@ module _ (text : List ℕ) (stated : List StatedLine) (of : AreWithin text state
     stand : statements_of ns ls ≡ statements of.stated
     stand = lines_are ∙ statements_numbered 1 of.stated
 
+    names_are : names (statements_of ns ls) ≡ ns
+    names_are = ap names numbered.stand ∙ flat_map-map defined _ stated ∙ sym is
+
     statements_are : AreStatements ns ls at
     statements_are = record {
       numbered = record {
-        own = rw is numbered.own;
+        own_in_range = numbered.own_in_range;
         in_range = numbered.in_range;
-        names_are = ap (flat_map defined) numbered.stand ∙ flat_map-map defined _ stated ∙ sym is;
+        names_are = names_are;
       };
       once = rw is once;
       arities = rw stand (arities_of_text text of.stated of.within.each);
       signals = omega (arith, ap length (is ∙ all defined), of.within.signals);
       sinks = omega (arith, ap sink_count stand, of.within.sinks);
-      line_count =
-          simp length-map at (ap length numbers_are) ∙ sym (simp length-map at (ap length numbered.stand));
+      line_count = simp length-map at (ap length numbers_at) ∙ definer_count entries
+          ∙ ap (λ c. length (names c)) (sym lines_are) ∙ ap length names_are;
     }
 
     refused : (f : BenchFault) → AreRefused ns ls at f → IsRefused text f
     refused (fault.Empty) r = (of.stated, of.within, sym stand ∙ ap (statements_of ns) r)
-    refused (fault.Cycle number) (i, numbered_at, (n, kind, args, here, stuck, free)) =
-        let l = from_mapped (λ line. line.number) stated i number (rw numbers_are at numbered_at) in
-        let p = place i l.0 (slice_get_within stated i l.0 l.1)
-        (sym (get_or_from_slice_get stated i l.0 l.0 l.1)) in
-        let read = slice_get-map (λ line. stands_for line.statement) stated i
-        ∙ ap (option_map (λ line. stands_for line.statement)) l.1 in
-        let both : Some (stands_for l.0.statement) ≡ Some (Gate n kind args) =
-        sym read ∙ ap (λ c. slice_get c i) (sym numbered.stand) ∙ here in
-        let states : stands_for l.0.statement ≡ Gate n kind args = cc in
-        let line_is : number ≡ suc p.0 = sym l.2 ∙ p.1 in
-        let before = p.3 ∙ sym (take-map (λ line. stands_for line.statement) i stated)
-        ∙ ap (take i) (sym numbered.stand) in (
+    refused (fault.Cycle number) (s, numbered_at, (n, kind, args, here, stuck, free)) =
+        let d = definer_at entries s number (Gate n kind args) (rw numbers_at at numbered_at)
+        (rw lines_are at here) in
+        let p = entry_at 1 of.stated d.0 number (Gate n kind args) d.1 in
+        let line_is : number ≡ suc p.0 = omega (arith, p.1) in (
           of.stated,
           of.within,
           no_redefinition of.stated (distinct_from_pairs _ (rw (← all defined) once)),
           no_undefined of.stated (λ n has. rw (← all defined, ← is)
               (known ns ls numbered.in_range n (among _ n (rw (sym stand) at has)))),
-          rw line_is (cyclic_lowest of.stated p.0 n kind args (p.2 ∙ ap (λ s. Some (Some s)) states)
-              (rw stand at stuck) (λ m other more a. rw (← stand)
-              (free m other more (contained _ _ (rw before at a))))),
+          rw line_is (cyclic_lowest of.stated p.0 n kind args p.2 (rw stand at stuck)
+              (λ m other more a.
+              let front = among_joined defined _ (Gate m other more) m a (inl refl) in
+              let t = d.2 m (rw p.3 at front) in
+              rw (← stand) (free t.0 m t.1 (ap (λ c. slice_get (names c) t.0) lines_are ∙ t.2)))),
         )
     refused _ r = absurd r
 

@@ -1,19 +1,20 @@
--- How many lines, sources and readers there are, and which signals they name.
-use Rattle.std.proofs.Common.{◌≡◌, ◌<◌, ◌≤◌, ◌+◌, ◌^◌, ℕ, ◌∙◌, ap, List, [], ◌∷◌, ◌++◌, map, length, arith, inl, inr, ◌⊎◌, length-append}
-use Rattle.std.specs.Prelude.{flat_map}
+-- How many lines, sources and readers there are, and which signals they read.
+use Rattle.std.proofs.Common.{◌≡◌, ◌<◌, ◌≤◌, ◌+◌, ◌^◌, ℕ, ◌∙◌, ap, List, [], ◌∷◌, ◌++◌, map, length, filter, refl, arith, inl, inr, length-append}
+use Rattle.std.specs.Prelude.{flat_map, IsPermutation}
+use Rattle.std.proofs.lemmas.List.Sorted.{IsPermutation-refl, IsPermutation-trans, IsPermutation-middle, IsPermutation-append_right, length_permutation}
 use Rattle.std.specs.List.{enumerate_from, filter_map}
-use Rattle.std.proofs.lemmas.List.{length-map}
+use Rattle.std.proofs.lemmas.List.{length-map, map-append, append_assoc}
 use Rattle.std.proofs.lemmas.List.FromFn.{length-enumerate_from}
 use Rattle.bench_net.specs.declared.line.Line.{Line}
 use Rattle.bench_net.specs.declared.line.Line.TheVariants as line
 use Rattle.bench_net.specs.declared.Sink.{Sink}
 use Rattle.bench_net.specs.declared.Sink.TheVariants.{Pin, Out}
 use Rattle.bench_net.specs.declared.sinks.Reader.{Reader}
-use Rattle.bench_net.specs.Statement.{Statement, Dff}
+use Rattle.bench_net.specs.Statement.{Name, Statement, Dff}
 use Rattle.bench_net.specs.Scan.{names, inputs, cells, sources}
-use Rattle.bench_net.specs.Stored.{defined_numbers, read_numbers}
-use Rattle.bench_net.specs.Tables.{output_number, pin_readers, output_readers, line_readers, all_readers, PinsFit}
-use Rattle.lists.proofs.Members.{Among, among_left, among_right, among_append}
+use Rattle.bench_net.specs.Stored.{statements_of, read_numbers}
+use Rattle.bench_net.specs.Tables.{defines_number, output_number, signal_read, pin_readers, output_readers, line_readers, all_readers, PinsFit}
+use Rattle.lists.proofs.Members.{Among}
 
 -- ---- sources
 
@@ -28,68 +29,76 @@ few_sources c =
     let same = length-map (cells c) (λ cell. cell.0) in
     (omega (arith, count, same), omega (arith, count, same, few c))
 
--- each line defines or reads
-pub few_lines : (lines : List Line) → length lines ≤ length (flat_map defined_numbers lines) + length (flat_map read_numbers lines)
-few_lines [] = omega arith
-few_lines (line.Gate s g ∷ lines) = omega (arith, few_lines lines, length-append g.pins.items (flat_map read_numbers lines))
-few_lines (_ ∷ lines) = omega (arith, few_lines lines)
+-- ---- lines
+
+-- each line defines or reads, and each that defines has a name
+pub counts : (ns : List Name) (lines : List Line)
+    → (length lines ≤ length (filter defines_number lines) + length (flat_map read_numbers lines))
+    × (length (filter defines_number lines) ≡ length (names (statements_of ns lines)))
+counts ns [] = (omega arith, refl)
+counts ns (line.Gate s g ∷ lines) =
+    let more = counts ns lines in
+    let count = length-append g.pins.items (flat_map read_numbers lines) in
+    (omega (arith, more.0, count), omega (arith, more.1))
+counts ns (_ ∷ lines) =
+    let more = counts ns lines in (omega (arith, more.0), omega (arith, more.1))
+
+-- what a line reads is not more than all lines read
+pub line_count : (lines : List Line) (l : Line) → Among l lines
+    → length (read_numbers l) ≤ length (flat_map read_numbers lines)
+line_count [] l a = absurd a
+line_count (k ∷ lines) l (inl e) =
+    let count = length-append (read_numbers k) (flat_map read_numbers lines) in
+    omega (arith, ap (λ x. length (read_numbers x)) e, count)
+line_count (k ∷ lines) l (inr a) =
+    let count = length-append (read_numbers k) (flat_map read_numbers lines) in
+    omega (arith, line_count lines l a, count)
+
+pub all_fit : (lines : List Line) (l : Line) → length (flat_map read_numbers lines) < 2 ^ 32
+    → Among l lines → PinsFit l
+all_fit lines (line.Gate s g) few a = omega (arith, line_count lines (line.Gate s g) a, few)
+all_fit lines _ few a = tt
 
 -- ---- readers
 
-length-numbered : (kind : ℕ → Sink) (xs : List ℕ) → length (map {B = Reader} (λ at. record { signal = at.1; sink = kind at.0 }) (enumerate_from 0 xs)) ≡ length xs
-length-numbered kind xs = length-map {B = Reader} (enumerate_from 0 xs) (λ at. record { signal = at.1; sink = kind at.0 }) ∙ length-enumerate_from 0 xs
+-- numbered readers read what they number
+numbered : (kind : ℕ → Sink) (k : ℕ) (xs : List ℕ)
+    → map signal_read (map (λ at. record { signal = at.1; sink = kind at.0 }) (enumerate_from k xs))
+    ≡ xs
+numbered kind k [] = refl
+numbered kind k (x ∷ xs) = ap (λ ys. x ∷ ys) (numbered kind (k + 1) xs)
 
-pub line_reads : (cell : ℕ) (lines : List Line) → length (line_readers cell lines) + length (filter_map output_number lines) ≡ length (flat_map read_numbers lines)
-line_reads cell [] = omega arith
-line_reads cell (line.Input s ∷ lines) = line_reads cell lines
-line_reads cell (line.Output s ∷ lines) = omega (arith, line_reads cell lines)
-line_reads cell (line.Gate s g ∷ lines) = omega (arith, line_reads cell lines, length-numbered (Pin s) g.pins.items, length-append (pin_readers s g.pins.items) (line_readers cell lines), length-append g.pins.items (flat_map read_numbers lines))
-line_reads cell (line.Dff q d ∷ lines) = omega (arith, line_reads (cell + 1) lines)
+-- the readers read what the lines read, in another order
+lines_read : (cell : ℕ) (lines : List Line)
+    → IsPermutation (map signal_read (line_readers cell lines) ++ filter_map output_number lines)
+    (flat_map read_numbers lines)
+lines_read cell [] = IsPermutation-refl []
+lines_read cell (line.Input s ∷ lines) = lines_read cell lines
+lines_read cell (line.Output s ∷ lines) =
+    IsPermutation-trans _ _ _ (IsPermutation-middle _ s (filter_map output_number lines))
+    (IsPermutation-append_right (s ∷ []) _ _ (lines_read cell lines))
+lines_read cell (line.Gate s g ∷ lines) =
+    rw (
+      map-append signal_read (pin_readers s g.pins.items) (line_readers cell lines),
+      numbered (Pin s) 0 g.pins.items,
+      append_assoc g.pins.items (map signal_read (line_readers cell lines))
+          (filter_map output_number lines),
+    )
+    (IsPermutation-append_right g.pins.items _ _ (lines_read cell lines))
+lines_read cell (line.Dff q d ∷ lines) =
+    IsPermutation-append_right (d ∷ []) _ _ (lines_read (cell + 1) lines)
 
-pub reader_count : (lines : List Line) → length (all_readers lines (filter_map output_number lines)) ≡ length (flat_map read_numbers lines)
-reader_count lines = omega (arith, length-append (line_readers 0 lines) (output_readers (filter_map output_number lines)), length-numbered Out (filter_map output_number lines), line_reads 0 lines)
+pub readers_read : (lines : List Line)
+    → IsPermutation (map signal_read (all_readers lines (filter_map output_number lines)))
+    (flat_map read_numbers lines)
+readers_read lines =
+    let outs = filter_map output_number lines in
+    rw (map-append signal_read (line_readers 0 lines) (output_readers outs), numbered Out 0 outs)
+    (lines_read 0 lines)
 
-numbered_reads : (kind : ℕ → Sink) (n : ℕ) (xs : List ℕ) (reader : Reader) → Among reader (map (λ at. record { signal = at.1; sink = kind at.0 }) (enumerate_from n xs)) → Among reader.signal xs
-numbered_reads kind n [] reader a = absurd a
-numbered_reads kind n (x ∷ xs) reader (inl e) = inl (ap (λ r. r.signal) e)
-numbered_reads kind n (x ∷ xs) reader (inr a) = inr (numbered_reads kind (n + 1) xs reader a)
-
-lines_read : (cell : ℕ) (lines : List Line) (reader : Reader) → Among reader (line_readers cell lines) → Among reader.signal (flat_map read_numbers lines)
-lines_read cell [] reader a = absurd a
-lines_read cell (line.Input s ∷ lines) reader a = lines_read cell lines reader a
-lines_read cell (line.Output s ∷ lines) reader a = inr (lines_read cell lines reader a)
-lines_read cell (line.Gate s g ∷ lines) reader a = go (lines_read cell lines reader) (among_append (pin_readers s g.pins.items) (line_readers cell lines) reader a)
-  where
-    go : (Among reader (line_readers cell lines) → Among reader.signal (flat_map read_numbers lines)) → Among reader (pin_readers s g.pins.items) ⊎ Among reader (line_readers cell lines)
-        → Among reader.signal (g.pins.items ++ flat_map read_numbers lines)
-    go later (inl b) = among_left g.pins.items (flat_map read_numbers lines) reader.signal (numbered_reads (Pin s) 0 g.pins.items reader b)
-    go later (inr b) = among_right g.pins.items (flat_map read_numbers lines) reader.signal (later b)
-lines_read cell (line.Dff q d ∷ lines) reader (inl e) = inl (ap (λ r. r.signal) e)
-lines_read cell (line.Dff q d ∷ lines) reader (inr a) = inr (lines_read (cell + 1) lines reader a)
-
-pub outputs_read : (lines : List Line) (s : ℕ) → Among s (filter_map output_number lines) → Among s (flat_map read_numbers lines)
-outputs_read [] s a = absurd a
-outputs_read (line.Input t ∷ lines) s a = outputs_read lines s a
-outputs_read (line.Output t ∷ lines) s (inl e) = inl e
-outputs_read (line.Output t ∷ lines) s (inr a) = inr (outputs_read lines s a)
-outputs_read (line.Gate t g ∷ lines) s a = among_right g.pins.items (flat_map read_numbers lines) s (outputs_read lines s a)
-outputs_read (line.Dff q d ∷ lines) s a = inr (outputs_read lines s a)
-
-pub reader_reads : (lines : List Line) (reader : Reader) → Among reader (all_readers lines (filter_map output_number lines)) → Among reader.signal (flat_map read_numbers lines)
-reader_reads lines reader a = go (among_append (line_readers 0 lines) (output_readers (filter_map output_number lines)) reader a)
-  where
-    go : Among reader (line_readers 0 lines) ⊎ Among reader (output_readers (filter_map output_number lines)) → Among reader.signal (flat_map read_numbers lines)
-    go (inl b) = lines_read 0 lines reader b
-    go (inr b) = outputs_read lines reader.signal (numbered_reads Out 0 (filter_map output_number lines) reader b)
-
--- ---- lines
-
--- what a line reads is not more than all lines read
-pub line_count : (lines : List Line) (l : Line) → Among l lines → length (read_numbers l) ≤ length (flat_map read_numbers lines)
-line_count [] l a = absurd a
-line_count (k ∷ lines) l (inl e) = omega (arith, ap (λ x. length (read_numbers x)) e, length-append (read_numbers k) (flat_map read_numbers lines))
-line_count (k ∷ lines) l (inr a) = omega (arith, line_count lines l a, length-append (read_numbers k) (flat_map read_numbers lines))
-
-pub all_fit : (lines : List Line) (l : Line) → length (flat_map read_numbers lines) < 2 ^ 32 → Among l lines → PinsFit l
-all_fit lines (line.Gate s g) few a = omega (arith, line_count lines (line.Gate s g) a, few)
-all_fit lines _ few a = tt
+pub few_outputs : (lines : List Line)
+    → length (filter_map output_number lines) ≤ length (flat_map read_numbers lines)
+few_outputs lines =
+    let outs = filter_map output_number lines in
+    let first = map signal_read (line_readers 0 lines) in
+    omega (arith, length_permutation _ _ (lines_read 0 lines), length-append first outs)

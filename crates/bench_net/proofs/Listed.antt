@@ -1,46 +1,48 @@
 -- Tables that are lists of lines: where each signal is defined, and its place among the sources.
-use Rattle.std.proofs.Common.{◌≡◌, ◌≢◌, ◌<◌, ◌≤◌, ◌+◌, ℕ, sym, ◌∙◌, ap, cond, true, false, List, [], ◌∷◌, ◌++◌, map, length, take, get_or, set, filter, arith, inl, inr, ◌⊎◌}
+use Rattle.std.proofs.Common.{◌≡◌, ◌≢◌, ◌<◌, ◌≤◌, ◌+◌, ℕ, zero, suc, refl, sym, ◌∙◌, ap, cond, true, false, List, [], ◌∷◌, ◌++◌, map, length, take, get_or, set, filter, arith, inl, inr, ◌⊎◌}
+use Rattle.std.specs.List.{enumerate_from, filter_map}
 use Rattle.std.specs.Prelude.{Option, Some, None, slice_get, slice_index, option_map}
 use Rattle.std.proofs.lemmas.Bool.{cases_eq, cases_lt}
 use Rattle.std.proofs.lemmas.List.{map_push, length-set, append-nil, get_or-set_same, get_or-set_other}
 use Rattle.std.proofs.lemmas.List.Elements.{filter_more}
 use Rattle.std.proofs.lemmas.Option.{slice_get-get_or, slice_get_within, get_or_from_slice_get, slice_get-map}
 use Rattle.bench_net.specs.declared.line.Line.{Line}
-use Rattle.bench_net.specs.Tables.{defines_number, AreDefinitions}
+use Rattle.bench_net.specs.declared.line.Line.TheVariants as line
+use Rattle.bench_net.specs.Tables.{defines_number, place_in, definition_places}
 use Rattle.lists.proofs.Places.{from_mapped}
 
 -- ---- definitions
 
--- the table after a line that defines a signal, and after one that doesn't
-pub defined_more : (lines : List Line) (places : List ℕ) (i : ℕ) (l : Line) → i < length lines → l ≡ get_or lines i l → defines_number l ≡ true
-    → map (slice_get lines) places ≡ map Some (filter defines_number (take i lines)) → map (slice_get lines) (places ++ i ∷ []) ≡ map Some (filter defines_number (take (i + 1) lines))
-defined_more lines places i l lt at defines before =
-    let read : slice_get lines i ≡ Some l = slice_get-get_or lines i l lt ∙ ap Some (sym at) in
-    let passes : defines_number (get_or lines i l) ≡ true = ap defines_number (sym at) ∙ defines in
-    let kept : filter defines_number (take (i + 1) lines) ≡ filter defines_number (take i lines) ++ l ∷ [] = filter_more defines_number lines i l lt ∙ (ap (λ b. filter defines_number (take i lines) ++ cond b (get_or lines i l ∷ []) []) passes ∙ ap (λ x. filter defines_number (take i lines) ++ x ∷ []) (sym at)) in
-    map_push (slice_get lines) places i ∙ (ap (λ xs. xs ++ slice_get lines i ∷ []) before ∙ (ap (λ x. map Some (filter defines_number (take i lines)) ++ x ∷ []) read ∙ (sym (map_push Some (filter defines_number (take i lines)) l) ∙ ap (map Some) (sym kept))))
+-- the place of a signal is that of its line among the lines that define one
+places_at : (k : ℕ) (lines : List Line) (s p : ℕ)
+    → slice_get (filter_map place_in (enumerate_from k lines)) s ≡ Some p
+    → (i : ℕ) × (l : Line) × (p ≡ k + i) × (slice_get lines i ≡ Some l)
+    × (slice_get (filter defines_number lines) s ≡ Some l)
+places_at k [] s p e = let bad : None ≡ Some p = e in cc
+places_at k (line.Output t ∷ lines) s p e =
+    let at = places_at (k + 1) lines s p e in (suc at.0, at.1, omega (arith, at.2), at.3, at.4)
+places_at k (l ∷ lines) zero p e = let same : k ≡ p = cc in (0, l, omega (arith, same), refl, refl)
+places_at k (_ ∷ lines) (suc s) p e =
+    let at = places_at (k + 1) lines s p e in (suc at.0, at.1, omega (arith, at.2), at.3, at.4)
 
-pub defined_same : (lines : List Line) (places : List ℕ) (i : ℕ) (l : Line) → i < length lines → l ≡ get_or lines i l → defines_number l ≡ false
-    → map (slice_get lines) places ≡ map Some (filter defines_number (take i lines)) → map (slice_get lines) places ≡ map Some (filter defines_number (take (i + 1) lines))
-defined_same lines places i l lt at defines before =
-    let passes : defines_number (get_or lines i l) ≡ false = ap defines_number (sym at) ∙ defines in
-    let kept : filter defines_number (take (i + 1) lines) ≡ filter defines_number (take i lines) = filter_more defines_number lines i l lt ∙ (ap (λ b. filter defines_number (take i lines) ++ cond b (get_or lines i l ∷ []) []) passes ∙ append-nil (filter defines_number (take i lines))) in
-    before ∙ ap (map Some) (sym kept)
-
--- the line at the place of a signal is that signal's among the lines that define one
-pub line_at : (lines : List Line) (places : List ℕ) (s : ℕ) → AreDefinitions lines places → s < length places
-    → (l : Line) × (slice_get lines (slice_index places s) ≡ Some l) × (slice_get (filter defines_number lines) s ≡ Some l)
+pub line_at : (lines : List Line) (places : List ℕ) (s : ℕ) → places ≡ definition_places lines
+    → s < length places → (slice_index places s < length lines)
+    × (slice_get lines (slice_index places s) ≡ slice_get (filter defines_number lines) s)
 line_at lines places s are lt =
-    let e = slice_get-map (slice_get lines) places s ∙ ap (option_map (slice_get lines)) (slice_get-get_or places s 0 lt) in
-    let p = from_mapped Some (filter defines_number lines) s (slice_get lines (slice_index places s)) (ap (λ xs. slice_get xs s) (sym are) ∙ e) in
-    (p.0, sym p.2, p.1)
+    let here = slice_get-get_or places s 0 lt in
+    let (i, l, is, at, own) = places_at 0 lines s _ (ap (λ ps. slice_get ps s) (sym are) ∙ here) in
+    let same : slice_index places s ≡ i = omega (arith, is) in
+    rw same (slice_get_within lines i l at, at ∙ sym own)
 
--- and so is the line that is read there
-pub line_read : (lines : List Line) (places : List ℕ) (s : ℕ) (l : Line) → AreDefinitions lines places → s < length places → l ≡ get_or lines (slice_index places s) l
-    → slice_get (filter defines_number lines) s ≡ Some l
-line_read lines places s l are lt read =
-    let at = line_at lines places s are lt in
-    at.2 ∙ ap Some (sym (get_or_from_slice_get lines (slice_index places s) at.0 l at.1) ∙ sym read)
+pub definition_count : (lines : List Line)
+    → length (definition_places lines) ≡ length (filter defines_number lines)
+definition_count lines = go 0 lines
+  where
+    go : (k : ℕ) (ls : List Line) → length (filter_map place_in (enumerate_from k ls))
+        ≡ length (filter defines_number ls)
+    go k [] = refl
+    go k (line.Output t ∷ ls) = go (k + 1) ls
+    go k (_ ∷ ls) = ap suc (go (k + 1) ls)
 
 -- ---- places among the sources
 

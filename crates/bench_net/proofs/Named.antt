@@ -27,68 +27,67 @@ use Rattle.bench_net.proofs.Checked.{same_bytes, bytes_refl}
 use Rattle.bench_net.proofs.Numbers.{signal-name_of, name_of-signal}
 use Rattle.bench_net.proofs.Gates.{named, named_number, of_cell}
 
--- each line holds the numbers of its statement's names
-pub data AreStated (number : Name → ℕ) : List Statement → List Line → Type 0 where
-  no_line : AreStated number [] []
-  input : (n : Name) (s : ℕ) (c : List Statement) (ls : List Line) → s ≡ number n → AreStated number c ls
-      → AreStated number (Input n ∷ c) (line.Input s ∷ ls)
-  output : (n : Name) (s : ℕ) (c : List Statement) (ls : List Line) → s ≡ number n → AreStated number c ls
-      → AreStated number (Output n ∷ c) (line.Output s ∷ ls)
-  gate : (n : Name) (s : ℕ) (args : List Name) (g : GateLine) (c : List Statement) (ls : List Line) → s ≡ number n → g.pins.items ≡ map number args
-      → AreStated number c ls → AreStated number (Gate n g.kind args ∷ c) (line.Gate s g ∷ ls)
-  flip_flop : (q d : Name) (s t : ℕ) (c : List Statement) (ls : List Line) → s ≡ number q → t ≡ number d → AreStated number c ls
-      → AreStated number (Dff q d ∷ c) (line.Dff s t ∷ ls)
+module _ (ns : List Name) (number : Name → ℕ) where
+  -- each line holds the numbers of its statement's names
+  abbrev pub IsRight : Line → Type 0
+  IsRight (line.Input s) = s ≡ number (name_at ns s)
+  IsRight (line.Output s) = s ≡ number (name_at ns s)
+  IsRight (line.Gate s g) = (s ≡ number (name_at ns s))
+      × (g.pins.items ≡ map number (map (name_at ns) g.pins.items))
+  IsRight (line.Dff q d) = (q ≡ number (name_at ns q)) × (d ≡ number (name_at ns d))
+
+  abbrev pub AreRight : List Line → Type 0
+  AreRight [] = Unit {0}
+  AreRight (l ∷ ls) = IsRight l × AreRight ls
 
 -- ---- lists of signals
 
-module _ {number : Name → ℕ} where
-  pub inputs_are : (c : List Statement) (ls : List Line) → AreStated number c ls → filter_map input_number ls ≡ map number (inputs c)
-  inputs_are c ls no_line = refl
-  inputs_are c ls (input n s b ks e are) = let rest = inputs_are b ks are in cc
-  inputs_are c ls (output n s b ks e are) = inputs_are b ks are
-  inputs_are c ls (gate n s args g b ks e ps are) = inputs_are b ks are
-  inputs_are c ls (flip_flop q d s t b ks e h are) = inputs_are b ks are
+module _ {ns : List Name} {number : Name → ℕ} where
+  pub inputs_are : (ls : List Line) → AreRight ns number ls
+      → filter_map input_number ls ≡ map number (inputs (statements_of ns ls))
+  inputs_are [] are = refl
+  inputs_are (line.Input s ∷ ls) (e, are) = let rest = inputs_are ls are in cc
+  inputs_are (_ ∷ ls) (e, are) = inputs_are ls are
 
-  pub outputs_are : (c : List Statement) (ls : List Line) → AreStated number c ls → filter_map output_number ls ≡ map number (outputs c)
-  outputs_are c ls no_line = refl
-  outputs_are c ls (input n s b ks e are) = outputs_are b ks are
-  outputs_are c ls (output n s b ks e are) = let rest = outputs_are b ks are in cc
-  outputs_are c ls (gate n s args g b ks e ps are) = outputs_are b ks are
-  outputs_are c ls (flip_flop q d s t b ks e h are) = outputs_are b ks are
+  pub outputs_are : (ls : List Line) → AreRight ns number ls
+      → filter_map output_number ls ≡ map number (outputs (statements_of ns ls))
+  outputs_are [] are = refl
+  outputs_are (line.Output s ∷ ls) (e, are) = let rest = outputs_are ls are in cc
+  outputs_are (_ ∷ ls) (e, are) = outputs_are ls are
 
-  pub cells_are : (c : List Statement) (ls : List Line) → AreStated number c ls
-      → map {B = ℕ × ℕ} (λ cell. (cell.q, cell.d)) (filter_map cell_numbers ls) ≡ map (λ cell. (number cell.0, number cell.1)) (cells c)
-  cells_are c ls no_line = refl
-  cells_are c ls (input n s b ks e are) = cells_are b ks are
-  cells_are c ls (output n s b ks e are) = cells_are b ks are
-  cells_are c ls (gate n s args g b ks e ps are) = cells_are b ks are
-  cells_are c ls (flip_flop q d s t b ks e h are) = let rest = cells_are b ks are in cc
+  pub cells_are : (ls : List Line) → AreRight ns number ls
+      → map {B = ℕ × ℕ} (λ cell. (cell.q, cell.d)) (filter_map cell_numbers ls)
+      ≡ map (λ cell. (number cell.0, number cell.1)) (cells (statements_of ns ls))
+  cells_are [] are = refl
+  cells_are (line.Dff q d ∷ ls) ((e, h), are) = let rest = cells_are ls are in cc
+  cells_are (_ ∷ ls) (e, are) = cells_are ls are
 
-  qs_are : (c : List Statement) (ls : List Line) → AreStated number c ls
-      → map (λ cell. cell.q) (filter_map cell_numbers ls) ≡ map number (map (λ cell. cell.0) (cells c))
-  qs_are c ls are =
-      sym (map-map {B = ℕ × ℕ} (λ cell. cell.0) (λ (cell : ScanCell). (cell.q, cell.d)) (filter_map cell_numbers ls))
-      ∙ ap (map (λ cell. cell.0)) (cells_are c ls are) ∙ map-map _ _ (cells c) ∙ sym (map-map number (λ cell. cell.0) (cells c))
+  qs_are : (ls : List Line) → AreRight ns number ls
+      → map (λ cell. cell.q) (filter_map cell_numbers ls)
+      ≡ map number (map (λ cell. cell.0) (cells (statements_of ns ls)))
+  qs_are ls are =
+      sym (map-map {B = ℕ × ℕ} (λ cell. cell.0) (λ (cell : ScanCell). (cell.q, cell.d))
+      (filter_map cell_numbers ls)) ∙ ap (map (λ cell. cell.0)) (cells_are ls are)
+      ∙ map-map _ _ (cells (statements_of ns ls))
+      ∙ sym (map-map number (λ cell. cell.0) (cells (statements_of ns ls)))
 
-  pub sources_are : (c : List Statement) (ls : List Line) → AreStated number c ls → source_signals ls ≡ map number (sources c)
-  sources_are c ls are =
-      let ins = inputs_are c ls are in
-      let qs = qs_are c ls are in
+  pub sources_are : (ls : List Line) → AreRight ns number ls
+      → source_signals ls ≡ map number (sources (statements_of ns ls))
+  sources_are ls are =
+      let c = statements_of ns ls in
       let all = map-append number (inputs c) (map (λ cell. cell.0) (cells c)) in
-      rw (ins, qs) (sym all)
+      rw (inputs_are ls are, qs_are ls are) (sym all)
 
 -- ---- gates
 
-pub gate_is : (whole c : List Statement) (ls : List Line) (s : ℕ) → AreStated (signal whole) c ls
-    → line_gate (slice_get (filter defines_number ls) s) ≡ gate_line whole (slice_get (filter defines c) s)
-gate_is whole c ls s no_line = refl
-gate_is whole c ls zero (input n t b ks e are) = refl
-gate_is whole c ls (suc s) (input n t b ks e are) = gate_is whole b ks s are
-gate_is whole c ls s (output n t b ks e are) = gate_is whole b ks s are
-gate_is whole c ls zero (gate n t args g b ks e ps are) = ap (λ xs. Some (g.kind, xs)) ps
-gate_is whole c ls (suc s) (gate n t args g b ks e ps are) = gate_is whole b ks s are
-gate_is whole c ls zero (flip_flop q d t u b ks e h are) = refl
-gate_is whole c ls (suc s) (flip_flop q d t u b ks e h are) = gate_is whole b ks s are
+pub gate_is : (ns : List Name) (whole : List Statement) (ls : List Line) (s : ℕ)
+    → AreRight ns (signal whole) ls → line_gate (slice_get (filter defines_number ls) s)
+    ≡ gate_line whole (slice_get (filter defines (statements_of ns ls)) s)
+gate_is ns whole [] s are = refl
+gate_is ns whole (line.Output t ∷ ls) s (e, are) = gate_is ns whole ls s are
+gate_is ns whole (line.Gate t g ∷ ls) zero (e, are) = ap (λ xs. Some (g.kind, xs)) e.1
+gate_is ns whole (_ ∷ ls) zero (e, are) = refl
+gate_is ns whole (_ ∷ ls) (suc s) (e, are) = gate_is ns whole ls s are
 
 -- ---- sinks
 
@@ -107,7 +106,11 @@ position_after (x ∷ before) after q once =
       | inr off ↦ rw off (ap (λ n. 1 + n) (position_after before after q once.1) ∙ one-add (length before))
     ]
 
-pub cells_once : (c : List Statement) → Distinct (names c) → Distinct (map (λ cell. cell.0) (cells c))
+-- the names of the cells' outputs
+abbrev pub qs : List Statement → List Name
+qs c = map (λ cell. cell.0) (cells c)
+
+pub cells_once : (c : List Statement) → Distinct (names c) → Distinct (qs c)
 cells_once [] once = tt
 cells_once (Output m ∷ c) once = cells_once c once
 cells_once (Dff q d ∷ c) once = ((λ a. let at = of_cell c q a in once.0 (named c (Dff q at.0) q at.1 refl)), cells_once c once.1)
@@ -142,80 +145,84 @@ module _ (whole : List Statement) (n : Name) (named : Contains (names whole) n) 
         | inr off ↦ rw (same, off) later
       ]
 
-  -- the sinks of the lines from one on, before which these cells stand
-  line_sinks : (before : List Name) (c : List Statement) (ls : List Line) → AreStated (signal whole) c ls
-      → Distinct (before ++ map (λ cell. cell.0) (cells c)) → map (λ cell. cell.0) (cells whole) ≡ before ++ map (λ cell. cell.0) (cells c)
-      → sinks_at (line_readers (length before) ls) (signal whole n) ≡ flat_map (pins_of whole n) c
-  line_sinks before c ls no_line once is = refl
-  line_sinks before c ls (input m s b ks e are) once is = line_sinks before b ks are once is
-  line_sinks before c ls (output m s b ks e are) once is = line_sinks before b ks are once is
-  line_sinks before c ls (gate m s args g b ks e ps are) once is =
-      let first = ap (λ xs. sinks_at (pin_readers s xs) (signal whole n)) ps ∙ numbered (Pin s) 0 args in
-      let rest = line_sinks before b ks are once is in
-      sinks-append (pin_readers s g.pins.items) (line_readers (length before) ks) (signal whole n)
-      ∙ (ap (λ xs. xs ++ sinks_at (line_readers (length before) ks) (signal whole n)) first
-      ∙ (ap (λ ys. map (λ pin. Pin s pin) (places n args) ++ ys) rest
-      ∙ ap (λ u. map (λ pin. Pin u pin) (places n args) ++ flat_map (pins_of whole n) b) e))
-  line_sinks before c ls (flip_flop q d s t b ks e h are) once is =
-      let same = bytes_at d in
-      let later = line_sinks (before ++ q ∷ []) b ks are (rw (append_assoc before (q ∷ []) (map (λ cell. cell.0) (cells b))) once) (is ∙ sym (append_assoc before (q ∷ []) (map (λ cell. cell.0) (cells b)))) in
-      let rest = ap (λ k. sinks_at (line_readers k ks) (signal whole n)) (sym (length-append before (q ∷ []))) ∙ later in
-      let own : cell whole q ≡ length before = ap (position_or_len (bytes_eq q)) is ∙ position_after before (map (λ cell. cell.0) (cells b)) q once in
-      elim (cases_Bool (signal whole d == signal whole n)) [
-        | inl on ↦ rw (h, same, on) (ap (λ k. Data k ∷ sinks_at (line_readers (length before + 1) ks) (signal whole n)) (sym own) ∙ ap (λ ys. Data (cell whole q) ∷ ys) rest)
-        | inr off ↦ rw (h, same, off) rest
-      ]
+  module _ (ns : List Name) where
+    -- the sinks of the lines from one on, before which these cells stand
+    line_sinks : (before : List Name) (ls : List Line) → AreRight ns (signal whole) ls
+        → Distinct (before ++ qs (statements_of ns ls))
+        → qs whole ≡ before ++ qs (statements_of ns ls)
+        → sinks_at (line_readers (length before) ls) (signal whole n)
+        ≡ flat_map (pins_of whole n) (statements_of ns ls)
+    line_sinks before [] are once is = refl
+    line_sinks before (line.Gate s g ∷ ls) ((e, ps), are) once is =
+        let first = ap (λ xs. sinks_at (pin_readers s xs) (signal whole n)) ps
+        ∙ numbered (Pin s) 0 (map (name_at ns) g.pins.items) in
+        sinks-append (pin_readers s g.pins.items) (line_readers (length before) ls) (signal whole n)
+        ∙ rw (first, line_sinks before ls are once is, ← e) refl
+    line_sinks before (line.Dff q d ∷ ls) ((e, h), are) once is =
+        let p = name_at ns q in
+        let same = bytes_at (name_at ns d) in
+        let split = append_assoc before (p ∷ []) (qs (statements_of ns ls)) in
+        let later = line_sinks (before ++ p ∷ []) ls are (rw split once) (is ∙ sym split) in
+        let rest = ap (λ k. sinks_at (line_readers k ls) (signal whole n))
+        (sym (length-append before (p ∷ []))) ∙ later in
+        let own : cell whole p ≡ length before = ap (position_or_len (bytes_eq p)) is
+        ∙ position_after before (qs (statements_of ns ls)) p once in
+        elim (cases_Bool (signal whole (name_at ns d) == signal whole n)) [
+          | inl on ↦ rw (← h, same, on, rest, own) refl
+          | inr off ↦ rw (← h, same, off) rest
+        ]
+    line_sinks before (_ ∷ ls) (e, are) once is = line_sinks before ls are once is
 
-  pub sinks_are : (lines : List Line) → AreStated (signal whole) whole lines → Distinct (map (λ cell. cell.0) (cells whole))
-      → sinks_at (all_readers lines (filter_map output_number lines)) (signal whole n) ≡ sinks whole n
-  sinks_are lines are once =
-      sinks-append (line_readers 0 lines) (output_readers (filter_map output_number lines)) (signal whole n)
-      ∙ (ap (λ xs. xs ++ sinks_at (output_readers (filter_map output_number lines)) (signal whole n)) (line_sinks [] whole lines are once refl)
-      ∙ ap (λ ys. flat_map (pins_of whole n) whole ++ ys) (ap (λ os. sinks_at (output_readers os) (signal whole n)) (outputs_are whole lines are) ∙ numbered Out 0 (outputs whole)))
+    pub sinks_are : (lines : List Line) → statements_of ns lines ≡ whole
+        → AreRight ns (signal whole) lines → Distinct (qs whole)
+        → sinks_at (all_readers lines (filter_map output_number lines)) (signal whole n)
+        ≡ sinks whole n
+    sinks_are lines is are once =
+        sinks-append (line_readers 0 lines) (output_readers (filter_map output_number lines))
+        (signal whole n)
+        ∙ rw (line_sinks [] lines are (rw is once) (ap qs (sym is)), outputs_are lines are, is)
+        (ap (λ ys. flat_map (pins_of whole n) whole ++ ys) (numbered Out 0 (outputs whole)))
 
 -- ---- numbered lines are such lines
 
--- the number that a line defines is its place among them, and below the number of names
-pub own_place : (ns : List Name) (lines : List Line) (i s : ℕ) → AreNumbered ns lines
-    → slice_get (flat_map defined_numbers lines) i ≡ Some s → (s ≡ i) × (s < length ns)
-own_place ns lines i s numbered at =
-    let all = range_with_len 0 (length ns) in
-    let here = subst (λ xs. slice_get xs i ≡ Some s) numbered.own at in
-    let within = slice_get_within all i s here in
-    let is = get_or_from_slice_get all i s 0 here in
-    let there = get_or-range_with_len 0 (length ns) i 0 in
-    let count = length-range_with_len 0 (length ns) in
-    (omega (arith, is, there, within, count), omega (arith, is, there, within, count))
-
 module _ (ns : List Name) (lines : List Line) (are : AreNumbered ns lines) (once : AllPairs (λ m n. m ≢ n) ns) where
-  pub signal_at : (s : ℕ) → s < length ns → signal (statements_of ns lines) (name_at ns s) ≡ s
+  signal_at : (s : ℕ) → s < length ns → s ≡ signal (statements_of ns lines) (name_at ns s)
   signal_at s lt =
       let same = are.names_are in
-      signal-name_of (statements_of ns lines) s (name_at ns s) (subst (AllPairs (λ m n. m ≢ n)) (sym same) once)
+      sym (signal-name_of (statements_of ns lines) s (name_at ns s)
+      (subst (AllPairs (λ m n. m ≢ n)) (sym same) once)
       (ap (λ xs. slice_get xs s) same ∙ slice_get-get_or ns s [] lt)
-      (subst (λ xs. Contains xs (name_at ns s)) (sym same) (Contains-get_or ns s [] lt))
+      (subst (λ xs. Contains xs (name_at ns s)) (sym same) (Contains-get_or ns s [] lt)))
 
-  signals_at : (xs : List ℕ) → ((s : ℕ) → Among s xs → s < length ns) → xs ≡ map (signal (statements_of ns lines)) (map (name_at ns) xs)
+  signals_at : (xs : List ℕ) → ((s : ℕ) → Among s xs → s < length ns)
+      → xs ≡ map (signal (statements_of ns lines)) (map (name_at ns) xs)
   signals_at [] below = refl
   signals_at (x ∷ xs) below =
       let first = signal_at x (below x (inl refl)) in
       let rest = signals_at xs (λ s a. below s (inr a)) in
       cc
 
-  go : (ls : List Line) → ((s : ℕ) → Among s (flat_map defined_numbers ls) → s < length ns) → ((s : ℕ) → Among s (flat_map read_numbers ls) → s < length ns)
-      → AreStated (signal (statements_of ns lines)) (statements_of ns ls) ls
-  go [] own reads = no_line
-  go (line.Input s ∷ ls) own reads =
-      input (name_at ns s) s (statements_of ns ls) ls (sym (signal_at s (own s (inl refl)))) (go ls (λ t a. own t (inr a)) reads)
-  go (line.Output s ∷ ls) own reads =
-      output (name_at ns s) s (statements_of ns ls) ls (sym (signal_at s (reads s (inl refl)))) (go ls own (λ t a. reads t (inr a)))
-  go (line.Gate s g ∷ ls) own reads =
-      gate (name_at ns s) s (map (name_at ns) g.pins.items) g (statements_of ns ls) ls (sym (signal_at s (own s (inl refl))))
-      (signals_at g.pins.items (λ t a. reads t (among_left g.pins.items (flat_map read_numbers ls) t a)))
-      (go ls (λ t a. own t (inr a)) (λ t a. reads t (among_right g.pins.items (flat_map read_numbers ls) t a)))
-  go (line.Dff q d ∷ ls) own reads =
-      flip_flop (name_at ns q) (name_at ns d) q d (statements_of ns ls) ls (sym (signal_at q (own q (inl refl)))) (sym (signal_at d (reads d (inl refl))))
-      (go ls (λ t a. own t (inr a)) (λ t a. reads t (inr a)))
+  right : (ls : List Line) → ((s : ℕ) → Among s (flat_map defined_numbers ls) → s < length ns)
+      → ((s : ℕ) → Among s (flat_map read_numbers ls) → s < length ns)
+      → AreRight ns (signal (statements_of ns lines)) ls
+  right [] own reads = tt
+  right (line.Input s ∷ ls) own reads =
+      (signal_at s (own s (inl refl)), right ls (λ t a. own t (inr a)) reads)
+  right (line.Output s ∷ ls) own reads =
+      (signal_at s (reads s (inl refl)), right ls own (λ t a. reads t (inr a)))
+  right (line.Gate s g ∷ ls) own reads = (
+    (
+      signal_at s (own s (inl refl)),
+      signals_at g.pins.items (λ t a. reads t (among_left g.pins.items _ t a)),
+    ),
+    right ls (λ t a. own t (inr a)) (λ t a. reads t (among_right g.pins.items _ t a)),
+  )
+  right (line.Dff q d ∷ ls) own reads = (
+    (signal_at q (own q (inl refl)), signal_at d (reads d (inl refl))),
+    right ls (λ t a. own t (inr a)) (λ t a. reads t (inr a)),
+  )
 
-  pub stated : AreStated (signal (statements_of ns lines)) (statements_of ns lines) lines
-  stated = go lines (λ s a. let at = placed (flat_map defined_numbers lines) s a in (own_place ns lines at.0 s are at.1).1) (λ s a. All-contains (λ x. x < length ns) (flat_map read_numbers lines) s are.in_range (contained _ s a))
+  pub all_right : AreRight ns (signal (statements_of ns lines)) lines
+  all_right = right lines
+      (λ s a. All-contains (λ x. x < length ns) _ s are.own_in_range (contained _ s a))
+      (λ s a. All-contains (λ x. x < length ns) _ s are.in_range (contained _ s a))

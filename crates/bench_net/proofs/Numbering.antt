@@ -1,14 +1,14 @@
 -- Names and their numbers: what is found, and how lines are numbered one after another.
 use Rattle.lists.proofs.Members.{Among, contained, mapped_from}
-use Rattle.std.proofs.Common.{◌≡◌, ◌<◌, ◌≤◌, ◌+◌, ℕ, zero, suc, refl, sym, ◌∙◌, ap, List, [], ◌∷◌, ◌++◌, length, take, map, arith, get_or, add-one, inl, inr, length-append, append-nil, subst}
+use Rattle.std.proofs.Common.{◌≡◌, ◌<◌, ◌≤◌, ◌+◌, ℕ, refl, sym, ◌∙◌, ap, List, [], ◌∷◌, ◌++◌, length, take, map, arith, get_or, inl, inr, append-nil, subst}
 use Rattle.std.specs.Prelude.{flat_map, bytes_eq, ◌||◌, Contains}
-use Rattle.std.specs.List.{list_any, range_with_len, All}
+use Rattle.std.specs.List.{list_any, All}
 use Rattle.std.specs.Borrow.{Bor}
-use Rattle.std.proofs.Math.Nat.{zero-add, add-zero}
+use Rattle.std.proofs.Math.Nat.{add-zero}
 use Rattle.std.proofs.lemmas.List.{map-append, map_push, take_more}
 use Rattle.std.proofs.lemmas.List.Concat.{flat_map-append, get_or-flat_map}
 use Rattle.std.proofs.lemmas.List.Folds.{length-flat_map-take}
-use Rattle.std.proofs.lemmas.List.Elements.{All-append, All-contains, Contains-get_or}
+use Rattle.std.proofs.lemmas.List.Elements.{All-append, All-map, All-contains, Contains-get_or}
 use Rattle.bench_net.specs.declared.line.Line.{Line}
 use Rattle.bench_net.specs.declared.line.Line.TheVariants as line
 use Rattle.bench_net.specs.declared.number.StatedLine.{StatedLine}
@@ -51,25 +51,18 @@ next_for stated i line h e = elim (defined_few (stands_for line.statement)) [
       ))
 ]
 
-range_more : (a n : ℕ) → range_with_len a (n + 1) ≡ range_with_len a n ++ (a + n) ∷ []
-range_more a n = rw (add-one n) (go a n)
-  where
-    go : (a n : ℕ) → range_with_len a (suc n) ≡ range_with_len a n ++ (a + n) ∷ []
-    go a zero = let e : a ≡ a + 0 = omega arith in ap (λ k. k ∷ []) e
-    go a (suc n) = let e : (a + 1) + n ≡ a + suc n = omega arith in
-        ap (λ xs. a ∷ xs) (go (a + 1) n ∙ ap (λ k. range_with_len (a + 1) n ++ k ∷ []) e)
-
 -- one more line, numbered
 pub numbered_more : (ns : List Name) (stated : List StatedLine) (lines : List Line) (i : ℕ)
     (new : StatedLine) (l : Line) (next : ℕ) → i < length stated → new ≡ get_or stated i new
-    → AreNumberedLines ns (take i stated) lines → next ≡ length (names_in (take i stated))
+    → AreNumberedLines ns (take i stated) lines → next + length (defined_of new) ≤ length ns
     → IsNumberedLine ns next (stands_for new.statement) l
     → AreNumberedLines ns (take (i + 1) stated) (lines ++ l ∷ [])
-numbered_more ns stated lines i new l next h e so_far count one = record {
+numbered_more ns stated lines i new l next h e so_far fits one = record {
   stand = map_push (statement_of ns) lines l
       ∙ rw (so_far.stand, one.stands, items)
       (sym (map_push (λ line. stands_for line.statement) (take i stated) new));
-  own = more defined_numbers ∙ rw (so_far.own, one.own) own;
+  own_in_range = rw (more defined_numbers, one.own) (All-append below _ _ so_far.own_in_range
+      (All-map below (λ n. next) (defined_of new) (λ k d lt. omega (arith, fits, lt))));
   in_range = rw (more read_numbers) (All-append below _ _ so_far.in_range one.in_range);
 }
   where
@@ -82,15 +75,6 @@ numbered_more ns stated lines i new l next h e so_far count one = record {
     more : (f : Line → List ℕ) → flat_map f (lines ++ l ∷ []) ≡ flat_map f lines ++ f l
     more f =
         flat_map-append f lines (l ∷ []) ∙ ap (λ ks. flat_map f lines ++ ks) (append-nil (f l))
-
-    own : range_with_len 0 (length (names_in (take i stated))) ++ map (λ n. next) (defined_of new)
-        ≡ range_with_len 0 (length (names_in (take (i + 1) stated)))
-    own = rw (names_more stated i new h e defined_of) (
-        elim (defined_few (stands_for new.statement)) [
-          | inl none ↦ rw none (rw append-nil (rw append-nil refl))
-          | inr some ↦ rw (some.1, length-append, range_more, count, zero-add) refl
-        ]
-        )
 
 -- the names that a stored line reads are those of its numbers
 reads_of : (ns : List Name) (l : Line)

@@ -1,28 +1,39 @@
 -- What a circuit holds: a statement list with tables that answer as its calls do.
-use Rattle.std.specs.Prelude.{◌≡◌, ◌≢◌, ℕ, ◌<◌, List, length, map, Option, Some, None, slice_get, slice_index}
-use Rattle.bench_net.specs.declared.Kind.{Kind}
+use Rattle.std.specs.Prelude.{◌≡◌, ◌≢◌, ℕ, ◌+◌, ◌<◌, ◌^◌, List, length, map, filter, Option, Some, None, slice_get, slice_index}
+use Rattle.std.specs.List.{filter_map}
 use Rattle.bench_net.specs.declared.line.Line.{Line}
 use Rattle.bench_net.specs.declared.tables.Tables.{Tables}
-use Rattle.bench_net.specs.declared.levels.Levels.{Levels}
 use Rattle.bench_net.specs.Statement.{Name, Statement}
 use Rattle.bench_net.specs.Scan.{names, signal, name_of, gate_of, inputs, outputs, cells, sources, sinks}
 use Rattle.bench_net.specs.Circuit.{IsCircuit}
-use Rattle.bench_net.specs.Level.{HasLevel, HasDepth, IsLevelOrder}
-use Rattle.bench_net.specs.Tables.{HasRow, row_of, line_gate}
+use Rattle.bench_net.specs.Level.{greatest, HasLevel, HasDepth, IsLevelOrder}
+use Rattle.bench_net.specs.Rows.{AreRows}
+use Rattle.bench_net.specs.Tables.{input_number, cell_numbers, output_number, source_signals, ArePlaces, definition_places, defines_number, line_gate, gate_pins, all_readers, AreSinkRows, HasRow, row_of}
+use Rattle.bench_net.specs.Marks.{AreLevelsOf}
+
+-- the tables of lines over numbered signals
+pub record AreTables (lines : List Line) (signals : ℕ) (tables : Tables) : Type 0 where
+  pub inputs_are : tables.inputs.items ≡ filter_map input_number lines
+  pub cells_are : tables.cells.items ≡ filter_map cell_numbers lines
+  pub outputs_are : tables.outputs.items ≡ filter_map output_number lines
+  pub sources_are : tables.sources.items ≡ source_signals lines
+  pub places_are : ArePlaces (source_signals lines) signals tables.source_places.items
+  pub definitions_are : tables.definitions.items ≡ definition_places lines
+  pub sinks_are : AreSinkRows (all_readers lines (filter_map output_number lines)) signals
+      tables.sinks.starts.items tables.sinks.sinks.items
+  pub levels_are : AreLevelsOf (gate_pins lines) signals tables.levels.levels.items
+  pub order_is : (starts : List ℕ) × AreRows tables.levels.levels.items (tables.levels.depth + 1)
+      starts tables.levels.order.items
+  pub depth_is : tables.levels.depth ≡ greatest tables.levels.levels.items
 
 -- the place of a signal in a test row, or none
 abbrev pub IsPlace : List Statement → ℕ → Option ℕ → Type 0
 IsPlace c s None = (i : ℕ) → slice_get (sources c) i ≢ name_of c s
 IsPlace c s (Some i) = slice_get (sources c) i ≡ name_of c s
 
--- the line at this place has this gate, or none
-abbrev pub HasGate : List Line → Option (Kind × List ℕ) → ℕ → Type 0
-HasGate lines gate place = (l : Line) × (slice_get lines place ≡ Some l)
-    × (line_gate (Some l) ≡ gate)
-
 -- the names are those of a circuit, and the tables are its tables
-pub record IsInside (c : List Statement) (ns : List Name) (lines : List Line) (tables : Tables)
-    (levels : Levels) : Type 0 where
+pub record IsInside (c : List Statement) (ns : List Name) (lines : List Line)
+    (tables : Tables) : Type 0 where
   pub circuit : IsCircuit c
   pub names_are : names c ≡ ns
   pub inputs_are : tables.inputs.items ≡ map (signal c) (inputs c)
@@ -33,15 +44,16 @@ pub record IsInside (c : List Statement) (ns : List Name) (lines : List Line) (t
   pub place_count : length tables.source_places.items ≡ length (names c)
   pub places_are : (s : ℕ) (place : Option ℕ) → slice_get tables.source_places.items s ≡ Some place
       → IsPlace c s place
+  pub few_lines : length lines < 2 ^ 32
+  pub definitions_are : tables.definitions.items ≡ definition_places lines
   pub definition_count : length tables.definitions.items ≡ length (names c)
-  pub definitions_are : (s : ℕ) → s < length (names c)
-      → HasGate lines (gate_of c s) (slice_index tables.definitions.items s)
+  pub gates_are : (s : ℕ) → line_gate (slice_get (filter defines_number lines) s) ≡ gate_of c s
   pub have_rows : (s : ℕ) → s < length (names c)
       → HasRow tables.sinks.starts.items tables.sinks.sinks.items s
   pub sinks_are : (s : ℕ) (n : Name) → name_of c s ≡ Some n
       → row_of tables.sinks.starts.items tables.sinks.sinks.items s ≡ sinks c n
-  pub level_count : length levels.levels.items ≡ length (names c)
+  pub level_count : length tables.levels.levels.items ≡ length (names c)
   pub levels_are : (s : ℕ) → s < length (names c)
-      → HasLevel c s (slice_index levels.levels.items s)
-  pub order_is : IsLevelOrder c levels.order.items
-  pub depth_is : HasDepth c levels.depth
+      → HasLevel c s (slice_index tables.levels.levels.items s)
+  pub order_is : IsLevelOrder c tables.levels.order.items
+  pub depth_is : HasDepth c tables.levels.depth

@@ -6,21 +6,13 @@ use Rattle.bench_net.specs.declared.levels.Mark.{Mark}
 use Rattle.bench_net.specs.declared.levels.Mark.TheVariants.{Unknown, Open, Level}
 use Rattle.bench_net.specs.declared.levels.LevelFault.{LevelFault}
 use Rattle.bench_net.specs.declared.levels.LevelFault.TheVariants.{Memory, Cycle}
-use Rattle.bench_net.specs.Tables.{defines_number, line_gate, AreDefinitions}
-
--- the signals that a gate reads, if there is a gate
-abbrev pub pins_in : Option (Kind × List ℕ) → List ℕ
-pins_in None = []
-pins_in (Some gate) = gate.1
-
--- the numbers that the pins of a signal's gate read
-abbrev pub gate_pins : List Line → ℕ → List ℕ
-gate_pins lines s = pins_in (line_gate (slice_get (filter defines_number lines) s))
+use Rattle.bench_net.specs.Tables.{definition_places, gate_pins}
 
 -- the line of each signal stands at its place, and each pin reads a signal
 pub record IsGraph (lines : List Line) (definitions : List ℕ) : Type 0 where
   pub few : length definitions < 2 ^ 31
-  pub definitions_are : AreDefinitions lines definitions
+  pub few_lines : length lines < 2 ^ 32
+  pub definitions_are : definitions ≡ definition_places lines
   pub few_pins : (s : ℕ) → length (gate_pins lines s) < 2 ^ 32
   pub pins_below : (s p : ℕ) → Contains (gate_pins lines s) p → p < length definitions
 

@@ -1,8 +1,6 @@
 -- Tables of stored lines, by the numbers that the lines hold.
-use Rattle.std.specs.Prelude.{◌≡◌, ◌≢◌, ℕ, ◌+◌, ◌<◌, ◌≤◌, ◌^◌, ◌==◌, Bool, List, [], ◌∷◌, ◌++◌, map, filter, length, All, Contains, Option, Some, None, is_some, slice_get, slice_index, slice_index_or, slice_range}
+use Rattle.std.specs.Prelude.{◌≡◌, ◌≢◌, ℕ, ◌+◌, ◌<◌, ◌≤◌, ◌^◌, ◌==◌, Bool, List, [], ◌∷◌, ◌++◌, map, filter, length, All, Contains, Option, Some, None, true, false, if◌then◌else◌, slice_get, slice_index, slice_index_or, slice_range}
 use Rattle.std.specs.List.{enumerate_from, filter_map}
-use Rattle.bench_net.specs.declared.tables.Tables.{Tables}
-pub use Rattle.bench_net.specs.Stored.{defined_number}
 use Rattle.bench_net.specs.declared.Kind.{Kind}
 use Rattle.bench_net.specs.declared.line.Line.{Line}
 use Rattle.bench_net.specs.declared.line.Line.TheVariants as line
@@ -31,19 +29,36 @@ abbrev pub line_gate : Option Line → Option (Kind × List ℕ)
 line_gate (Some (line.Gate s g)) = Some (g.kind, g.pins.items)
 line_gate _ = None
 
--- a line defines a signal
+-- the signals that a gate reads, if there is a gate
+abbrev pub pins_in : Option (Kind × List ℕ) → List ℕ
+pins_in None = []
+pins_in (Some gate) = gate.1
+
+-- a line defines a signal: every line but an OUTPUT line does
 abbrev pub defines_number : Line → Bool
-defines_number l = is_some (defined_number l)
+defines_number (line.Output s) = false
+defines_number _ = true
 
 -- the places of the lines that define a signal, in order
-abbrev pub AreDefinitions : List Line → List ℕ → Type 0
-AreDefinitions lines places = map (slice_get lines) places ≡ map Some (filter defines_number lines)
+abbrev pub place_in : ℕ × Line → Option ℕ
+place_in at = if defines_number at.1 then Some at.0 else None
+
+abbrev pub definition_places : List Line → List ℕ
+definition_places lines = filter_map place_in (enumerate_from 0 lines)
+
+-- the numbers that the pins of a signal's gate read
+abbrev pub gate_pins : List Line → ℕ → List ℕ
+gate_pins lines s = pins_in (line_gate (slice_get (filter defines_number lines) s))
 
 -- of each signal below a number its place among the sources
 pub record ArePlaces (sources : List ℕ) (signals : ℕ) (places : List (Option ℕ)) : Type 0 where
   pub count : length places ≡ signals
   pub some : (s i : ℕ) → slice_get places s ≡ Some (Some i) → slice_get sources i ≡ Some s
   pub none : (s i : ℕ) → slice_get places s ≡ Some None → slice_get sources i ≢ Some s
+
+-- the signal that a reader reads
+abbrev pub signal_read : Reader → ℕ
+signal_read reader = reader.signal
 
 -- the pins of a gate as readers, in order
 abbrev pub pin_readers : ℕ → List ℕ → List Reader
@@ -114,17 +129,9 @@ pub record AreTableLines (lines : List Line) (signals : ℕ) : Type 0 where
   pub sources_below : All (λ s. s < signals) (source_signals lines)
   pub few_outputs : length (filter_map output_number lines) < 2 ^ 31
   pub few_readers : length (all_readers lines (filter_map output_number lines)) < 2 ^ 31
-  pub readers_below : All (λ reader. reader.signal < signals)
-      (all_readers lines (filter_map output_number lines))
+  pub readers_below : All (λ s. s < signals)
+      (map signal_read (all_readers lines (filter_map output_number lines)))
   pub pins_fit : (l : Line) → Contains lines l → PinsFit l
-
--- the tables of lines over numbered signals
-pub record AreTables (lines : List Line) (signals : ℕ) (tables : Tables) : Type 0 where
-  pub inputs_are : tables.inputs.items ≡ filter_map input_number lines
-  pub cells_are : tables.cells.items ≡ filter_map cell_numbers lines
-  pub outputs_are : tables.outputs.items ≡ filter_map output_number lines
-  pub sources_are : tables.sources.items ≡ source_signals lines
-  pub places_are : ArePlaces (source_signals lines) signals tables.source_places.items
-  pub definitions_are : AreDefinitions lines tables.definitions.items
-  pub sinks_are : AreSinkRows (all_readers lines (filter_map output_number lines)) signals
-      tables.sinks.starts.items tables.sinks.sinks.items
+  pub count : length (filter defines_number lines) ≡ signals
+  pub few_pins : (s : ℕ) → length (gate_pins lines s) < 2 ^ 32
+  pub pins_below : (s p : ℕ) → Contains (gate_pins lines s) p → p < signals

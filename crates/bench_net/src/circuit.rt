@@ -4,12 +4,11 @@ ghost use Rattle.std.specs.Prelude.{◌≡◌, ◌≢◌, ◌<◌, ◌≤◌, �
 ghost use Rattle.bench_net.specs.declared.Kind.{Kind};
 ghost use Rattle.bench_net.specs.Scan.{names, signal, name_of, gate_of, inputs, outputs, cells, sources, sinks};
 ghost use Rattle.bench_net.specs.Circuit.{IsCircuit};
-ghost use Rattle.bench_net.specs.Tables.{line_gate};
 ghost use Rattle.bench_net.specs.Level.{HasLevel, HasDepth, IsLevelOrder};
 ghost use Rattle.bench_net.specs.Stored.{statements_of, AreStatements, AreRefused};
 
-use crate::levels::{LevelFault, Levels, levels_of};
-use crate::line::Line;
+use crate::levels::LevelFault;
+use crate::line::{Line, line_of};
 use crate::read::Lines;
 use crate::tables::{Tables, tables_of};
 use crate::{BenchFault, GateLine, ScanCell, Sink};
@@ -22,7 +21,6 @@ pub struct Circuit {
     names: Vec<String>,
     lines: Vec<Line>,
     tables: Tables,
-    levels: Levels,
 }
 
 impl Model for Circuit {
@@ -38,7 +36,7 @@ impl Model for Circuit {
 
     ghost invariant = { λ c.
         IsInside (statements_of (map string_bytes c.names.items) c.lines.items)
-        (map string_bytes c.names.items) c.lines.items c.tables c.levels };
+        (map string_bytes c.names.items) c.lines.items c.tables };
 }
 
 impl Circuit {
@@ -107,18 +105,10 @@ impl Circuit {
         ensures { option_map {U = Kind × List ℕ} (λ g. (g.now.kind, g.now.pins.items)) result
             ≡ gate_of self.now signal }
     {
-        match self.line_of(signal) {
+        match line_of(&self.lines, &self.tables.definitions, signal) {
             Line::Gate(_, gate) => Some(gate),
             Line::Input(_) | Line::Output(_) | Line::Dff(_, _) => None,
         }
-    }
-
-    /// The line that defines a signal.
-    fn line_of(&self, signal: u32) -> &Line
-        requires { signal < length (names self.now) }
-        ensures { line_gate (Some result.now) ≡ gate_of self.now signal }
-    {
-        &self.lines[self.tables.definitions[signal as usize] as usize]
     }
 
     /// The readers of a signal: gate pins and data pins by the line of the reader and then by pin,
@@ -136,21 +126,21 @@ impl Circuit {
         requires { signal < length (names self.now) }
         ensures { HasLevel self.now signal result }
     {
-        self.levels.levels[signal as usize]
+        self.tables.levels.levels[signal as usize]
     }
 
     /// All signals by level, and within a level by number.
     pub fn in_level_order(&self) -> &[u32]
         ensures { IsLevelOrder self.now result.now }
     {
-        self.levels.order.as_slice()
+        self.tables.levels.order.as_slice()
     }
 
     /// The greatest level of a signal, and 0 where no signal is a gate's.
     pub fn depth(&self) -> u32
         ensures { HasDepth self.now result }
     {
-        self.levels.depth
+        self.tables.levels.depth
     }
 }
 
@@ -167,18 +157,13 @@ pub fn circuit_of(alloc: Global, lines: Lines) -> Result<Circuit, BenchFault>
     if lines.is_empty() {
         return Err(BenchFault::Empty);
     }
-    let tables = tables_of(alloc, &lines, names.len())?;
-    match levels_of(alloc, &lines, &tables.definitions) {
-        Ok(levels) => Ok(Circuit {
+    match tables_of(alloc, &lines, names.len()) {
+        Ok(tables) => Ok(Circuit {
             names,
             lines,
             tables,
-            levels,
         }),
         Err(LevelFault::Memory) => Err(BenchFault::Memory),
-        Err(LevelFault::Cycle(signal)) => {
-            let place = tables.definitions[signal as usize];
-            Err(BenchFault::Cycle(at[place as usize]))
-        }
+        Err(LevelFault::Cycle(signal)) => Err(BenchFault::Cycle(at[signal as usize])),
     }
 }

@@ -3,11 +3,11 @@
 ghost use Rattle.std.specs.Prelude.{◌≡◌, ◌+◌, ◌<◌, ◌≤◌, ℕ, List, length, map, reverse, slice_index, sum_by, [], ◌∷◌, IfOk, IfErr, OnOk};
 ghost use Rattle.bench_net.specs.Level.{greatest};
 ghost use Rattle.bench_net.specs.Rows.{AreRows};
-ghost use Rattle.bench_net.specs.Tables.{AreDefinitions};
-ghost use Rattle.bench_net.specs.Marks.{gate_pins, IsGraph, AreLevelsOf, IsLevelFault, IsSearch, steps, level_in};
+ghost use Rattle.bench_net.specs.Tables.{definition_places, gate_pins};
+ghost use Rattle.bench_net.specs.Marks.{IsGraph, AreLevelsOf, IsLevelFault, IsSearch, steps, level_in};
 ghost use Rattle.bench_net.specs.declared.levels.LevelFault.TheVariants.{Memory};
 
-use crate::line::Line;
+use crate::line::{Line, line_of};
 use crate::rows::rows_of;
 use std::alloc::{AllocError, AllocFailed, Global};
 
@@ -53,12 +53,12 @@ enum Mark {
 }
 
 /// The signals that the pins of a signal's gate read; none for a source.
-fn pins_of<'a>(lines: &'a [Line], definitions: &[u32], signal: u32) -> &'a [u32]
+fn pins_of<'a>(lines: &'a [Line], definitions: &[usize], signal: u32) -> &'a [u32]
+    requires graph { IsGraph lines.now definitions.now }
     requires below { signal < length definitions.now }
-    requires definitions { AreDefinitions lines.now definitions.now }
     ensures { result.now ≡ gate_pins lines.now signal }
 {
-    match &lines[definitions[signal as usize] as usize] {
+    match line_of(lines, definitions, signal) {
         Line::Gate(_, driver) => driver.pins.as_slice(),
         Line::Dff(_, _) => &[],
         Line::Input(_) | Line::Output(_) => &[],
@@ -70,7 +70,7 @@ fn pins_of<'a>(lines: &'a [Line], definitions: &[u32], signal: u32) -> &'a [u32]
 /// a cycle.
 fn visit(
     lines: &[Line],
-    definitions: &[u32],
+    definitions: &[usize],
     start: u32,
     gate: u32,
     marks: &mut Vec<Mark>,
@@ -116,7 +116,7 @@ fn visit(
 /// a level.
 fn settle(
     lines: &[Line],
-    definitions: &[u32],
+    definitions: &[usize],
     start: u32,
     marks: &mut Vec<Mark>,
     path: &mut Vec<u32>,
@@ -162,7 +162,7 @@ fn levels_in(alloc: Global, marks: &[Mark]) -> Result<Vec<u32>, AllocError>
 /// signals. The signals are settled in order, each behind the signals that it takes. A gate goes
 /// past each of its pins once, so the time is linear in the number of pins. A path that meets
 /// itself is on a cycle, and fed by it is the signal from which it started.
-fn signal_levels(alloc: Global, lines: &[Line], definitions: &[u32]) -> Result<Vec<u32>, LevelFault>
+fn signal_levels(alloc: Global, lines: &[Line], definitions: &[usize]) -> Result<Vec<u32>, LevelFault>
     requires graph { IsGraph lines.now definitions.now }
     ensures levels { IfOk result (λ levels. AreLevelsOf (gate_pins lines.now)
         (length definitions.now) levels.items) }
@@ -188,7 +188,7 @@ fn greatest(levels: &[u32]) -> u32
 }
 
 /// The levels of lines whose definitions stand at these places.
-pub fn levels_of(alloc: Global, lines: &[Line], definitions: &[u32]) -> Result<Levels, LevelFault>
+pub fn levels_of(alloc: Global, lines: &[Line], definitions: &[usize]) -> Result<Levels, LevelFault>
     requires graph { IsGraph lines.now definitions.now }
     ensures levels { IfOk result (λ l. AreLevelsOf (gate_pins lines.now)
         (length definitions.now) l.levels.items) }

@@ -1,5 +1,8 @@
 //! The statements of a bench text over signal numbers, as a circuit keeps them.
 
+ghost use Rattle.std.specs.Prelude.{◌≡◌, ◌<◌, ◌^◌, Some, filter, length, slice_get};
+ghost use Rattle.bench_net.specs.Tables.{defines_number, definition_places};
+
 use crate::GateLine;
 
 /// A statement over signal numbers: each name that it defines or reads is given by its number.
@@ -9,4 +12,15 @@ pub enum Line {
     Output(u32),
     Gate(u32, GateLine),
     Dff(u32, u32),
+}
+
+/// The line that defines a signal, given the place of each signal's line.
+pub fn line_of<'a>(lines: &'a [Line], definitions: &[usize], signal: u32) -> &'a Line
+    requires few { length lines.now < 2 ^ 32 }
+    requires definitions { definitions.now ≡ definition_places lines.now }
+    requires below { signal < length definitions.now }
+    ensures { slice_get (filter defines_number lines.now) signal ≡ Some result.now }
+{
+    let place = definitions[signal as usize];
+    &lines[place]
 }

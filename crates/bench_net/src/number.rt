@@ -1,6 +1,6 @@
 //! The names of statements as numbers.
 
-ghost use Rattle.std.specs.Prelude.{◌≡◌, ◌≢◌, ◌<◌, ◌≤◌, ◌+◌, [], ◌∷◌, ◌++◌, length, map};
+ghost use Rattle.std.specs.Prelude.{◌≡◌, ◌≢◌, ◌<◌, ◌≤◌, ◌+◌, [], ◌∷◌, ◌++◌, length, map, filter};
 ghost use Rattle.std.specs.Prelude.{false, not, AllPairs, IfOk, IfErr, option_map, if◌then◌else◌};
 ghost use Rattle.std.specs.Prelude.{string_bytes};
 ghost use Rattle.std.specs.List.{All, list_all};
@@ -8,7 +8,7 @@ ghost use Rattle.bench_net.specs.Circuit.{max_signals};
 ghost use Rattle.bench_net.specs.Stored.{name_at};
 ghost use Rattle.bench_net.specs.reader.Entries.{IsNextFor, IsNumberedLine, AreNumberedLines};
 ghost use Rattle.std.specs.Option.{option_to_list};
-ghost use Rattle.bench_net.specs.Statement.{defined, read};
+ghost use Rattle.bench_net.specs.Statement.{defined, defines, read};
 ghost use Rattle.bench_net.specs.reader.Parsed.{stands_for, names_of, FailsBy};
 ghost use Rattle.bench_net.specs.reader.Entries.{names_in, is_in, MayBeOf};
 
@@ -182,9 +182,21 @@ pub fn own_names(alloc: Global, names: &Names) -> Result<Vec<String>, BenchFault
     Ok(owned)
 }
 
-/// The numbers of the statements' lines.
-pub fn line_numbers(alloc: Global, stated: &[StatedLine]) -> Result<Vec<u64>, AllocError>
-    ensures { IfOk result (λ numbers. numbers.items ≡ map (λ line. line.number) stated.now) }
+/// Whether a statement defines a name: every statement but an OUTPUT does.
+fn defines(statement: &Stated) -> bool
+    ensures { result ≡ defines (stands_for statement.now) }
 {
-    stated.iter().map(|line| line.number).collect(alloc)
+    !matches!(statement, Stated::Output(_))
+}
+
+/// The numbers of the lines that define the names.
+pub fn line_numbers(alloc: Global, stated: &[StatedLine]) -> Result<Vec<u64>, AllocError>
+    ensures { IfOk result (λ numbers. numbers.items ≡ map (λ line. line.number)
+        (filter (λ line. defines (stands_for line.statement)) stated.now)) }
+{
+    stated
+        .iter()
+        .filter(|line| defines(&line.statement))
+        .map(|line| line.number)
+        .collect(alloc)
 }

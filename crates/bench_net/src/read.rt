@@ -35,7 +35,7 @@ const MAX_SIGNALS: usize = 1_000_000;
 const MAX_SINKS: usize = 4_000_000;
 
 /// The statements of a text: the names in the order of their definitions, the lines over their
-/// numbers, and beside each line the number of its line in the text, from 1.
+/// numbers, and of each name the number of the line in the text that defines it, from 1.
 #[derive(Drop)]
 pub struct Lines {
     pub names: Vec<String>,

@@ -1,7 +1,7 @@
 //! The sinks of each signal.
 
 ghost use Rattle.std.specs.Prelude.{◌≡◌, ◌++◌, ◌^◌, ◌<◌, ◌+◌, ◌≤◌, map, length, slice_index, All, Contains, OnOk, IfOk};
-ghost use Rattle.bench_net.specs.Tables.{pin_readers, output_readers, line_readers, all_readers, reader_at, row_of, HasRow, AreSinkRows, PinsFit};
+ghost use Rattle.bench_net.specs.Tables.{pin_readers, output_readers, line_readers, all_readers, signal_read, reader_at, row_of, HasRow, AreSinkRows, PinsFit};
 ghost use Rattle.bench_net.specs.declared.line.Line.{Line};
 
 use crate::Sink;
@@ -137,7 +137,7 @@ pub fn sink_rows(
     requires few_outputs { length outputs.now < 2 ^ 32 }
     requires few_readers { length (all_readers lines.now outputs.now) < 2 ^ 32 }
     requires pins { (l : Line) → Contains lines.now l → PinsFit l }
-    requires below { All (λ reader. reader.signal < signals) (all_readers lines.now outputs.now) }
+    requires below { All (λ s. s < signals) (map signal_read (all_readers lines.now outputs.now)) }
     ensures { IfOk result (λ rows. AreSinkRows (all_readers lines.now outputs.now) signals
         rows.starts.items rows.sinks.items) }
 {

@@ -1,10 +1,13 @@
 //! Tables made of a circuit's lines: inputs, outputs, cells, places in a test row, definitions.
 
-ghost use Rattle.std.specs.Prelude.{◌≡◌, ◌^◌, ◌++◌, ◌<◌, map, length, All, IfOk};
+ghost use Rattle.std.specs.Prelude.{◌≡◌, ◌^◌, ◌++◌, ◌<◌, map, length, All, IfOk, IfErr};
 ghost use Rattle.std.specs.List.{filter_map};
-ghost use Rattle.bench_net.specs.Tables.{input_number, output_number, cell_numbers, defined_number, AreDefinitions, ArePlaces, AreTableLines, AreTables};
+ghost use Rattle.bench_net.specs.Tables.{input_number, output_number, cell_numbers, defines_number, definition_places, gate_pins, ArePlaces, AreTableLines};
+ghost use Rattle.bench_net.specs.Marks.{IsLevelFault};
+ghost use Rattle.bench_net.specs.Inside.{AreTables};
 
 use crate::ScanCell;
+use crate::levels::{LevelFault, Levels, levels_of};
 use crate::line::Line;
 use crate::sinks::{SinkRows, sink_rows};
 use std::alloc::{AllocError, Global};
@@ -23,9 +26,11 @@ pub struct Tables {
     /// Of each signal its place in a test row.
     pub source_places: Vec<Option<u32>>,
     /// Of each signal the place of the line that defines it.
-    pub definitions: Vec<u32>,
+    pub definitions: Vec<usize>,
     /// Of each signal its readers.
     pub sinks: SinkRows,
+    /// Of each signal its level.
+    pub levels: Levels,
 }
 
 /// The signal that an INPUT line defines.
@@ -58,16 +63,11 @@ fn cell_of(line: &Line) -> Option<ScanCell>
     }
 }
 
-/// The signal that a line defines: every line but an OUTPUT line defines one.
-fn defined_by(line: &Line) -> Option<u32>
-    ensures { result ≡ defined_number line.now }
+/// Whether a line defines a signal: every line but an OUTPUT line does.
+fn defines(line: &Line) -> bool
+    ensures { result ≡ defines_number line.now }
 {
-    match line {
-        Line::Input(signal) => Some(*signal),
-        Line::Output(_) => None,
-        Line::Gate(signal, _) => Some(*signal),
-        Line::Dff(q, _) => Some(*q),
-    }
+    !matches!(line, Line::Output(_))
 }
 
 /// The signals of the INPUT lines, in order.
@@ -98,17 +98,14 @@ pub fn cells(alloc: Global, lines: &[Line]) -> Result<Vec<ScanCell>, AllocError>
 }
 
 /// Of each signal the place, among all lines, of the line that defines it.
-pub fn definitions(alloc: Global, lines: &[Line]) -> Result<Vec<u32>, AllocError>
-    requires { length lines.now < 2 ^ 32 }
-    ensures { IfOk result (λ places. AreDefinitions lines.now places.items) }
+pub fn definitions(alloc: Global, lines: &[Line]) -> Result<Vec<usize>, AllocError>
+    ensures { IfOk result (λ places. places.items ≡ definition_places lines.now) }
 {
-    let mut places = Vec::new(alloc);
-    for (place, line) in lines.iter().enumerate() {
-        if defined_by(line).is_some() {
-            places.push(place as u32)?;
-        }
-    }
-    Ok(places)
+    lines
+        .iter()
+        .enumerate()
+        .filter_map(|(place, line)| defines(line).then_some(place))
+        .collect(alloc)
 }
 
 /// The signals that take a bit of a test, in the order of a test row: inputs, then the cells' q.
@@ -140,10 +137,12 @@ pub fn source_places(
     Ok(places)
 }
 
-/// The tables of lines that number their signals below `signals`.
-pub fn tables_of(alloc: Global, lines: &[Line], signals: usize) -> Result<Tables, AllocError>
+/// The tables of lines that number their signals below `signals`, or the lowest signal that is on a
+/// cycle of gates or fed by one.
+pub fn tables_of(alloc: Global, lines: &[Line], signals: usize) -> Result<Tables, LevelFault>
     requires { AreTableLines lines.now signals }
-    ensures { IfOk result (AreTables lines.now signals) }
+    ensures tables { IfOk result (AreTables lines.now signals) }
+    ensures fault { IfErr result (IsLevelFault (gate_pins lines.now) signals) }
 {
     let inputs = input_signals(alloc, lines)?;
     let cells = cells(alloc, lines)?;
@@ -152,6 +151,7 @@ pub fn tables_of(alloc: Global, lines: &[Line], signals: usize) -> Result<Tables
     let source_places = source_places(alloc, &sources, signals)?;
     let definitions = definitions(alloc, lines)?;
     let sinks = sink_rows(alloc, lines, &outputs, signals)?;
+    let levels = levels_of(alloc, lines, &definitions)?;
     Ok(Tables {
         inputs,
         cells,
@@ -160,5 +160,6 @@ pub fn tables_of(alloc: Global, lines: &[Line], signals: usize) -> Result<Tables
         source_places,
         definitions,
         sinks,
+        levels,
     })
 }

@@ -2,7 +2,7 @@
 -- them.
 use Rattle.std.specs.Prelude.{◌≡◌, ◌⊎◌, ◌<◌, ◌≤◌, ℕ, suc, Bool, length, List, [], ◌∷◌, map, flat_map}
 use Rattle.std.specs.Prelude.{Option, Some, None, bytes_eq}
-use Rattle.std.specs.List.{All, AllZip, list_any, range_with_len}
+use Rattle.std.specs.List.{All, AllZip, list_any}
 use Rattle.bench_net.specs.declared.BenchFault.{BenchFault}
 use Rattle.bench_net.specs.declared.BenchFault.TheVariants.{Memory}
 use Rattle.bench_net.specs.declared.Limit.{Limit}
@@ -94,10 +94,9 @@ pub record IsNumberedLine (ns : List Name) (next : ℕ) (s : Statement) (line : 
   pub own : defined_numbers line ≡ map (λ n. next) (defined s)
   pub in_range : All (λ number. number < length ns) (read_numbers line)
 
--- the stored lines stand for the statements of these lines; own numbers go in order, and each
--- number has a name
+-- the stored lines stand for the statements of these lines, and each number has a name
 pub record AreNumberedLines (ns : List Name) (stated : List StatedLine)
     (lines : List Line) : Type 0 where
   pub stand : statements_of ns lines ≡ statements_in stated
-  pub own : flat_map defined_numbers lines ≡ range_with_len 0 (length (names_in stated))
+  pub own_in_range : All (λ number. number < length ns) (flat_map defined_numbers lines)
   pub in_range : All (λ number. number < length ns) (flat_map read_numbers lines)

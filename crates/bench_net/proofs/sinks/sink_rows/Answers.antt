@@ -16,7 +16,7 @@ unfolding signal
 rows_of-requires-clause-below c =
     let readers = all_readers c.args.lines.now c.args.outputs.now in
     let keys : c.deref-2.result.now ≡ map signal readers = c.deref-2.ensures.value ∙ (c.in_ok-keys.ensures ∙ ap (map signal) (c.deref.ensures.value ∙ c.in_ok-readers.ensures)) in
-    subst (All (λ key. key < c.args.signals)) (sym keys) (All-map (λ key. key < c.args.signals) signal readers c.requires.below)
+    subst (All (λ key. key < c.args.signals)) (sym keys) c.requires.below
 
 pub sinks_of-requires : goal.sinks_of-requires
 unfolding signal
