@@ -1,39 +1,32 @@
 -- Numbered statements with levels are a circuit with its tables, and without are refused.
 use mathlib.Core.Path.{fun_ext}
-use Rattle.std.proofs.lemmas.List.Concat.{flat_map-append}
-use Rattle.std.proofs.lemmas.List.FromFn.{length-range_with_len}
 use Rattle.bench_net.proofs.Marking.{greatest-at}
-use Rattle.bench_net.specs.declared.Kind.{Kind}
-use Rattle.std.proofs.Common.{◌≡◌, ◌≢◌, ◌<◌, ◌≤◌, ◌+◌, ℕ, suc, get_or, map, sym, ◌∙◌, ap, subst, refl, List, [], ◌∷◌, ◌++◌, length, filter, arith, inl, inr, take, drop}
-use Rattle.std.specs.Prelude.{Option, Some, None, slice_get, slice_index, slice_index_or, Contains, AllPairs, flat_map, option_map}
-use Rattle.std.proofs.lemmas.List.{length-map, take-map, take-append-drop}
+use Rattle.std.proofs.Common.{◌≡◌, ◌≢◌, ◌<◌, ◌≤◌, ◌+◌, ℕ, map, sym, ◌∙◌, ap, subst, refl, List, [], ◌∷◌, length, filter, arith}
+use Rattle.std.specs.Prelude.{Option, Some, None, slice_get, slice_index_or, Contains, AllPairs, flat_map, option_map}
+use Rattle.std.proofs.lemmas.List.{length-map}
 use Rattle.std.specs.List.{filter_map}
 use Rattle.std.proofs.lemmas.List.Elements.{Contains-get_or, All-contains}
+use Rattle.std.proofs.lemmas.List.Sorted.{All-permutation, IsPermutation-sym, length_permutation}
 use Rattle.std.proofs.lemmas.Option.{slice_get_within, slice_get-map, slice_get-get_or}
-use Rattle.bench_net.specs.declared.GateLine.{GateLine}
 use Rattle.bench_net.specs.declared.line.Line.{Line}
 use Rattle.bench_net.specs.declared.line.Line.TheVariants as line
 use Rattle.bench_net.specs.declared.tables.Tables.{Tables}
-use Rattle.bench_net.specs.declared.levels.Levels.{Levels}
 use Rattle.bench_net.specs.declared.levels.LevelFault.TheVariants.{Cycle}
-use Rattle.bench_net.specs.Statement.{Name, Statement, read, Gate}
-use Rattle.bench_net.specs.Scan.{names, signal, sources}
-use Rattle.bench_net.specs.Circuit.{IsCircuit, IsStuck, sink_count}
-use Rattle.bench_net.specs.Level.{greatest}
-use Rattle.bench_net.specs.Stored.{name_at, statement_of, statements_of, defined_numbers, read_numbers, AreStatements, IsFirstStuck}
-use Rattle.bench_net.specs.declared.sinks.Reader.{Reader}
-use Rattle.bench_net.specs.Rows.{AreRows}
-use Rattle.bench_net.specs.Tables.{output_number, defines_number, line_gate, all_readers, sinks_at, source_signals, AreTableLines, AreTables, AreDefinitions, defined_number}
-use Rattle.bench_net.specs.Marks.{pins_in, gate_pins, IsGraph, AreLevelsOf, HaveLevels, IsStuckAt, IsLevelFault}
-use Rattle.bench_net.specs.Inside.{IsInside, IsPlace}
-use Rattle.lists.proofs.Members.{Among, among, contained, mapped_from, filtered_from, among_joined, among_left, among_right}
-use Rattle.lists.proofs.Places.{at_place, from_mapped, placed}
+use Rattle.bench_net.specs.Statement.{Name, Statement, Gate}
+use Rattle.bench_net.specs.Scan.{names, signal, name_of, definition, gate_line, sources}
+use Rattle.bench_net.specs.Circuit.{IsCircuit, sink_count}
+use Rattle.bench_net.specs.Stored.{name_at, statement_of, statements_of, read_numbers, AreStatements, IsFirstStuck}
+use Rattle.bench_net.specs.Tables.{output_number, defines_number, definition_places, line_gate, all_readers, signal_read, source_signals}
+use Rattle.bench_net.specs.Marks.{pins_in, gate_pins, AreLevelsOf, IsLevelFault}
+use Rattle.bench_net.specs.Inside.{AreTableLines, AreTables, IsInside, IsPlace}
+use Rattle.lists.proofs.Members.{Among, among, contained, mapped_from, filtered_from, among_joined}
+use Rattle.lists.proofs.Places.{at_place, from_mapped}
 use Rattle.lists.proofs.Distinct.{distinct_from_pairs}
-use Rattle.bench_net.proofs.Counted.{few_lines, few_sources, line_reads, reader_count, reader_reads, line_count, all_fit}
+use Rattle.bench_net.proofs.Counted.{few_sources, counts, few_outputs, readers_read, line_count, all_fit}
 use Rattle.bench_net.proofs.Gates.{pins, source_statement, named, signal_below, named_number, not_stuck, stuck_name, numbering, has_level, has_depth, level_order}
 use Rattle.bench_net.proofs.Listed.{definition_count}
-use Rattle.bench_net.proofs.Named.{AreStated, stated, inputs_are, outputs_are, cells_are, sources_are, sinks_are, cells_once, gate_is, signal_at, own_place}
-use Rattle.bench_net.proofs.Numbers.{signal-name_of}
+use Rattle.bench_net.proofs.Named.{AreRight, all_right, inputs_are, outputs_are, cells_are, sources_are, sinks_are, cells_once, gate_is}
+use Rattle.bench_net.proofs.Numbers.{signal-name_of, definition_defines}
 use Rattle.bench_net.proofs.Numbering.{reads_numbers, known}
 
 module _ (ns : List Name) (lines : List Line) (at : List ℕ) (are : AreStatements ns lines at) where
@@ -55,7 +48,7 @@ module _ (ns : List Name) (lines : List Line) (at : List ℕ) (are : AreStatemen
 
   source_in : (s : ℕ) → Among s (source_signals lines) → s < length ns
   source_in s a =
-      let from = mapped_from (signal c) (sources c) s (subst (Among s) (sources_are lines all) a) in
+      let from = mapped_from (signal c) (sources c) s (subst (Among s) (sources_are ns (signal c) lines all) a) in
       let st = source_statement c from.0 from.1 in
       let below = signal_below c from.0 (named c st.0 from.0 st.1 st.2) in
       omega (arith, below, from.2, name_count)
@@ -78,9 +71,9 @@ module _ (ns : List Name) (lines : List Line) (at : List ℕ) (are : AreStatemen
 
   pub table_lines : AreTableLines lines (length ns)
   table_lines = record {
-    few_lines = omega (arith, counted.0, count, read_count, are.sinks, are.signals);
+    few_lines = few_lines;
     few_signals = omega (arith, are.signals);
-    few_sources = omega (arith, ap length (sources_are lines all), length-map (sources c) (signal c),
+    few_sources = omega (arith, ap length (sources_are ns (signal c) lines all), length-map (sources c) (signal c),
         (few_sources c).1, name_count, are.signals);
     sources_below =
         λ i d lt. source_in _ (among _ _ (Contains-get_or (source_signals lines) i d lt));
@@ -90,17 +83,22 @@ module _ (ns : List Name) (lines : List Line) (at : List ℕ) (are : AreStatemen
         (IsPermutation-sym _ _ (readers_read lines)) are.numbered.in_range;
     pins_fit = λ l has. all_fit lines l (omega (arith, read_count, are.sinks)) (among lines l has);
     count = count;
-    few_pins = λ s. omega (arith, (reads s).0, read_count, are.sinks);
-    pins_below = λ s p has. All-contains (λ x. x < length ns) _ p are.numbered.in_range
-        (contained _ p ((reads s).1 p (among (gate_pins lines s) p has)));
+    graph = record {
+      few = omega (arith, count, are.signals);
+      few_lines = omega (arith, few_lines);
+      definitions_are = refl;
+      few_pins = λ s. omega (arith, (reads s).0, read_count, are.sinks);
+      pins_below = λ s p has. omega (arith, count, All-contains (λ x. x < length ns) _ p
+          are.numbered.in_range (contained _ p ((reads s).1 p (among (gate_pins lines s) p has))));
+    };
   }
     where
-      counted : (length lines ≤ length (filter defines_number lines) + length (flat_map read_numbers lines))
-          × (length (filter defines_number lines) ≡ length (names c))
-      counted = counts ns lines
+      count : length (definition_places lines) ≡ length ns
+      count = definition_count lines ∙ (counts ns lines).1 ∙ name_count
 
-      count : length (filter defines_number lines) ≡ length ns
-      count = counted.1 ∙ name_count
+      few_lines : length lines < 2147483648
+      few_lines = omega (arith, (counts ns lines).0, definition_count lines, count, read_count,
+          are.sinks, are.signals)
 
       reader_count : length (all_readers lines (filter_map output_number lines))
           ≡ length (flat_map read_numbers lines)
@@ -112,16 +110,18 @@ module _ (ns : List Name) (lines : List Line) (at : List ℕ) (are : AreStatemen
   same_pins : gate_pins lines ≡ pins c
   same_pins = fun_ext (λ s. ap pins_in (gate_is ns c lines s all))
 
-  pub circuit : (levels : List ℕ) → AreLevelsOf (gate_pins lines) (length ns) levels → lines ≢ []
-      → IsCircuit c
-  circuit levels by_lines some = record {
+  by_names : (levels : List ℕ) → AreLevelsOf (gate_pins lines) (length (definition_places lines)) levels
+      → AreLevelsOf (pins c) (length (names c)) levels
+  by_names levels by_lines = rw (same_pins, table_lines.count ∙ sym name_count) at by_lines
+
+  pub circuit : (tables : Tables) → AreTables lines (length ns) tables → lines ≢ [] → IsCircuit c
+  circuit tables tabled some = record {
     well_formed = record {
       some = λ e. some (none lines e);
       once = once;
       all_defined = λ n has. subst (λ xs. Contains xs n) (sym are.numbered.names_are)
           (known ns lines are.numbered.in_range n (among _ n has));
-      acyclic =
-          (_, numbering c once are.arities levels (rw (same_pins, sym name_count) at by_lines));
+      acyclic = (_, numbering c once are.arities _ (by_names _ tabled.levels_are));
     };
     arities = are.arities;
     signals = omega (arith, name_count, are.signals);
@@ -135,21 +135,21 @@ module _ (ns : List Name) (lines : List Line) (at : List ℕ) (are : AreStatemen
   pub inside : (tables : Tables) → AreTables lines (length ns) tables → lines ≢ []
       → IsInside c ns lines tables
   inside tables tabled some = record {
-    circuit = circuit _ tabled.levels_are some;
+    circuit = circuit tables tabled some;
     names_are = are.numbered.names_are;
-    inputs_are = tabled.inputs_are ∙ inputs_are lines all;
+    inputs_are = tabled.inputs_are ∙ inputs_are ns (signal c) lines all;
     cells_are = ap (map {B = ℕ × ℕ} (λ cell. (cell.q, cell.d))) tabled.cells_are
-        ∙ cells_are lines all;
-    outputs_are = tabled.outputs_are ∙ outputs_are lines all;
-    source_count = ap length (tabled.sources_are ∙ sources_are lines all)
+        ∙ cells_are ns (signal c) lines all;
+    outputs_are = tabled.outputs_are ∙ outputs_are ns (signal c) lines all;
+    source_count = ap length (tabled.sources_are ∙ sources_are ns (signal c) lines all)
         ∙ length-map (sources c) (signal c);
     place_count = tabled.places_are.count ∙ sym name_count;
     places_are = λ s place e. place_at s place e (omega (arith,
         slice_get_within tables.source_places.items s place e, tabled.places_are.count, name_count));
     few_lines = omega (arith, table_lines.few_lines);
     definitions_are = tabled.definitions_are;
-    definition_count = ap length tabled.definitions_are ∙ definition_count lines
-        ∙ table_lines.count ∙ sym name_count;
+    definition_count =
+        ap length tabled.definitions_are ∙ table_lines.count ∙ sym name_count;
     gates_are = λ s. gate_is ns c lines s all;
     have_rows = λ s lt. tabled.sinks_are.have_rows s (omega (arith, lt, name_count));
     sinks_are = λ s n e.
@@ -158,37 +158,42 @@ module _ (ns : List Name) (lines : List Line) (at : List ℕ) (are : AreStatemen
         tabled.sinks_are.rows s (omega (arith, slice_get_within (names c) s n e, name_count))
         ∙ rw (← number) (sinks_are c n has ns lines refl all
         (cells_once c (distinct_from_pairs (names c) once)));
-    level_count = tabled.levels_are.count ∙ sym name_count;
-    levels_are = has_level c once are.arities levels by_names;
-    order_is = level_order c once are.arities levels by_names tables.levels.order.items
+    level_count = levelled.count;
+    levels_are = has_level c once are.arities levels levelled;
+    order_is = level_order c once are.arities levels levelled tables.levels.order.items
         tabled.order_is.0 (tables.levels.depth + 1) tabled.order_is.1
         (λ i lt. omega (arith, greatest-at levels i lt, tabled.depth_is));
-    depth_is = has_depth c once are.arities levels by_names tables.levels.depth tabled.depth_is;
+    depth_is = has_depth c once are.arities levels levelled tables.levels.depth tabled.depth_is;
   }
     where
       levels : List ℕ
       levels = tables.levels.levels.items
 
-      by_names : AreLevelsOf (pins c) (length (names c)) levels
-      by_names = rw (same_pins, sym name_count) at tabled.levels_are
+      levelled : AreLevelsOf (pins c) (length (names c)) levels
+      levelled = by_names levels tabled.levels_are
 
       place_at : (s : ℕ) (place : Option ℕ) → slice_get tables.source_places.items s ≡ Some place → s < length (names c) → IsPlace c s place
       place_at s (Some i) e lt =
-          let from = from_mapped (signal c) (sources c) i s (ap (λ xs. slice_get xs i) (sym (sources_are lines all)) ∙ tabled.places_are.some s i e) in
+          let from = from_mapped (signal c) (sources c) i s (ap (λ xs. slice_get xs i) (sym (sources_are ns (signal c) lines all)) ∙ tabled.places_are.some s i e) in
           from.1 ∙ sym (named_number c from.0 s from.2 lt)
       place_at s None e lt = λ i same.
           let n = slice_index_or (names c) s [] in
           let at = slice_get-get_or (names c) s [] lt in
           let number = signal-name_of c s n once at (Contains-get_or (names c) s [] lt) in
-          tabled.places_are.none s i e (ap (λ xs. slice_get xs i) (sources_are lines all)
+          tabled.places_are.none s i e (ap (λ xs. slice_get xs i) (sources_are ns (signal c) lines all)
           ∙ (slice_get-map (signal c) (sources c) i ∙ (ap (option_map (signal c)) (same ∙ at) ∙ ap Some number)))
 
   -- the first signal without a level is the first that is stuck
-  pub refused : (s : ℕ) → IsLevelFault (gate_pins lines) (length ns) (Cycle s) → IsFirstStuck c s
-  refused s by_lines = go (definition c s) refl (among (pins c s) read_by.0 read_by.1)
+  pub refused : (s : ℕ)
+      → IsLevelFault (gate_pins lines) (length (definition_places lines)) (Cycle s)
+      → (s < length at) × IsFirstStuck c s
+  refused s by_lines = (
+    omega (arith, fault.0, table_lines.count, are.line_count),
+    go (definition c s) refl (among (pins c s) read_by.0 read_by.1),
+  )
     where
-      fault : IsLevelFault (pins c) (length ns) (Cycle s)
-      fault = rw same_pins at by_lines
+      fault : IsLevelFault (pins c) (length (definition_places lines)) (Cycle s)
+      fault = subst (λ f. IsLevelFault f (length (definition_places lines)) (Cycle s)) same_pins by_lines
 
       read_by : (p : ℕ) × Contains (pins c s) p × Contains fault.1.0 p
       read_by = fault.1.1 s fault.1.2

@@ -1,28 +1,25 @@
 -- Numbers and names: the stored lines hold the numbers of their statements' names.
-use Rattle.std.proofs.lemmas.List.FromFn.{get_or-range_with_len, length-range_with_len}
-use Rattle.std.proofs.Common.{◌≡◌, ◌≢◌, ◌<◌, ◌==◌, ◌+◌, ℕ, zero, suc, sym, ◌∙◌, ap, subst, refl, true, false, List, [], ◌∷◌, ◌++◌, map, length, filter, arith, inl, inr, length-append}
+use Rattle.std.proofs.Common.{◌≡◌, ◌≢◌, ◌<◌, ◌==◌, ◌+◌, ℕ, zero, suc, sym, ◌∙◌, ap, ap₂, subst, refl, true, false, List, [], ◌∷◌, ◌++◌, map, length, filter, inl, inr, length-append}
 use Rattle.std.specs.Prelude.{Some, slice_get, Contains, AllPairs, flat_map, bytes_eq}
-use Rattle.std.specs.List.{filter_map, enumerate_from, position_or_len, range_with_len}
+use Rattle.std.specs.List.{filter_map, enumerate_from, position_or_len}
 use Rattle.std.proofs.Math.Numerals.{one-add}
 use Rattle.std.proofs.lemmas.Bool.{eq-eqb, ne_eqb, cases_Bool}
 use Rattle.std.proofs.lemmas.Simd.{map-map}
 use Rattle.bench_net.specs.declared.ScanCell.{ScanCell}
 use Rattle.std.proofs.lemmas.List.{map-append, append_assoc}
 use Rattle.std.proofs.lemmas.List.Elements.{Contains-get_or, filter-append, All-contains}
-use Rattle.std.proofs.lemmas.Option.{slice_get-get_or, slice_get_within, get_or_from_slice_get}
-use Rattle.bench_net.specs.declared.GateLine.{GateLine}
+use Rattle.std.proofs.lemmas.Option.{slice_get-get_or, slice_get_within}
 use Rattle.bench_net.specs.declared.Sink.{Sink}
-use Rattle.bench_net.specs.declared.Sink.TheVariants.{Pin, Data, Out}
+use Rattle.bench_net.specs.declared.Sink.TheVariants.{Pin, Out}
 use Rattle.bench_net.specs.declared.sinks.Reader.{Reader}
 use Rattle.bench_net.specs.declared.line.Line.{Line}
 use Rattle.bench_net.specs.declared.line.Line.TheVariants as line
-use Rattle.bench_net.specs.Statement.{Name, Statement, Input, Output, Gate, Dff, defines}
-use Rattle.bench_net.specs.Scan.{names, signal, gate_line, cell, inputs, outputs, cells, sources, places, pins_of, sinks}
+use Rattle.bench_net.specs.Statement.{Name, Statement, Output, Dff, defines}
+use Rattle.bench_net.specs.Scan.{names, signal, gate_line, cell, inputs, outputs, cells, sources, pins_of, sinks}
 use Rattle.bench_net.specs.Stored.{name_at, statements_of, defined_numbers, read_numbers, AreNumbered}
 use Rattle.bench_net.specs.Tables.{input_number, output_number, cell_numbers, defines_number, source_signals, pin_readers, output_readers, line_readers, all_readers, sinks_at, line_gate}
 use Rattle.lists.proofs.Members.{Among, contained, among_left, among_right}
 use Rattle.lists.proofs.Distinct.{Distinct}
-use Rattle.lists.proofs.Places.{placed}
 use Rattle.bench_net.proofs.Checked.{same_bytes, bytes_refl}
 use Rattle.bench_net.proofs.Numbers.{signal-name_of, name_of-signal}
 use Rattle.bench_net.proofs.Gates.{named, named_number, of_cell}
@@ -40,29 +37,28 @@ module _ (ns : List Name) (number : Name → ℕ) where
   AreRight [] = Unit {0}
   AreRight (l ∷ ls) = IsRight l × AreRight ls
 
--- ---- lists of signals
+  -- ---- lists of signals
 
-module _ {ns : List Name} {number : Name → ℕ} where
-  pub inputs_are : (ls : List Line) → AreRight ns number ls
+  pub inputs_are : (ls : List Line) → AreRight ls
       → filter_map input_number ls ≡ map number (inputs (statements_of ns ls))
   inputs_are [] are = refl
   inputs_are (line.Input s ∷ ls) (e, are) = let rest = inputs_are ls are in cc
   inputs_are (_ ∷ ls) (e, are) = inputs_are ls are
 
-  pub outputs_are : (ls : List Line) → AreRight ns number ls
+  pub outputs_are : (ls : List Line) → AreRight ls
       → filter_map output_number ls ≡ map number (outputs (statements_of ns ls))
   outputs_are [] are = refl
   outputs_are (line.Output s ∷ ls) (e, are) = let rest = outputs_are ls are in cc
   outputs_are (_ ∷ ls) (e, are) = outputs_are ls are
 
-  pub cells_are : (ls : List Line) → AreRight ns number ls
+  pub cells_are : (ls : List Line) → AreRight ls
       → map {B = ℕ × ℕ} (λ cell. (cell.q, cell.d)) (filter_map cell_numbers ls)
       ≡ map (λ cell. (number cell.0, number cell.1)) (cells (statements_of ns ls))
   cells_are [] are = refl
   cells_are (line.Dff q d ∷ ls) ((e, h), are) = let rest = cells_are ls are in cc
   cells_are (_ ∷ ls) (e, are) = cells_are ls are
 
-  qs_are : (ls : List Line) → AreRight ns number ls
+  qs_are : (ls : List Line) → AreRight ls
       → map (λ cell. cell.q) (filter_map cell_numbers ls)
       ≡ map number (map (λ cell. cell.0) (cells (statements_of ns ls)))
   qs_are ls are =
@@ -71,7 +67,7 @@ module _ {ns : List Name} {number : Name → ℕ} where
       ∙ map-map _ _ (cells (statements_of ns ls))
       ∙ sym (map-map number (λ cell. cell.0) (cells (statements_of ns ls)))
 
-  pub sources_are : (ls : List Line) → AreRight ns number ls
+  pub sources_are : (ls : List Line) → AreRight ls
       → source_signals ls ≡ map number (sources (statements_of ns ls))
   sources_are ls are =
       let c = statements_of ns ls in
@@ -160,16 +156,16 @@ module _ (whole : List Statement) (n : Name) (named : Contains (names whole) n) 
         ∙ rw (first, line_sinks before ls are once is, ← e) refl
     line_sinks before (line.Dff q d ∷ ls) ((e, h), are) once is =
         let p = name_at ns q in
-        let same = bytes_at (name_at ns d) in
+        let same = bytes_at (name_at ns d) ∙ ap (λ x. x == signal whole n) (sym h) in
         let split = append_assoc before (p ∷ []) (qs (statements_of ns ls)) in
         let later = line_sinks (before ++ p ∷ []) ls are (rw split once) (is ∙ sym split) in
         let rest = ap (λ k. sinks_at (line_readers k ls) (signal whole n))
         (sym (length-append before (p ∷ []))) ∙ later in
         let own : cell whole p ≡ length before = ap (position_or_len (bytes_eq p)) is
         ∙ position_after before (qs (statements_of ns ls)) p once in
-        elim (cases_Bool (signal whole (name_at ns d) == signal whole n)) [
-          | inl on ↦ rw (← h, same, on, rest, own) refl
-          | inr off ↦ rw (← h, same, off) rest
+        elim (cases_Bool (d == signal whole n)) [
+          | inl on ↦ rw (same, on, rest, own) refl
+          | inr off ↦ rw (same, off) rest
         ]
     line_sinks before (_ ∷ ls) (e, are) once is = line_sinks before ls are once is
 
@@ -180,8 +176,8 @@ module _ (whole : List Statement) (n : Name) (named : Contains (names whole) n) 
     sinks_are lines is are once =
         sinks-append (line_readers 0 lines) (output_readers (filter_map output_number lines))
         (signal whole n)
-        ∙ rw (line_sinks [] lines are (rw is once) (ap qs (sym is)), outputs_are lines are, is)
-        (ap (λ ys. flat_map (pins_of whole n) whole ++ ys) (numbered Out 0 (outputs whole)))
+        ∙ ap₂ (λ xs ys. xs ++ ys) (line_sinks [] lines are (rw is once) (ap qs (sym is)) ∙ ap (flat_map (pins_of whole n)) is)
+        (ap (λ os. sinks_at (output_readers os) (signal whole n)) (outputs_are ns (signal whole) lines are ∙ ap (λ c. map (signal whole) (outputs c)) is) ∙ numbered Out 0 (outputs whole))
 
 -- ---- numbered lines are such lines
 

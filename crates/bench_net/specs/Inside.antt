@@ -1,5 +1,5 @@
 -- What a circuit holds: a statement list with tables that answer as its calls do.
-use Rattle.std.specs.Prelude.{◌≡◌, ◌≢◌, ℕ, ◌+◌, ◌<◌, ◌^◌, List, length, map, filter, Option, Some, None, slice_get, slice_index}
+use Rattle.std.specs.Prelude.{◌≡◌, ◌≢◌, ℕ, ◌+◌, ◌<◌, ◌^◌, List, length, map, filter, All, Contains, Option, Some, None, slice_get, slice_index}
 use Rattle.std.specs.List.{filter_map}
 use Rattle.bench_net.specs.declared.line.Line.{Line}
 use Rattle.bench_net.specs.declared.tables.Tables.{Tables}
@@ -8,8 +8,22 @@ use Rattle.bench_net.specs.Scan.{names, signal, name_of, gate_of, inputs, output
 use Rattle.bench_net.specs.Circuit.{IsCircuit}
 use Rattle.bench_net.specs.Level.{greatest, HasLevel, HasDepth, IsLevelOrder}
 use Rattle.bench_net.specs.Rows.{AreRows}
-use Rattle.bench_net.specs.Tables.{input_number, cell_numbers, output_number, source_signals, ArePlaces, definition_places, defines_number, line_gate, gate_pins, all_readers, AreSinkRows, HasRow, row_of}
-use Rattle.bench_net.specs.Marks.{AreLevelsOf}
+use Rattle.bench_net.specs.Tables.{PinsFit, signal_read, input_number, cell_numbers, output_number, source_signals, ArePlaces, definition_places, defines_number, line_gate, gate_pins, all_readers, AreSinkRows, HasRow, row_of}
+use Rattle.bench_net.specs.Marks.{IsGraph, AreLevelsOf}
+
+-- lines few enough to be numbered, whose numbers are all below a number of signals
+pub record AreTableLines (lines : List Line) (signals : ℕ) : Type 0 where
+  pub few_lines : length lines < 2 ^ 31
+  pub few_signals : signals < 2 ^ 31
+  pub few_sources : length (source_signals lines) < 2 ^ 31
+  pub sources_below : All (λ s. s < signals) (source_signals lines)
+  pub few_outputs : length (filter_map output_number lines) < 2 ^ 31
+  pub few_readers : length (all_readers lines (filter_map output_number lines)) < 2 ^ 31
+  pub readers_below : All (λ s. s < signals)
+      (map signal_read (all_readers lines (filter_map output_number lines)))
+  pub pins_fit : (l : Line) → Contains lines l → PinsFit l
+  pub count : length (definition_places lines) ≡ signals
+  pub graph : IsGraph lines (definition_places lines)
 
 -- the tables of lines over numbered signals
 pub record AreTables (lines : List Line) (signals : ℕ) (tables : Tables) : Type 0 where
@@ -21,7 +35,8 @@ pub record AreTables (lines : List Line) (signals : ℕ) (tables : Tables) : Typ
   pub definitions_are : tables.definitions.items ≡ definition_places lines
   pub sinks_are : AreSinkRows (all_readers lines (filter_map output_number lines)) signals
       tables.sinks.starts.items tables.sinks.sinks.items
-  pub levels_are : AreLevelsOf (gate_pins lines) signals tables.levels.levels.items
+  pub levels_are : AreLevelsOf (gate_pins lines) (length (definition_places lines))
+      tables.levels.levels.items
   pub order_is : (starts : List ℕ) × AreRows tables.levels.levels.items (tables.levels.depth + 1)
       starts tables.levels.order.items
   pub depth_is : tables.levels.depth ≡ greatest tables.levels.levels.items

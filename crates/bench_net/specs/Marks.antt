@@ -1,12 +1,12 @@
 -- Levels of gates by the numbers of their signals, and the marks of a search for them.
-use Rattle.std.specs.Prelude.{◌≡◌, ◌≢◌, ℕ, ◌+◌, ◌-◌, ◌<◌, ◌≤◌, ◌^◌, List, [], ◌∷◌, map, filter, take, length, max, count_by, Contains, Option, Some, None, slice_get, slice_index, Bool, true, false}
-use Rattle.bench_net.specs.declared.Kind.{Kind}
+use Rattle.std.specs.Prelude.{◌≡◌, ◌≢◌, ℕ, ◌+◌, ◌-◌, ◌<◌, ◌≤◌, ◌^◌, List, [], ◌∷◌, map, take, length, max, count_by, Contains, Some, slice_get, slice_index, Bool, true, false}
 use Rattle.bench_net.specs.declared.line.Line.{Line}
 use Rattle.bench_net.specs.declared.levels.Mark.{Mark}
 use Rattle.bench_net.specs.declared.levels.Mark.TheVariants.{Unknown, Open, Level}
 use Rattle.bench_net.specs.declared.levels.LevelFault.{LevelFault}
 use Rattle.bench_net.specs.declared.levels.LevelFault.TheVariants.{Memory, Cycle}
-use Rattle.bench_net.specs.Tables.{definition_places, gate_pins}
+use Rattle.bench_net.specs.Tables.{definition_places}
+pub use Rattle.bench_net.specs.Tables.{pins_in, gate_pins}
 
 -- the line of each signal stands at its place, and each pin reads a signal
 pub record IsGraph (lines : List Line) (definitions : List ℕ) : Type 0 where

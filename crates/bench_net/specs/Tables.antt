@@ -1,5 +1,5 @@
 -- Tables of stored lines, by the numbers that the lines hold.
-use Rattle.std.specs.Prelude.{◌≡◌, ◌≢◌, ℕ, ◌+◌, ◌<◌, ◌≤◌, ◌^◌, ◌==◌, Bool, List, [], ◌∷◌, ◌++◌, map, filter, length, All, Contains, Option, Some, None, true, false, if◌then◌else◌, slice_get, slice_index, slice_index_or, slice_range}
+use Rattle.std.specs.Prelude.{◌≡◌, ◌≢◌, ℕ, ◌+◌, ◌<◌, ◌≤◌, ◌^◌, ◌==◌, Bool, List, [], ◌∷◌, ◌++◌, map, filter, length, Option, Some, None, true, false, if◌then◌else◌, slice_get, slice_index, slice_index_or, slice_range}
 use Rattle.std.specs.List.{enumerate_from, filter_map}
 use Rattle.bench_net.specs.declared.Kind.{Kind}
 use Rattle.bench_net.specs.declared.line.Line.{Line}
@@ -120,18 +120,3 @@ PinsFit _ = Unit {0}
 abbrev pub source_signals : List Line → List ℕ
 source_signals lines =
     filter_map input_number lines ++ map (λ cell. cell.q) (filter_map cell_numbers lines)
-
--- lines few enough to be numbered, whose numbers are all below a number of signals
-pub record AreTableLines (lines : List Line) (signals : ℕ) : Type 0 where
-  pub few_lines : length lines < 2 ^ 31
-  pub few_signals : signals < 2 ^ 31
-  pub few_sources : length (source_signals lines) < 2 ^ 31
-  pub sources_below : All (λ s. s < signals) (source_signals lines)
-  pub few_outputs : length (filter_map output_number lines) < 2 ^ 31
-  pub few_readers : length (all_readers lines (filter_map output_number lines)) < 2 ^ 31
-  pub readers_below : All (λ s. s < signals)
-      (map signal_read (all_readers lines (filter_map output_number lines)))
-  pub pins_fit : (l : Line) → Contains lines l → PinsFit l
-  pub count : length (filter defines_number lines) ≡ signals
-  pub few_pins : (s : ℕ) → length (gate_pins lines s) < 2 ^ 32
-  pub pins_below : (s p : ℕ) → Contains (gate_pins lines s) p → p < signals

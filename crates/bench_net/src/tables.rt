@@ -2,9 +2,9 @@
 
 ghost use Rattle.std.specs.Prelude.{◌≡◌, ◌^◌, ◌++◌, ◌<◌, map, length, All, IfOk, IfErr};
 ghost use Rattle.std.specs.List.{filter_map};
-ghost use Rattle.bench_net.specs.Tables.{input_number, output_number, cell_numbers, defines_number, definition_places, gate_pins, ArePlaces, AreTableLines};
+ghost use Rattle.bench_net.specs.Tables.{input_number, output_number, cell_numbers, defines_number, definition_places, gate_pins, ArePlaces};
 ghost use Rattle.bench_net.specs.Marks.{IsLevelFault};
-ghost use Rattle.bench_net.specs.Inside.{AreTables};
+ghost use Rattle.bench_net.specs.Inside.{AreTableLines, AreTables};
 
 use crate::ScanCell;
 use crate::levels::{LevelFault, Levels, levels_of};
@@ -142,7 +142,8 @@ pub fn source_places(
 pub fn tables_of(alloc: Global, lines: &[Line], signals: usize) -> Result<Tables, LevelFault>
     requires { AreTableLines lines.now signals }
     ensures tables { IfOk result (AreTables lines.now signals) }
-    ensures fault { IfErr result (IsLevelFault (gate_pins lines.now) signals) }
+    ensures fault { IfErr result (IsLevelFault (gate_pins lines.now)
+        (length (definition_places lines.now))) }
 {
     let inputs = input_signals(alloc, lines)?;
     let cells = cells(alloc, lines)?;

@@ -1,7 +1,6 @@
 use Rattle.std.proofs.Common.{◌≡◌, ◌<◌, ◌∙◌, ℕ, ap, subst, sym, length, map}
 use Rattle.std.specs.Prelude.{All}
 use Rattle.std.proofs.lemmas.List.{length-map}
-use Rattle.std.proofs.lemmas.List.Elements.{All-map}
 use Rattle.bench_net.specs.declared.sinks.Reader.{Reader}
 use Rattle.bench_net.specs.Rows.{AreRows}
 use Rattle.bench_net.specs.Tables.{all_readers, reader_at}

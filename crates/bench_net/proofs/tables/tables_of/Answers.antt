@@ -1,0 +1,6 @@
+use Rattle.bench_net.proofs.tables.tables_of.Goals as goal
+
+pub levels_of-requires : goal.levels_of-requires
+levels_of-requires c = record {
+  graph = rw (c.deref-5.ensures.value, c.in_ok-definitions.ensures) c.requires.graph;
+}
