@@ -6,7 +6,7 @@ use Rattle.bench_net.proofs.circuit.Circuit.level_of.Goals as goal
 
 pub returns : goal.returns
 returns c =
-    let levels = c.self.inside.levels.levels.items in
+    let levels = c.self.inside.tables.levels.levels.items in
     let below = subst (λ s. c.args.signal < length (names s)) (sym c.self.view_is) c.requires in
     let read : c.index.result.now ≡ get_or levels c.args.signal 0 = get_or_read levels c.args.signal c.index.result.now (omega (arith, below, c.self.invariant.level_count)) c.index.ensures 0 in
     subst (λ s. HasLevel s c.args.signal c.index.result.now) c.self.view_is (subst (HasLevel _ c.args.signal) (sym read) (c.self.invariant.levels_are c.args.signal below))
