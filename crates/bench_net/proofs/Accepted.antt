@@ -16,9 +16,9 @@ use Rattle.bench_net.specs.Statement.{Name, Statement, Gate}
 use Rattle.bench_net.specs.Scan.{names, signal, name_of, definition, gate_line, sources}
 use Rattle.bench_net.specs.Circuit.{IsCircuit, sink_count}
 use Rattle.bench_net.specs.Stored.{name_at, statement_of, statements_of, read_numbers, AreStatements, IsFirstStuck}
-use Rattle.bench_net.specs.Tables.{output_number, defines_number, definition_places, line_gate, all_readers, signal_read, source_signals}
+use Rattle.bench_net.specs.Tables.{output_number, defines_number, line_gate, all_readers, signal_read, source_signals}
 use Rattle.bench_net.specs.Marks.{pins_in, gate_pins, AreLevelsOf, IsLevelFault}
-use Rattle.bench_net.specs.Inside.{AreTableLines, AreTables, IsInside, IsPlace}
+use Rattle.bench_net.specs.Inside.{signals_in, AreTableLines, AreTables, IsInside, IsPlace}
 use Rattle.lists.proofs.Members.{Among, among, contained, mapped_from, filtered_from, among_joined}
 use Rattle.lists.proofs.Places.{at_place, from_mapped}
 use Rattle.lists.proofs.Distinct.{distinct_from_pairs}
@@ -42,16 +42,19 @@ module _ (ns : List Name) (lines : List Line) (at : List ℕ) (are : AreStatemen
   name_count : length (names c) ≡ length ns
   name_count = ap length are.numbered.names_are
 
+  count : signals_in lines ≡ length ns
+  count = definition_count lines ∙ (counts ns lines).1 ∙ name_count
+
   read_count : length (flat_map read_numbers lines) ≡ sink_count c
   read_count = sym (ap length (reads_numbers ns lines)
       ∙ length-map (flat_map read_numbers lines) (name_at ns))
 
-  source_in : (s : ℕ) → Among s (source_signals lines) → s < length ns
+  source_in : (s : ℕ) → Among s (source_signals lines) → s < signals_in lines
   source_in s a =
       let from = mapped_from (signal c) (sources c) s (subst (Among s) (sources_are ns (signal c) lines all) a) in
       let st = source_statement c from.0 from.1 in
       let below = signal_below c from.0 (named c st.0 from.0 st.1 st.2) in
-      omega (arith, below, from.2, name_count)
+      omega (arith, below, from.2, name_count, count)
 
   -- the pins of a signal are what a line reads
   reads : (s : ℕ) → (length (gate_pins lines s) ≤ length (flat_map read_numbers lines))
@@ -69,20 +72,18 @@ module _ (ns : List Name) (lines : List Line) (at : List ℕ) (are : AreStatemen
           )
       go _ e = (omega arith, λ p a. absurd a)
 
-  pub table_lines : AreTableLines lines (length ns)
+  pub table_lines : AreTableLines lines
   table_lines = record {
     few_lines = few_lines;
-    few_signals = omega (arith, are.signals);
-    few_sources = omega (arith, ap length (sources_are ns (signal c) lines all), length-map (sources c) (signal c),
-        (few_sources c).1, name_count, are.signals);
+    few_sources = omega (arith, ap length (sources_are ns (signal c) lines all),
+        length-map (sources c) (signal c), (few_sources c).1, name_count, are.signals);
     sources_below =
         λ i d lt. source_in _ (among _ _ (Contains-get_or (source_signals lines) i d lt));
     few_outputs = omega (arith, few_outputs lines, read_count, are.sinks);
     few_readers = omega (arith, reader_count, read_count, are.sinks);
-    readers_below = All-permutation (λ s. s < length ns) _ _
-        (IsPermutation-sym _ _ (readers_read lines)) are.numbered.in_range;
+    readers_below = rw count (All-permutation (λ s. s < length ns) _ _
+        (IsPermutation-sym _ _ (readers_read lines)) are.numbered.in_range);
     pins_fit = λ l has. all_fit lines l (omega (arith, read_count, are.sinks)) (among lines l has);
-    count = count;
     graph = record {
       few = omega (arith, count, are.signals);
       few_lines = omega (arith, few_lines);
@@ -93,9 +94,6 @@ module _ (ns : List Name) (lines : List Line) (at : List ℕ) (are : AreStatemen
     };
   }
     where
-      count : length (definition_places lines) ≡ length ns
-      count = definition_count lines ∙ (counts ns lines).1 ∙ name_count
-
       few_lines : length lines < 2147483648
       few_lines = omega (arith, (counts ns lines).0, definition_count lines, count, read_count,
           are.sinks, are.signals)
@@ -110,11 +108,11 @@ module _ (ns : List Name) (lines : List Line) (at : List ℕ) (are : AreStatemen
   same_pins : gate_pins lines ≡ pins c
   same_pins = fun_ext (λ s. ap pins_in (gate_is ns c lines s all))
 
-  by_names : (levels : List ℕ) → AreLevelsOf (gate_pins lines) (length (definition_places lines)) levels
+  by_names : (levels : List ℕ) → AreLevelsOf (gate_pins lines) (signals_in lines) levels
       → AreLevelsOf (pins c) (length (names c)) levels
-  by_names levels by_lines = rw (same_pins, table_lines.count ∙ sym name_count) at by_lines
+  by_names levels by_lines = rw (same_pins, count ∙ sym name_count) at by_lines
 
-  pub circuit : (tables : Tables) → AreTables lines (length ns) tables → lines ≢ [] → IsCircuit c
+  pub circuit : (tables : Tables) → AreTables lines tables → lines ≢ [] → IsCircuit c
   circuit tables tabled some = record {
     well_formed = record {
       some = λ e. some (none lines e);
@@ -132,7 +130,7 @@ module _ (ns : List Name) (lines : List Line) (at : List ℕ) (are : AreStatemen
       none [] e = refl
       none (l ∷ ls) e = let bad : statement_of ns l ∷ statements_of ns ls ≡ [] = e in cc
 
-  pub inside : (tables : Tables) → AreTables lines (length ns) tables → lines ≢ []
+  pub inside : (tables : Tables) → AreTables lines tables → lines ≢ []
       → IsInside c ns lines tables
   inside tables tabled some = record {
     circuit = circuit tables tabled some;
@@ -143,19 +141,19 @@ module _ (ns : List Name) (lines : List Line) (at : List ℕ) (are : AreStatemen
     outputs_are = tabled.outputs_are ∙ outputs_are ns (signal c) lines all;
     source_count = ap length (tabled.sources_are ∙ sources_are ns (signal c) lines all)
         ∙ length-map (sources c) (signal c);
-    place_count = tabled.places_are.count ∙ sym name_count;
+    place_count = tabled.places_are.count ∙ count ∙ sym name_count;
     places_are = λ s place e. place_at s place e (omega (arith,
-        slice_get_within tables.source_places.items s place e, tabled.places_are.count, name_count));
+        slice_get_within tables.source_places.items s place e, tabled.places_are.count, count,
+        name_count));
     few_lines = omega (arith, table_lines.few_lines);
     definitions_are = tabled.definitions_are;
-    definition_count =
-        ap length tabled.definitions_are ∙ table_lines.count ∙ sym name_count;
+    definition_count = ap length tabled.definitions_are ∙ count ∙ sym name_count;
     gates_are = λ s. gate_is ns c lines s all;
-    have_rows = λ s lt. tabled.sinks_are.have_rows s (omega (arith, lt, name_count));
+    have_rows = λ s lt. tabled.sinks_are.have_rows s (omega (arith, lt, count, name_count));
     sinks_are = λ s n e.
         let has = contained (names c) n (at_place (names c) s n e) in
         let number = signal-name_of c s n once e has in
-        tabled.sinks_are.rows s (omega (arith, slice_get_within (names c) s n e, name_count))
+        tabled.sinks_are.rows s (omega (arith, slice_get_within (names c) s n e, count, name_count))
         ∙ rw (← number) (sinks_are c n has ns lines refl all
         (cells_once c (distinct_from_pairs (names c) once)));
     level_count = levelled.count;
@@ -185,15 +183,15 @@ module _ (ns : List Name) (lines : List Line) (at : List ℕ) (are : AreStatemen
 
   -- the first signal without a level is the first that is stuck
   pub refused : (s : ℕ)
-      → IsLevelFault (gate_pins lines) (length (definition_places lines)) (Cycle s)
+      → IsLevelFault (gate_pins lines) (signals_in lines) (Cycle s)
       → (s < length at) × IsFirstStuck c s
   refused s by_lines = (
-    omega (arith, fault.0, table_lines.count, are.line_count),
+    omega (arith, fault.0, count, are.line_count),
     go (definition c s) refl (among (pins c s) read_by.0 read_by.1),
   )
     where
-      fault : IsLevelFault (pins c) (length (definition_places lines)) (Cycle s)
-      fault = subst (λ f. IsLevelFault f (length (definition_places lines)) (Cycle s)) same_pins by_lines
+      fault : IsLevelFault (pins c) (signals_in lines) (Cycle s)
+      fault = subst (λ f. IsLevelFault f (signals_in lines) (Cycle s)) same_pins by_lines
 
       read_by : (p : ℕ) × Contains (pins c s) p × Contains fault.1.0 p
       read_by = fault.1.1 s fault.1.2

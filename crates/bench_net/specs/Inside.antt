@@ -11,32 +11,33 @@ use Rattle.bench_net.specs.Rows.{AreRows}
 use Rattle.bench_net.specs.Tables.{PinsFit, signal_read, input_number, cell_numbers, output_number, source_signals, ArePlaces, definition_places, defines_number, line_gate, gate_pins, all_readers, AreSinkRows, HasRow, row_of}
 use Rattle.bench_net.specs.Marks.{IsGraph, AreLevelsOf}
 
--- lines few enough to be numbered, whose numbers are all below a number of signals
-pub record AreTableLines (lines : List Line) (signals : ℕ) : Type 0 where
+-- how many signals lines define
+abbrev pub signals_in : List Line → ℕ
+signals_in lines = length (definition_places lines)
+
+-- lines few enough to be numbered, which name no other signals than those that they define
+pub record AreTableLines (lines : List Line) : Type 0 where
   pub few_lines : length lines < 2 ^ 31
-  pub few_signals : signals < 2 ^ 31
   pub few_sources : length (source_signals lines) < 2 ^ 31
-  pub sources_below : All (λ s. s < signals) (source_signals lines)
+  pub sources_below : All (λ s. s < signals_in lines) (source_signals lines)
   pub few_outputs : length (filter_map output_number lines) < 2 ^ 31
   pub few_readers : length (all_readers lines (filter_map output_number lines)) < 2 ^ 31
-  pub readers_below : All (λ s. s < signals)
+  pub readers_below : All (λ s. s < signals_in lines)
       (map signal_read (all_readers lines (filter_map output_number lines)))
   pub pins_fit : (l : Line) → Contains lines l → PinsFit l
-  pub count : length (definition_places lines) ≡ signals
   pub graph : IsGraph lines (definition_places lines)
 
 -- the tables of lines over numbered signals
-pub record AreTables (lines : List Line) (signals : ℕ) (tables : Tables) : Type 0 where
+pub record AreTables (lines : List Line) (tables : Tables) : Type 0 where
   pub inputs_are : tables.inputs.items ≡ filter_map input_number lines
   pub cells_are : tables.cells.items ≡ filter_map cell_numbers lines
   pub outputs_are : tables.outputs.items ≡ filter_map output_number lines
   pub sources_are : tables.sources.items ≡ source_signals lines
-  pub places_are : ArePlaces (source_signals lines) signals tables.source_places.items
   pub definitions_are : tables.definitions.items ≡ definition_places lines
-  pub sinks_are : AreSinkRows (all_readers lines (filter_map output_number lines)) signals
-      tables.sinks.starts.items tables.sinks.sinks.items
-  pub levels_are : AreLevelsOf (gate_pins lines) (length (definition_places lines))
-      tables.levels.levels.items
+  pub places_are : ArePlaces (source_signals lines) (signals_in lines) tables.source_places.items
+  pub sinks_are : AreSinkRows (all_readers lines (filter_map output_number lines))
+      (signals_in lines) tables.sinks.starts.items tables.sinks.sinks.items
+  pub levels_are : AreLevelsOf (gate_pins lines) (signals_in lines) tables.levels.levels.items
   pub order_is : (starts : List ℕ) × AreRows tables.levels.levels.items (tables.levels.depth + 1)
       starts tables.levels.order.items
   pub depth_is : tables.levels.depth ≡ greatest tables.levels.levels.items

@@ -157,7 +157,7 @@ pub fn circuit_of(alloc: Global, lines: Lines) -> Result<Circuit, BenchFault>
     if lines.is_empty() {
         return Err(BenchFault::Empty);
     }
-    match tables_of(alloc, &lines, names.len()) {
+    match tables_of(alloc, &lines) {
         Ok(tables) => Ok(Circuit {
             names,
             lines,

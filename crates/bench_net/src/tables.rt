@@ -4,7 +4,7 @@ ghost use Rattle.std.specs.Prelude.{◌≡◌, ◌^◌, ◌++◌, ◌<◌, map, 
 ghost use Rattle.std.specs.List.{filter_map};
 ghost use Rattle.bench_net.specs.Tables.{input_number, output_number, cell_numbers, defines_number, definition_places, gate_pins, ArePlaces};
 ghost use Rattle.bench_net.specs.Marks.{IsLevelFault};
-ghost use Rattle.bench_net.specs.Inside.{AreTableLines, AreTables};
+ghost use Rattle.bench_net.specs.Inside.{signals_in, AreTableLines, AreTables};
 
 use crate::ScanCell;
 use crate::levels::{LevelFault, Levels, levels_of};
@@ -137,21 +137,19 @@ pub fn source_places(
     Ok(places)
 }
 
-/// The tables of lines that number their signals below `signals`, or the lowest signal that is on a
-/// cycle of gates or fed by one.
-pub fn tables_of(alloc: Global, lines: &[Line], signals: usize) -> Result<Tables, LevelFault>
-    requires { AreTableLines lines.now signals }
-    ensures tables { IfOk result (AreTables lines.now signals) }
-    ensures fault { IfErr result (IsLevelFault (gate_pins lines.now)
-        (length (definition_places lines.now))) }
+/// The tables of lines, or the lowest signal that is on a cycle of gates or fed by one.
+pub fn tables_of(alloc: Global, lines: &[Line]) -> Result<Tables, LevelFault>
+    requires { AreTableLines lines.now }
+    ensures tables { IfOk result (AreTables lines.now) }
+    ensures fault { IfErr result (IsLevelFault (gate_pins lines.now) (signals_in lines.now)) }
 {
     let inputs = input_signals(alloc, lines)?;
     let cells = cells(alloc, lines)?;
     let outputs = output_signals(alloc, lines)?;
     let sources = sources(alloc, &inputs, &cells)?;
-    let source_places = source_places(alloc, &sources, signals)?;
     let definitions = definitions(alloc, lines)?;
-    let sinks = sink_rows(alloc, lines, &outputs, signals)?;
+    let source_places = source_places(alloc, &sources, definitions.len())?;
+    let sinks = sink_rows(alloc, lines, &outputs, definitions.len())?;
     let levels = levels_of(alloc, lines, &definitions)?;
     Ok(Tables {
         inputs,

@@ -1,51 +1,35 @@
-use Rattle.std.proofs.Common.{◌≡◌, ◌∙◌, ℕ, List, arith, ap, refl, [], length, map, string_bytes, inr}
+use Rattle.std.proofs.Common.{◌≡◌, ◌∙◌, List, arith, ap, refl, [], length, map, string_bytes, inr}
 use Rattle.std.specs.Prelude.{false, ◌==◌, vec_len}
-use Rattle.std.proofs.lemmas.List.{length-map}
 use Rattle.std.proofs.lemmas.Bool.{false≢true, eq-eqb}
 use Rattle.std.proofs.lemmas.Option.{slice_get_read}
 use Rattle.bench_net.specs.declared.read.Lines.{Lines}
-use Rattle.bench_net.specs.declared.tables.Tables.{Tables}
-use Rattle.bench_net.specs.declared.line.Line.{Line}
 use Rattle.bench_net.specs.Statement.{Name}
-use Rattle.bench_net.specs.Inside.{AreTables}
 use Rattle.bench_net.proofs.Accepted.{table_lines, circuit, inside, refused}
 use Rattle.bench_net.proofs.circuit.circuit_of.Goals as goal
 
 abbrev ns_of : Lines → List Name
 ns_of read = map string_bytes read.names.items
 
-name_count : (read : Lines) (n : ℕ) → n ≡ length read.names.items → n ≡ length (ns_of read)
-name_count read n is = omega (arith, is, length-map read.names.items string_bytes)
-
--- what the code lends is what is held
-tabled : (read : Lines) (seen : List Line) (n : ℕ) (tables : Tables) → seen ≡ read.lines.items
-    → n ≡ length read.names.items → AreTables seen n tables
-    → AreTables read.lines.items (length (ns_of read)) tables
-tabled read seen n tables is count are = rw (is, name_count read n count) at are
-
 some : (read : Lines) → false ≡ (vec_len read.lines == 0)
     → vec_len read.lines ≡ length read.lines.items → read.lines.items ≡ [] → ⊥
 some read full len e = false≢true (full ∙ eq-eqb (vec_len read.lines) 0 (len ∙ ap length e))
 
 pub tables_of-requires : goal.tables_of-requires
-tables_of-requires c =
-    rw (c.deref.ensures.value, name_count c.args.lines c.len.result (omega (arith, c.len.ensures)))
+tables_of-requires c = rw c.deref.ensures.value
     (table_lines (ns_of c.args.lines) c.args.lines.lines.items c.args.lines.at.items c.requires)
 
 pub invariant_of-result : goal.invariant_of-result
 invariant_of-result c =
     inside (ns_of c.args.lines) c.args.lines.lines.items c.args.lines.at.items c.requires
-    c.in-Ok.tables
-    (tabled c.args.lines _ c.len.result c.in-Ok.tables c.deref.ensures.value (omega (arith, c.len.ensures))
-    c.in-Ok.ensures.tables) (some c.args.lines c.if-is_empty.ensures (omega arith))
+    c.in-Ok.tables (rw c.deref.ensures.value at c.in-Ok.ensures.tables)
+    (some c.args.lines c.if-is_empty.ensures (omega arith))
 
 pub returns-in-Ok-clause-accepted : goal.returns-in-Ok-clause-accepted
 returns-in-Ok-clause-accepted c = (
   refl,
   circuit (ns_of c.args.lines) c.args.lines.lines.items c.args.lines.at.items c.requires
-      c.in-Ok.tables
-      (tabled c.args.lines _ c.len.result c.in-Ok.tables c.deref.ensures.value (omega (arith, c.len.ensures))
-      c.in-Ok.ensures.tables) (some c.args.lines c.if-is_empty.ensures (omega arith)),
+      c.in-Ok.tables (rw c.deref.ensures.value at c.in-Ok.ensures.tables)
+      (some c.args.lines c.if-is_empty.ensures (omega arith)),
 )
 
 pub index-requires : goal.index-requires
