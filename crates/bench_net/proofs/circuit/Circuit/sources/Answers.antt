@@ -1,6 +1,6 @@
 use Rattle.std.proofs.Common.{arith, ap, length}
 use Rattle.bench_net.specs.Scan.{names, sources}
-use Rattle.bench_net.proofs.Counted.{few_sources}
+use Rattle.bench_net.proofs.Accepted.{few_sources}
 use Rattle.bench_net.proofs.Settled.{some_source}
 use Rattle.bench_net.proofs.circuit.Circuit.sources.Goals as goal
 
