@@ -33,36 +33,6 @@ pub struct Tables {
     pub levels: Levels,
 }
 
-/// The signal that an INPUT line defines.
-fn input_of(line: &Line) -> Option<u32>
-    ensures { result ≡ input_number line.now }
-{
-    match line {
-        Line::Input(signal) => Some(*signal),
-        _ => None,
-    }
-}
-
-/// The signal that an OUTPUT line observes.
-fn output_of(line: &Line) -> Option<u32>
-    ensures { result ≡ output_number line.now }
-{
-    match line {
-        Line::Output(signal) => Some(*signal),
-        _ => None,
-    }
-}
-
-/// The cell of a flip-flop line.
-fn cell_of(line: &Line) -> Option<ScanCell>
-    ensures { result ≡ cell_numbers line.now }
-{
-    match line {
-        Line::Dff(q, d) => Some(ScanCell { q: *q, d: *d }),
-        _ => None,
-    }
-}
-
 /// Whether a line defines a signal: every line but an OUTPUT line does.
 fn defines(line: &Line) -> bool
     ensures { result ≡ defines_number line.now }
@@ -76,7 +46,10 @@ pub fn input_signals(alloc: Global, lines: &[Line]) -> Result<Vec<u32>, AllocErr
 {
     lines
         .iter()
-        .filter_map(|line| input_of(line))
+        .filter_map(|line| match line {
+            Line::Input(signal) => Some(*signal),
+            _ => None,
+        })
         .collect(alloc)
 }
 
@@ -86,7 +59,10 @@ pub fn output_signals(alloc: Global, lines: &[Line]) -> Result<Vec<u32>, AllocEr
 {
     lines
         .iter()
-        .filter_map(|line| output_of(line))
+        .filter_map(|line| match line {
+            Line::Output(signal) => Some(*signal),
+            _ => None,
+        })
         .collect(alloc)
 }
 
@@ -94,7 +70,13 @@ pub fn output_signals(alloc: Global, lines: &[Line]) -> Result<Vec<u32>, AllocEr
 pub fn cells(alloc: Global, lines: &[Line]) -> Result<Vec<ScanCell>, AllocError>
     ensures { IfOk result (λ v. v.items ≡ filter_map cell_numbers lines.now) }
 {
-    lines.iter().filter_map(|line| cell_of(line)).collect(alloc)
+    lines
+        .iter()
+        .filter_map(|line| match line {
+            Line::Dff(q, d) => Some(ScanCell { q: *q, d: *d }),
+            _ => None,
+        })
+        .collect(alloc)
 }
 
 /// Of each signal the place, among all lines, of the line that defines it.
