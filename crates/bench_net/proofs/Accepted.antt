@@ -1,5 +1,5 @@
 -- How many lines, sources and readers there are, and which signals they read.
-use Rattle.std.proofs.Common.{◌≡◌, ◌<◌, ◌≤◌, ◌+◌, ◌^◌, ℕ, ap, List, [], ◌∷◌, ◌++◌, map, length, filter, refl, arith, inl, inr, length-append, ◌≢◌, ◌==◌, zero, suc, sym, ◌∙◌, ap₂, subst, true, false}
+use Rattle.std.proofs.Common.{◌≡◌, ◌<◌, ◌≤◌, ◌+◌, ◌^◌, ℕ, ap, List, [], ◌∷◌, ◌++◌, map, length, filter, refl, arith, inl, inr, length-append, ◌≢◌, ◌==◌, zero, suc, sym, ◌∙◌, ap₂, subst, true, false, drop}
 use Rattle.std.specs.Prelude.{flat_map, IsPermutation, Some, slice_get, Contains, AllPairs, bytes_eq, Option, None, slice_index_or, option_map}
 use Rattle.std.proofs.lemmas.List.Sorted.{IsPermutation-refl, IsPermutation-trans, IsPermutation-middle, IsPermutation-append_right, length_permutation, All-permutation, IsPermutation-sym}
 use Rattle.std.specs.List.{enumerate_from, filter_map, position_or_len}
@@ -9,7 +9,7 @@ use Rattle.bench_net.specs.declared.Sink.{Sink}
 use Rattle.bench_net.specs.declared.Sink.TheVariants.{Pin, Out}
 use Rattle.bench_net.specs.Statement.{Name, Statement, Dff, Output, defines, Gate}
 use Rattle.bench_net.specs.Scan.{names, inputs, cells, sources, signal, gate_line, cell, outputs, pins_of, sinks, name_of, definition}
-use Rattle.bench_net.specs.Stored.{statements_of, read_numbers, name_at, defined_numbers, AreNumbered, statement_of, AreStatements, IsFirstStuck}
+use Rattle.bench_net.specs.Stored.{statements_of, read_numbers, numbers, name_at, statement_of, AreStatements, IsFirstStuck}
 use Rattle.bench_net.specs.Tables.{defines_number, output_number, signal_read, pin_readers, output_readers, line_readers, all_readers, PinsFit, input_number, cell_numbers, source_signals, sinks_at, line_gate}
 use Rattle.lists.proofs.Members.{Among, contained, among_left, among_right, among, mapped_from, filtered_from, among_joined}
 use Rattle.std.proofs.Math.Numerals.{one-add}
@@ -32,7 +32,7 @@ use Rattle.bench_net.specs.Marks.{pins_in, gate_pins, AreLevelsOf, IsLevelFault}
 use Rattle.bench_net.specs.Inside.{signals_in, AreTableLines, AreTables, IsInside, IsPlace}
 use Rattle.lists.proofs.Places.{at_place, from_mapped}
 use Rattle.bench_net.proofs.Listed.{definition_count}
-use Rattle.bench_net.proofs.Numbering.{reads_numbers, known}
+use Rattle.bench_net.proofs.Numbering.{reads_numbers, reads_held, known}
 use Rattle.bench_net.specs.declared.line.Line.TheVariants as line
 
 -- ---- sources
@@ -124,16 +124,9 @@ few_outputs lines =
 
 module _ (ns : List Name) (number : Name → ℕ) where
   -- each line holds the numbers of its statement's names
-  abbrev pub IsRight : Line → Type 0
-  IsRight (line.Input s) = s ≡ number (name_at ns s)
-  IsRight (line.Output s) = s ≡ number (name_at ns s)
-  IsRight (line.Gate s g) = (s ≡ number (name_at ns s))
-      × (g.pins.items ≡ map number (map (name_at ns) g.pins.items))
-  IsRight (line.Dff q d) = (q ≡ number (name_at ns q)) × (d ≡ number (name_at ns d))
-
   abbrev pub AreRight : List Line → Type 0
   AreRight [] = Unit {0}
-  AreRight (l ∷ ls) = IsRight l × AreRight ls
+  AreRight (l ∷ ls) = (numbers l ≡ map number (map (name_at ns) (numbers l))) × AreRight ls
 
   -- ---- lists of signals
 
@@ -153,7 +146,7 @@ module _ (ns : List Name) (number : Name → ℕ) where
       → map {B = ℕ × ℕ} (λ cell. (cell.q, cell.d)) (filter_map cell_numbers ls)
       ≡ map (λ cell. (number cell.0, number cell.1)) (cells (statements_of ns ls))
   cells_are [] are = refl
-  cells_are (line.Dff q d ∷ ls) ((e, h), are) = let rest = cells_are ls are in cc
+  cells_are (line.Dff q d ∷ ls) (e, are) = let rest = cells_are ls are in cc
   cells_are (_ ∷ ls) (e, are) = cells_are ls are
 
   qs_are : (ls : List Line) → AreRight ls
@@ -179,7 +172,7 @@ pub gate_is : (ns : List Name) (whole : List Statement) (ls : List Line) (s : �
     ≡ gate_line whole (slice_get (filter defines (statements_of ns ls)) s)
 gate_is ns whole [] s are = refl
 gate_is ns whole (line.Output t ∷ ls) s (e, are) = gate_is ns whole ls s are
-gate_is ns whole (line.Gate t g ∷ ls) zero (e, are) = ap (λ xs. Some (g.kind, xs)) e.1
+gate_is ns whole (line.Gate t g ∷ ls) zero (e, are) = ap (λ xs. Some (g.kind, drop 1 xs)) e
 gate_is ns whole (_ ∷ ls) zero (e, are) = refl
 gate_is ns whole (_ ∷ ls) (suc s) (e, are) = gate_is ns whole ls s are
 
@@ -247,13 +240,15 @@ module _ (whole : List Statement) (n : Name) (named : Contains (names whole) n) 
         → sinks_at (line_readers (length before) ls) (signal whole n)
         ≡ flat_map (pins_of whole n) (statements_of ns ls)
     line_sinks before [] are once is = refl
-    line_sinks before (line.Gate s g ∷ ls) ((e, ps), are) once is =
-        let first = ap (λ xs. sinks_at (pin_readers s xs) (signal whole n)) ps
+    line_sinks before (line.Gate s g ∷ ls) (both, are) once is =
+        let e : s ≡ signal whole (name_at ns s) = cc in
+        let first = ap (λ xs. sinks_at (pin_readers s (drop 1 xs)) (signal whole n)) both
         ∙ numbered (Pin s) 0 (map (name_at ns) g.pins.items) in
         sinks-append (pin_readers s g.pins.items) (line_readers (length before) ls) (signal whole n)
         ∙ rw (first, line_sinks before ls are once is, ← e) refl
-    line_sinks before (line.Dff q d ∷ ls) ((e, h), are) once is =
+    line_sinks before (line.Dff q d ∷ ls) (both, are) once is =
         let p = name_at ns q in
+        let h : d ≡ signal whole (name_at ns d) = cc in
         let same = bytes_at (name_at ns d) ∙ ap (λ x. x == signal whole n) (sym h) in
         let split = append_assoc before (p ∷ []) (qs (statements_of ns ls)) in
         let later = line_sinks (before ++ p ∷ []) ls are (rw split once) (is ∙ sym split) in
@@ -279,60 +274,42 @@ module _ (whole : List Statement) (n : Name) (named : Contains (names whole) n) 
 
 -- ---- numbered lines are such lines
 
-module _ (ns : List Name) (lines : List Line) (are : AreNumbered ns lines) (once : AllPairs (λ m n. m ≢ n) ns) where
-  signal_at : (s : ℕ) → s < length ns → s ≡ signal (statements_of ns lines) (name_at ns s)
-  signal_at s lt =
-      let same = are.names_are in
-      sym (signal-name_of (statements_of ns lines) s (name_at ns s)
-      (subst (AllPairs (λ m n. m ≢ n)) (sym same) once)
-      (ap (λ xs. slice_get xs s) same ∙ slice_get-get_or ns s [] lt)
-      (subst (λ xs. Contains xs (name_at ns s)) (sym same) (Contains-get_or ns s [] lt)))
-
-  signals_at : (xs : List ℕ) → ((s : ℕ) → Among s xs → s < length ns)
-      → xs ≡ map (signal (statements_of ns lines)) (map (name_at ns) xs)
-  signals_at [] below = refl
-  signals_at (x ∷ xs) below =
-      let first = signal_at x (below x (inl refl)) in
-      let rest = signals_at xs (λ s a. below s (inr a)) in
-      cc
-
-  right : (ls : List Line) → ((s : ℕ) → Among s (flat_map defined_numbers ls) → s < length ns)
-      → ((s : ℕ) → Among s (flat_map read_numbers ls) → s < length ns)
-      → AreRight ns (signal (statements_of ns lines)) ls
-  right [] own reads = tt
-  right (line.Input s ∷ ls) own reads =
-      (signal_at s (own s (inl refl)), right ls (λ t a. own t (inr a)) reads)
-  right (line.Output s ∷ ls) own reads =
-      (signal_at s (reads s (inl refl)), right ls own (λ t a. reads t (inr a)))
-  right (line.Gate s g ∷ ls) own reads = (
-    (
-      signal_at s (own s (inl refl)),
-      signals_at g.pins.items (λ t a. reads t (among_left g.pins.items _ t a)),
-    ),
-    right ls (λ t a. own t (inr a)) (λ t a. reads t (among_right g.pins.items _ t a)),
-  )
-  right (line.Dff q d ∷ ls) own reads = (
-    (signal_at q (own q (inl refl)), signal_at d (reads d (inl refl))),
-    right ls (λ t a. own t (inr a)) (λ t a. reads t (inr a)),
-  )
-
-  pub all_right : AreRight ns (signal (statements_of ns lines)) lines
-  all_right = right lines
-      (λ s a. All-contains (λ x. x < length ns) _ s are.own_in_range (contained _ s a))
-      (λ s a. All-contains (λ x. x < length ns) _ s are.in_range (contained _ s a))
-
 module _ (ns : List Name) (lines : List Line) (at : List ℕ) (are : AreStatements ns lines at) where
   abbrev c : List Statement
   c = statements_of ns lines
 
   once : AllPairs (λ m n. m ≢ n) (names c)
-  once = subst (AllPairs (λ m n. m ≢ n)) (sym are.numbered.names_are) are.once
+  once = subst (AllPairs (λ m n. m ≢ n)) (sym are.names_are) are.once
+
+  number_of : (s : ℕ) (n : Name) → name_of c s ≡ Some n → signal c n ≡ s
+  number_of s n e =
+      signal-name_of c s n once e (contained (names c) n (at_place (names c) s n e))
+
+  right_numbers : (xs : List ℕ) → ((s : ℕ) → Among s xs → s < length ns)
+      → xs ≡ map (signal c) (map (name_at ns) xs)
+  right_numbers [] below = refl
+  right_numbers (x ∷ xs) below =
+      let at = slice_get-get_or ns x [] (below x (inl refl)) in
+      let first = number_of x (name_at ns x) (ap (λ ms. slice_get ms x) are.names_are ∙ at) in
+      let rest = right_numbers xs (λ s a. below s (inr a)) in
+      cc
+
+  right : (ls : List Line) → ((s : ℕ) → Among s (flat_map numbers ls) → s < length ns)
+      → AreRight ns (signal c) ls
+  right [] below = tt
+  right (l ∷ ls) below = (
+    right_numbers (numbers l) (λ s a. below s (among_left (numbers l) _ s a)),
+    right ls (λ s a. below s (among_right (numbers l) _ s a)),
+  )
+
+  in_range : (s : ℕ) → Among s (flat_map numbers lines) → s < length ns
+  in_range s a = All-contains (λ x. x < length ns) _ s are.in_range (contained _ s a)
 
   all : AreRight ns (signal c) lines
-  all = all_right ns lines are.numbered are.once
+  all = right lines in_range
 
   name_count : length (names c) ≡ length ns
-  name_count = ap length are.numbered.names_are
+  name_count = ap length are.names_are
 
   count : signals_in lines ≡ length ns
   count = definition_count lines ∙ (counts ns lines).1 ∙ name_count
@@ -367,28 +344,46 @@ module _ (ns : List Name) (lines : List Line) (at : List ℕ) (are : AreStatemen
   pub table_lines : AreTableLines lines
   table_lines = record {
     few_lines = few_lines;
-    few_sources = omega (arith, ap length (sources_are ns (signal c) lines all),
-        length-map (sources c) (signal c), (few_sources c).1, name_count, are.signals);
+    few_sources = omega (
+      arith,
+      ap length (sources_are ns (signal c) lines all),
+      length-map (sources c) (signal c),
+      (few_sources c).1,
+      name_count,
+      are.signals,
+    );
     sources_below =
         λ i d lt. source_in _ (among _ _ (Contains-get_or (source_signals lines) i d lt));
     few_outputs = omega (arith, few_outputs lines, read_count, are.sinks);
     few_readers = omega (arith, reader_count, read_count, are.sinks);
     readers_below = rw count (All-permutation (λ s. s < length ns) _ _
-        (IsPermutation-sym _ _ (readers_read lines)) are.numbered.in_range);
+        (IsPermutation-sym _ _ (readers_read lines)) (λ i d lt. in_range _
+        (reads_held lines _ (among _ _ (Contains-get_or (flat_map read_numbers lines) i d lt)))));
     pins_fit = λ l has. all_fit lines l (omega (arith, read_count, are.sinks)) (among lines l has);
     graph = record {
       few = omega (arith, count, are.signals);
       few_lines = omega (arith, few_lines);
       definitions_are = refl;
       few_pins = λ s. omega (arith, (reads s).0, read_count, are.sinks);
-      pins_below = λ s p has. omega (arith, count, All-contains (λ x. x < length ns) _ p
-          are.numbered.in_range (contained _ p ((reads s).1 p (among (gate_pins lines s) p has))));
+      pins_below = λ s p has. omega (
+        arith,
+        count,
+        in_range p
+            (reads_held lines p ((reads s).1 p (among (gate_pins lines s) p has))),
+      );
     };
   }
     where
       few_lines : length lines < 2147483648
-      few_lines = omega (arith, (counts ns lines).0, definition_count lines, count, read_count,
-          are.sinks, are.signals)
+      few_lines = omega (
+        arith,
+        (counts ns lines).0,
+        definition_count lines,
+        count,
+        read_count,
+        are.sinks,
+        are.signals,
+      )
 
       reader_count : length (all_readers lines (filter_map output_number lines))
           ≡ length (flat_map read_numbers lines)
@@ -409,8 +404,8 @@ module _ (ns : List Name) (lines : List Line) (at : List ℕ) (are : AreStatemen
     well_formed = record {
       some = λ e. some (none lines e);
       once = once;
-      all_defined = λ n has. subst (λ xs. Contains xs n) (sym are.numbered.names_are)
-          (known ns lines are.numbered.in_range n (among _ n has));
+      all_defined = λ n has. subst (λ xs. Contains xs n) (sym are.names_are)
+          (known ns lines are.in_range n (among _ n has));
       acyclic = (_, numbering c once are.arities _ (by_names _ tabled.levels_are));
     };
     arities = are.arities;
@@ -426,7 +421,7 @@ module _ (ns : List Name) (lines : List Line) (at : List ℕ) (are : AreStatemen
       → IsInside c ns lines tables
   inside tables tabled some = record {
     circuit = circuit tables tabled some;
-    names_are = are.numbered.names_are;
+    names_are = are.names_are;
     inputs_are = tabled.inputs_are ∙ inputs_are ns (signal c) lines all;
     cells_are = ap (map {B = ℕ × ℕ} (λ cell. (cell.q, cell.d))) tabled.cells_are
         ∙ cells_are ns (signal c) lines all;
@@ -434,9 +429,13 @@ module _ (ns : List Name) (lines : List Line) (at : List ℕ) (are : AreStatemen
     source_count = ap length (tabled.sources_are ∙ sources_are ns (signal c) lines all)
         ∙ length-map (sources c) (signal c);
     place_count = tabled.places_are.count ∙ count ∙ sym name_count;
-    places_are = λ s place e. place_at s place e (omega (arith,
-        slice_get_within tables.source_places.items s place e, tabled.places_are.count, count,
-        name_count));
+    places_are = λ s place e. place_at s place e (omega (
+      arith,
+      slice_get_within tables.source_places.items s place e,
+      tabled.places_are.count,
+      count,
+      name_count,
+    ));
     few_lines = omega (arith, table_lines.few_lines);
     definitions_are = tabled.definitions_are;
     definition_count = ap length tabled.definitions_are ∙ count ∙ sym name_count;
@@ -444,9 +443,8 @@ module _ (ns : List Name) (lines : List Line) (at : List ℕ) (are : AreStatemen
     have_rows = λ s lt. tabled.sinks_are.have_rows s (omega (arith, lt, count, name_count));
     sinks_are = λ s n e.
         let has = contained (names c) n (at_place (names c) s n e) in
-        let number = signal-name_of c s n once e has in
         tabled.sinks_are.rows s (omega (arith, slice_get_within (names c) s n e, count, name_count))
-        ∙ rw (← number) (sinks_are c n has ns lines refl all
+        ∙ rw (← number_of s n e) (sinks_are c n has ns lines refl all
         (cells_once c (distinct_from_pairs (names c) once)));
     level_count = levelled.count;
     levels_are = has_level c once are.arities levels levelled;
@@ -469,9 +467,9 @@ module _ (ns : List Name) (lines : List Line) (at : List ℕ) (are : AreStatemen
       place_at s None e lt = λ i same.
           let n = slice_index_or (names c) s [] in
           let at = slice_get-get_or (names c) s [] lt in
-          let number = signal-name_of c s n once at (Contains-get_or (names c) s [] lt) in
           tabled.places_are.none s i e (ap (λ xs. slice_get xs i) (sources_are ns (signal c) lines all)
-          ∙ (slice_get-map (signal c) (sources c) i ∙ (ap (option_map (signal c)) (same ∙ at) ∙ ap Some number)))
+          ∙ slice_get-map (signal c) (sources c) i ∙ ap (option_map (signal c)) (same ∙ at)
+          ∙ ap Some (number_of s n at))
 
   -- the first signal without a level is the first that is stuck
   pub refused : (s : ℕ)
@@ -488,10 +486,6 @@ module _ (ns : List Name) (lines : List Line) (at : List ℕ) (are : AreStatemen
       read_by : (p : ℕ) × Contains (pins c s) p × Contains fault.1.0 p
       read_by = fault.1.1 s fault.1.2
 
-      number : (t : ℕ) (n : Name) → name_of c t ≡ Some n → signal c n ≡ t
-      number t n e =
-          signal-name_of c t n once e (contained (names c) n (at_place (names c) t n e))
-
       go : (o : Option Statement) → definition c s ≡ o → Among read_by.0 (pins_in (gate_line c o))
           → IsFirstStuck c s
       go None e a = absurd a
@@ -503,8 +497,8 @@ module _ (ns : List Name) (lines : List Line) (at : List ℕ) (are : AreStatemen
             kind,
             args,
             e,
-            stuck_name c once s n (number s n (own.2 ∙ ap Some same)) fault.1,
+            stuck_name c once s n (number_of s n (own.2 ∙ ap Some same)) fault.1,
             λ t m lt named. let level = fault.2 t lt in
-                not_stuck c once t level.0 m (number t m named) level.1,
+                not_stuck c once t level.0 m (number_of t m named) level.1,
           )
       go (Some _) e a = absurd a

@@ -106,10 +106,14 @@ definer_at ((k, Output n) ∷ entries) s number st e h =
     let d = definer_at entries s number st e h in (suc d.0, d.1, d.2)
 definer_at (l ∷ entries) zero number st e h = (0, cc, λ m a. absurd a)
 definer_at (l ∷ entries) (suc s) number st e h =
-    let d = definer_at entries s number st e h in (suc d.0, d.1, λ m a. elim a [
-      | inl first ↦ (0, omega arith, ap Some first)
-      | inr b ↦ (let t = d.2 m b in (suc t.0, omega (arith, t.1), t.2))
-    ])
+    let d = definer_at entries s number st e h in (
+      suc d.0,
+      d.1,
+      λ m a. elim a [
+        | inl first ↦ (0, omega arith, ap Some first)
+        | inr b ↦ (let t = d.2 m b in (suc t.0, omega (arith, t.1), t.2))
+      ],
+    )
 
 module _ (text : List ℕ) (stated : List StatedLine) (of : AreWithin text stated) where
   all : (f : Statement → List Name)
@@ -185,11 +189,8 @@ module _ (text : List ℕ) (stated : List StatedLine) (of : AreWithin text state
 
     statements_are : AreStatements ns ls at
     statements_are = record {
-      numbered = record {
-        own_in_range = numbered.own_in_range;
-        in_range = numbered.in_range;
-        names_are = names_are;
-      };
+      names_are = names_are;
+      in_range = numbered.in_range;
       once = rw is once;
       arities = rw stand (arities_of_text text of.stated of.within.each);
       signals = omega (arith, ap length (is ∙ all defined), of.within.signals);

@@ -1,5 +1,5 @@
 -- Names and their numbers: what is found, and how lines are numbered one after another.
-use Rattle.lists.proofs.Members.{Among, contained, mapped_from}
+use Rattle.lists.proofs.Members.{Among, contained, mapped_from, joined_from, among_joined, among_right}
 use Rattle.std.proofs.Common.{◌≡◌, ◌<◌, ◌≤◌, ◌+◌, ℕ, refl, sym, ◌∙◌, ap, List, [], ◌∷◌, ◌++◌, length, take, map, arith, get_or, inl, inr, append-nil, subst}
 use Rattle.std.specs.Prelude.{flat_map, bytes_eq, ◌||◌, Contains}
 use Rattle.std.specs.List.{list_any, All}
@@ -15,7 +15,7 @@ use Rattle.bench_net.specs.declared.number.StatedLine.{StatedLine}
 use Rattle.bench_net.specs.Statement.{Name, read}
 use Rattle.bench_net.specs.reader.Parsed.{names_of, stands_for}
 use Rattle.bench_net.specs.reader.Entries.{is_in, names_in, defined_of, IsNextFor, IsNumberedLine, AreNumberedLines}
-use Rattle.bench_net.specs.Stored.{name_at, statement_of, statements_of, defined_numbers, read_numbers}
+use Rattle.bench_net.specs.Stored.{name_at, statement_of, statements_of, defined_numbers, read_numbers, numbers}
 use Rattle.bench_net.proofs.Checked.{defined_few}
 
 module _ {A : Type 0} (xs : List A) (i : ℕ) (x : A) (h : i < length xs)
@@ -61,9 +61,9 @@ numbered_more ns stated lines i new l next h e so_far fits one = record {
   stand = map_push (statement_of ns) lines l
       ∙ rw (so_far.stand, one.stands, items)
       (sym (map_push (λ line. stands_for line.statement) (take i stated) new));
-  own_in_range = rw (more defined_numbers, one.own) (All-append below _ _ so_far.own_in_range
-      (All-map below (λ n. next) (defined_of new) (λ k d lt. omega (arith, fits, lt))));
-  in_range = rw (more read_numbers) (All-append below _ _ so_far.in_range one.in_range);
+  in_range = rw (more, one.own) (All-append below _ _ so_far.in_range (All-append below _ _
+      (All-map below (λ n. next) (defined_of new) (λ k d lt. omega (arith, fits, lt)))
+      one.in_range));
 }
   where
     below : ℕ → Type 0
@@ -72,9 +72,9 @@ numbered_more ns stated lines i new l next h e so_far fits one = record {
     items : take (i + 1) stated ≡ take i stated ++ new ∷ []
     items = take_more stated i new h ∙ ap (λ x. take i stated ++ x ∷ []) (sym e)
 
-    more : (f : Line → List ℕ) → flat_map f (lines ++ l ∷ []) ≡ flat_map f lines ++ f l
-    more f =
-        flat_map-append f lines (l ∷ []) ∙ ap (λ ks. flat_map f lines ++ ks) (append-nil (f l))
+    more : flat_map numbers (lines ++ l ∷ []) ≡ flat_map numbers lines ++ numbers l
+    more = flat_map-append numbers lines (l ∷ [])
+        ∙ ap (λ ks. flat_map numbers lines ++ ks) (append-nil (numbers l))
 
 -- the names that a stored line reads are those of its numbers
 reads_of : (ns : List Name) (l : Line)
@@ -89,12 +89,20 @@ reads_numbers ns (l ∷ lines) =
     rw (reads_of ns l, reads_numbers ns lines)
     (sym (map-append (name_at ns) (read_numbers l) (flat_map read_numbers lines)))
 
+-- what lines read, they hold
+pub reads_held : (ls : List Line) (k : ℕ) → Among k (flat_map read_numbers ls)
+    → Among k (flat_map numbers ls)
+reads_held ls k a =
+    let at = joined_from read_numbers ls k a in
+    among_joined numbers ls at.0 k at.1 (among_right (defined_numbers at.0) _ k at.2)
+
 -- each name that numbered lines read is among the names
 pub known : (ns : List Name) (ls : List Line)
-    → All (λ number. number < length ns) (flat_map read_numbers ls)
+    → All (λ number. number < length ns) (flat_map numbers ls)
     → (n : Name) → Among n (flat_map read (statements_of ns ls)) → Contains ns n
 known ns ls in_range n a =
     let k = mapped_from (name_at ns) (flat_map read_numbers ls) n
     (subst (Among n) (reads_numbers ns ls) a) in
-    subst (Contains ns) k.2 (Contains-get_or ns k.0 [] (All-contains (λ number. number < length ns)
-    (flat_map read_numbers ls) k.0 in_range (contained _ k.0 k.1)))
+    let below = All-contains (λ number. number < length ns) (flat_map numbers ls) k.0 in_range
+    (contained _ k.0 (reads_held ls k.0 k.1)) in
+    subst (Contains ns) k.2 (Contains-get_or ns k.0 [] below)

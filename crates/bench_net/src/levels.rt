@@ -162,7 +162,11 @@ fn levels_in(alloc: Global, marks: &[Mark]) -> Result<Vec<u32>, AllocError>
 /// signals. The signals are settled in order, each behind the signals that it takes. A gate goes
 /// past each of its pins once, so the time is linear in the number of pins. A path that meets
 /// itself is on a cycle, and fed by it is the signal from which it started.
-fn signal_levels(alloc: Global, lines: &[Line], definitions: &[usize]) -> Result<Vec<u32>, LevelFault>
+fn signal_levels(
+    alloc: Global,
+    lines: &[Line],
+    definitions: &[usize],
+) -> Result<Vec<u32>, LevelFault>
     requires graph { IsGraph lines.now definitions.now }
     ensures levels { IfOk result (λ levels. AreLevelsOf (gate_pins lines.now)
         (length definitions.now) levels.items) }

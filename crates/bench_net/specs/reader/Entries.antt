@@ -10,7 +10,7 @@ use Rattle.bench_net.specs.declared.Limit.TheVariants.{Bytes, Signals, Sinks}
 use Rattle.bench_net.specs.Circuit.{max_signals, max_sinks}
 use Rattle.bench_net.specs.declared.line.Line.{Line}
 use Rattle.bench_net.specs.Stored.{name_at, statement_of, statements_of}
-use Rattle.bench_net.specs.Stored.{defined_numbers, read_numbers}
+use Rattle.bench_net.specs.Stored.{defined_numbers, read_numbers, numbers}
 use Rattle.bench_net.specs.declared.number.StatedLine.{StatedLine}
 use Rattle.bench_net.specs.Statement.{Name, Statement, defined, read}
 use Rattle.bench_net.specs.Reading.{States}
@@ -98,5 +98,4 @@ pub record IsNumberedLine (ns : List Name) (next : ℕ) (s : Statement) (line : 
 pub record AreNumberedLines (ns : List Name) (stated : List StatedLine)
     (lines : List Line) : Type 0 where
   pub stand : statements_of ns lines ≡ statements_in stated
-  pub own_in_range : All (λ number. number < length ns) (flat_map defined_numbers lines)
-  pub in_range : All (λ number. number < length ns) (flat_map read_numbers lines)
+  pub in_range : All (λ number. number < length ns) (flat_map numbers lines)
