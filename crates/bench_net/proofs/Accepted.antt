@@ -1,6 +1,7 @@
 -- How many lines, sources and readers there are, and which signals they read.
 use Rattle.std.proofs.Common.{◌≡◌, ◌<◌, ◌≤◌, ◌+◌, ◌^◌, ℕ, ap, List, [], ◌∷◌, ◌++◌, map, length, filter, refl, arith, inl, inr, length-append, ◌≢◌, ◌==◌, zero, suc, sym, ◌∙◌, ap₂, subst, true, false, drop}
 use Rattle.std.specs.Prelude.{flat_map, IsPermutation, Some, slice_get, Contains, AllPairs, bytes_eq, Option, None, slice_index_or, option_map}
+use Rattle.std.proofs.lemmas.List.Folds.{length-flat_map-take}
 use Rattle.std.proofs.lemmas.List.Sorted.{IsPermutation-refl, IsPermutation-trans, IsPermutation-middle, IsPermutation-append_right, length_permutation, All-permutation, IsPermutation-sym}
 use Rattle.std.specs.List.{enumerate_from, filter_map, position_or_len}
 use Rattle.std.proofs.lemmas.List.{length-map, map-append, append_assoc}
@@ -63,20 +64,14 @@ counts ns (_ ∷ lines) =
     let more = counts ns lines in (omega (arith, more.0), omega (arith, more.1))
 
 -- what a line reads is not more than all lines read
-pub line_count : (lines : List Line) (l : Line) → Among l lines
+line_count : (lines : List Line) (l : Line) → Contains lines l
     → length (read_numbers l) ≤ length (flat_map read_numbers lines)
-line_count [] l a = absurd a
-line_count (k ∷ lines) l (inl e) =
-    let count = length-append (read_numbers k) (flat_map read_numbers lines) in
-    omega (arith, ap (λ x. length (read_numbers x)) e, count)
-line_count (k ∷ lines) l (inr a) =
-    let count = length-append (read_numbers k) (flat_map read_numbers lines) in
-    omega (arith, line_count lines l a, count)
+line_count lines l (k, lt, is) =
+    omega (arith, rw is at (length-flat_map-take read_numbers lines k l lt))
 
-pub all_fit : (lines : List Line) (l : Line) → length (flat_map read_numbers lines) < 2 ^ 32
-    → Among l lines → PinsFit l
-all_fit lines (line.Gate s g) few a = omega (arith, line_count lines (line.Gate s g) a, few)
-all_fit lines _ few a = tt
+fits : (l : Line) → length (read_numbers l) < 2 ^ 32 → PinsFit l
+fits (line.Gate s g) few = few
+fits _ few = tt
 
 -- ---- readers
 
@@ -336,7 +331,7 @@ module _ (ns : List Name) (lines : List Line) (at : List ℕ) (are : AreStatemen
       go (Some (line.Gate t g)) e =
           let own = at_place (filter defines_number lines) s (line.Gate t g) e in
           let there = (filtered_from defines_number lines (line.Gate t g) own).0 in (
-            line_count lines (line.Gate t g) there,
+            line_count lines (line.Gate t g) (contained lines (line.Gate t g) there),
             λ p a. among_joined read_numbers lines (line.Gate t g) p there a,
           )
       go _ e = (omega arith, λ p a. absurd a)
@@ -359,7 +354,7 @@ module _ (ns : List Name) (lines : List Line) (at : List ℕ) (are : AreStatemen
     readers_below = rw count (All-permutation (λ s. s < length ns) _ _
         (IsPermutation-sym _ _ (readers_read lines)) (λ i d lt. in_range _
         (reads_held lines _ (among _ _ (Contains-get_or (flat_map read_numbers lines) i d lt)))));
-    pins_fit = λ l has. all_fit lines l (omega (arith, read_count, are.sinks)) (among lines l has);
+    pins_fit = λ l has. fits l (omega (arith, line_count lines l has, read_count, are.sinks));
     graph = record {
       few = omega (arith, count, are.signals);
       few_lines = omega (arith, few_lines);

@@ -1,10 +1,10 @@
 -- Levels and stuck gates of a statement list, by the numbers of its signals.
 use Rattle.std.proofs.Common.{◌≡◌, ◌≢◌, ◌<◌, ◌≤◌, ◌+◌, ◌==◌, ℕ, max, sym, ◌∙◌, ap, subst, refl, Bool, true, List, [], ◌∷◌, map, length, get_or, filter, arith, inl, inr}
-use Rattle.std.specs.Prelude.{Option, Some, None, slice_get, slice_index, slice_index_or, Contains, AllPairs, bytes_eq}
-use Rattle.std.specs.List.{list_any, position_or_len}
-use Rattle.std.proofs.lemmas.Bool.{eq-eqb, eqb-true, cases_Bool}
-use Rattle.std.proofs.Math.Numerals.{one-add}
+use Rattle.std.specs.Prelude.{Option, Some, None, slice_index, slice_index_or, Contains, AllPairs, bytes_eq}
+use Rattle.std.specs.List.{list_any}
+use Rattle.std.proofs.lemmas.Bool.{eq-eqb, eqb-true}
 use Rattle.std.proofs.lemmas.List.Elements.{Contains-get_or}
+use Rattle.std.proofs.lemmas.List.Sums.{passes_at_first}
 use Rattle.std.proofs.lemmas.List.{length-map, same_lists, get_or-map, get_or_default}
 use Rattle.std.proofs.lemmas.Option.{slice_get-get_or, slice_get_within}
 use Rattle.std.proofs.lemmas.Simd.{map-map}
@@ -58,15 +58,12 @@ defines_some (Output m) n d = cc
 defines_some _ n d = refl
 
 -- a number below that of all names is the number of its name alone
-at_number : (ns : List Name) (n : Name) → position_or_len (bytes_eq n) ns < length ns → slice_get ns (position_or_len (bytes_eq n) ns) ≡ Some n
-at_number [] n lt = absurd (omega (arith, lt))
-at_number (m ∷ ns) n lt = elim (cases_Bool (bytes_eq n m)) [
-  | inl on ↦ rw on (ap Some (sym (same_bytes n m on)))
-  | inr off ↦ rw (off, one-add) (at_number ns n (let less = rw off at lt in omega (arith, less)))
-]
-
-pub named_number : (c : List Statement) (n : Name) (s : ℕ) → signal c n ≡ s → s < length (names c) → name_of c s ≡ Some n
-named_number c n s is lt = subst (λ i. name_of c i ≡ Some n) is (at_number (names c) n (omega (arith, is, lt)))
+pub named_number : (c : List Statement) (n : Name) (s : ℕ) → signal c n ≡ s
+    → s < length (names c) → name_of c s ≡ Some n
+named_number c n s is lt =
+    let passes = passes_at_first (bytes_eq n) (names c) [] (omega (arith, is, lt)) in
+    slice_get-get_or (names c) s [] lt
+    ∙ ap Some (sym (same_bytes n _ (ap (λ k. bytes_eq n (get_or (names c) k [])) (sym is) ∙ passes)))
 
 -- one more than the greatest of some levels
 level_above_is : (ks : List ℕ) → 1 ≤ length ks → level_above ks ≡ 1 + greatest ks
