@@ -45,15 +45,18 @@ pub record ArePlaces (sources : List ℕ) (signals : ℕ) (places : List (Option
   pub some : (s i : ℕ) → slice_get places s ≡ Some (Some i) → slice_get sources i ≡ Some s
   pub none : (s i : ℕ) → slice_get places s ≡ Some None → slice_get sources i ≢ Some s
 
+-- sinks that read these signals, numbered from a number on
+abbrev pub readers_from : (ℕ → Sink) → ℕ → List ℕ → List Reader
+readers_from sink from signals =
+    map (λ at. record { signal = at.1; sink = sink at.0 }) (enumerate_from from signals)
+
 -- the pins of a gate as readers, in order
 abbrev pub pin_readers : ℕ → List ℕ → List Reader
-pin_readers gate pins =
-    map (λ at. record { signal = at.1; sink = Pin gate at.0 }) (enumerate_from 0 pins)
+pin_readers gate pins = readers_from (Pin gate) 0 pins
 
 -- the outputs as readers, in order
 abbrev pub output_readers : List ℕ → List Reader
-output_readers outputs =
-    map (λ at. record { signal = at.1; sink = Out at.0 }) (enumerate_from 0 outputs)
+output_readers outputs = readers_from Out 0 outputs
 
 -- the gate pins and data pins of lines, in order, where the first cell has this number
 abbrev pub line_readers : ℕ → List Line → List Reader
