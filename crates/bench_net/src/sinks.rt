@@ -143,7 +143,7 @@ pub fn sink_rows(
 {
     let readers = readers_of(alloc, lines, outputs)?;
     let keys = signals_of(alloc, &readers)?;
-    let rows = rows_of(alloc, &keys, signals)?;
+    let rows = rows_of(alloc, &keys, signals + 1)?;
     let sinks = sinks_of(alloc, &readers, &rows.places)?;
     Ok(SinkRows {
         starts: rows.starts,
