@@ -16,7 +16,8 @@ sinks_of-requires c =
     let keys = c.deref-2.ensures.value ∙ (c.in_ok-keys.ensures ∙ ap (map (λ reader. reader.signal))
         c.deref.ensures.value) in
     rw (c.deref-4.ensures.value, c.in_ok-rows.ensures.places_are) (λ i d lt. omega (arith,
-        places_below c.deref-2.result.now (length c.in_ok-rows.rows.starts.items) i d lt, ap length keys,
+        (places_below c.deref-2.result.now (length c.in_ok-rows.rows.starts.items) i d lt).0,
+        ap length keys,
         length-map c.in_ok-readers.readers.items (λ reader. reader.signal), ap length c.deref-3.ensures.value))
 
 pub returns : goal.returns
