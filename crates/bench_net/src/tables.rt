@@ -6,7 +6,7 @@ ghost use Rattle.bench_net.specs.Tables.{input_number, output_number, cell_numbe
 
 use crate::ScanCell;
 use crate::line::Line;
-use crate::sinks::{SinkRows, sink_rows};
+use crate::sinks::{SinkRows, readers_of, sink_rows};
 use std::alloc::{AllocError, Global};
 
 /// What is computed in passes over the lines of a circuit.
@@ -151,7 +151,7 @@ pub fn tables_of(alloc: Global, lines: &[Line], signals: usize) -> Result<Tables
     let sources = sources(alloc, &inputs, &cells)?;
     let source_places = source_places(alloc, &sources, signals)?;
     let definitions = definitions(alloc, lines)?;
-    let sinks = sink_rows(alloc, lines, &outputs, signals)?;
+    let sinks = sink_rows(alloc, &readers_of(alloc, lines, &outputs)?, signals)?;
     Ok(Tables {
         inputs,
         cells,

@@ -1,28 +1,22 @@
-use Rattle.std.proofs.Common.{◌<◌, ◌∙◌, ap, arith, length, map}
+use Rattle.std.proofs.Common.{◌≡◌, ◌<◌, ◌∙◌, ap, arith, length, map}
 use Rattle.std.proofs.lemmas.List.{length-map}
 use Rattle.std.proofs.lemmas.List.Elements.{All-map}
-use Rattle.bench_net.specs.Tables.{all_readers}
 use Rattle.bench_net.proofs.Grouped.{sink_rows_are, places_below}
 use Rattle.bench_net.proofs.sinks.sink_rows.Goals as goal
 
 pub rows_of-requires-clause-below : goal.rows_of-requires-clause-below
-rows_of-requires-clause-below c =
-    rw (c.deref-2.ensures.value, c.in_ok-keys.ensures, c.deref.ensures.value, c.in_ok-readers.ensures)
-    (λ i d lt. omega (arith, All-map (λ key. key < c.args.signals) (λ reader. reader.signal)
-        (all_readers c.args.lines.now c.args.outputs.now) c.requires.below i d lt))
+rows_of-requires-clause-below c = rw (c.deref.ensures.value, c.in_ok-keys.ensures) (λ i d lt. omega (arith,
+    All-map (λ key. key < c.args.signals) (λ reader. reader.signal) c.args.readers.now c.requires.below i d lt))
 
 pub sinks_of-requires : goal.sinks_of-requires
 sinks_of-requires c =
-    let keys = c.deref-2.ensures.value ∙ (c.in_ok-keys.ensures ∙ ap (map (λ reader. reader.signal))
-        c.deref.ensures.value) in
-    rw (c.deref-4.ensures.value, c.in_ok-rows.ensures.places_are) (λ i d lt. omega (arith,
-        (places_below c.deref-2.result.now (length c.in_ok-rows.rows.starts.items) i d lt).0,
-        ap length keys,
-        length-map c.in_ok-readers.readers.items (λ reader. reader.signal), ap length c.deref-3.ensures.value))
+    let count = ap length (c.deref.ensures.value ∙ c.in_ok-keys.ensures)
+        ∙ length-map c.args.readers.now (λ reader. reader.signal) in
+    rw (c.deref-2.ensures.value, c.in_ok-rows.ensures.places_are) (λ i d lt. omega (arith, count,
+        (places_below c.deref.result.now (length c.in_ok-rows.rows.starts.items) i d lt).0))
 
 pub returns : goal.returns
-returns c = sink_rows_are (all_readers c.args.lines.now c.args.outputs.now) c.args.signals
-    c.in_ok-rows.rows.starts.items c.in_ok-rows.rows.places.items c.in_ok-sinks.sinks.items
-    (rw (c.deref-2.ensures.value, c.in_ok-keys.ensures, c.deref.ensures.value, c.in_ok-readers.ensures)
-        at c.in_ok-rows.ensures)
-    (rw (c.deref-3.ensures.value, c.in_ok-readers.ensures, c.deref-4.ensures.value) at c.in_ok-sinks.ensures)
+returns c = sink_rows_are c.args.readers.now c.args.signals c.in_ok-rows.rows.starts.items
+    c.in_ok-rows.rows.places.items c.in_ok-sinks.sinks.items
+    (rw (c.deref.ensures.value, c.in_ok-keys.ensures) at c.in_ok-rows.ensures)
+    (rw (c.deref-2.ensures.value) at c.in_ok-sinks.ensures)
