@@ -173,11 +173,11 @@ module _ (ns : List Name) (lines : List Line) (at : List ℕ) (are : AreStatemen
     definitions_are = λ s lt.
         let l = line_at lines tables.definitions.items s tabled.definitions_are (omega (arith, lt, name_count, count tables.definitions.items tabled.definitions_are)) in
         (l.0, l.1, ap line_gate (sym l.2) ∙ gate_is c c lines s all);
-    have_rows = λ s lt. tabled.sinks_are.have_rows s (omega (arith, lt, name_count));
+    have_rows = λ s lt. (tabled.sinks_are.row s (omega (arith, lt, name_count))).0;
     sinks_are = λ s n e.
         let has = contained (names c) n (at_place (names c) s n e) in
         let number = signal-name_of c s n once e has in
-        tabled.sinks_are.rows s (omega (arith, slice_get_within (names c) s n e, name_count))
+        (tabled.sinks_are.row s (omega (arith, slice_get_within (names c) s n e, name_count))).1
         ∙ (ap (sinks_at (all_readers lines (filter_map output_number lines))) (sym number) ∙ sinks_are c n has lines all (cells_once c (distinct_from_pairs (names c) once)));
     level_count = by_lines.count ∙ sym name_count;
     levels_are = has_level c once are.arities table.levels.items (by_names table.levels.items by_lines);

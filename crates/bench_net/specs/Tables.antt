@@ -96,8 +96,8 @@ row_of starts sinks s = slice_range sinks (slice_index starts s) (slice_index st
 -- the sinks of each signal below a number, row by row
 pub record AreSinkRows (readers : List Reader) (signals : ℕ) (starts : List ℕ)
     (sinks : List Sink) : Type 0 where
-  pub have_rows : (s : ℕ) → s < signals → HasRow starts sinks s
-  pub rows : (s : ℕ) → s < signals → row_of starts sinks s ≡ sinks_at readers s
+  pub row : (s : ℕ) → s < signals
+      → HasRow starts sinks s × (row_of starts sinks s ≡ sinks_at readers s)
 
 -- a line's pins can be numbered
 abbrev pub PinsFit : Line → Type 0
