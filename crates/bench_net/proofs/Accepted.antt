@@ -435,10 +435,11 @@ module _ (ns : List Name) (lines : List Line) (at : List ℕ) (are : AreStatemen
     definitions_are = tabled.definitions_are;
     definition_count = ap length tabled.definitions_are ∙ count ∙ sym name_count;
     gates_are = λ s. gate_is ns c lines s all;
-    have_rows = λ s lt. tabled.sinks_are.have_rows s (omega (arith, lt, count, name_count));
+    have_rows = λ s lt. (tabled.sinks_are.row s (omega (arith, lt, count, name_count))).0;
     sinks_are = λ s n e.
         let has = contained (names c) n (at_place (names c) s n e) in
-        tabled.sinks_are.rows s (omega (arith, slice_get_within (names c) s n e, count, name_count))
+        let lt = slice_get_within (names c) s n e in
+        (tabled.sinks_are.row s (omega (arith, lt, count, name_count))).1
         ∙ rw (← number_of s n e) (sinks_are c n has ns lines refl all
         (cells_once c (distinct_from_pairs (names c) once)));
     level_count = levelled.count;

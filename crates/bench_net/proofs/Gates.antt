@@ -20,7 +20,7 @@ use Rattle.lists.proofs.Places.{placed}
 use Rattle.bench_net.proofs.Checked.{any_true, same_bytes}
 use Rattle.bench_net.proofs.Numbers.{at_position, definition_defines, signal-name_of}
 use Rattle.bench_net.proofs.Marking.{greatest-cons}
-use Rattle.bench_net.proofs.Grouped.{place_listed, places_ordered}
+use Rattle.bench_net.proofs.Grouped.{place_listed, places_below, places_ordered}
 use Rattle.bench_net.proofs.Reader.{some_args}
 
 -- the signals that the gate of a signal reads
@@ -191,8 +191,12 @@ module _ (c : List Statement) (once : AllPairs (λ m n. m ≢ n) (names c)) wher
 
     pub level_order : (order starts : List ℕ) (count : ℕ) → AreRows levels count starts order → ((i : ℕ) → i < length levels → get_or levels i 0 < count) → IsLevelOrder c order
     level_order order starts count rows below = record {
-      all = λ s lt. let within : s < length levels = omega (arith, lt, are.count) in place_listed levels starts order count s rows within (below s within);
-      count = rows.places_count ∙ are.count;
-      ordered = λ a b d less lt. let goes = places_ordered levels starts order count rows a b d less lt in
-          (get_or levels (get_or order a d) 0, get_or levels (get_or order b d) 0, has_level (get_or order a d) (omega (arith, goes.0, are.count)), has_level (get_or order b d) (omega (arith, goes.1, are.count)), goes.2);
+      all = λ s lt. let within : s < length levels = omega (arith, lt, are.count) in
+          rw rows.places_are (place_listed levels (length starts) s within
+          (omega (arith, below s within, rows.starts_count)));
+      count = ap length rows.places_are ∙ (rows.starts_are.all ∙ are.count);
+      ordered = rw rows.places_are (λ a b d less lt. let at = places_below levels (length starts) in (
+          _, _, has_level _ (omega (arith, (at a d (omega (arith, less, lt))).0, are.count)),
+          has_level _ (omega (arith, (at b d lt).0, are.count)),
+          places_ordered levels (length starts) a b d less lt));
     }

@@ -60,15 +60,18 @@ pub record ArePlaces (sources : List ℕ) (signals : ℕ) (places : List (Option
 abbrev pub signal_read : Reader → ℕ
 signal_read reader = reader.signal
 
+-- sinks that read these signals, numbered from a number on
+abbrev pub readers_from : (ℕ → Sink) → ℕ → List ℕ → List Reader
+readers_from sink from signals =
+    map (λ at. record { signal = at.1; sink = sink at.0 }) (enumerate_from from signals)
+
 -- the pins of a gate as readers, in order
 abbrev pub pin_readers : ℕ → List ℕ → List Reader
-pin_readers gate pins =
-    map (λ at. record { signal = at.1; sink = Pin gate at.0 }) (enumerate_from 0 pins)
+pin_readers gate pins = readers_from (Pin gate) 0 pins
 
 -- the outputs as readers, in order
 abbrev pub output_readers : List ℕ → List Reader
-output_readers outputs =
-    map (λ at. record { signal = at.1; sink = Out at.0 }) (enumerate_from 0 outputs)
+output_readers outputs = readers_from Out 0 outputs
 
 -- the gate pins and data pins of lines, in order, where the first cell has this number
 abbrev pub line_readers : ℕ → List Line → List Reader
@@ -108,8 +111,8 @@ row_of starts sinks s = slice_range sinks (slice_index starts s) (slice_index st
 -- the sinks of each signal below a number, row by row
 pub record AreSinkRows (readers : List Reader) (signals : ℕ) (starts : List ℕ)
     (sinks : List Sink) : Type 0 where
-  pub have_rows : (s : ℕ) → s < signals → HasRow starts sinks s
-  pub rows : (s : ℕ) → s < signals → row_of starts sinks s ≡ sinks_at readers s
+  pub row : (s : ℕ) → s < signals
+      → HasRow starts sinks s × (row_of starts sinks s ≡ sinks_at readers s)
 
 -- a line's pins can be numbered
 abbrev pub PinsFit : Line → Type 0

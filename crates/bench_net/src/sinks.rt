@@ -11,7 +11,7 @@ use std::alloc::{AllocError, Global};
 
 /// A sink, and the signal that it reads.
 #[derive(Clone, Copy)]
-struct Reader {
+pub struct Reader {
     signal: u32,
     sink: Sink,
 }
@@ -105,7 +105,7 @@ fn sinks_of(alloc: Global, readers: &[Reader], places: &[u32]) -> Result<Vec<Sin
 }
 
 /// The readers of all signals: gate pins and data pins by their lines, then the outputs.
-fn readers_of(alloc: Global, lines: &[Line], outputs: &[u32]) -> Result<Vec<Reader>, AllocError>
+pub fn readers_of(alloc: Global, lines: &[Line], outputs: &[u32]) -> Result<Vec<Reader>, AllocError>
     requires few_lines { length lines.now < 2 ^ 32 }
     requires few_outputs { length outputs.now < 2 ^ 32 }
     requires pins { (l : Line) → Contains lines.now l → PinsFit l }
@@ -124,27 +124,20 @@ fn signals_of(alloc: Global, readers: &[Reader]) -> Result<Vec<u32>, AllocError>
     readers.iter().map(|reader| reader.signal).collect(alloc)
 }
 
-/// The sinks of each signal below `signals`: gate pins and data pins by the line of the reader and
-/// then by pin, and after these the outputs.
+/// The sinks of each signal below `signals`, in the order of the readers.
 pub fn sink_rows(
     alloc: Global,
-    lines: &[Line],
-    outputs: &[u32],
+    readers: &[Reader],
     signals: usize,
 ) -> Result<SinkRows, AllocError>
-    requires few_lines { length lines.now < 2 ^ 32 }
+    requires few { length readers.now < 2 ^ 32 }
     requires few_signals { signals + 1 < 2 ^ 32 }
-    requires few_outputs { length outputs.now < 2 ^ 32 }
-    requires few_readers { length (all_readers lines.now outputs.now) < 2 ^ 32 }
-    requires pins { (l : Line) → Contains lines.now l → PinsFit l }
-    requires below { All (λ s. s < signals) (map signal_read (all_readers lines.now outputs.now)) }
-    ensures { IfOk result (λ rows. AreSinkRows (all_readers lines.now outputs.now) signals
-        rows.starts.items rows.sinks.items) }
+    requires below { All (λ s. s < signals) (map signal_read readers.now) }
+    ensures { IfOk result (λ rows. AreSinkRows readers.now signals rows.starts.items rows.sinks.items) }
 {
-    let readers = readers_of(alloc, lines, outputs)?;
-    let keys = signals_of(alloc, &readers)?;
-    let rows = rows_of(alloc, &keys, signals)?;
-    let sinks = sinks_of(alloc, &readers, &rows.places)?;
+    let keys = signals_of(alloc, readers)?;
+    let rows = rows_of(alloc, &keys, signals + 1)?;
+    let sinks = sinks_of(alloc, readers, &rows.places)?;
     Ok(SinkRows {
         starts: rows.starts,
         sinks,

@@ -9,7 +9,7 @@ ghost use Rattle.bench_net.specs.Inside.{signals_in, AreTableLines, AreTables};
 use crate::ScanCell;
 use crate::levels::{LevelFault, Levels, levels_of};
 use crate::line::Line;
-use crate::sinks::{SinkRows, sink_rows};
+use crate::sinks::{SinkRows, readers_of, sink_rows};
 use std::alloc::{AllocError, Global};
 
 /// What is computed in passes over the lines of a circuit.
@@ -131,7 +131,7 @@ pub fn tables_of(alloc: Global, lines: &[Line]) -> Result<Tables, LevelFault>
     let sources = sources(alloc, &inputs, &cells)?;
     let definitions = definitions(alloc, lines)?;
     let source_places = source_places(alloc, &sources, definitions.len())?;
-    let sinks = sink_rows(alloc, lines, &outputs, definitions.len())?;
+    let sinks = sink_rows(alloc, &readers_of(alloc, lines, &outputs)?, definitions.len())?;
     let levels = levels_of(alloc, lines, &definitions)?;
     Ok(Tables {
         inputs,

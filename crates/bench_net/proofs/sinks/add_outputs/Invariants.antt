@@ -1,6 +1,8 @@
-use Rattle.std.proofs.Common.{◌≡◌, ◌++◌, take}
-use Rattle.bench_net.specs.Tables.{output_readers}
+use Rattle.std.proofs.Common.{◌≡◌, ◌++◌, drop}
+use Rattle.bench_net.specs.declared.Sink.TheVariants.{Out}
+use Rattle.bench_net.specs.Tables.{readers_from}
 use Rattle.bench_net.proofs.sinks.add_outputs.Given as goal
 
 abbrev pub invariant-loop-output : goal.invariant-loop-output
-invariant-loop-output l = l.readers.items ≡ l.fn.readers.items ++ output_readers (take l.output l.outputs)
+invariant-loop-output l = l.readers.items ++ readers_from Out l.output (drop l.output l.outputs)
+    ≡ l.fn.readers.items ++ readers_from Out 0 l.outputs
