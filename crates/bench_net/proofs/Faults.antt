@@ -6,14 +6,14 @@ use Rattle.std.specs.Str.{IsUtf8}
 use Rattle.std.specs.Int.{is_in_range}
 use Rattle.std.proofs.lemmas.Bool.{leb-true, and_parts}
 use Rattle.std.proofs.lemmas.Option.{slice_get_within, MatchOption-at_some}
-use Rattle.std.proofs.lemmas.Slice.Zip.{AllZip-left}
+use Rattle.std.proofs.lemmas.Slice.Zip.{AllZip-left, AllZip-right}
 use Rattle.std.proofs.lemmas.Str.{IsUtf8-from_ascii}
 use Rattle.std.proofs.lemmas.Str.Ascii.{IsAscii-from_all}
 use Rattle.std.proofs.lemmas.List.Concat.{flat_map-append}
 use Rattle.std.proofs.lemmas.List.Elements.{filter_map-append, Contains-get_or}
 use Rattle.bench_net.specs.Text.{is_word_byte, is_mark, lines}
 use Rattle.bench_net.specs.Statement.{Name, Statement, Gate, defined, read}
-use Rattle.bench_net.specs.Reading.{States, LinesState, statements}
+use Rattle.bench_net.specs.Reading.{HasArity, States, LinesState, statements}
 use Rattle.bench_net.specs.Scan.{names}
 use Rattle.bench_net.specs.Circuit.{HaveArities, IsStuck}
 use Rattle.bench_net.specs.Refusal.{at_line, IsLowest, NoLine, IsSyntaxFault, IsRedefinition, IsUndefined, IsCyclic}
@@ -68,15 +68,6 @@ stated_at (Some t ∷ stated) s (inr a) = let f = stated_at stated s a in (suc f
 
 -- ---- what is known of words and of gates: they are UTF-8, and have the arity of their kind
 
--- the line that states a statement
-line_of : (ls : List (List ℕ)) (stated : List Stated) (s : Statement) → AllZip States ls stated
-    → Among s (statements stated) → (line : List ℕ) × States line (Some s)
-line_of ls [] s all a = absurd a
-line_of [] (t ∷ stated) s all a = absurd all
-line_of (l ∷ ls) (None ∷ stated) s all a = line_of ls stated s all.1 a
-line_of (l ∷ ls) (Some t ∷ stated) s all (inl e) = (l, subst (λ x. States l (Some x)) e all.0)
-line_of (l ∷ ls) (Some t ∷ stated) s all (inr a) = line_of ls stated s all.1 a
-
 -- a word is UTF-8
 pub word_utf8 : (w : List ℕ) → list_all is_word_byte w ≡ true → IsUtf8 w
 word_utf8 w e = IsUtf8-from_ascii w (IsAscii-from_all w (λ k d below.
@@ -91,7 +82,15 @@ word_utf8 w e = IsUtf8-from_ascii w (IsAscii-from_all w (λ k d below.
 pub arities_of_text : (text : List ℕ) (stated : List Stated) → LinesState text stated
     → HaveArities (statements stated)
 arities_of_text text stated each n kind args at =
-    (line_of (lines text) stated (Gate n kind args) each (among _ _ at)).1.2.2
+    let k = stated_at stated (Gate n kind args) (among _ _ at) in
+    go (slice_get (lines text) k.0)
+    (MatchOption-at_some (Unit {0}) _ (Some (Gate n kind args)) k.1
+    (AllZip-right States (lines text) stated each k.0))
+  where
+    go : (o : Option (List ℕ)) → IsSomeAnd o (λ l. States l (Some (Gate n kind args)))
+        → HasArity kind args
+    go None h = absurd h
+    go (Some l) h = h.2.2
 
 -- ---- a line that states nothing that a line may state
 
@@ -121,21 +120,15 @@ unread_lowest text k l stated at none all = (
 
 -- ---- a line that defines a name that is defined before it
 
--- the lines before one
-abbrev pub before : {X : Type 0} → List X → ℕ → List X
-before xs zero = []
-before xs (suc i) = take i xs
-
 -- the line states a statement with this name among those that f gives
 abbrev pub Says : (Statement → List Name) → List Stated → ℕ → Name → Type 0
 Says f stated line n = (s : Statement) × (at_line stated line ≡ Some (Some s)) × Contains (f s) n
 
 -- what earlier lines say is what the lines in front say
-pub earlier : (f : Statement → List Name) (stated : List Stated) (line : ℕ) (n : Name)
-    → ((there : ℕ) × (there < line) × Says f stated there n)
-    ↔ Among n (flat_map f (statements (before stated line)))
-earlier f stated zero n = (λ e. absurd (omega (arith, e.1)), λ a. absurd a)
-earlier f stated (suc j) n = (
+pub earlier : (f : Statement → List Name) (stated : List Stated) (j : ℕ) (n : Name)
+    → ((there : ℕ) × (there < suc j) × Says f stated there n)
+    ↔ Among n (flat_map f (statements (take j stated)))
+earlier f stated j n = (
   λ e. let there = line_among (take j stated) e.0 e.2.0 (at_front stated j e.0 e.1 ∙ e.2.1) in
       among_joined f _ e.2.0 n there (among _ n e.2.2),
   λ a. let t = joined_from f (statements (take j stated)) n a in
@@ -158,7 +151,7 @@ no_redefinition stated once zero bad = let none : None ≡ Some (Some bad.2.0) =
 no_redefinition stated once (suc j) bad =
     let n : Name = bad.0 in
     distinct_apart (names_of (take j stated)) _ n
-    (subst Distinct parts once) ((earlier defined stated (suc j) n).0 (bad.1, bad.3, bad.4))
+    (subst Distinct parts once) ((earlier defined stated j n).0 (bad.1, bad.3, bad.4))
     (among_left (defined bad.2.0) _ n (among _ n bad.2.2))
   where
     parts : names_of stated ≡ names_of (take j stated)
@@ -194,7 +187,7 @@ pub redefined_lowest : (stated : List Stated) (j : ℕ) (s : Statement) (n : Nam
     → Among n (names_of (take j stated)) → Distinct (names_of (take j stated))
     → IsLowest (IsRedefinition stated) (suc j)
 redefined_lowest stated j s n at here front once = (
-  let e = (earlier defined stated (suc j) n).1 front in
+  let e = (earlier defined stated j n).1 front in
       (n, e.0, (s, at, contained _ n here), e.1, e.2),
   λ line lt (m, there, here, less, says).
       let says = in_take there m (omega (arith, lt, less)) says in
@@ -213,7 +206,7 @@ pub undefined_lowest : (stated : List Stated) (j : ℕ) (s : Statement) (n : Nam
     → Contains (names_of stated) m) → IsLowest (IsUndefined stated) (suc j)
 undefined_lowest stated j s n at here not known = (
   (n, (s, at, contained _ n here), not),
-  λ line lt bad. bad.2 (known bad.0 ((earlier read stated (suc j) bad.0).0 (line, lt, bad.1))),
+  λ line lt bad. bad.2 (known bad.0 ((earlier read stated j bad.0).0 (line, lt, bad.1))),
 )
 
 pub no_undefined : (stated : List Stated)
