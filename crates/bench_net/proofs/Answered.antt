@@ -142,7 +142,7 @@ module _ (stated : List Stated) where
   redefined_first = is_first stated (IsRedefinition stated) _ (λ bad. none-some _ bad.2.1)
       (λ i. (λ (n, k, (s, at, here), lt, says).
       let e = (earlier defined stated i n).0 (k, lt, says) in
-      rw at (any_true _ (defined s) n (among _ _ here) (among_in _ _ e)),
+      rw at (any_true _ (defined s) n here (among_in _ _ e)),
       λ on. let (s, at, clash) = passed _ (slice_get stated i) on in
       let (n, here, front) = some_passes _ (defined s) clash in
       let (k, lt, says) = (earlier defined stated i n).1 (among _ _ (in_contained _ _ front)) in
@@ -153,7 +153,7 @@ module _ (stated : List Stated) where
   undefined_first = is_first stated (IsUndefined stated) _ (λ bad. none-some _ bad.1.1)
       (λ i. (λ (n, (s, at, here), new).
       let off = false_from_ne_true _ (λ on. new (in_contained _ n on)) in
-      rw at (any_true _ (read s) n (among _ _ here) (ap not off)),
+      rw at (any_true _ (read s) n here (ap not off)),
       λ on. let (s, at, unknown) = passed _ (slice_get stated i) on in
       let (n, here, off) = some_passes _ (read s) unknown in
       (n, (s, at, here), λ has. both_ways _ (not-true _ off) (among_in _ _ (among _ _ has)))))

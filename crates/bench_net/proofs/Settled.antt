@@ -93,9 +93,8 @@ gate_named c n a h =
 argument_feeds : (c : List Statement) (ns : List Name) (n a : Name) → HasArgument c n a
     → Among a ns → is_fed c ns n ≡ true
 argument_feeds c ns n a h inside =
-    any_true (gate_fed ns n) c (Gate n h.0 h.1) (among c (Gate n h.0 h.1) h.2)
-    (and_from _ _ (bytes_refl n)
-    (any_true (is_in ns) h.1 a (among h.1 a h.3) (among_in ns a inside)))
+    any_true (gate_fed ns n) c (Gate n h.0 h.1) h.2
+    (and_from _ _ (bytes_refl n) (any_true (is_in ns) h.1 a h.3 (among_in ns a inside)))
 
 -- a stuck set stays
 stays : (c : List Statement) (members : Name → Bool) → IsStuckSet c members
