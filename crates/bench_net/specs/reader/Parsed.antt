@@ -8,8 +8,6 @@ use Rattle.bench_net.specs.declared.Kind.{Kind}
 use Rattle.bench_net.specs.declared.Kind.TheVariants.{And, Nand, Or, Nor, Xor, Xnor, Not, Buff}
 use Rattle.bench_net.specs.declared.BenchFault.{BenchFault}
 use Rattle.bench_net.specs.declared.BenchFault.TheVariants.{Memory}
-use Rattle.bench_net.specs.declared.scan.Token.{Token as Found}
-use Rattle.bench_net.specs.declared.scan.Token.TheVariants as found
 use Rattle.bench_net.specs.declared.scan.Front.{Front}
 use Rattle.bench_net.specs.declared.scan.Front.TheVariants as front
 use Rattle.bench_net.specs.declared.statement.Stated.{Stated}
@@ -98,24 +96,20 @@ stated_by (token ∷ tokens) = option_map Some (read_tokens (token ∷ tokens))
 abbrev pub stated_of : List ℕ → Option (Option Statement)
 stated_of line = option_and_then stated_by (tokens_of line)
 
--- the token that the scanner's token stands for
-abbrev pub token_of : Found → Token
-token_of found.Open = Open
-token_of found.Close = Close
-token_of found.Comma = Comma
-token_of found.Equals = Equals
-token_of (found.Word w) = Word w.now
-
 -- a token stands at the front of a line, and what stands behind it is shorter than the line
 pub record Leads (line : List ℕ) (token : Token) (rest : List ℕ) : Type 0 where
   pub tokens : tokens_of line ≡ option_map (λ ts. token ∷ ts) (tokens_of rest)
   pub shorter : length rest < length line
 
--- what stands at the front of a line
-abbrev pub IsFront : List ℕ → Front → Type 0
-IsFront line (front.Token token rest) = Leads line (token_of token) rest.now
-IsFront line front.End = tokens_of line ≡ Some []
-IsFront line front.Bad = tokens_of line ≡ None
+-- what stands at the front of a line, and the bytes behind it
+abbrev pub IsFront : List ℕ → Front × Bor (List ℕ) → Type 0
+IsFront line (front.Open, rest) = Leads line Open rest.now
+IsFront line (front.Close, rest) = Leads line Close rest.now
+IsFront line (front.Comma, rest) = Leads line Comma rest.now
+IsFront line (front.Equals, rest) = Leads line Equals rest.now
+IsFront line (front.Word w, rest) = Leads line (Word w.now) rest.now
+IsFront line (front.End, rest) = tokens_of line ≡ Some []
+IsFront line (front.Bad, rest) = tokens_of line ≡ None
 
 -- the names that references point to
 abbrev pub names_of : List (Bor Name) → List Name
