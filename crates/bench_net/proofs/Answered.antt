@@ -4,7 +4,7 @@ use Rattle.std.specs.Prelude.{◌≢◌, ◌↔◌, option_map, if◌then◌else
 use Rattle.std.specs.List.{AllZip, list_any}
 use Rattle.std.proofs.lemmas.List.{nil_from_length}
 use Rattle.std.proofs.lemmas.Bool.{eqb-true, eqb-false, ne_eqb, both_ways, cond_both, cond-true, cond-false, ltb-true, ltb-false, lt-ltb, le-ltb, not-true, true_from_ne_false, false_from_ne_true}
-use Rattle.std.proofs.lemmas.Option.{none-some}
+use Rattle.std.proofs.lemmas.Option.{none-some, same_Some}
 use Rattle.bench_net.specs.declared.Limit.TheVariants.{Bytes, Signals, Sinks}
 use Rattle.bench_net.specs.declared.BenchFault.{BenchFault}
 use Rattle.bench_net.specs.declared.BenchFault.TheVariants.{TooLarge, Syntax, Redefined, Undefined, Cycle, Empty, Memory}
@@ -20,7 +20,7 @@ use Rattle.bench_net.proofs.Reader.{sound_states, complete_states, unstated}
 use Rattle.lists.proofs.Members.{Among, among, contained, some_passes, joined_from}
 use Rattle.lists.proofs.Distinct.{distinct_from_pairs}
 use Rattle.bench_net.proofs.Checked.{any_true, in_contained, among_in, pairs_distinct}
-use Rattle.bench_net.proofs.Faults.{Stated, names_of, stated_at, line_among, unread, no_unread, earlier, no_redefinition, no_undefined, once_each}
+use Rattle.bench_net.proofs.Faults.{Stated, names_of, stated_at, line_among, earlier, no_redefinition, no_undefined, once_each}
 use Rattle.bench_net.proofs.Settled.{stuck_names, stuck_set, stuck_left, none_stuck, numbering}
 
 -- ---- the program
@@ -129,6 +129,33 @@ syntax_first text =
     from i None at on = cc
     from i (Some l) at on = (l, at, (unstated l).1 on)
 
+-- lines that state something are all read
+read_all : (ls : List (List ℕ)) (stated : List Stated) → AllZip States ls stated
+    → (first (λ i. is_unread) ls ≡ None) × (filter_map stated_of ls ≡ stated)
+read_all [] [] all = (refl, refl)
+read_all [] (s ∷ stated) all = absurd all
+read_all (l ∷ ls) [] all = absurd all
+read_all (l ∷ ls) (s ∷ stated) all =
+    let (none, same) = read_all ls stated all.1 in
+    rw (complete_states l s all.0) (ap (option_map suc) none, ap (λ more. s ∷ more) same)
+
+-- and behind such lines the first that isn't read is the lowest
+first_unread : (ls : List (List ℕ)) (stated : List Stated) (k : ℕ) (l : List ℕ)
+    → AllZip States (take k ls) stated → slice_get ls k ≡ Some l → stated_of l ≡ None
+    → first (λ i. is_unread) ls ≡ Some (suc k)
+first_unread [] stated k l all at none = cc
+first_unread (m ∷ ls) stated zero l all at none = rw (same_Some m l at, none) refl
+first_unread (m ∷ ls) [] (suc k) l all at none = absurd all
+first_unread (m ∷ ls) (s ∷ stated) (suc k) l all at none =
+    rw (complete_states m s all.0)
+    (ap (option_map suc) (first_unread ls stated k l all.1 at none))
+
+pub unread_lowest : (text : List ℕ) (k : ℕ) (l : List ℕ) (stated : List Stated)
+    → slice_get (lines text) k ≡ Some l → stated_of l ≡ None
+    → AllZip States (take k (lines text)) stated → IsLowest (IsSyntaxFault text) (suc k)
+unread_lowest text k l stated at none all = subst (IsFirst (IsSyntaxFault text))
+    (first_unread (lines text) stated k l all at none) (syntax_first text)
+
 -- the statement of a line that passes
 passed : (test : Statement → Bool) (o : Option Stated) → passes (passes test) o ≡ true
     → (s : Statement) × (o ≡ Some (Some s)) × (test s ≡ true)
@@ -217,14 +244,6 @@ all_read (l ∷ ls) some = go (stated_of l) refl (all_read ls (λ i. some (suc i
     go None e more = absurd (some 0 l refl e)
     go (Some s) e more = rw e (sound_states l s e, more)
 
-read_all : (ls : List (List ℕ)) (stated : List Stated) → AllZip States ls stated
-    → filter_map stated_of ls ≡ stated
-read_all [] [] all = refl
-read_all [] (s ∷ stated) all = absurd all
-read_all (l ∷ ls) [] all = absurd all
-read_all (l ∷ ls) (s ∷ stated) all =
-    rw (complete_states l s all.0) (ap (λ more. s ∷ more) (read_all ls stated all.1))
-
 -- the plain reader's answer is that of the relations
 answered : (text : List ℕ) → IsAnswer text (answer_text text)
 answered text =
@@ -238,7 +257,7 @@ answered text =
         → IsAnswer text (line_or Syntax o (answer_stated stated))
     go bytes (Some l) bad = (bytes, bad)
     go bytes None none =
-        let each = all_read (lines text) (λ i l at e. none (suc i) (unread text i l at e)) in
+        let each = all_read (lines text) (λ i l at e. none (suc i) (l, at, (unstated l).1 (rw e refl))) in
         cond_both _ _ _ (IsAnswer text) (λ e. (bytes, stated, each, ltb-true _ _ e))
         (λ f. cond_both _ _ _ (IsAnswer text)
         (λ e. (bytes, stated, each, ltb-false _ _ f, ltb-true _ _ e))
@@ -267,19 +286,11 @@ some_answer text = go (answer_text text) (answered text)
 
 -- ---- and the relations' answer is that of the plain reader, so there is one
 
-read_answer : (text : List ℕ) (o : Option ℕ) → length text ≤ max_bytes
-    → IsFirst (IsSyntaxFault text) o
-    → answer_text text ≡ line_or Syntax o (answer_stated (filter_map stated_of (lines text)))
-read_answer text o bytes is =
-    cond-false _ _ _ (le-ltb _ _ bytes)
-    ∙ ap (λ p. line_or Syntax p (answer_stated (filter_map stated_of (lines text))))
-    (first_one (IsSyntaxFault text) _ o (syntax_first text) is)
-
 stated_answer : (text : List ℕ) (stated : List Stated) → length text ≤ max_bytes
     → LinesState text stated → answer_text text ≡ answer_stated stated
 stated_answer text stated bytes each =
-    read_answer text None bytes (λ line. no_unread text stated (lines text) line each refl)
-    ∙ ap answer_stated (read_all (lines text) stated each)
+    let (none, same) = read_all (lines text) stated each in
+    cond-false _ _ _ (le-ltb _ _ bytes) ∙ rw (none, same) refl
 
 answer_is : (text : List ℕ) (stated : List Stated) → IsWithin text stated → (r u y : Option ℕ)
     → IsFirst (IsRedefinition stated) r → IsFirst (IsUndefined stated) u
@@ -297,7 +308,9 @@ answer_is text stated within r u y once known free =
 exact : (text : List ℕ) (r : Result (List Statement) BenchFault) → IsAnswer text r
     → answer_text text ≡ r
 exact text (Err (TooLarge Bytes)) past = cond-true _ _ _ (lt-ltb _ _ past)
-exact text (Err (Syntax l)) (bytes, is) = read_answer text (Some l) bytes is
+exact text (Err (Syntax l)) (bytes, is) =
+    cond-false _ _ _ (le-ltb _ _ bytes)
+    ∙ rw (first_one (IsSyntaxFault text) _ (Some l) (syntax_first text) is) refl
 exact text (Err (TooLarge Signals)) (bytes, stated, each, past) =
     stated_answer text stated bytes each ∙ rw (lt-ltb _ (length (names_of stated)) past) refl
 exact text (Err (TooLarge Sinks)) (bytes, stated, each, few, past) =

@@ -14,7 +14,7 @@ use Rattle.bench_net.specs.Refusal.{IsLowest, IsSyntaxFault}
 use Rattle.bench_net.specs.reader.Parsed.{stated_of}
 use Rattle.bench_net.specs.reader.Entries.{Entry, numbered_from, AreStated}
 use Rattle.bench_net.proofs.Reader.{sound_states}
-use Rattle.bench_net.proofs.Faults.{unread_lowest}
+use Rattle.bench_net.proofs.Answered.{unread_lowest}
 
 -- what an entry stands for, its line states, behind the same statements
 pub entry_at : (line : ℕ) (stated : List (Option Statement)) (i n : ℕ) (s : Statement)

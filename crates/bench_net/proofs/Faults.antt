@@ -6,7 +6,7 @@ use Rattle.std.specs.Str.{IsUtf8}
 use Rattle.std.specs.Int.{is_in_range}
 use Rattle.std.proofs.lemmas.Bool.{leb-true, and_parts}
 use Rattle.std.proofs.lemmas.Option.{slice_get_within, MatchOption-at_some}
-use Rattle.std.proofs.lemmas.Slice.Zip.{AllZip-left, AllZip-right}
+use Rattle.std.proofs.lemmas.Slice.Zip.{AllZip-right}
 use Rattle.std.proofs.lemmas.Str.{IsUtf8-from_ascii}
 use Rattle.std.proofs.lemmas.Str.Ascii.{IsAscii-from_all}
 use Rattle.std.proofs.lemmas.List.Concat.{flat_map-append}
@@ -16,12 +16,10 @@ use Rattle.bench_net.specs.Statement.{Name, Statement, Gate, defined, read}
 use Rattle.bench_net.specs.Reading.{HasArity, States, LinesState, statements}
 use Rattle.bench_net.specs.Scan.{names}
 use Rattle.bench_net.specs.Circuit.{HaveArities, IsStuck}
-use Rattle.bench_net.specs.Refusal.{at_line, IsLowest, NoLine, IsSyntaxFault, IsRedefinition, IsUndefined, IsCyclic}
-use Rattle.bench_net.specs.reader.Parsed.{stated_of}
+use Rattle.bench_net.specs.Refusal.{at_line, IsLowest, NoLine, IsRedefinition, IsUndefined, IsCyclic}
 use Rattle.lists.proofs.Members.{Among, among, contained, among_left, among_right, among_joined, joined_from, each_passes}
 use Rattle.bench_net.specs.declared.Kind.{Kind}
 use Rattle.lists.proofs.Distinct.{Distinct, distinct_append}
-use Rattle.bench_net.proofs.Reader.{unstated}
 use Rattle.bench_net.proofs.Checked.{defined_few}
 
 abbrev pub Stated : Type 0
@@ -91,32 +89,6 @@ arities_of_text text stated each n kind args at =
         → HasArity kind args
     go None h = absurd h
     go (Some l) h = h.2.2
-
--- ---- a line that states nothing that a line may state
-
-pub no_unread : (text : List ℕ) (stated : List Stated) (front : List (List ℕ)) (line : ℕ)
-    → AllZip States front stated → at_line front line ≡ at_line (lines text) line
-    → ¬ IsSyntaxFault text line
-no_unread text stated front zero all same bad = let none : None ≡ Some bad.0 = bad.1 in cc
-no_unread text stated front (suc k) all same bad =
-    go (slice_get stated k) (MatchOption-at_some (Unit {0}) _ bad.0 (same ∙ bad.1)
-    (AllZip-left States front stated all k))
-  where
-    go : (o : Option Stated) → IsSomeAnd o (States bad.0) → ⊥
-    go None h = h
-    go (Some s) h = bad.2 s h
-
-pub unread : (text : List ℕ) (k : ℕ) (l : List ℕ) → slice_get (lines text) k ≡ Some l
-    → stated_of l ≡ None → IsSyntaxFault text (suc k)
-unread text k l at none = (l, at, (unstated l).1 (rw none refl))
-
-pub unread_lowest : (text : List ℕ) (k : ℕ) (l : List ℕ) (stated : List Stated)
-    → slice_get (lines text) k ≡ Some l → stated_of l ≡ None
-    → AllZip States (take k (lines text)) stated → IsLowest (IsSyntaxFault text) (suc k)
-unread_lowest text k l stated at none all = (
-  unread text k l at none,
-  λ line lt. no_unread text stated _ line all (at_front (lines text) k line lt),
-)
 
 -- ---- a line that defines a name that is defined before it
 
