@@ -195,10 +195,9 @@ pub cyclic_lowest : (stated : List Stated) (j : ℕ) (n : Name) (kind : Kind) (a
     → ((m : Name) (other : Kind) (more : List Name)
     → Among (Gate m other more) (statements (take j stated)) → ¬ IsStuck (statements stated) m)
     → IsLowest (IsCyclic stated) (suc j)
-cyclic_lowest stated j n kind args at stuck free = ((n, kind, args, at, stuck), lower)
-  where
-    lower : (line : ℕ) → line < suc j → ¬ IsCyclic stated line
-    lower line lt bad =
-        let there = line_among (take j stated) line (Gate bad.0 bad.1 bad.2)
-        (at_front stated j line lt ∙ bad.3) in
-        free bad.0 bad.1 bad.2 there bad.4
+cyclic_lowest stated j n kind args at stuck free = (
+  (n, kind, args, at, stuck),
+  λ line lt (m, other, more, here, is).
+      let there = at_front stated j line lt ∙ here in
+      free m other more (line_among (take j stated) line (Gate m other more) there) is,
+)

@@ -47,10 +47,7 @@ pub struct Lines {
 fn without_return<'a>(line: &'a [u8]) -> &'a [u8]
     ensures { result.now ≡ strip_carriage_return line.now }
 {
-    match line.split_last() {
-        Some((last, start)) if *last == b'\r' => start,
-        _ => line,
-    }
+    line.strip_suffix(b"\r").unwrap_or(line)
 }
 
 /// The statements of a text, each with the number of its line.
