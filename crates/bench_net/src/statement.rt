@@ -97,16 +97,10 @@ fn read_arguments<'a>(
 fn port<'a>(word: &str, arguments: Arguments<'a>) -> Option<Stated<'a>>
     ensures { option_map stands_for result ≡ port word.now (names_of arguments.entry.items) }
 {
-    let [name] = arguments.as_slice() else {
-        return None;
-    };
-    let name = *name;
-    if is_keyword(word, "INPUT") {
-        Some(Stated::Input(name))
-    } else if is_keyword(word, "OUTPUT") {
-        Some(Stated::Output(name))
-    } else {
-        None
+    match arguments.as_slice() {
+        [name] if is_keyword(word, "INPUT") => Some(Stated::Input(*name)),
+        [name] if is_keyword(word, "OUTPUT") => Some(Stated::Output(*name)),
+        _ => None,
     }
 }
 
@@ -169,10 +163,7 @@ pub fn read_line<'a>(
 {
     match next_token(line) {
         (Front::End, _) => Ok(None),
-        (Front::Word(word), rest) => {
-            let statement = read_behind(alloc, word, rest, refusal)?;
-            Ok(Some(statement))
-        }
+        (Front::Word(word), rest) => Ok(Some(read_behind(alloc, word, rest, refusal)?)),
         _ => Err(refusal),
     }
 }
