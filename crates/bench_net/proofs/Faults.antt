@@ -4,7 +4,7 @@ use Rattle.std.specs.Prelude.{Contains, IsSomeAnd, ◌↔◌, ◌==◌, Option, 
 use Rattle.std.specs.List.{AllZip, list_all}
 use Rattle.std.specs.Str.{IsUtf8}
 use Rattle.std.specs.Int.{is_in_range}
-use Rattle.std.proofs.lemmas.Bool.{leb-true, and_parts}
+use Rattle.std.proofs.lemmas.Bool.Decides.{nat_tests}
 use Rattle.std.proofs.lemmas.Option.{slice_get_within, MatchOption-at_some}
 use Rattle.std.proofs.lemmas.Slice.Zip.{AllZip-right}
 use Rattle.std.proofs.lemmas.Str.{IsUtf8-from_ascii}
@@ -71,10 +71,7 @@ pub word_utf8 : (w : List ℕ) → list_all is_word_byte w ≡ true → IsUtf8 w
 word_utf8 w e = IsUtf8-from_ascii w (IsAscii-from_all w (λ k d below.
     let b : ℕ = slice_index_or w k d in
     let on = each_passes is_word_byte w b e (Contains-get_or w k d below) in
-    let p = and_parts (is_in_range 33 126 b && not (is_mark b)) (not (b == 35)) on in
-    let q = and_parts (is_in_range 33 126 b) (not (is_mark b)) p.0 in
-    let high : b ≤ 126 = leb-true b 126 (and_parts (leb 33 b) (leb b 126) q.0).1 in
-    omega (arith, high)))
+    grind (arith, nat_tests)))
 
 -- the statements of a text have the arities of their kinds
 pub arities_of_text : (text : List ℕ) (stated : List Stated) → LinesState text stated

@@ -58,19 +58,16 @@ fn token_at<'a>(bytes: &'a [u8]) -> (Front<'a>, &'a [u8])
     requires { prefix_len is_blank bytes.now ≡ 0 }
     ensures { IsFront bytes.now result }
 {
-    let Some((first, rest)) = bytes.split_first() else {
-        return (Front::End, bytes);
-    };
-    match *first {
-        b'#' => (Front::End, rest),
-        b'(' => (Front::Open, rest),
-        b')' => (Front::Close, rest),
-        b',' => (Front::Comma, rest),
-        b'=' => (Front::Equals, rest),
+    match bytes {
+        [] | [b'#', ..] => (Front::End, bytes),
+        [b'(', rest @ ..] => (Front::Open, rest),
+        [b')', rest @ ..] => (Front::Close, rest),
+        [b',', rest @ ..] => (Front::Comma, rest),
+        [b'=', rest @ ..] => (Front::Equals, rest),
         _ => {
             let len = word_len(bytes);
             if len == 0 {
-                return (Front::Bad, rest);
+                return (Front::Bad, bytes);
             }
             let (word, rest) = bytes.split_at(len);
             (Front::Word(word_text(word)), rest)
