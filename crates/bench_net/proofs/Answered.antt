@@ -105,16 +105,21 @@ is_first [] F test none same =
     from_zero (λ line. ¬ F line) none (λ i f. let bad : false ≡ true = (same i).0 f in cc)
 is_first (y ∷ ys) F test none same =
     cond_both (test 0 y) _ _ (IsFirst F)
-    (λ on. ((same 0).1 on,
-    from_zero (λ k. k < 1 → ¬ F k) (λ lt. none) (λ i lt. absurd (omega (arith, lt)))))
+    (λ on. (
+      (same 0).1 on,
+      from_zero (λ k. k < 1 → ¬ F k) (λ lt. none) (λ i lt. absurd (omega (arith, lt))),
+    ))
     (λ off. behind (first (λ i. test (suc i)) ys)
     (is_first ys (λ line. F (suc line)) (λ i. test (suc i)) (λ f. both_ways _ off ((same 0).0 f))
     (λ i. same (suc i))))
   where
     behind : (o : Option ℕ) → IsFirst (λ line. F (suc line)) o → IsFirst F (option_map suc o)
     behind None free = from_zero (λ line. ¬ F line) none free
-    behind (Some line) (at, free) = (at, from_zero (λ k. k < suc line → ¬ F k) (λ lt. none)
-        (λ i lt. free i (omega (arith, lt))))
+    behind (Some line) (at, free) = (
+      at,
+      from_zero (λ k. k < suc line → ¬ F k) (λ lt. none)
+          (λ i lt. free i (omega (arith, lt))),
+    )
 
 -- ---- the four faults
 
@@ -167,29 +172,35 @@ module _ (stated : List Stated) where
   redefined_first : IsFirst (IsRedefinition stated)
       (first (λ i. passes (redefines (names_of (take i stated)))) stated)
   redefined_first = is_first stated (IsRedefinition stated) _ (λ bad. none-some _ bad.2.1)
-      (λ i. (λ (n, k, (s, at, here), lt, says).
-      let e = (earlier defined stated i n).0 (k, lt, says) in
-      rw at (any_true _ (defined s) n here (among_in _ _ e)),
-      λ on. let (s, at, clash) = passed _ (slice_get stated i) on in
-      let (n, here, front) = some_passes _ (defined s) clash in
-      let (k, lt, says) = (earlier defined stated i n).1 (among _ _ (in_contained _ _ front)) in
-      (n, k, (s, at, here), lt, says)))
+      (λ i. (
+        λ (n, k, (s, at, here), lt, says).
+            let e = (earlier defined stated i n).0 (k, lt, says) in
+            rw at (any_true _ (defined s) n here (among_in _ _ e)),
+        λ on. let (s, at, clash) = passed _ (slice_get stated i) on in
+            let (n, here, front) = some_passes _ (defined s) clash in
+            let (k, lt, says) = (earlier defined stated i n).1 (among _ _ (in_contained _ _ front)) in
+            (n, k, (s, at, here), lt, says),
+      ))
 
   undefined_first : IsFirst (IsUndefined stated)
       (first (λ i. passes (reads_unknown (statements stated))) stated)
   undefined_first = is_first stated (IsUndefined stated) _ (λ bad. none-some _ bad.1.1)
-      (λ i. (λ (n, (s, at, here), new).
-      let off = false_from_ne_true _ (λ on. new (in_contained _ n on)) in
-      rw at (any_true _ (read s) n here (ap not off)),
-      λ on. let (s, at, unknown) = passed _ (slice_get stated i) on in
-      let (n, here, off) = some_passes _ (read s) unknown in
-      (n, (s, at, here), λ has. both_ways _ (not-true _ off) (among_in _ _ (among _ _ has)))))
+      (λ i. (
+        λ (n, (s, at, here), new).
+            let off = false_from_ne_true _ (λ on. new (in_contained _ n on)) in
+            rw at (any_true _ (read s) n here (ap not off)),
+        λ on. let (s, at, unknown) = passed _ (slice_get stated i) on in
+            let (n, here, off) = some_passes _ (read s) unknown in
+            (n, (s, at, here), λ has. both_ways _ (not-true _ off) (among_in _ _ (among _ _ has))),
+      ))
 
   cyclic_first : IsFirst (IsCyclic stated)
       (first (λ i. passes (is_stuck (statements stated))) stated)
   cyclic_first = is_first stated (IsCyclic stated) _ (λ bad. none-some _ bad.3)
-      (λ i. (λ bad. rw bad.3 (stuck_left (statements stated) bad.0 bad.4),
-      λ on. let (s, at, stuck) = passed _ (slice_get stated i) on in from i s at stuck))
+      (λ i. (
+        λ bad. rw bad.3 (stuck_left (statements stated) bad.0 bad.4),
+        λ on. let (s, at, stuck) = passed _ (slice_get stated i) on in from i s at stuck,
+      ))
     where
       from : (i : ℕ) (s : Statement) → slice_get stated i ≡ Some (Some s)
           → is_stuck (statements stated) s ≡ true → IsCyclic stated (suc i)

@@ -1,9 +1,8 @@
 -- Lines of a text: which words make their names, and which places and which names make them faulty.
-use Rattle.std.proofs.Common.{◌≡◌, ◌<◌, ◌≤◌, ℕ, zero, suc, sym, refl, ◌∙◌, ap, subst, true, not, ◌&&◌, leb, List, [], ◌∷◌, ◌++◌, take, drop, arith, inl, inr, length-take}
-use Rattle.std.specs.Prelude.{Contains, IsSomeAnd, ◌↔◌, ◌==◌, Option, Some, None, slice_get, slice_index_or, flat_map}
-use Rattle.std.specs.List.{AllZip, list_all}
+use Rattle.std.proofs.Common.{◌≡◌, ◌<◌, ℕ, zero, suc, sym, refl, ◌∙◌, ap, subst, true, not, List, [], ◌∷◌, ◌++◌, take, drop, arith, inl, inr, length-take}
+use Rattle.std.specs.Prelude.{Contains, IsSomeAnd, ◌↔◌, Option, Some, None, slice_get, slice_index_or, flat_map}
+use Rattle.std.specs.List.{list_all}
 use Rattle.std.specs.Str.{IsUtf8}
-use Rattle.std.specs.Int.{is_in_range}
 use Rattle.std.proofs.lemmas.Bool.Decides.{nat_tests}
 use Rattle.std.proofs.lemmas.Option.{slice_get_within, MatchOption-at_some}
 use Rattle.std.proofs.lemmas.Slice.Zip.{AllZip-right}
@@ -11,7 +10,7 @@ use Rattle.std.proofs.lemmas.Str.{IsUtf8-from_ascii}
 use Rattle.std.proofs.lemmas.Str.Ascii.{IsAscii-from_all}
 use Rattle.std.proofs.lemmas.List.Concat.{flat_map-append}
 use Rattle.std.proofs.lemmas.List.Elements.{filter_map-append, Contains-get_or}
-use Rattle.bench_net.specs.Text.{is_word_byte, is_mark, lines}
+use Rattle.bench_net.specs.Text.{is_word_byte, lines}
 use Rattle.bench_net.specs.Statement.{Name, Statement, Gate, defined, read}
 use Rattle.bench_net.specs.Reading.{HasArity, States, LinesState, statements}
 use Rattle.bench_net.specs.Scan.{names}

@@ -69,10 +69,7 @@ stuck_names c = left_over c (length (names c)) (names c)
 fewer : {X : Type 0} (p : X → Bool) (xs : List X) → list_all p xs ≡ false
     → length (filter p xs) < length xs
 fewer p [] e = let bad : true ≡ false = e in cc
-fewer p (x ∷ xs) e = elim (cases_Bool (p x)) [
-  | inl on ↦ rw on (omega (arith, fewer p xs (rw on at e)))
-  | inr off ↦ rw off (omega (arith, length-filter p xs, count_by-le-length p xs))
-]
+fewer p (x ∷ xs) e = grind (arith, fewer p xs, length-filter p xs, count_by-le-length p xs)
 
 -- after as many rounds as there are names, each that is left is fed by one that is
 left_fed : (c : List Statement) (k : ℕ) (ns : List Name) → length ns ≤ k
