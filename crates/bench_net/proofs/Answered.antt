@@ -138,11 +138,10 @@ syntax_first text =
 read_all : (ls : List (List ℕ)) (stated : List Stated) → AllZip States ls stated
     → (first (λ i. is_unread) ls ≡ None) × (filter_map stated_of ls ≡ stated)
 read_all [] [] all = (refl, refl)
-read_all [] (s ∷ stated) all = absurd all
-read_all (l ∷ ls) [] all = absurd all
 read_all (l ∷ ls) (s ∷ stated) all =
     let (none, same) = read_all ls stated all.1 in
     rw (complete_states l s all.0) (ap (option_map suc) none, ap (λ more. s ∷ more) same)
+read_all _ _ all = absurd all
 
 -- and behind such lines the first that isn't read is the lowest
 first_unread : (ls : List (List ℕ)) (stated : List Stated) (k : ℕ) (l : List ℕ)
@@ -164,9 +163,8 @@ unread_lowest text k l stated at none all = subst (IsFirst (IsSyntaxFault text))
 -- the statement of a line that passes
 passed : (test : Statement → Bool) (o : Option Stated) → passes (passes test) o ≡ true
     → (s : Statement) × (o ≡ Some (Some s)) × (test s ≡ true)
-passed test None on = cc
-passed test (Some None) on = cc
 passed test (Some (Some s)) on = (s, refl, on)
+passed test _ on = cc
 
 module _ (stated : List Stated) where
   redefined_first : IsFirst (IsRedefinition stated)

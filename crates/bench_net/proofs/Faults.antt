@@ -33,11 +33,9 @@ names_of stated = names (statements stated)
 -- the lines before a place
 at_front : {X : Type 0} (xs : List X) (j line : ℕ) → line < suc j
     → at_line (take j xs) line ≡ at_line xs line
-at_front xs j zero lt = refl
 at_front xs zero (suc k) lt = absurd (omega (arith, lt))
-at_front [] (suc j) (suc k) lt = refl
-at_front (x ∷ xs) (suc j) (suc zero) lt = refl
 at_front (x ∷ xs) (suc j) (suc (suc k)) lt = at_front xs j (suc k) (omega (arith, lt))
+at_front _ _ _ lt = refl
 
 -- the lines around a place
 pub around : {X : Type 0} (xs : List X) (i : ℕ) (x : X) → slice_get xs i ≡ Some x
@@ -49,12 +47,11 @@ around (y ∷ xs) (suc i) x e = ap (λ ys. y ∷ ys) (around xs i x e)
 -- what a line states is among the statements, and the other way round
 pub line_among : (stated : List Stated) (line : ℕ) (s : Statement)
     → at_line stated line ≡ Some (Some s) → Among s (statements stated)
-line_among stated zero s e = let bad : None ≡ Some (Some s) = e in cc
-line_among [] (suc i) s e = let bad : None ≡ Some (Some s) = e in cc
-line_among (None ∷ stated) (suc zero) s e = let bad : Some None ≡ Some (Some s) = e in cc
+line_among stated zero s e = cc
 line_among (None ∷ stated) (suc (suc i)) s e = line_among stated (suc i) s e
 line_among (Some t ∷ stated) (suc zero) s e = let same : t ≡ s = cc in inl same
 line_among (Some t ∷ stated) (suc (suc i)) s e = inr (line_among stated (suc i) s e)
+line_among _ _ s e = cc
 
 pub stated_at : (stated : List Stated) (s : Statement) → Among s (statements stated)
     → (i : ℕ) × (slice_get stated i ≡ Some (Some s))
