@@ -1,12 +1,10 @@
 -- Each text is accepted or refused, in one way, and a plain program says which.
-use Rattle.std.proofs.Common.{◌≡◌, ◌<◌, ◌≤◌, ℕ, zero, suc, refl, sym, ◌∙◌, ap, subst, Bool, true, false, not, List, [], ◌∷◌, length, arith, inl, inr, ◌⊎◌}
-use Rattle.std.specs.Prelude.{◌≢◌, if◌then◌else◌, ◌==◌, nat_lt, Option, Some, None, Result, Ok, Err, slice_get, filter_map, is_none}
+use Rattle.std.proofs.Common.{◌≡◌, ◌<◌, ◌≤◌, ℕ, zero, suc, refl, sym, ◌∙◌, ap, subst, Bool, true, false, not, List, [], ◌∷◌, length, take, arith, inl, inr, ◌⊎◌}
+use Rattle.std.specs.Prelude.{◌≢◌, ◌↔◌, option_map, if◌then◌else◌, ◌==◌, nat_lt, Option, Some, None, Result, Ok, Err, slice_get, filter_map, is_none}
 use Rattle.std.specs.List.{AllZip, list_any}
-use Rattle.std.specs.Option.{option_or}
 use Rattle.std.proofs.lemmas.List.{nil_from_length}
 use Rattle.std.proofs.lemmas.Bool.{eqb-true, eqb-false, ne_eqb, both_ways, cond_both, cond-true, cond-false, ltb-true, ltb-false, lt-ltb, le-ltb, not-true, true_from_ne_false, false_from_ne_true}
-use Rattle.std.proofs.lemmas.Option.{slice_get_within}
-use borrow.Author.Count.{below_more}
+use Rattle.std.proofs.lemmas.Option.{none-some, same_Some}
 use Rattle.bench_net.specs.declared.Limit.TheVariants.{Bytes, Signals, Sinks}
 use Rattle.bench_net.specs.declared.BenchFault.{BenchFault}
 use Rattle.bench_net.specs.declared.BenchFault.TheVariants.{TooLarge, Syntax, Redefined, Undefined, Cycle, Empty, Memory}
@@ -22,42 +20,34 @@ use Rattle.bench_net.proofs.Reader.{sound_states, complete_states, unstated}
 use Rattle.lists.proofs.Members.{Among, among, contained, some_passes, joined_from}
 use Rattle.lists.proofs.Distinct.{distinct_from_pairs}
 use Rattle.bench_net.proofs.Checked.{any_true, in_contained, among_in, pairs_distinct}
-use Rattle.bench_net.proofs.Faults.{Stated, before, names_of, stated_at, line_among, unread, no_unread, earlier, no_redefinition, no_undefined, once_each}
+use Rattle.bench_net.proofs.Faults.{Stated, names_of, stated_at, line_among, earlier, no_redefinition, no_undefined, once_each}
 use Rattle.bench_net.proofs.Settled.{stuck_names, stuck_set, stuck_left, none_stuck, numbering}
 
 -- ---- the program
 
--- the first line that passes a test of its number and of what stands there
+-- whether a test passes on what there is, if there is anything
 abbrev pub passes : {Y : Type 0} → (Y → Bool) → Option Y → Bool
 passes test None = false
 passes test (Some y) = test y
 
-abbrev pub first_below : (ℕ → Bool) → ℕ → Option ℕ
-first_below test zero = None
-first_below test (suc line) =
-    option_or (first_below test line) (if test line then Some line else None)
-
+-- the first line that passes a test of its place and of what stands there
 abbrev pub first : {Y : Type 0} → (ℕ → Y → Bool) → List Y → Option ℕ
-first test ys = first_below (λ line. passes (test line) (at_line ys line)) (suc (length ys))
-
--- the names that f gives for what a line states
-abbrev pub said : (Statement → List Name) → Stated → List Name
-said f None = []
-said f (Some s) = f s
+first test [] = None
+first test (y ∷ ys) = if test 0 y then Some 1 else option_map suc (first (λ i. test (suc i)) ys)
 
 -- the faults of lines
-abbrev pub is_unread : ℕ → List ℕ → Bool
-is_unread line bytes = is_none (stated_of bytes)
+abbrev pub is_unread : List ℕ → Bool
+is_unread bytes = is_none (stated_of bytes)
 
-abbrev pub redefines : List Stated → ℕ → Stated → Bool
-redefines stated line y = list_any (is_in (names_of (before stated line))) (said defined y)
+abbrev pub redefines : List Name → Statement → Bool
+redefines front s = list_any (is_in front) (defined s)
 
-abbrev pub reads_unknown : List Statement → ℕ → Stated → Bool
-reads_unknown c line y = list_any (λ n. not (is_in (names c) n)) (said read y)
+abbrev pub reads_unknown : List Statement → Statement → Bool
+reads_unknown c s = list_any (λ n. not (is_in (names c) n)) (read s)
 
-abbrev pub is_stuck : List Statement → ℕ → Stated → Bool
-is_stuck c line (Some (Gate n kind args)) = is_in (stuck_names c) n
-is_stuck c line _ = false
+abbrev pub is_stuck : List Statement → Statement → Bool
+is_stuck c (Gate n kind args) = is_in (stuck_names c) n
+is_stuck c _ = false
 
 abbrev pub line_or : (ℕ → BenchFault) → Option ℕ → Result (List Statement) BenchFault
     → Result (List Statement) BenchFault
@@ -76,15 +66,15 @@ answer_stated stated =
     let c = statements stated in
     if nat_lt max_signals (length (names c)) then Err (TooLarge Signals)
     else if nat_lt max_sinks (sink_count c) then Err (TooLarge Sinks)
-    else answer_by (first (redefines stated) stated) (first (reads_unknown c) stated)
-    (first (is_stuck c) stated) c
+    else answer_by (first (λ i. passes (redefines (names_of (take i stated)))) stated)
+    (first (λ i. passes (reads_unknown c)) stated) (first (λ i. passes (is_stuck c)) stated) c
 
 -- the reader's answer to a text
 abbrev pub answer_text : List ℕ → Result (List Statement) BenchFault
 answer_text text =
     let ls = lines text in
     if nat_lt max_bytes (length text) then Err (TooLarge Bytes)
-    else line_or Syntax (first is_unread ls) (answer_stated (filter_map stated_of ls))
+    else line_or Syntax (first (λ i. is_unread) ls) (answer_stated (filter_map stated_of ls))
 
 -- ---- the first line with a fault
 
@@ -102,92 +92,119 @@ first_one F (Some k) (Some l) a b =
     let not_more : l < k → ⊥ = λ h. a.1 l h b.0 in
     ap Some (omega arith)
 
+-- what holds of the place before all lines, and of each line, holds of each number
+from_zero : (P : ℕ → Type 0) → P 0 → ((i : ℕ) → P (suc i)) → (line : ℕ) → P line
+from_zero P none some zero = none
+from_zero P none some (suc i) = some i
+
 -- where the lines that have the fault are those that pass
-is_first : {Y : Type 0} (ys : List Y) (F : ℕ → Type 0) (test : ℕ → Y → Bool)
-    → ((line : ℕ) → F line → (y : Y) × (at_line ys line ≡ Some y) × (test line y ≡ true))
-    → ((line : ℕ) (y : Y) → at_line ys line ≡ Some y → test line y ≡ true → F line)
+is_first : {Y : Type 0} (ys : List Y) (F : ℕ → Type 0) (test : ℕ → Y → Bool) → ¬ F 0
+    → ((i : ℕ) → F (suc i) ↔ (passes (test i) (slice_get ys i) ≡ true))
     → IsFirst F (first test ys)
-is_first {Y} ys F test to from = all (first test ys) (go (suc (length ys)))
+is_first [] F test none same =
+    from_zero (λ line. ¬ F line) none (λ i f. let bad : false ≡ true = (same i).0 f in cc)
+is_first (y ∷ ys) F test none same =
+    cond_both (test 0 y) _ _ (IsFirst F)
+    (λ on. (
+      (same 0).1 on,
+      from_zero (λ k. k < 1 → ¬ F k) (λ lt. none) (λ i lt. absurd (omega (arith, lt))),
+    ))
+    (λ off. behind (first (λ i. test (suc i)) ys)
+    (is_first ys (λ line. F (suc line)) (λ i. test (suc i)) (λ f. both_ways _ off ((same 0).0 f))
+    (λ i. same (suc i))))
   where
-    tested : ℕ → Bool
-    tested line = passes (test line) (at_line ys line)
-
-    found : (line : ℕ) (o : Option Y) → at_line ys line ≡ o → passes (test line) o ≡ true → F line
-    found line None at on = cc
-    found line (Some y) at on = from line y at on
-
-    Below : ℕ → Option ℕ → Type 0
-    Below n None = (line : ℕ) → line < n → ¬ F line
-    Below n (Some line) = IsLowest F line
-
-    more : (n : ℕ) (o : Option ℕ) → Below n o
-        → Below (suc n) (option_or o (if tested n then Some n else None))
-    more n (Some line) is = is
-    more n None none =
-        cond_both (tested n) (Some n) None (Below (suc n))
-        (λ on. (found n (at_line ys n) refl on, none))
-        (λ off line lt. below_more (λ k. ¬ F k) n none
-        (λ f. let t = to n f in both_ways _ off (rw t.1 t.2)) line (omega (arith, lt)))
-
-    go : (n : ℕ) → Below n (first_below tested n)
-    go zero = λ line lt. absurd (omega (arith, lt))
-    go (suc n) = more n (first_below tested n) (go n)
-
-    within : (line : ℕ) (y : Y) → at_line ys line ≡ Some y → line < suc (length ys)
-    within zero y at = omega arith
-    within (suc i) y at = omega (arith, slice_get_within ys i y at)
-
-    all : (o : Option ℕ) → Below (suc (length ys)) o → IsFirst F o
-    all None none = λ line f. let t = to line f in none line (within line t.0 t.1) f
-    all (Some line) is = is
+    behind : (o : Option ℕ) → IsFirst (λ line. F (suc line)) o → IsFirst F (option_map suc o)
+    behind None free = from_zero (λ line. ¬ F line) none free
+    behind (Some line) (at, free) = (
+      at,
+      from_zero (λ k. k < suc line → ¬ F k) (λ lt. none)
+          (λ i lt. free i (omega (arith, lt))),
+    )
 
 -- ---- the four faults
 
-syntax_first : (text : List ℕ) → IsFirst (IsSyntaxFault text) (first is_unread (lines text))
-syntax_first text = is_first (lines text) (IsSyntaxFault text) is_unread
-    (λ line bad. (bad.0, bad.1, (unstated bad.0).0 bad.2))
-    (λ line bytes at on. (bytes, at, (unstated bytes).1 on))
+syntax_first : (text : List ℕ)
+    → IsFirst (IsSyntaxFault text) (first (λ i. is_unread) (lines text))
+syntax_first text =
+    is_first (lines text) (IsSyntaxFault text) (λ i. is_unread) (λ bad. none-some _ bad.1)
+    (λ i. (λ bad. rw bad.1 ((unstated bad.0).0 bad.2), from i (slice_get (lines text) i) refl))
+  where
+    from : (i : ℕ) (o : Option (List ℕ)) → slice_get (lines text) i ≡ o → passes is_unread o ≡ true
+        → IsSyntaxFault text (suc i)
+    from i None at on = cc
+    from i (Some l) at on = (l, at, (unstated l).1 on)
+
+-- lines that state something are all read
+read_all : (ls : List (List ℕ)) (stated : List Stated) → AllZip States ls stated
+    → (first (λ i. is_unread) ls ≡ None) × (filter_map stated_of ls ≡ stated)
+read_all [] [] all = (refl, refl)
+read_all (l ∷ ls) (s ∷ stated) all =
+    let (none, same) = read_all ls stated all.1 in
+    rw (complete_states l s all.0) (ap (option_map suc) none, ap (λ more. s ∷ more) same)
+read_all _ _ all = absurd all
+
+-- and behind such lines the first that isn't read is the lowest
+first_unread : (ls : List (List ℕ)) (stated : List Stated) (k : ℕ) (l : List ℕ)
+    → AllZip States (take k ls) stated → slice_get ls k ≡ Some l → stated_of l ≡ None
+    → first (λ i. is_unread) ls ≡ Some (suc k)
+first_unread [] stated k l all at none = cc
+first_unread (m ∷ ls) stated zero l all at none = rw (same_Some m l at, none) refl
+first_unread (m ∷ ls) [] (suc k) l all at none = absurd all
+first_unread (m ∷ ls) (s ∷ stated) (suc k) l all at none =
+    rw (complete_states m s all.0)
+    (ap (option_map suc) (first_unread ls stated k l all.1 at none))
+
+pub unread_lowest : (text : List ℕ) (k : ℕ) (l : List ℕ) (stated : List Stated)
+    → slice_get (lines text) k ≡ Some l → stated_of l ≡ None
+    → AllZip States (take k (lines text)) stated → IsLowest (IsSyntaxFault text) (suc k)
+unread_lowest text k l stated at none all = subst (IsFirst (IsSyntaxFault text))
+    (first_unread (lines text) stated k l all at none) (syntax_first text)
+
+-- the statement of a line that passes
+passed : (test : Statement → Bool) (o : Option Stated) → passes (passes test) o ≡ true
+    → (s : Statement) × (o ≡ Some (Some s)) × (test s ≡ true)
+passed test (Some (Some s)) on = (s, refl, on)
+passed test _ on = cc
 
 module _ (stated : List Stated) where
-  redefined_first : IsFirst (IsRedefinition stated) (first (redefines stated) stated)
-  redefined_first = is_first stated (IsRedefinition stated) (redefines stated)
-      (λ line (n, i, here, lt, says). let e = (earlier defined stated line n).0 (i, lt, says) in
-      (Some here.0, here.1, any_true _ (defined here.0) n (among _ _ here.2) (among_in _ _ e)))
-      from
-    where
-      from : (line : ℕ) (y : Stated) → at_line stated line ≡ Some y → redefines stated line y ≡ true
-          → IsRedefinition stated line
-      from line None at on = cc
-      from line (Some s) at on =
-          let n = some_passes (is_in (names_of (before stated line))) (defined s) on in
-          let e = (earlier defined stated line n.0).1 (among _ _ (in_contained _ _ n.2)) in
-          (n.0, e.0, (s, at, n.1), e.1, e.2)
+  redefined_first : IsFirst (IsRedefinition stated)
+      (first (λ i. passes (redefines (names_of (take i stated)))) stated)
+  redefined_first = is_first stated (IsRedefinition stated) _ (λ bad. none-some _ bad.2.1)
+      (λ i. (
+        λ (n, k, (s, at, here), lt, says).
+            let e = (earlier defined stated i n).0 (k, lt, says) in
+            rw at (any_true _ (defined s) n here (among_in _ _ e)),
+        λ on. let (s, at, clash) = passed _ (slice_get stated i) on in
+            let (n, here, front) = some_passes _ (defined s) clash in
+            let (k, lt, says) = (earlier defined stated i n).1 (among _ _ (in_contained _ _ front)) in
+            (n, k, (s, at, here), lt, says),
+      ))
 
-  undefined_first : IsFirst (IsUndefined stated) (first (reads_unknown (statements stated)) stated)
-  undefined_first = is_first stated (IsUndefined stated) (reads_unknown (statements stated))
-      (λ line (n, here, new). let e = false_from_ne_true _ (λ on. new (in_contained _ n on)) in
-      (Some here.0, here.1, any_true _ (read here.0) n (among _ _ here.2) (ap not e)))
-      from
-    where
-      from : (line : ℕ) (y : Stated) → at_line stated line ≡ Some y
-          → reads_unknown (statements stated) line y ≡ true → IsUndefined stated line
-      from line None at on = cc
-      from line (Some s) at on =
-          let n = some_passes (λ n. not (is_in (names_of stated) n)) (read s) on in
-          (n.0, (s, at, n.1), λ has. both_ways _ (not-true _ n.2) (among_in _ _ (among _ _ has)))
+  undefined_first : IsFirst (IsUndefined stated)
+      (first (λ i. passes (reads_unknown (statements stated))) stated)
+  undefined_first = is_first stated (IsUndefined stated) _ (λ bad. none-some _ bad.1.1)
+      (λ i. (
+        λ (n, (s, at, here), new).
+            let off = false_from_ne_true _ (λ on. new (in_contained _ n on)) in
+            rw at (any_true _ (read s) n here (ap not off)),
+        λ on. let (s, at, unknown) = passed _ (slice_get stated i) on in
+            let (n, here, off) = some_passes _ (read s) unknown in
+            (n, (s, at, here), λ has. both_ways _ (not-true _ off) (among_in _ _ (among _ _ has))),
+      ))
 
-  cyclic_first : IsFirst (IsCyclic stated) (first (is_stuck (statements stated)) stated)
-  cyclic_first = is_first stated (IsCyclic stated) (is_stuck c)
-      (λ line bad. (Some (Gate bad.0 bad.1 bad.2), bad.3, stuck_left c bad.0 bad.4)) from
+  cyclic_first : IsFirst (IsCyclic stated)
+      (first (λ i. passes (is_stuck (statements stated))) stated)
+  cyclic_first = is_first stated (IsCyclic stated) _ (λ bad. none-some _ bad.3)
+      (λ i. (
+        λ bad. rw bad.3 (stuck_left (statements stated) bad.0 bad.4),
+        λ on. let (s, at, stuck) = passed _ (slice_get stated i) on in from i s at stuck,
+      ))
     where
-      c : List Statement
-      c = statements stated
-
-      from : (line : ℕ) (y : Stated) → at_line stated line ≡ Some y → is_stuck c line y ≡ true
-          → IsCyclic stated line
-      from line (Some (Gate n kind args)) at on =
-          (n, kind, args, at, (is_in (stuck_names c), stuck_set c, on))
-      from line _ at on = cc
+      from : (i : ℕ) (s : Statement) → slice_get stated i ≡ Some (Some s)
+          → is_stuck (statements stated) s ≡ true → IsCyclic stated (suc i)
+      from i (Gate n kind args) at on =
+          (n, kind, args, at, (is_in (stuck_names (statements stated)), stuck_set _, on))
+      from i _ at on = cc
 
   -- a text without a fault is well-formed
   well : statements stated ≢ [] → NoLine (IsRedefinition stated) → NoLine (IsUndefined stated)
@@ -236,14 +253,6 @@ all_read (l ∷ ls) some = go (stated_of l) refl (all_read ls (λ i. some (suc i
     go None e more = absurd (some 0 l refl e)
     go (Some s) e more = rw e (sound_states l s e, more)
 
-read_all : (ls : List (List ℕ)) (stated : List Stated) → AllZip States ls stated
-    → filter_map stated_of ls ≡ stated
-read_all [] [] all = refl
-read_all [] (s ∷ stated) all = absurd all
-read_all (l ∷ ls) [] all = absurd all
-read_all (l ∷ ls) (s ∷ stated) all =
-    rw (complete_states l s all.0) (ap (λ more. s ∷ more) (read_all ls stated all.1))
-
 -- the plain reader's answer is that of the relations
 answered : (text : List ℕ) → IsAnswer text (answer_text text)
 answered text =
@@ -257,7 +266,7 @@ answered text =
         → IsAnswer text (line_or Syntax o (answer_stated stated))
     go bytes (Some l) bad = (bytes, bad)
     go bytes None none =
-        let each = all_read (lines text) (λ i l at e. none (suc i) (unread text i l at e)) in
+        let each = all_read (lines text) (λ i l at e. none (suc i) (l, at, (unstated l).1 (rw e refl))) in
         cond_both _ _ _ (IsAnswer text) (λ e. (bytes, stated, each, ltb-true _ _ e))
         (λ f. cond_both _ _ _ (IsAnswer text)
         (λ e. (bytes, stated, each, ltb-false _ _ f, ltb-true _ _ e))
@@ -286,19 +295,11 @@ some_answer text = go (answer_text text) (answered text)
 
 -- ---- and the relations' answer is that of the plain reader, so there is one
 
-read_answer : (text : List ℕ) (o : Option ℕ) → length text ≤ max_bytes
-    → IsFirst (IsSyntaxFault text) o
-    → answer_text text ≡ line_or Syntax o (answer_stated (filter_map stated_of (lines text)))
-read_answer text o bytes is =
-    cond-false _ _ _ (le-ltb _ _ bytes)
-    ∙ ap (λ p. line_or Syntax p (answer_stated (filter_map stated_of (lines text))))
-    (first_one (IsSyntaxFault text) _ o (syntax_first text) is)
-
 stated_answer : (text : List ℕ) (stated : List Stated) → length text ≤ max_bytes
     → LinesState text stated → answer_text text ≡ answer_stated stated
 stated_answer text stated bytes each =
-    read_answer text None bytes (λ line. no_unread text stated (lines text) line each refl)
-    ∙ ap answer_stated (read_all (lines text) stated each)
+    let (none, same) = read_all (lines text) stated each in
+    cond-false _ _ _ (le-ltb _ _ bytes) ∙ rw (none, same) refl
 
 answer_is : (text : List ℕ) (stated : List Stated) → IsWithin text stated → (r u y : Option ℕ)
     → IsFirst (IsRedefinition stated) r → IsFirst (IsUndefined stated) u
@@ -316,7 +317,9 @@ answer_is text stated within r u y once known free =
 exact : (text : List ℕ) (r : Result (List Statement) BenchFault) → IsAnswer text r
     → answer_text text ≡ r
 exact text (Err (TooLarge Bytes)) past = cond-true _ _ _ (lt-ltb _ _ past)
-exact text (Err (Syntax l)) (bytes, is) = read_answer text (Some l) bytes is
+exact text (Err (Syntax l)) (bytes, is) =
+    cond-false _ _ _ (le-ltb _ _ bytes)
+    ∙ rw (first_one (IsSyntaxFault text) _ (Some l) (syntax_first text) is) refl
 exact text (Err (TooLarge Signals)) (bytes, stated, each, past) =
     stated_answer text stated bytes each ∙ rw (lt-ltb _ (length (names_of stated)) past) refl
 exact text (Err (TooLarge Sinks)) (bytes, stated, each, few, past) =

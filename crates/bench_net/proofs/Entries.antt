@@ -14,7 +14,7 @@ use Rattle.bench_net.specs.Refusal.{IsLowest, IsSyntaxFault}
 use Rattle.bench_net.specs.reader.Parsed.{stated_of}
 use Rattle.bench_net.specs.reader.Entries.{Entry, numbered_from, AreStated}
 use Rattle.bench_net.proofs.Reader.{sound_states}
-use Rattle.bench_net.proofs.Faults.{unread_lowest}
+use Rattle.bench_net.proofs.Answered.{unread_lowest}
 
 -- what an entry stands for, its line states, behind the same statements
 pub entry_at : (line : ℕ) (stated : List (Option Statement)) (i n : ℕ) (s : Statement)
@@ -58,11 +58,7 @@ module _ (parts : List (Bor (List ℕ))) (x : Bor (List ℕ)) (l : List ℕ)
   given_more entries o h e = record {
     stated = h.stated ++ o ∷ [];
     each =
-        rw (
-          map_push (λ y. y.now) parts x,
-          map_push strip_carriage_return (map (λ y. y.now) parts) x.now,
-          ← line_is,
-        )
+        rw (map_push, map_push, ← line_is)
         (AllZip-push States (given parts) h.stated l o h.each (sound_states l o e));
     same =
         let long = simp length-map at (AllZip-long States (given parts) h.stated h.each) in
@@ -77,14 +73,6 @@ module _ (parts : List (Bor (List ℕ))) (x : Bor (List ℕ)) (l : List ℕ)
       → AreStated (given parts) entries → stated_of l ≡ None
       → IsLowest (IsSyntaxFault text) (suc (length parts))
   refused_line text entries so_far below turn h none =
-      unread_lowest text (length parts) l h.stated
-      (slice_get-map strip_carriage_return split (length parts)
-      ∙ ap (option_map strip_carriage_return)
-      (slice_get_read split (length split) (length parts) x.now refl below turn)
-      ∙ ap Some (sym line_is)) none
-      (subst (λ ls. AllZip States ls h.stated)
-      (ap (map strip_carriage_return) so_far
-      ∙ sym (take-map strip_carriage_return (length parts) split)) h.each)
-    where
-      split : List (List ℕ)
-      split = slice_split (λ b. b == 10) text
+      let at = slice_get_read (slice_split (λ b. b == 10) text) _ _ x.now refl below turn in
+      unread_lowest text (length parts) l h.stated (rw (slice_get-map, at, line_is) refl) none
+      (rw (take-map, ← so_far) h.each)

@@ -1,27 +1,24 @@
 -- Lines of a text: which words make their names, and which places and which names make them faulty.
-use Rattle.std.proofs.Common.{◌≡◌, ◌<◌, ◌≤◌, ℕ, zero, suc, sym, refl, ◌∙◌, ap, subst, true, not, ◌&&◌, leb, List, [], ◌∷◌, ◌++◌, take, drop, arith, inl, inr, length-take}
-use Rattle.std.specs.Prelude.{Contains, IsSomeAnd, ◌↔◌, ◌==◌, Option, Some, None, slice_get, slice_index_or, flat_map}
-use Rattle.std.specs.List.{AllZip, list_all}
+use Rattle.std.proofs.Common.{◌≡◌, ◌<◌, ℕ, zero, suc, sym, refl, ◌∙◌, ap, subst, true, not, List, [], ◌∷◌, ◌++◌, take, drop, arith, inl, inr, length-take}
+use Rattle.std.specs.Prelude.{Contains, IsSomeAnd, ◌↔◌, Option, Some, None, slice_get, slice_index_or, flat_map}
+use Rattle.std.specs.List.{list_all}
 use Rattle.std.specs.Str.{IsUtf8}
-use Rattle.std.specs.Int.{is_in_range}
-use Rattle.std.proofs.lemmas.Bool.{leb-true, and_parts}
+use Rattle.std.proofs.lemmas.Bool.Decides.{nat_tests}
 use Rattle.std.proofs.lemmas.Option.{slice_get_within, MatchOption-at_some}
-use Rattle.std.proofs.lemmas.Slice.Zip.{AllZip-left}
+use Rattle.std.proofs.lemmas.Slice.Zip.{AllZip-right}
 use Rattle.std.proofs.lemmas.Str.{IsUtf8-from_ascii}
 use Rattle.std.proofs.lemmas.Str.Ascii.{IsAscii-from_all}
 use Rattle.std.proofs.lemmas.List.Concat.{flat_map-append}
 use Rattle.std.proofs.lemmas.List.Elements.{filter_map-append, Contains-get_or}
-use Rattle.bench_net.specs.Text.{is_word_byte, is_mark, lines}
+use Rattle.bench_net.specs.Text.{is_word_byte, lines}
 use Rattle.bench_net.specs.Statement.{Name, Statement, Gate, defined, read}
-use Rattle.bench_net.specs.Reading.{States, LinesState, statements}
+use Rattle.bench_net.specs.Reading.{HasArity, States, LinesState, statements}
 use Rattle.bench_net.specs.Scan.{names}
 use Rattle.bench_net.specs.Circuit.{HaveArities, IsStuck}
-use Rattle.bench_net.specs.Refusal.{at_line, IsLowest, NoLine, IsSyntaxFault, IsRedefinition, IsUndefined, IsCyclic}
-use Rattle.bench_net.specs.reader.Parsed.{stated_of}
+use Rattle.bench_net.specs.Refusal.{at_line, IsLowest, NoLine, IsRedefinition, IsUndefined, IsCyclic}
 use Rattle.lists.proofs.Members.{Among, among, contained, among_left, among_right, among_joined, joined_from, each_passes}
 use Rattle.bench_net.specs.declared.Kind.{Kind}
 use Rattle.lists.proofs.Distinct.{Distinct, distinct_append}
-use Rattle.bench_net.proofs.Reader.{unstated}
 use Rattle.bench_net.proofs.Checked.{defined_few}
 
 abbrev pub Stated : Type 0
@@ -36,11 +33,9 @@ names_of stated = names (statements stated)
 -- the lines before a place
 at_front : {X : Type 0} (xs : List X) (j line : ℕ) → line < suc j
     → at_line (take j xs) line ≡ at_line xs line
-at_front xs j zero lt = refl
 at_front xs zero (suc k) lt = absurd (omega (arith, lt))
-at_front [] (suc j) (suc k) lt = refl
-at_front (x ∷ xs) (suc j) (suc zero) lt = refl
 at_front (x ∷ xs) (suc j) (suc (suc k)) lt = at_front xs j (suc k) (omega (arith, lt))
+at_front _ _ _ lt = refl
 
 -- the lines around a place
 pub around : {X : Type 0} (xs : List X) (i : ℕ) (x : X) → slice_get xs i ≡ Some x
@@ -52,12 +47,11 @@ around (y ∷ xs) (suc i) x e = ap (λ ys. y ∷ ys) (around xs i x e)
 -- what a line states is among the statements, and the other way round
 pub line_among : (stated : List Stated) (line : ℕ) (s : Statement)
     → at_line stated line ≡ Some (Some s) → Among s (statements stated)
-line_among stated zero s e = let bad : None ≡ Some (Some s) = e in cc
-line_among [] (suc i) s e = let bad : None ≡ Some (Some s) = e in cc
-line_among (None ∷ stated) (suc zero) s e = let bad : Some None ≡ Some (Some s) = e in cc
+line_among stated zero s e = cc
 line_among (None ∷ stated) (suc (suc i)) s e = line_among stated (suc i) s e
 line_among (Some t ∷ stated) (suc zero) s e = let same : t ≡ s = cc in inl same
 line_among (Some t ∷ stated) (suc (suc i)) s e = inr (line_among stated (suc i) s e)
+line_among _ _ s e = cc
 
 pub stated_at : (stated : List Stated) (s : Statement) → Among s (statements stated)
     → (i : ℕ) × (slice_get stated i ≡ Some (Some s))
@@ -68,74 +62,38 @@ stated_at (Some t ∷ stated) s (inr a) = let f = stated_at stated s a in (suc f
 
 -- ---- what is known of words and of gates: they are UTF-8, and have the arity of their kind
 
--- the line that states a statement
-line_of : (ls : List (List ℕ)) (stated : List Stated) (s : Statement) → AllZip States ls stated
-    → Among s (statements stated) → (line : List ℕ) × States line (Some s)
-line_of ls [] s all a = absurd a
-line_of [] (t ∷ stated) s all a = absurd all
-line_of (l ∷ ls) (None ∷ stated) s all a = line_of ls stated s all.1 a
-line_of (l ∷ ls) (Some t ∷ stated) s all (inl e) = (l, subst (λ x. States l (Some x)) e all.0)
-line_of (l ∷ ls) (Some t ∷ stated) s all (inr a) = line_of ls stated s all.1 a
-
 -- a word is UTF-8
 pub word_utf8 : (w : List ℕ) → list_all is_word_byte w ≡ true → IsUtf8 w
 word_utf8 w e = IsUtf8-from_ascii w (IsAscii-from_all w (λ k d below.
     let b : ℕ = slice_index_or w k d in
     let on = each_passes is_word_byte w b e (Contains-get_or w k d below) in
-    let p = and_parts (is_in_range 33 126 b && not (is_mark b)) (not (b == 35)) on in
-    let q = and_parts (is_in_range 33 126 b) (not (is_mark b)) p.0 in
-    let high : b ≤ 126 = leb-true b 126 (and_parts (leb 33 b) (leb b 126) q.0).1 in
-    omega (arith, high)))
+    grind (arith, nat_tests)))
 
 -- the statements of a text have the arities of their kinds
 pub arities_of_text : (text : List ℕ) (stated : List Stated) → LinesState text stated
     → HaveArities (statements stated)
 arities_of_text text stated each n kind args at =
-    (line_of (lines text) stated (Gate n kind args) each (among _ _ at)).1.2.2
-
--- ---- a line that states nothing that a line may state
-
-pub no_unread : (text : List ℕ) (stated : List Stated) (front : List (List ℕ)) (line : ℕ)
-    → AllZip States front stated → at_line front line ≡ at_line (lines text) line
-    → ¬ IsSyntaxFault text line
-no_unread text stated front zero all same bad = let none : None ≡ Some bad.0 = bad.1 in cc
-no_unread text stated front (suc k) all same bad =
-    go (slice_get stated k) (MatchOption-at_some (Unit {0}) _ bad.0 (same ∙ bad.1)
-    (AllZip-left States front stated all k))
+    let k = stated_at stated (Gate n kind args) (among _ _ at) in
+    go (slice_get (lines text) k.0)
+    (MatchOption-at_some (Unit {0}) _ (Some (Gate n kind args)) k.1
+    (AllZip-right States (lines text) stated each k.0))
   where
-    go : (o : Option Stated) → IsSomeAnd o (States bad.0) → ⊥
-    go None h = h
-    go (Some s) h = bad.2 s h
-
-pub unread : (text : List ℕ) (k : ℕ) (l : List ℕ) → slice_get (lines text) k ≡ Some l
-    → stated_of l ≡ None → IsSyntaxFault text (suc k)
-unread text k l at none = (l, at, (unstated l).1 (rw none refl))
-
-pub unread_lowest : (text : List ℕ) (k : ℕ) (l : List ℕ) (stated : List Stated)
-    → slice_get (lines text) k ≡ Some l → stated_of l ≡ None
-    → AllZip States (take k (lines text)) stated → IsLowest (IsSyntaxFault text) (suc k)
-unread_lowest text k l stated at none all = (
-  unread text k l at none,
-  λ line lt. no_unread text stated _ line all (at_front (lines text) k line lt),
-)
+    go : (o : Option (List ℕ)) → IsSomeAnd o (λ l. States l (Some (Gate n kind args)))
+        → HasArity kind args
+    go None h = absurd h
+    go (Some l) h = h.2.2
 
 -- ---- a line that defines a name that is defined before it
-
--- the lines before one
-abbrev pub before : {X : Type 0} → List X → ℕ → List X
-before xs zero = []
-before xs (suc i) = take i xs
 
 -- the line states a statement with this name among those that f gives
 abbrev pub Says : (Statement → List Name) → List Stated → ℕ → Name → Type 0
 Says f stated line n = (s : Statement) × (at_line stated line ≡ Some (Some s)) × Contains (f s) n
 
 -- what earlier lines say is what the lines in front say
-pub earlier : (f : Statement → List Name) (stated : List Stated) (line : ℕ) (n : Name)
-    → ((there : ℕ) × (there < line) × Says f stated there n)
-    ↔ Among n (flat_map f (statements (before stated line)))
-earlier f stated zero n = (λ e. absurd (omega (arith, e.1)), λ a. absurd a)
-earlier f stated (suc j) n = (
+pub earlier : (f : Statement → List Name) (stated : List Stated) (j : ℕ) (n : Name)
+    → ((there : ℕ) × (there < suc j) × Says f stated there n)
+    ↔ Among n (flat_map f (statements (take j stated)))
+earlier f stated j n = (
   λ e. let there = line_among (take j stated) e.0 e.2.0 (at_front stated j e.0 e.1 ∙ e.2.1) in
       among_joined f _ e.2.0 n there (among _ n e.2.2),
   λ a. let t = joined_from f (statements (take j stated)) n a in
@@ -158,7 +116,7 @@ no_redefinition stated once zero bad = let none : None ≡ Some (Some bad.2.0) =
 no_redefinition stated once (suc j) bad =
     let n : Name = bad.0 in
     distinct_apart (names_of (take j stated)) _ n
-    (subst Distinct parts once) ((earlier defined stated (suc j) n).0 (bad.1, bad.3, bad.4))
+    (subst Distinct parts once) ((earlier defined stated j n).0 (bad.1, bad.3, bad.4))
     (among_left (defined bad.2.0) _ n (among _ n bad.2.2))
   where
     parts : names_of stated ≡ names_of (take j stated)
@@ -194,7 +152,7 @@ pub redefined_lowest : (stated : List Stated) (j : ℕ) (s : Statement) (n : Nam
     → Among n (names_of (take j stated)) → Distinct (names_of (take j stated))
     → IsLowest (IsRedefinition stated) (suc j)
 redefined_lowest stated j s n at here front once = (
-  let e = (earlier defined stated (suc j) n).1 front in
+  let e = (earlier defined stated j n).1 front in
       (n, e.0, (s, at, contained _ n here), e.1, e.2),
   λ line lt (m, there, here, less, says).
       let says = in_take there m (omega (arith, lt, less)) says in
@@ -213,7 +171,7 @@ pub undefined_lowest : (stated : List Stated) (j : ℕ) (s : Statement) (n : Nam
     → Contains (names_of stated) m) → IsLowest (IsUndefined stated) (suc j)
 undefined_lowest stated j s n at here not known = (
   (n, (s, at, contained _ n here), not),
-  λ line lt bad. bad.2 (known bad.0 ((earlier read stated (suc j) bad.0).0 (line, lt, bad.1))),
+  λ line lt bad. bad.2 (known bad.0 ((earlier read stated j bad.0).0 (line, lt, bad.1))),
 )
 
 pub no_undefined : (stated : List Stated)
@@ -230,10 +188,9 @@ pub cyclic_lowest : (stated : List Stated) (j : ℕ) (n : Name) (kind : Kind) (a
     → ((m : Name) (other : Kind) (more : List Name)
     → Among (Gate m other more) (statements (take j stated)) → ¬ IsStuck (statements stated) m)
     → IsLowest (IsCyclic stated) (suc j)
-cyclic_lowest stated j n kind args at stuck free = ((n, kind, args, at, stuck), lower)
-  where
-    lower : (line : ℕ) → line < suc j → ¬ IsCyclic stated line
-    lower line lt bad =
-        let there = line_among (take j stated) line (Gate bad.0 bad.1 bad.2)
-        (at_front stated j line lt ∙ bad.3) in
-        free bad.0 bad.1 bad.2 there bad.4
+cyclic_lowest stated j n kind args at stuck free = (
+  (n, kind, args, at, stuck),
+  λ line lt (m, other, more, here, is).
+      let there = at_front stated j line lt ∙ here in
+      free m other more (line_among (take j stated) line (Gate m other more) there) is,
+)

@@ -69,10 +69,7 @@ stuck_names c = left_over c (length (names c)) (names c)
 fewer : {X : Type 0} (p : X → Bool) (xs : List X) → list_all p xs ≡ false
     → length (filter p xs) < length xs
 fewer p [] e = let bad : true ≡ false = e in cc
-fewer p (x ∷ xs) e = elim (cases_Bool (p x)) [
-  | inl on ↦ rw on (omega (arith, fewer p xs (rw on at e)))
-  | inr off ↦ rw off (omega (arith, length-filter p xs, count_by-le-length p xs))
-]
+fewer p (x ∷ xs) e = grind (arith, fewer p xs, length-filter p xs, count_by-le-length p xs)
 
 -- after as many rounds as there are names, each that is left is fed by one that is
 left_fed : (c : List Statement) (k : ℕ) (ns : List Name) → length ns ≤ k
@@ -93,9 +90,8 @@ gate_named c n a h =
 argument_feeds : (c : List Statement) (ns : List Name) (n a : Name) → HasArgument c n a
     → Among a ns → is_fed c ns n ≡ true
 argument_feeds c ns n a h inside =
-    any_true (gate_fed ns n) c (Gate n h.0 h.1) (among c (Gate n h.0 h.1) h.2)
-    (and_from _ _ (bytes_refl n)
-    (any_true (is_in ns) h.1 a (among h.1 a h.3) (among_in ns a inside)))
+    any_true (gate_fed ns n) c (Gate n h.0 h.1) h.2
+    (and_from _ _ (bytes_refl n) (any_true (is_in ns) h.1 a h.3 (among_in ns a inside)))
 
 -- a stuck set stays
 stays : (c : List Statement) (members : Name → Bool) → IsStuckSet c members
@@ -120,16 +116,16 @@ rank c zero ns n = 0
 rank c (suc k) ns n = cond (is_in ns n) (suc (rank c k (filter (is_fed c ns) ns) n)) 0
 
 rises : (c : List Statement) (n a : Name) → HasArgument c n a → (k : ℕ) (ns : List Name)
-    → left_over c k ns ≡ [] → Among n ns → rank c k ns a < rank c k ns n
-rises c n a h zero ns none inside = absurd (rw none at inside)
+    → ((m : Name) → ¬ Among m (left_over c k ns)) → Among n ns → rank c k ns a < rank c k ns n
+rises c n a h zero ns none inside = absurd (none n inside)
 rises c n a h (suc k) ns none inside =
     rw (among_in ns n inside) (cond_both (is_in ns a) _ _
     (λ r. r < suc (rank c k (filter (is_fed c ns) ns) n))
     (λ on. elim (cases_Bool (list_all (is_fed c ns) ns)) [
-      | inl all ↦ absurd (rw (rw all at none) at inside)
+      | inl all ↦ absurd (none n (rw all inside))
       | inr off ↦ omega (
         arith,
-        rises c n a h k (filter (is_fed c ns) ns) (rw off at none)
+        rises c n a h k (filter (is_fed c ns) ns) (λ m. rw off at (none m))
             (among_filter (is_fed c ns) ns n inside
             (argument_feeds c ns n a h (among ns a (in_contained ns a on)))),
       )
@@ -140,15 +136,10 @@ pub numbering : (c : List Statement)
     → (number : Name → ℕ) × IsNumbering c number
 numbering c free = (
   rank c (length (names c)) (names c),
-  λ n a h. rises c n a h (length (names c)) (names c) (none (stuck_names c) refl)
+  λ n a h. rises c n a h (length (names c)) (names c)
+      (λ m left. free (is_in (stuck_names c)) (stuck_set c) m (among_in _ m left))
       (gate_named c n a h),
 )
-  where
-    none : (ns : List Name) → stuck_names c ≡ ns → stuck_names c ≡ []
-    none [] e = e
-    none (n ∷ ns) e =
-        let inside : Among n (stuck_names c) = subst (Among n) (sym e) (inl refl) in
-        absurd (free (is_in (stuck_names c)) (stuck_set c) n (among_in (stuck_names c) n inside))
 
 -- ---- a circuit has a source
 

@@ -47,10 +47,7 @@ pub struct Lines {
 fn without_return<'a>(line: &'a [u8]) -> &'a [u8]
     ensures { result.now ≡ strip_carriage_return line.now }
 {
-    match line.split_last() {
-        Some((last, start)) if *last == b'\r' => start,
-        _ => line,
-    }
+    line.strip_suffix(b"\r").unwrap_or(line)
 }
 
 /// The statements of a text, each with the number of its line.
@@ -63,11 +60,9 @@ fn read_statements<'a>(alloc: Global, text: &'a [u8]) -> Result<Vec<StatedLine<'
     let mut number = 0;
     for line in text.split(|byte| *byte == b'\n') {
         number += 1;
-        match read_line(alloc, without_return(line), BenchFault::Syntax(number))? {
-            None => {}
-            Some(statement) => {
-                stated.push(StatedLine { number, statement })?;
-            }
+        let refusal = BenchFault::Syntax(number);
+        if let Some(statement) = read_line(alloc, without_return(line), refusal)? {
+            stated.push(StatedLine { number, statement })?;
         }
     }
     Ok(stated)

@@ -8,21 +8,15 @@ ghost use Rattle.bench_net.specs.reader.Parsed.{IsFront};
 
 use std::str;
 
-/// A token of a line: a mark, or a word, which borrows the line.
+/// What stands at the front of a line, behind its blanks: a mark or a word, which borrows the line,
+/// or none of them.
 #[derive(Clone, Copy)]
-pub enum Token<'a> {
+pub enum Front<'a> {
     Open,
     Close,
     Comma,
     Equals,
     Word(&'a str),
-}
-
-/// What stands at the front of a line, behind its blanks.
-#[derive(Clone, Copy)]
-pub enum Front<'a> {
-    /// A token, and the bytes behind it.
-    Token(Token<'a>, &'a [u8]),
     /// No more token: the line ends here, or a comment begins.
     End,
     /// A byte that may stand in a comment only.
@@ -59,27 +53,24 @@ fn word_len(bytes: &[u8]) -> usize
     bytes.iter().take_while(|byte| is_word_byte(**byte)).count()
 }
 
-/// The token that bytes without a blank in front begin with.
-fn token_at<'a>(bytes: &'a [u8]) -> Front<'a>
+/// What bytes without a blank in front begin with, and the bytes behind it.
+fn token_at<'a>(bytes: &'a [u8]) -> (Front<'a>, &'a [u8])
     requires { prefix_len is_blank bytes.now ≡ 0 }
     ensures { IsFront bytes.now result }
 {
-    let Some((first, rest)) = bytes.split_first() else {
-        return Front::End;
-    };
-    match *first {
-        b'#' => Front::End,
-        b'(' => Front::Token(Token::Open, rest),
-        b')' => Front::Token(Token::Close, rest),
-        b',' => Front::Token(Token::Comma, rest),
-        b'=' => Front::Token(Token::Equals, rest),
+    match bytes {
+        [] | [b'#', ..] => (Front::End, bytes),
+        [b'(', rest @ ..] => (Front::Open, rest),
+        [b')', rest @ ..] => (Front::Close, rest),
+        [b',', rest @ ..] => (Front::Comma, rest),
+        [b'=', rest @ ..] => (Front::Equals, rest),
         _ => {
             let len = word_len(bytes);
             if len == 0 {
-                return Front::Bad;
+                return (Front::Bad, bytes);
             }
             let (word, rest) = bytes.split_at(len);
-            Front::Token(Token::Word(word_text(word)), rest)
+            (Front::Word(word_text(word)), rest)
         }
     }
 }
@@ -95,8 +86,8 @@ fn word_text<'a>(word: &'a [u8]) -> &'a str
     }
 }
 
-/// What stands at the front of a line.
-pub fn next_token<'a>(line: &'a [u8]) -> Front<'a>
+/// What stands at the front of a line, and the bytes behind it.
+pub fn next_token<'a>(line: &'a [u8]) -> (Front<'a>, &'a [u8])
     ensures { IsFront line.now result }
 {
     token_at(&line[blank_len(line)..])

@@ -6,7 +6,7 @@ ghost use Rattle.bench_net.specs.Text.{Word, Equals};
 ghost use Rattle.bench_net.specs.Statement.{Name};
 ghost use Rattle.bench_net.specs.reader.Parsed.{tokens_of, kind_of, has_arity, port, driven_by, read_tokens, stated_of, names_of, stands_for, args_in, IsReadAs};
 
-use crate::scan::{Front, Token, next_token};
+use crate::scan::{Front, next_token};
 use crate::{BenchFault, Kind};
 use smallvec::SmallVec;
 use std::alloc::Global;
@@ -76,15 +76,15 @@ fn read_arguments<'a>(
     let mut arguments = SmallVec::new(alloc);
     let mut rest = bytes;
     loop {
-        let Front::Token(Token::Word(name), behind) = next_token(rest) else {
+        let (Front::Word(name), behind) = next_token(rest) else {
             return Err(refusal);
         };
         match next_token(behind) {
-            Front::Token(Token::Comma, more) => {
+            (Front::Comma, more) => {
                 arguments.push(name)?;
                 rest = more;
             }
-            Front::Token(Token::Close, end) if matches!(next_token(end), Front::End) => {
+            (Front::Close, end) if matches!(next_token(end).0, Front::End) => {
                 arguments.push(name)?;
                 return Ok(arguments);
             }
@@ -97,16 +97,10 @@ fn read_arguments<'a>(
 fn port<'a>(word: &str, arguments: Arguments<'a>) -> Option<Stated<'a>>
     ensures { option_map stands_for result ≡ port word.now (names_of arguments.entry.items) }
 {
-    let [name] = arguments.as_slice() else {
-        return None;
-    };
-    let name = *name;
-    if is_keyword(word, "INPUT") {
-        Some(Stated::Input(name))
-    } else if is_keyword(word, "OUTPUT") {
-        Some(Stated::Output(name))
-    } else {
-        None
+    match arguments.as_slice() {
+        [name] if is_keyword(word, "INPUT") => Some(Stated::Input(*name)),
+        [name] if is_keyword(word, "OUTPUT") => Some(Stated::Output(*name)),
+        _ => None,
     }
 }
 
@@ -140,15 +134,15 @@ fn read_behind<'a>(
         (option_and_then (λ ts. read_tokens (Word word.now ∷ ts)) (tokens_of bytes.now)) result }
 {
     match next_token(bytes) {
-        Front::Token(Token::Open, rest) => {
+        (Front::Open, rest) => {
             let arguments = read_arguments(alloc, rest, refusal)?;
             port(word, arguments).ok_or(refusal)
         }
-        Front::Token(Token::Equals, rest) => {
-            let Front::Token(Token::Word(kind), rest) = next_token(rest) else {
+        (Front::Equals, rest) => {
+            let (Front::Word(kind), rest) = next_token(rest) else {
                 return Err(refusal);
             };
-            let Front::Token(Token::Open, rest) = next_token(rest) else {
+            let (Front::Open, rest) = next_token(rest) else {
                 return Err(refusal);
             };
             let arguments = read_arguments(alloc, rest, refusal)?;
@@ -168,11 +162,8 @@ pub fn read_line<'a>(
     ensures { IsReadAs refusal (option_map stands_for) (stated_of line.now) result }
 {
     match next_token(line) {
-        Front::End => Ok(None),
-        Front::Token(Token::Word(word), rest) => {
-            let statement = read_behind(alloc, word, rest, refusal)?;
-            Ok(Some(statement))
-        }
+        (Front::End, _) => Ok(None),
+        (Front::Word(word), rest) => Ok(Some(read_behind(alloc, word, rest, refusal)?)),
         _ => Err(refusal),
     }
 }

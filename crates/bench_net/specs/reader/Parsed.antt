@@ -1,6 +1,6 @@
 -- The tokens and the statement of a line, computed from its front, and what the functions that
 -- read lines answer.
-use Rattle.std.specs.Prelude.{◌≡◌, ◌⊎◌, ◌<◌, ℕ, Bool, false, ◌==◌, nat_le, List, [], ◌∷◌, length, map, Option, Some, None, if◌then◌else◌, option_map, option_and_then, codes, Result, Ok, Err}
+use Rattle.std.specs.Prelude.{◌≡◌, ◌⊎◌, ◌<◌, ℕ, Bool, true, false, ◌==◌, nat_le, List, [], ◌∷◌, ◌++◌, length, map, Option, Some, None, if◌then◌else◌, option_map, option_and_then, codes, Result, Ok, Err}
 use Rattle.std.specs.List.{find}
 use Rattle.std.specs.Str.{str_eq_ignore_ascii_case}
 use Rattle.std.specs.Borrow.{Bor}
@@ -8,8 +8,6 @@ use Rattle.bench_net.specs.declared.Kind.{Kind}
 use Rattle.bench_net.specs.declared.Kind.TheVariants.{And, Nand, Or, Nor, Xor, Xnor, Not, Buff}
 use Rattle.bench_net.specs.declared.BenchFault.{BenchFault}
 use Rattle.bench_net.specs.declared.BenchFault.TheVariants.{Memory}
-use Rattle.bench_net.specs.declared.scan.Token.{Token as Found}
-use Rattle.bench_net.specs.declared.scan.Token.TheVariants as found
 use Rattle.bench_net.specs.declared.scan.Front.{Front}
 use Rattle.bench_net.specs.declared.scan.Front.TheVariants as front
 use Rattle.bench_net.specs.declared.statement.Stated.{Stated}
@@ -21,29 +19,30 @@ use Rattle.bench_net.specs.Reading.{names_kind}
 abbrev pub mark_of : ℕ → Token
 mark_of b = if b == 40 then Open else if b == 41 then Close else if b == 44 then Comma else Equals
 
--- whether the bytes begin with a word byte
-abbrev pub starts_word : List ℕ → Bool
-starts_word [] = false
-starts_word (b ∷ bytes) = is_word_byte b
+-- the word that was read so far, if it has a byte, before the tokens behind it
+abbrev pub behind_word : List ℕ → Option (List Token) → Option (List Token)
+behind_word [] tokens = tokens
+behind_word (b ∷ w) tokens = option_map (λ ts. Word (b ∷ w) ∷ ts) tokens
 
--- a word byte before these tokens: at the front of the word that the bytes begin with, or a word of
--- its own
-abbrev pub onto_word : ℕ → List Token → List Token
-onto_word b (Word w ∷ tokens) = Word (b ∷ w) ∷ tokens
-onto_word b tokens = Word (b ∷ []) ∷ tokens
-
-abbrev pub with_byte : ℕ → Bool → List Token → List Token
-with_byte b joins tokens = if joins then onto_word b tokens else Word (b ∷ []) ∷ tokens
-
--- the tokens of a line, or None where it has a byte that isn't allowed
-abbrev pub tokens_of : List ℕ → Option (List Token)
-tokens_of [] = Some []
-tokens_of (b ∷ line) =
+-- the tokens from a byte that is no word byte on, by those behind it
+abbrev pub from_byte : ℕ → Option (List Token) → Option (List Token)
+from_byte b tokens =
     if b == 35 then Some []
-    else if is_blank b then tokens_of line
-    else if is_mark b then option_map (λ tokens. mark_of b ∷ tokens) (tokens_of line)
-    else if is_word_byte b then option_map (with_byte b (starts_word line)) (tokens_of line)
+    else if is_blank b then tokens
+    else if is_mark b then option_map (λ ts. mark_of b ∷ ts) tokens
     else None
+
+-- the tokens of a line behind the word that was read so far, or None where the line has a byte that
+-- isn't allowed
+abbrev pub tokens_behind : List ℕ → List ℕ → Option (List Token)
+tokens_behind w [] = behind_word w (Some [])
+tokens_behind w (b ∷ line) = elim (is_word_byte b) [
+  | true ↦ tokens_behind (w ++ b ∷ []) line
+  | false ↦ behind_word w (from_byte b (tokens_behind [] line))
+]
+
+abbrev pub tokens_of : List ℕ → Option (List Token)
+tokens_of line = tokens_behind [] line
 
 abbrev pub kinds : List Kind
 kinds = And ∷ Nand ∷ Or ∷ Nor ∷ Xor ∷ Xnor ∷ Not ∷ Buff ∷ []
@@ -97,24 +96,20 @@ stated_by (token ∷ tokens) = option_map Some (read_tokens (token ∷ tokens))
 abbrev pub stated_of : List ℕ → Option (Option Statement)
 stated_of line = option_and_then stated_by (tokens_of line)
 
--- the token that the scanner's token stands for
-abbrev pub token_of : Found → Token
-token_of found.Open = Open
-token_of found.Close = Close
-token_of found.Comma = Comma
-token_of found.Equals = Equals
-token_of (found.Word w) = Word w.now
-
 -- a token stands at the front of a line, and what stands behind it is shorter than the line
 pub record Leads (line : List ℕ) (token : Token) (rest : List ℕ) : Type 0 where
   pub tokens : tokens_of line ≡ option_map (λ ts. token ∷ ts) (tokens_of rest)
   pub shorter : length rest < length line
 
--- what stands at the front of a line
-abbrev pub IsFront : List ℕ → Front → Type 0
-IsFront line (front.Token token rest) = Leads line (token_of token) rest.now
-IsFront line front.End = tokens_of line ≡ Some []
-IsFront line front.Bad = tokens_of line ≡ None
+-- what stands at the front of a line, and the bytes behind it
+abbrev pub IsFront : List ℕ → Front × Bor (List ℕ) → Type 0
+IsFront line (front.Open, rest) = Leads line Open rest.now
+IsFront line (front.Close, rest) = Leads line Close rest.now
+IsFront line (front.Comma, rest) = Leads line Comma rest.now
+IsFront line (front.Equals, rest) = Leads line Equals rest.now
+IsFront line (front.Word w, rest) = Leads line (Word w.now) rest.now
+IsFront line (front.End, rest) = tokens_of line ≡ Some []
+IsFront line (front.Bad, rest) = tokens_of line ≡ None
 
 -- the names that references point to
 abbrev pub names_of : List (Bor Name) → List Name

@@ -13,21 +13,21 @@ use Rattle.bench_net.proofs.Assembled.{may_be}
 use Rattle.bench_net.specs.declared.BenchFault.TheVariants.{Syntax}
 use Rattle.bench_net.proofs.read.read_statements.Goals as goal
 
-pub loop-line-preserved-in-None-2 : goal.loop-line-preserved-in-None-2
-loop-line-preserved-in-None-2 c =
+pub loop-line-preserved : goal.loop-line-preserved
+loop-line-preserved c =
     let n = length_push c.loop-line.yielded c.in-Some.line in
-    let read = rw c.in-None-2.is at c.in_ok-read_line.ensures in
+    let read = rw c.in_default.is at c.in_ok-statement.ensures in
     let more = given_more c.loop-line.yielded c.in-Some.line c.without_return.result.now
     c.without_return.ensures _ None c.loop-line.invariant.1 read in
     (omega arith, rw append-nil at more)
 
-pub loop-line-preserved : goal.loop-line-preserved
-loop-line-preserved c =
+pub loop-line-preserved-in-Continue-branch-3 : goal.loop-line-preserved-in-Continue-branch-3
+loop-line-preserved-in-Continue-branch-3 c =
     let n = length_push c.loop-line.yielded c.in-Some.line in
-    let read = rw c.in-Some-2.is at c.in_ok-read_line.ensures in (
+    let read = rw c.in-Some-2.is at c.in_ok-statement.ensures in (
       omega arith,
       rw (
-        c.in_ok-push-in-Some-2.ensures.items,
+        c.in_ok-push.ensures.items,
         c.loop-line.invariant.0,
         map_push entry_of c.loop-line.stated.items _,
       )
@@ -36,8 +36,8 @@ loop-line-preserved c =
           c.loop-line.invariant.1 read),
     )
 
-pub returns-in_err-read_line-clause-refused : goal.returns-in_err-read_line-clause-refused
-returns-in_err-read_line-clause-refused c =
+pub returns-in_err-statement-clause-refused : goal.returns-in_err-statement-clause-refused
+returns-in_err-statement-clause-refused c =
     let road =
     YieldsList-from_slice_split _ (λ b. b == 10) c.args.text.now (cc) (cc) (cc)
     (λ x r q k. search (rules, tests)) in
@@ -47,7 +47,7 @@ returns-in_err-read_line-clause-refused c =
     let front = YieldsList-so_far road c.loop-line.yielded _ c.loop-line.yielded_by in
     let p = err_from_is_err_and c.from_residual.result c.from_residual.ensures.1 in
     rw (p.1, p.2) (may_be c.args.text.now (Syntax (c.loop-line.number + 1)) _ _
-    c.in_err-read_line.ensures
+    c.in_err-statement.ensures
     (λ none. (
       c.requires,
       rw (c.loop-line.invariant.0, add-one)

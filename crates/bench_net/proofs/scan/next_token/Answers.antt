@@ -1,15 +1,12 @@
-use Rattle.std.proofs.Common.{subst}
 use Rattle.std.proofs.lemmas.List.{take_rest}
 use Rattle.bench_net.specs.Text.{is_blank}
-use Rattle.bench_net.specs.reader.Parsed.{IsFront}
 use Rattle.bench_net.proofs.Reader.{behind_blanks, parted}
 use Rattle.bench_net.proofs.scan.next_token.Goals as goal
 
 pub token_at-requires : goal.token_at-requires
-token_at-requires c = rw (take_rest c.args.line.now c.blank_len.result, c.blank_len.ensures.counted) (parted is_blank c.args.line.now).1
+token_at-requires c = rw (take_rest, c.blank_len.ensures.counted) (parted is_blank c.args.line.now).1
 
 pub returns : goal.returns
 returns c =
-    let f = c.token_at.result in
-    behind_blanks c.args.line.now c.blank_len.result f c.blank_len.ensures.counted
-    (subst (λ l. IsFront l f) (take_rest c.args.line.now c.blank_len.result) c.token_at.ensures)
+    behind_blanks c.args.line.now c.blank_len.result c.token_at.result c.blank_len.ensures.counted
+    (rw take_rest at c.token_at.ensures)
