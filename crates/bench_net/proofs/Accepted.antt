@@ -1,10 +1,10 @@
 -- How many lines, sources and readers there are, and which signals they read.
 use Rattle.std.proofs.Common.{◌≡◌, ◌<◌, ◌≤◌, ◌+◌, ◌^◌, ℕ, ap, List, [], ◌∷◌, ◌++◌, map, length, filter, refl, arith, inl, inr, length-append, ◌≢◌, ◌==◌, zero, suc, sym, ◌∙◌, ap₂, subst, true, false, drop}
-use Rattle.std.specs.Prelude.{flat_map, IsPermutation, Some, slice_get, Contains, AllPairs, bytes_eq, Option, None, slice_index_or, option_map}
+use Rattle.std.specs.Prelude.{slice_index, flat_map, IsPermutation, Some, slice_get, Contains, AllPairs, bytes_eq, Option, None, slice_index_or}
 use Rattle.std.proofs.lemmas.List.Folds.{length-flat_map-take}
 use Rattle.std.proofs.lemmas.List.Sorted.{IsPermutation-refl, IsPermutation-trans, IsPermutation-middle, IsPermutation-append_right, length_permutation, All-permutation, IsPermutation-sym}
 use Rattle.std.specs.List.{enumerate_from, filter_map, position_or_len}
-use Rattle.std.proofs.lemmas.List.{length-map, map-append, append_assoc}
+use Rattle.std.proofs.lemmas.List.{length-map, map-append, append_assoc, get_or-map}
 use Rattle.bench_net.specs.declared.line.Line.{Line}
 use Rattle.bench_net.specs.declared.Sink.{Sink}
 use Rattle.bench_net.specs.declared.Sink.TheVariants.{Pin, Out}
@@ -18,7 +18,7 @@ use Rattle.std.proofs.lemmas.Bool.{eq-eqb, ne_eqb, cases_Bool}
 use Rattle.std.proofs.lemmas.Simd.{map-map}
 use Rattle.bench_net.specs.declared.ScanCell.{ScanCell}
 use Rattle.std.proofs.lemmas.List.Elements.{Contains-get_or, filter-append, All-contains}
-use Rattle.std.proofs.lemmas.Option.{slice_get-get_or, slice_get_within, slice_get-map}
+use Rattle.std.proofs.lemmas.Option.{get_or_from_slice_get, slice_get-get_or, slice_get_within}
 use Rattle.bench_net.specs.declared.sinks.Reader.{Reader}
 use Rattle.lists.proofs.Distinct.{Distinct, distinct_from_pairs}
 use Rattle.bench_net.proofs.Checked.{same_bytes, bytes_refl}
@@ -31,7 +31,7 @@ use Rattle.bench_net.specs.declared.levels.LevelFault.TheVariants.{Cycle}
 use Rattle.bench_net.specs.Circuit.{IsCircuit, sink_count}
 use Rattle.bench_net.specs.Marks.{pins_in, gate_pins, AreLevelsOf, IsLevelFault}
 use Rattle.bench_net.specs.Inside.{signals_in, AreTableLines, AreTables, IsInside, IsPlace}
-use Rattle.lists.proofs.Places.{at_place, from_mapped}
+use Rattle.lists.proofs.Places.{at_place}
 use Rattle.bench_net.proofs.Listed.{definition_count}
 use Rattle.bench_net.proofs.Numbering.{reads_numbers, reads_held, known}
 use Rattle.bench_net.specs.declared.line.Line.TheVariants as line
@@ -421,16 +421,9 @@ module _ (ns : List Name) (lines : List Line) (at : List ℕ) (are : AreStatemen
     cells_are = ap (map {B = ℕ × ℕ} (λ cell. (cell.q, cell.d))) tabled.cells_are
         ∙ cells_are ns (signal c) lines all;
     outputs_are = tabled.outputs_are ∙ outputs_are ns (signal c) lines all;
-    source_count = ap length (tabled.sources_are ∙ sources_are ns (signal c) lines all)
-        ∙ length-map (sources c) (signal c);
+    source_count = ap length tabled.sources_are ∙ source_count;
     place_count = tabled.places_are.count ∙ count ∙ sym name_count;
-    places_are = λ s place e. place_at s place e (omega (
-      arith,
-      slice_get_within tables.source_places.items s place e,
-      tabled.places_are.count,
-      count,
-      name_count,
-    ));
+    places_are = λ s lt. place_at s lt _ refl;
     few_lines = omega (arith, table_lines.few_lines);
     definitions_are = tabled.definitions_are;
     definition_count = ap length tabled.definitions_are ∙ count ∙ sym name_count;
@@ -453,19 +446,33 @@ module _ (ns : List Name) (lines : List Line) (at : List ℕ) (are : AreStatemen
       levels : List ℕ
       levels = tables.levels.levels.items
 
+      source_count : length (source_signals lines) ≡ length (sources c)
+      source_count =
+          ap length (sources_are ns (signal c) lines all) ∙ length-map (sources c) (signal c)
+
+      source_at : (i : ℕ) → i < length (sources c)
+          → slice_index (source_signals lines) i ≡ signal c (slice_index_or (sources c) i [])
+      source_at i lt = ap (λ xs. slice_index xs i) (sources_are ns (signal c) lines all)
+          ∙ get_or-map (signal c) (sources c) i [] 0 lt
+
       levelled : AreLevelsOf (pins c) (length (names c)) levels
       levelled = by_names levels tabled.levels_are
 
-      place_at : (s : ℕ) (place : Option ℕ) → slice_get tables.source_places.items s ≡ Some place → s < length (names c) → IsPlace c s place
-      place_at s (Some i) e lt =
-          let from = from_mapped (signal c) (sources c) i s (ap (λ xs. slice_get xs i) (sym (sources_are ns (signal c) lines all)) ∙ tabled.places_are.some s i e) in
-          from.1 ∙ sym (named_number c from.0 s from.2 lt)
-      place_at s None e lt = λ i same.
-          let n = slice_index_or (names c) s [] in
+      place_at : (s : ℕ) → s < length (names c) → (place : Option ℕ)
+          → slice_index_or tables.source_places.items s None ≡ place → IsPlace c s place
+      place_at s lt (Some i) e =
+          let at = tabled.places_are.some s i (omega (arith, lt, count, name_count)) e in
+          let within : i < length (sources c) = omega (arith, at.0, source_count) in
+          let number = sym (source_at i within) ∙ at.1 in
+          let named = named_number c _ s number lt in
+          (slice_get-get_or (sources c) i [] within ∙ sym named, tt)
+      place_at s lt None e = (tt, λ i same.
           let at = slice_get-get_or (names c) s [] lt in
-          tabled.places_are.none s i e (ap (λ xs. slice_get xs i) (sources_are ns (signal c) lines all)
-          ∙ slice_get-map (signal c) (sources c) i ∙ ap (option_map (signal c)) (same ∙ at)
-          ∙ ap Some (number_of s n at))
+          let within = slice_get_within (sources c) i _ (same ∙ at) in
+          let name = get_or_from_slice_get (sources c) i _ [] (same ∙ at) in
+          tabled.places_are.none s i (omega (arith, lt, count, name_count)) e
+          (omega (arith, within, source_count))
+          (source_at i within ∙ ap (signal c) name ∙ number_of s _ at))
 
   -- the first signal without a level is the first that is stuck
   pub refused : (s : ℕ)

@@ -1,13 +1,15 @@
 -- Tables that are lists of lines: where each signal is defined, and its place among the sources.
-use Rattle.std.proofs.Common.{◌≡◌, ◌≢◌, ◌<◌, ◌≤◌, ◌+◌, ℕ, zero, suc, refl, sym, ◌∙◌, ap, List, [], ◌∷◌, length, get_or, set, filter, arith, inl, inr, ◌⊎◌}
+use Rattle.std.proofs.Common.{◌≡◌, ◌≢◌, ◌<◌, ◌+◌, ℕ, zero, suc, refl, sym, ◌∙◌, ap, List, [], ◌∷◌, length, get_or, set, filter, arith, inl, inr, ◌⊎◌}
 use Rattle.std.specs.List.{enumerate_from, filter_map}
 use Rattle.std.specs.Prelude.{Option, Some, None, slice_get, slice_index}
-use Rattle.std.proofs.lemmas.Bool.{cases_eq, cases_lt}
+use Rattle.std.proofs.lemmas.Grind.{common_steps}
+use Rattle.std.proofs.lemmas.Bool.Decides.{nat_tests}
+use Rattle.std.proofs.lemmas.Bool.{cases_eq}
 use Rattle.std.proofs.lemmas.List.{length-set, get_or-set_same, get_or-set_other}
 use Rattle.std.proofs.lemmas.Option.{slice_get-get_or, slice_get_within, get_or_from_slice_get}
 use Rattle.bench_net.specs.declared.line.Line.{Line}
 use Rattle.bench_net.specs.declared.line.Line.TheVariants as line
-use Rattle.bench_net.specs.Tables.{defines_number, place_in, definition_places}
+use Rattle.bench_net.specs.Tables.{ArePlaces, defines_number, place_in, definition_places}
 
 -- ---- definitions
 
@@ -58,31 +60,11 @@ written xs g m s x e = go (cases_eq s g)
     go (inl same) = inl (same, sym is ∙ (ap (λ i. get_or (set xs g m) i x) same ∙ get_or-set_same xs g m x (omega (arith, within, same))))
     go (inr ne) = inr (ne, slice_get-get_or xs s x within ∙ ap Some (sym (get_or-set_other xs g s m x ne) ∙ is))
 
--- of each signal its place among the first sources
-pub record AreFirstPlaces (sources : List ℕ) (signals n : ℕ) (places : List (Option ℕ)) : Type 0 where
-  pub count : length places ≡ signals
-  pub some : (s i : ℕ) → slice_get places s ≡ Some (Some i) → (i < n) × (slice_get sources i ≡ Some s)
-  pub none : (s i : ℕ) → slice_get places s ≡ Some None → i < n → slice_get sources i ≢ Some s
-
-pub places_more : (sources : List ℕ) (signals n : ℕ) (places : List (Option ℕ)) → n < length sources → AreFirstPlaces sources signals n places → AreFirstPlaces sources signals (n + 1) (set places (get_or sources n 0) (Some n))
-places_more sources signals n places lt are = record {
-  count = length-set places (get_or sources n 0) (Some n) ∙ are.count;
-  some = λ s i e. some s i (written places (get_or sources n 0) (Some n) s (Some i) e);
-  none = λ s i e i_lt found. none s i i_lt found (cases_lt i n) (written places (get_or sources n 0) (Some n) s None e);
+pub places_more : (sources : List ℕ) (signals n : ℕ) (places : List (Option ℕ))
+    → ArePlaces sources signals n places
+    → ArePlaces sources signals (n + 1) (set places (get_or sources n 0) (Some n))
+places_more sources signals n places are = record {
+  count = grind (arith, common_steps, are.count);
+  some = λ s i lt e. grind (arith, common_steps, nat_tests, are.count, are.some s i lt);
+  none = λ s i lt e i_lt. grind (arith, common_steps, nat_tests, are.count, are.none s i lt);
 }
-  where
-    here : slice_get sources n ≡ Some (get_or sources n 0)
-    here = slice_get-get_or sources n 0 lt
-
-    some : (s i : ℕ) → ((s ≡ get_or sources n 0) × (Some i ≡ Some n)) ⊎ ((s ≢ get_or sources n 0) × (slice_get places s ≡ Some (Some i))) → (i < n + 1) × (slice_get sources i ≡ Some s)
-    some s i (inl new) = let both : Some i ≡ Some n = new.1 in let same : i ≡ n = cc both in (omega (arith, same), ap (slice_get sources) same ∙ (here ∙ ap Some (sym new.0)))
-    some s i (inr old) = let at = are.some s i old.1 in (omega (arith, at.0), at.1)
-
-    none : (s i : ℕ) → i < n + 1 → slice_get sources i ≡ Some s → (i < n) ⊎ (n ≤ i) → ((s ≡ get_or sources n 0) × (None ≡ Some n)) ⊎ ((s ≢ get_or sources n 0) × (slice_get places s ≡ Some None)) → ⊥
-    none s i i_lt found before (inl new) = let bad : None ≡ Some n = new.1 in cc bad
-    none s i i_lt found (inl before) (inr old) = are.none s i old.1 before found
-    none s i i_lt found (inr last) (inr old) =
-        let same : i ≡ n = omega (arith, i_lt, last) in
-        let both : Some s ≡ Some (get_or sources n 0) = sym found ∙ (ap (slice_get sources) same ∙ here) in
-        let is : s ≡ get_or sources n 0 = cc both in
-        old.0 is

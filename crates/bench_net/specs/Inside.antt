@@ -1,5 +1,5 @@
 -- What a circuit holds: a statement list with tables that answer as its calls do.
-use Rattle.std.specs.Prelude.{◌≡◌, ◌≢◌, ℕ, ◌+◌, ◌<◌, ◌^◌, List, length, map, filter, All, Contains, Option, Some, None, slice_get, slice_index}
+use Rattle.std.specs.Prelude.{◌≡◌, ◌≢◌, ℕ, ◌+◌, ◌<◌, ◌^◌, List, length, map, filter, All, Contains, Option, Some, None, IfSome, IfNone, slice_get, slice_index, slice_index_or}
 use Rattle.std.specs.List.{filter_map}
 use Rattle.bench_net.specs.declared.line.Line.{Line}
 use Rattle.bench_net.specs.declared.tables.Tables.{Tables}
@@ -34,7 +34,8 @@ pub record AreTables (lines : List Line) (tables : Tables) : Type 0 where
   pub outputs_are : tables.outputs.items ≡ filter_map output_number lines
   pub sources_are : tables.sources.items ≡ source_signals lines
   pub definitions_are : tables.definitions.items ≡ definition_places lines
-  pub places_are : ArePlaces (source_signals lines) (signals_in lines) tables.source_places.items
+  pub places_are : ArePlaces (source_signals lines) (signals_in lines)
+      (length (source_signals lines)) tables.source_places.items
   pub sinks_are : AreSinkRows (all_readers lines (filter_map output_number lines))
       (signals_in lines) tables.sinks.starts.items tables.sinks.sinks.items
   pub levels_are : AreLevelsOf (gate_pins lines) (signals_in lines) tables.levels.levels.items
@@ -44,8 +45,8 @@ pub record AreTables (lines : List Line) (tables : Tables) : Type 0 where
 
 -- the place of a signal in a test row, or none
 abbrev pub IsPlace : List Statement → ℕ → Option ℕ → Type 0
-IsPlace c s None = (i : ℕ) → slice_get (sources c) i ≢ name_of c s
-IsPlace c s (Some i) = slice_get (sources c) i ≡ name_of c s
+IsPlace c s place = IfSome place (λ i. slice_get (sources c) i ≡ name_of c s)
+    × IfNone place ((i : ℕ) → slice_get (sources c) i ≢ name_of c s)
 
 -- the names are those of a circuit, and the tables are its tables
 pub record IsInside (c : List Statement) (ns : List Name) (lines : List Line)
@@ -58,8 +59,8 @@ pub record IsInside (c : List Statement) (ns : List Name) (lines : List Line)
   pub outputs_are : tables.outputs.items ≡ map (signal c) (outputs c)
   pub source_count : length tables.sources.items ≡ length (sources c)
   pub place_count : length tables.source_places.items ≡ length (names c)
-  pub places_are : (s : ℕ) (place : Option ℕ) → slice_get tables.source_places.items s ≡ Some place
-      → IsPlace c s place
+  pub places_are : (s : ℕ) → s < length (names c)
+      → IsPlace c s (slice_index_or tables.source_places.items s None)
   pub few_lines : length lines < 2 ^ 32
   pub definitions_are : tables.definitions.items ≡ definition_places lines
   pub definition_count : length tables.definitions.items ≡ length (names c)

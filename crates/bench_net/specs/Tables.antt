@@ -50,11 +50,13 @@ definition_places lines = filter_map place_in (enumerate_from 0 lines)
 abbrev pub gate_pins : List Line → ℕ → List ℕ
 gate_pins lines s = pins_in (line_gate (slice_get (filter defines_number lines) s))
 
--- of each signal below a number its place among the sources
-pub record ArePlaces (sources : List ℕ) (signals : ℕ) (places : List (Option ℕ)) : Type 0 where
+-- of each signal below a number its place among the first n sources
+pub record ArePlaces (sources : List ℕ) (signals n : ℕ) (places : List (Option ℕ)) : Type 0 where
   pub count : length places ≡ signals
-  pub some : (s i : ℕ) → slice_get places s ≡ Some (Some i) → slice_get sources i ≡ Some s
-  pub none : (s i : ℕ) → slice_get places s ≡ Some None → slice_get sources i ≢ Some s
+  pub some : (s i : ℕ) → s < signals → slice_index_or places s None ≡ Some i
+      → (i < n) × (slice_index sources i ≡ s)
+  pub none : (s i : ℕ) → s < signals → slice_index_or places s None ≡ None → i < n
+      → slice_index sources i ≢ s
 
 -- the signal that a reader reads
 abbrev pub signal_read : Reader → ℕ

@@ -110,7 +110,8 @@ pub fn source_places(
 ) -> Result<Vec<Option<u32>>, AllocError>
     requires few { length sources.now < 2 ^ 32 }
     requires below { All (λ source. source < signals) sources.now }
-    ensures { IfOk result (λ places. ArePlaces sources.now signals places.items) }
+    ensures { IfOk result (λ places.
+        ArePlaces sources.now signals (length sources.now) places.items) }
 {
     let mut places = vec![in alloc; None; signals]?;
     for (place, source) in sources.iter().enumerate() {

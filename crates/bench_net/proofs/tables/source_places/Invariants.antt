@@ -1,5 +1,5 @@
-use Rattle.bench_net.proofs.Listed.{AreFirstPlaces}
+use Rattle.bench_net.specs.Tables.{ArePlaces}
 use Rattle.bench_net.proofs.tables.source_places.Given as goal
 
 abbrev pub invariant-loop-place : goal.invariant-loop-place
-invariant-loop-place l = AreFirstPlaces l.sources l.signals l.place l.places.items
+invariant-loop-place l = ArePlaces l.sources l.signals l.place l.places.items
