@@ -124,7 +124,7 @@ module _ (ns : List Name) (lines : List Line) (at : List ℕ) (are : AreStatemen
       few = omega (arith, count, are.signals);
       definitions_are = defs;
       few_pins = λ s. omega (arith, (reads s).0, read_count, are.sinks);
-      pins_below = λ s p has. omega (arith, count, All-contains (λ x. x < length ns) (flat_map read_numbers lines) p are.numbered.in_range (contained _ p ((reads s).1 p (among (gate_pins lines s) p has))));
+      pins_below = λ s p a. omega (arith, count, All-contains (λ x. x < length ns) (flat_map read_numbers lines) p are.numbered.in_range (contained _ p ((reads s).1 p a)));
     }
 
   -- ---- the pins of signals are those of their statements
@@ -215,7 +215,7 @@ module _ (ns : List Name) (lines : List Line) (at : List ℕ) (are : AreStatemen
           × (slice_get (filter defines_number lines) s ≡ Some l)
       l = line_at lines places s defs fault.0
 
-      read_by : (p : ℕ) × Contains (gate_pins lines s) p × Contains fault.1.0 p
+      read_by : (p : ℕ) × Among p (gate_pins lines s) × Among p fault.1.0
       read_by = fault.1.1 s fault.1.2
 
       number : (u : ℕ) (h : GateLine) → Among (line.Gate u h) lines → signal c (name_at ns u) ≡ u
@@ -261,4 +261,4 @@ module _ (ns : List Name) (lines : List Line) (at : List ℕ) (are : AreStatemen
               (subst (λ f. HaveLevels f (f u) level.0) same_pins level.1)
           free m other more _ a e = cc e
       go _ here own_line =
-          absurd (omega (arith, (subst (λ o. Contains (pins_in (line_gate o)) read_by.0) own_line read_by.1).1))
+          absurd (subst (λ o. Among read_by.0 (pins_in (line_gate o))) own_line read_by.1)

@@ -11,7 +11,7 @@ use Rattle.std.proofs.lemmas.Simd.{map-map}
 use Rattle.bench_net.specs.declared.Kind.{Kind}
 use Rattle.bench_net.specs.Statement.{Name, Statement, Input, Gate, Output, Dff, defined, defines}
 use Rattle.bench_net.specs.Scan.{names, signal, name_of, definition, gate_line, gate_of, inputs, cells, sources}
-use Rattle.bench_net.specs.Circuit.{HaveArities, IsNumbering, IsStuckSet, IsStuck}
+use Rattle.bench_net.specs.Circuit.{HasArgument, HaveArities, IsNumbering, IsStuckSet, IsStuck}
 use Rattle.bench_net.specs.Level.{greatest, AreLevels, HasLevel, IsLevelOrder, HasDepth}
 use Rattle.bench_net.specs.Marks.{pins_in, level_above, AreLevelsOf, HaveLevels, no_signal, one_more, IsStuckAt}
 use Rattle.bench_net.specs.Rows.{AreRows}
@@ -94,42 +94,41 @@ module _ (c : List Statement) (once : AllPairs (λ m n. m ≢ n) (names c)) wher
   pins_at : (n : Name) (kind : Kind) (args : List Name) → Among (Gate n kind args) c → pins c (signal c n) ≡ map (signal c) args
   pins_at n kind args a = ap (λ st. pins_in (gate_line c st)) (defined_at (Gate n kind args) n a refl)
 
-  GateAt : ℕ → List ℕ → Type 0
-  GateAt s ps = (n : Name) × (kind : Kind) × (args : List Name) × Among (Gate n kind args) c × (name_of c s ≡ Some n) × (map (signal c) args ≡ ps)
-
-  gate_at : (s p : ℕ) → Among p (pins c s) → GateAt s (pins c s)
-  unfolding GateAt
-  gate_at s p a = go (definition c s) refl a
+  -- what the gate of a name reads is an argument of it
+  argument : (m : Name) (p : ℕ) → Among p (pins c (signal c m))
+      → (a : Name) × HasArgument c m a × (signal c a ≡ p)
+  argument m p a = go (definition c (signal c m)) refl a
     where
-      go : (o : Option Statement) → definition c s ≡ o → Among p (pins_in (gate_line c o)) → GateAt s (pins_in (gate_line c (definition c s)))
+      go : (o : Option Statement) → definition c (signal c m) ≡ o
+          → Among p (pins_in (gate_line c o)) → (a : Name) × HasArgument c m a × (signal c a ≡ p)
       go None e b = absurd b
-      go (Some (Gate m kind args)) e b =
-          let own = definition_defines c s (Gate m kind args) e in
-          let both : m ∷ [] ≡ own.0 ∷ [] = own.1 in
-          let same : own.0 ≡ m = cc both in
-          (m, kind, args, own.3, own.2 ∙ ap Some same, sym (ap (λ o. pins_in (gate_line c o)) e))
+      go (Some (Gate n kind args)) e b =
+          let own = definition_defines c (signal c m) (Gate n kind args) e in
+          let within = slice_get_within (names c) (signal c m) own.0 own.2 in
+          let both : Some own.0 ≡ Some m = sym own.2 ∙ named_number c m (signal c m) refl within in
+          let line : n ∷ [] ≡ own.0 ∷ [] = own.1 in
+          let same : n ≡ m = cc in
+          let at = mapped_from (signal c) args p b in
+          let here = subst (λ x. Contains c (Gate x kind args)) same (contained c _ own.3) in
+          (at.0, (kind, args, here, contained args at.0 at.1), at.2)
       go (Some _) e b = absurd b
 
   -- ---- stuck gates
 
   pub stuck_name : (s : ℕ) (n : Name) → signal c n ≡ s → IsStuckAt (pins c) s → IsStuck c n
-  unfolding GateAt
-  stuck_name s n is stuck = (λ m. list_any (λ i. i == signal c m) stuck.0, set, member n (subst (Contains stuck.0) (sym is) stuck.2))
+  stuck_name s n is stuck = (λ m. list_any (λ i. i == signal c m) stuck.0, set, member n (rw (sym is) at stuck.2))
     where
-      member : (m : Name) → Contains stuck.0 (signal c m) → list_any (λ i. i == signal c m) stuck.0 ≡ true
-      member m has = any_true (λ i. i == signal c m) stuck.0 (signal c m) (among stuck.0 (signal c m) has) (eq-eqb (signal c m) (signal c m) refl)
+      member : (m : Name) → Among (signal c m) stuck.0 → list_any (λ i. i == signal c m) stuck.0 ≡ true
+      member m a =
+          any_true (λ i. i == signal c m) stuck.0 (signal c m) a (eq-eqb (signal c m) (signal c m) refl)
 
       set : IsStuckSet c (λ m. list_any (λ i. i == signal c m) stuck.0)
       set m inside =
           let found = some_passes (λ i. i == signal c m) stuck.0 inside in
           let number : found.0 ≡ signal c m = eqb-true found.0 (signal c m) found.2 in
-          let next = stuck.1 (signal c m) (subst (Contains stuck.0) number found.1) in
-          let gate = gate_at (signal c m) next.0 (among (pins c (signal c m)) next.0 next.1) in
-          let own = named_number c m (signal c m) refl (slice_get_within (names c) (signal c m) gate.0 gate.4) in
-          let both : Some gate.0 ≡ Some m = sym gate.4 ∙ own in
-          let same : gate.0 ≡ m = cc both in
-          let at = mapped_from (signal c) gate.2 next.0 (subst (Among next.0) (sym gate.5) (among (pins c (signal c m)) next.0 next.1)) in
-          (at.0, (gate.1, gate.2, subst (λ x. Contains c (Gate x gate.1 gate.2)) same (contained c _ gate.3), contained gate.2 at.0 at.1), member at.0 (subst (Contains stuck.0) (sym at.2) next.2))
+          let next = stuck.1 (signal c m) (rw number at (among stuck.0 found.0 found.1)) in
+          let arg = argument m next.0 next.1 in
+          (arg.0, arg.1, member arg.0 (rw (sym arg.2) at next.2))
 
   -- no signal with a level is stuck
   unstuck : (members : Name → Bool) → IsStuckSet c members → (ps : List ℕ) (k : ℕ) → HaveLevels (pins c) ps k → (m : Name) → Among (signal c m) ps → members m ≡ true → ⊥

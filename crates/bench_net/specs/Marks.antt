@@ -1,9 +1,11 @@
--- Levels of gates by the numbers of their signals, and the marks of a search for them.
-use Rattle.std.specs.Prelude.{◌≡◌, ◌≢◌, ℕ, ◌+◌, ◌-◌, ◌<◌, ◌≤◌, ◌^◌, List, [], ◌∷◌, map, filter, take, length, max, count_by, Contains, Option, Some, None, slice_get, slice_index, Bool, true, false}
+-- Levels of gates by the numbers of their signals, and a search for them.
+use Rattle.std.specs.Prelude.{◌≡◌, ◌≢◌, ℕ, ◌+◌, ◌-◌, ◌*◌, ◌<◌, ◌≤◌, ◌^◌, List, [], ◌∷◌, map, filter, take, length, max, count_by, sum_by, Contains, Option, Some, None, slice_get, slice_index, Bool, true, false}
+use Rattle.lists.proofs.Members.{Among}
 use Rattle.bench_net.specs.declared.Kind.{Kind}
 use Rattle.bench_net.specs.declared.line.Line.{Line}
 use Rattle.bench_net.specs.declared.levels.Mark.{Mark}
 use Rattle.bench_net.specs.declared.levels.Mark.TheVariants.{Unknown, Open, Level}
+use Rattle.bench_net.specs.declared.levels.OpenGate.{OpenGate}
 use Rattle.bench_net.specs.declared.levels.LevelFault.{LevelFault}
 use Rattle.bench_net.specs.declared.levels.LevelFault.TheVariants.{Memory, Cycle}
 use Rattle.bench_net.specs.Tables.{defines_number, line_gate, AreDefinitions}
@@ -22,7 +24,7 @@ pub record IsGraph (lines : List Line) (definitions : List ℕ) : Type 0 where
   pub few : length definitions < 2 ^ 31
   pub definitions_are : AreDefinitions lines definitions
   pub few_pins : (s : ℕ) → length (gate_pins lines s) < 2 ^ 32
-  pub pins_below : (s p : ℕ) → Contains (gate_pins lines s) p → p < length definitions
+  pub pins_below : (s p : ℕ) → Among p (gate_pins lines s) → p < length definitions
 
 -- one more than the greatest of some levels, and 0 where there is none
 abbrev pub level_above : List ℕ → ℕ
@@ -44,50 +46,65 @@ pub data HaveLevels (pins : ℕ → List ℕ) : List ℕ → ℕ → Type 0 wher
 -- the signal is one of some each of which reads one of them
 abbrev pub IsStuckAt : (ℕ → List ℕ) → ℕ → Type 0
 IsStuckAt pins s = (members : List ℕ)
-    × ((m : ℕ) → Contains members m → (p : ℕ) × Contains (pins m) p × Contains members p)
-    × Contains members s
+    × ((m : ℕ) → Among m members → (p : ℕ) × Among p (pins m) × Among p members)
+    × Among s members
+
+-- each signal below a number has a level
+abbrev pub HaveLevelsBelow : (ℕ → List ℕ) → ℕ → Type 0
+HaveLevelsBelow pins s = (lower : ℕ) → lower < s → (k : ℕ) × HaveLevels pins (pins lower) k
 
 -- a cycle is the answer only at a stuck signal below which each has a level
 abbrev pub IsLevelFault : (ℕ → List ℕ) → ℕ → LevelFault → Type 0
 IsLevelFault pins signals Memory = Unit {0}
-IsLevelFault pins signals (Cycle s) = (s < signals) × IsStuckAt pins s
-    × ((lower : ℕ) → lower < s → (k : ℕ) × HaveLevels pins (pins lower) k)
+IsLevelFault pins signals (Cycle s) = (s < signals) × IsStuckAt pins s × HaveLevelsBelow pins s
 
-abbrev pub has_level : Mark → Bool
-has_level (Level k) = true
-has_level _ = false
+abbrev pub is_unknown : Mark → Bool
+is_unknown Unknown = true
+is_unknown _ = false
 
--- what a mark says of a signal, where so many signals are marked with a level
-abbrev pub IsMark : (ℕ → List ℕ) → ℕ → ℕ → Mark → Type 0
-IsMark pins levelled s Unknown = Unit {0}
-IsMark pins levelled s (Open pin level) = HaveLevels pins (take pin (pins s)) level
-    × (level ≤ levelled)
-IsMark pins levelled s (Level k) = HaveLevels pins (pins s) k × (k < levelled)
+-- how many signals wait for a level, where a path leads through the open ones
+abbrev pub waiting : List Mark → List OpenGate → ℕ
+waiting marks path = count_by is_unknown marks + length path
 
--- signals each of which is read by the one behind it; the last is the start
+-- how many steps are left at most
+abbrev pub pins_left : (ℕ → List ℕ) → OpenGate → ℕ
+pins_left pins gate = 1 + (length (pins gate.signal) - gate.pin)
+
+abbrev pub steps : (ℕ → List ℕ) → List Mark → List OpenGate → ℕ
+steps pins marks path = count_by is_unknown marks * 4294967297 + sum_by (pins_left pins) path
+
+abbrev pub signals_of : List OpenGate → List ℕ
+signals_of path = map (λ gate. gate.signal) path
+
+-- signals each of which is read by the one behind it; the last is the last that was begun
 abbrev pub IsPath : (ℕ → List ℕ) → ℕ → List ℕ → Type 0
-IsPath pins start [] = Unit {0}
-IsPath pins start (g ∷ []) = g ≡ start
-IsPath pins start (p ∷ g ∷ gates) = Contains (pins g) p × IsPath pins start (g ∷ gates)
+IsPath pins begun [] = Unit {0}
+IsPath pins begun (g ∷ []) = g + 1 ≡ begun
+IsPath pins begun (p ∷ g ∷ gates) = Among p (pins g) × IsPath pins begun (g ∷ gates)
 
--- A search for levels that began at a start: the open signals are a path from the last that was met
--- to the start, and each signal below the start has a level.
-pub record IsSearch (pins : ℕ → List ℕ) (signals start begun : ℕ) (marks : List Mark)
-    (path : List ℕ) : Type 0 where
+-- what a mark says of a signal, where some are open and so many of all have no level
+abbrev pub IsMark : (ℕ → List ℕ) → ℕ → ℕ → List ℕ → ℕ → Mark → Type 0
+IsMark pins signals waits gates s Unknown = Unit {0}
+IsMark pins signals waits gates s Open = Among s gates
+IsMark pins signals waits gates s (Level k) = HaveLevels pins (pins s) k × (k + waits < signals)
+
+-- what a gate on the path says of its signal, where so many of all have no level
+abbrev pub IsOpen : (ℕ → List ℕ) → ℕ → ℕ → OpenGate → Type 0
+IsOpen pins signals waits gate = (gate.signal < signals)
+    × HaveLevels pins (take gate.pin (pins gate.signal)) gate.level
+    × (gate.level + waits ≤ signals)
+
+-- A search for levels at so many signals from the first: the open ones are a path from the last
+-- that was met to the last that was begun, and the others that were begun have levels.
+pub record IsSearch (pins : ℕ → List ℕ) (signals begun : ℕ) (marks : List Mark)
+    (path : List OpenGate) : Type 0 where
   pub count : length marks ≡ signals
   pub each : (s : ℕ) (m : Mark) → slice_get marks s ≡ Some m
-      → IsMark pins (count_by has_level marks) s m
-  pub open_on : (s pin level : ℕ) → slice_get marks s ≡ Some (Open pin level) → Contains path s
-  pub path_below : (s : ℕ) → Contains path s → s < signals
-  pub path_is : IsPath pins start path
+      → IsMark pins signals (waiting marks path) (signals_of path) s m
+  pub opens : (gate : OpenGate) → Among gate path
+      → IsOpen pins signals (waiting marks path) gate
+  pub path_is : IsPath pins begun (signals_of path)
   pub begun_are : (s : ℕ) → s < begun → slice_get marks s ≢ Some Unknown
-  pub lower : (s : ℕ) → s < start → (k : ℕ) × HaveLevels pins (pins s) k
-
--- how many steps are left at most for a signal, by its mark
-abbrev pub steps : Mark → ℕ
-steps Unknown = 4294967298
-steps (Open pin level) = 4294967296 - pin
-steps (Level k) = 0
 
 -- the level in a mark
 abbrev pub level_in : Mark → ℕ

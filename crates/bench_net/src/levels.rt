@@ -1,10 +1,10 @@
 //! The levels of signals, or a gate that has none: on a cycle of gates or fed by one.
 
-ghost use Rattle.std.specs.Prelude.{◌≡◌, ◌+◌, ◌<◌, ◌≤◌, ℕ, List, length, map, reverse, slice_index, sum_by, [], ◌∷◌, IfOk, IfErr, OnOk};
+ghost use Rattle.std.specs.Prelude.{◌≡◌, ◌+◌, ◌<◌, ◌≤◌, ℕ, List, length, map, reverse, slice_get, slice_index, [], ◌∷◌, IfOk, IfErr, OnOk};
 ghost use Rattle.bench_net.specs.Level.{greatest};
 ghost use Rattle.bench_net.specs.Rows.{AreRows};
 ghost use Rattle.bench_net.specs.Tables.{AreDefinitions};
-ghost use Rattle.bench_net.specs.Marks.{gate_pins, IsGraph, AreLevelsOf, IsLevelFault, IsSearch, steps, level_in};
+ghost use Rattle.bench_net.specs.Marks.{gate_pins, IsGraph, AreLevelsOf, IsLevelFault, HaveLevelsBelow, IsSearch, steps, level_in};
 ghost use Rattle.bench_net.specs.declared.levels.LevelFault.TheVariants.{Memory};
 
 use crate::line::Line;
@@ -43,13 +43,21 @@ impl<T: Drop> From<AllocFailed<T>> for LevelFault {
     }
 }
 
-/// What is known of a signal: nothing, its level, or that its gate is open. The signals of the pins
-/// of an open gate before `pin` have levels, and `level` is one more than the greatest of them.
+/// What is known of a signal: nothing, that its gate is open, or its level.
 #[derive(Clone, Copy)]
 enum Mark {
     Unknown,
-    Open { pin: u32, level: u32 },
+    Open,
     Level(u32),
+}
+
+/// A gate whose level is sought: the signals of its pins before `pin` have levels, and `level` is
+/// one more than the greatest of them.
+#[derive(Clone, Copy)]
+struct OpenGate {
+    signal: u32,
+    pin: u32,
+    level: u32,
 }
 
 /// The signals that the pins of a signal's gate read; none for a source.
@@ -65,49 +73,58 @@ fn pins_of<'a>(lines: &'a [Line], definitions: &[u32], signal: u32) -> &'a [u32]
     }
 }
 
-/// Goes one pin on at the last open gate of the path: past a pin whose signal has a level, to a
-/// signal that is unknown, or out of the gate with a level. A pin that reads an open signal closes
-/// a cycle.
+/// The signal that a pin of a signal's gate reads, if there is such a pin.
+fn pin_of(lines: &[Line], definitions: &[u32], signal: u32, pin: u32) -> Option<u32>
+    requires below { signal < length definitions.now }
+    requires definitions { AreDefinitions lines.now definitions.now }
+    ensures { result ≡ slice_get (gate_pins lines.now signal) pin }
+{
+    pins_of(lines, definitions, signal)
+        .get(pin as usize)
+        .copied()
+}
+
+/// Goes one pin on at an open gate, which was the last of the path: past a pin whose signal has a
+/// level, to a signal that is unknown, or out of the gate with a level. A pin that reads an open
+/// signal closes a cycle.
 fn visit(
     lines: &[Line],
     definitions: &[u32],
     start: u32,
-    gate: u32,
+    gate: OpenGate,
     marks: &mut Vec<Mark>,
-    path: &mut Vec<u32>,
+    path: &mut Vec<OpenGate>,
 ) -> Result<(), LevelFault>
     requires graph { IsGraph lines.now definitions.now }
-    requires gate { gate < length marks.old.items }
-    requires search { IsSearch (gate_pins lines.now) (length definitions.now) start (start + 1)
+    requires lower { HaveLevelsBelow (gate_pins lines.now) start }
+    requires search { IsSearch (gate_pins lines.now) (length definitions.now) (start + 1)
         marks.old.items (gate ∷ reverse path.old.items) }
-    ensures search { OnOk result (IsSearch (gate_pins lines.now) (length definitions.now) start
-        (start + 1) marks.new.items (reverse path.new.items)) }
-    ensures less { OnOk result (sum_by steps marks.new.items + length path.new.items
-        ≤ sum_by steps marks.old.items + length path.old.items) }
+    ensures search { OnOk result (IsSearch (gate_pins lines.now) (length definitions.now)
+        (start + 1) marks.new.items (reverse path.new.items)
+        × (steps (gate_pins lines.now) marks.new.items (reverse path.new.items)
+        < steps (gate_pins lines.now) marks.old.items (gate ∷ reverse path.old.items))) }
     ensures fault { IfErr result (IsLevelFault (gate_pins lines.now) (length definitions.now)) }
 {
-    let Mark::Open { pin, level } = marks[gate as usize] else {
+    let Some(signal) = pin_of(lines, definitions, gate.signal, gate.pin) else {
+        marks[gate.signal as usize] = Mark::Level(gate.level);
         return Ok(());
     };
-    let pins = pins_of(lines, definitions, gate);
-    if pin as usize >= pins.len() {
-        marks[gate as usize] = Mark::Level(level);
-        return Ok(());
-    }
-    let signal = pins[pin as usize];
-    path.push(gate)?;
     match marks[signal as usize] {
-        Mark::Level(lower) => {
-            marks[gate as usize] = Mark::Open {
-                pin: pin + 1,
-                level: level.max(lower + 1),
-            };
-        }
+        Mark::Level(lower) => path.push(OpenGate {
+            pin: gate.pin + 1,
+            level: gate.level.max(lower + 1),
+            ..gate
+        })?,
         Mark::Unknown => {
-            marks[signal as usize] = Mark::Open { pin: 0, level: 0 };
-            path.push(signal)?;
+            marks[signal as usize] = Mark::Open;
+            path.push(gate)?;
+            path.push(OpenGate {
+                signal,
+                pin: 0,
+                level: 0,
+            })?;
         }
-        Mark::Open { .. } => return Err(LevelFault::Cycle(start)),
+        Mark::Open => return Err(LevelFault::Cycle(start)),
     }
     Ok(())
 }
@@ -119,21 +136,25 @@ fn settle(
     definitions: &[u32],
     start: u32,
     marks: &mut Vec<Mark>,
-    path: &mut Vec<u32>,
+    path: &mut Vec<OpenGate>,
 ) -> Result<(), LevelFault>
     requires graph { IsGraph lines.now definitions.now }
     requires start { start < length definitions.now }
-    requires search { IsSearch (gate_pins lines.now) (length definitions.now) start start
+    requires search { IsSearch (gate_pins lines.now) (length definitions.now) start
         marks.old.items [] }
     requires path { path.old.items ≡ [] }
     ensures search { OnOk result (IsSearch (gate_pins lines.now) (length definitions.now)
-        (start + 1) (start + 1) marks.new.items []) }
+        (start + 1) marks.new.items []) }
     ensures path { OnOk result (path.new.items ≡ []) }
     ensures fault { IfErr result (IsLevelFault (gate_pins lines.now) (length definitions.now)) }
 {
     if let Mark::Unknown = marks[start as usize] {
-        marks[start as usize] = Mark::Open { pin: 0, level: 0 };
-        path.push(start)?;
+        marks[start as usize] = Mark::Open;
+        path.push(OpenGate {
+            signal: start,
+            pin: 0,
+            level: 0,
+        })?;
     }
     while let Some(gate) = path.pop() {
         visit(lines, definitions, start, gate, marks, path)?;
