@@ -7,19 +7,18 @@ use Rattle.std.proofs.Math.Numerals.{one-add}
 use Rattle.std.proofs.lemmas.List.Elements.{Contains-get_or}
 use Rattle.std.proofs.lemmas.List.{length-map, same_lists, get_or-map, get_or_default}
 use Rattle.std.proofs.lemmas.Option.{slice_get-get_or, slice_get_within}
-use Rattle.std.proofs.lemmas.Simd.{map-map}
 use Rattle.bench_net.specs.declared.Kind.{Kind}
 use Rattle.bench_net.specs.Statement.{Name, Statement, Input, Gate, Output, Dff, defined, defines}
 use Rattle.bench_net.specs.Scan.{names, signal, name_of, definition, gate_line, gate_of, inputs, cells, sources}
 use Rattle.bench_net.specs.Circuit.{HasArgument, HaveArities, IsNumbering, IsStuckSet, IsStuck}
 use Rattle.bench_net.specs.Level.{greatest, AreLevels, HasLevel, IsLevelOrder, HasDepth}
-use Rattle.bench_net.specs.Marks.{pins_in, level_above, AreLevelsOf, HaveLevels, no_signal, one_more, IsStuckAt}
+use Rattle.bench_net.specs.Marks.{pins_in, AreLevelsOf, HaveLevels, no_signal, one_more, IsStuckAt}
 use Rattle.bench_net.specs.Rows.{AreRows}
 use Rattle.lists.proofs.Members.{Among, among, contained, some_passes, among_filter, among_append, among_map, among_joined, mapped_from}
 use Rattle.lists.proofs.Places.{placed}
 use Rattle.bench_net.proofs.Checked.{any_true, same_bytes}
 use Rattle.bench_net.proofs.Numbers.{at_position, definition_defines, signal-name_of}
-use Rattle.bench_net.proofs.Marking.{greatest-cons}
+use Rattle.bench_net.proofs.Marking.{greatest-cons, one_level}
 use Rattle.bench_net.proofs.Grouped.{place_listed, places_ordered}
 use Rattle.bench_net.proofs.Reader.{some_args}
 
@@ -67,12 +66,6 @@ at_number (m ∷ ns) n lt = elim (cases_Bool (bytes_eq n m)) [
 
 pub named_number : (c : List Statement) (n : Name) (s : ℕ) → signal c n ≡ s → s < length (names c) → name_of c s ≡ Some n
 named_number c n s is lt = subst (λ i. name_of c i ≡ Some n) is (at_number (names c) n (omega (arith, is, lt)))
-
--- one more than the greatest of some levels
-level_above_is : (ks : List ℕ) → 1 ≤ length ks → level_above ks ≡ 1 + greatest ks
-level_above_is [] h = absurd (omega (arith, h))
-level_above_is (k ∷ []) h = omega arith
-level_above_is (k ∷ j ∷ ks) h = omega (arith, level_above_is (j ∷ ks) (omega arith), greatest-cons k (j ∷ ks))
 
 above_names : (level : Name → ℕ) (args : List Name) (a : Name) → Among a args → level a ≤ greatest (map level args)
 above_names level [] a m = absurd m
@@ -148,48 +141,69 @@ module _ (c : List Statement) (once : AllPairs (λ m n. m ≢ n) (names c)) wher
   -- ---- levels
 
   module _ (arities : HaveArities c) (levels : List ℕ) (are : AreLevelsOf (pins c) (length (names c)) levels) where
-    pub levels_are : AreLevels c (λ n. slice_index levels (signal c n))
-    levels_are = record { source = source; gate = gate }
-      where
-        source : (n : Name) → Contains (sources c) n → slice_index levels (signal c n) ≡ 0
-        source n has =
-            let st = source_statement c n (among (sources c) n has) in
-            let none = ap (λ o. pins_in (gate_line c o)) (defined_at st.0 n st.1 st.2) ∙ ap pins_in (st.3 c) in
-            are.each (signal c n) (signal_below c n (named c st.0 n st.1 st.2)) ∙ ap (λ ps. level_above (map (slice_index levels) ps)) none
+    abbrev level : Name → ℕ
+    level n = slice_index levels (signal c n)
 
-        gate : (n : Name) (kind : Kind) (args : List Name) → Contains c (Gate n kind args)
-            → slice_index levels (signal c n) ≡ 1 + greatest (map (λ a. slice_index levels (signal c a)) args)
-        gate n kind args has =
-            let a = among c (Gate n kind args) has in
-            are.each (signal c n) (signal_below c n (named c (Gate n kind args) n a refl))
-            ∙ (ap (λ ps. level_above (map (slice_index levels) ps)) (pins_at n kind args a)
-            ∙ (ap level_above (map-map (slice_index levels) (signal c) args)
-            ∙ level_above_is (map (λ x. slice_index levels (signal c x)) args) (omega (arith, length-map args (λ x. slice_index levels (signal c x)), some_args kind args (arities n kind args has)))))
+    -- the level above arguments by the table
+    above : (args : List Name) (k : ℕ) → HaveLevels (pins c) (map (signal c) args) k
+        → ((a : Name) → Among a args → HaveLevels (pins c) (pins c (signal c a)) (level a))
+        → 1 ≤ length args → k ≡ 1 + greatest (map level args)
+    above [] k has at some = absurd (omega (arith, some))
+    above (a ∷ []) k (one_more _ _ i _ _ here no_signal is) at some =
+        omega (arith, is, one_level _ i (level a) here (at a (inl refl)))
+    above (a ∷ b ∷ args) k (one_more _ _ i j _ here rest is) at some =
+        omega (
+          arith,
+          is,
+          one_level _ i (level a) here (at a (inl refl)),
+          greatest-cons (level a) (map level (b ∷ args)),
+          above (b ∷ args) j rest (λ d m. at d (inr m)) (omega arith),
+        )
+
+    at_name : (n : Name) (st : Statement) → Among st c → defined st ≡ n ∷ []
+        → HaveLevels (pins c) (pins c (signal c n)) (level n)
+    at_name n st a d = are.each (signal c n) (signal_below c n (named c st n a d))
+
+    none : (k : ℕ) → HaveLevels (pins c) [] k → k ≡ 0
+    none k no_signal = refl
+
+    pub levels_are : AreLevels c level
+    levels_are = record {
+      source = λ n has.
+          let st = source_statement c n (among (sources c) n has) in
+          let pins = ap (λ o. pins_in (gate_line c o)) (defined_at st.0 n st.1 st.2) ∙ ap pins_in (st.3 c) in
+          none (level n) (rw pins at (at_name n st.0 st.1 st.2));
+      gate = λ n kind args has.
+          let a = among c (Gate n kind args) has in
+          let pins = pins_at n kind args a in
+          above args (level n) (rw pins at (at_name n (Gate n kind args) a refl))
+          (λ b m. are.of_pins (signal c n) (signal c b) (rw pins (among_map (signal c) args b m)))
+          (some_args kind args (arities n kind args has));
+    }
 
     -- levels number the names along every gate
-    pub numbering : IsNumbering c (λ n. slice_index levels (signal c n))
-    numbering n a h = omega (arith, levels_are.gate n h.0 h.1 h.2, above_names (λ x. slice_index levels (signal c x)) h.1 a (among h.1 a h.3))
+    pub numbering : IsNumbering c level
+    numbering n a h = omega (arith, levels_are.gate n h.0 h.1 h.2, above_names level h.1 a (among h.1 a h.3))
+
+    of_name : (s : ℕ) → s < length (names c)
+        → level (slice_index_or (names c) s []) ≡ slice_index levels s
+    of_name s lt = ap (slice_index levels) (signal-name_of c s _ once
+        (slice_get-get_or (names c) s [] lt) (Contains-get_or (names c) s [] lt))
 
     pub has_level : (s : ℕ) → s < length (names c) → HasLevel c s (slice_index levels s)
-    has_level s lt =
-        let n = slice_index_or (names c) s [] in
-        let at : name_of c s ≡ Some n = slice_get-get_or (names c) s [] lt in
-        ((λ x. slice_index levels (signal c x)), n, levels_are, at, ap (slice_index levels) (signal-name_of c s n once at (Contains-get_or (names c) s [] lt)))
+    has_level s lt = (level, _, levels_are, slice_get-get_or (names c) s [] lt, of_name s lt)
 
     pub has_depth : (depth : ℕ) → depth ≡ greatest levels → HasDepth c depth
-    has_depth depth is = ((λ x. slice_index levels (signal c x)), levels_are, ap greatest same ∙ sym is)
+    has_depth depth is = (level, levels_are, ap greatest same ∙ sym is)
       where
-        count : length (map (λ x. slice_index levels (signal c x)) (names c)) ≡ length (names c)
-        count = length-map (names c) (λ x. slice_index levels (signal c x))
+        count : length (map level (names c)) ≡ length (names c)
+        count = length-map (names c) level
 
-        same : map (λ x. slice_index levels (signal c x)) (names c) ≡ levels
-        same = same_lists _ levels (count ∙ sym are.count) (λ k d lt. one k d (omega (arith, lt, count)))
-          where
-            one : (k d : ℕ) → k < length (names c) → get_or (map (λ x. slice_index levels (signal c x)) (names c)) k d ≡ get_or levels k d
-            one k d lt =
-                let n = slice_index_or (names c) k [] in
-                get_or-map (λ x. slice_index levels (signal c x)) (names c) k [] d lt
-                ∙ (ap (slice_index levels) (signal-name_of c k n once (slice_get-get_or (names c) k [] lt) (Contains-get_or (names c) k [] lt)) ∙ get_or_default levels k 0 d (omega (arith, lt, are.count)))
+        same : map level (names c) ≡ levels
+        same = same_lists _ levels (count ∙ sym are.count) (λ k d lt.
+            let within : k < length (names c) = omega (arith, lt, count) in
+            get_or-map level (names c) k [] d within ∙ of_name k within
+            ∙ get_or_default levels k 0 d (omega (arith, within, are.count)))
 
     pub level_order : (order starts : List ℕ) (count : ℕ) → AreRows levels count starts order → ((i : ℕ) → i < length levels → get_or levels i 0 < count) → IsLevelOrder c order
     level_order order starts count rows below = record {

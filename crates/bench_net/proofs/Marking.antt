@@ -1,5 +1,5 @@
 -- Levels, and the marks of a search for them.
-use Rattle.std.proofs.Common.{◌≡◌, ◌≢◌, ◌<◌, ◌≤◌, ◌+◌, ℕ, zero, suc, max, sym, ◌∙◌, ap, subst, refl, cond, false, List, [], ◌∷◌, ◌++◌, map, length, take, get_or, set, arith, inl, inr, ◌⊎◌}
+use Rattle.std.proofs.Common.{◌≡◌, ◌≢◌, ◌<◌, ◌≤◌, ◌+◌, ℕ, zero, suc, max, sym, ◌∙◌, ap, subst, refl, cond, List, [], ◌∷◌, ◌++◌, map, length, take, get_or, set, arith, inl, inr, ◌⊎◌}
 use Rattle.std.specs.Prelude.{Some, None, slice_get, slice_index, count_by, fold, ◌^◌}
 use Rattle.std.proofs.lemmas.Bool.{cases_lt}
 use Rattle.std.proofs.lemmas.List.{length-map, length-set, get_or-map, take_all, take_more}
@@ -10,7 +10,7 @@ use Rattle.bench_net.specs.declared.levels.Mark.TheVariants.{Unknown, Open, Leve
 use Rattle.bench_net.specs.declared.levels.LevelFault.TheVariants.{Cycle}
 use Rattle.bench_net.specs.Level.{greatest}
 use Rattle.bench_net.specs.declared.levels.OpenGate.{OpenGate}
-use Rattle.bench_net.specs.Marks.{level_above, AreLevelsOf, HaveLevels, no_signal, one_more, IsLevelFault, HaveLevelsBelow, is_unknown, waiting, steps, pins_left, signals_of, IsMark, IsOpen, IsPath, IsSearch, level_in}
+use Rattle.bench_net.specs.Marks.{AreLevelsOf, HaveLevels, no_signal, one_more, IsLevelFault, HaveLevelsBelow, is_unknown, waiting, steps, pins_left, signals_of, IsMark, IsOpen, IsPath, IsSearch, level_in}
 use Rattle.lists.proofs.Members.{Among, mapped_from}
 use Rattle.lists.proofs.Places.{at_place, within_place}
 use Rattle.bench_net.proofs.Listed.{written}
@@ -34,35 +34,22 @@ greatest-within [] m h = omega arith
 greatest-within (x ∷ xs) m h =
     omega (arith, greatest-cons x xs, h 0 (omega arith), greatest-within xs m (λ i lt. h (suc i) (omega (arith, lt))))
 
-module _ {pins : ℕ → List ℕ} where
-  -- ---- levels
+-- ---- levels
 
+module _ {pins : ℕ → List ℕ} where
   -- signals have one level above them
-  one_level : (ps : List ℕ) (j k : ℕ) → HaveLevels pins ps j → HaveLevels pins ps k → j ≡ k
+  pub one_level : (ps : List ℕ) (j k : ℕ) → HaveLevels pins ps j → HaveLevels pins ps k → j ≡ k
   one_level ps j k no_signal no_signal = refl
   one_level ps j k (one_more p qs i a _ here rest is) (one_more _ _ h b _ there more same) =
       omega (arith, one_level (pins p) i h here there, one_level qs a b rest more, is, same)
 
-  -- the level above signals by a table of all levels
-  above_is : (levels ps : List ℕ) (k : ℕ) → HaveLevels pins ps k
-      → ((p : ℕ) → Among p ps → HaveLevels pins (pins p) (slice_index levels p))
-      → k ≡ level_above (map (slice_index levels) ps)
-  above_is levels ps k no_signal all = refl
-  above_is levels ps k (one_more p qs i a _ here rest is) all =
-      omega (arith, is, one_level (pins p) i (slice_index levels p) here (all p (inl refl)), above_is levels qs a rest (λ q b. all q (inr b)))
-
-  levels_are : (n : ℕ) (levels : List ℕ) → ((s p : ℕ) → Among p (pins s) → p < n) → length levels ≡ n
-      → ((s : ℕ) → s < n → HaveLevels pins (pins s) (slice_index levels s)) → AreLevelsOf pins n levels
-  levels_are n levels below count at = record {
-    count = count;
-    each = λ s lt. above_is levels (pins s) (slice_index levels s) (at s lt) (λ p a. at p (below s p a));
-  }
-
   -- one more signal with a level
-  pushed : (ps : List ℕ) (a p k : ℕ) → HaveLevels pins ps a → HaveLevels pins (pins p) k → HaveLevels pins (ps ++ p ∷ []) (max a (k + 1))
+  pushed : (ps : List ℕ) (a p k : ℕ) → HaveLevels pins ps a → HaveLevels pins (pins p) k
+      → HaveLevels pins (ps ++ p ∷ []) (max a (k + 1))
   pushed ps a p k no_signal has = one_more p [] k 0 (max 0 (k + 1)) has no_signal (omega arith)
   pushed ps a p k (one_more q qs i b _ here rest is) has =
-      one_more q (qs ++ p ∷ []) i (max b (k + 1)) (max a (k + 1)) here (pushed qs b p k rest has) (omega (arith, is))
+      one_more q (qs ++ p ∷ []) i (max b (k + 1)) _ here (pushed qs b p k rest has)
+      (omega (arith, is))
 
 -- ---- the search for levels
 
@@ -112,10 +99,19 @@ module _ {pins : ℕ → List ℕ} {n begun : ℕ} {marks : List Mark} where
         → IsSearch pins n later (set marks g m) after
     marked later after g m known less is stays opens path_is begins = record {
       count = length-set marks g m ∙ state.count;
-      each = λ s x e. each s x (written marks g m s x e);
-      opens = λ h a. still h (opens h a);
+      each = λ s x e. elim (written marks g m s x e) [
+        | inl h ↦ rw (h.0, h.1) is
+        | inr h ↦ kept s x h.0 (state.each s x h.1)
+      ];
+      opens = λ h a. elim (opens h a) [
+        | inl b ↦ (let o = state.opens h b in (o.0, o.1, omega (arith, o.2, less)))
+        | inr o ↦ o
+      ];
       path_is = path_is;
-      begun_are = λ s lt e. begun_are s lt (written marks g m s Unknown e);
+      begun_are = λ s lt e. elim (written marks g m s Unknown e) [
+        | inl h ↦ known (sym h.1)
+        | inr h ↦ state.begun_are s (begins s lt h.0) h.1
+      ];
     }
       where
         kept : (s : ℕ) (x : Mark) → s ≢ g → IsMark pins n (waiting marks path) (signals_of path) s x
@@ -123,21 +119,6 @@ module _ {pins : ℕ → List ℕ} {n begun : ℕ} {marks : List Mark} where
         kept s Unknown ne was = tt
         kept s Open ne was = stays s ne was
         kept s (Level k) ne was = (was.0, omega (arith, was.1, less))
-
-        each : (s : ℕ) (x : Mark) → ((s ≡ g) × (x ≡ m)) ⊎ ((s ≢ g) × (slice_get marks s ≡ Some x))
-            → IsMark pins n (waiting (set marks g m) after) (signals_of after) s x
-        each s x (inl h) = rw (h.0, h.1) is
-        each s x (inr h) = kept s x h.0 (state.each s x h.1)
-
-        still : (h : OpenGate) → Among h path ⊎ IsOpen pins n (waiting (set marks g m) after) h
-            → IsOpen pins n (waiting (set marks g m) after) h
-        still h (inl a) = let o = state.opens h a in (o.0, o.1, omega (arith, o.2, less))
-        still h (inr o) = o
-
-        begun_are : (s : ℕ) → s < later
-            → ((s ≡ g) × (Unknown ≡ m)) ⊎ ((s ≢ g) × (slice_get marks s ≡ Some Unknown)) → ⊥
-        begun_are s lt (inl h) = known (sym h.1)
-        begun_are s lt (inr h) = state.begun_are s (begins s lt h.0) h.1
 
     -- an unknown signal is opened
     pub opened : (later p : ℕ) → slice_get marks p ≡ Some Unknown
@@ -206,7 +187,7 @@ module _ {pins : ℕ → List ℕ} {n begun : ℕ} {marks : List Mark} where
         record {
           count = state.count;
           each = state.each;
-          opens = λ h a. opens h a;
+          opens = opens;
           path_is = state.path_is;
           begun_are = state.begun_are;
         },
@@ -246,12 +227,11 @@ module _ {pins : ℕ → List ℕ} {n begun : ℕ} {marks : List Mark} where
     each = state.each;
     opens = state.opens;
     path_is = tt;
-    begun_are = λ s lt e. known_at s lt e (cases_lt s begun);
+    begun_are = λ s lt e. elim (cases_lt s begun) [
+      | inl less ↦ state.begun_are s less e
+      | inr le ↦ (let same : s ≡ begun = omega arith in known (rw same at e))
+    ];
   }
-    where
-      known_at : (s : ℕ) → s < begun + 1 → slice_get marks s ≡ Some Unknown → (s < begun) ⊎ (begun ≤ s) → ⊥
-      known_at s lt e (inl less) = state.begun_are s less e
-      known_at s lt e (inr le) = let same : s ≡ begun = omega arith in known (rw same at e)
 
   -- where no signal is open, each that was begun has a level
   pub level_at : (s : ℕ) → IsSearch pins n begun marks [] → s < begun → s < n
@@ -268,15 +248,17 @@ module _ {pins : ℕ → List ℕ} {n begun : ℕ} {marks : List Mark} where
       let k = level_at s state lt (omega (arith, lt, le)) in (k.0, (state.each s (Level k.0) k.1).0)
 
 -- a search over all signals has marked all levels
-pub settled : {pins : ℕ → List ℕ} {n : ℕ} {marks : List Mark} → IsSearch pins n n marks [] → ((s p : ℕ) → Among p (pins s) → p < n)
-    → AreLevelsOf pins n (map level_in marks) × ((s : ℕ) → s < length (map level_in marks) → slice_index (map level_in marks) s ≤ length (map level_in marks))
-settled {pins} {n} {marks} state below =
-    (levels_are n (map level_in marks) below count (λ s lt. (at s lt).0), λ s lt. omega (arith, count, (at s (omega (arith, lt, count))).1))
+pub settled : {pins : ℕ → List ℕ} {n : ℕ} {marks : List Mark} → IsSearch pins n n marks []
+    → ((s p : ℕ) → Among p (pins s) → p < n) → AreLevelsOf pins n (map level_in marks)
+settled {pins} {n} {marks} state below = record {
+  count = length-map marks level_in ∙ state.count;
+  of_pins = λ s p a. (at p (below s p a)).0;
+  each = λ s lt. (at s lt).0;
+  small = λ s lt. (at s lt).1;
+}
   where
-    count : length (map level_in marks) ≡ n
-    count = length-map marks level_in ∙ state.count
-
-    at : (s : ℕ) → s < n → HaveLevels pins (pins s) (slice_index (map level_in marks) s) × (slice_index (map level_in marks) s < n)
+    at : (s : ℕ) → s < n → HaveLevels pins (pins s) (slice_index (map level_in marks) s)
+        × (slice_index (map level_in marks) s < n)
     at s lt =
         let k = level_at s state lt lt in
         let is : slice_index (map level_in marks) s ≡ k.0 = get_or-map level_in marks s (Level 0) 0 (omega (arith, lt, state.count)) ∙ ap level_in (get_or_from_slice_get marks s (Level k.0) (Level 0) k.1) in

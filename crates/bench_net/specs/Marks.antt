@@ -1,5 +1,5 @@
 -- Levels of gates by the numbers of their signals, and a search for them.
-use Rattle.std.specs.Prelude.{◌≡◌, ◌≢◌, ℕ, ◌+◌, ◌-◌, ◌*◌, ◌<◌, ◌≤◌, ◌^◌, List, [], ◌∷◌, map, filter, take, length, max, count_by, sum_by, Contains, Option, Some, None, slice_get, slice_index, Bool, true, false}
+use Rattle.std.specs.Prelude.{◌≡◌, ◌≢◌, ℕ, ◌+◌, ◌-◌, ◌*◌, ◌<◌, ◌≤◌, ◌^◌, List, [], ◌∷◌, map, filter, take, length, max, count_by, sum_by, Option, Some, None, slice_get, slice_index, Bool, true, false}
 use Rattle.lists.proofs.Members.{Among}
 use Rattle.bench_net.specs.declared.Kind.{Kind}
 use Rattle.bench_net.specs.declared.line.Line.{Line}
@@ -26,22 +26,18 @@ pub record IsGraph (lines : List Line) (definitions : List ℕ) : Type 0 where
   pub few_pins : (s : ℕ) → length (gate_pins lines s) < 2 ^ 32
   pub pins_below : (s p : ℕ) → Among p (gate_pins lines s) → p < length definitions
 
--- one more than the greatest of some levels, and 0 where there is none
-abbrev pub level_above : List ℕ → ℕ
-level_above [] = 0
-level_above (k ∷ ks) = max (1 + k) (level_above ks)
-
--- the levels of all signals
-pub record AreLevelsOf (pins : ℕ → List ℕ) (signals : ℕ) (levels : List ℕ) : Type 0 where
-  pub count : length levels ≡ signals
-  pub each : (s : ℕ) → s < signals
-      → slice_index levels s ≡ level_above (map (slice_index levels) (pins s))
-
 -- signals that all have levels, and one more than the greatest of these
 pub data HaveLevels (pins : ℕ → List ℕ) : List ℕ → ℕ → Type 0 where
   no_signal : HaveLevels pins [] 0
   one_more : (p : ℕ) (ps : List ℕ) (k above level : ℕ) → HaveLevels pins (pins p) k
       → HaveLevels pins ps above → level ≡ max (1 + k) above → HaveLevels pins (p ∷ ps) level
+
+-- the levels of all signals
+pub record AreLevelsOf (pins : ℕ → List ℕ) (signals : ℕ) (levels : List ℕ) : Type 0 where
+  pub count : length levels ≡ signals
+  pub each : (s : ℕ) → s < signals → HaveLevels pins (pins s) (slice_index levels s)
+  pub of_pins : (s p : ℕ) → Among p (pins s) → HaveLevels pins (pins p) (slice_index levels p)
+  pub small : (s : ℕ) → s < signals → slice_index levels s < signals
 
 -- the signal is one of some each of which reads one of them
 abbrev pub IsStuckAt : (ℕ → List ℕ) → ℕ → Type 0

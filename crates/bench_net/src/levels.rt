@@ -187,8 +187,6 @@ fn signal_levels(alloc: Global, lines: &[Line], definitions: &[u32]) -> Result<V
     requires graph { IsGraph lines.now definitions.now }
     ensures levels { IfOk result (λ levels. AreLevelsOf (gate_pins lines.now)
         (length definitions.now) levels.items) }
-    ensures small { IfOk result (λ levels. (s : ℕ) → s < length levels.items
-        → slice_index levels.items s ≤ length levels.items) }
     ensures fault { IfErr result (IsLevelFault (gate_pins lines.now) (length definitions.now)) }
 {
     let mut marks = vec![in alloc; Mark::Unknown; definitions.len()]?;

@@ -8,7 +8,7 @@ pub rows_of-requires-clause-few_rows : goal.rows_of-requires-clause-few_rows
 rows_of-requires-clause-few_rows c =
     let levels = c.in_ok-levels.levels.items in
     let is : c.greatest-depth.result ≡ greatest levels = c.greatest-depth.ensures ∙ ap greatest c.deref.ensures.value in
-    omega (arith, is, greatest-within levels (length levels) c.in_ok-levels.ensures.small, c.in_ok-levels.ensures.levels.count, c.requires.graph.few)
+    omega (arith, is, greatest-within levels (length levels) (λ i lt. omega (arith, c.in_ok-levels.ensures.levels.small i (omega (arith, lt, c.in_ok-levels.ensures.levels.count)), c.in_ok-levels.ensures.levels.count)), c.in_ok-levels.ensures.levels.count, c.requires.graph.few)
 
 pub rows_of-requires-clause-below : goal.rows_of-requires-clause-below
 rows_of-requires-clause-below c = λ i d lt.

@@ -8,11 +8,4 @@ returns-clause-levels c =
     let n : ℕ = length c.args.definitions.now in
     let end : c.loop-start.start ≡ n = omega (arith, c.requires.graph.few) in
     let state = subst (λ m. IsSearch (gate_pins c.args.lines.now) n m c.loop-start.marks.items []) end c.loop-start.invariant.0 in
-    rw (c.in_ok-levels_in.ensures, c.deref.ensures.value) ((settled state c.requires.graph.pins_below).0)
-
-pub returns-clause-small : goal.returns-clause-small
-returns-clause-small c =
-    let n : ℕ = length c.args.definitions.now in
-    let end : c.loop-start.start ≡ n = omega (arith, c.requires.graph.few) in
-    let state = subst (λ m. IsSearch (gate_pins c.args.lines.now) n m c.loop-start.marks.items []) end c.loop-start.invariant.0 in
-    rw (c.in_ok-levels_in.ensures, c.deref.ensures.value) ((settled state c.requires.graph.pins_below).1)
+    rw (c.in_ok-levels_in.ensures, c.deref.ensures.value) (settled state c.requires.graph.pins_below)
