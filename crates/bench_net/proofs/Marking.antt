@@ -53,12 +53,6 @@ module _ {pins : ℕ → List ℕ} where
 
 -- ---- the search for levels
 
--- a path is left by its last gate
-shorter : (pins : ℕ → List ℕ) (begun g : ℕ) (rest : List ℕ) → IsPath pins begun (g ∷ rest)
-    → IsPath pins begun rest
-shorter pins begun g [] is = tt
-shorter pins begun g (h ∷ rest) is = is.1
-
 -- each gate of a path reads one of some, where the last reads one of them
 reads_on : (pins : ℕ → List ℕ) (begun g : ℕ) (path all : List ℕ) → IsPath pins begun (g ∷ path)
     → ((s : ℕ) → Among s (g ∷ path) → Among s all) → (q : ℕ) → Among q (pins g) → Among q all
@@ -70,7 +64,7 @@ reads_on pins begun g (h ∷ path) all is inside q reads has m (inr a) =
 
 start_on : (pins : ℕ → List ℕ) (start g : ℕ) (path : List ℕ) → IsPath pins (start + 1) (g ∷ path)
     → Among start (g ∷ path)
-start_on pins start g [] is = inl (omega arith)
+start_on pins start g [] is = inl (omega (arith, is.0))
 start_on pins start g (h ∷ path) is = inr (start_on pins start h path is.1)
 
 count_set : (marks : List Mark) (g : ℕ) (old m : Mark) → slice_get marks g ≡ Some old
@@ -144,9 +138,6 @@ module _ {pins : ℕ → List ℕ} {n begun : ℕ} {marks : List Mark} where
         opens h (inl e) = inr (rw (sym e) (omega (arith, slice_get_within marks p Unknown unknown, state.count), no_signal, omega (arith, room path state, fewer)))
         opens h (inr a) = inl a
 
-    pub small : (s : ℕ) {k : ℕ} → slice_get marks s ≡ Some (Level k) → k < n
-    small s {k} at = omega (arith, (state.each s (Level k) at).1)
-
   module _ {gate : OpenGate} {rest : List OpenGate} (state : IsSearch pins n begun marks (gate ∷ rest)) where
     -- all pins have levels
     pub finished : slice_get (pins gate.signal) gate.pin ≡ None
@@ -155,7 +146,7 @@ module _ {pins : ℕ → List ℕ} {n begun : ℕ} {marks : List Mark} where
     finished none = (
       marked state begun rest gate.signal (Level gate.level) (λ e. cc e) (omega (arith, fewer))
           (rw (take_all gate.pin (pins gate.signal) all) at is.1, omega (arith, is.2, fewer))
-          stays (λ h a. inl (inr a)) (shorter pins begun gate.signal (signals_of rest) state.path_is) (λ s lt ne. lt),
+          stays (λ h a. inl (inr a)) state.path_is.1 (λ s lt ne. lt),
       omega (arith, fewer, sum_by-cons (pins_left pins) gate rest),
     )
       where
@@ -262,4 +253,5 @@ settled {pins} {n} {marks} state below = record {
     at s lt =
         let k = level_at s state lt lt in
         let is : slice_index (map level_in marks) s ≡ k.0 = get_or-map level_in marks s (Level 0) 0 (omega (arith, lt, state.count)) ∙ ap level_in (get_or_from_slice_get marks s (Level k.0) (Level 0) k.1) in
-        rw is ((state.each s (Level k.0) k.1).0, small state s k.1)
+        let has = state.each s (Level k.0) k.1 in
+        rw is (has.0, omega (arith, has.1))

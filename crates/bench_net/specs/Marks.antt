@@ -72,11 +72,15 @@ steps pins marks path = count_by is_unknown marks * 4294967297 + sum_by (pins_le
 abbrev pub signals_of : List OpenGate → List ℕ
 signals_of path = map (λ gate. gate.signal) path
 
--- signals each of which is read by the one behind it; the last is the last that was begun
+-- a signal is read by the first of some gates, or it is the last that was begun
+abbrev pub IsRead : (ℕ → List ℕ) → ℕ → ℕ → List ℕ → Type 0
+IsRead pins begun s [] = s + 1 ≡ begun
+IsRead pins begun s (g ∷ gates) = Among s (pins g)
+
+-- signals each of which is read by the one behind it
 abbrev pub IsPath : (ℕ → List ℕ) → ℕ → List ℕ → Type 0
 IsPath pins begun [] = Unit {0}
-IsPath pins begun (g ∷ []) = g + 1 ≡ begun
-IsPath pins begun (p ∷ g ∷ gates) = Among p (pins g) × IsPath pins begun (g ∷ gates)
+IsPath pins begun (g ∷ gates) = IsRead pins begun g gates × IsPath pins begun gates
 
 -- what a mark says of a signal, where some are open and so many of all have no level
 abbrev pub IsMark : (ℕ → List ℕ) → ℕ → ℕ → List ℕ → ℕ → Mark → Type 0

@@ -1,10 +1,10 @@
 //! The levels of signals, or a gate that has none: on a cycle of gates or fed by one.
 
-ghost use Rattle.std.specs.Prelude.{◌≡◌, ◌+◌, ◌<◌, ◌≤◌, ℕ, List, length, map, reverse, slice_get, slice_index, [], ◌∷◌, IfOk, IfErr, OnOk};
+ghost use Rattle.std.specs.Prelude.{◌≡◌, ◌+◌, ◌<◌, ◌≤◌, ℕ, List, length, map, reverse, slice_get, slice_index, [], ◌∷◌, Some, IfOk, IfErr, OnOk};
 ghost use Rattle.bench_net.specs.Level.{greatest};
 ghost use Rattle.bench_net.specs.Rows.{AreRows};
-ghost use Rattle.bench_net.specs.Tables.{AreDefinitions};
-ghost use Rattle.bench_net.specs.Marks.{gate_pins, IsGraph, AreLevelsOf, IsLevelFault, HaveLevelsBelow, IsSearch, steps, level_in};
+ghost use Rattle.bench_net.specs.Tables.{line_gate, AreDefinitions};
+ghost use Rattle.bench_net.specs.Marks.{pins_in, gate_pins, IsGraph, AreLevelsOf, IsLevelFault, HaveLevelsBelow, IsSearch, steps, level_in};
 ghost use Rattle.bench_net.specs.declared.levels.LevelFault.TheVariants.{Memory};
 
 use crate::line::Line;
@@ -60,13 +60,11 @@ struct OpenGate {
     level: u32,
 }
 
-/// The signals that the pins of a signal's gate read; none for a source.
-fn pins_of<'a>(lines: &'a [Line], definitions: &[u32], signal: u32) -> &'a [u32]
-    requires below { signal < length definitions.now }
-    requires definitions { AreDefinitions lines.now definitions.now }
-    ensures { result.now ≡ gate_pins lines.now signal }
+/// The signals that the pins of a line's gate read; none for a line without one.
+fn pins(line: &Line) -> &[u32]
+    ensures { result.now ≡ pins_in (line_gate (Some line.now)) }
 {
-    match &lines[definitions[signal as usize] as usize] {
+    match line {
         Line::Gate(_, driver) => driver.pins.as_slice(),
         Line::Dff(_, _) => &[],
         Line::Input(_) | Line::Output(_) => &[],
@@ -79,9 +77,8 @@ fn pin_of(lines: &[Line], definitions: &[u32], signal: u32, pin: u32) -> Option<
     requires definitions { AreDefinitions lines.now definitions.now }
     ensures { result ≡ slice_get (gate_pins lines.now signal) pin }
 {
-    pins_of(lines, definitions, signal)
-        .get(pin as usize)
-        .copied()
+    let line = &lines[definitions[signal as usize] as usize];
+    pins(line).get(pin as usize).copied()
 }
 
 /// Goes one pin on at an open gate, which was the last of the path: past a pin whose signal has a

@@ -11,7 +11,7 @@ loop-gate-init c =
     let marks = c.args.marks.now.items in
     let read = slice_get_read marks (length marks) c.args.start c.index.result.now refl (omega (arith, c.requires.start, c.requires.search.count)) c.index.ensures in
     elim c.match-index.branch [
-      | in-Unknown+in_ok-push w ↦ rw (w.marks-is, w.path-is, w.in_ok-push.ensures.items, c.requires.path) (opened c.requires.search (c.args.start + 1) c.args.start (read ∙ ap Some w.in-Unknown.is) refl (λ s lt ne. omega arith) (c.requires.graph.few_pins c.args.start)).0
+      | in-Unknown+in_ok-push w ↦ rw (w.marks-is, w.path-is, w.in_ok-push.ensures.items, c.requires.path) (opened c.requires.search (c.args.start + 1) c.args.start (read ∙ ap Some w.in-Unknown.is) (refl, tt) (λ s lt ne. omega arith) (c.requires.graph.few_pins c.args.start)).0
       | in_default w ↦ rw (w.marks-is, w.path-is, c.requires.path) (begun_more c.requires.search (λ e. let both : Some c.index.result.now ≡ Some Unknown = sym read ∙ e in let same : c.index.result.now ≡ Unknown = cc both in w.in_default.not-Unknown same))
     ]
 

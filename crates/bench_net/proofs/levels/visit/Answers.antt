@@ -5,7 +5,7 @@ use Rattle.std.proofs.lemmas.Option.{slice_get_read, slice_get_within}
 use Rattle.lists.proofs.Places.{at_place}
 use Rattle.bench_net.specs.Marks.{gate_pins}
 use Rattle.bench_net.specs.declared.levels.OpenGate.{OpenGate}
-use Rattle.bench_net.proofs.Marking.{finished, advanced, opened, met, small}
+use Rattle.bench_net.proofs.Marking.{finished, advanced, opened, met}
 use Rattle.bench_net.proofs.levels.visit.Goals.{In-Some, After-index}
 use Rattle.bench_net.proofs.levels.visit.Goals as goal
 
@@ -35,7 +35,9 @@ overflow_add-gate c =
     omega (arith, slice_get_within pins c.args.gate.pin _ (next (goal.at.overflow_add-gate c).After-index).0, c.requires.graph.few_pins c.args.gate.signal)
 
 pub overflow_add-lower : goal.overflow_add-lower
-overflow_add-lower c = omega (arith, small c.requires.search c.in-Some.signal ((next (goal.at.overflow_add-lower c).After-index).1 ∙ ap Some c.in-Level.is), c.requires.graph.few)
+overflow_add-lower c =
+    let at = (next (goal.at.overflow_add-lower c).After-index).1 ∙ ap Some c.in-Level.is in
+    omega (arith, (c.requires.search.each c.in-Some.signal _ at).1, c.requires.graph.few)
 
 pub index_mut-requires-in-Unknown : goal.index_mut-requires-in-Unknown
 index_mut-requires-in-Unknown c = omega (arith, below (goal.at.index_mut-requires-in-Unknown c).In-Some)
