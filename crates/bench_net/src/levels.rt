@@ -169,13 +169,6 @@ fn level_in(mark: &Mark) -> u32
     }
 }
 
-/// The levels in marks.
-fn levels_in(alloc: Global, marks: &[Mark]) -> Result<Vec<u32>, AllocError>
-    ensures { IfOk result (λ levels. levels.items ≡ map level_in marks.now) }
-{
-    marks.iter().map(|mark| level_in(mark)).collect(alloc)
-}
-
 /// The level of each signal: 0 for a source, and for a gate one more than the greatest of its pins'
 /// signals. The signals are settled in order, each behind the signals that it takes. A gate goes
 /// past each of its pins once, so the time is linear in the number of pins. A path that meets
@@ -191,16 +184,7 @@ fn signal_levels(alloc: Global, lines: &[Line], definitions: &[u32]) -> Result<V
     for start in 0..definitions.len() as u32 {
         settle(lines, definitions, start, &mut marks, &mut path)?;
     }
-    Ok(levels_in(alloc, &marks)?)
-}
-
-/// The greatest of some levels, and 0 where there is none.
-fn greatest(levels: &[u32]) -> u32
-    ensures { result ≡ greatest levels.now }
-{
-    levels
-        .iter()
-        .fold(0, |greatest, level| greatest.max(*level))
+    Ok(marks.iter().map(|mark| level_in(mark)).collect(alloc)?)
 }
 
 /// The levels of lines whose definitions stand at these places.
@@ -214,7 +198,7 @@ pub fn levels_of(alloc: Global, lines: &[Line], definitions: &[u32]) -> Result<L
     ensures fault { IfErr result (IsLevelFault (gate_pins lines.now) (length definitions.now)) }
 {
     let levels = signal_levels(alloc, lines, definitions)?;
-    let depth = greatest(&levels);
+    let depth = levels.iter().fold(0, |depth, level| depth.max(*level));
     let order = rows_of(alloc, &levels, depth as usize + 1)?.places;
     Ok(Levels {
         levels,
