@@ -109,11 +109,12 @@ module _ (c : List Statement) (once : AllPairs (λ m n. m ≢ n) (names c)) wher
   -- ---- stuck gates
 
   pub stuck_name : (s : ℕ) (n : Name) → signal c n ≡ s → IsStuckAt (pins c) s → IsStuck c n
-  stuck_name s n is stuck = (λ m. list_any (λ i. i == signal c m) stuck.0, set, member n (rw (sym is) at stuck.2))
+  stuck_name s n is stuck =
+      (λ m. list_any (λ i. i == signal c m) stuck.0, set, member n (rw (sym is) at stuck.2))
     where
-      member : (m : Name) → Among (signal c m) stuck.0 → list_any (λ i. i == signal c m) stuck.0 ≡ true
-      member m a =
-          any_true (λ i. i == signal c m) stuck.0 (signal c m) a (eq-eqb (signal c m) (signal c m) refl)
+      member : (m : Name) → Among (signal c m) stuck.0
+          → list_any (λ i. i == signal c m) stuck.0 ≡ true
+      member m a = any_true (λ i. i == signal c m) stuck.0 (signal c m) a (eq-eqb _ _ refl)
 
       set : IsStuckSet c (λ m. list_any (λ i. i == signal c m) stuck.0)
       set m inside =
@@ -130,9 +131,9 @@ module _ (c : List Statement) (once : AllPairs (λ m n. m ≢ n) (names c)) wher
   unstuck members set ps k (one_more q qs i b _ here rest is) m (inl e) inside =
       let next = set m inside in
       let arg = next.1 in
+      let gate = pins_at m arg.0 arg.1 (among c (Gate m arg.0 arg.1) arg.2) in
       let reads = among_map (signal c) arg.1 next.0 (among arg.1 next.0 arg.3) in
-      let all : map (signal c) arg.1 ≡ pins c q = sym (pins_at m arg.0 arg.1 (among c (Gate m arg.0 arg.1) arg.2)) ∙ ap (pins c) (sym e) in
-      unstuck members set (pins c q) i here next.0 (subst (Among (signal c next.0)) all reads) next.2
+      unstuck members set (pins c q) i here next.0 (rw (e, gate) reads) next.2
 
   pub not_stuck : (s k : ℕ) (n : Name) → signal c n ≡ s → HaveLevels (pins c) (pins c s) k → ¬ IsStuck c n
   not_stuck s k n is has stuck =
@@ -152,13 +153,9 @@ module _ (c : List Statement) (once : AllPairs (λ m n. m ≢ n) (names c)) wher
     above (a ∷ []) k (one_more _ _ i _ _ here no_signal is) at some =
         omega (arith, is, one_level _ i (level a) here (at a (inl refl)))
     above (a ∷ b ∷ args) k (one_more _ _ i j _ here rest is) at some =
-        omega (
-          arith,
-          is,
-          one_level _ i (level a) here (at a (inl refl)),
-          greatest-cons (level a) (map level (b ∷ args)),
-          above (b ∷ args) j rest (λ d m. at d (inr m)) (omega arith),
-        )
+        let above_rest = above (b ∷ args) j rest (λ d m. at d (inr m)) (omega arith) in
+        let more = greatest-cons (level a) (map level (b ∷ args)) in
+        omega (arith, is, above_rest, more, one_level _ i (level a) here (at a (inl refl)))
 
     at_name : (n : Name) (st : Statement) → Among st c → defined st ≡ n ∷ []
         → HaveLevels (pins c) (pins c (signal c n)) (level n)
@@ -171,8 +168,8 @@ module _ (c : List Statement) (once : AllPairs (λ m n. m ≢ n) (names c)) wher
     levels_are = record {
       source = λ n has.
           let st = source_statement c n (among (sources c) n has) in
-          let pins = ap (λ o. pins_in (gate_line c o)) (defined_at st.0 n st.1 st.2) ∙ ap pins_in (st.3 c) in
-          none (level n) (rw pins at (at_name n st.0 st.1 st.2));
+          none (level n)
+          (rw (defined_at st.0 n st.1 st.2, st.3 c) at (at_name n st.0 st.1 st.2));
       gate = λ n kind args has.
           let a = among c (Gate n kind args) has in
           let pins = pins_at n kind args a in
@@ -183,7 +180,8 @@ module _ (c : List Statement) (once : AllPairs (λ m n. m ≢ n) (names c)) wher
 
     -- levels number the names along every gate
     pub numbering : IsNumbering c level
-    numbering n a h = omega (arith, levels_are.gate n h.0 h.1 h.2, above_names level h.1 a (among h.1 a h.3))
+    numbering n a h =
+        omega (arith, levels_are.gate n h.0 h.1 h.2, above_names level h.1 a (among h.1 a h.3))
 
     of_name : (s : ℕ) → s < length (names c)
         → level (slice_index_or (names c) s []) ≡ slice_index levels s

@@ -1,10 +1,10 @@
 -- Levels, and the marks of a search for them.
-use Rattle.std.proofs.Common.{◌≡◌, ◌≢◌, ◌<◌, ◌≤◌, ◌+◌, ℕ, zero, suc, max, sym, ◌∙◌, ap, subst, refl, cond, List, [], ◌∷◌, ◌++◌, map, length, take, get_or, set, arith, inl, inr, ◌⊎◌}
+use Rattle.std.proofs.Common.{◌≡◌, ◌≢◌, ◌<◌, ◌≤◌, ◌+◌, ℕ, zero, suc, max, sym, ◌∙◌, ap, refl, cond, List, [], ◌∷◌, ◌++◌, map, length, take, get_or, set, arith, inl, inr, ◌⊎◌}
 use Rattle.std.specs.Prelude.{Some, None, slice_get, slice_index, count_by, fold, ◌^◌}
 use Rattle.std.proofs.lemmas.Bool.{cases_lt}
 use Rattle.std.proofs.lemmas.List.{length-map, length-set, get_or-map, take_all, take_more}
 use Rattle.std.proofs.lemmas.List.Sums.{sum_by-set, sum_by-cons, count_by-le-length}
-use Rattle.std.proofs.lemmas.Option.{slice_get_within, slice_get-get_or, get_or_from_slice_get}
+use Rattle.std.proofs.lemmas.Option.{slice_get_within, slice_get_cases, get_or_from_slice_get}
 use Rattle.bench_net.specs.declared.levels.Mark.{Mark}
 use Rattle.bench_net.specs.declared.levels.Mark.TheVariants.{Unknown, Open, Level}
 use Rattle.bench_net.specs.declared.levels.LevelFault.TheVariants.{Cycle}
@@ -52,6 +52,13 @@ module _ {pins : ℕ → List ℕ} where
       (omega (arith, is))
 
 -- ---- the search for levels
+
+-- a gate none of whose pins is passed, and one whose next pin's signal has a level
+abbrev unpassed : ℕ → OpenGate
+unpassed p = record { signal = p; pin = 0; level = 0 }
+
+abbrev passed : OpenGate → ℕ → OpenGate
+passed gate k = record gate { pin = gate.pin + 1; level = max gate.level (k + 1) }
 
 -- each gate of a path reads one of some, where the last reads one of them
 reads_on : (pins : ℕ → List ℕ) (begun g : ℕ) (path all : List ℕ) → IsPath pins begun (g ∷ path)
@@ -118,31 +125,31 @@ module _ {pins : ℕ → List ℕ} {n begun : ℕ} {marks : List Mark} where
     pub opened : (later p : ℕ) → slice_get marks p ≡ Some Unknown
         → IsPath pins later (p ∷ signals_of path) → ((s : ℕ) → s < later → s ≢ p → s < begun)
         → length (pins p) < 2 ^ 32
-        → IsSearch pins n later (set marks p Open) (record { signal = p; pin = 0; level = 0 } ∷ path)
-        × (steps pins (set marks p Open) (record { signal = p; pin = 0; level = 0 } ∷ path)
-        < steps pins marks path)
+        → IsSearch pins n later (set marks p Open) (unpassed p ∷ path)
+        × (steps pins (set marks p Open) (unpassed p ∷ path) < steps pins marks path)
     opened later p unknown is begins few = (
-      marked later (new ∷ path) p Open (λ e. cc e) (omega (arith, fewer)) (inl refl) (λ s ne a. inr a)
-          opens is begins,
-      omega (arith, fewer, few, sum_by-cons (pins_left pins) new path),
+      marked later (unpassed p ∷ path) p Open (λ e. cc e) (omega (arith, fewer)) (inl refl)
+          (λ s ne a. inr a) opens is begins,
+      omega (arith, fewer, few, sum_by-cons (pins_left pins) (unpassed p) path),
     )
       where
-        new : OpenGate
-        new = record { signal = p; pin = 0; level = 0 }
-
         fewer : count_by is_unknown (set marks p Open) + 1 ≡ count_by is_unknown marks
         fewer = omega (arith, count_set marks p Unknown Open unknown)
 
-        opens : (h : OpenGate) → Among h (new ∷ path)
-            → Among h path ⊎ IsOpen pins n (waiting (set marks p Open) (new ∷ path)) h
-        opens h (inl e) = inr (rw (sym e) (omega (arith, slice_get_within marks p Unknown unknown, state.count), no_signal, omega (arith, room path state, fewer)))
+        opens : (h : OpenGate) → Among h (unpassed p ∷ path)
+            → Among h path ⊎ IsOpen pins n (waiting (set marks p Open) (unpassed p ∷ path)) h
+        opens h (inl e) =
+            let within = slice_get_within marks p Unknown unknown in
+            inr (rw (sym e)
+            (omega (arith, within, state.count), no_signal, omega (arith, room path state, fewer)))
         opens h (inr a) = inl a
 
-  module _ {gate : OpenGate} {rest : List OpenGate} (state : IsSearch pins n begun marks (gate ∷ rest)) where
+  module _ {gate : OpenGate} {rest : List OpenGate}
+      (state : IsSearch pins n begun marks (gate ∷ rest)) where
     -- all pins have levels
     pub finished : slice_get (pins gate.signal) gate.pin ≡ None
-        → IsSearch pins n begun (set marks gate.signal (Level gate.level)) rest
-        × (steps pins (set marks gate.signal (Level gate.level)) rest < steps pins marks (gate ∷ rest))
+        → let after = set marks gate.signal (Level gate.level) in
+        IsSearch pins n begun after rest × (steps pins after rest < steps pins marks (gate ∷ rest))
     finished none = (
       marked state begun rest gate.signal (Level gate.level) (λ e. cc e) (omega (arith, fewer))
           (rw (take_all gate.pin (pins gate.signal) all) at is.1, omega (arith, is.2, fewer))
@@ -154,61 +161,57 @@ module _ {pins : ℕ → List ℕ} {n begun : ℕ} {marks : List Mark} where
         is = state.opens gate (inl refl)
 
         all : length (pins gate.signal) ≤ gate.pin
-        all = elim (cases_lt gate.pin (length (pins gate.signal))) [
-          | inl lt ↦ (let bad = sym none ∙ slice_get-get_or (pins gate.signal) gate.pin 0 lt in cc bad)
-          | inr le ↦ le
+        all = elim (slice_get_cases (pins gate.signal) gate.pin).1 [
+          | inl at ↦ (let bad = sym none ∙ at.2 in cc bad)
+          | inr past ↦ past.0
         ]
 
-        fewer : count_by is_unknown (set marks gate.signal (Level gate.level)) ≤ count_by is_unknown marks
+        fewer : count_by is_unknown (set marks gate.signal (Level gate.level))
+            ≤ count_by is_unknown marks
         fewer =
             let old = within_place marks gate.signal (omega (arith, is.0, state.count)) in
             omega (arith, count_set marks gate.signal old.0 (Level gate.level) old.1)
 
-        stays : (s : ℕ) → s ≢ gate.signal → Among s (gate.signal ∷ signals_of rest) → Among s (signals_of rest)
+        stays : (s : ℕ) → s ≢ gate.signal → Among s (gate.signal ∷ signals_of rest)
+            → Among s (signals_of rest)
         stays s ne (inl e) = absurd (ne (sym e))
         stays s ne (inr a) = a
 
-    module _ {p : ℕ} (at : slice_get (pins gate.signal) gate.pin ≡ Some p) where
-      -- the next pin's signal has a level
-      pub advanced : {k : ℕ} → slice_get marks p ≡ Some (Level k)
-          → IsSearch pins n begun marks (record gate { pin = gate.pin + 1; level = max gate.level (k + 1) } ∷ rest)
-          × (steps pins marks (record gate { pin = gate.pin + 1; level = max gate.level (k + 1) } ∷ rest)
-          < steps pins marks (gate ∷ rest))
-      advanced {k} known = (
-        record {
-          count = state.count;
-          each = state.each;
-          opens = opens;
-          path_is = state.path_is;
-          begun_are = state.begun_are;
-        },
-        omega (arith, slice_get_within (pins gate.signal) gate.pin p at, sum_by-cons (pins_left pins) gate rest, sum_by-cons (pins_left pins) new rest),
-      )
-        where
-          new : OpenGate
-          new = record gate { pin = gate.pin + 1; level = max gate.level (k + 1) }
+    -- the next pin's signal has a level
+    pub advanced : {p k : ℕ} → slice_get (pins gate.signal) gate.pin ≡ Some p
+        → slice_get marks p ≡ Some (Level k)
+        → IsSearch pins n begun marks (passed gate k ∷ rest)
+        × (steps pins marks (passed gate k ∷ rest) < steps pins marks (gate ∷ rest))
+    advanced {p} {k} at known = (
+      record {
+        count = state.count;
+        each = state.each;
+        opens = opens;
+        path_is = state.path_is;
+        begun_are = state.begun_are;
+      },
+      omega (arith, within, sum_by-cons left gate rest, sum_by-cons left (passed gate k) rest),
+    )
+      where
+        left : OpenGate → ℕ
+        left = pins_left pins
 
-          opens : (h : OpenGate) → Among h (new ∷ rest) → IsOpen pins n (waiting marks (new ∷ rest)) h
-          opens h (inl e) =
-              let is = state.opens gate (inl refl) in
-              let has = state.each p (Level k) known in
-              let lt = slice_get_within (pins gate.signal) gate.pin p at in
-              let more = take_more (pins gate.signal) gate.pin 0 lt
-              ∙ ap (λ x. take gate.pin (pins gate.signal) ++ x ∷ []) (get_or_from_slice_get (pins gate.signal) gate.pin p 0 at) in
-              rw (sym e) (is.0, subst (λ ps. HaveLevels pins ps (max gate.level (k + 1))) (sym more) (pushed (take gate.pin (pins gate.signal)) gate.level p k is.1 has.0), omega (arith, is.2, has.1))
-          opens h (inr a) = state.opens h (inr a)
+        within : gate.pin < length (pins gate.signal)
+        within = slice_get_within (pins gate.signal) gate.pin p at
 
-      -- it is open, so the path meets itself
-      pub met : (start : ℕ) → start + 1 ≡ begun → HaveLevelsBelow pins start → slice_get marks p ≡ Some Open → IsLevelFault pins n (Cycle start)
-      met start is lower again =
-          let gates : List ℕ = gate.signal ∷ signals_of rest in
-          let path = subst (λ b. IsPath pins b gates) (sym is) state.path_is in
-          let first = start_on pins start gate.signal (signals_of rest) path in
-          let from = mapped_from (λ h. h.signal) (gate ∷ rest) start first in (
-            omega (arith, from.2, (state.opens from.0 from.1).0),
-            (gates, reads_on pins (start + 1) gate.signal (signals_of rest) gates path (λ s a. a) p (at_place (pins gate.signal) gate.pin p at) (state.each p Open again), first),
-            lower,
-          )
+        opens : (h : OpenGate) → Among h (passed gate k ∷ rest)
+            → IsOpen pins n (waiting marks (gate ∷ rest)) h
+        opens h (inl e) =
+            let is = state.opens gate (inl refl) in
+            let has = state.each p (Level k) known in
+            let next = get_or_from_slice_get (pins gate.signal) gate.pin p 0 at in
+            rw (sym e) (
+              is.0,
+              rw (take_more (pins gate.signal) gate.pin 0 within, next)
+                  (pushed (take gate.pin (pins gate.signal)) gate.level p k is.1 has.0),
+              omega (arith, is.2, has.1),
+            )
+        opens h (inr a) = state.opens h (inr a)
 
   -- a signal that is known is known to the next search
   pub begun_more : IsSearch pins n begun marks [] → slice_get marks begun ≢ Some Unknown
@@ -227,7 +230,8 @@ module _ {pins : ℕ → List ℕ} {n begun : ℕ} {marks : List Mark} where
   -- where no signal is open, each that was begun has a level
   pub level_at : (s : ℕ) → IsSearch pins n begun marks [] → s < begun → s < n
       → (k : ℕ) × (slice_get marks s ≡ Some (Level k))
-  level_at s state met lt = let m = within_place marks s (omega (arith, lt, state.count)) in go m.0 m.1
+  level_at s state met lt =
+      let m = within_place marks s (omega (arith, lt, state.count)) in go m.0 m.1
     where
       go : (m : Mark) → slice_get marks s ≡ Some m → (k : ℕ) × (slice_get marks s ≡ Some (Level k))
       go Unknown e = absurd (state.begun_are s met e)
@@ -237,6 +241,20 @@ module _ {pins : ℕ → List ℕ} {n begun : ℕ} {marks : List Mark} where
   pub lower_levels : IsSearch pins n begun marks [] → begun ≤ n → HaveLevelsBelow pins begun
   lower_levels state le s lt =
       let k = level_at s state lt (omega (arith, lt, le)) in (k.0, (state.each s (Level k.0) k.1).0)
+
+-- the gate reads an open signal, so the path meets itself
+pub met : {pins : ℕ → List ℕ} {n : ℕ} {marks : List Mark} {gate : OpenGate}
+    {rest : List OpenGate} (start : ℕ) → IsSearch pins n (start + 1) marks (gate ∷ rest)
+    → HaveLevelsBelow pins start → (p : ℕ) → slice_get (pins gate.signal) gate.pin ≡ Some p
+    → slice_get marks p ≡ Some Open → IsLevelFault pins n (Cycle start)
+met {pins} {n} {marks} {gate} {rest} start state lower p at again =
+    let gates = gate.signal ∷ signals_of rest in
+    let first = start_on pins start gate.signal (signals_of rest) state.path_is in
+    let from = mapped_from (λ h. h.signal) (gate ∷ rest) start first in
+    let reads = at_place (pins gate.signal) gate.pin p at in
+    let members = reads_on pins (start + 1) gate.signal (signals_of rest) gates state.path_is
+    (λ s a. a) p reads (state.each p Open again) in
+    (omega (arith, from.2, (state.opens from.0 from.1).0), (gates, members, first), lower)
 
 -- a search over all signals has marked all levels
 pub settled : {pins : ℕ → List ℕ} {n : ℕ} {marks : List Mark} → IsSearch pins n n marks []
@@ -252,6 +270,9 @@ settled {pins} {n} {marks} state below = record {
         × (slice_index (map level_in marks) s < n)
     at s lt =
         let k = level_at s state lt lt in
-        let is : slice_index (map level_in marks) s ≡ k.0 = get_or-map level_in marks s (Level 0) 0 (omega (arith, lt, state.count)) ∙ ap level_in (get_or_from_slice_get marks s (Level k.0) (Level 0) k.1) in
         let has = state.each s (Level k.0) k.1 in
-        rw is (has.0, omega (arith, has.1))
+        rw (
+          get_or-map level_in marks s (Level 0) 0 (omega (arith, lt, state.count)),
+          get_or_from_slice_get marks s (Level k.0) (Level 0) k.1,
+        )
+        (has.0, omega (arith, has.1))

@@ -1,4 +1,4 @@
-use Rattle.std.proofs.Common.{◌≡◌, arith, ap, ◌∙◌, length, get_or, rules}
+use Rattle.std.proofs.Common.{◌≡◌, arith, length, rules}
 use Rattle.std.proofs.lemmas.List.{get_or_default}
 use Rattle.bench_net.specs.Level.{greatest}
 use Rattle.bench_net.proofs.Marking.{greatest-at, greatest-within}

@@ -9,7 +9,8 @@ use Rattle.bench_net.proofs.levels.pin_of.Goals as goal
 
 pub bounds-lines-definitions : goal.bounds-lines-definitions
 bounds-lines-definitions c =
-    let at = line_at c.args.lines.now c.args.definitions.now c.args.signal c.requires.definitions c.requires.below in
+    let at = line_at c.args.lines.now c.args.definitions.now c.args.signal
+    c.requires.definitions c.requires.below in
     slice_get_within c.args.lines.now (slice_index c.args.definitions.now c.args.signal) at.0 at.1
 
 pub returns : goal.returns

@@ -1,10 +1,9 @@
-use Rattle.std.proofs.Common.{◌≡◌, ◌<◌, ◌+◌, ◌∙◌, ◌++◌, ◌∷◌, [], List, ap, sym, arith, length, reverse, refl, inl}
+use Rattle.std.proofs.Common.{◌≡◌, ◌<◌, ◌+◌, ◌∙◌, ap, sym, arith, length, refl, inl}
 use Rattle.std.specs.Prelude.{Some, slice_get}
 use Rattle.std.proofs.lemmas.List.{reverse-append}
 use Rattle.std.proofs.lemmas.Option.{slice_get_read, slice_get_within}
 use Rattle.lists.proofs.Places.{at_place}
 use Rattle.bench_net.specs.Marks.{gate_pins}
-use Rattle.bench_net.specs.declared.levels.OpenGate.{OpenGate}
 use Rattle.bench_net.proofs.Marking.{finished, advanced, opened, met}
 use Rattle.bench_net.proofs.levels.visit.Goals.{In-Some, After-index}
 use Rattle.bench_net.proofs.levels.visit.Goals as goal
@@ -13,26 +12,32 @@ pub pin_of-requires-clause-below : goal.pin_of-requires-clause-below
 pin_of-requires-clause-below c = (c.requires.search.opens c.args.gate (inl refl)).0
 
 pub returns-in_default-clause-search : goal.returns-in_default-clause-search
-returns-in_default-clause-search c = finished c.requires.search (sym c.pin_of.ensures ∙ c.in_default.is)
+returns-in_default-clause-search c =
+    finished c.requires.search (sym c.pin_of.ensures ∙ c.in_default.is)
 
 below : (c : In-Some) → c.in-Some.signal < length c.args.marks.now.items
 below c =
     let reads = at_place _ c.args.gate.pin _ (sym c.pin_of.ensures ∙ c.in-Some.is) in
-    omega (arith, c.requires.graph.pins_below c.args.gate.signal c.in-Some.signal reads, c.requires.search.count)
+    let lt = c.requires.graph.pins_below c.args.gate.signal c.in-Some.signal reads in
+    omega (arith, lt, c.requires.search.count)
 
 pub index-requires : goal.index-requires
 index-requires c = omega (arith, below (goal.at.index-requires c).In-Some)
 
 -- the signal of the next pin, and its mark
-next : (c : After-index)
-    → (slice_get (gate_pins c.args.lines.now c.args.gate.signal) c.args.gate.pin ≡ Some c.in-Some.signal)
+next : (c : After-index) → (slice_get (gate_pins c.args.lines.now c.args.gate.signal)
+    c.args.gate.pin ≡ Some c.in-Some.signal)
     × (slice_get c.args.marks.now.items c.in-Some.signal ≡ Some c.index.result.now)
-next c = (sym c.pin_of.ensures ∙ c.in-Some.is, slice_get_read _ _ _ _ refl (below (goal.at.After-index c).In-Some) c.index.ensures)
+next c = (
+  sym c.pin_of.ensures ∙ c.in-Some.is,
+  slice_get_read _ _ _ _ refl (below (goal.at.After-index c).In-Some) c.index.ensures,
+)
 
 pub overflow_add-gate : goal.overflow_add-gate
 overflow_add-gate c =
-    let pins = gate_pins c.args.lines.now c.args.gate.signal in
-    omega (arith, slice_get_within pins c.args.gate.pin _ (next (goal.at.overflow_add-gate c).After-index).0, c.requires.graph.few_pins c.args.gate.signal)
+    let at = next (goal.at.overflow_add-gate c).After-index in
+    let within = slice_get_within (gate_pins c.args.lines.now c.args.gate.signal) _ _ at.0 in
+    omega (arith, within, c.requires.graph.few_pins c.args.gate.signal)
 
 pub overflow_add-lower : goal.overflow_add-lower
 overflow_add-lower c =
@@ -40,25 +45,30 @@ overflow_add-lower c =
     omega (arith, (c.requires.search.each c.in-Some.signal _ at).1, c.requires.graph.few)
 
 pub index_mut-requires-in-Unknown : goal.index_mut-requires-in-Unknown
-index_mut-requires-in-Unknown c = omega (arith, below (goal.at.index_mut-requires-in-Unknown c).In-Some)
+index_mut-requires-in-Unknown c =
+    omega (arith, below (goal.at.index_mut-requires-in-Unknown c).In-Some)
 
 pub returns-in-Open-clause-fault : goal.returns-in-Open-clause-fault
 returns-in-Open-clause-fault c =
     let at = next (goal.at.returns-in-Open-clause-fault c).After-index in
-    met c.requires.search at.0 c.args.start refl c.requires.lower (at.1 ∙ ap Some c.in-Open.is)
-
-longer : (path rest : List OpenGate) (gate : OpenGate) → rest ≡ path ++ gate ∷ [] → reverse rest ≡ gate ∷ reverse path
-longer path rest gate e = ap reverse e ∙ reverse-append path (gate ∷ [])
+    met c.args.start c.requires.search c.requires.lower _ at.0 (at.1 ∙ ap Some c.in-Open.is)
 
 pub returns-in_ok-push-in-Level-clause-search : goal.returns-in_ok-push-in-Level-clause-search
 returns-in_ok-push-in-Level-clause-search c =
     let at = next (goal.at.returns-in_ok-push-in-Level-clause-search c).After-index in
-    rw (longer c.args.path.now.items c.push.new.self.items _ c.in_ok-push-in-Level.ensures.items, c.max.ensures)
+    rw (c.in_ok-push-in-Level.ensures.items, reverse-append, c.max.ensures)
     (advanced c.requires.search at.0 (at.1 ∙ ap Some c.in-Level.is))
 
-pub returns-in_ok-push-in-Unknown-2-clause-search : goal.returns-in_ok-push-in-Unknown-2-clause-search
+pub returns-in_ok-push-in-Unknown-2-clause-search :
+    goal.returns-in_ok-push-in-Unknown-2-clause-search
 returns-in_ok-push-in-Unknown-2-clause-search c =
     let at = next (goal.at.returns-in_ok-push-in-Unknown-2-clause-search c).After-index in
-    rw (longer c.push-in-Unknown.new.self.items c.push-in-Unknown-2.new.self.items _ c.in_ok-push-in-Unknown-2.ensures.items, longer c.args.path.now.items c.push-in-Unknown.new.self.items c.args.gate c.in_ok-push-in-Unknown.ensures.items)
+    let reads = at_place _ c.args.gate.pin _ at.0 in
+    rw (
+      c.in_ok-push-in-Unknown-2.ensures.items,
+      reverse-append,
+      c.in_ok-push-in-Unknown.ensures.items,
+      reverse-append,
+    )
     (opened c.requires.search (c.args.start + 1) c.in-Some.signal (at.1 ∙ ap Some c.in-Unknown.is)
-    (at_place _ c.args.gate.pin _ at.0, c.requires.search.path_is) (λ s lt ne. lt) (c.requires.graph.few_pins c.in-Some.signal))
+    (reads, c.requires.search.path_is) (λ s lt ne. lt) (c.requires.graph.few_pins c.in-Some.signal))
