@@ -126,8 +126,7 @@ module _ (ns : List Name) (lines : List Line) (at : List ℕ) (are : AreStatemen
       few_pins = λ s. omega (arith, (reads s).0, read_count, are.sinks);
       pins_below = λ s p a.
           let read = contained (flat_map read_numbers lines) p ((reads s).1 p a) in
-          let below : p < length ns = All-contains (λ x. x < length ns) _ p are.numbered.in_range read in
-          omega (arith, count, below);
+          omega (arith, count, All-contains (λ x. x < length ns) _ p are.numbered.in_range read);
     }
 
   -- ---- the pins of signals are those of their statements

@@ -157,10 +157,6 @@ module _ (c : List Statement) (once : AllPairs (λ m n. m ≢ n) (names c)) wher
         let more = greatest-cons (level a) (map level (b ∷ args)) in
         omega (arith, is, above_rest, more, one_level _ i (level a) here (at a (inl refl)))
 
-    at_name : (n : Name) (st : Statement) → Among st c → defined st ≡ n ∷ []
-        → HaveLevels (pins c) (pins c (signal c n)) (level n)
-    at_name n st a d = are.each (signal c n) (signal_below c n (named c st n a d))
-
     none : (k : ℕ) → HaveLevels (pins c) [] k → k ≡ 0
     none k no_signal = refl
 
@@ -168,12 +164,13 @@ module _ (c : List Statement) (once : AllPairs (λ m n. m ≢ n) (names c)) wher
     levels_are = record {
       source = λ n has.
           let st = source_statement c n (among (sources c) n has) in
-          none (level n)
-          (rw (defined_at st.0 n st.1 st.2, st.3 c) at (at_name n st.0 st.1 st.2));
+          let below = signal_below c n (named c st.0 n st.1 st.2) in
+          none (level n) (rw (defined_at st.0 n st.1 st.2, st.3 c) at (are.each (signal c n) below));
       gate = λ n kind args has.
           let a = among c (Gate n kind args) has in
+          let below = signal_below c n (named c (Gate n kind args) n a refl) in
           let pins = pins_at n kind args a in
-          above args (level n) (rw pins at (at_name n (Gate n kind args) a refl))
+          above args (level n) (rw pins at (are.each (signal c n) below))
           (λ b m. are.of_pins (signal c n) (signal c b) (rw pins (among_map (signal c) args b m)))
           (some_args kind args (arities n kind args has));
     }

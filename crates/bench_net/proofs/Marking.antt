@@ -1,5 +1,5 @@
 -- Levels, and the marks of a search for them.
-use Rattle.std.proofs.Common.{◌≡◌, ◌≢◌, ◌<◌, ◌≤◌, ◌+◌, ℕ, zero, suc, max, sym, ◌∙◌, ap, refl, cond, List, [], ◌∷◌, ◌++◌, map, length, take, get_or, set, arith, inl, inr, ◌⊎◌}
+use Rattle.std.proofs.Common.{◌≡◌, ◌≢◌, ◌<◌, ◌≤◌, ◌+◌, ℕ, zero, suc, max, sym, ◌∙◌, refl, cond, List, [], ◌∷◌, ◌++◌, map, length, take, get_or, set, arith, inl, inr, ◌⊎◌}
 use Rattle.std.specs.Prelude.{Some, None, slice_get, slice_index, count_by, fold, ◌^◌}
 use Rattle.std.proofs.lemmas.Bool.{cases_lt}
 use Rattle.std.proofs.lemmas.List.{length-map, length-set, get_or-map, take_all, take_more}
@@ -74,14 +74,6 @@ start_on : (pins : ℕ → List ℕ) (start g : ℕ) (path : List ℕ) → IsPat
 start_on pins start g [] is = inl (omega (arith, is.0))
 start_on pins start g (h ∷ path) is = inr (start_on pins start h path is.1)
 
-count_set : (marks : List Mark) (g : ℕ) (old m : Mark) → slice_get marks g ≡ Some old
-    → count_by is_unknown (set marks g m) + cond (is_unknown old) 1 0
-    ≡ count_by is_unknown marks + cond (is_unknown m) 1 0
-count_set marks g old m at =
-    let f : Mark → ℕ = λ x. cond (is_unknown x) 1 0 in
-    let is = ap f (get_or_from_slice_get marks g old old at) in
-    omega (arith, sum_by-set f marks g m old (slice_get_within marks g old at), is)
-
 module _ {pins : ℕ → List ℕ} {n begun : ℕ} {marks : List Mark} where
   room : (path : List OpenGate) → IsSearch pins n begun marks path → waiting marks path ≤ n
   room [] state = omega (arith, count_by-le-length is_unknown marks, state.count)
@@ -89,16 +81,14 @@ module _ {pins : ℕ → List ℕ} {n begun : ℕ} {marks : List Mark} where
 
   module _ {path : List OpenGate} (state : IsSearch pins n begun marks path) where
     -- a mark is written, and the path becomes another
-    marked : (later : ℕ) (after : List OpenGate) (g : ℕ) (m : Mark) → m ≢ Unknown
-        → waiting (set marks g m) after ≤ waiting marks path
-        → IsMark pins n (waiting (set marks g m) after) (signals_of after) g m
+    marked : (later : ℕ) (after : List OpenGate) (g : ℕ) (m : Mark)
+        → let waits = waiting (set marks g m) after in waits ≤ waiting marks path
+        → IsMark pins n later waits (signals_of after) g m
         → ((s : ℕ) → s ≢ g → Among s (signals_of path) → Among s (signals_of after))
-        → ((h : OpenGate) → Among h after
-        → Among h path ⊎ IsOpen pins n (waiting (set marks g m) after) h)
-        → IsPath pins later (signals_of after)
-        → ((s : ℕ) → s < later → s ≢ g → s < begun)
+        → ((h : OpenGate) → Among h after → Among h path ⊎ IsOpen pins n waits h)
+        → IsPath pins later (signals_of after) → ((s : ℕ) → s ≢ g → begun ≤ s → later ≤ s)
         → IsSearch pins n later (set marks g m) after
-    marked later after g m known less is stays opens path_is begins = record {
+    marked later after g m less is stays opens path_is begins = record {
       count = length-set marks g m ∙ state.count;
       each = λ s x e. elim (written marks g m s x e) [
         | inl h ↦ rw (h.0, h.1) is
@@ -109,38 +99,40 @@ module _ {pins : ℕ → List ℕ} {n begun : ℕ} {marks : List Mark} where
         | inr o ↦ o
       ];
       path_is = path_is;
-      begun_are = λ s lt e. elim (written marks g m s Unknown e) [
-        | inl h ↦ known (sym h.1)
-        | inr h ↦ state.begun_are s (begins s lt h.0) h.1
-      ];
     }
       where
-        kept : (s : ℕ) (x : Mark) → s ≢ g → IsMark pins n (waiting marks path) (signals_of path) s x
-            → IsMark pins n (waiting (set marks g m) after) (signals_of after) s x
-        kept s Unknown ne was = tt
+        kept : (s : ℕ) (x : Mark) → s ≢ g
+            → IsMark pins n begun (waiting marks path) (signals_of path) s x
+            → IsMark pins n later (waiting (set marks g m) after) (signals_of after) s x
+        kept s Unknown ne was = begins s ne was
         kept s Open ne was = stays s ne was
         kept s (Level k) ne was = (was.0, omega (arith, was.1, less))
 
     -- an unknown signal is opened
     pub opened : (later p : ℕ) → slice_get marks p ≡ Some Unknown
-        → IsPath pins later (p ∷ signals_of path) → ((s : ℕ) → s < later → s ≢ p → s < begun)
+        → IsPath pins later (p ∷ signals_of path) → ((s : ℕ) → s ≢ p → begun ≤ s → later ≤ s)
         → length (pins p) < 2 ^ 32
         → IsSearch pins n later (set marks p Open) (unpassed p ∷ path)
         × (steps pins (set marks p Open) (unpassed p ∷ path) < steps pins marks path)
     opened later p unknown is begins few = (
-      marked later (unpassed p ∷ path) p Open (λ e. cc e) (omega (arith, fewer)) (inl refl)
+      marked later (unpassed p ∷ path) p Open (omega (arith, fewer)) (inl refl)
           (λ s ne a. inr a) opens is begins,
       omega (arith, fewer, few, sum_by-cons (pins_left pins) (unpassed p) path),
     )
       where
+        within : p < length marks
+        within = slice_get_within marks p Unknown unknown
+
         fewer : count_by is_unknown (set marks p Open) + 1 ≡ count_by is_unknown marks
-        fewer = omega (arith, count_set marks p Unknown Open unknown)
+        fewer = omega (
+          arith,
+          rw (get_or_from_slice_get marks p Unknown Unknown unknown)
+              at (sum_by-set (λ x. cond (is_unknown x) 1 0) marks p Open Unknown within),
+        )
 
         opens : (h : OpenGate) → Among h (unpassed p ∷ path)
             → Among h path ⊎ IsOpen pins n (waiting (set marks p Open) (unpassed p ∷ path)) h
-        opens h (inl e) =
-            let within = slice_get_within marks p Unknown unknown in
-            inr (rw (sym e)
+        opens h (inl e) = inr (rw (sym e)
             (omega (arith, within, state.count), no_signal, omega (arith, room path state, fewer)))
         opens h (inr a) = inl a
 
@@ -151,9 +143,9 @@ module _ {pins : ℕ → List ℕ} {n begun : ℕ} {marks : List Mark} where
         → let after = set marks gate.signal (Level gate.level) in
         IsSearch pins n begun after rest × (steps pins after rest < steps pins marks (gate ∷ rest))
     finished none = (
-      marked state begun rest gate.signal (Level gate.level) (λ e. cc e) (omega (arith, fewer))
+      marked state begun rest gate.signal (Level gate.level) (omega (arith, fewer))
           (rw (take_all gate.pin (pins gate.signal) all) at is.1, omega (arith, is.2, fewer))
-          stays (λ h a. inl (inr a)) state.path_is.1 (λ s lt ne. lt),
+          stays (λ h a. inl (inr a)) state.path_is.1 (λ s ne le. le),
       omega (arith, fewer, sum_by-cons (pins_left pins) gate rest),
     )
       where
@@ -168,9 +160,11 @@ module _ {pins : ℕ → List ℕ} {n begun : ℕ} {marks : List Mark} where
 
         fewer : count_by is_unknown (set marks gate.signal (Level gate.level))
             ≤ count_by is_unknown marks
-        fewer =
-            let old = within_place marks gate.signal (omega (arith, is.0, state.count)) in
-            omega (arith, count_set marks gate.signal old.0 (Level gate.level) old.1)
+        fewer = omega (
+          arith,
+          sum_by-set (λ x. cond (is_unknown x) 1 0) marks gate.signal
+              (Level gate.level) Unknown (omega (arith, is.0, state.count)),
+        )
 
         stays : (s : ℕ) → s ≢ gate.signal → Among s (gate.signal ∷ signals_of rest)
             → Among s (signals_of rest)
@@ -188,7 +182,6 @@ module _ {pins : ℕ → List ℕ} {n begun : ℕ} {marks : List Mark} where
         each = state.each;
         opens = opens;
         path_is = state.path_is;
-        begun_are = state.begun_are;
       },
       omega (arith, within, sum_by-cons left gate rest, sum_by-cons left (passed gate k) rest),
     )
@@ -218,14 +211,20 @@ module _ {pins : ℕ → List ℕ} {n begun : ℕ} {marks : List Mark} where
       → IsSearch pins n (begun + 1) marks []
   begun_more state known = record {
     count = state.count;
-    each = state.each;
+    each = λ s m e. each s m e (state.each s m e);
     opens = state.opens;
     path_is = tt;
-    begun_are = λ s lt e. elim (cases_lt s begun) [
-      | inl less ↦ state.begun_are s less e
-      | inr le ↦ (let same : s ≡ begun = omega arith in known (rw same at e))
-    ];
   }
+    where
+      each : (s : ℕ) (m : Mark) → slice_get marks s ≡ Some m
+          → IsMark pins n begun (waiting marks []) [] s m
+          → IsMark pins n (begun + 1) (waiting marks []) [] s m
+      each s Unknown e le = elim (cases_lt begun s) [
+        | inl lt ↦ omega arith
+        | inr ge ↦ (let same : s ≡ begun = omega arith in absurd (known (rw same at e)))
+      ]
+      each s Open e is = is
+      each s (Level k) e is = is
 
   -- where no signal is open, each that was begun has a level
   pub level_at : (s : ℕ) → IsSearch pins n begun marks [] → s < begun → s < n
@@ -234,7 +233,7 @@ module _ {pins : ℕ → List ℕ} {n begun : ℕ} {marks : List Mark} where
       let m = within_place marks s (omega (arith, lt, state.count)) in go m.0 m.1
     where
       go : (m : Mark) → slice_get marks s ≡ Some m → (k : ℕ) × (slice_get marks s ≡ Some (Level k))
-      go Unknown e = absurd (state.begun_are s met e)
+      go Unknown e = absurd (omega (arith, state.each s Unknown e, met))
       go Open e = absurd (state.each s Open e)
       go (Level k) e = (k, e)
 

@@ -1,5 +1,5 @@
 -- Levels of gates by the numbers of their signals, and a search for them.
-use Rattle.std.specs.Prelude.{◌≡◌, ◌≢◌, ℕ, ◌+◌, ◌-◌, ◌*◌, ◌<◌, ◌≤◌, ◌^◌, List, [], ◌∷◌, map, filter, take, length, max, count_by, sum_by, Option, Some, None, slice_get, slice_index, Bool, true, false}
+use Rattle.std.specs.Prelude.{◌≡◌, ℕ, ◌+◌, ◌-◌, ◌*◌, ◌<◌, ◌≤◌, ◌^◌, List, [], ◌∷◌, map, filter, take, length, max, count_by, sum_by, Option, Some, None, slice_get, slice_index, Bool, true, false}
 use Rattle.lists.proofs.Members.{Among}
 use Rattle.bench_net.specs.declared.Kind.{Kind}
 use Rattle.bench_net.specs.declared.line.Line.{Line}
@@ -82,11 +82,12 @@ abbrev pub IsPath : (ℕ → List ℕ) → ℕ → List ℕ → Type 0
 IsPath pins begun [] = Unit {0}
 IsPath pins begun (g ∷ gates) = IsRead pins begun g gates × IsPath pins begun gates
 
--- what a mark says of a signal, where some are open and so many of all have no level
-abbrev pub IsMark : (ℕ → List ℕ) → ℕ → ℕ → List ℕ → ℕ → Mark → Type 0
-IsMark pins signals waits gates s Unknown = Unit {0}
-IsMark pins signals waits gates s Open = Among s gates
-IsMark pins signals waits gates s (Level k) = HaveLevels pins (pins s) k × (k + waits < signals)
+-- what a mark says of a signal, where so many were begun, so many wait, and some are open
+abbrev pub IsMark : (ℕ → List ℕ) → ℕ → ℕ → ℕ → List ℕ → ℕ → Mark → Type 0
+IsMark pins signals begun waits gates s Unknown = begun ≤ s
+IsMark pins signals begun waits gates s Open = Among s gates
+IsMark pins signals begun waits gates s (Level k) =
+    HaveLevels pins (pins s) k × (k + waits < signals)
 
 -- what a gate on the path says of its signal, where so many of all have no level
 abbrev pub IsOpen : (ℕ → List ℕ) → ℕ → ℕ → OpenGate → Type 0
@@ -100,11 +101,10 @@ pub record IsSearch (pins : ℕ → List ℕ) (signals begun : ℕ) (marks : Lis
     (path : List OpenGate) : Type 0 where
   pub count : length marks ≡ signals
   pub each : (s : ℕ) (m : Mark) → slice_get marks s ≡ Some m
-      → IsMark pins signals (waiting marks path) (signals_of path) s m
+      → IsMark pins signals begun (waiting marks path) (signals_of path) s m
   pub opens : (gate : OpenGate) → Among gate path
       → IsOpen pins signals (waiting marks path) gate
   pub path_is : IsPath pins begun (signals_of path)
-  pub begun_are : (s : ℕ) → s < begun → slice_get marks s ≢ Some Unknown
 
 -- the level in a mark
 abbrev pub level_in : Mark → ℕ

@@ -14,7 +14,7 @@ loop-gate-init c =
     elim c.match-index.branch [
       | in-Unknown+in_ok-push w ↦ rw (w.marks-is, w.path-is, w.in_ok-push.ensures.items)
           (rw c.requires.path (opened state (c.args.start + 1) c.args.start
-          (read ∙ ap Some w.in-Unknown.is) (refl, tt) (λ s lt ne. omega arith)
+          (read ∙ ap Some w.in-Unknown.is) (refl, tt) (λ s ne le. omega arith)
           (c.requires.graph.few_pins c.args.start)).0)
       | in_default w ↦ rw (w.marks-is, w.path-is, c.requires.path)
           (begun_more state (λ e. w.in_default.not-Unknown (same_Some _ _ (sym read ∙ e))))

@@ -71,4 +71,4 @@ returns-in_ok-push-in-Unknown-2-clause-search c =
       reverse-append,
     )
     (opened c.requires.search (c.args.start + 1) c.in-Some.signal (at.1 ∙ ap Some c.in-Unknown.is)
-    (reads, c.requires.search.path_is) (λ s lt ne. lt) (c.requires.graph.few_pins c.in-Some.signal))
+    (reads, c.requires.search.path_is) (λ s ne le. le) (c.requires.graph.few_pins c.in-Some.signal))
