@@ -164,8 +164,8 @@ module _ (c : List Statement) (once : AllPairs (λ m n. m ≢ n) (names c)) wher
     levels_are = record {
       source = λ n has.
           let st = source_statement c n (among (sources c) n has) in
-          let below = signal_below c n (named c st.0 n st.1 st.2) in
-          none (level n) (rw (defined_at st.0 n st.1 st.2, st.3 c) at (are.each (signal c n) below));
+          let has = are.each (signal c n) (signal_below c n (named c st.0 n st.1 st.2)) in
+          none (level n) (rw (defined_at st.0 n st.1 st.2, st.3 c) at has);
       gate = λ n kind args has.
           let a = among c (Gate n kind args) has in
           let below = signal_below c n (named c (Gate n kind args) n a refl) in

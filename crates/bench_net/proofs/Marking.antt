@@ -69,10 +69,10 @@ reads_on pins begun g [] all is inside q reads has m (inr a) = absurd a
 reads_on pins begun g (h ∷ path) all is inside q reads has m (inr a) =
     reads_on pins begun h path all is.1 (λ s b. inside s (inr b)) g is.0 (inside g (inl refl)) m a
 
-start_on : (pins : ℕ → List ℕ) (start g : ℕ) (path : List ℕ) → IsPath pins (start + 1) (g ∷ path)
-    → Among start (g ∷ path)
-start_on pins start g [] is = inl (omega (arith, is.0))
-start_on pins start g (h ∷ path) is = inr (start_on pins start h path is.1)
+start_on : (pins : ℕ → List ℕ) (begun start g : ℕ) (path : List ℕ) → begun ≡ start + 1
+    → IsPath pins begun (g ∷ path) → Among start (g ∷ path)
+start_on pins begun start g [] e is = inl (omega (arith, e, is.0))
+start_on pins begun start g (h ∷ path) e is = inr (start_on pins begun start h path e is.1)
 
 module _ {pins : ℕ → List ℕ} {n begun : ℕ} {marks : List Mark} where
   room : (path : List OpenGate) → IsSearch pins n begun marks path → waiting marks path ≤ n
@@ -206,6 +206,19 @@ module _ {pins : ℕ → List ℕ} {n begun : ℕ} {marks : List Mark} where
             )
         opens h (inr a) = state.opens h (inr a)
 
+    -- it is open, so the path meets itself
+    pub met : (start p : ℕ) → begun ≡ start + 1 → HaveLevelsBelow pins start
+        → slice_get (pins gate.signal) gate.pin ≡ Some p → slice_get marks p ≡ Some Open
+        → IsLevelFault pins n (Cycle start)
+    met start p is lower at again =
+        let gates = gate.signal ∷ signals_of rest in
+        let first = start_on pins begun start gate.signal (signals_of rest) is state.path_is in
+        let from = mapped_from (λ h. h.signal) (gate ∷ rest) start first in
+        let reads = at_place (pins gate.signal) gate.pin p at in
+        let members = reads_on pins begun gate.signal (signals_of rest) gates state.path_is
+        (λ s a. a) p reads (state.each p Open again) in
+        (omega (arith, from.2, (state.opens from.0 from.1).0), (gates, members, first), lower)
+
   -- a signal that is known is known to the next search
   pub begun_more : IsSearch pins n begun marks [] → slice_get marks begun ≢ Some Unknown
       → IsSearch pins n (begun + 1) marks []
@@ -240,20 +253,6 @@ module _ {pins : ℕ → List ℕ} {n begun : ℕ} {marks : List Mark} where
   pub lower_levels : IsSearch pins n begun marks [] → begun ≤ n → HaveLevelsBelow pins begun
   lower_levels state le s lt =
       let k = level_at s state lt (omega (arith, lt, le)) in (k.0, (state.each s (Level k.0) k.1).0)
-
--- the gate reads an open signal, so the path meets itself
-pub met : {pins : ℕ → List ℕ} {n : ℕ} {marks : List Mark} {gate : OpenGate}
-    {rest : List OpenGate} (start : ℕ) → IsSearch pins n (start + 1) marks (gate ∷ rest)
-    → HaveLevelsBelow pins start → (p : ℕ) → slice_get (pins gate.signal) gate.pin ≡ Some p
-    → slice_get marks p ≡ Some Open → IsLevelFault pins n (Cycle start)
-met {pins} {n} {marks} {gate} {rest} start state lower p at again =
-    let gates = gate.signal ∷ signals_of rest in
-    let first = start_on pins start gate.signal (signals_of rest) state.path_is in
-    let from = mapped_from (λ h. h.signal) (gate ∷ rest) start first in
-    let reads = at_place (pins gate.signal) gate.pin p at in
-    let members = reads_on pins (start + 1) gate.signal (signals_of rest) gates state.path_is
-    (λ s a. a) p reads (state.each p Open again) in
-    (omega (arith, from.2, (state.opens from.0 from.1).0), (gates, members, first), lower)
 
 -- a search over all signals has marked all levels
 pub settled : {pins : ℕ → List ℕ} {n : ℕ} {marks : List Mark} → IsSearch pins n n marks []

@@ -28,10 +28,9 @@ index-requires c = omega (arith, below (goal.at.index-requires c).In-Some)
 next : (c : After-index) → (slice_get (gate_pins c.args.lines.now c.args.gate.signal)
     c.args.gate.pin ≡ Some c.in-Some.signal)
     × (slice_get c.args.marks.now.items c.in-Some.signal ≡ Some c.index.result.now)
-next c = (
-  sym c.pin_of.ensures ∙ c.in-Some.is,
-  slice_get_read _ _ _ _ refl (below (goal.at.After-index c).In-Some) c.index.ensures,
-)
+next c =
+    let lt = below (goal.at.After-index c).In-Some in
+    (sym c.pin_of.ensures ∙ c.in-Some.is, slice_get_read _ _ _ _ refl lt c.index.ensures)
 
 pub overflow_add-gate : goal.overflow_add-gate
 overflow_add-gate c =
@@ -51,7 +50,7 @@ index_mut-requires-in-Unknown c =
 pub returns-in-Open-clause-fault : goal.returns-in-Open-clause-fault
 returns-in-Open-clause-fault c =
     let at = next (goal.at.returns-in-Open-clause-fault c).After-index in
-    met c.args.start c.requires.search c.requires.lower _ at.0 (at.1 ∙ ap Some c.in-Open.is)
+    met c.requires.search c.args.start _ refl c.requires.lower at.0 (at.1 ∙ ap Some c.in-Open.is)
 
 pub returns-in_ok-push-in-Level-clause-search : goal.returns-in_ok-push-in-Level-clause-search
 returns-in_ok-push-in-Level-clause-search c =
@@ -64,11 +63,8 @@ pub returns-in_ok-push-in-Unknown-2-clause-search :
 returns-in_ok-push-in-Unknown-2-clause-search c =
     let at = next (goal.at.returns-in_ok-push-in-Unknown-2-clause-search c).After-index in
     let reads = at_place _ c.args.gate.pin _ at.0 in
-    rw (
-      c.in_ok-push-in-Unknown-2.ensures.items,
-      reverse-append,
-      c.in_ok-push-in-Unknown.ensures.items,
-      reverse-append,
-    )
+    rw (c.in_ok-push-in-Unknown-2.ensures.items, reverse-append)
+    (rw (c.in_ok-push-in-Unknown.ensures.items, reverse-append)
     (opened c.requires.search (c.args.start + 1) c.in-Some.signal (at.1 ∙ ap Some c.in-Unknown.is)
-    (reads, c.requires.search.path_is) (λ s ne le. le) (c.requires.graph.few_pins c.in-Some.signal))
+    (reads, c.requires.search.path_is) (λ s ne le. le)
+    (c.requires.graph.few_pins c.in-Some.signal)))
