@@ -1,9 +1,9 @@
 -- Levels and stuck gates of a statement list, by the numbers of its signals.
 use Rattle.std.proofs.Common.{◌≡◌, ◌≢◌, ◌<◌, ◌≤◌, ◌+◌, ◌==◌, ℕ, max, sym, ◌∙◌, ap, subst, refl, Bool, true, List, [], ◌∷◌, map, length, get_or, filter, arith, inl, inr}
-use Rattle.std.specs.Prelude.{Option, Some, None, slice_get, slice_index, slice_index_or, Contains, AllPairs, bytes_eq}
-use Rattle.std.specs.List.{list_any, position_or_len}
-use Rattle.std.proofs.lemmas.Bool.{eq-eqb, eqb-true, cases_Bool}
-use Rattle.std.proofs.Math.Numerals.{one-add}
+use Rattle.std.specs.Prelude.{Option, Some, None, slice_index, slice_index_or, Contains, AllPairs, bytes_eq}
+use Rattle.std.specs.List.{list_any}
+use Rattle.std.proofs.lemmas.Bool.{eq-eqb, eqb-true}
+use Rattle.std.proofs.lemmas.List.Sums.{passes_at_first}
 use Rattle.std.proofs.lemmas.List.Elements.{Contains-get_or}
 use Rattle.std.proofs.lemmas.List.{length-map, same_lists, get_or-map, get_or_default}
 use Rattle.std.proofs.lemmas.Option.{slice_get-get_or, slice_get_within}
@@ -18,7 +18,7 @@ use Rattle.lists.proofs.Members.{Among, among, contained, some_passes, among_fil
 use Rattle.lists.proofs.Places.{placed}
 use Rattle.bench_net.proofs.Checked.{any_true, same_bytes}
 use Rattle.bench_net.proofs.Numbers.{at_position, definition_defines, signal-name_of}
-use Rattle.bench_net.proofs.Marking.{greatest-cons, one_level}
+use Rattle.bench_net.proofs.Marking.{greatest-cons, greatest-among, one_level}
 use Rattle.bench_net.proofs.Grouped.{place_listed, places_ordered}
 use Rattle.bench_net.proofs.Reader.{some_args}
 
@@ -57,20 +57,12 @@ defines_some (Output m) n d = cc
 defines_some _ n d = refl
 
 -- a number below that of all names is the number of its name alone
-at_number : (ns : List Name) (n : Name) → position_or_len (bytes_eq n) ns < length ns → slice_get ns (position_or_len (bytes_eq n) ns) ≡ Some n
-at_number [] n lt = absurd (omega (arith, lt))
-at_number (m ∷ ns) n lt = elim (cases_Bool (bytes_eq n m)) [
-  | inl on ↦ rw on (ap Some (sym (same_bytes n m on)))
-  | inr off ↦ rw (off, one-add) (at_number ns n (let less = rw off at lt in omega (arith, less)))
-]
-
-pub named_number : (c : List Statement) (n : Name) (s : ℕ) → signal c n ≡ s → s < length (names c) → name_of c s ≡ Some n
-named_number c n s is lt = subst (λ i. name_of c i ≡ Some n) is (at_number (names c) n (omega (arith, is, lt)))
-
-above_names : (level : Name → ℕ) (args : List Name) (a : Name) → Among a args → level a ≤ greatest (map level args)
-above_names level [] a m = absurd m
-above_names level (b ∷ args) a (inl e) = omega (arith, greatest-cons (level b) (map level args), ap level e)
-above_names level (b ∷ args) a (inr m) = omega (arith, greatest-cons (level b) (map level args), above_names level args a m)
+pub named_number : (c : List Statement) (n : Name) (s : ℕ) → signal c n ≡ s
+    → s < length (names c) → name_of c s ≡ Some n
+named_number c n s is lt =
+    let below : signal c n < length (names c) = omega (arith, is, lt) in
+    let same = same_bytes n _ (passes_at_first (bytes_eq n) (names c) [] below) in
+    rw (sym is) (slice_get-get_or (names c) (signal c n) [] below ∙ ap Some (sym same))
 
 module _ (c : List Statement) (once : AllPairs (λ m n. m ≢ n) (names c)) where
   -- ---- the gate of a signal
@@ -178,7 +170,8 @@ module _ (c : List Statement) (once : AllPairs (λ m n. m ≢ n) (names c)) wher
     -- levels number the names along every gate
     pub numbering : IsNumbering c level
     numbering n a h =
-        omega (arith, levels_are.gate n h.0 h.1 h.2, above_names level h.1 a (among h.1 a h.3))
+        let most = greatest-among (map level h.1) _ (among_map level h.1 a (among h.1 a h.3)) in
+        omega (arith, levels_are.gate n h.0 h.1 h.2, most)
 
     of_name : (s : ℕ) → s < length (names c)
         → level (slice_index_or (names c) s []) ≡ slice_index levels s

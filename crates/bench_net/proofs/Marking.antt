@@ -1,9 +1,10 @@
 -- Levels, and the marks of a search for them.
-use Rattle.std.proofs.Common.{◌≡◌, ◌≢◌, ◌<◌, ◌≤◌, ◌+◌, ℕ, zero, suc, max, sym, ◌∙◌, refl, cond, List, [], ◌∷◌, ◌++◌, map, length, take, get_or, set, arith, inl, inr, ◌⊎◌}
+use Rattle.std.proofs.Common.{◌≡◌, ◌≢◌, ◌<◌, ◌≤◌, ◌+◌, ℕ, suc, max, sym, ◌∙◌, refl, cond, List, [], ◌∷◌, ◌++◌, map, length, take, get_or, set, arith, inl, inr, ◌⊎◌}
 use Rattle.std.specs.Prelude.{Some, None, slice_get, slice_index, count_by, fold, ◌^◌}
 use Rattle.std.proofs.lemmas.Bool.{cases_lt}
 use Rattle.std.proofs.lemmas.List.{length-map, length-set, get_or-map, take_all, take_more}
 use Rattle.std.proofs.lemmas.List.Sums.{sum_by-set, sum_by-cons, count_by-le-length}
+use Rattle.std.proofs.lemmas.List.Elements.{Contains-get_or}
 use Rattle.std.proofs.lemmas.Option.{slice_get_within, slice_get_cases, get_or_from_slice_get}
 use Rattle.bench_net.specs.declared.levels.Mark.{Mark}
 use Rattle.bench_net.specs.declared.levels.Mark.TheVariants.{Unknown, Open, Level}
@@ -11,7 +12,7 @@ use Rattle.bench_net.specs.declared.levels.LevelFault.TheVariants.{Cycle}
 use Rattle.bench_net.specs.Level.{greatest}
 use Rattle.bench_net.specs.declared.levels.OpenGate.{OpenGate}
 use Rattle.bench_net.specs.Marks.{AreLevelsOf, HaveLevels, no_signal, one_more, IsLevelFault, HaveLevelsBelow, is_unknown, waiting, steps, pins_left, signals_of, IsMark, IsOpen, IsPath, IsSearch, level_in}
-use Rattle.lists.proofs.Members.{Among, mapped_from}
+use Rattle.lists.proofs.Members.{Among, among, mapped_from}
 use Rattle.lists.proofs.Places.{at_place, within_place}
 use Rattle.bench_net.proofs.Listed.{written}
 
@@ -24,10 +25,13 @@ fold_max a (x ∷ xs) = omega (arith, fold_max (max a x) xs, fold_max (max 0 x) 
 pub greatest-cons : (x : ℕ) (xs : List ℕ) → greatest (x ∷ xs) ≡ max x (greatest xs)
 greatest-cons x xs = omega (arith, fold_max (max 0 x) xs)
 
+pub greatest-among : (xs : List ℕ) (x : ℕ) → Among x xs → x ≤ greatest xs
+greatest-among [] x a = absurd a
+greatest-among (y ∷ xs) x (inl e) = omega (arith, e, greatest-cons y xs)
+greatest-among (y ∷ xs) x (inr a) = omega (arith, greatest-cons y xs, greatest-among xs x a)
+
 pub greatest-at : (xs : List ℕ) (i : ℕ) → i < length xs → get_or xs i 0 ≤ greatest xs
-greatest-at [] i h = absurd (omega (arith, h))
-greatest-at (x ∷ xs) zero h = omega (arith, greatest-cons x xs)
-greatest-at (x ∷ xs) (suc i) h = omega (arith, greatest-cons x xs, greatest-at xs i (omega (arith, h)))
+greatest-at xs i lt = greatest-among xs _ (among xs _ (Contains-get_or xs i 0 lt))
 
 pub greatest-within : (xs : List ℕ) (m : ℕ) → ((i : ℕ) → i < length xs → get_or xs i 0 ≤ m) → greatest xs ≤ m
 greatest-within [] m h = omega arith
