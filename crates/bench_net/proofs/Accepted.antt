@@ -360,12 +360,7 @@ module _ (ns : List Name) (lines : List Line) (at : List ℕ) (are : AreStatemen
       few_lines = omega (arith, few_lines);
       definitions_are = refl;
       few_pins = λ s. omega (arith, (reads s).0, read_count, are.sinks);
-      pins_below = λ s p has. omega (
-        arith,
-        count,
-        in_range p
-            (reads_held lines p ((reads s).1 p (among (gate_pins lines s) p has))),
-      );
+      pins_below = λ s p a. omega (arith, count, in_range p (reads_held lines p ((reads s).1 p a)));
     };
   }
     where
@@ -480,13 +475,13 @@ module _ (ns : List Name) (lines : List Line) (at : List ℕ) (are : AreStatemen
       → (s < length at) × IsFirstStuck c s
   refused s by_lines = (
     omega (arith, fault.0, count, are.line_count),
-    go (definition c s) refl (among (pins c s) read_by.0 read_by.1),
+    go (definition c s) refl read_by.1,
   )
     where
       fault : IsLevelFault (pins c) (signals_in lines) (Cycle s)
       fault = subst (λ f. IsLevelFault f (signals_in lines) (Cycle s)) same_pins by_lines
 
-      read_by : (p : ℕ) × Contains (pins c s) p × Contains fault.1.0 p
+      read_by : (p : ℕ) × Among p (pins c s) × Among p fault.1.0
       read_by = fault.1.1 s fault.1.2
 
       go : (o : Option Statement) → definition c s ≡ o → Among read_by.0 (pins_in (gate_line c o))

@@ -7,19 +7,18 @@ use Rattle.std.proofs.lemmas.List.Elements.{Contains-get_or}
 use Rattle.std.proofs.lemmas.List.Sums.{passes_at_first}
 use Rattle.std.proofs.lemmas.List.{length-map, same_lists, get_or-map, get_or_default}
 use Rattle.std.proofs.lemmas.Option.{slice_get-get_or, slice_get_within}
-use Rattle.std.proofs.lemmas.Simd.{map-map}
 use Rattle.bench_net.specs.declared.Kind.{Kind}
 use Rattle.bench_net.specs.Statement.{Name, Statement, Input, Gate, Output, Dff, defined, defines}
 use Rattle.bench_net.specs.Scan.{names, signal, name_of, definition, gate_line, gate_of, inputs, cells, sources}
-use Rattle.bench_net.specs.Circuit.{HaveArities, IsNumbering, IsStuckSet, IsStuck}
+use Rattle.bench_net.specs.Circuit.{HasArgument, HaveArities, IsNumbering, IsStuckSet, IsStuck}
 use Rattle.bench_net.specs.Level.{greatest, AreLevels, HasLevel, IsLevelOrder, HasDepth}
-use Rattle.bench_net.specs.Marks.{pins_in, level_above, AreLevelsOf, HaveLevels, no_signal, one_more, IsStuckAt}
+use Rattle.bench_net.specs.Marks.{pins_in, AreLevelsOf, HaveLevels, no_signal, one_more, IsStuckAt}
 use Rattle.bench_net.specs.Rows.{AreRows}
 use Rattle.lists.proofs.Members.{Among, among, contained, some_passes, among_filter, among_append, among_map, among_joined, mapped_from}
 use Rattle.lists.proofs.Places.{placed}
 use Rattle.bench_net.proofs.Checked.{any_true, same_bytes}
 use Rattle.bench_net.proofs.Numbers.{at_position, definition_defines, signal-name_of}
-use Rattle.bench_net.proofs.Marking.{greatest-cons}
+use Rattle.bench_net.proofs.Marking.{greatest-cons, greatest-among, one_level}
 use Rattle.bench_net.proofs.Grouped.{place_listed, places_below, places_ordered}
 use Rattle.bench_net.proofs.Reader.{some_args}
 
@@ -61,20 +60,9 @@ defines_some _ n d = refl
 pub named_number : (c : List Statement) (n : Name) (s : ℕ) → signal c n ≡ s
     → s < length (names c) → name_of c s ≡ Some n
 named_number c n s is lt =
-    let passes = passes_at_first (bytes_eq n) (names c) [] (omega (arith, is, lt)) in
-    slice_get-get_or (names c) s [] lt
-    ∙ ap Some (sym (same_bytes n _ (ap (λ k. bytes_eq n (get_or (names c) k [])) (sym is) ∙ passes)))
-
--- one more than the greatest of some levels
-level_above_is : (ks : List ℕ) → 1 ≤ length ks → level_above ks ≡ 1 + greatest ks
-level_above_is [] h = absurd (omega (arith, h))
-level_above_is (k ∷ []) h = omega arith
-level_above_is (k ∷ j ∷ ks) h = omega (arith, level_above_is (j ∷ ks) (omega arith), greatest-cons k (j ∷ ks))
-
-above_names : (level : Name → ℕ) (args : List Name) (a : Name) → Among a args → level a ≤ greatest (map level args)
-above_names level [] a m = absurd m
-above_names level (b ∷ args) a (inl e) = omega (arith, greatest-cons (level b) (map level args), ap level e)
-above_names level (b ∷ args) a (inr m) = omega (arith, greatest-cons (level b) (map level args), above_names level args a m)
+    let below : signal c n < length (names c) = omega (arith, is, lt) in
+    let same = same_bytes n _ (passes_at_first (bytes_eq n) (names c) [] below) in
+    rw (sym is) (slice_get-get_or (names c) (signal c n) [] below ∙ ap Some (sym same))
 
 module _ (c : List Statement) (once : AllPairs (λ m n. m ≢ n) (names c)) where
   -- ---- the gate of a signal
@@ -91,42 +79,43 @@ module _ (c : List Statement) (once : AllPairs (λ m n. m ≢ n) (names c)) wher
   pins_at : (n : Name) (kind : Kind) (args : List Name) → Among (Gate n kind args) c → pins c (signal c n) ≡ map (signal c) args
   pins_at n kind args a = ap (λ st. pins_in (gate_line c st)) (defined_at (Gate n kind args) n a refl)
 
-  GateAt : ℕ → List ℕ → Type 0
-  GateAt s ps = (n : Name) × (kind : Kind) × (args : List Name) × Among (Gate n kind args) c × (name_of c s ≡ Some n) × (map (signal c) args ≡ ps)
-
-  gate_at : (s p : ℕ) → Among p (pins c s) → GateAt s (pins c s)
-  unfolding GateAt
-  gate_at s p a = go (definition c s) refl a
+  -- what the gate of a name reads is an argument of it
+  argument : (m : Name) (p : ℕ) → Among p (pins c (signal c m))
+      → (a : Name) × HasArgument c m a × (signal c a ≡ p)
+  argument m p a = go (definition c (signal c m)) refl a
     where
-      go : (o : Option Statement) → definition c s ≡ o → Among p (pins_in (gate_line c o)) → GateAt s (pins_in (gate_line c (definition c s)))
+      go : (o : Option Statement) → definition c (signal c m) ≡ o
+          → Among p (pins_in (gate_line c o)) → (a : Name) × HasArgument c m a × (signal c a ≡ p)
       go None e b = absurd b
-      go (Some (Gate m kind args)) e b =
-          let own = definition_defines c s (Gate m kind args) e in
-          let both : m ∷ [] ≡ own.0 ∷ [] = own.1 in
-          let same : own.0 ≡ m = cc both in
-          (m, kind, args, own.3, own.2 ∙ ap Some same, sym (ap (λ o. pins_in (gate_line c o)) e))
+      go (Some (Gate n kind args)) e b =
+          let own = definition_defines c (signal c m) (Gate n kind args) e in
+          let within = slice_get_within (names c) (signal c m) own.0 own.2 in
+          let both : Some own.0 ≡ Some m = sym own.2 ∙ named_number c m (signal c m) refl within in
+          let line : n ∷ [] ≡ own.0 ∷ [] = own.1 in
+          let same : n ≡ m = cc in
+          let at = mapped_from (signal c) args p b in
+          let here = subst (λ x. Contains c (Gate x kind args)) same (contained c _ own.3) in
+          (at.0, (kind, args, here, contained args at.0 at.1), at.2)
       go (Some _) e b = absurd b
 
   -- ---- stuck gates
 
   pub stuck_name : (s : ℕ) (n : Name) → signal c n ≡ s → IsStuckAt (pins c) s → IsStuck c n
-  unfolding GateAt
-  stuck_name s n is stuck = (λ m. list_any (λ i. i == signal c m) stuck.0, set, member n (subst (Contains stuck.0) (sym is) stuck.2))
+  stuck_name s n is stuck =
+      (λ m. list_any (λ i. i == signal c m) stuck.0, set, member n (rw (sym is) at stuck.2))
     where
-      member : (m : Name) → Contains stuck.0 (signal c m) → list_any (λ i. i == signal c m) stuck.0 ≡ true
-      member m has = any_true (λ i. i == signal c m) stuck.0 (signal c m) has (eq-eqb (signal c m) (signal c m) refl)
+      member : (m : Name) → Among (signal c m) stuck.0
+          → list_any (λ i. i == signal c m) stuck.0 ≡ true
+      member m a =
+          any_true (λ i. i == signal c m) stuck.0 _ (contained stuck.0 _ a) (eq-eqb _ _ refl)
 
       set : IsStuckSet c (λ m. list_any (λ i. i == signal c m) stuck.0)
       set m inside =
           let found = some_passes (λ i. i == signal c m) stuck.0 inside in
           let number : found.0 ≡ signal c m = eqb-true found.0 (signal c m) found.2 in
-          let next = stuck.1 (signal c m) (subst (Contains stuck.0) number found.1) in
-          let gate = gate_at (signal c m) next.0 (among (pins c (signal c m)) next.0 next.1) in
-          let own = named_number c m (signal c m) refl (slice_get_within (names c) (signal c m) gate.0 gate.4) in
-          let both : Some gate.0 ≡ Some m = sym gate.4 ∙ own in
-          let same : gate.0 ≡ m = cc both in
-          let at = mapped_from (signal c) gate.2 next.0 (subst (Among next.0) (sym gate.5) (among (pins c (signal c m)) next.0 next.1)) in
-          (at.0, (gate.1, gate.2, subst (λ x. Contains c (Gate x gate.1 gate.2)) same (contained c _ gate.3), contained gate.2 at.0 at.1), member at.0 (subst (Contains stuck.0) (sym at.2) next.2))
+          let next = stuck.1 (signal c m) (rw number at (among stuck.0 found.0 found.1)) in
+          let arg = argument m next.0 next.1 in
+          (arg.0, arg.1, member arg.0 (rw (sym arg.2) at next.2))
 
   -- no signal with a level is stuck
   unstuck : (members : Name → Bool) → IsStuckSet c members → (ps : List ℕ) (k : ℕ) → HaveLevels (pins c) ps k → (m : Name) → Among (signal c m) ps → members m ≡ true → ⊥
@@ -135,9 +124,9 @@ module _ (c : List Statement) (once : AllPairs (λ m n. m ≢ n) (names c)) wher
   unstuck members set ps k (one_more q qs i b _ here rest is) m (inl e) inside =
       let next = set m inside in
       let arg = next.1 in
+      let gate = pins_at m arg.0 arg.1 (among c (Gate m arg.0 arg.1) arg.2) in
       let reads = among_map (signal c) arg.1 next.0 (among arg.1 next.0 arg.3) in
-      let all : map (signal c) arg.1 ≡ pins c q = sym (pins_at m arg.0 arg.1 (among c (Gate m arg.0 arg.1) arg.2)) ∙ ap (pins c) (sym e) in
-      unstuck members set (pins c q) i here next.0 (subst (Among (signal c next.0)) all reads) next.2
+      unstuck members set (pins c q) i here next.0 (rw (e, gate) reads) next.2
 
   pub not_stuck : (s k : ℕ) (n : Name) → signal c n ≡ s → HaveLevels (pins c) (pins c s) k → ¬ IsStuck c n
   not_stuck s k n is has stuck =
@@ -146,48 +135,64 @@ module _ (c : List Statement) (once : AllPairs (λ m n. m ≢ n) (names c)) wher
   -- ---- levels
 
   module _ (arities : HaveArities c) (levels : List ℕ) (are : AreLevelsOf (pins c) (length (names c)) levels) where
-    pub levels_are : AreLevels c (λ n. slice_index levels (signal c n))
-    levels_are = record { source = source; gate = gate }
-      where
-        source : (n : Name) → Contains (sources c) n → slice_index levels (signal c n) ≡ 0
-        source n has =
-            let st = source_statement c n (among (sources c) n has) in
-            let none = ap (λ o. pins_in (gate_line c o)) (defined_at st.0 n st.1 st.2) ∙ ap pins_in (st.3 c) in
-            are.each (signal c n) (signal_below c n (named c st.0 n st.1 st.2)) ∙ ap (λ ps. level_above (map (slice_index levels) ps)) none
+    abbrev level : Name → ℕ
+    level n = slice_index levels (signal c n)
 
-        gate : (n : Name) (kind : Kind) (args : List Name) → Contains c (Gate n kind args)
-            → slice_index levels (signal c n) ≡ 1 + greatest (map (λ a. slice_index levels (signal c a)) args)
-        gate n kind args has =
-            let a = among c (Gate n kind args) has in
-            are.each (signal c n) (signal_below c n (named c (Gate n kind args) n a refl))
-            ∙ (ap (λ ps. level_above (map (slice_index levels) ps)) (pins_at n kind args a)
-            ∙ (ap level_above (map-map (slice_index levels) (signal c) args)
-            ∙ level_above_is (map (λ x. slice_index levels (signal c x)) args) (omega (arith, length-map args (λ x. slice_index levels (signal c x)), some_args kind args (arities n kind args has)))))
+    -- the level above arguments by the table
+    above : (args : List Name) (k : ℕ) → HaveLevels (pins c) (map (signal c) args) k
+        → ((a : Name) → Among a args → HaveLevels (pins c) (pins c (signal c a)) (level a))
+        → 1 ≤ length args → k ≡ 1 + greatest (map level args)
+    above [] k has at some = absurd (omega (arith, some))
+    above (a ∷ []) k (one_more _ _ i _ _ here no_signal is) at some =
+        omega (arith, is, one_level _ i (level a) here (at a (inl refl)))
+    above (a ∷ b ∷ args) k (one_more _ _ i j _ here rest is) at some =
+        let above_rest = above (b ∷ args) j rest (λ d m. at d (inr m)) (omega arith) in
+        let more = greatest-cons (level a) (map level (b ∷ args)) in
+        omega (arith, is, above_rest, more, one_level _ i (level a) here (at a (inl refl)))
+
+    none : (k : ℕ) → HaveLevels (pins c) [] k → k ≡ 0
+    none k no_signal = refl
+
+    pub levels_are : AreLevels c level
+    levels_are = record {
+      source = λ n has.
+          let st = source_statement c n (among (sources c) n has) in
+          let has = are.each (signal c n) (signal_below c n (named c st.0 n st.1 st.2)) in
+          none (level n) (rw (defined_at st.0 n st.1 st.2, st.3 c) at has);
+      gate = λ n kind args has.
+          let a = among c (Gate n kind args) has in
+          let below = signal_below c n (named c (Gate n kind args) n a refl) in
+          let pins = pins_at n kind args a in
+          above args (level n) (rw pins at (are.each (signal c n) below))
+          (λ b m. are.of_pins (signal c n) (signal c b) (rw pins (among_map (signal c) args b m)))
+          (some_args kind args (arities n kind args has));
+    }
 
     -- levels number the names along every gate
-    pub numbering : IsNumbering c (λ n. slice_index levels (signal c n))
-    numbering n a h = omega (arith, levels_are.gate n h.0 h.1 h.2, above_names (λ x. slice_index levels (signal c x)) h.1 a (among h.1 a h.3))
+    pub numbering : IsNumbering c level
+    numbering n a h =
+        let most = greatest-among (map level h.1) _ (among_map level h.1 a (among h.1 a h.3)) in
+        omega (arith, levels_are.gate n h.0 h.1 h.2, most)
+
+    of_name : (s : ℕ) → s < length (names c)
+        → level (slice_index_or (names c) s []) ≡ slice_index levels s
+    of_name s lt = ap (slice_index levels) (signal-name_of c s _ once
+        (slice_get-get_or (names c) s [] lt) (Contains-get_or (names c) s [] lt))
 
     pub has_level : (s : ℕ) → s < length (names c) → HasLevel c s (slice_index levels s)
-    has_level s lt =
-        let n = slice_index_or (names c) s [] in
-        let at : name_of c s ≡ Some n = slice_get-get_or (names c) s [] lt in
-        ((λ x. slice_index levels (signal c x)), n, levels_are, at, ap (slice_index levels) (signal-name_of c s n once at (Contains-get_or (names c) s [] lt)))
+    has_level s lt = (level, _, levels_are, slice_get-get_or (names c) s [] lt, of_name s lt)
 
     pub has_depth : (depth : ℕ) → depth ≡ greatest levels → HasDepth c depth
-    has_depth depth is = ((λ x. slice_index levels (signal c x)), levels_are, ap greatest same ∙ sym is)
+    has_depth depth is = (level, levels_are, ap greatest same ∙ sym is)
       where
-        count : length (map (λ x. slice_index levels (signal c x)) (names c)) ≡ length (names c)
-        count = length-map (names c) (λ x. slice_index levels (signal c x))
+        count : length (map level (names c)) ≡ length (names c)
+        count = length-map (names c) level
 
-        same : map (λ x. slice_index levels (signal c x)) (names c) ≡ levels
-        same = same_lists _ levels (count ∙ sym are.count) (λ k d lt. one k d (omega (arith, lt, count)))
-          where
-            one : (k d : ℕ) → k < length (names c) → get_or (map (λ x. slice_index levels (signal c x)) (names c)) k d ≡ get_or levels k d
-            one k d lt =
-                let n = slice_index_or (names c) k [] in
-                get_or-map (λ x. slice_index levels (signal c x)) (names c) k [] d lt
-                ∙ (ap (slice_index levels) (signal-name_of c k n once (slice_get-get_or (names c) k [] lt) (Contains-get_or (names c) k [] lt)) ∙ get_or_default levels k 0 d (omega (arith, lt, are.count)))
+        same : map level (names c) ≡ levels
+        same = same_lists _ levels (count ∙ sym are.count) (λ k d lt.
+            let within : k < length (names c) = omega (arith, lt, count) in
+            get_or-map level (names c) k [] d within ∙ of_name k within
+            ∙ get_or_default levels k 0 d (omega (arith, within, are.count)))
 
     pub level_order : (order starts : List ℕ) (count : ℕ) → AreRows levels count starts order → ((i : ℕ) → i < length levels → get_or levels i 0 < count) → IsLevelOrder c order
     level_order order starts count rows below = record {

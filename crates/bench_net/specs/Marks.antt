@@ -1,8 +1,10 @@
--- Levels of gates by the numbers of their signals, and the marks of a search for them.
-use Rattle.std.specs.Prelude.{◌≡◌, ◌≢◌, ℕ, ◌+◌, ◌-◌, ◌<◌, ◌≤◌, ◌^◌, List, [], ◌∷◌, map, take, length, max, count_by, Contains, Some, slice_get, slice_index, Bool, true, false}
+-- Levels of gates by the numbers of their signals, and a search for them.
+use Rattle.std.specs.Prelude.{◌≡◌, ℕ, ◌+◌, ◌-◌, ◌*◌, ◌<◌, ◌≤◌, ◌^◌, List, [], ◌∷◌, map, take, length, max, count_by, sum_by, Some, slice_get, slice_index, Bool, true, false}
+use Rattle.lists.proofs.Members.{Among}
 use Rattle.bench_net.specs.declared.line.Line.{Line}
 use Rattle.bench_net.specs.declared.levels.Mark.{Mark}
 use Rattle.bench_net.specs.declared.levels.Mark.TheVariants.{Unknown, Open, Level}
+use Rattle.bench_net.specs.declared.levels.OpenGate.{OpenGate}
 use Rattle.bench_net.specs.declared.levels.LevelFault.{LevelFault}
 use Rattle.bench_net.specs.declared.levels.LevelFault.TheVariants.{Memory, Cycle}
 use Rattle.bench_net.specs.Tables.{definition_places}
@@ -14,18 +16,7 @@ pub record IsGraph (lines : List Line) (definitions : List ℕ) : Type 0 where
   pub few_lines : length lines < 2 ^ 32
   pub definitions_are : definitions ≡ definition_places lines
   pub few_pins : (s : ℕ) → length (gate_pins lines s) < 2 ^ 32
-  pub pins_below : (s p : ℕ) → Contains (gate_pins lines s) p → p < length definitions
-
--- one more than the greatest of some levels, and 0 where there is none
-abbrev pub level_above : List ℕ → ℕ
-level_above [] = 0
-level_above (k ∷ ks) = max (1 + k) (level_above ks)
-
--- the levels of all signals
-pub record AreLevelsOf (pins : ℕ → List ℕ) (signals : ℕ) (levels : List ℕ) : Type 0 where
-  pub count : length levels ≡ signals
-  pub each : (s : ℕ) → s < signals
-      → slice_index levels s ≡ level_above (map (slice_index levels) (pins s))
+  pub pins_below : (s p : ℕ) → Among p (gate_pins lines s) → p < length definitions
 
 -- signals that all have levels, and one more than the greatest of these
 pub data HaveLevels (pins : ℕ → List ℕ) : List ℕ → ℕ → Type 0 where
@@ -33,53 +24,79 @@ pub data HaveLevels (pins : ℕ → List ℕ) : List ℕ → ℕ → Type 0 wher
   one_more : (p : ℕ) (ps : List ℕ) (k above level : ℕ) → HaveLevels pins (pins p) k
       → HaveLevels pins ps above → level ≡ max (1 + k) above → HaveLevels pins (p ∷ ps) level
 
+-- the levels of all signals
+pub record AreLevelsOf (pins : ℕ → List ℕ) (signals : ℕ) (levels : List ℕ) : Type 0 where
+  pub count : length levels ≡ signals
+  pub each : (s : ℕ) → s < signals → HaveLevels pins (pins s) (slice_index levels s)
+  pub of_pins : (s p : ℕ) → Among p (pins s) → HaveLevels pins (pins p) (slice_index levels p)
+  pub small : (s : ℕ) → s < signals → slice_index levels s < signals
+
 -- the signal is one of some each of which reads one of them
 abbrev pub IsStuckAt : (ℕ → List ℕ) → ℕ → Type 0
 IsStuckAt pins s = (members : List ℕ)
-    × ((m : ℕ) → Contains members m → (p : ℕ) × Contains (pins m) p × Contains members p)
-    × Contains members s
+    × ((m : ℕ) → Among m members → (p : ℕ) × Among p (pins m) × Among p members)
+    × Among s members
+
+-- each signal below a number has a level
+abbrev pub HaveLevelsBelow : (ℕ → List ℕ) → ℕ → Type 0
+HaveLevelsBelow pins s = (lower : ℕ) → lower < s → (k : ℕ) × HaveLevels pins (pins lower) k
 
 -- a cycle is the answer only at a stuck signal below which each has a level
 abbrev pub IsLevelFault : (ℕ → List ℕ) → ℕ → LevelFault → Type 0
 IsLevelFault pins signals Memory = Unit {0}
-IsLevelFault pins signals (Cycle s) = (s < signals) × IsStuckAt pins s
-    × ((lower : ℕ) → lower < s → (k : ℕ) × HaveLevels pins (pins lower) k)
+IsLevelFault pins signals (Cycle s) = (s < signals) × IsStuckAt pins s × HaveLevelsBelow pins s
 
-abbrev pub has_level : Mark → Bool
-has_level (Level k) = true
-has_level _ = false
+abbrev pub is_unknown : Mark → Bool
+is_unknown Unknown = true
+is_unknown _ = false
 
--- what a mark says of a signal, where so many signals are marked with a level
-abbrev pub IsMark : (ℕ → List ℕ) → ℕ → ℕ → Mark → Type 0
-IsMark pins levelled s Unknown = Unit {0}
-IsMark pins levelled s (Open pin level) = HaveLevels pins (take pin (pins s)) level
-    × (level ≤ levelled)
-IsMark pins levelled s (Level k) = HaveLevels pins (pins s) k × (k < levelled)
+-- how many signals wait for a level, where a path leads through the open ones
+abbrev pub waiting : List Mark → List OpenGate → ℕ
+waiting marks path = count_by is_unknown marks + length path
 
--- signals each of which is read by the one behind it; the last is the start
+-- how many steps are left at most
+abbrev pub pins_left : (ℕ → List ℕ) → OpenGate → ℕ
+pins_left pins gate = 1 + (length (pins gate.signal) - gate.pin)
+
+abbrev pub steps : (ℕ → List ℕ) → List Mark → List OpenGate → ℕ
+steps pins marks path = count_by is_unknown marks * 4294967297 + sum_by (pins_left pins) path
+
+abbrev pub signals_of : List OpenGate → List ℕ
+signals_of path = map (λ gate. gate.signal) path
+
+-- a signal is read by the first of some gates, or it is the last that was begun
+abbrev pub IsRead : (ℕ → List ℕ) → ℕ → ℕ → List ℕ → Type 0
+IsRead pins begun s [] = s + 1 ≡ begun
+IsRead pins begun s (g ∷ gates) = Among s (pins g)
+
+-- signals each of which is read by the one behind it
 abbrev pub IsPath : (ℕ → List ℕ) → ℕ → List ℕ → Type 0
-IsPath pins start [] = Unit {0}
-IsPath pins start (g ∷ []) = g ≡ start
-IsPath pins start (p ∷ g ∷ gates) = Contains (pins g) p × IsPath pins start (g ∷ gates)
+IsPath pins begun [] = Unit {0}
+IsPath pins begun (g ∷ gates) = IsRead pins begun g gates × IsPath pins begun gates
 
--- A search for levels that began at a start: the open signals are a path from the last that was met
--- to the start, and each signal below the start has a level.
-pub record IsSearch (pins : ℕ → List ℕ) (signals start begun : ℕ) (marks : List Mark)
-    (path : List ℕ) : Type 0 where
+-- what a mark says of a signal, where so many were begun, so many wait, and some are open
+abbrev pub IsMark : (ℕ → List ℕ) → ℕ → ℕ → ℕ → List ℕ → ℕ → Mark → Type 0
+IsMark pins signals begun waits gates s Unknown = begun ≤ s
+IsMark pins signals begun waits gates s Open = Among s gates
+IsMark pins signals begun waits gates s (Level k) =
+    HaveLevels pins (pins s) k × (k + waits < signals)
+
+-- what a gate on the path says of its signal, where so many of all have no level
+abbrev pub IsOpen : (ℕ → List ℕ) → ℕ → ℕ → OpenGate → Type 0
+IsOpen pins signals waits gate = (gate.signal < signals)
+    × HaveLevels pins (take gate.pin (pins gate.signal)) gate.level
+    × (gate.level + waits ≤ signals)
+
+-- A search for levels at so many signals from the first: the open ones are a path from the last
+-- that was met to the last that was begun, and the others that were begun have levels.
+pub record IsSearch (pins : ℕ → List ℕ) (signals begun : ℕ) (marks : List Mark)
+    (path : List OpenGate) : Type 0 where
   pub count : length marks ≡ signals
   pub each : (s : ℕ) (m : Mark) → slice_get marks s ≡ Some m
-      → IsMark pins (count_by has_level marks) s m
-  pub open_on : (s pin level : ℕ) → slice_get marks s ≡ Some (Open pin level) → Contains path s
-  pub path_below : (s : ℕ) → Contains path s → s < signals
-  pub path_is : IsPath pins start path
-  pub begun_are : (s : ℕ) → s < begun → slice_get marks s ≢ Some Unknown
-  pub lower : (s : ℕ) → s < start → (k : ℕ) × HaveLevels pins (pins s) k
-
--- how many steps are left at most for a signal, by its mark
-abbrev pub steps : Mark → ℕ
-steps Unknown = 4294967298
-steps (Open pin level) = 4294967296 - pin
-steps (Level k) = 0
+      → IsMark pins signals begun (waiting marks path) (signals_of path) s m
+  pub opens : (gate : OpenGate) → Among gate path
+      → IsOpen pins signals (waiting marks path) gate
+  pub path_is : IsPath pins begun (signals_of path)
 
 -- the level in a mark
 abbrev pub level_in : Mark → ℕ

@@ -1,10 +1,10 @@
 //! The levels of signals, or a gate that has none: on a cycle of gates or fed by one.
 
-ghost use Rattle.std.specs.Prelude.{◌≡◌, ◌+◌, ◌<◌, ◌≤◌, ℕ, List, length, map, reverse, slice_index, sum_by, [], ◌∷◌, IfOk, IfErr, OnOk};
+ghost use Rattle.std.specs.Prelude.{◌≡◌, ◌+◌, ◌<◌, ◌≤◌, ℕ, List, length, map, reverse, slice_get, slice_index, [], ◌∷◌, Some, IfOk, IfErr, OnOk};
 ghost use Rattle.bench_net.specs.Level.{greatest};
 ghost use Rattle.bench_net.specs.Rows.{AreRows};
-ghost use Rattle.bench_net.specs.Tables.{definition_places, gate_pins};
-ghost use Rattle.bench_net.specs.Marks.{IsGraph, AreLevelsOf, IsLevelFault, IsSearch, steps, level_in};
+ghost use Rattle.bench_net.specs.Tables.{line_gate};
+ghost use Rattle.bench_net.specs.Marks.{pins_in, gate_pins, IsGraph, AreLevelsOf, IsLevelFault, HaveLevelsBelow, IsSearch, steps, level_in};
 ghost use Rattle.bench_net.specs.declared.levels.LevelFault.TheVariants.{Memory};
 
 use crate::line::{Line, line_of};
@@ -43,71 +43,86 @@ impl<T: Drop> From<AllocFailed<T>> for LevelFault {
     }
 }
 
-/// What is known of a signal: nothing, its level, or that its gate is open. The signals of the pins
-/// of an open gate before `pin` have levels, and `level` is one more than the greatest of them.
+/// What is known of a signal: nothing, that its gate is open, or its level.
 #[derive(Clone, Copy)]
 enum Mark {
     Unknown,
-    Open { pin: u32, level: u32 },
+    Open,
     Level(u32),
 }
 
-/// The signals that the pins of a signal's gate read; none for a source.
-fn pins_of<'a>(lines: &'a [Line], definitions: &[usize], signal: u32) -> &'a [u32]
-    requires graph { IsGraph lines.now definitions.now }
-    requires below { signal < length definitions.now }
-    ensures { result.now ≡ gate_pins lines.now signal }
+/// A gate whose level is sought: the signals of its pins before `pin` have levels, and `level` is
+/// one more than the greatest of them.
+#[derive(Clone, Copy)]
+struct OpenGate {
+    signal: u32,
+    pin: u32,
+    level: u32,
+}
+
+/// The signals that the pins of a line's gate read; none for a line without one.
+fn pins(line: &Line) -> &[u32]
+    ensures { result.now ≡ pins_in (line_gate (Some line.now)) }
 {
-    match line_of(lines, definitions, signal) {
+    match line {
         Line::Gate(_, driver) => driver.pins.as_slice(),
         Line::Dff(_, _) => &[],
         Line::Input(_) | Line::Output(_) => &[],
     }
 }
 
-/// Goes one pin on at the last open gate of the path: past a pin whose signal has a level, to a
-/// signal that is unknown, or out of the gate with a level. A pin that reads an open signal closes
-/// a cycle.
+/// The signal that a pin of a signal's gate reads, if there is such a pin.
+fn pin_of(lines: &[Line], definitions: &[usize], signal: u32, pin: u32) -> Option<u32>
+    requires graph { IsGraph lines.now definitions.now }
+    requires below { signal < length definitions.now }
+    ensures { result ≡ slice_get (gate_pins lines.now signal) pin }
+{
+    pins(line_of(lines, definitions, signal))
+        .get(pin as usize)
+        .copied()
+}
+
+/// Goes one pin on at an open gate, which was the last of the path: past a pin whose signal has a
+/// level, to a signal that is unknown, or out of the gate with a level. A pin that reads an open
+/// signal closes a cycle.
 fn visit(
     lines: &[Line],
     definitions: &[usize],
     start: u32,
-    gate: u32,
+    gate: OpenGate,
     marks: &mut Vec<Mark>,
-    path: &mut Vec<u32>,
+    path: &mut Vec<OpenGate>,
 ) -> Result<(), LevelFault>
     requires graph { IsGraph lines.now definitions.now }
-    requires gate { gate < length marks.old.items }
-    requires search { IsSearch (gate_pins lines.now) (length definitions.now) start (start + 1)
+    requires lower { HaveLevelsBelow (gate_pins lines.now) start }
+    requires search { IsSearch (gate_pins lines.now) (length definitions.now) (start + 1)
         marks.old.items (gate ∷ reverse path.old.items) }
-    ensures search { OnOk result (IsSearch (gate_pins lines.now) (length definitions.now) start
-        (start + 1) marks.new.items (reverse path.new.items)) }
-    ensures less { OnOk result (sum_by steps marks.new.items + length path.new.items
-        ≤ sum_by steps marks.old.items + length path.old.items) }
+    ensures search { OnOk result (IsSearch (gate_pins lines.now) (length definitions.now)
+        (start + 1) marks.new.items (reverse path.new.items)
+        × (steps (gate_pins lines.now) marks.new.items (reverse path.new.items)
+        < steps (gate_pins lines.now) marks.old.items (gate ∷ reverse path.old.items))) }
     ensures fault { IfErr result (IsLevelFault (gate_pins lines.now) (length definitions.now)) }
 {
-    let Mark::Open { pin, level } = marks[gate as usize] else {
+    let Some(signal) = pin_of(lines, definitions, gate.signal, gate.pin) else {
+        marks[gate.signal as usize] = Mark::Level(gate.level);
         return Ok(());
     };
-    let pins = pins_of(lines, definitions, gate);
-    if pin as usize >= pins.len() {
-        marks[gate as usize] = Mark::Level(level);
-        return Ok(());
-    }
-    let signal = pins[pin as usize];
-    path.push(gate)?;
     match marks[signal as usize] {
-        Mark::Level(lower) => {
-            marks[gate as usize] = Mark::Open {
-                pin: pin + 1,
-                level: level.max(lower + 1),
-            };
-        }
+        Mark::Level(lower) => path.push(OpenGate {
+            pin: gate.pin + 1,
+            level: gate.level.max(lower + 1),
+            ..gate
+        })?,
         Mark::Unknown => {
-            marks[signal as usize] = Mark::Open { pin: 0, level: 0 };
-            path.push(signal)?;
+            marks[signal as usize] = Mark::Open;
+            path.push(gate)?;
+            path.push(OpenGate {
+                signal,
+                pin: 0,
+                level: 0,
+            })?;
         }
-        Mark::Open { .. } => return Err(LevelFault::Cycle(start)),
+        Mark::Open => return Err(LevelFault::Cycle(start)),
     }
     Ok(())
 }
@@ -119,21 +134,25 @@ fn settle(
     definitions: &[usize],
     start: u32,
     marks: &mut Vec<Mark>,
-    path: &mut Vec<u32>,
+    path: &mut Vec<OpenGate>,
 ) -> Result<(), LevelFault>
     requires graph { IsGraph lines.now definitions.now }
     requires start { start < length definitions.now }
-    requires search { IsSearch (gate_pins lines.now) (length definitions.now) start start
+    requires search { IsSearch (gate_pins lines.now) (length definitions.now) start
         marks.old.items [] }
     requires path { path.old.items ≡ [] }
     ensures search { OnOk result (IsSearch (gate_pins lines.now) (length definitions.now)
-        (start + 1) (start + 1) marks.new.items []) }
+        (start + 1) marks.new.items []) }
     ensures path { OnOk result (path.new.items ≡ []) }
     ensures fault { IfErr result (IsLevelFault (gate_pins lines.now) (length definitions.now)) }
 {
     if let Mark::Unknown = marks[start as usize] {
-        marks[start as usize] = Mark::Open { pin: 0, level: 0 };
-        path.push(start)?;
+        marks[start as usize] = Mark::Open;
+        path.push(OpenGate {
+            signal: start,
+            pin: 0,
+            level: 0,
+        })?;
     }
     while let Some(gate) = path.pop() {
         visit(lines, definitions, start, gate, marks, path)?;
@@ -151,13 +170,6 @@ fn level_in(mark: &Mark) -> u32
     }
 }
 
-/// The levels in marks.
-fn levels_in(alloc: Global, marks: &[Mark]) -> Result<Vec<u32>, AllocError>
-    ensures { IfOk result (λ levels. levels.items ≡ map level_in marks.now) }
-{
-    marks.iter().map(|mark| level_in(mark)).collect(alloc)
-}
-
 /// The level of each signal: 0 for a source, and for a gate one more than the greatest of its pins'
 /// signals. The signals are settled in order, each behind the signals that it takes. A gate goes
 /// past each of its pins once, so the time is linear in the number of pins. A path that meets
@@ -170,8 +182,6 @@ fn signal_levels(
     requires graph { IsGraph lines.now definitions.now }
     ensures levels { IfOk result (λ levels. AreLevelsOf (gate_pins lines.now)
         (length definitions.now) levels.items) }
-    ensures small { IfOk result (λ levels. (s : ℕ) → s < length levels.items
-        → slice_index levels.items s ≤ length levels.items) }
     ensures fault { IfErr result (IsLevelFault (gate_pins lines.now) (length definitions.now)) }
 {
     let mut marks = vec![in alloc; Mark::Unknown; definitions.len()]?;
@@ -179,16 +189,7 @@ fn signal_levels(
     for start in 0..definitions.len() as u32 {
         settle(lines, definitions, start, &mut marks, &mut path)?;
     }
-    Ok(levels_in(alloc, &marks)?)
-}
-
-/// The greatest of some levels, and 0 where there is none.
-fn greatest(levels: &[u32]) -> u32
-    ensures { result ≡ greatest levels.now }
-{
-    levels
-        .iter()
-        .fold(0, |greatest, level| greatest.max(*level))
+    Ok(marks.iter().map(|mark| level_in(mark)).collect(alloc)?)
 }
 
 /// The levels of lines whose definitions stand at these places.
@@ -202,7 +203,7 @@ pub fn levels_of(alloc: Global, lines: &[Line], definitions: &[usize]) -> Result
     ensures fault { IfErr result (IsLevelFault (gate_pins lines.now) (length definitions.now)) }
 {
     let levels = signal_levels(alloc, lines, definitions)?;
-    let depth = greatest(&levels);
+    let depth = levels.iter().fold(0, |depth, level| depth.max(*level));
     let order = rows_of(alloc, &levels, depth as usize + 1)?.places;
     Ok(Levels {
         levels,

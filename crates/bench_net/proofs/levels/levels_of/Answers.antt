@@ -1,8 +1,13 @@
-use Rattle.std.proofs.Common.{arith}
-use Rattle.std.proofs.lemmas.Grind.{common_steps}
+use Rattle.std.proofs.Common.{◌≡◌, arith, rules}
+use Rattle.std.proofs.lemmas.List.{get_or_default}
+use Rattle.bench_net.specs.Level.{greatest}
 use Rattle.bench_net.proofs.Marking.{greatest-at}
 use Rattle.bench_net.proofs.levels.levels_of.Goals as goal
 
 pub rows_of-requires-clause-below : goal.rows_of-requires-clause-below
-rows_of-requires-clause-below c = rw (c.deref-2.ensures.value, c.greatest-depth.ensures, c.deref.ensures.value)
-    (λ i d lt. grind (arith, common_steps, greatest-at c.in_ok-levels.levels.items i lt))
+rows_of-requires-clause-below c = λ i d lt.
+    let levels = c.in_ok-levels.levels.items in
+    let is : c.fold-depth.result ≡ greatest levels = search rules in
+    let within = rw c.deref-2.ensures.value at lt in
+    rw c.deref-2.ensures.value
+    (omega (arith, is, get_or_default levels i d 0 within, greatest-at levels i within))

@@ -1,0 +1,12 @@
+use Rattle.std.proofs.Common.{◌≡◌, ◌∙◌, ap, sym, arith}
+use Rattle.std.proofs.lemmas.Option.{gets}
+use Rattle.std.proofs.lemmas.Grind.{common_steps}
+use Rattle.bench_net.specs.Marks.{pins_in, gate_pins}
+use Rattle.bench_net.specs.Tables.{line_gate}
+use Rattle.bench_net.proofs.levels.pin_of.Goals as goal
+
+pub returns : goal.returns
+returns c =
+    let are : c.pins.result.now ≡ gate_pins c.args.lines.now c.args.signal =
+    c.pins.ensures ∙ sym (ap (λ o. pins_in (line_gate o)) c.line_of.ensures) in
+    rw (← are) (grind (arith, common_steps, gets))
