@@ -198,7 +198,8 @@ module _ (c : List Statement) (once : AllPairs (λ m n. m ≢ n) (names c)) wher
           rw rows.places_are (place_listed levels (length starts) s within
           (omega (arith, below s within, rows.starts_count)));
       count = ap length rows.places_are ∙ (rows.starts_are.all ∙ are.count);
-      ordered = rw rows.places_are (λ a b d less lt. let at = places_below levels (length starts) in (
+      ordered = rw rows.places_are (λ a b d less lt.
+          let at = places_below levels (length starts) in (
           _, _, has_level _ (omega (arith, (at a d (omega (arith, less, lt))).0, are.count)),
           has_level _ (omega (arith, (at b d lt).0, are.count)),
           places_ordered levels (length starts) a b d less lt));

@@ -133,7 +133,8 @@ pub fn sink_rows(
     requires few { length readers.now < 2 ^ 32 }
     requires few_signals { signals + 1 < 2 ^ 32 }
     requires below { All (λ reader. reader.signal < signals) readers.now }
-    ensures { IfOk result (λ rows. AreSinkRows readers.now signals rows.starts.items rows.sinks.items) }
+    ensures { IfOk result (λ rows.
+        AreSinkRows readers.now signals rows.starts.items rows.sinks.items) }
 {
     let keys = signals_of(alloc, readers)?;
     let rows = rows_of(alloc, &keys, signals + 1)?;

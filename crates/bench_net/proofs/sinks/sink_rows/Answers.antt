@@ -5,8 +5,9 @@ use Rattle.bench_net.proofs.Grouped.{sink_rows_are, places_below}
 use Rattle.bench_net.proofs.sinks.sink_rows.Goals as goal
 
 pub rows_of-requires-clause-below : goal.rows_of-requires-clause-below
-rows_of-requires-clause-below c = rw (c.deref.ensures.value, c.in_ok-keys.ensures) (λ i d lt. omega (arith,
-    All-map (λ key. key < c.args.signals) (λ reader. reader.signal) c.args.readers.now c.requires.below i d lt))
+rows_of-requires-clause-below c = rw (c.deref.ensures.value, c.in_ok-keys.ensures) (λ i d lt.
+    omega (arith, All-map (λ key. key < c.args.signals) (λ reader. reader.signal) c.args.readers.now
+        c.requires.below i d lt))
 
 pub sinks_of-requires : goal.sinks_of-requires
 sinks_of-requires c =
