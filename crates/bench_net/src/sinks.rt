@@ -125,11 +125,7 @@ fn signals_of(alloc: Global, readers: &[Reader]) -> Result<Vec<u32>, AllocError>
 }
 
 /// The sinks of each signal below `signals`, in the order of the readers.
-pub fn sink_rows(
-    alloc: Global,
-    readers: &[Reader],
-    signals: usize,
-) -> Result<SinkRows, AllocError>
+pub fn sink_rows(alloc: Global, readers: &[Reader], signals: usize) -> Result<SinkRows, AllocError>
     requires few { length readers.now < 2 ^ 32 }
     requires few_signals { signals + 1 < 2 ^ 32 }
     requires below { All (λ reader. reader.signal < signals) readers.now }
