@@ -13,7 +13,7 @@ use Rattle.bench_net.specs.Scan.{names, signal, name_of, definition, gate_line, 
 use Rattle.bench_net.specs.Circuit.{HasArgument, HaveArities, IsNumbering, IsStuckSet, IsStuck}
 use Rattle.bench_net.specs.Level.{greatest, AreLevels, HasLevel, IsLevelOrder, HasDepth}
 use Rattle.bench_net.specs.Marks.{pins_in, AreLevelsOf, HaveLevels, no_signal, one_more, IsStuckAt}
-use Rattle.bench_net.specs.Rows.{AreRows}
+use Rattle.bench_net.specs.Rows.{AreRows, rows_before}
 use Rattle.lists.proofs.Members.{Among, among, contained, some_passes, among_filter, among_append, among_map, among_joined, mapped_from}
 use Rattle.lists.proofs.Places.{placed}
 use Rattle.bench_net.proofs.Checked.{any_true, same_bytes}
@@ -200,8 +200,10 @@ module _ (c : List Statement) (once : AllPairs (λ m n. m ≢ n) (names c)) wher
           rw rows.places_are (place_listed levels (length starts) s within
           (omega (arith, below s within, rows.starts_count)));
       count = ap length rows.places_are ∙ (rows.starts_are.all ∙ are.count);
-      ordered = rw rows.places_are (λ a b d less lt. let at = places_below levels (length starts) in (
-          _, _, has_level _ (omega (arith, (at a d (omega (arith, less, lt))).0, are.count)),
-          has_level _ (omega (arith, (at b d lt).0, are.count)),
-          places_ordered levels (length starts) a b d less lt));
+      ordered = rw rows.places_are (λ a b d less lt.
+          let sorted = rows_before levels (length starts) in
+          let order = places_ordered levels (length starts) a b d less lt in
+          let has = λ (i : ℕ) (in_rows : i < length sorted). has_level (get_or sorted i d)
+          (omega (arith, (places_below levels (length starts) i d in_rows).0, are.count)) in
+          (_, _, has a (omega (arith, less, lt)), has b lt, order));
     }

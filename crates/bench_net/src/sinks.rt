@@ -125,15 +125,12 @@ fn signals_of(alloc: Global, readers: &[Reader]) -> Result<Vec<u32>, AllocError>
 }
 
 /// The sinks of each signal below `signals`, in the order of the readers.
-pub fn sink_rows(
-    alloc: Global,
-    readers: &[Reader],
-    signals: usize,
-) -> Result<SinkRows, AllocError>
+pub fn sink_rows(alloc: Global, readers: &[Reader], signals: usize) -> Result<SinkRows, AllocError>
     requires few { length readers.now < 2 ^ 32 }
     requires few_signals { signals + 1 < 2 ^ 32 }
     requires below { All (λ s. s < signals) (map signal_read readers.now) }
-    ensures { IfOk result (λ rows. AreSinkRows readers.now signals rows.starts.items rows.sinks.items) }
+    ensures { IfOk result (λ rows.
+        AreSinkRows readers.now signals rows.starts.items rows.sinks.items) }
 {
     let keys = signals_of(alloc, readers)?;
     let rows = rows_of(alloc, &keys, signals + 1)?;
