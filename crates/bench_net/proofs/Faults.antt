@@ -114,17 +114,10 @@ pub no_redefinition : (stated : List Stated) → Distinct (names_of stated)
     → NoLine (IsRedefinition stated)
 no_redefinition stated once zero bad = let none : None ≡ Some (Some bad.2.0) = bad.2.1 in cc
 no_redefinition stated once (suc j) bad =
-    let n : Name = bad.0 in
-    distinct_apart (names_of (take j stated)) _ n
-    (subst Distinct parts once) ((earlier defined stated j n).0 (bad.1, bad.3, bad.4))
-    (among_left (defined bad.2.0) _ n (among _ n bad.2.2))
-  where
-    parts : names_of stated ≡ names_of (take j stated)
-        ++ (defined bad.2.0 ++ names_of (drop (suc j) stated))
-    parts =
-        ap names_of (around stated j (Some bad.2.0) bad.2.1)
-        ∙ ap names (filter_map-append (λ s. s) (take j stated) _)
-        ∙ flat_map-append defined (statements (take j stated)) _
+    distinct_apart (names_of (take j stated)) _ bad.0
+    (rw (around stated j _ bad.2.1, filter_map-append, flat_map-append) at once)
+    ((earlier defined stated j bad.0).0 (bad.1, bad.3, bad.4))
+    (among_left (defined bad.2.0) _ bad.0 (among _ bad.0 bad.2.2))
 
 -- and the other way round
 once_from : (stated : List Stated)
