@@ -1,7 +1,7 @@
 -- The entries of lines, read one after another.
-use Rattle.std.proofs.Common.{◌≡◌, ◌<◌, ◌+◌, ◌==◌, ℕ, zero, suc, refl, sym, ◌∙◌, ap, subst, List, [], ◌∷◌, ◌++◌, length, take, map, arith, get_or}
-use Rattle.std.specs.Prelude.{Option, Some, None, slice_get, option_map, unwrap_or}
-use Rattle.std.specs.List.{slice_split, AllZip}
+use Rattle.std.proofs.Common.{◌≡◌, ◌<◌, ◌+◌, ◌==◌, ℕ, zero, suc, refl, sym, ap, List, [], ◌∷◌, ◌++◌, length, take, map, arith, get_or}
+use Rattle.std.specs.Prelude.{Option, Some, None, slice_get, unwrap_or}
+use Rattle.std.specs.List.{slice_split}
 use Rattle.std.specs.Borrow.{Bor}
 use Rattle.std.specs.Str.Lines.{strip_carriage_return}
 use Rattle.std.proofs.lemmas.List.{map_push, length-map, take-map}

@@ -1,13 +1,11 @@
 use Rattle.std.proofs.Common.{◌+◌, ◌==◌, map, rules, arith, ap, add-one}
 use Rattle.std.proofs.lemmas.List.{length_push, map_push, append-nil}
-use Rattle.std.specs.Prelude.{Some, None}
-use Rattle.bench_net.specs.reader.Parsed.{stands_for}
 use Rattle.std.proofs.lemmas.Iterator.Splits.{YieldsList-from_slice_split}
 use Rattle.std.proofs.lemmas.Iterator.Consumers.{YieldsList-turn, YieldsList-end, YieldsList-so_far}
 use Rattle.std.proofs.lemmas.Result.{err_from_is_err_and}
 use Rattle.std.specs.Str.Lines.{strip_carriage_return}
 use borrow.Author.Tests.{tests}
-use Rattle.bench_net.specs.reader.Entries.{entry_of, entries_of}
+use Rattle.bench_net.specs.reader.Entries.{entry_of}
 use Rattle.bench_net.proofs.Entries.{given_more, refused_line}
 use Rattle.bench_net.proofs.Assembled.{may_be}
 use Rattle.bench_net.specs.declared.BenchFault.TheVariants.{Syntax}
