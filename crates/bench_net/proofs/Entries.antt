@@ -50,29 +50,27 @@ push line (Some t ∷ stated) o n e =
 abbrev pub given : List (Bor (List ℕ)) → List (List ℕ)
 given parts = map strip_carriage_return (map (λ x. x.now) parts)
 
-module _ (parts : List (Bor (List ℕ))) (x : Bor (List ℕ)) (l : List ℕ)
-    (line_is : l ≡ strip_carriage_return x.now) where
-  pub given_more : (entries : List Entry) (o : Option Statement) → AreStated (given parts) entries
-      → stated_of l ≡ Some o
+module _ (parts : List (Bor (List ℕ))) (x : Bor (List ℕ)) where
+  pub given_more : {entries : List Entry} {o : Option Statement} → AreStated (given parts) entries
+      → stated_of (strip_carriage_return x.now) ≡ Some o
       → AreStated (given (parts ++ x ∷ [])) (entries ++ numbered_from (length parts + 1) (o ∷ []))
-  given_more entries o h e = record {
+  given_more {o = o} h e = record {
     stated = h.stated ++ o ∷ [];
-    each =
-        rw (map_push, map_push, ← line_is)
-        (AllZip-push States (given parts) h.stated l o h.each (sound_states l o e));
+    each = rw (map_push, map_push)
+        (AllZip-push States (given parts) h.stated _ o h.each (sound_states _ o e));
     same =
         let long = simp length-map at (AllZip-long States (given parts) h.stated h.each) in
         rw h.same (sym (push 1 h.stated o (length parts + 1) (omega arith)));
   }
 
   -- the first line that states nothing that a line may state
-  pub refused_line : (text : List ℕ) (entries : List Entry)
+  pub refused_line : (text : List ℕ) {entries : List Entry}
       → map (λ y. y.now) parts ≡ take (length parts) (slice_split (λ b. b == 10) text)
       → length parts < length (slice_split (λ b. b == 10) text)
       → x.now ≡ get_or (slice_split (λ b. b == 10) text) (length parts) x.now
-      → AreStated (given parts) entries → stated_of l ≡ None
+      → AreStated (given parts) entries → stated_of (strip_carriage_return x.now) ≡ None
       → IsLowest (IsSyntaxFault text) (suc (length parts))
-  refused_line text entries so_far below turn h none =
+  refused_line text so_far below turn h none =
       let at = slice_get_read (slice_split (λ b. b == 10) text) _ _ x.now refl below turn in
-      unread_lowest text (length parts) l h.stated (rw (slice_get-map, at, line_is) refl) none
-      (rw (take-map, ← so_far) h.each)
+      unread_lowest text (length parts) (strip_carriage_return x.now) h.stated
+      (rw (slice_get-map, at) refl) none (rw (take-map, ← so_far) h.each)

@@ -1,10 +1,10 @@
 -- Lines of a text: which words make their names, and which places and which names make them faulty.
-use Rattle.std.proofs.Common.{◌≡◌, ◌<◌, ℕ, zero, suc, sym, refl, ◌∙◌, ap, subst, true, not, List, [], ◌∷◌, ◌++◌, take, drop, arith, inl, inr, length-take}
+use Rattle.std.proofs.Common.{◌≡◌, ◌<◌, ℕ, zero, suc, sym, refl, ◌∙◌, ap, true, not, List, [], ◌∷◌, ◌++◌, take, drop, arith, inl, inr, length-take}
 use Rattle.std.specs.Prelude.{Contains, IsSomeAnd, ◌↔◌, Option, Some, None, slice_get, slice_index_or, flat_map}
 use Rattle.std.specs.List.{list_all}
 use Rattle.std.specs.Str.{IsUtf8}
 use Rattle.std.proofs.lemmas.Bool.Decides.{nat_tests}
-use Rattle.std.proofs.lemmas.Option.{slice_get_within, MatchOption-at_some}
+use Rattle.std.proofs.lemmas.Option.{slice_get_within}
 use Rattle.std.proofs.lemmas.Slice.Zip.{AllZip-right}
 use Rattle.std.proofs.lemmas.Str.{IsUtf8-from_ascii}
 use Rattle.std.proofs.lemmas.Str.Ascii.{IsAscii-from_all}
@@ -74,9 +74,7 @@ pub arities_of_text : (text : List ℕ) (stated : List Stated) → LinesState te
     → HaveArities (statements stated)
 arities_of_text text stated each n kind args at =
     let k = stated_at stated (Gate n kind args) (among _ _ at) in
-    go (slice_get (lines text) k.0)
-    (MatchOption-at_some (Unit {0}) _ (Some (Gate n kind args)) k.1
-    (AllZip-right States (lines text) stated each k.0))
+    go (slice_get (lines text) k.0) (rw k.1 at (AllZip-right States (lines text) stated each k.0))
   where
     go : (o : Option (List ℕ)) → IsSomeAnd o (λ l. States l (Some (Gate n kind args)))
         → HasArity kind args
@@ -114,17 +112,10 @@ pub no_redefinition : (stated : List Stated) → Distinct (names_of stated)
     → NoLine (IsRedefinition stated)
 no_redefinition stated once zero bad = let none : None ≡ Some (Some bad.2.0) = bad.2.1 in cc
 no_redefinition stated once (suc j) bad =
-    let n : Name = bad.0 in
-    distinct_apart (names_of (take j stated)) _ n
-    (subst Distinct parts once) ((earlier defined stated j n).0 (bad.1, bad.3, bad.4))
-    (among_left (defined bad.2.0) _ n (among _ n bad.2.2))
-  where
-    parts : names_of stated ≡ names_of (take j stated)
-        ++ (defined bad.2.0 ++ names_of (drop (suc j) stated))
-    parts =
-        ap names_of (around stated j (Some bad.2.0) bad.2.1)
-        ∙ ap names (filter_map-append (λ s. s) (take j stated) _)
-        ∙ flat_map-append defined (statements (take j stated)) _
+    distinct_apart (names_of (take j stated)) _ bad.0
+    (rw (around stated j _ bad.2.1, filter_map-append, flat_map-append) at once)
+    ((earlier defined stated j bad.0).0 (bad.1, bad.3, bad.4))
+    (among_left (defined bad.2.0) _ bad.0 (among _ bad.0 bad.2.2))
 
 -- and the other way round
 once_from : (stated : List Stated)
@@ -154,14 +145,15 @@ pub redefined_lowest : (stated : List Stated) (j : ℕ) (s : Statement) (n : Nam
 redefined_lowest stated j s n at here front once = (
   let e = (earlier defined stated j n).1 front in
       (n, e.0, (s, at, contained _ n here), e.1, e.2),
-  λ line lt (m, there, here, less, says).
-      let says = in_take there m (omega (arith, lt, less)) says in
-      no_redefinition (take j stated) once line (m, there, in_take line m lt here, less, says),
+  λ line lt (m, there, (t, here, has), less, (u, early, too)).
+      no_redefinition (take j stated) once line (
+        m,
+        there,
+        (t, at_front stated j line lt ∙ here, has),
+        less,
+        (u, at_front stated j there (omega (arith, lt, less)) ∙ early, too),
+      ),
 )
-  where
-    in_take : (line : ℕ) (m : Name) → line < suc j → Says defined stated line m
-        → Says defined (take j stated) line m
-    in_take line m lt d = (d.0, at_front stated j line lt ∙ d.1, d.2)
 
 -- ---- a line that reads a name that no line defines
 

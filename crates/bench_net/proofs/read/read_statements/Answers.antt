@@ -1,13 +1,11 @@
 use Rattle.std.proofs.Common.{◌+◌, ◌==◌, map, rules, arith, ap, add-one}
 use Rattle.std.proofs.lemmas.List.{length_push, map_push, append-nil}
-use Rattle.std.specs.Prelude.{Some, None}
-use Rattle.bench_net.specs.reader.Parsed.{stands_for}
 use Rattle.std.proofs.lemmas.Iterator.Splits.{YieldsList-from_slice_split}
 use Rattle.std.proofs.lemmas.Iterator.Consumers.{YieldsList-turn, YieldsList-end, YieldsList-so_far}
 use Rattle.std.proofs.lemmas.Result.{err_from_is_err_and}
 use Rattle.std.specs.Str.Lines.{strip_carriage_return}
 use borrow.Author.Tests.{tests}
-use Rattle.bench_net.specs.reader.Entries.{entry_of, entries_of}
+use Rattle.bench_net.specs.reader.Entries.{entry_of}
 use Rattle.bench_net.proofs.Entries.{given_more, refused_line}
 use Rattle.bench_net.proofs.Assembled.{may_be}
 use Rattle.bench_net.specs.declared.BenchFault.TheVariants.{Syntax}
@@ -16,25 +14,17 @@ use Rattle.bench_net.proofs.read.read_statements.Goals as goal
 pub loop-line-preserved : goal.loop-line-preserved
 loop-line-preserved c =
     let n = length_push c.loop-line.yielded c.in-Some.line in
-    let read = rw c.in_default.is at c.in_ok-statement.ensures in
-    let more = given_more c.loop-line.yielded c.in-Some.line c.without_return.result.now
-    c.without_return.ensures _ None c.loop-line.invariant.1 read in
+    let read = rw (c.without_return.ensures, c.in_default.is) at c.in_ok-statement.ensures in
+    let more = given_more c.loop-line.yielded c.in-Some.line c.loop-line.invariant.1 read in
     (omega arith, rw append-nil at more)
 
 pub loop-line-preserved-in-Continue-branch-3 : goal.loop-line-preserved-in-Continue-branch-3
 loop-line-preserved-in-Continue-branch-3 c =
     let n = length_push c.loop-line.yielded c.in-Some.line in
-    let read = rw c.in-Some-2.is at c.in_ok-statement.ensures in (
-      omega arith,
-      rw (
-        c.in_ok-push.ensures.items,
-        c.loop-line.invariant.0,
-        map_push entry_of c.loop-line.stated.items _,
-      )
-          (given_more c.loop-line.yielded c.in-Some.line c.without_return.result.now
-          c.without_return.ensures _ (Some (stands_for c.in-Some-2.statement))
-          c.loop-line.invariant.1 read),
-    )
+    let read = rw (c.without_return.ensures, c.in-Some-2.is) at c.in_ok-statement.ensures in
+    let more = given_more c.loop-line.yielded c.in-Some.line c.loop-line.invariant.1 read in
+    let items = map_push entry_of c.loop-line.stated.items in
+    (omega arith, rw (c.in_ok-push.ensures.items, c.loop-line.invariant.0, items) more)
 
 pub returns-in_err-statement-clause-refused : goal.returns-in_err-statement-clause-refused
 returns-in_err-statement-clause-refused c =
@@ -51,9 +41,8 @@ returns-in_err-statement-clause-refused c =
     (λ none. (
       c.requires,
       rw (c.loop-line.invariant.0, add-one)
-          (refused_line c.loop-line.yielded c.in-Some.line c.without_return.result.now
-          c.without_return.ensures c.args.text.now
-          (entries_of c.loop-line.stated.items) front turn.0 turn.1 c.loop-line.invariant.1 none),
+          (refused_line c.loop-line.yielded c.in-Some.line c.args.text.now front turn.0 turn.1
+          c.loop-line.invariant.1 (rw c.without_return.ensures at none)),
     )))
 
 pub returns-clause-ok : goal.returns-clause-ok
