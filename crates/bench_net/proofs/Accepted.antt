@@ -1,6 +1,7 @@
 -- How many lines, sources and readers there are, and which signals they read.
 use Rattle.std.proofs.Common.{◌≡◌, ◌<◌, ◌≤◌, ◌+◌, ◌^◌, ℕ, ap, List, [], ◌∷◌, ◌++◌, map, length, filter, refl, arith, inl, inr, length-append, ◌≢◌, ◌==◌, zero, suc, sym, ◌∙◌, ap₂, subst, true, false, drop}
 use Rattle.std.specs.Prelude.{slice_index, flat_map, IsPermutation, Some, slice_get, Contains, AllPairs, bytes_eq, Option, None, slice_index_or}
+use Rattle.std.proofs.lemmas.Grind.{common_steps}
 use Rattle.std.proofs.lemmas.List.Folds.{length-flat_map-take}
 use Rattle.std.proofs.lemmas.List.Sorted.{IsPermutation-refl, IsPermutation-trans, IsPermutation-middle, IsPermutation-append_right, length_permutation, All-permutation, IsPermutation-sym}
 use Rattle.std.specs.List.{enumerate_from, filter_map, position_or_len}
@@ -43,11 +44,8 @@ few [] = omega arith
 few (Dff q d ∷ c) = omega (arith, few c)
 few (_ ∷ c) = omega (arith, few c)
 
-pub few_sources : (c : List Statement) → (length (sources c) ≡ length (inputs c) + length (cells c)) × (length (sources c) ≤ length (names c))
-few_sources c =
-    let count = length-append (inputs c) (map (λ cell. cell.0) (cells c)) in
-    let same = length-map (cells c) (λ cell. cell.0) in
-    (omega (arith, count, same), omega (arith, count, same, few c))
+pub few_sources : (c : List Statement) → length (sources c) ≤ length (names c)
+few_sources c = grind (arith, common_steps, few c)
 
 -- ---- lines
 
@@ -56,12 +54,7 @@ pub counts : (ns : List Name) (lines : List Line)
     → (length lines ≤ length (filter defines_number lines) + length (flat_map read_numbers lines))
     × (length (filter defines_number lines) ≡ length (names (statements_of ns lines)))
 counts ns [] = (omega arith, refl)
-counts ns (line.Gate s g ∷ lines) =
-    let more = counts ns lines in
-    let count = length-append g.pins.items (flat_map read_numbers lines) in
-    (omega (arith, more.0, count), omega (arith, more.1))
-counts ns (_ ∷ lines) =
-    let more = counts ns lines in (omega (arith, more.0), omega (arith, more.1))
+counts ns (_ ∷ lines) = let more = counts ns lines in grind (arith, common_steps, more)
 
 -- what a line reads is not more than all lines read
 line_count : (lines : List Line) (l : Line) → Contains lines l
@@ -343,7 +336,7 @@ module _ (ns : List Name) (lines : List Line) (at : List ℕ) (are : AreStatemen
       arith,
       ap length (sources_are ns (signal c) lines all),
       length-map (sources c) (signal c),
-      (few_sources c).1,
+      few_sources c,
       name_count,
       are.signals,
     );

@@ -5,6 +5,7 @@ use Rattle.std.specs.Prelude.{flat_map, bytes_eq, ◌||◌, Contains}
 use Rattle.std.specs.List.{list_any, All}
 use Rattle.std.specs.Borrow.{Bor}
 use Rattle.std.proofs.Math.Nat.{add-zero}
+use Rattle.std.proofs.lemmas.Grind.{common_steps}
 use Rattle.std.proofs.lemmas.List.{map-append, map_push, take_more}
 use Rattle.std.proofs.lemmas.List.Concat.{flat_map-append, get_or-flat_map}
 use Rattle.std.proofs.lemmas.List.Folds.{length-flat_map-take}
@@ -23,10 +24,7 @@ module _ {A : Type 0} (xs : List A) (i : ℕ) (x : A) (h : i < length xs)
   -- the names of one more line
   pub names_more : (f : A → List Name)
       → flat_map f (take (i + 1) xs) ≡ flat_map f (take i xs) ++ f x
-  names_more f =
-      ap (flat_map f) (take_more xs i x h ∙ ap (λ y. take i xs ++ y ∷ []) (sym e))
-      ∙ flat_map-append f (take i xs) (x ∷ [])
-      ∙ ap (λ ys. flat_map f (take i xs) ++ ys) (append-nil (f x))
+  names_more f = rw (take_more xs i x h, ← e) (grind (arith, common_steps))
 
   -- the names so far and those of this line are no more than all
   pub names_fit : (f : A → List Name)
@@ -58,9 +56,7 @@ pub numbered_more : (ns : List Name) (stated : List StatedLine) (lines : List Li
     → IsNumberedLine ns next (stands_for new.statement) l
     → AreNumberedLines ns (take (i + 1) stated) (lines ++ l ∷ [])
 numbered_more ns stated lines i new l next h e so_far fits one = record {
-  stand = map_push (statement_of ns) lines l
-      ∙ rw (so_far.stand, one.stands, items)
-      (sym (map_push (λ line. stands_for line.statement) (take i stated) new));
+  stand = rw (items, map_push, map_push, so_far.stand, one.stands) refl;
   in_range = rw (more, one.own) (All-append below _ _ so_far.in_range (All-append below _ _
       (All-map below (λ n. next) (defined_of new) (λ k d lt. omega (arith, fits, lt)))
       one.in_range));
