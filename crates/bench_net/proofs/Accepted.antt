@@ -167,9 +167,7 @@ gate_is ns whole (_ ∷ ls) (suc s) (e, are) = gate_is ns whole ls s are
 -- ---- sinks
 
 sinks-append : (xs ys : List Reader) (s : ℕ) → sinks_at (xs ++ ys) s ≡ sinks_at xs s ++ sinks_at ys s
-sinks-append xs ys s =
-    ap (map (λ reader. reader.sink)) (filter-append (λ reader. reader.signal == s) xs ys)
-    ∙ map-append (λ reader. reader.sink) (filter (λ reader. reader.signal == s) xs) (filter (λ reader. reader.signal == s) ys)
+sinks-append xs ys s = rw (filter-append _ xs ys, map-append) refl
 
 -- ---- the cells' names are defined once
 
@@ -212,13 +210,7 @@ module _ (whole : List Statement) (n : Name) (named : Contains (names whole) n) 
       → sinks_at (map (λ at. record { signal = at.1; sink = kind at.0 }) (enumerate_from k (map (signal whole) xs))) (signal whole n)
       ≡ map kind (map (λ at. at.0) (filter (λ at. bytes_eq n at.1) (enumerate_from k xs)))
   numbered kind k [] = refl
-  numbered kind k (x ∷ xs) =
-      let same = bytes_at x in
-      let later = numbered kind (k + 1) xs in
-      elim (cases_Bool (signal whole x == signal whole n)) [
-        | inl on ↦ rw (same, on) (ap (λ rest. kind k ∷ rest) later)
-        | inr off ↦ rw (same, off) later
-      ]
+  numbered kind k (x ∷ xs) = grind (arith, bytes_at x, numbered kind (k + 1) xs)
 
   module _ (ns : List Name) where
     -- the sinks of the lines from one on, before which these cells stand

@@ -83,10 +83,7 @@ definers entries = filter (λ e. defines e.1) entries
 definers_of : (lines : List StatedLine) → map (λ e. e.0) (definers (entries_of lines))
     ≡ map (λ line. line.number) (filter (λ line. defines (stands_for line.statement)) lines)
 definers_of [] = refl
-definers_of (l ∷ lines) = elim (cases_Bool (defines (stands_for l.statement))) [
-  | inl on ↦ rw on (ap (λ ks. l.number ∷ ks) (definers_of lines))
-  | inr off ↦ rw off (definers_of lines)
-]
+definers_of (l ∷ lines) = grind (arith, definers_of lines)
 
 definer_count : (entries : List Entry)
     → length (definers entries) ≡ length (names (map (λ e. e.1) entries))
