@@ -174,10 +174,9 @@ sinks-append xs ys s = rw (filter-append _ xs ys, map-append) refl
 position_after : (before after : List Name) (q : Name) → Distinct (before ++ q ∷ after) → position_or_len (bytes_eq q) (before ++ q ∷ after) ≡ length before
 position_after [] after q once = rw (bytes_refl q) refl
 position_after (x ∷ before) after q once =
-    elim (cases_Bool (bytes_eq q x)) [
-      | inl on ↦ absurd (once.0 (among_right before (q ∷ after) x (inl (same_bytes q x on))))
-      | inr off ↦ rw off (ap (λ n. 1 + n) (position_after before after q once.1) ∙ one-add (length before))
-    ]
+    let differ : bytes_eq q x ≡ true → ⊥ = λ on.
+    once.0 (among_right before (q ∷ after) x (inl (same_bytes q x on))) in
+    grind (arith, common_steps, differ, position_after before after q once.1)
 
 -- the names of the cells' outputs
 abbrev pub qs : List Statement → List Name
@@ -236,10 +235,7 @@ module _ (whole : List Statement) (n : Name) (named : Contains (names whole) n) 
         (sym (length-append before (p ∷ []))) ∙ later in
         let own : cell whole p ≡ length before = ap (position_or_len (bytes_eq p)) is
         ∙ position_after before (qs (statements_of ns ls)) p once in
-        elim (cases_Bool (d == signal whole n)) [
-          | inl on ↦ rw (same, on, rest, own) refl
-          | inr off ↦ rw (same, off) rest
-        ]
+        grind (arith, same, rest, own)
     line_sinks before (_ ∷ ls) (e, are) once is = line_sinks before ls are once is
 
     pub sinks_are : (lines : List Line) → statements_of ns lines ≡ whole

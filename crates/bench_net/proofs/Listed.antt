@@ -48,17 +48,10 @@ definition_count lines = go 0 lines
 
 -- what stands at a place after a write
 pub written : {X : Type 0} (xs : List X) (g : ℕ) (m : X) (s : ℕ) (x : X) → slice_get (set xs g m) s ≡ Some x → ((s ≡ g) × (x ≡ m)) ⊎ ((s ≢ g) × (slice_get xs s ≡ Some x))
-written xs g m s x e = go (cases_eq s g)
-  where
-    within : s < length xs
-    within = omega (arith, slice_get_within (set xs g m) s x e, length-set xs g m)
-
-    is : get_or (set xs g m) s x ≡ x
-    is = get_or_from_slice_get (set xs g m) s x x e
-
-    go : (s ≡ g) ⊎ (s ≡ g → ⊥) → ((s ≡ g) × (x ≡ m)) ⊎ ((s ≢ g) × (slice_get xs s ≡ Some x))
-    go (inl same) = inl (same, sym is ∙ (ap (λ i. get_or (set xs g m) i x) same ∙ get_or-set_same xs g m x (omega (arith, within, same))))
-    go (inr ne) = inr (ne, slice_get-get_or xs s x within ∙ ap Some (sym (get_or-set_other xs g s m x ne) ∙ is))
+written xs g m s x e =
+    let within = slice_get_within (set xs g m) s x e in
+    let is = get_or_from_slice_get (set xs g m) s x x e in
+    grind (arith, common_steps, within, is, slice_get-get_or xs s x)
 
 pub places_more : (sources : List ℕ) (signals n : ℕ) (places : List (Option ℕ))
     → ArePlaces sources signals n places

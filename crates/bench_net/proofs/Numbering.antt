@@ -41,13 +41,9 @@ key_in (k ∷ ks) n = ap (λ more. bytes_eq n k.now || more) (key_in ks n)
 pub next_for : (stated : List StatedLine) (i : ℕ) (line : StatedLine) → i < length stated
     → line ≡ get_or stated i line
     → IsNextFor (names_in stated) (length (names_in (take i stated))) (stands_for line.statement)
-next_for stated i line h e = elim (defined_few (stands_for line.statement)) [
-  | inl none ↦ rw none refl
-  | inr one ↦ rw one.1 (ap (λ n. n ∷ []) (
-      let place = get_or-flat_map defined_of stated i 0 line [] h (rw (← e, one.1) (omega arith)) in
-      rw (← e, one.1) at (simp add-zero at place)
-      ))
-]
+next_for stated i line h e =
+    let place = get_or-flat_map defined_of stated i 0 line [] h in
+    grind (arith, common_steps, e, place, defined_few (stands_for line.statement))
 
 -- one more line, numbered
 pub numbered_more : (ns : List Name) (stated : List StatedLine) (lines : List Line) (i : ℕ)
