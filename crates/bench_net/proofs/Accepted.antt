@@ -2,6 +2,7 @@
 use Rattle.std.proofs.Common.{◌≡◌, ◌<◌, ◌≤◌, ◌+◌, ◌^◌, ℕ, ap, List, [], ◌∷◌, ◌++◌, map, length, filter, refl, arith, inl, inr, length-append, ◌≢◌, ◌==◌, zero, suc, sym, ◌∙◌, ap₂, subst, true, false, drop}
 use Rattle.std.specs.Prelude.{slice_index, flat_map, IsPermutation, Some, slice_get, Contains, AllPairs, bytes_eq, Option, None, slice_index_or}
 use Rattle.std.proofs.lemmas.Grind.{common_steps}
+use Rattle.std.proofs.lemmas.Bool.Decides.{nat_tests}
 use Rattle.std.proofs.lemmas.List.Folds.{length-flat_map-take}
 use Rattle.std.proofs.lemmas.List.Sorted.{IsPermutation-refl, IsPermutation-trans, IsPermutation-middle, IsPermutation-append_right, length_permutation, All-permutation, IsPermutation-sym}
 use Rattle.std.specs.List.{enumerate_from, filter_map, position_or_len}
@@ -60,7 +61,7 @@ counts ns (_ ∷ lines) = let more = counts ns lines in grind (arith, common_ste
 line_count : (lines : List Line) (l : Line) → Contains lines l
     → length (read_numbers l) ≤ length (flat_map read_numbers lines)
 line_count lines l (k, lt, is) =
-    omega (arith, rw is at (length-flat_map-take read_numbers lines k l lt))
+    grind (arith, is, length-flat_map-take read_numbers lines k l lt)
 
 fits : (l : Line) → length (read_numbers l) < 2 ^ 32 → PinsFit l
 fits (line.Gate s g) few = few
@@ -85,12 +86,7 @@ lines_read cell (line.Output s ∷ lines) =
     IsPermutation-trans _ _ _ (IsPermutation-middle _ s (filter_map output_number lines))
     (IsPermutation-append_right (s ∷ []) _ _ (lines_read cell lines))
 lines_read cell (line.Gate s g ∷ lines) =
-    rw (
-      map-append signal_read (pin_readers s g.pins.items) (line_readers cell lines),
-      read_by (Pin s) 0 g.pins.items,
-      append_assoc g.pins.items (map signal_read (line_readers cell lines))
-          (filter_map output_number lines),
-    )
+    rw (map-append, read_by (Pin s) 0 g.pins.items, append_assoc)
     (IsPermutation-append_right g.pins.items _ _ (lines_read cell lines))
 lines_read cell (line.Dff q d ∷ lines) =
     IsPermutation-append_right (d ∷ []) _ _ (lines_read (cell + 1) lines)
@@ -191,18 +187,12 @@ cells_once (_ ∷ c) once = cells_once c once.1
 module _ (whole : List Statement) (n : Name) (named : Contains (names whole) n) where
   -- a name that has the number of this one is this one
   bytes_at : (d : Name) → bytes_eq n d ≡ (signal whole d == signal whole n)
-  bytes_at d = elim (cases_Bool (bytes_eq n d)) [
-    | inl on ↦ on ∙ sym (eq-eqb (signal whole d) (signal whole n) (ap (signal whole) (sym (same_bytes n d on))))
-    | inr off ↦ off ∙ sym (ne_eqb (signal whole d) (signal whole n) (λ e. differs off e))
-  ]
-    where
-      differs : bytes_eq n d ≡ false → signal whole d ≡ signal whole n → ⊥
-      differs off e =
-          let at = name_of-signal whole n named in
-          let both : Some d ≡ Some n = sym (named_number whole d (signal whole n) e (slice_get_within (names whole) (signal whole n) n at)) ∙ at in
-          let same : d ≡ n = cc both in
-          let on : bytes_eq n d ≡ true = ap (bytes_eq n) same ∙ bytes_refl n in
-          let bad : true ≡ false = sym on ∙ off in cc bad
+  bytes_at d =
+      let at = name_of-signal whole n named in
+      let below = slice_get_within (names whole) (signal whole n) n at in
+      let number = λ (e : signal whole d ≡ signal whole n).
+      named_number whole d (signal whole n) e below in
+      grind (arith, nat_tests, same_bytes n d, bytes_refl n, at, number)
 
   -- numbered readers of one kind
   numbered : (kind : ℕ → Sink) (k : ℕ) (xs : List Name)
@@ -443,12 +433,11 @@ module _ (ns : List Name) (lines : List Line) (at : List ℕ) (are : AreStatemen
           let named = named_number c _ s number lt in
           (slice_get-get_or (sources c) i [] within ∙ sym named, tt)
       place_at s lt None e = (tt, λ i same.
-          let at = slice_get-get_or (names c) s [] lt in
-          let within = slice_get_within (sources c) i _ (same ∙ at) in
-          let name = get_or_from_slice_get (sources c) i _ [] (same ∙ at) in
-          tabled.places_are.none s i (omega (arith, lt, count, name_count)) e
-          (omega (arith, within, source_count))
-          (source_at i within ∙ ap (signal c) name ∙ number_of s _ at))
+          let at = same ∙ slice_get-get_or (names c) s [] lt in
+          let within = slice_get_within (sources c) i _ at in
+          let name = get_or_from_slice_get (sources c) i _ [] at in
+          grind (arith, lt, count, name_count, source_count, within, name, source_at i within,
+              tabled.places_are.none s i, number_of s _ (slice_get-get_or (names c) s [] lt)))
 
   -- the first signal without a level is the first that is stuck
   pub refused : (s : ℕ)
