@@ -1,5 +1,5 @@
 -- How many lines, sources and readers there are, and which signals they read.
-use Rattle.std.proofs.Common.{◌≡◌, ◌<◌, ◌≤◌, ◌+◌, ◌^◌, ℕ, ap, List, [], ◌∷◌, ◌++◌, map, length, filter, refl, arith, inl, inr, length-append, ◌≢◌, ◌==◌, zero, suc, sym, ◌∙◌, ap₂, subst, true, false, drop}
+use Rattle.std.proofs.Common.{◌≡◌, ◌<◌, ◌≤◌, ◌+◌, ◌^◌, ℕ, ap, List, [], ◌∷◌, ◌++◌, map, length, filter, refl, arith, inl, inr, length-append, ◌≢◌, ◌==◌, zero, suc, sym, ◌∙◌, ap₂, subst, true, drop}
 use Rattle.std.specs.Prelude.{slice_index, flat_map, IsPermutation, Some, slice_get, Contains, AllPairs, bytes_eq, Option, None, slice_index_or}
 use Rattle.std.proofs.lemmas.Grind.{common_steps}
 use Rattle.std.proofs.lemmas.Bool.Decides.{nat_tests}
@@ -15,8 +15,6 @@ use Rattle.bench_net.specs.Scan.{names, inputs, cells, sources, signal, gate_lin
 use Rattle.bench_net.specs.Stored.{statements_of, read_numbers, numbers, name_at, statement_of, AreStatements, IsFirstStuck}
 use Rattle.bench_net.specs.Tables.{defines_number, output_number, signal_read, pin_readers, output_readers, line_readers, all_readers, PinsFit, input_number, cell_numbers, source_signals, sinks_at, line_gate}
 use Rattle.lists.proofs.Members.{Among, contained, among_left, among_right, among, mapped_from, filtered_from, among_joined}
-use Rattle.std.proofs.Math.Numerals.{one-add}
-use Rattle.std.proofs.lemmas.Bool.{eq-eqb, ne_eqb, cases_Bool}
 use Rattle.std.proofs.lemmas.Simd.{map-map}
 use Rattle.bench_net.specs.declared.ScanCell.{ScanCell}
 use Rattle.std.proofs.lemmas.List.Elements.{Contains-get_or, filter-append, All-contains}

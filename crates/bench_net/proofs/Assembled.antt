@@ -2,7 +2,7 @@
 use Rattle.std.proofs.Common.{◌≡◌, ◌≢◌, ◌<◌, ◌≤◌, ℕ, zero, suc, refl, sym, ◌∙◌, ap, false, List, [], ◌∷◌, length, filter, take, map, get_or, arith, inl, inr}
 use Rattle.std.specs.Prelude.{AllPairs, Option, Some, None, slice_get, flat_map, option_map}
 use Rattle.std.specs.List.{list_all}
-use Rattle.std.proofs.lemmas.Bool.{cases_Bool, both_ways}
+use Rattle.std.proofs.lemmas.Bool.{both_ways}
 use Rattle.std.proofs.lemmas.Simd.{map-map}
 use Rattle.std.proofs.lemmas.List.{take-map, length-map}
 use Rattle.std.proofs.lemmas.List.Folds.{flat_map-map}
@@ -126,14 +126,11 @@ module _ (text : List ℕ) (stated : List StatedLine) (of : AreWithin text state
     place =
         let at = slice_get-map entry_of stated i
         ∙ ap (option_map entry_of) (slice_get_read stated (length stated) i line refl h e) in
-        let p = entry_at 1 of.stated i line.number (stands_for line.statement)
-        (ap (λ es. slice_get es i) (sym of.same) ∙ at) in (
+        let p = entry_at 1 of.stated i line.number (stands_for line.statement) (rw of.same at at) in (
           p.0,
           omega (arith, p.1),
           p.2,
-          p.3 ∙ ap (λ es. map (λ entry. entry.1) (take i es)) (sym of.same)
-              ∙ ap (map (λ entry. entry.1)) (take-map entry_of i stated)
-              ∙ map-map (λ entry. entry.1) entry_of (take i stated),
+          p.3 ∙ rw (← of.same, take-map, map-map) refl,
         )
 
     pub redefined : (n : Name) → Among n (defined_of line) → Among n (names_in (take i stated))

@@ -1,10 +1,9 @@
 -- Names and their numbers: what is found, and how lines are numbered one after another.
 use Rattle.lists.proofs.Members.{Among, contained, mapped_from, joined_from, among_joined, among_right}
-use Rattle.std.proofs.Common.{◌≡◌, ◌<◌, ◌≤◌, ◌+◌, ℕ, refl, sym, ◌∙◌, ap, List, [], ◌∷◌, ◌++◌, length, take, map, arith, get_or, inl, inr, append-nil, subst}
+use Rattle.std.proofs.Common.{◌≡◌, ◌<◌, ◌≤◌, ◌+◌, ℕ, refl, sym, ◌∙◌, ap, List, [], ◌∷◌, ◌++◌, length, take, map, arith, get_or, append-nil, subst}
 use Rattle.std.specs.Prelude.{flat_map, bytes_eq, ◌||◌, Contains}
 use Rattle.std.specs.List.{list_any, All}
 use Rattle.std.specs.Borrow.{Bor}
-use Rattle.std.proofs.Math.Nat.{add-zero}
 use Rattle.std.proofs.lemmas.Grind.{common_steps}
 use Rattle.std.proofs.lemmas.List.{map-append, map_push, take_more}
 use Rattle.std.proofs.lemmas.List.Concat.{flat_map-append, get_or-flat_map}
