@@ -33,11 +33,6 @@ greatest-among (y ∷ xs) x (inr a) = omega (arith, greatest-cons y xs, greatest
 pub greatest-at : (xs : List ℕ) (i : ℕ) → i < length xs → get_or xs i 0 ≤ greatest xs
 greatest-at xs i lt = greatest-among xs _ (among xs _ (Contains-get_or xs i 0 lt))
 
-pub greatest-within : (xs : List ℕ) (m : ℕ) → ((i : ℕ) → i < length xs → get_or xs i 0 ≤ m) → greatest xs ≤ m
-greatest-within [] m h = omega arith
-greatest-within (x ∷ xs) m h =
-    omega (arith, greatest-cons x xs, h 0 (omega arith), greatest-within xs m (λ i lt. h (suc i) (omega (arith, lt))))
-
 -- ---- levels
 
 module _ {pins : ℕ → List ℕ} where
@@ -172,8 +167,7 @@ module _ {pins : ℕ → List ℕ} {n begun : ℕ} {marks : List Mark} where
 
         stays : (s : ℕ) → s ≢ gate.signal → Among s (gate.signal ∷ signals_of rest)
             → Among s (signals_of rest)
-        stays s ne (inl e) = absurd (ne (sym e))
-        stays s ne (inr a) = a
+        stays s ne a = grind (arith, ne, a)
 
     -- the next pin's signal has a level
     pub advanced : {p k : ℕ} → slice_get (pins gate.signal) gate.pin ≡ Some p
@@ -263,18 +257,13 @@ pub settled : {pins : ℕ → List ℕ} {n : ℕ} {marks : List Mark} → IsSear
     → ((s p : ℕ) → Among p (pins s) → p < n) → AreLevelsOf pins n (map level_in marks)
 settled {pins} {n} {marks} state below = record {
   count = length-map marks level_in ∙ state.count;
-  of_pins = λ s p a. (at p (below s p a)).0;
-  each = λ s lt. (at s lt).0;
-  small = λ s lt. (at s lt).1;
+  of_pins = λ s p a. at p (below s p a);
+  each = at;
 }
   where
     at : (s : ℕ) → s < n → HaveLevels pins (pins s) (slice_index (map level_in marks) s)
-        × (slice_index (map level_in marks) s < n)
     at s lt =
         let k = level_at s state lt lt in
-        let has = state.each s (Level k.0) k.1 in
-        rw (
-          get_or-map level_in marks s (Level 0) 0 (omega (arith, lt, state.count)),
-          get_or_from_slice_get marks s (Level k.0) (Level 0) k.1,
-        )
-        (has.0, omega (arith, has.1))
+        rw (get_or-map level_in marks s (Level 0) 0 (omega (arith, lt, state.count)),
+            get_or_from_slice_get marks s (Level k.0) (Level 0) k.1)
+        (state.each s (Level k.0) k.1).0

@@ -29,7 +29,6 @@ pub record AreLevelsOf (pins : ℕ → List ℕ) (signals : ℕ) (levels : List 
   pub count : length levels ≡ signals
   pub each : (s : ℕ) → s < signals → HaveLevels pins (pins s) (slice_index levels s)
   pub of_pins : (s p : ℕ) → Among p (pins s) → HaveLevels pins (pins p) (slice_index levels p)
-  pub small : (s : ℕ) → s < signals → slice_index levels s < signals
 
 -- the signal is one of some each of which reads one of them
 abbrev pub IsStuckAt : (ℕ → List ℕ) → ℕ → Type 0
