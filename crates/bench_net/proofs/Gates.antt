@@ -117,7 +117,8 @@ module _ (c : List Statement) (once : AllPairs (λ m n. m ≢ n) (names c)) wher
   stuck_name s n is stuck = (λ m. list_any (λ i. i == signal c m) stuck.0, set, member n (subst (Contains stuck.0) (sym is) stuck.2))
     where
       member : (m : Name) → Contains stuck.0 (signal c m) → list_any (λ i. i == signal c m) stuck.0 ≡ true
-      member m has = any_true (λ i. i == signal c m) stuck.0 (signal c m) has (eq-eqb (signal c m) (signal c m) refl)
+      member m has = any_true (λ i. i == signal c m) stuck.0 (signal c m) has
+          (eq-eqb (signal c m) (signal c m) refl)
 
       set : IsStuckSet c (λ m. list_any (λ i. i == signal c m) stuck.0)
       set m inside =
