@@ -176,8 +176,8 @@ module _ (stated : List Stated) where
             rw at (any_true _ (defined s) n here (among_in _ _ e)),
         λ on. let (s, at, clash) = passed _ (slice_get stated i) on in
             let (n, here, front) = some_passes _ (defined s) clash in
-            let (k, lt, says) = (earlier defined stated i n).1 (among _ _ (in_contained _ _ front)) in
-            (n, k, (s, at, here), lt, says),
+            let e = (earlier defined stated i n).1 (among _ n (in_contained _ n front)) in
+            (n, e.0, (s, at, here), e.1, e.2),
       ))
 
   undefined_first : IsFirst (IsUndefined stated)
@@ -266,7 +266,9 @@ answered text =
         → IsAnswer text (line_or Syntax o (answer_stated stated))
     go bytes (Some l) bad = (bytes, bad)
     go bytes None none =
-        let each = all_read (lines text) (λ i l at e. none (suc i) (l, at, (unstated l).1 (rw e refl))) in
+        let bad = λ (i : ℕ) (l : List ℕ) (at : slice_get (lines text) i ≡ Some l)
+        (e : stated_of l ≡ None). none (suc i) (l, at, (unstated l).1 (rw e refl)) in
+        let each = all_read (lines text) bad in
         cond_both _ _ _ (IsAnswer text) (λ e. (bytes, stated, each, ltb-true _ _ e))
         (λ f. cond_both _ _ _ (IsAnswer text)
         (λ e. (bytes, stated, each, ltb-false _ _ f, ltb-true _ _ e))

@@ -4,7 +4,8 @@ use Rattle.bench_net.proofs.Reader.{behind_blanks, parted}
 use Rattle.bench_net.proofs.scan.next_token.Goals as goal
 
 pub token_at-requires : goal.token_at-requires
-token_at-requires c = rw (take_rest, c.blank_len.ensures.counted) (parted is_blank c.args.line.now).1
+token_at-requires c =
+    rw (take_rest, c.blank_len.ensures.counted) (parted is_blank c.args.line.now).1
 
 pub returns : goal.returns
 returns c =
