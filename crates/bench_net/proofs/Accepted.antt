@@ -134,11 +134,9 @@ module _ (ns : List Name) (number : Name → ℕ) where
   qs_are : (ls : List Line) → AreRight ls
       → map (λ cell. cell.q) (filter_map cell_numbers ls)
       ≡ map number (map (λ cell. cell.0) (cells (statements_of ns ls)))
-  qs_are ls are =
-      sym (map-map {B = ℕ × ℕ} (λ cell. cell.0) (λ (cell : ScanCell). (cell.q, cell.d))
-      (filter_map cell_numbers ls)) ∙ ap (map (λ cell. cell.0)) (cells_are ls are)
-      ∙ map-map _ _ (cells (statements_of ns ls))
-      ∙ sym (map-map number (λ cell. cell.0) (cells (statements_of ns ls)))
+  qs_are [] are = refl
+  qs_are (line.Dff q d ∷ ls) (e, are) = let rest = qs_are ls are in cc
+  qs_are (_ ∷ ls) (e, are) = qs_are ls are
 
   pub sources_are : (ls : List Line) → AreRight ls
       → source_signals ls ≡ map number (sources (statements_of ns ls))
@@ -233,8 +231,8 @@ module _ (whole : List Statement) (n : Name) (named : Contains (names whole) n) 
     sinks_are lines is are once =
         sinks-append (line_readers 0 lines) (output_readers (filter_map output_number lines))
         (signal whole n)
-        ∙ ap₂ (λ xs ys. xs ++ ys) (line_sinks [] lines are (rw is once) (ap qs (sym is)) ∙ ap (flat_map (pins_of whole n)) is)
-        (ap (λ os. sinks_at (output_readers os) (signal whole n)) (outputs_are ns (signal whole) lines are ∙ ap (λ c. map (signal whole) (outputs c)) is) ∙ numbered Out 0 (outputs whole))
+        ∙ rw (line_sinks [] lines are (rw is once) (ap qs (sym is)),
+            outputs_are ns (signal whole) lines are, is, numbered Out 0 (outputs whole)) refl
 
 -- ---- numbered lines are such lines
 
