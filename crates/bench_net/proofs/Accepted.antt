@@ -1,5 +1,5 @@
 -- How many lines, sources and readers there are, and which signals they read.
-use Rattle.std.proofs.Common.{◌≡◌, ◌<◌, ◌≤◌, ◌+◌, ◌^◌, ℕ, ap, List, [], ◌∷◌, ◌++◌, map, length, filter, refl, arith, inl, inr, length-append, ◌≢◌, ◌==◌, zero, suc, sym, ◌∙◌, ap₂, subst, true, drop}
+use Rattle.std.proofs.Common.{◌≡◌, ◌<◌, ◌≤◌, ◌+◌, ◌^◌, ℕ, ap, List, [], ◌∷◌, ◌++◌, map, length, filter, refl, arith, inl, inr, ◌⊎◌, length-append, ◌≢◌, ◌==◌, zero, suc, sym, ◌∙◌, subst, true, drop}
 use Rattle.std.specs.Prelude.{slice_index, flat_map, IsPermutation, Some, slice_get, Contains, AllPairs, bytes_eq, Option, None, slice_index_or}
 use Rattle.std.proofs.lemmas.Grind.{common_steps}
 use Rattle.std.proofs.lemmas.Bool.Decides.{nat_tests}
@@ -12,11 +12,9 @@ use Rattle.bench_net.specs.declared.Sink.{Sink}
 use Rattle.bench_net.specs.declared.Sink.TheVariants.{Pin, Out}
 use Rattle.bench_net.specs.Statement.{Name, Statement, Dff, Output, defines, Gate}
 use Rattle.bench_net.specs.Scan.{names, inputs, cells, sources, signal, gate_line, cell, outputs, pins_of, sinks, name_of, definition}
-use Rattle.bench_net.specs.Stored.{statements_of, read_numbers, numbers, name_at, statement_of, AreStatements, IsFirstStuck}
+use Rattle.bench_net.specs.Stored.{statements_of, read_numbers, numbers, name_at, statement_of, AreStatements, AreRefused, IsFirstStuck}
 use Rattle.bench_net.specs.Tables.{defines_number, output_number, signal_read, pin_readers, output_readers, line_readers, all_readers, PinsFit, input_number, cell_numbers, source_signals, sinks_at, line_gate}
 use Rattle.lists.proofs.Members.{Among, contained, among_left, among_right, among, mapped_from, filtered_from, among_joined}
-use Rattle.std.proofs.lemmas.Simd.{map-map}
-use Rattle.bench_net.specs.declared.ScanCell.{ScanCell}
 use Rattle.std.proofs.lemmas.List.Elements.{Contains-get_or, filter-append, All-contains}
 use Rattle.std.proofs.lemmas.Option.{get_or_from_slice_get, slice_get-get_or, slice_get_within}
 use Rattle.bench_net.specs.declared.sinks.Reader.{Reader}
@@ -27,9 +25,10 @@ use Rattle.bench_net.proofs.Gates.{named, named_number, of_cell, pins, source_st
 use mathlib.Core.Path.{fun_ext}
 use Rattle.bench_net.proofs.Marking.{greatest-at}
 use Rattle.bench_net.specs.declared.tables.Tables.{Tables}
-use Rattle.bench_net.specs.declared.levels.LevelFault.TheVariants.{Cycle}
+use Rattle.bench_net.specs.declared.BenchFault.{BenchFault}
+use Rattle.bench_net.specs.declared.BenchFault.TheVariants.{Memory, Cycle}
 use Rattle.bench_net.specs.Circuit.{IsCircuit, sink_count}
-use Rattle.bench_net.specs.Marks.{pins_in, gate_pins, AreLevelsOf, IsLevelFault}
+use Rattle.bench_net.specs.Marks.{pins_in, gate_pins, AreLevelsOf, IsLowestStuck, IsLevelFault}
 use Rattle.bench_net.specs.Inside.{signals_in, AreTableLines, AreTables, IsInside, IsPlace}
 use Rattle.lists.proofs.Places.{at_place}
 use Rattle.bench_net.proofs.Listed.{definition_count}
@@ -273,7 +272,7 @@ module _ (ns : List Name) (lines : List Line) (at : List ℕ) (are : AreStatemen
   name_count : length (names c) ≡ length ns
   name_count = ap length are.names_are
 
-  count : signals_in lines ≡ length ns
+  pub count : signals_in lines ≡ length ns
   count = definition_count lines ∙ (counts ns lines).1 ∙ name_count
 
   read_count : length (flat_map read_numbers lines) ≡ sink_count c
@@ -435,17 +434,12 @@ module _ (ns : List Name) (lines : List Line) (at : List ℕ) (are : AreStatemen
           grind (arith, lt, count, name_count, source_count, within, name, source_at i within,
               tabled.places_are.none s i, number_of s _ (slice_get-get_or (names c) s [] lt)))
 
-  -- the first signal without a level is the first that is stuck
-  pub refused : (s : ℕ)
-      → IsLevelFault (gate_pins lines) (signals_in lines) (Cycle s)
-      → (s < length at) × IsFirstStuck c s
-  refused s by_lines = (
-    omega (arith, fault.0, count, are.line_count),
-    go (definition c s) refl read_by.1,
-  )
+  -- the lowest signal that is stuck is the first, and where levels are wanting the text is refused
+  first_stuck : (s : ℕ) → IsLowestStuck (gate_pins lines) (signals_in lines) s → IsFirstStuck c s
+  first_stuck s by_lines = go (definition c s) refl read_by.1
     where
-      fault : IsLevelFault (pins c) (signals_in lines) (Cycle s)
-      fault = subst (λ f. IsLevelFault f (signals_in lines) (Cycle s)) same_pins by_lines
+      fault : IsLowestStuck (pins c) (signals_in lines) s
+      fault = subst (λ f. IsLowestStuck f (signals_in lines) s) same_pins by_lines
 
       read_by : (p : ℕ) × Among p (pins c s) × Among p fault.1.0
       read_by = fault.1.1 s fault.1.2
@@ -466,3 +460,9 @@ module _ (ns : List Name) (lines : List Line) (at : List ℕ) (are : AreStatemen
                 not_stuck c once t level.0 m (number_of t m named) level.1,
           )
       go (Some _) e a = absurd a
+
+  pub refused : (fault : BenchFault) → IsLevelFault (gate_pins lines) (signals_in lines) at fault
+      → (fault ≡ Memory) ⊎ AreRefused ns lines at fault
+  refused Memory f = inl refl
+  refused (Cycle number) (s, here, by_lines) = inr (s, here, first_stuck s by_lines)
+  refused _ f = absurd f

@@ -8,10 +8,9 @@ use Rattle.std.proofs.lemmas.List.Elements.{Contains-get_or}
 use Rattle.std.proofs.lemmas.Option.{slice_get_within, slice_get_cases, get_or_from_slice_get}
 use Rattle.bench_net.specs.declared.levels.Mark.{Mark}
 use Rattle.bench_net.specs.declared.levels.Mark.TheVariants.{Unknown, Open, Level}
-use Rattle.bench_net.specs.declared.levels.LevelFault.TheVariants.{Cycle}
 use Rattle.bench_net.specs.Level.{greatest}
 use Rattle.bench_net.specs.declared.levels.OpenGate.{OpenGate}
-use Rattle.bench_net.specs.Marks.{AreLevelsOf, HaveLevels, no_signal, one_more, IsLevelFault, HaveLevelsBelow, is_unknown, waiting, steps, pins_left, signals_of, IsMark, IsOpen, IsPath, IsSearch, level_in}
+use Rattle.bench_net.specs.Marks.{AreLevelsOf, HaveLevels, no_signal, one_more, IsLowestStuck, HaveLevelsBelow, is_unknown, waiting, steps, pins_left, signals_of, IsMark, IsOpen, IsPath, IsSearch, level_in}
 use Rattle.lists.proofs.Members.{Among, among, mapped_from}
 use Rattle.lists.proofs.Places.{at_place, within_place}
 use Rattle.bench_net.proofs.Listed.{written}
@@ -207,7 +206,7 @@ module _ {pins : ℕ → List ℕ} {n begun : ℕ} {marks : List Mark} where
     -- it is open, so the path meets itself
     pub met : (start p : ℕ) → begun ≡ start + 1 → HaveLevelsBelow pins start
         → slice_get (pins gate.signal) gate.pin ≡ Some p → slice_get marks p ≡ Some Open
-        → IsLevelFault pins n (Cycle start)
+        → IsLowestStuck pins n start
     met start p is lower at again =
         let gates = gate.signal ∷ signals_of rest in
         let first = start_on pins begun start gate.signal (signals_of rest) is state.path_is in

@@ -5,8 +5,8 @@ use Rattle.bench_net.specs.declared.line.Line.{Line}
 use Rattle.bench_net.specs.declared.levels.Mark.{Mark}
 use Rattle.bench_net.specs.declared.levels.Mark.TheVariants.{Unknown, Open, Level}
 use Rattle.bench_net.specs.declared.levels.OpenGate.{OpenGate}
-use Rattle.bench_net.specs.declared.levels.LevelFault.{LevelFault}
-use Rattle.bench_net.specs.declared.levels.LevelFault.TheVariants.{Memory, Cycle}
+use Rattle.bench_net.specs.declared.BenchFault.{BenchFault}
+use Rattle.bench_net.specs.declared.BenchFault.TheVariants.{Memory, Cycle}
 use Rattle.bench_net.specs.Tables.{definition_places}
 pub use Rattle.bench_net.specs.Tables.{pins_in, gate_pins}
 
@@ -40,10 +40,16 @@ IsStuckAt pins s = (members : List ℕ)
 abbrev pub HaveLevelsBelow : (ℕ → List ℕ) → ℕ → Type 0
 HaveLevelsBelow pins s = (lower : ℕ) → lower < s → (k : ℕ) × HaveLevels pins (pins lower) k
 
--- a cycle is the answer only at a stuck signal below which each has a level
-abbrev pub IsLevelFault : (ℕ → List ℕ) → ℕ → LevelFault → Type 0
-IsLevelFault pins signals Memory = Unit {0}
-IsLevelFault pins signals (Cycle s) = (s < signals) × IsStuckAt pins s × HaveLevelsBelow pins s
+-- a stuck signal below which each has a level
+abbrev pub IsLowestStuck : (ℕ → List ℕ) → ℕ → ℕ → Type 0
+IsLowestStuck pins signals s = (s < signals) × IsStuckAt pins s × HaveLevelsBelow pins s
+
+-- a cycle is the answer only at such a signal, by the number of its line
+abbrev pub IsLevelFault : (ℕ → List ℕ) → ℕ → List ℕ → BenchFault → Type 0
+IsLevelFault pins signals at Memory = Unit {0}
+IsLevelFault pins signals at (Cycle number) =
+    (s : ℕ) × (slice_get at s ≡ Some number) × IsLowestStuck pins signals s
+IsLevelFault pins signals at _ = ⊥
 
 abbrev pub is_unknown : Mark → Bool
 is_unknown Unknown = true

@@ -7,7 +7,6 @@ ghost use Rattle.bench_net.specs.Circuit.{IsCircuit};
 ghost use Rattle.bench_net.specs.Level.{HasLevel, HasDepth, IsLevelOrder};
 ghost use Rattle.bench_net.specs.Stored.{statements_of, AreStatements, AreRefused};
 
-use crate::levels::LevelFault;
 use crate::line::{Line, line_of};
 use crate::read::Lines;
 use crate::tables::{Tables, tables_of};
@@ -157,13 +156,10 @@ pub fn circuit_of(alloc: Global, lines: Lines) -> Result<Circuit, BenchFault>
     if lines.is_empty() {
         return Err(BenchFault::Empty);
     }
-    match tables_of(alloc, &lines) {
-        Ok(tables) => Ok(Circuit {
-            names,
-            lines,
-            tables,
-        }),
-        Err(LevelFault::Memory) => Err(BenchFault::Memory),
-        Err(LevelFault::Cycle(signal)) => Err(BenchFault::Cycle(at[signal as usize])),
-    }
+    let tables = tables_of(alloc, &lines, &at)?;
+    Ok(Circuit {
+        names,
+        lines,
+        tables,
+    })
 }

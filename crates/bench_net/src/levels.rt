@@ -5,11 +5,11 @@ ghost use Rattle.bench_net.specs.Level.{greatest};
 ghost use Rattle.bench_net.specs.Rows.{AreRows};
 ghost use Rattle.bench_net.specs.Tables.{line_gate};
 ghost use Rattle.bench_net.specs.Marks.{pins_in, gate_pins, IsGraph, AreLevelsOf, IsLevelFault, HaveLevelsBelow, IsSearch, steps, level_in};
-ghost use Rattle.bench_net.specs.declared.levels.LevelFault.TheVariants.{Memory};
 
+use crate::BenchFault;
 use crate::line::{Line, line_of};
 use crate::rows::rows_of;
-use std::alloc::{AllocError, AllocFailed, Global};
+use std::alloc::Global;
 
 /// The level of each signal, the signals in the order of their levels, and the greatest level.
 #[derive(Drop)]
@@ -17,30 +17,6 @@ pub struct Levels {
     pub levels: Vec<u32>,
     pub order: Vec<u32>,
     pub depth: u32,
-}
-
-/// Why there are no levels: want of memory, or the lowest signal that is on a cycle of gates or fed
-/// by one.
-#[derive(Clone, Copy, Debug, PartialEq, Eq)]
-pub enum LevelFault {
-    Memory,
-    Cycle(u32),
-}
-
-impl From<AllocError> for LevelFault {
-    ghost from_gives = { λ _ fault. fault ≡ Memory };
-
-    fn from(_error: AllocError) -> LevelFault {
-        LevelFault::Memory
-    }
-}
-
-impl<T: Drop> From<AllocFailed<T>> for LevelFault {
-    ghost from_gives = { λ _ fault. fault ≡ Memory };
-
-    fn from(_error: AllocFailed<T>) -> LevelFault {
-        LevelFault::Memory
-    }
 }
 
 /// What is known of a signal: nothing, that its gate is open, or its level.
@@ -88,12 +64,14 @@ fn pin_of(lines: &[Line], definitions: &[usize], signal: u32, pin: u32) -> Optio
 fn visit(
     lines: &[Line],
     definitions: &[usize],
+    at: &[u64],
     start: u32,
     gate: OpenGate,
     marks: &mut Vec<Mark>,
     path: &mut Vec<OpenGate>,
-) -> Result<(), LevelFault>
+) -> Result<(), BenchFault>
     requires graph { IsGraph lines.now definitions.now }
+    requires at { length at.now ≡ length definitions.now }
     requires lower { HaveLevelsBelow (gate_pins lines.now) start }
     requires search { IsSearch (gate_pins lines.now) (length definitions.now) (start + 1)
         marks.old.items (gate ∷ reverse path.old.items) }
@@ -101,7 +79,7 @@ fn visit(
         (start + 1) marks.new.items (reverse path.new.items)
         × (steps (gate_pins lines.now) marks.new.items (reverse path.new.items)
         < steps (gate_pins lines.now) marks.old.items (gate ∷ reverse path.old.items))) }
-    ensures fault { IfErr result (IsLevelFault (gate_pins lines.now) (length definitions.now)) }
+    ensures fault { IfErr result (IsLevelFault (gate_pins lines.now) (length definitions.now) at.now) }
 {
     let Some(signal) = pin_of(lines, definitions, gate.signal, gate.pin) else {
         marks[gate.signal as usize] = Mark::Level(gate.level);
@@ -122,7 +100,7 @@ fn visit(
                 level: 0,
             })?;
         }
-        Mark::Open => return Err(LevelFault::Cycle(start)),
+        Mark::Open => return Err(BenchFault::Cycle(at[start as usize])),
     }
     Ok(())
 }
@@ -132,11 +110,13 @@ fn visit(
 fn settle(
     lines: &[Line],
     definitions: &[usize],
+    at: &[u64],
     start: u32,
     marks: &mut Vec<Mark>,
     path: &mut Vec<OpenGate>,
-) -> Result<(), LevelFault>
+) -> Result<(), BenchFault>
     requires graph { IsGraph lines.now definitions.now }
+    requires at { length at.now ≡ length definitions.now }
     requires start { start < length definitions.now }
     requires search { IsSearch (gate_pins lines.now) (length definitions.now) start
         marks.old.items [] }
@@ -144,7 +124,7 @@ fn settle(
     ensures search { OnOk result (IsSearch (gate_pins lines.now) (length definitions.now)
         (start + 1) marks.new.items []) }
     ensures path { OnOk result (path.new.items ≡ []) }
-    ensures fault { IfErr result (IsLevelFault (gate_pins lines.now) (length definitions.now)) }
+    ensures fault { IfErr result (IsLevelFault (gate_pins lines.now) (length definitions.now) at.now) }
 {
     if let Mark::Unknown = marks[start as usize] {
         marks[start as usize] = Mark::Open;
@@ -155,7 +135,7 @@ fn settle(
         })?;
     }
     while let Some(gate) = path.pop() {
-        visit(lines, definitions, start, gate, marks, path)?;
+        visit(lines, definitions, at, start, gate, marks, path)?;
     }
     Ok(())
 }
@@ -178,31 +158,40 @@ fn signal_levels(
     alloc: Global,
     lines: &[Line],
     definitions: &[usize],
-) -> Result<Vec<u32>, LevelFault>
+    at: &[u64],
+) -> Result<Vec<u32>, BenchFault>
     requires graph { IsGraph lines.now definitions.now }
+    requires at { length at.now ≡ length definitions.now }
     ensures levels { IfOk result (λ levels. AreLevelsOf (gate_pins lines.now)
         (length definitions.now) levels.items) }
-    ensures fault { IfErr result (IsLevelFault (gate_pins lines.now) (length definitions.now)) }
+    ensures fault { IfErr result (IsLevelFault (gate_pins lines.now) (length definitions.now) at.now) }
 {
     let mut marks = vec![in alloc; Mark::Unknown; definitions.len()]?;
     let mut path = Vec::new(alloc);
     for start in 0..definitions.len() as u32 {
-        settle(lines, definitions, start, &mut marks, &mut path)?;
+        settle(lines, definitions, at, start, &mut marks, &mut path)?;
     }
     Ok(marks.iter().map(|mark| level_in(mark)).collect(alloc)?)
 }
 
-/// The levels of lines whose definitions stand at these places.
-pub fn levels_of(alloc: Global, lines: &[Line], definitions: &[usize]) -> Result<Levels, LevelFault>
+/// The levels of lines whose definitions stand at these places, or the refusal of a text where a
+/// signal is on a cycle of gates or fed by one: the lowest such, by the number of its line.
+pub fn levels_of(
+    alloc: Global,
+    lines: &[Line],
+    definitions: &[usize],
+    at: &[u64],
+) -> Result<Levels, BenchFault>
     requires graph { IsGraph lines.now definitions.now }
+    requires at { length at.now ≡ length definitions.now }
     ensures levels { IfOk result (λ l. AreLevelsOf (gate_pins lines.now)
         (length definitions.now) l.levels.items) }
     ensures order { IfOk result (λ l. (starts : List ℕ)
         × AreRows l.levels.items (l.depth + 1) starts l.order.items) }
     ensures depth { IfOk result (λ l. l.depth ≡ greatest l.levels.items) }
-    ensures fault { IfErr result (IsLevelFault (gate_pins lines.now) (length definitions.now)) }
+    ensures fault { IfErr result (IsLevelFault (gate_pins lines.now) (length definitions.now) at.now) }
 {
-    let levels = signal_levels(alloc, lines, definitions)?;
+    let levels = signal_levels(alloc, lines, definitions, at)?;
     let depth = levels.iter().fold(0, |depth, level| depth.max(*level));
     let order = rows_of(alloc, &levels, depth as usize + 1)?.places;
     Ok(Levels {

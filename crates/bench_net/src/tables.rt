@@ -6,10 +6,10 @@ ghost use Rattle.bench_net.specs.Tables.{input_number, output_number, cell_numbe
 ghost use Rattle.bench_net.specs.Marks.{IsLevelFault};
 ghost use Rattle.bench_net.specs.Inside.{signals_in, AreTableLines, AreTables};
 
-use crate::ScanCell;
-use crate::levels::{LevelFault, Levels, levels_of};
+use crate::levels::{Levels, levels_of};
 use crate::line::Line;
 use crate::sinks::{SinkRows, readers_of, sink_rows};
+use crate::{BenchFault, ScanCell};
 use std::alloc::{AllocError, Global};
 
 /// What is computed in passes over the lines of a circuit.
@@ -120,11 +120,14 @@ pub fn source_places(
     Ok(places)
 }
 
-/// The tables of lines, or the lowest signal that is on a cycle of gates or fed by one.
-pub fn tables_of(alloc: Global, lines: &[Line]) -> Result<Tables, LevelFault>
-    requires { AreTableLines lines.now }
+/// The tables of lines, or the refusal of a text where a signal is on a cycle of gates or fed by
+/// one: the lowest such, by the number of its line.
+pub fn tables_of(alloc: Global, lines: &[Line], at: &[u64]) -> Result<Tables, BenchFault>
+    requires lines { AreTableLines lines.now }
+    requires at { length at.now ≡ signals_in lines.now }
     ensures tables { IfOk result (AreTables lines.now) }
-    ensures fault { IfErr result (IsLevelFault (gate_pins lines.now) (signals_in lines.now)) }
+    ensures fault { IfErr result
+        (IsLevelFault (gate_pins lines.now) (signals_in lines.now) at.now) }
 {
     let inputs = input_signals(alloc, lines)?;
     let cells = cells(alloc, lines)?;
@@ -133,7 +136,7 @@ pub fn tables_of(alloc: Global, lines: &[Line]) -> Result<Tables, LevelFault>
     let definitions = definitions(alloc, lines)?;
     let source_places = source_places(alloc, &sources, definitions.len())?;
     let sinks = sink_rows(alloc, &readers_of(alloc, lines, &outputs)?, definitions.len())?;
-    let levels = levels_of(alloc, lines, &definitions)?;
+    let levels = levels_of(alloc, lines, &definitions, at)?;
     Ok(Tables {
         inputs,
         cells,

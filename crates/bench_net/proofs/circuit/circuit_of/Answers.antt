@@ -1,10 +1,10 @@
-use Rattle.std.proofs.Common.{◌≡◌, ◌∙◌, List, arith, ap, refl, [], length, map, string_bytes, inr}
+use Rattle.std.proofs.lemmas.Result.{err_from_is_err_and}
+use Rattle.std.proofs.Common.{◌∙◌, sym, ◌≡◌, ◌∙◌, List, arith, ap, refl, [], length, map, string_bytes}
 use Rattle.std.specs.Prelude.{false, ◌==◌, vec_len}
 use Rattle.std.proofs.lemmas.Bool.{false≢true, eq-eqb}
-use Rattle.std.proofs.lemmas.Option.{slice_get_read}
 use Rattle.bench_net.specs.declared.read.Lines.{Lines}
 use Rattle.bench_net.specs.Statement.{Name}
-use Rattle.bench_net.proofs.Accepted.{table_lines, circuit, inside, refused}
+use Rattle.bench_net.proofs.Accepted.{table_lines, count, circuit, inside, refused}
 use Rattle.bench_net.proofs.circuit.circuit_of.Goals as goal
 
 abbrev ns_of : Lines → List Name
@@ -15,30 +15,29 @@ some : (read : Lines) → false ≡ (vec_len read.lines == 0)
 some read full len e = false≢true (full ∙ eq-eqb (vec_len read.lines) 0 (len ∙ ap length e))
 
 pub tables_of-requires : goal.tables_of-requires
-tables_of-requires c = rw c.deref.ensures.value
-    (table_lines (ns_of c.args.lines) c.args.lines.lines.items c.args.lines.at.items c.requires)
+tables_of-requires c = rw (c.deref.ensures.value, c.deref-2.ensures.value) (record {
+  lines = table_lines (ns_of c.args.lines) c.args.lines.lines.items c.args.lines.at.items c.requires;
+  at = c.requires.line_count
+      ∙ sym (count (ns_of c.args.lines) c.args.lines.lines.items c.args.lines.at.items c.requires);
+})
 
 pub invariant_of-result : goal.invariant_of-result
 invariant_of-result c =
     inside (ns_of c.args.lines) c.args.lines.lines.items c.args.lines.at.items c.requires
-    c.in-Ok.tables (rw c.deref.ensures.value at c.in-Ok.ensures.tables)
+    c.in_ok-tables.tables (rw c.deref.ensures.value at c.in_ok-tables.ensures.tables)
     (some c.args.lines c.if-is_empty.ensures (omega arith))
 
-pub returns-in-Ok-clause-accepted : goal.returns-in-Ok-clause-accepted
-returns-in-Ok-clause-accepted c = (
+pub returns-clause-accepted : goal.returns-clause-accepted
+returns-clause-accepted c = (
   refl,
   circuit (ns_of c.args.lines) c.args.lines.lines.items c.args.lines.at.items c.requires
-      c.in-Ok.tables (rw c.deref.ensures.value at c.in-Ok.ensures.tables)
+      c.in_ok-tables.tables (rw c.deref.ensures.value at c.in_ok-tables.ensures.tables)
       (some c.args.lines c.if-is_empty.ensures (omega arith)),
 )
 
-pub index-requires : goal.index-requires
-index-requires c =
-    let fault = rw (c.in-Err-Cycle.field-0-is, c.deref.ensures.value) at c.in-Err-Cycle.ensures.fault in
-    omega (arith, (refused (ns_of c.args.lines) _ _ c.requires c.in-Err-Cycle.signal fault).0)
-
-pub returns-clause-refused : goal.returns-clause-refused
-returns-clause-refused c =
-    let fault = rw (c.in-Err-Cycle.field-0-is, c.deref.ensures.value) at c.in-Err-Cycle.ensures.fault in
-    let first = refused (ns_of c.args.lines) c.args.lines.lines.items c.args.lines.at.items c.requires c.in-Err-Cycle.signal fault in
-    inr (c.in-Err-Cycle.signal, slice_get_read c.args.lines.at.items _ _ c.index.result.now refl first.0 c.index.ensures, first.1)
+pub returns-in_err-tables-clause-refused : goal.returns-in_err-tables-clause-refused
+returns-in_err-tables-clause-refused c =
+    let p = err_from_is_err_and c.from_residual.result c.from_residual.ensures.1 in
+    rw (p.1, p.2) (refused (ns_of c.args.lines) c.args.lines.lines.items c.args.lines.at.items
+    c.requires c.in_err-tables.field-0.0
+    (rw (c.deref.ensures.value, c.deref-2.ensures.value) at c.in_err-tables.ensures.fault))

@@ -1,11 +1,11 @@
 use Rattle.std.proofs.Common.{◌≡◌, ◌<◌, ◌+◌, ◌∙◌, ap, sym, arith, length, refl, inl}
 use Rattle.std.specs.Prelude.{Some, slice_get}
 use Rattle.std.proofs.lemmas.List.{reverse-append}
-use Rattle.std.proofs.lemmas.Option.{slice_get_read, slice_get_within}
+use Rattle.std.proofs.lemmas.Option.{slice_get_read, slice_get-get_or, slice_get_within}
 use Rattle.lists.proofs.Places.{at_place}
-use Rattle.bench_net.specs.Marks.{gate_pins}
+use Rattle.bench_net.specs.Marks.{gate_pins, IsLowestStuck}
 use Rattle.bench_net.proofs.Marking.{finished, advanced, opened, met}
-use Rattle.bench_net.proofs.levels.visit.Goals.{In-Some, After-index}
+use Rattle.bench_net.proofs.levels.visit.Goals.{In-Open, In-Some, After-index}
 use Rattle.bench_net.proofs.levels.visit.Goals as goal
 
 pub pin_of-requires-clause-below : goal.pin_of-requires-clause-below
@@ -47,10 +47,20 @@ pub index_mut-requires-in-Unknown : goal.index_mut-requires-in-Unknown
 index_mut-requires-in-Unknown c =
     omega (arith, below (goal.at.index_mut-requires-in-Unknown c).In-Some)
 
+stuck : (c : In-Open)
+    → IsLowestStuck (gate_pins c.args.lines.now) (length c.args.definitions.now) c.args.start
+stuck c =
+    let at = next (goal.at.In-Open c).After-index in
+    met c.requires.search c.args.start _ refl c.requires.lower at.0 (at.1 ∙ ap Some c.in-Open.is)
+
+pub bounds-at-start : goal.bounds-at-start
+bounds-at-start c = omega (arith, (stuck (goal.at.bounds-at-start c).In-Open).0, c.requires.at)
+
 pub returns-in-Open-clause-fault : goal.returns-in-Open-clause-fault
 returns-in-Open-clause-fault c =
-    let at = next (goal.at.returns-in-Open-clause-fault c).After-index in
-    met c.requires.search c.args.start _ refl c.requires.lower at.0 (at.1 ∙ ap Some c.in-Open.is)
+    let first = stuck (goal.at.returns-in-Open-clause-fault c).In-Open in
+    let within : c.args.start < length c.args.at.now = omega (arith, first.0, c.requires.at) in
+    (c.args.start, slice_get-get_or c.args.at.now c.args.start 0 within, first)
 
 pub returns-in_ok-push-in-Level-clause-search : goal.returns-in_ok-push-in-Level-clause-search
 returns-in_ok-push-in-Level-clause-search c =
