@@ -19,8 +19,7 @@ use Rattle.std.proofs.lemmas.List.Elements.{Contains-get_or, filter-append, All-
 use Rattle.std.proofs.lemmas.Option.{get_or_from_slice_get, slice_get-get_or, slice_get_within}
 use Rattle.bench_net.specs.declared.sinks.Reader.{Reader}
 use Rattle.lists.proofs.Distinct.{Distinct, distinct_from_pairs}
-use Rattle.bench_net.proofs.Checked.{same_bytes, bytes_refl}
-use Rattle.bench_net.proofs.Numbers.{signal-name_of, name_of-signal, definition_defines}
+use Rattle.bench_net.proofs.Names.{same_bytes, bytes_refl, signal-name_of, name_of-signal, definition_defines}
 use Rattle.bench_net.proofs.Gates.{named, named_number, of_cell, pins, source_statement, signal_below, not_stuck, stuck_name, numbering, has_level, has_depth, level_order}
 use mathlib.Core.Path.{fun_ext}
 use Rattle.bench_net.proofs.Marking.{greatest-at}
@@ -32,7 +31,7 @@ use Rattle.bench_net.specs.Marks.{pins_in, gate_pins, AreLevelsOf, IsLowestStuck
 use Rattle.bench_net.specs.Inside.{signals_in, AreTableLines, AreTables, IsInside, IsPlace}
 use Rattle.lists.proofs.Places.{at_place}
 use Rattle.bench_net.proofs.Listed.{definition_count}
-use Rattle.bench_net.proofs.Numbering.{reads_numbers, reads_held, known}
+use Rattle.bench_net.proofs.Assembled.{reads_numbers, reads_held, known}
 use Rattle.bench_net.specs.declared.line.Line.TheVariants as line
 
 -- ---- sources

@@ -19,7 +19,7 @@ use Rattle.bench_net.specs.reader.Entries.{is_in}
 use Rattle.bench_net.proofs.Reader.{sound_states, complete_states, unstated}
 use Rattle.lists.proofs.Members.{Among, among, contained, some_passes, joined_from}
 use Rattle.lists.proofs.Distinct.{distinct_from_pairs}
-use Rattle.bench_net.proofs.Checked.{any_true, in_contained, among_in, pairs_distinct}
+use Rattle.bench_net.proofs.Names.{any_true, in_contained, among_in, pairs_distinct}
 use Rattle.bench_net.proofs.Faults.{Stated, names_of, stated_at, line_among, earlier, no_redefinition, no_undefined, once_each}
 use Rattle.bench_net.proofs.Settled.{stuck_names, stuck_set, stuck_left, none_stuck, numbering}
 

@@ -1,34 +1,181 @@
--- What the passes over the lines say of the text.
-use Rattle.std.proofs.Common.{◌≡◌, ◌≢◌, ◌<◌, ◌≤◌, ℕ, zero, suc, refl, sym, ◌∙◌, ap, false, List, [], ◌∷◌, length, filter, take, map, get_or, arith, inl, inr}
-use Rattle.std.specs.Prelude.{AllPairs, Option, Some, None, slice_get, flat_map, option_map}
-use Rattle.std.specs.List.{list_all}
-use Rattle.std.proofs.lemmas.Bool.{both_ways}
-use Rattle.std.proofs.lemmas.Simd.{map-map}
-use Rattle.std.proofs.lemmas.List.{take-map, length-map}
-use Rattle.std.proofs.lemmas.List.Folds.{flat_map-map}
+-- The entries of lines, how lines are numbered, and what the passes over them say of the text.
+use Rattle.std.proofs.Common.{◌≡◌, ◌<◌, ◌+◌, ◌==◌, ℕ, zero, suc, refl, sym, ap, List, [], ◌∷◌, ◌++◌, length, take, map, arith, get_or, ◌≤◌, ◌∙◌, append-nil, subst, ◌≢◌, false, filter, inl, inr}
+use Rattle.std.specs.Prelude.{Option, Some, None, slice_get, unwrap_or, flat_map, bytes_eq, ◌||◌, Contains, AllPairs, option_map}
+use Rattle.std.specs.List.{slice_split, list_any, All, list_all}
+use Rattle.std.specs.Borrow.{Bor}
+use Rattle.std.specs.Str.Lines.{strip_carriage_return}
+use Rattle.std.proofs.lemmas.List.{map_push, length-map, take-map, map-append, take_more}
+use Rattle.std.proofs.lemmas.Slice.Zip.{AllZip-long}
 use Rattle.std.proofs.lemmas.Option.{slice_get-map, slice_get_read}
+use Rattle.indexmap.proofs.SetLemmas.{AllZip-push}
+use Rattle.bench_net.specs.Statement.{Statement, Name, read, Output, Gate, defined, defines}
+use Rattle.bench_net.specs.Reading.{States, statements}
+use Rattle.bench_net.specs.Refusal.{IsLowest, IsSyntaxFault, IsRefused}
+use Rattle.bench_net.specs.reader.Parsed.{stated_of, names_of, stands_for, FailsBy}
+use Rattle.bench_net.specs.reader.Entries.{Entry, numbered_from, AreStated, is_in, names_in, defined_of, IsNextFor, IsNumberedLine, AreNumberedLines, entry_of, entries_of, statements_in, reads_in, read_of, AreWithin, AreFew, ArePast, MayBe}
+use Rattle.bench_net.proofs.Reader.{sound_states}
+use Rattle.bench_net.proofs.Answered.{unread_lowest}
+use Rattle.lists.proofs.Members.{Among, contained, mapped_from, joined_from, among_joined, among_right, among}
+use Rattle.std.proofs.lemmas.Grind.{common_steps}
+use Rattle.std.proofs.lemmas.List.Concat.{flat_map-append, get_or-flat_map}
+use Rattle.std.proofs.lemmas.List.Folds.{length-flat_map-take, flat_map-map}
+use Rattle.std.proofs.lemmas.List.Elements.{All-append, All-map, All-contains, Contains-get_or}
 use Rattle.bench_net.specs.declared.line.Line.{Line}
 use Rattle.bench_net.specs.declared.number.StatedLine.{StatedLine}
+use Rattle.bench_net.specs.Stored.{name_at, statement_of, statements_of, defined_numbers, read_numbers, numbers, AreStatements, AreRefused, AreLinesOf}
+use Rattle.bench_net.proofs.Names.{defined_few, among_in, some_not}
+use Rattle.std.proofs.lemmas.Bool.{both_ways}
+use Rattle.std.proofs.lemmas.Simd.{map-map}
 use Rattle.bench_net.specs.declared.Limit.{Limit}
 use Rattle.bench_net.specs.declared.Limit.TheVariants.{Bytes, Signals, Sinks}
 use Rattle.bench_net.specs.declared.BenchFault.{BenchFault}
 use Rattle.bench_net.specs.declared.BenchFault.TheVariants.{TooLarge, Redefined, Undefined}
-use Rattle.bench_net.specs.declared.BenchFault.TheVariants as fault
 use Rattle.bench_net.specs.Text.{lines}
-use Rattle.bench_net.specs.Statement.{Name, Statement, Output, Gate, defined, defines, read}
 use Rattle.bench_net.specs.Scan.{names}
-use Rattle.bench_net.specs.Reading.{statements}
-use Rattle.bench_net.specs.Refusal.{IsRefused}
 use Rattle.bench_net.specs.Circuit.{sink_count}
-use Rattle.bench_net.specs.Stored.{statements_of, AreStatements, AreRefused, AreLinesOf}
-use Rattle.bench_net.specs.reader.Parsed.{stands_for, FailsBy}
-use Rattle.bench_net.specs.reader.Entries.{Entry, entry_of, entries_of, numbered_from, statements_in, names_in, reads_in, defined_of, read_of, is_in, AreStated, AreWithin, AreFew, ArePast, MayBe, AreNumberedLines}
-use Rattle.lists.proofs.Members.{Among, among, among_joined}
 use Rattle.lists.proofs.Distinct.{Distinct, distinct_from_pairs}
-use Rattle.bench_net.proofs.Checked.{among_in, some_not}
-use Rattle.bench_net.proofs.Entries.{entry_at, statements_numbered}
-use Rattle.bench_net.proofs.Faults.{names_of, arities_of_text, redefined_lowest, undefined_lowest, cyclic_lowest, no_redefinition, no_undefined}
-use Rattle.bench_net.proofs.Numbering.{known}
+use Rattle.bench_net.proofs.Faults.{arities_of_text, redefined_lowest, undefined_lowest, cyclic_lowest, no_redefinition, no_undefined}
+use Rattle.bench_net.specs.declared.line.Line.TheVariants as line
+use Rattle.bench_net.specs.declared.BenchFault.TheVariants as fault
+
+-- what an entry stands for, its line states, behind the same statements
+pub entry_at : (line : ℕ) (stated : List (Option Statement)) (i n : ℕ) (s : Statement)
+    → slice_get (numbered_from line stated) i ≡ Some (n, s)
+    → (j : ℕ) × (n ≡ line + j) × (slice_get stated j ≡ Some (Some s))
+    × (statements (take j stated) ≡ map (λ e. e.1) (take i (numbered_from line stated)))
+entry_at line [] i n s e = let bad : None ≡ Some (n, s) = e in cc
+entry_at line (None ∷ stated) i n s e =
+    let p = entry_at (suc line) stated i n s e in (suc p.0, omega (arith, p.1), p.2, p.3)
+entry_at line (Some t ∷ stated) zero n s e =
+    let same : (line, t) ≡ (n, s) = ap (λ o. unwrap_or o (n, s)) e in
+    (0, omega (arith, ap (λ p. p.0) same), ap (λ p. Some (Some p.1)) same, refl)
+entry_at line (Some t ∷ stated) (suc i) n s e =
+    let p = entry_at (suc line) stated i n s e in
+    (suc p.0, omega (arith, p.1), p.2, ap (λ c. t ∷ c) p.3)
+
+pub statements_numbered : (line : ℕ) (stated : List (Option Statement))
+    → map (λ e. e.1) (numbered_from line stated) ≡ statements stated
+statements_numbered line [] = refl
+statements_numbered line (None ∷ stated) = statements_numbered (suc line) stated
+statements_numbered line (Some s ∷ stated) = ap (λ c. s ∷ c) (statements_numbered (suc line) stated)
+
+-- one more line
+push : (line : ℕ) (stated : List (Option Statement)) (o : Option Statement) (n : ℕ)
+    → n ≡ line + length stated
+    → numbered_from line (stated ++ o ∷ []) ≡ numbered_from line stated ++ numbered_from n (o ∷ [])
+push line [] o n e = let same : line ≡ n = omega arith in ap (λ k. numbered_from k (o ∷ [])) same
+push line (None ∷ stated) o n e = push (suc line) stated o n (omega arith)
+push line (Some t ∷ stated) o n e =
+    ap (λ es. (line, t) ∷ es) (push (suc line) stated o n (omega arith))
+
+-- the lines that an iterator has given so far
+abbrev pub given : List (Bor (List ℕ)) → List (List ℕ)
+given parts = map strip_carriage_return (map (λ x. x.now) parts)
+
+module _ (parts : List (Bor (List ℕ))) (x : Bor (List ℕ)) where
+  pub given_more : {entries : List Entry} {o : Option Statement} → AreStated (given parts) entries
+      → stated_of (strip_carriage_return x.now) ≡ Some o
+      → AreStated (given (parts ++ x ∷ [])) (entries ++ numbered_from (length parts + 1) (o ∷ []))
+  given_more {o = o} h e = record {
+    stated = h.stated ++ o ∷ [];
+    each = rw (map_push, map_push)
+        (AllZip-push States (given parts) h.stated _ o h.each (sound_states _ o e));
+    same =
+        let long = simp length-map at (AllZip-long States (given parts) h.stated h.each) in
+        rw h.same (sym (push 1 h.stated o (length parts + 1) (omega arith)));
+  }
+
+  -- the first line that states nothing that a line may state
+  pub refused_line : (text : List ℕ) {entries : List Entry}
+      → map (λ y. y.now) parts ≡ take (length parts) (slice_split (λ b. b == 10) text)
+      → length parts < length (slice_split (λ b. b == 10) text)
+      → x.now ≡ get_or (slice_split (λ b. b == 10) text) (length parts) x.now
+      → AreStated (given parts) entries → stated_of (strip_carriage_return x.now) ≡ None
+      → IsLowest (IsSyntaxFault text) (suc (length parts))
+  refused_line text so_far below turn h none =
+      let at = slice_get_read (slice_split (λ b. b == 10) text) _ _ x.now refl below turn in
+      unread_lowest text (length parts) (strip_carriage_return x.now) h.stated
+      (rw (slice_get-map, at) refl) none (rw (take-map, ← so_far) h.each)
+
+module _ {A : Type 0} (xs : List A) (i : ℕ) (x : A) (h : i < length xs)
+    (e : x ≡ get_or xs i x) where
+  -- the names of one more line
+  pub names_more : (f : A → List Name)
+      → flat_map f (take (i + 1) xs) ≡ flat_map f (take i xs) ++ f x
+  names_more f = rw (take_more xs i x h, ← e) (grind (arith, common_steps))
+
+  -- the names so far and those of this line are no more than all
+  pub names_fit : (f : A → List Name)
+      → length (flat_map f (take i xs)) + length (f x) ≤ length (flat_map f xs)
+  names_fit f = rw (← e) at (length-flat_map-take f xs i x h)
+
+-- a key is looked for by its bytes
+pub key_in : (ks : List (Bor Name)) (n : Name)
+    → list_any (λ k. bytes_eq n k.now) ks ≡ is_in (names_of ks) n
+key_in [] n = refl
+key_in (k ∷ ks) n = ap (λ more. bytes_eq n k.now || more) (key_in ks n)
+
+-- the number of the name that a line defines is that of the names before it
+pub next_for : (stated : List StatedLine) (i : ℕ) (line : StatedLine) → i < length stated
+    → line ≡ get_or stated i line
+    → IsNextFor (names_in stated) (length (names_in (take i stated))) (stands_for line.statement)
+next_for stated i line h e =
+    let place = get_or-flat_map defined_of stated i 0 line [] h in
+    grind (arith, common_steps, e, place, defined_few (stands_for line.statement))
+
+-- one more line, numbered
+pub numbered_more : (ns : List Name) (stated : List StatedLine) (lines : List Line) (i : ℕ)
+    (new : StatedLine) (l : Line) (next : ℕ) → i < length stated → new ≡ get_or stated i new
+    → AreNumberedLines ns (take i stated) lines → next + length (defined_of new) ≤ length ns
+    → IsNumberedLine ns next (stands_for new.statement) l
+    → AreNumberedLines ns (take (i + 1) stated) (lines ++ l ∷ [])
+numbered_more ns stated lines i new l next h e so_far fits one = record {
+  stand = rw (items, map_push, map_push, so_far.stand, one.stands) refl;
+  in_range = rw (more, one.own) (All-append below _ _ so_far.in_range (All-append below _ _
+      (All-map below (λ n. next) (defined_of new) (λ k d lt. omega (arith, fits, lt)))
+      one.in_range));
+}
+  where
+    below : ℕ → Type 0
+    below number = number < length ns
+
+    items : take (i + 1) stated ≡ take i stated ++ new ∷ []
+    items = take_more stated i new h ∙ ap (λ x. take i stated ++ x ∷ []) (sym e)
+
+    more : flat_map numbers (lines ++ l ∷ []) ≡ flat_map numbers lines ++ numbers l
+    more = flat_map-append numbers lines (l ∷ [])
+        ∙ ap (λ ks. flat_map numbers lines ++ ks) (append-nil (numbers l))
+
+-- the names that a stored line reads are those of its numbers
+reads_of : (ns : List Name) (l : Line)
+    → read (statement_of ns l) ≡ map (name_at ns) (read_numbers l)
+reads_of ns (line.Input s) = refl
+reads_of ns _ = refl
+
+pub reads_numbers : (ns : List Name) (lines : List Line)
+    → flat_map read (statements_of ns lines) ≡ map (name_at ns) (flat_map read_numbers lines)
+reads_numbers ns [] = refl
+reads_numbers ns (l ∷ lines) =
+    rw (reads_of ns l, reads_numbers ns lines)
+    (sym (map-append (name_at ns) (read_numbers l) (flat_map read_numbers lines)))
+
+-- what lines read, they hold
+pub reads_held : (ls : List Line) (k : ℕ) → Among k (flat_map read_numbers ls)
+    → Among k (flat_map numbers ls)
+reads_held ls k a =
+    let at = joined_from read_numbers ls k a in
+    among_joined numbers ls at.0 k at.1 (among_right (defined_numbers at.0) _ k at.2)
+
+-- each name that numbered lines read is among the names
+pub known : (ns : List Name) (ls : List Line)
+    → All (λ number. number < length ns) (flat_map numbers ls)
+    → (n : Name) → Among n (flat_map read (statements_of ns ls)) → Contains ns n
+known ns ls in_range n a =
+    let k = mapped_from (name_at ns) (flat_map read_numbers ls) n
+    (subst (Among n) (reads_numbers ns ls) a) in
+    let below = All-contains (λ number. number < length ns) (flat_map numbers ls) k.0 in_range
+    (contained _ k.0 (reads_held ls k.0 k.1)) in
+    subst (Contains ns) k.2 (Contains-get_or ns k.0 [] below)
 
 -- the refusal of a text where a line has the fault
 pub may_be : (text : List ℕ) (refusal fault : BenchFault) (Gone : Type 0)
@@ -148,7 +295,7 @@ module _ (text : List ℕ) (stated : List StatedLine) (of : AreWithin text state
         → list_all (is_in ns) (read_of line) ≡ false → IsRefused text (Undefined line.number)
     undefined ns ls is once numbered off =
         let n = some_not (is_in ns) (read_of line) off in
-        let names_are : names_of of.stated ≡ ns = sym (is ∙ all defined) in (
+        let names_are : names (statements of.stated) ≡ ns = sym (is ∙ all defined) in (
           of.stated,
           of.within,
           no_redefinition of.stated (distinct_from_pairs _ (rw (← all defined) once)),

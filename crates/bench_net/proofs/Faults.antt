@@ -19,7 +19,7 @@ use Rattle.bench_net.specs.Refusal.{at_line, IsLowest, NoLine, IsRedefinition, I
 use Rattle.lists.proofs.Members.{Among, among, contained, among_left, among_right, among_joined, joined_from, each_passes}
 use Rattle.bench_net.specs.declared.Kind.{Kind}
 use Rattle.lists.proofs.Distinct.{Distinct, distinct_append}
-use Rattle.bench_net.proofs.Checked.{defined_few}
+use Rattle.bench_net.proofs.Names.{defined_few}
 
 abbrev pub Stated : Type 0
 Stated = Option Statement

@@ -16,8 +16,7 @@ use Rattle.bench_net.specs.Marks.{pins_in, AreLevelsOf, HaveLevels, no_signal, o
 use Rattle.bench_net.specs.Rows.{AreRows, rows_before}
 use Rattle.lists.proofs.Members.{Among, among, contained, some_passes, among_filter, among_append, among_map, among_joined, mapped_from}
 use Rattle.lists.proofs.Places.{placed}
-use Rattle.bench_net.proofs.Checked.{any_true, same_bytes}
-use Rattle.bench_net.proofs.Numbers.{at_position, definition_defines, signal-name_of}
+use Rattle.bench_net.proofs.Names.{any_true, same_bytes, at_position, definition_defines, signal-name_of}
 use Rattle.bench_net.proofs.Marking.{greatest-cons, greatest-among, one_level}
 use Rattle.bench_net.proofs.Grouped.{place_listed, places_below, places_ordered}
 use Rattle.bench_net.proofs.Reader.{some_args}

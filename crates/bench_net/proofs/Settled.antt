@@ -12,8 +12,7 @@ use Rattle.bench_net.specs.Scan.{names, inputs, cells, sources}
 use Rattle.bench_net.specs.Circuit.{HasArgument, IsNumbering, IsStuckSet, IsStuck, IsWellFormed, IsCircuit}
 use Rattle.bench_net.specs.reader.Entries.{is_in}
 use Rattle.lists.proofs.Members.{Among, among, contained, among_joined, among_filter, each_passes, some_passes}
-use Rattle.bench_net.proofs.Checked.{bytes_refl, same_bytes, any_true, among_in, in_contained}
-use Rattle.bench_net.proofs.Numbers.{read_named}
+use Rattle.bench_net.proofs.Names.{bytes_refl, same_bytes, any_true, among_in, in_contained, read_named}
 use Rattle.bench_net.proofs.Reader.{some_args}
 
 -- ---- from a numbering to no stuck set

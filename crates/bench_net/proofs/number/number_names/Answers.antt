@@ -7,9 +7,8 @@ use Rattle.lists.proofs.Members.{among}
 use Rattle.lists.proofs.Distinct.{distinct_append}
 use Rattle.bench_net.specs.reader.Parsed.{names_of}
 use Rattle.bench_net.specs.reader.Entries.{names_in, defined_of}
-use Rattle.bench_net.proofs.Assembled.{redefined}
-use Rattle.bench_net.proofs.Checked.{in_contained, among_in, pairs_distinct}
-use Rattle.bench_net.proofs.Numbering.{names_more}
+use Rattle.bench_net.proofs.Assembled.{redefined, names_more}
+use Rattle.bench_net.proofs.Names.{in_contained, among_in, pairs_distinct}
 use Rattle.bench_net.proofs.number.number_names.Goals as goal
 
 pub returns-then-not-branch-clause-refused : goal.returns-then-not-branch-clause-refused

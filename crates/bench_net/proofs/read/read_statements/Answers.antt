@@ -6,8 +6,7 @@ use Rattle.std.proofs.lemmas.Result.{err_from_is_err_and}
 use Rattle.std.specs.Str.Lines.{strip_carriage_return}
 use borrow.Author.Tests.{tests}
 use Rattle.bench_net.specs.reader.Entries.{entry_of}
-use Rattle.bench_net.proofs.Entries.{given_more, refused_line}
-use Rattle.bench_net.proofs.Assembled.{may_be}
+use Rattle.bench_net.proofs.Assembled.{given_more, refused_line, may_be}
 use Rattle.bench_net.specs.declared.BenchFault.TheVariants.{Syntax}
 use Rattle.bench_net.proofs.read.read_statements.Goals as goal
 
