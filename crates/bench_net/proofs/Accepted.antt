@@ -448,13 +448,12 @@ module _ (ns : List Name) (lines : List Line) (at : List ℕ) (are : AreStatemen
       go None e a = absurd a
       go (Some (Gate n kind args)) e a =
           let own = definition_defines c s (Gate n kind args) e in
-          let both : n ∷ [] ≡ own.0 ∷ [] = own.1 in
-          let same : own.0 ≡ n = cc in (
+          let named : name_of c s ≡ Some n = grind (arith, own.1, own.2) in (
             n,
             kind,
             args,
             e,
-            stuck_name c once s n (number_of s n (own.2 ∙ ap Some same)) fault.1,
+            stuck_name c once s n (number_of s n named) fault.1,
             λ t m lt named. let level = fault.2 t lt in
                 not_stuck c once t level.0 m (number_of t m named) level.1,
           )

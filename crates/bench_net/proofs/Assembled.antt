@@ -63,10 +63,9 @@ statements_numbered line (Some s ∷ stated) = ap (λ c. s ∷ c) (statements_nu
 push : (line : ℕ) (stated : List (Option Statement)) (o : Option Statement) (n : ℕ)
     → n ≡ line + length stated
     → numbered_from line (stated ++ o ∷ []) ≡ numbered_from line stated ++ numbered_from n (o ∷ [])
-push line [] o n e = let same : line ≡ n = omega arith in ap (λ k. numbered_from k (o ∷ [])) same
+push line [] o n e = let same : line ≡ n = omega arith in rw same refl
 push line (None ∷ stated) o n e = push (suc line) stated o n (omega arith)
-push line (Some t ∷ stated) o n e =
-    ap (λ es. (line, t) ∷ es) (push (suc line) stated o n (omega arith))
+push line (Some t ∷ stated) o n e = let more = push (suc line) stated o n (omega arith) in cc
 
 -- the lines that an iterator has given so far
 abbrev pub given : List (Bor (List ℕ)) → List (List ℕ)
@@ -314,13 +313,10 @@ module _ (text : List ℕ) (stated : List StatedLine) (of : AreWithin text state
     entries = numbered_from 1 of.stated
 
     numbers_at : at ≡ map (λ e. e.0) (definers entries)
-    numbers_at = numbers_are ∙ sym (definers_of stated)
-        ∙ ap (λ es. map (λ e. e.0) (definers es)) of.same
+    numbers_at = rw (← of.same, definers_of stated) numbers_are
 
     lines_are : statements_of ns ls ≡ map (λ entry. entry.1) entries
-    lines_are =
-        numbered.stand ∙ sym (map-map (λ entry. entry.1) entry_of stated)
-        ∙ ap (map (λ entry. entry.1)) of.same
+    lines_are = rw (← of.same, map-map) numbered.stand
 
     stand : statements_of ns ls ≡ statements of.stated
     stand = lines_are ∙ statements_numbered 1 of.stated
@@ -336,8 +332,7 @@ module _ (text : List ℕ) (stated : List StatedLine) (of : AreWithin text state
       arities = rw stand (arities_of_text text of.stated of.within.each);
       signals = omega (arith, ap length (is ∙ all defined), of.within.signals);
       sinks = omega (arith, ap sink_count stand, of.within.sinks);
-      line_count = simp length-map at (ap length numbers_at) ∙ definer_count entries
-          ∙ ap (λ c. length (names c)) (sym lines_are) ∙ ap length names_are;
+      line_count = rw (numbers_at, length-map, definer_count entries, ← lines_are, names_are) refl;
     }
 
     refused : (f : BenchFault) → AreRefused ns ls at f → IsRefused text f
