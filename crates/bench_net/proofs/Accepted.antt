@@ -280,7 +280,7 @@ module _ (ns : List Name) (lines : List Line) (at : List ℕ) (are : AreStatemen
 
   source_in : (s : ℕ) → Among s (source_signals lines) → s < signals_in lines
   source_in s a =
-      let from = mapped_from (signal c) (sources c) s (subst (Among s) (sources_are ns (signal c) lines all) a) in
+      let from = mapped_from (signal c) (sources c) s (rw (sources_are ns (signal c) lines all) at a) in
       let st = source_statement c from.0 from.1 in
       let below = signal_below c from.0 (named c st.0 from.0 st.1 st.2) in
       omega (arith, below, from.2, name_count, count)
@@ -304,14 +304,8 @@ module _ (ns : List Name) (lines : List Line) (at : List ℕ) (are : AreStatemen
   pub table_lines : AreTableLines lines
   table_lines = record {
     few_lines = few_lines;
-    few_sources = omega (
-      arith,
-      ap length (sources_are ns (signal c) lines all),
-      length-map (sources c) (signal c),
-      few_sources c,
-      name_count,
-      are.signals,
-    );
+    few_sources = rw (sources_are ns (signal c) lines all, length-map)
+        (omega (arith, few_sources c, name_count, are.signals));
     sources_below =
         λ i d lt. source_in _ (among _ _ (Contains-get_or (source_signals lines) i d lt));
     few_outputs = omega (arith, few_outputs lines, read_count, are.sinks);
@@ -330,20 +324,12 @@ module _ (ns : List Name) (lines : List Line) (at : List ℕ) (are : AreStatemen
   }
     where
       few_lines : length lines < 2147483648
-      few_lines = omega (
-        arith,
-        (counts ns lines).0,
-        definition_count lines,
-        count,
-        read_count,
-        are.sinks,
-        are.signals,
-      )
+      few_lines = let counts = counts ns lines in
+          omega (arith, counts, definition_count lines, count, read_count, are.sinks, are.signals)
 
       reader_count : length (all_readers lines (filter_map output_number lines))
           ≡ length (flat_map read_numbers lines)
-      reader_count = sym (length-map _ signal_read)
-          ∙ sym (length_permutation _ _ (readers_read lines))
+      reader_count = rw length-map at (sym (length_permutation _ _ (readers_read lines)))
 
   -- ---- the pins of signals are those of their statements
 

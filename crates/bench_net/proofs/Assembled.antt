@@ -47,8 +47,7 @@ entry_at line [] i n s e = let bad : None ≡ Some (n, s) = e in cc
 entry_at line (None ∷ stated) i n s e =
     let p = entry_at (suc line) stated i n s e in (suc p.0, omega (arith, p.1), p.2, p.3)
 entry_at line (Some t ∷ stated) zero n s e =
-    let same : (line, t) ≡ (n, s) = ap (λ o. unwrap_or o (n, s)) e in
-    (0, omega (arith, ap (λ p. p.0) same), ap (λ p. Some (Some p.1)) same, refl)
+    (0, grind (arith, e), grind (arith, e), refl)
 entry_at line (Some t ∷ stated) (suc i) n s e =
     let p = entry_at (suc line) stated i n s e in
     (suc p.0, omega (arith, p.1), p.2, ap (λ c. t ∷ c) p.3)

@@ -39,10 +39,8 @@ loop-line-preserved c =
     let line = c.line-item.result in
     let below : i < length c.args.stated.now = omega arith in
     let fits = names_fit c.args.stated.now i line below c.line-item.is defined_of in (
-      rw c.in_ok-push.ensures.items
-          (numbered_more (names_of c.args.names.now.keys) c.args.stated.now
-          c.loop-line.lines.items i line c.in_ok-numbered.numbered
-          c.loop-line.next below c.line-item.is c.loop-line.invariant.0
+      rw c.in_ok-push.ensures.items (numbered_more _ _ c.loop-line.lines.items i line
+          c.in_ok-numbered.numbered c.loop-line.next below c.line-item.is c.loop-line.invariant.0
           (omega (arith, fits, ap length c.requires.own, c.loop-line.invariant.1))
           c.in_ok-numbered.ensures.numbered),
       rw (names_more c.args.stated.now i line below c.line-item.is defined_of, length-append)
