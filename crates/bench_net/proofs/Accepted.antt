@@ -229,8 +229,12 @@ module _ (whole : List Statement) (n : Name) (named : Contains (names whole) n) 
     sinks_are lines is are once =
         sinks-append (line_readers 0 lines) (output_readers (filter_map output_number lines))
         (signal whole n)
-        ∙ rw (line_sinks [] lines are (rw is once) (ap qs (sym is)),
-            outputs_are ns (signal whole) lines are, is, numbered Out 0 (outputs whole)) refl
+        ∙ rw (
+          line_sinks [] lines are (rw is once) (ap qs (sym is)),
+          outputs_are ns (signal whole) lines are,
+          is,
+          numbered Out 0 (outputs whole),
+        ) refl
 
 -- ---- numbered lines are such lines
 
@@ -412,12 +416,25 @@ module _ (ns : List Name) (lines : List Line) (at : List ℕ) (are : AreStatemen
           let number = sym (source_at i within) ∙ at.1 in
           let named = named_number c _ s number lt in
           (slice_get-get_or (sources c) i [] within ∙ sym named, tt)
-      place_at s lt None e = (tt, λ i same.
-          let at = same ∙ slice_get-get_or (names c) s [] lt in
-          let within = slice_get_within (sources c) i _ at in
-          let name = get_or_from_slice_get (sources c) i _ [] at in
-          grind (arith, lt, count, name_count, source_count, within, name, source_at i within,
-              tabled.places_are.none s i, number_of s _ (slice_get-get_or (names c) s [] lt)))
+      place_at s lt None e = (
+        tt,
+        λ i same.
+            let at = same ∙ slice_get-get_or (names c) s [] lt in
+            let within = slice_get_within (sources c) i _ at in
+            let name = get_or_from_slice_get (sources c) i _ [] at in
+            grind (
+              arith,
+              lt,
+              count,
+              name_count,
+              source_count,
+              within,
+              name,
+              source_at i within,
+              tabled.places_are.none s i,
+              number_of s _ (slice_get-get_or (names c) s [] lt),
+            ),
+      )
 
   -- the lowest signal that is stuck is the first, and where levels are wanting the text is refused
   first_stuck : (s : ℕ) → IsLowestStuck (gate_pins lines) (signals_in lines) s → IsFirstStuck c s

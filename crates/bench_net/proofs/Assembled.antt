@@ -200,14 +200,9 @@ module _ (text : List ℕ) (stated : List StatedLine)
   pub past : (limit : Limit) → ArePast (names_in stated) (reads_in stated) limit
       → IsRefused text (TooLarge limit)
   past Bytes more = absurd more
-  past Signals more = (bytes, are.stated, are.each, omega (arith, more, ap length (same defined)))
-  past Sinks more = (
-    bytes,
-    are.stated,
-    are.each,
-    omega (arith, more, ap length (same defined)),
-    omega (arith, more, ap length (same read)),
-  )
+  past Signals more = (bytes, are.stated, are.each, rw (same defined) at more)
+  past Sinks (few, more) =
+      (bytes, are.stated, are.each, rw (same defined) at few, rw (same read) at more)
 
   pub within : AreFew (names_in stated) (reads_in stated) → AreWithin text stated
   within few = record {

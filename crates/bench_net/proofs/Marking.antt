@@ -263,6 +263,8 @@ settled {pins} {n} {marks} state below = record {
     at : (s : ℕ) → s < n → HaveLevels pins (pins s) (slice_index (map level_in marks) s)
     at s lt =
         let k = level_at s state lt lt in
-        rw (get_or-map level_in marks s (Level 0) 0 (omega (arith, lt, state.count)),
-            get_or_from_slice_get marks s (Level k.0) (Level 0) k.1)
+        rw (
+          get_or-map level_in marks s (Level 0) 0 (omega (arith, lt, state.count)),
+          get_or_from_slice_get marks s (Level k.0) (Level 0) k.1,
+        )
         (state.each s (Level k.0) k.1).0

@@ -135,7 +135,11 @@ pub fn tables_of(alloc: Global, lines: &[Line], at: &[u64]) -> Result<Tables, Be
     let sources = sources(alloc, &inputs, &cells)?;
     let definitions = definitions(alloc, lines)?;
     let source_places = source_places(alloc, &sources, definitions.len())?;
-    let sinks = sink_rows(alloc, &readers_of(alloc, lines, &outputs)?, definitions.len())?;
+    let sinks = sink_rows(
+        alloc,
+        &readers_of(alloc, lines, &outputs)?,
+        definitions.len(),
+    )?;
     let levels = levels_of(alloc, lines, &definitions, at)?;
     Ok(Tables {
         inputs,

@@ -31,8 +31,7 @@ loop-line-preserved c =
     let ns = names_of c.loop-line.names.keys in
     let one : defined_of line ≡ n ∷ [] =
     c.defined.ensures ∙ ap (λ o. option_to_list (option_map (λ m. m.now) o)) c.in-Some.is in
-    let more = names_more c.args.stated.now c.loop-line.line-index line (omega arith)
-    c.line-item.is defined_of in
+    let more = names_more _ c.loop-line.line-index line (omega arith) c.line-item.is defined_of in
     let new = not-true _ (sym c.in_ok-add_name.ensures.added ∙ c.if-not-branch.false) in (
       c.in_ok-add_name.ensures.names
           ∙ rw (c.if-not-branch.false, c.loop-line.invariant.0, more, one) refl,
