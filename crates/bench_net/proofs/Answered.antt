@@ -3,8 +3,9 @@ use Rattle.std.proofs.Common.{◌≡◌, ◌<◌, ◌≤◌, ℕ, zero, suc, ref
 use Rattle.std.specs.Prelude.{◌≢◌, ◌↔◌, option_map, if◌then◌else◌, ◌==◌, nat_lt, Option, Some, None, Result, Ok, Err, slice_get, filter_map, is_none}
 use Rattle.std.specs.List.{AllZip, list_any}
 use Rattle.std.proofs.lemmas.List.{nil_from_length}
-use Rattle.std.proofs.lemmas.Bool.{eqb-true, eqb-false, ne_eqb, both_ways, cond_both, cond-true, cond-false, ltb-true, ltb-false, lt-ltb, le-ltb, not-true, true_from_ne_false, false_from_ne_true}
-use Rattle.std.proofs.lemmas.Option.{none-some, same_Some}
+use Rattle.std.proofs.lemmas.Bool.{eqb-true, ne_eqb, both_ways, cond_both, cond-false, ltb-true, ltb-false, le-ltb, not-true, true_from_ne_false}
+use Rattle.std.proofs.lemmas.Option.{none-some}
+use Rattle.std.proofs.lemmas.Bool.Decides.{nat_tests}
 use Rattle.bench_net.specs.declared.Limit.TheVariants.{Bytes, Signals, Sinks}
 use Rattle.bench_net.specs.declared.BenchFault.{BenchFault}
 use Rattle.bench_net.specs.declared.BenchFault.TheVariants.{TooLarge, Syntax, Redefined, Undefined, Cycle, Empty, Memory}
@@ -17,7 +18,7 @@ use Rattle.bench_net.specs.Refusal.{at_line, IsLowest, NoLine, IsWithin, IsSynta
 use Rattle.bench_net.specs.reader.Parsed.{stated_of}
 use Rattle.bench_net.specs.reader.Entries.{is_in}
 use Rattle.bench_net.proofs.Reader.{sound_states, complete_states, unstated}
-use Rattle.lists.proofs.Members.{Among, among, contained, some_passes, joined_from}
+use Rattle.lists.proofs.Members.{among, contained, some_passes, joined_from}
 use Rattle.lists.proofs.Distinct.{distinct_from_pairs}
 use Rattle.bench_net.proofs.Names.{any_true, in_contained, among_in, pairs_distinct}
 use Rattle.bench_net.proofs.Faults.{Stated, names_of, stated_at, line_among, earlier, no_redefinition, no_undefined, once_each}
@@ -84,13 +85,8 @@ IsFirst Faulty None = NoLine Faulty
 IsFirst Faulty (Some line) = IsLowest Faulty line
 
 first_one : (F : ℕ → Type 0) (o p : Option ℕ) → IsFirst F o → IsFirst F p → o ≡ p
-first_one F None None a b = refl
-first_one F None (Some l) a b = absurd (a l b.0)
-first_one F (Some k) None a b = absurd (b k a.0)
-first_one F (Some k) (Some l) a b =
-    let not_less : k < l → ⊥ = λ h. b.1 k h a.0 in
-    let not_more : l < k → ⊥ = λ h. a.1 l h b.0 in
-    ap Some (omega arith)
+first_one F (Some k) (Some l) a b = grind (arith, a.0, b.0, a.1, b.1)
+first_one F _ _ a b = grind (arith, a, b)
 
 -- what holds of the place before all lines, and of each line, holds of each number
 from_zero : (P : ℕ → Type 0) → P 0 → ((i : ℕ) → P (suc i)) → (line : ℕ) → P line
@@ -105,21 +101,15 @@ is_first [] F test none same =
     from_zero (λ line. ¬ F line) none (λ i f. let bad : false ≡ true = (same i).0 f in cc)
 is_first (y ∷ ys) F test none same =
     cond_both (test 0 y) _ _ (IsFirst F)
-    (λ on. (
-      (same 0).1 on,
-      from_zero (λ k. k < 1 → ¬ F k) (λ lt. none) (λ i lt. absurd (omega (arith, lt))),
-    ))
+    (λ on. ((same 0).1 on, from_zero (λ k. k < 1 → ¬ F k) (λ _. none) (λ i h f. omega (arith, h))))
     (λ off. behind (first (λ i. test (suc i)) ys)
     (is_first ys (λ line. F (suc line)) (λ i. test (suc i)) (λ f. both_ways _ off ((same 0).0 f))
     (λ i. same (suc i))))
   where
     behind : (o : Option ℕ) → IsFirst (λ line. F (suc line)) o → IsFirst F (option_map suc o)
     behind None free = from_zero (λ line. ¬ F line) none free
-    behind (Some line) (at, free) = (
-      at,
-      from_zero (λ k. k < suc line → ¬ F k) (λ lt. none)
-          (λ i lt. free i (omega (arith, lt))),
-    )
+    behind (Some line) (at, free) =
+        (at, from_zero (λ k. k < suc line → ¬ F k) (λ lt. none) (λ i h. free i (omega (arith, h))))
 
 -- ---- the four faults
 
@@ -139,20 +129,16 @@ read_all : (ls : List (List ℕ)) (stated : List Stated) → AllZip States ls st
     → (first (λ i. is_unread) ls ≡ None) × (filter_map stated_of ls ≡ stated)
 read_all [] [] all = (refl, refl)
 read_all (l ∷ ls) (s ∷ stated) all =
-    let (none, same) = read_all ls stated all.1 in
-    rw (complete_states l s all.0) (ap (option_map suc) none, ap (λ more. s ∷ more) same)
+    grind (arith, complete_states l s all.0, read_all ls stated all.1)
 read_all _ _ all = absurd all
 
 -- and behind such lines the first that isn't read is the lowest
 first_unread : (ls : List (List ℕ)) (stated : List Stated) (k : ℕ) (l : List ℕ)
     → AllZip States (take k ls) stated → slice_get ls k ≡ Some l → stated_of l ≡ None
     → first (λ i. is_unread) ls ≡ Some (suc k)
-first_unread [] stated k l all at none = cc
-first_unread (m ∷ ls) stated zero l all at none = rw (same_Some m l at, none) refl
-first_unread (m ∷ ls) [] (suc k) l all at none = absurd all
 first_unread (m ∷ ls) (s ∷ stated) (suc k) l all at none =
-    rw (complete_states m s all.0)
-    (ap (option_map suc) (first_unread ls stated k l all.1 at none))
+    rw (complete_states m s all.0, first_unread ls stated k l all.1 at none) refl
+first_unread _ stated k l all at none = grind (arith, at, none)
 
 pub unread_lowest : (text : List ℕ) (k : ℕ) (l : List ℕ) (stated : List Stated)
     → slice_get (lines text) k ≡ Some l → stated_of l ≡ None
@@ -185,8 +171,7 @@ module _ (stated : List Stated) where
   undefined_first = is_first stated (IsUndefined stated) _ (λ bad. none-some _ bad.1.1)
       (λ i. (
         λ (n, (s, at, here), new).
-            let off = false_from_ne_true _ (λ on. new (in_contained _ n on)) in
-            rw at (any_true _ (read s) n here (ap not off)),
+            rw at (any_true _ (read s) n here (grind (arith, in_contained (names_of stated), new))),
         λ on. let (s, at, unknown) = passed _ (slice_get stated i) on in
             let (n, here, off) = some_passes _ (read s) unknown in
             (n, (s, at, here), λ has. both_ways _ (not-true _ off) (among_in _ _ (among _ _ has))),
@@ -238,8 +223,7 @@ late text stated None None (Some l) within once known free = (stated, within, on
 late text stated None None None within once known free =
     cond_both _ (Err Empty) (Ok (statements stated)) (IsAnswer text)
     (λ e. (stated, within, nil_from_length _ (eqb-true _ 0 e)))
-    (λ off. let some = λ (none : statements stated ≡ []). eqb-false _ 0 off (ap length none) in
-    (stated, within, refl, well stated some once known free))
+    (λ off. (stated, within, refl, well stated (λ none. grind (arith, none)) once known free))
 
 -- lines of which none is at fault state what is read
 all_read : (ls : List (List ℕ))
@@ -300,8 +284,7 @@ some_answer text = go (answer_text text) (answered text)
 stated_answer : (text : List ℕ) (stated : List Stated) → length text ≤ max_bytes
     → LinesState text stated → answer_text text ≡ answer_stated stated
 stated_answer text stated bytes each =
-    let (none, same) = read_all (lines text) stated each in
-    cond-false _ _ _ (le-ltb _ _ bytes) ∙ rw (none, same) refl
+    grind (arith, nat_tests, bytes, read_all (lines text) stated each)
 
 answer_is : (text : List ℕ) (stated : List Stated) → IsWithin text stated → (r u y : Option ℕ)
     → IsFirst (IsRedefinition stated) r → IsFirst (IsUndefined stated) u
@@ -318,16 +301,13 @@ answer_is text stated within r u y once known free =
 
 exact : (text : List ℕ) (r : Result (List Statement) BenchFault) → IsAnswer text r
     → answer_text text ≡ r
-exact text (Err (TooLarge Bytes)) past = cond-true _ _ _ (lt-ltb _ _ past)
+exact text (Err (TooLarge Bytes)) past = grind (arith, nat_tests, past)
 exact text (Err (Syntax l)) (bytes, is) =
-    cond-false _ _ _ (le-ltb _ _ bytes)
-    ∙ rw (first_one (IsSyntaxFault text) _ (Some l) (syntax_first text) is) refl
+    grind (arith, bytes, first_one (IsSyntaxFault text) _ (Some l) (syntax_first text) is)
 exact text (Err (TooLarge Signals)) (bytes, stated, each, past) =
-    stated_answer text stated bytes each ∙ rw (lt-ltb _ (length (names_of stated)) past) refl
+    grind (arith, nat_tests, stated_answer text stated bytes each, past)
 exact text (Err (TooLarge Sinks)) (bytes, stated, each, few, past) =
-    stated_answer text stated bytes each
-    ∙ rw (le-ltb _ (length (names_of stated)) few)
-    (rw (lt-ltb _ (sink_count (statements stated)) past) refl)
+    grind (arith, nat_tests, stated_answer text stated bytes each, few, past)
 exact text (Err (Redefined l)) (stated, within, is) =
     answer_is text stated within (Some l) _ _ is (undefined_first stated) (cyclic_first stated)
 exact text (Err (Undefined l)) (stated, within, once, is) =
@@ -336,7 +316,7 @@ exact text (Err (Cycle l)) (stated, within, once, known, is) =
     answer_is text stated within None None (Some l) once known is
 exact text (Err Empty) (stated, within, empty) =
     let none = λ (line : ℕ) (s : Statement) (at : at_line stated line ≡ Some (Some s)).
-    subst (Among s) empty (line_among stated line s at) in
+    rw empty at (line_among stated line s at) in
     answer_is text stated within None None None (λ l bad. none l bad.2.0 bad.2.1)
     (λ l bad. none l bad.1.0 bad.1.1) (λ l bad. none l _ bad.3)
     ∙ rw empty refl

@@ -1,6 +1,6 @@
 -- Lines of a text: which words make their names, and which places and which names make them faulty.
 use Rattle.std.proofs.Common.{◌≡◌, ◌<◌, ℕ, zero, suc, sym, refl, ◌∙◌, ap, true, not, List, [], ◌∷◌, ◌++◌, take, drop, arith, inl, inr, length-take}
-use Rattle.std.specs.Prelude.{Contains, IsSomeAnd, ◌↔◌, Option, Some, None, slice_get, slice_index_or, flat_map}
+use Rattle.std.specs.Prelude.{Contains, IsSomeAnd, ◌↔◌, Option, Some, None, slice_get, flat_map}
 use Rattle.std.specs.List.{list_all}
 use Rattle.std.specs.Str.{IsUtf8}
 use Rattle.std.proofs.lemmas.Bool.Decides.{nat_tests}
@@ -40,9 +40,8 @@ at_front _ _ _ lt = refl
 -- the lines around a place
 pub around : {X : Type 0} (xs : List X) (i : ℕ) (x : X) → slice_get xs i ≡ Some x
     → xs ≡ take i xs ++ (x ∷ drop (suc i) xs)
-around [] i x e = let bad : None ≡ Some x = e in cc
-around (y ∷ xs) zero x e = let same : y ≡ x = cc in ap (λ z. z ∷ xs) same
 around (y ∷ xs) (suc i) x e = ap (λ ys. y ∷ ys) (around xs i x e)
+around _ _ x e = cc
 
 -- what a line states is among the statements, and the other way round
 pub line_among : (stated : List Stated) (line : ℕ) (s : Statement)
@@ -65,8 +64,7 @@ stated_at (Some t ∷ stated) s (inr a) = let f = stated_at stated s a in (suc f
 -- a word is UTF-8
 pub word_utf8 : (w : List ℕ) → list_all is_word_byte w ≡ true → IsUtf8 w
 word_utf8 w e = IsUtf8-from_ascii w (IsAscii-from_all w (λ k d below.
-    let b : ℕ = slice_index_or w k d in
-    let on = each_passes is_word_byte w b e (Contains-get_or w k d below) in
+    let on = each_passes is_word_byte w _ e (Contains-get_or w k d below) in
     grind (arith, nat_tests)))
 
 -- the statements of a text have the arities of their kinds
@@ -110,7 +108,7 @@ distinct_apart (x ∷ xs) ys n d (inr a) b = distinct_apart xs ys n d.1 a b
 -- where each name is defined once, no line defines one again
 pub no_redefinition : (stated : List Stated) → Distinct (names_of stated)
     → NoLine (IsRedefinition stated)
-no_redefinition stated once zero bad = let none : None ≡ Some (Some bad.2.0) = bad.2.1 in cc
+no_redefinition stated once zero bad = cc
 no_redefinition stated once (suc j) bad =
     distinct_apart (names_of (take j stated)) _ bad.0
     (rw (around stated j _ bad.2.1, filter_map-append, flat_map-append) at once)
@@ -126,13 +124,11 @@ once_from [] none = tt
 once_from (None ∷ more) none =
     once_from more (λ i j s t n lt. none (suc i) (suc j) s t n (omega (arith, lt)))
 once_from (Some s ∷ more) none =
-    distinct_append (defined s) (names_of more) one
+    distinct_append (defined s) (names_of more)
+    (elim (defined_few s) [ inl none ↦ rw none tt | inr some ↦ rw some.1 (λ a. a, tt) ])
     (once_from more (λ i j s t n lt. none (suc i) (suc j) s t n (omega (arith, lt))))
     (λ n a b. let t = joined_from defined (statements more) n b in
     let k = stated_at more t.0 t.1 in none 0 (suc k.0) s t.0 n (omega arith) refl k.1 a t.2)
-  where
-    one : Distinct (defined s)
-    one = elim (defined_few s) [ inl none ↦ rw none tt | inr some ↦ rw some.1 (λ a. a, tt) ]
 
 pub once_each : (stated : List Stated) → NoLine (IsRedefinition stated) → Distinct (names_of stated)
 once_each stated none = once_from stated (λ i j s t n lt at_i at_j a b. none (suc j)
@@ -146,13 +142,9 @@ redefined_lowest stated j s n at here front once = (
   let e = (earlier defined stated j n).1 front in
       (n, e.0, (s, at, contained _ n here), e.1, e.2),
   λ line lt (m, there, (t, here, has), less, (u, early, too)).
-      no_redefinition (take j stated) once line (
-        m,
-        there,
-        (t, at_front stated j line lt ∙ here, has),
-        less,
-        (u, at_front stated j there (omega (arith, lt, less)) ∙ early, too),
-      ),
+      let at = at_front stated j line lt ∙ here in
+      let before = at_front stated j there (omega (arith, lt, less)) ∙ early in
+      no_redefinition (take j stated) once line (m, there, (t, at, has), less, (u, before, too)),
 )
 
 -- ---- a line that reads a name that no line defines
@@ -183,6 +175,5 @@ pub cyclic_lowest : (stated : List Stated) (j : ℕ) (n : Name) (kind : Kind) (a
 cyclic_lowest stated j n kind args at stuck free = (
   (n, kind, args, at, stuck),
   λ line lt (m, other, more, here, is).
-      let there = at_front stated j line lt ∙ here in
-      free m other more (line_among (take j stated) line (Gate m other more) there) is,
+      free m other more (line_among (take j stated) line _ (at_front stated j line lt ∙ here)) is,
 )

@@ -1,14 +1,16 @@
 -- Stuck sets: a numbering of names exists exactly where none but the empty one does, and so a
 -- circuit has a source.
-use Rattle.std.proofs.Common.{◌≡◌, ◌<◌, ◌≤◌, ◌+◌, ℕ, zero, suc, sym, ap, subst, refl, cond, Bool, true, false, ◌&&◌, List, [], ◌∷◌, length, length-append, filter, map, arith, inl, inr, get_or}
+use Rattle.std.proofs.Common.{◌≡◌, ◌<◌, ◌≤◌, ◌+◌, ℕ, zero, suc, ap, refl, cond, Bool, true, false, ◌&&◌, List, [], ◌∷◌, length, filter, arith, inl, inr}
 use Rattle.std.specs.Prelude.{IsTrue, Contains, flat_map, bytes_eq, if◌then◌else◌}
 use Rattle.std.specs.List.{list_all, list_any}
-use Rattle.std.proofs.lemmas.Bool.{and_parts, and_from, cond_both, cases_Bool, cases_lt}
+use Rattle.std.proofs.lemmas.Bool.{false_from_ne_true, and_parts, and_from, cond_both}
+use Rattle.std.proofs.lemmas.List.{nil_from_length}
 use Rattle.std.proofs.lemmas.List.Elements.{Contains-get_or}
 use Rattle.std.proofs.lemmas.List.Sums.{length-filter, count_by-le-length}
+use Rattle.std.proofs.lemmas.Grind.{common_steps}
 use Rattle.bench_net.specs.declared.Kind.{Kind}
-use Rattle.bench_net.specs.Statement.{Name, Statement, Input, Output, Gate, Dff, defined, read}
-use Rattle.bench_net.specs.Scan.{names, inputs, cells, sources}
+use Rattle.bench_net.specs.Statement.{Name, Statement, Output, Gate, defined, read}
+use Rattle.bench_net.specs.Scan.{names, sources}
 use Rattle.bench_net.specs.Circuit.{HasArgument, IsNumbering, IsStuckSet, IsStuck, IsWellFormed, IsCircuit}
 use Rattle.bench_net.specs.reader.Entries.{is_in}
 use Rattle.lists.proofs.Members.{Among, among, contained, among_joined, among_filter, each_passes, some_passes}
@@ -20,9 +22,8 @@ use Rattle.bench_net.proofs.Reader.{some_args}
 descend : (c : List Statement) (number : Name → ℕ) (members : Name → Bool) → IsNumbering c number → IsStuckSet c members → (bound : ℕ) (n : Name) → number n < bound → IsTrue (members n) → ⊥
 descend c number members numbered stuck zero n lt inside = omega (arith, lt)
 descend c number members numbered stuck (suc bound) n lt inside =
-    let next = stuck n inside in
-    let a : Name = next.0 in
-    descend c number members numbered stuck bound a (omega (arith, lt, numbered n a next.1)) next.2
+    let (a, arg, in_a) = stuck n inside in
+    descend c number members numbered stuck bound a (omega (arith, lt, numbered n a arg)) in_a
 
 pub none_stuck : (c : List Statement) (number : Name → ℕ) → IsNumbering c number → (members : Name → Bool) → IsStuckSet c members → (n : Name) → ¬ IsTrue (members n)
 none_stuck c number numbered members stuck n inside = descend c number members numbered stuck (number n + 1) n (omega arith) inside
@@ -41,8 +42,7 @@ is_fed c ns n = list_any (gate_fed ns n) c
 pub stuck : (c : List Statement) (ns : List Name)
     → list_all (λ n. list_any (gate_fed ns n) c) ns ≡ true → IsStuckSet c (is_in ns)
 stuck c ns e n inside =
-    let at : Contains ns n = in_contained ns n inside in
-    let s = some_passes (gate_fed ns n) c (each_passes (λ m. is_fed c ns m) ns n e at) in
+    let s = some_passes _ c (each_passes (is_fed c ns) ns n e (in_contained ns n inside)) in
     go s.0 s.1 s.2
   where
     go : (s : Statement) → Contains c s → gate_fed ns n s ≡ true
@@ -50,8 +50,7 @@ stuck c ns e n inside =
     go (Gate m kind args) at passes =
         let p = and_parts (bytes_eq n m) (list_any (is_in ns) args) passes in
         let a = some_passes (is_in ns) args p.1 in
-        let here = subst (λ x. Contains c (Gate x kind args)) (sym (same_bytes n m p.0)) at in
-        (a.0, (kind, args, here, a.1), a.2)
+        (a.0, (kind, args, rw (same_bytes n m p.0) at, a.1), a.2)
     go _ at passes = cc
 
 -- what is left after so many rounds, each of which keeps the names that are fed by what was left
@@ -73,10 +72,9 @@ fewer p (x ∷ xs) e = grind (arith, fewer p xs, length-filter p xs, count_by-le
 -- after as many rounds as there are names, each that is left is fed by one that is
 left_fed : (c : List Statement) (k : ℕ) (ns : List Name) → length ns ≤ k
     → list_all (is_fed c (left_over c k ns)) (left_over c k ns) ≡ true
-left_fed c zero [] h = refl
-left_fed c zero (n ∷ ns) h = absurd (omega (arith, h))
-left_fed c (suc k) ns h = cond_both _ ns _ (λ ms. list_all (is_fed c ms) ms ≡ true) (λ on. on)
-    (λ off. left_fed c k (filter (is_fed c ns) ns) (omega (arith, h, fewer (is_fed c ns) ns off)))
+left_fed c zero ns h = rw (nil_from_length ns (omega (arith, h))) refl
+left_fed c (suc k) ns h =
+    grind (arith, h, left_fed c k (filter (is_fed c ns) ns), fewer (is_fed c ns) ns)
 
 pub stuck_set : (c : List Statement) → IsStuckSet c (is_in (stuck_names c))
 stuck_set c = stuck c (stuck_names c) (left_fed c (length (names c)) (names c) (omega arith))
@@ -99,9 +97,8 @@ stays : (c : List Statement) (members : Name → Bool) → IsStuckSet c members
 stays c members set zero ns all n inside = all n inside
 stays c members set (suc k) ns all n inside =
     cond_both (list_all (is_fed c ns) ns) _ _ (Among n) (λ _. all n inside)
-    (λ _. stays c members set k (filter (is_fed c ns) ns) (λ m inside. let next = set m inside in
-    among_filter (is_fed c ns) ns m (all m inside)
-    (argument_feeds c ns m next.0 next.1 (all next.0 next.2))) n inside)
+    (λ _. stays c members set k _ (λ m has. let (a, arg, in_a) = set m has in
+    among_filter _ ns m (all m has) (argument_feeds c ns m a arg (all a in_a))) n inside)
 
 pub stuck_left : (c : List Statement) (n : Name) → IsStuck c n → is_in (stuck_names c) n ≡ true
 stuck_left c n stuck =
@@ -118,17 +115,13 @@ rises : (c : List Statement) (n a : Name) → HasArgument c n a → (k : ℕ) (n
     → ((m : Name) → ¬ Among m (left_over c k ns)) → Among n ns → rank c k ns a < rank c k ns n
 rises c n a h zero ns none inside = absurd (none n inside)
 rises c n a h (suc k) ns none inside =
+    let off = false_from_ne_true (list_all (is_fed c ns) ns) (λ all. none n (rw all inside)) in
     rw (among_in ns n inside) (cond_both (is_in ns a) _ _
     (λ r. r < suc (rank c k (filter (is_fed c ns) ns) n))
-    (λ on. elim (cases_Bool (list_all (is_fed c ns) ns)) [
-      | inl all ↦ absurd (none n (rw all inside))
-      | inr off ↦ omega (
-        arith,
-        rises c n a h k (filter (is_fed c ns) ns) (λ m. rw off at (none m))
-            (among_filter (is_fed c ns) ns n inside
-            (argument_feeds c ns n a h (among ns a (in_contained ns a on)))),
-      )
-    ]) (λ off. omega arith))
+    (λ on. let fed = argument_feeds c ns n a h (among ns a (in_contained ns a on)) in
+    let left = among_filter (is_fed c ns) ns n inside fed in
+    omega (arith, rises c n a h k (filter (is_fed c ns) ns) (λ m. rw off at (none m)) left))
+    (λ off. omega arith))
 
 pub numbering : (c : List Statement)
     → ((members : Name → Bool) → IsStuckSet c members → (n : Name) → ¬ IsTrue (members n))
@@ -152,28 +145,24 @@ some_signal (_ ∷ c) well = omega arith
 driven : (c : List Statement) → length (sources c) ≤ 0 → (n : Name) → Among n (names c)
     → (kind : Kind) × (args : List Name) × Among (Gate n kind args) c
 driven [] none n a = absurd a
-driven (Input m ∷ c) none n a = absurd (omega (arith, none))
-driven (Dff q d ∷ c) none n a =
-    absurd (omega (arith, none, length-append (inputs c) (q ∷ map (λ cell. cell.0) (cells c))))
 driven (Output m ∷ c) none n a = let g = driven c none n a in (g.0, g.1, inr g.2)
 driven (Gate m kind args ∷ c) none n (inl e) = (kind, args, inl (ap (λ x. Gate x kind args) e))
 driven (Gate m kind args ∷ c) none n (inr a) = let g = driven c none n a in (g.0, g.1, inr g.2)
+driven (_ ∷ c) none n a = absurd (grind (arith, common_steps, none))
 
 -- so all defined names would be stuck
 pub some_source : (c : List Statement) → IsCircuit c → 1 ≤ length (sources c)
-some_source c is = elim (cases_lt 0 (length (sources c))) [
-  | inl some ↦ omega (arith, some)
-  | inr none ↦ (let number = is.well_formed.acyclic in
-      let some = Contains-get_or (names c) 0 [] (some_signal c is.well_formed) in
-      absurd (none_stuck c number.0 number.1 (is_in (names c)) (all_stuck none) _
-      (among_in _ _ (among _ _ some))))
-]
+some_source c is =
+    let (number, numbers) = is.well_formed.acyclic in
+    let some = Contains-get_or (names c) 0 [] (some_signal c is.well_formed) in
+    let free = λ (none : length (sources c) ≤ 0).
+    none_stuck c number numbers _ (all_stuck none) _ (among_in _ _ (among _ _ some)) in
+    grind (arith, free)
   where
     all_stuck : length (sources c) ≤ 0 → IsStuckSet c (is_in (names c))
     all_stuck none n inside =
         let g = driven c none n (among _ n (in_contained (names c) n inside)) in
         let at = contained c (Gate n g.0 g.1) g.2 in
         let first = Contains-get_or g.1 0 [] (some_args g.0 g.1 (is.arities n g.0 g.1 at)) in
-        let a : Name = get_or g.1 0 [] in
-        let defined = read_named c (Gate n g.0 g.1) a is.well_formed g.2 (among _ a first) in
-        (a, (g.0, g.1, at, first), among_in (names c) a (among _ a defined))
+        let defined = read_named c (Gate n g.0 g.1) _ is.well_formed g.2 (among _ _ first) in
+        (_, (g.0, g.1, at, first), among_in (names c) _ (among _ _ defined))

@@ -20,16 +20,14 @@ returns-in-Some-clause-refused c =
 
 pub returns-in_err-numbers-clause-refused : goal.returns-in_err-numbers-clause-refused
 returns-in_err-numbers-clause-refused c =
-    let p =
-    err_from_is_err_and c.from_residual-in_err-numbers.result
+    let p = err_from_is_err_and c.from_residual-in_err-numbers.result
     c.from_residual-in_err-numbers.ensures.1 in
     rw (p.1, p.2) (c.in_err-numbers.ensures.refused c.args.text.now
     (fits (goal.at.returns-in_err-numbers-clause-refused c).After-number_names))
 
 pub returns-in_err-lines-clause-refused : goal.returns-in_err-lines-clause-refused
 returns-in_err-lines-clause-refused c =
-    let p =
-    err_from_is_err_and c.from_residual-in_err-lines.result
+    let p = err_from_is_err_and c.from_residual-in_err-lines.result
     c.from_residual-in_err-lines.ensures.1 in
     rw (p.1, p.2) (c.in_err-lines.ensures.refused c.args.text.now
     (fits (goal.at.returns-in_err-lines-clause-refused c).After-number_names))

@@ -1,5 +1,6 @@
 use Rattle.std.proofs.Common.{◌+◌, ◌==◌, map, rules, arith, ap, add-one}
-use Rattle.std.proofs.lemmas.List.{length_push, map_push, append-nil}
+use Rattle.std.proofs.lemmas.List.{map_push, append-nil}
+use Rattle.std.proofs.lemmas.Grind.{common_steps}
 use Rattle.std.proofs.lemmas.Iterator.Splits.{YieldsList-from_slice_split}
 use Rattle.std.proofs.lemmas.Iterator.Consumers.{YieldsList-turn, YieldsList-end, YieldsList-so_far}
 use Rattle.std.proofs.lemmas.Result.{err_from_is_err_and}
@@ -12,27 +13,23 @@ use Rattle.bench_net.proofs.read.read_statements.Goals as goal
 
 pub loop-line-preserved : goal.loop-line-preserved
 loop-line-preserved c =
-    let n = length_push c.loop-line.yielded c.in-Some.line in
     let read = rw (c.without_return.ensures, c.in_default.is) at c.in_ok-statement.ensures in
     let more = given_more c.loop-line.yielded c.in-Some.line c.loop-line.invariant.1 read in
-    (omega arith, rw append-nil at more)
+    (grind (arith, common_steps), rw append-nil at more)
 
 pub loop-line-preserved-in-Continue-branch-3 : goal.loop-line-preserved-in-Continue-branch-3
 loop-line-preserved-in-Continue-branch-3 c =
-    let n = length_push c.loop-line.yielded c.in-Some.line in
     let read = rw (c.without_return.ensures, c.in-Some-2.is) at c.in_ok-statement.ensures in
     let more = given_more c.loop-line.yielded c.in-Some.line c.loop-line.invariant.1 read in
-    let items = map_push entry_of c.loop-line.stated.items in
-    (omega arith, rw (c.in_ok-push.ensures.items, c.loop-line.invariant.0, items) more)
+    let items = c.in_ok-push.ensures.items in
+    (grind (arith, common_steps), rw (items, c.loop-line.invariant.0, map_push entry_of) more)
 
 pub returns-in_err-statement-clause-refused : goal.returns-in_err-statement-clause-refused
 returns-in_err-statement-clause-refused c =
-    let road =
-    YieldsList-from_slice_split _ (λ b. b == 10) c.args.text.now (cc) (cc) (cc)
+    let road = YieldsList-from_slice_split _ (λ b. b == 10) c.args.text.now (cc) (cc) (cc)
     (λ x r q k. search (rules, tests)) in
-    let turn =
-    YieldsList-turn road c.loop-line.yielded _ c.loop-line.yielded_by _ _ c.in-Some.line
-    c.in-Some.is c.next.ensures.steps in
+    let turn = YieldsList-turn road c.loop-line.yielded _ c.loop-line.yielded_by _ _
+    c.in-Some.line c.in-Some.is c.next.ensures.steps in
     let front = YieldsList-so_far road c.loop-line.yielded _ c.loop-line.yielded_by in
     let p = err_from_is_err_and c.from_residual.result c.from_residual.ensures.1 in
     rw (p.1, p.2) (may_be c.args.text.now (Syntax (c.loop-line.number + 1)) _ _
@@ -46,10 +43,8 @@ returns-in_err-statement-clause-refused c =
 
 pub returns-clause-ok : goal.returns-clause-ok
 returns-clause-ok c =
-    let road =
-    YieldsList-from_slice_split _ (λ b. b == 10) c.args.text.now (cc) (cc) (cc)
+    let road = YieldsList-from_slice_split _ (λ b. b == 10) c.args.text.now (cc) (cc) (cc)
     (λ x r q k. search (rules, tests)) in
-    let t =
-    YieldsList-end road c.loop-line.yielded _ c.loop-line.yielded_by _ _ c.in-None.is
+    let t = YieldsList-end road c.loop-line.yielded _ c.loop-line.yielded_by _ _ c.in-None.is
     c.next.ensures.steps in
     rw (ap (map strip_carriage_return) t.0) at c.loop-line.invariant.1
