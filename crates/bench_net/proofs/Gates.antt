@@ -71,8 +71,7 @@ module _ (c : List Statement) (once : AllPairs (λ m n. m ≢ n) (names c)) wher
   defined_at st n a d =
       let at = placed (filter defines c) st (among_filter defines c st a (defines_some st n d)) in
       let own = definition_defines c at.0 st at.1 in
-      let both : own.0 ∷ [] ≡ n ∷ [] = sym own.1 ∙ d in
-      let same : own.0 ≡ n = cc both in
+      let same : own.0 ≡ n = cc (own.1, d) in
       let number = signal-name_of c at.0 n once (own.2 ∙ ap Some same) (contained (names c) n (named c st n a d)) in
       ap (definition c) number ∙ at.1
 
@@ -106,8 +105,7 @@ module _ (c : List Statement) (once : AllPairs (λ m n. m ≢ n) (names c)) wher
     where
       member : (m : Name) → Among (signal c m) stuck.0
           → list_any (λ i. i == signal c m) stuck.0 ≡ true
-      member m a =
-          any_true (λ i. i == signal c m) stuck.0 _ (contained stuck.0 _ a) (eq-eqb _ _ refl)
+      member m a = any_true _ stuck.0 _ (contained stuck.0 _ a) (eq-eqb (signal c m) _ refl)
 
       set : IsStuckSet c (λ m. list_any (λ i. i == signal c m) stuck.0)
       set m inside =

@@ -27,8 +27,7 @@ greatest-cons x xs = omega (arith, fold_max (max 0 x) xs)
 
 pub greatest-among : (xs : List ℕ) (x : ℕ) → Among x xs → x ≤ greatest xs
 greatest-among [] x a = absurd a
-greatest-among (y ∷ xs) x (inl e) = omega (arith, e, greatest-cons y xs)
-greatest-among (y ∷ xs) x (inr a) = omega (arith, greatest-cons y xs, greatest-among xs x a)
+greatest-among (y ∷ xs) x a = grind (arith, a, greatest-cons y xs, greatest-among xs x)
 
 pub greatest-at : (xs : List ℕ) (i : ℕ) → i < length xs → get_or xs i 0 ≤ greatest xs
 greatest-at xs i lt = greatest-among xs _ (among xs _ (Contains-get_or xs i 0 lt))
@@ -89,23 +88,15 @@ module _ {pins : ℕ → List ℕ} {n begun : ℕ} {marks : List Mark} where
         → IsSearch pins n later (set marks g m) after
     marked later after g m less is stays opens path_is begins = record {
       count = length-set marks g m ∙ state.count;
-      each = λ s x e. elim (written marks g m s x e) [
-        | inl h ↦ rw (h.0, h.1) is
-        | inr h ↦ kept s x h.0 (state.each s x h.1)
-      ];
-      opens = λ h a. elim (opens h a) [
-        | inl b ↦ (let o = state.opens h b in (o.0, o.1, omega (arith, o.2, less)))
-        | inr o ↦ o
-      ];
+      each = λ s x e. grind (arith, is, written marks g m s x e, kept s x, state.each s x);
+      opens = λ h a. grind (arith, opens h a, state.opens h);
       path_is = path_is;
     }
       where
         kept : (s : ℕ) (x : Mark) → s ≢ g
             → IsMark pins n begun (waiting marks path) (signals_of path) s x
             → IsMark pins n later (waiting (set marks g m) after) (signals_of after) s x
-        kept s Unknown ne was = begins s ne was
-        kept s Open ne was = stays s ne was
-        kept s (Level k) ne was = (was.0, omega (arith, was.1, less))
+        kept s _ ne was = grind (arith, ne, was, less, begins s, stays s)
 
     -- an unknown signal is opened
     pub opened : (later p : ℕ) → slice_get marks p ≡ Some Unknown
@@ -123,17 +114,13 @@ module _ {pins : ℕ → List ℕ} {n begun : ℕ} {marks : List Mark} where
         within = slice_get_within marks p Unknown unknown
 
         fewer : count_by is_unknown (set marks p Open) + 1 ≡ count_by is_unknown marks
-        fewer = omega (
-          arith,
-          rw (get_or_from_slice_get marks p Unknown Unknown unknown)
-              at (sum_by-set (λ x. cond (is_unknown x) 1 0) marks p Open Unknown within),
-        )
+        fewer =
+            let was = get_or_from_slice_get marks p Unknown Unknown unknown in
+            grind (arith, was, sum_by-set (λ x. cond (is_unknown x) 1 0) marks p Open Unknown within)
 
         opens : (h : OpenGate) → Among h (unpassed p ∷ path)
             → Among h path ⊎ IsOpen pins n (waiting (set marks p Open) (unpassed p ∷ path)) h
-        opens h (inl e) = inr (rw (sym e)
-            (omega (arith, within, state.count), no_signal, omega (arith, room path state, fewer)))
-        opens h (inr a) = inl a
+        opens h a = grind (arith, a, within, state.count, no_signal, room path state, fewer)
 
   module _ {gate : OpenGate} {rest : List OpenGate}
       (state : IsSearch pins n begun marks (gate ∷ rest)) where
@@ -144,7 +131,7 @@ module _ {pins : ℕ → List ℕ} {n begun : ℕ} {marks : List Mark} where
     finished none = (
       marked state begun rest gate.signal (Level gate.level) (omega (arith, fewer))
           (rw (take_all gate.pin (pins gate.signal) all) at is.1, omega (arith, is.2, fewer))
-          stays (λ h a. inl (inr a)) state.path_is.1 (λ s ne le. le),
+          (λ s ne a. grind (arith, ne, a)) (λ h a. inl (inr a)) state.path_is.1 (λ s ne le. le),
       omega (arith, fewer, sum_by-cons (pins_left pins) gate rest),
     )
       where
@@ -152,10 +139,7 @@ module _ {pins : ℕ → List ℕ} {n begun : ℕ} {marks : List Mark} where
         is = state.opens gate (inl refl)
 
         all : length (pins gate.signal) ≤ gate.pin
-        all = elim (slice_get_cases (pins gate.signal) gate.pin).1 [
-          | inl at ↦ (let bad = sym none ∙ at.2 in cc bad)
-          | inr past ↦ past.0
-        ]
+        all = grind (arith, none, (slice_get_cases (pins gate.signal) gate.pin).1)
 
         fewer : count_by is_unknown (set marks gate.signal (Level gate.level))
             ≤ count_by is_unknown marks
@@ -196,12 +180,9 @@ module _ {pins : ℕ → List ℕ} {n begun : ℕ} {marks : List Mark} where
             let is = state.opens gate (inl refl) in
             let has = state.each p (Level k) known in
             let next = get_or_from_slice_get (pins gate.signal) gate.pin p 0 at in
-            rw (sym e) (
-              is.0,
-              rw (take_more (pins gate.signal) gate.pin 0 within, next)
-                  (pushed (take gate.pin (pins gate.signal)) gate.level p k is.1 has.0),
-              omega (arith, is.2, has.1),
-            )
+            let more = take_more (pins gate.signal) gate.pin 0 within in
+            let all = pushed (take gate.pin (pins gate.signal)) gate.level p k is.1 has.0 in
+            rw (sym e) (grind (arith, is, has, more, next, all))
         opens h (inr a) = state.opens h (inr a)
 
     -- it is open, so the path meets itself
@@ -230,12 +211,8 @@ module _ {pins : ℕ → List ℕ} {n begun : ℕ} {marks : List Mark} where
       each : (s : ℕ) (m : Mark) → slice_get marks s ≡ Some m
           → IsMark pins n begun (waiting marks []) [] s m
           → IsMark pins n (begun + 1) (waiting marks []) [] s m
-      each s Unknown e le = elim (cases_lt begun s) [
-        | inl lt ↦ omega arith
-        | inr ge ↦ (let same : s ≡ begun = omega arith in absurd (known (rw same at e)))
-      ]
-      each s Open e is = is
-      each s (Level k) e is = is
+      each s Unknown e le = grind (arith, known, e, le)
+      each s _ e is = is
 
   -- where no signal is open, each that was begun has a level
   pub level_at : (s : ℕ) → IsSearch pins n begun marks [] → s < begun → s < n
@@ -244,9 +221,8 @@ module _ {pins : ℕ → List ℕ} {n begun : ℕ} {marks : List Mark} where
       let m = within_place marks s (omega (arith, lt, state.count)) in go m.0 m.1
     where
       go : (m : Mark) → slice_get marks s ≡ Some m → (k : ℕ) × (slice_get marks s ≡ Some (Level k))
-      go Unknown e = absurd (omega (arith, state.each s Unknown e, met))
-      go Open e = absurd (state.each s Open e)
       go (Level k) e = (k, e)
+      go m e = grind (arith, state.each s m e, met, lt)
 
   pub lower_levels : IsSearch pins n begun marks [] → begun ≤ n → HaveLevelsBelow pins begun
   lower_levels state le s lt =
