@@ -29,9 +29,7 @@ pins c s = pins_in (gate_of c s)
 -- a source is an input's name, or a cell's q
 of_input : (c : List Statement) (n : Name) → Among n (inputs c) → Among (Input n) c
 of_input [] n a = absurd a
-of_input (Input m ∷ c) n (inl e) = inl (ap Input e)
-of_input (Input m ∷ c) n (inr a) = inr (of_input c n a)
-of_input (_ ∷ c) n a = inr (of_input c n a)
+of_input (_ ∷ c) n a = grind (arith, a, of_input c n)
 
 pub of_cell : (c : List Statement) (n : Name) → Among n (map (λ cell. cell.0) (cells c)) → (d : Name) × Among (Dff n d) c
 of_cell [] n a = absurd a
@@ -41,10 +39,8 @@ of_cell (_ ∷ c) n a = let at = of_cell c n a in (at.0, inr at.1)
 
 pub source_statement : (c : List Statement) (n : Name) → Among n (sources c)
     → (st : Statement) × Among st c × (defined st ≡ n ∷ []) × ((b : List Statement) → gate_line b (Some st) ≡ None)
-source_statement c n a = elim (among_append (inputs c) (map (λ cell. cell.0) (cells c)) n a) [
-  | inl b ↦ (Input n, of_input c n b, refl, λ w. refl)
-  | inr b ↦ (let at = of_cell c n b in (Dff n at.0, at.1, refl, λ w. refl))
-]
+source_statement c n a = grind (arith, of_input c n, of_cell c n,
+    among_append (inputs c) (map (λ cell. cell.0) (cells c)) n a)
 
 pub named : (c : List Statement) (st : Statement) (n : Name) → Among st c → defined st ≡ n ∷ [] → Among n (names c)
 named c st n a d = among_joined defined c st n a (rw d (inl refl))
@@ -89,9 +85,8 @@ module _ (c : List Statement) (once : AllPairs (λ m n. m ≢ n) (names c)) wher
       go (Some (Gate n kind args)) e b =
           let own = definition_defines c (signal c m) (Gate n kind args) e in
           let within = slice_get_within (names c) (signal c m) own.0 own.2 in
-          let both : Some own.0 ≡ Some m = sym own.2 ∙ named_number c m (signal c m) refl within in
-          let line : n ∷ [] ≡ own.0 ∷ [] = own.1 in
-          let same : n ≡ m = cc in
+          let number = named_number c m (signal c m) refl within in
+          let same : n ≡ m = grind (arith, own.1, own.2, number) in
           let at = mapped_from (signal c) args p b in
           let here = subst (λ x. Contains c (Gate x kind args)) same (contained c _ own.3) in
           (at.0, (kind, args, here, contained args at.0 at.1), at.2)
@@ -118,13 +113,12 @@ module _ (c : List Statement) (once : AllPairs (λ m n. m ≢ n) (names c)) wher
   -- no signal with a level is stuck
   unstuck : (members : Name → Bool) → IsStuckSet c members → (ps : List ℕ) (k : ℕ) → HaveLevels (pins c) ps k → (m : Name) → Among (signal c m) ps → members m ≡ true → ⊥
   unstuck members set ps k no_signal m a inside = absurd a
-  unstuck members set ps k (one_more q qs i b _ here rest is) m (inr a) inside = unstuck members set qs b rest m a inside
-  unstuck members set ps k (one_more q qs i b _ here rest is) m (inl e) inside =
+  unstuck members set ps k (one_more q qs i b _ here rest is) m a inside =
       let next = set m inside in
       let arg = next.1 in
       let gate = pins_at m arg.0 arg.1 (among c (Gate m arg.0 arg.1) arg.2) in
       let reads = among_map (signal c) arg.1 next.0 (among arg.1 next.0 arg.3) in
-      unstuck members set (pins c q) i here next.0 (rw (e, gate) reads) next.2
+      grind (arith, a, gate, reads, next.2, unstuck members set qs b rest m, unstuck members set (pins c q) i here next.0)
 
   pub not_stuck : (s k : ℕ) (n : Name) → signal c n ≡ s → HaveLevels (pins c) (pins c s) k → ¬ IsStuck c n
   not_stuck s k n is has stuck =
@@ -188,15 +182,12 @@ module _ (c : List Statement) (once : AllPairs (λ m n. m ≢ n) (names c)) wher
 
         same : map level (names c) ≡ levels
         same = same_lists _ levels (count ∙ sym are.count) (λ k d lt.
-            let within : k < length (names c) = omega (arith, lt, count) in
-            get_or-map level (names c) k [] d within ∙ of_name k within
-            ∙ get_or_default levels k 0 d (omega (arith, within, are.count)))
+            grind (arith, lt, count, are.count, of_name k, get_or-map level (names c) k [] d, get_or_default levels k 0 d))
 
     pub level_order : (order starts : List ℕ) (count : ℕ) → AreRows levels count starts order → ((i : ℕ) → i < length levels → get_or levels i 0 < count) → IsLevelOrder c order
     level_order order starts count rows below = record {
-      all = λ s lt. let within : s < length levels = omega (arith, lt, are.count) in
-          rw rows.places_are (place_listed levels (length starts) s within
-          (omega (arith, below s within, rows.starts_count)));
+      all = λ s lt. rw rows.places_are (grind (arith, lt, are.count, below s, rows.starts_count,
+          place_listed levels (length starts) s));
       count = ap length rows.places_are ∙ (rows.starts_are.all ∙ are.count);
       ordered = rw rows.places_are (λ a b d less lt.
           let sorted = rows_before levels (length starts) in

@@ -62,10 +62,9 @@ passed gate k = record gate { pin = gate.pin + 1; level = max gate.level (k + 1)
 reads_on : (pins : ℕ → List ℕ) (begun g : ℕ) (path all : List ℕ) → IsPath pins begun (g ∷ path)
     → ((s : ℕ) → Among s (g ∷ path) → Among s all) → (q : ℕ) → Among q (pins g) → Among q all
     → (m : ℕ) → Among m (g ∷ path) → (p : ℕ) × Among p (pins m) × Among p all
-reads_on pins begun g path all is inside q reads has m (inl e) = (q, rw e at reads, has)
-reads_on pins begun g [] all is inside q reads has m (inr a) = absurd a
-reads_on pins begun g (h ∷ path) all is inside q reads has m (inr a) =
-    reads_on pins begun h path all is.1 (λ s b. inside s (inr b)) g is.0 (inside g (inl refl)) m a
+reads_on pins begun g [] all is inside q reads has m a = grind (arith, a, reads, has)
+reads_on pins begun g (h ∷ path) all is inside q reads has m a = grind (arith, a, reads, has,
+    reads_on pins begun h path all is.1 (λ s b. inside s (inr b)) g is.0 (inside g (inl refl)) m)
 
 start_on : (pins : ℕ → List ℕ) (begun start g : ℕ) (path : List ℕ) → begun ≡ start + 1
     → IsPath pins begun (g ∷ path) → Among start (g ∷ path)
@@ -143,11 +142,8 @@ module _ {pins : ℕ → List ℕ} {n begun : ℕ} {marks : List Mark} where
 
         fewer : count_by is_unknown (set marks gate.signal (Level gate.level))
             ≤ count_by is_unknown marks
-        fewer = omega (
-          arith,
-          sum_by-set (λ x. cond (is_unknown x) 1 0) marks gate.signal
-              (Level gate.level) Unknown (omega (arith, is.0, state.count)),
-        )
+        fewer = grind (arith, is.0, state.count,
+            sum_by-set (λ x. cond (is_unknown x) 1 0) marks gate.signal (Level gate.level) Unknown)
 
         stays : (s : ℕ) → s ≢ gate.signal → Among s (gate.signal ∷ signals_of rest)
             → Among s (signals_of rest)
@@ -176,14 +172,13 @@ module _ {pins : ℕ → List ℕ} {n begun : ℕ} {marks : List Mark} where
 
         opens : (h : OpenGate) → Among h (passed gate k ∷ rest)
             → IsOpen pins n (waiting marks (gate ∷ rest)) h
-        opens h (inl e) =
+        opens h a =
             let is = state.opens gate (inl refl) in
             let has = state.each p (Level k) known in
             let next = get_or_from_slice_get (pins gate.signal) gate.pin p 0 at in
             let more = take_more (pins gate.signal) gate.pin 0 within in
             let all = pushed (take gate.pin (pins gate.signal)) gate.level p k is.1 has.0 in
-            rw (sym e) (grind (arith, is, has, more, next, all))
-        opens h (inr a) = state.opens h (inr a)
+            grind (arith, a, is, has, more, next, all, state.opens h)
 
     -- it is open, so the path meets itself
     pub met : (start p : ℕ) → begun ≡ start + 1 → HaveLevelsBelow pins start
