@@ -87,7 +87,8 @@ module _ {pins : ℕ → List ℕ} {n begun : ℕ} {marks : List Mark} where
         → IsSearch pins n later (set marks g m) after
     marked later after g m less is stays opens path_is begins = record {
       count = length-set marks g m ∙ state.count;
-      each = λ s x e. grind (arith, is, written marks g m s x e, kept s x, state.each s x);
+      each = λ s x e. grind (arith, is, written marks g m s x e, less, begins s, stays s,
+          state.each s x);
       opens = λ h a. grind (arith, opens h a, state.opens h);
       path_is = path_is;
     }
@@ -145,10 +146,6 @@ module _ {pins : ℕ → List ℕ} {n begun : ℕ} {marks : List Mark} where
         fewer = grind (arith, is.0, state.count,
             sum_by-set (λ x. cond (is_unknown x) 1 0) marks gate.signal (Level gate.level) Unknown)
 
-        stays : (s : ℕ) → s ≢ gate.signal → Among s (gate.signal ∷ signals_of rest)
-            → Among s (signals_of rest)
-        stays s ne a = grind (arith, ne, a)
-
     -- the next pin's signal has a level
     pub advanced : {p k : ℕ} → slice_get (pins gate.signal) gate.pin ≡ Some p
         → slice_get marks p ≡ Some (Level k)
@@ -198,16 +195,10 @@ module _ {pins : ℕ → List ℕ} {n begun : ℕ} {marks : List Mark} where
       → IsSearch pins n (begun + 1) marks []
   begun_more state known = record {
     count = state.count;
-    each = λ s m e. each s m e (state.each s m e);
+    each = λ s m e. grind (arith, known, e, state.each s m e);
     opens = state.opens;
     path_is = tt;
   }
-    where
-      each : (s : ℕ) (m : Mark) → slice_get marks s ≡ Some m
-          → IsMark pins n begun (waiting marks []) [] s m
-          → IsMark pins n (begun + 1) (waiting marks []) [] s m
-      each s Unknown e le = grind (arith, known, e, le)
-      each s _ e is = is
 
   -- where no signal is open, each that was begun has a level
   pub level_at : (s : ℕ) → IsSearch pins n begun marks [] → s < begun → s < n

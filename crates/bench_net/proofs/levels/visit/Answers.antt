@@ -34,9 +34,8 @@ next c =
 
 pub overflow_add-gate : goal.overflow_add-gate
 overflow_add-gate c =
-    let at = next (goal.at.overflow_add-gate c).After-index in
-    let within = slice_get_within (gate_pins c.args.lines.now c.args.gate.signal) _ _ at.0 in
-    omega (arith, within, c.requires.graph.few_pins c.args.gate.signal)
+    let pins = gate_pins c.args.lines.now c.args.gate.signal in
+    grind (arith, slice_get_within pins, c.requires.graph.few_pins c.args.gate.signal)
 
 pub overflow_add-lower : goal.overflow_add-lower
 overflow_add-lower c =
