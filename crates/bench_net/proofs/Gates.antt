@@ -56,9 +56,8 @@ defines_some _ n d = refl
 pub named_number : (c : List Statement) (n : Name) (s : ℕ) → signal c n ≡ s
     → s < length (names c) → name_of c s ≡ Some n
 named_number c n s is lt =
-    let below : signal c n < length (names c) = omega (arith, is, lt) in
-    let same = same_bytes n _ (passes_at_first (bytes_eq n) (names c) [] below) in
-    rw (sym is) (slice_get-get_or (names c) (signal c n) [] below ∙ ap Some (sym same))
+    let first = passes_at_first (bytes_eq n) (names c) [] in
+    grind (arith, is, lt, first, same_bytes n, slice_get-get_or (names c) (signal c n) [])
 
 module _ (c : List Statement) (once : AllPairs (λ m n. m ≢ n) (names c)) where
   -- ---- the gate of a signal
@@ -81,7 +80,6 @@ module _ (c : List Statement) (once : AllPairs (λ m n. m ≢ n) (names c)) wher
     where
       go : (o : Option Statement) → definition c (signal c m) ≡ o
           → Among p (pins_in (gate_line c o)) → (a : Name) × HasArgument c m a × (signal c a ≡ p)
-      go None e b = absurd b
       go (Some (Gate n kind args)) e b =
           let own = definition_defines c (signal c m) (Gate n kind args) e in
           let within = slice_get_within (names c) (signal c m) own.0 own.2 in
@@ -90,7 +88,7 @@ module _ (c : List Statement) (once : AllPairs (λ m n. m ≢ n) (names c)) wher
           let at = mapped_from (signal c) args p b in
           let here = subst (λ x. Contains c (Gate x kind args)) same (contained c _ own.3) in
           (at.0, (kind, args, here, contained args at.0 at.1), at.2)
-      go (Some _) e b = absurd b
+      go _ e b = absurd b
 
   -- ---- stuck gates
 

@@ -46,8 +46,7 @@ module _ {pins : ℕ → List ℕ} where
       → HaveLevels pins (ps ++ p ∷ []) (max a (k + 1))
   pushed ps a p k no_signal has = one_more p [] k 0 (max 0 (k + 1)) has no_signal (omega arith)
   pushed ps a p k (one_more q qs i b _ here rest is) has =
-      one_more q (qs ++ p ∷ []) i (max b (k + 1)) _ here (pushed qs b p k rest has)
-      (omega (arith, is))
+      one_more q (qs ++ p ∷ []) i (max b (k + 1)) _ here (pushed qs b p k rest has) (omega arith)
 
 -- ---- the search for levels
 
@@ -92,11 +91,6 @@ module _ {pins : ℕ → List ℕ} {n begun : ℕ} {marks : List Mark} where
       opens = λ h a. grind (arith, opens h a, state.opens h);
       path_is = path_is;
     }
-      where
-        kept : (s : ℕ) (x : Mark) → s ≢ g
-            → IsMark pins n begun (waiting marks path) (signals_of path) s x
-            → IsMark pins n later (waiting (set marks g m) after) (signals_of after) s x
-        kept s _ ne was = grind (arith, ne, was, less, begins s, stays s)
 
     -- an unknown signal is opened
     pub opened : (later p : ℕ) → slice_get marks p ≡ Some Unknown
@@ -106,7 +100,8 @@ module _ {pins : ℕ → List ℕ} {n begun : ℕ} {marks : List Mark} where
         × (steps pins (set marks p Open) (unpassed p ∷ path) < steps pins marks path)
     opened later p unknown is begins few = (
       marked later (unpassed p ∷ path) p Open (omega (arith, fewer)) (inl refl)
-          (λ s ne a. inr a) opens is begins,
+          (λ s ne a. inr a)
+          (λ h a. grind (arith, a, within, state.count, no_signal, room path state, fewer)) is begins,
       omega (arith, fewer, few, sum_by-cons (pins_left pins) (unpassed p) path),
     )
       where
@@ -117,10 +112,6 @@ module _ {pins : ℕ → List ℕ} {n begun : ℕ} {marks : List Mark} where
         fewer =
             let was = get_or_from_slice_get marks p Unknown Unknown unknown in
             grind (arith, was, sum_by-set (λ x. cond (is_unknown x) 1 0) marks p Open Unknown within)
-
-        opens : (h : OpenGate) → Among h (unpassed p ∷ path)
-            → Among h path ⊎ IsOpen pins n (waiting (set marks p Open) (unpassed p ∷ path)) h
-        opens h a = grind (arith, a, within, state.count, no_signal, room path state, fewer)
 
   module _ {gate : OpenGate} {rest : List OpenGate}
       (state : IsSearch pins n begun marks (gate ∷ rest)) where
@@ -158,12 +149,12 @@ module _ {pins : ℕ → List ℕ} {n begun : ℕ} {marks : List Mark} where
         opens = opens;
         path_is = state.path_is;
       },
-      omega (arith, within, sum_by-cons left gate rest, sum_by-cons left (passed gate k) rest),
+      (
+        let sums = sum_by-cons (pins_left pins) in
+        omega (arith, within, sums gate rest, sums (passed gate k) rest)
+      ),
     )
       where
-        left : OpenGate → ℕ
-        left = pins_left pins
-
         within : gate.pin < length (pins gate.signal)
         within = slice_get_within (pins gate.signal) gate.pin p at
 

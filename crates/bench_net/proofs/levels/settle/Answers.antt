@@ -17,7 +17,7 @@ loop-gate-init c =
           (read ∙ ap Some w.in-Unknown.is) (refl, tt) (λ s ne le. omega arith)
           (c.requires.graph.few_pins c.args.start)).0)
       | in_default w ↦ rw (w.marks-is, w.path-is, c.requires.path)
-          (begun_more state (λ e. w.in_default.not-Unknown (same_Some _ _ (sym read ∙ e))))
+          (begun_more state (grind (arith, read, w.in_default.not-Unknown)))
     ]
 
 pub visit-requires-clause-lower : goal.visit-requires-clause-lower

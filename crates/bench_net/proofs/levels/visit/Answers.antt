@@ -18,8 +18,7 @@ returns-in_default-clause-search c =
 below : (c : In-Some) → c.in-Some.signal < length c.args.marks.now.items
 below c =
     let reads = at_place _ c.args.gate.pin _ (sym c.pin_of.ensures ∙ c.in-Some.is) in
-    let lt = c.requires.graph.pins_below c.args.gate.signal c.in-Some.signal reads in
-    omega (arith, lt, c.requires.search.count)
+    omega (arith, c.requires.graph.pins_below _ _ reads, c.requires.search.count)
 
 pub index-requires : goal.index-requires
 index-requires c = omega (arith, below (goal.at.index-requires c).In-Some)
