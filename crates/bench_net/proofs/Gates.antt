@@ -66,9 +66,8 @@ module _ (c : List Statement) (once : AllPairs (λ m n. m ≢ n) (names c)) wher
   defined_at st n a d =
       let at = placed (filter defines c) st (among_filter defines c st a (defines_some st n d)) in
       let own = definition_defines c at.0 st at.1 in
-      let same : own.0 ≡ n = cc (own.1, d) in
-      let number = signal-name_of c at.0 n once (own.2 ∙ ap Some same) (contained (names c) n (named c st n a d)) in
-      ap (definition c) number ∙ at.1
+      let inside = contained (names c) n (named c st n a d) in
+      grind (arith, own.1, own.2, at.1, d, inside, signal-name_of c at.0 n once)
 
   pins_at : (n : Name) (kind : Kind) (args : List Name) → Among (Gate n kind args) c → pins c (signal c n) ≡ map (signal c) args
   pins_at n kind args a = ap (λ st. pins_in (gate_line c st)) (defined_at (Gate n kind args) n a refl)
@@ -116,7 +115,8 @@ module _ (c : List Statement) (once : AllPairs (λ m n. m ≢ n) (names c)) wher
       let arg = next.1 in
       let gate = pins_at m arg.0 arg.1 (among c (Gate m arg.0 arg.1) arg.2) in
       let reads = among_map (signal c) arg.1 next.0 (among arg.1 next.0 arg.3) in
-      grind (arith, a, gate, reads, next.2, unstuck members set qs b rest m, unstuck members set (pins c q) i here next.0)
+      grind (arith, a, gate, reads, next.2, unstuck members set qs b rest m,
+          unstuck members set (pins c q) i here next.0)
 
   pub not_stuck : (s k : ℕ) (n : Name) → signal c n ≡ s → HaveLevels (pins c) (pins c s) k → ¬ IsStuck c n
   not_stuck s k n is has stuck =
@@ -140,15 +140,12 @@ module _ (c : List Statement) (once : AllPairs (λ m n. m ≢ n) (names c)) wher
         let more = greatest-cons (level a) (map level (b ∷ args)) in
         omega (arith, is, above_rest, more, one_level _ i (level a) here (at a (inl refl)))
 
-    none : (k : ℕ) → HaveLevels (pins c) [] k → k ≡ 0
-    none k no_signal = refl
-
     pub levels_are : AreLevels c level
     levels_are = record {
       source = λ n has.
           let st = source_statement c n (among (sources c) n has) in
           let has = are.each (signal c n) (signal_below c n (named c st.0 n st.1 st.2)) in
-          none (level n) (rw (defined_at st.0 n st.1 st.2, st.3 c) at has);
+          one_level [] (level n) 0 (rw (defined_at st.0 n st.1 st.2, st.3 c) at has) no_signal;
       gate = λ n kind args has.
           let a = among c (Gate n kind args) has in
           let below = signal_below c n (named c (Gate n kind args) n a refl) in
@@ -175,12 +172,11 @@ module _ (c : List Statement) (once : AllPairs (λ m n. m ≢ n) (names c)) wher
     pub has_depth : (depth : ℕ) → depth ≡ greatest levels → HasDepth c depth
     has_depth depth is = (level, levels_are, ap greatest same ∙ sym is)
       where
-        count : length (map level (names c)) ≡ length (names c)
-        count = length-map (names c) level
-
         same : map level (names c) ≡ levels
-        same = same_lists _ levels (count ∙ sym are.count) (λ k d lt.
-            grind (arith, lt, count, are.count, of_name k, get_or-map level (names c) k [] d, get_or_default levels k 0 d))
+        same =
+            let count = length-map (names c) level in
+            same_lists _ levels (count ∙ sym are.count) (λ k d lt. grind (arith, lt, count, are.count,
+            of_name k, get_or-map level (names c) k [] d, get_or_default levels k 0 d))
 
     pub level_order : (order starts : List ℕ) (count : ℕ) → AreRows levels count starts order → ((i : ℕ) → i < length levels → get_or levels i 0 < count) → IsLevelOrder c order
     level_order order starts count rows below = record {

@@ -98,20 +98,18 @@ module _ {pins : ℕ → List ℕ} {n begun : ℕ} {marks : List Mark} where
         → length (pins p) < 2 ^ 32
         → IsSearch pins n later (set marks p Open) (unpassed p ∷ path)
         × (steps pins (set marks p Open) (unpassed p ∷ path) < steps pins marks path)
-    opened later p unknown is begins few = (
-      marked later (unpassed p ∷ path) p Open (omega (arith, fewer)) (inl refl)
-          (λ s ne a. inr a)
-          (λ h a. grind (arith, a, within, state.count, no_signal, room path state, fewer)) is begins,
-      omega (arith, fewer, few, sum_by-cons (pins_left pins) (unpassed p) path),
-    )
-      where
-        within : p < length marks
-        within = slice_get_within marks p Unknown unknown
-
-        fewer : count_by is_unknown (set marks p Open) + 1 ≡ count_by is_unknown marks
-        fewer =
-            let was = get_or_from_slice_get marks p Unknown Unknown unknown in
-            grind (arith, was, sum_by-set (λ x. cond (is_unknown x) 1 0) marks p Open Unknown within)
+    opened later p unknown is begins few =
+        let within = slice_get_within marks p Unknown unknown in
+        let was = get_or_from_slice_get marks p Unknown Unknown unknown in
+        let fewer : count_by is_unknown (set marks p Open) + 1 ≡ count_by is_unknown marks =
+        grind (arith, was, sum_by-set (λ x. cond (is_unknown x) 1 0) marks p Open Unknown within) in
+        (
+          marked later (unpassed p ∷ path) p Open (omega (arith, fewer)) (inl refl)
+              (λ s ne a. inr a)
+              (λ h a. grind (arith, a, within, state.count, no_signal, room path state, fewer))
+              is begins,
+          omega (arith, fewer, few, sum_by-cons (pins_left pins) (unpassed p) path),
+        )
 
   module _ {gate : OpenGate} {rest : List OpenGate}
       (state : IsSearch pins n begun marks (gate ∷ rest)) where
@@ -119,54 +117,43 @@ module _ {pins : ℕ → List ℕ} {n begun : ℕ} {marks : List Mark} where
     pub finished : slice_get (pins gate.signal) gate.pin ≡ None
         → let after = set marks gate.signal (Level gate.level) in
         IsSearch pins n begun after rest × (steps pins after rest < steps pins marks (gate ∷ rest))
-    finished none = (
-      marked state begun rest gate.signal (Level gate.level) (omega (arith, fewer))
-          (rw (take_all gate.pin (pins gate.signal) all) at is.1, omega (arith, is.2, fewer))
-          (λ s ne a. grind (arith, ne, a)) (λ h a. inl (inr a)) state.path_is.1 (λ s ne le. le),
-      omega (arith, fewer, sum_by-cons (pins_left pins) gate rest),
-    )
-      where
-        is : IsOpen pins n (waiting marks (gate ∷ rest)) gate
-        is = state.opens gate (inl refl)
-
-        all : length (pins gate.signal) ≤ gate.pin
-        all = grind (arith, none, (slice_get_cases (pins gate.signal) gate.pin).1)
-
-        fewer : count_by is_unknown (set marks gate.signal (Level gate.level))
-            ≤ count_by is_unknown marks
-        fewer = grind (arith, is.0, state.count,
-            sum_by-set (λ x. cond (is_unknown x) 1 0) marks gate.signal (Level gate.level) Unknown)
+    finished none =
+        let is = state.opens gate (inl refl) in
+        let past = (slice_get_cases (pins gate.signal) gate.pin).1 in
+        let all = take_all gate.pin (pins gate.signal) in
+        let lt : gate.signal < length marks = omega (arith, is.0, state.count) in
+        let fewer : count_by is_unknown (set marks gate.signal (Level gate.level))
+            ≤ count_by is_unknown marks = omega (arith,
+            sum_by-set (λ x. cond (is_unknown x) 1 0) marks gate.signal (Level gate.level) Unknown lt) in
+        (
+          marked state begun rest gate.signal (Level gate.level) (omega (arith, fewer))
+              (grind (arith, none, past, all, is, fewer)) (λ s ne a. grind (arith, ne, a))
+              (λ h a. inl (inr a)) state.path_is.1 (λ s ne le. le),
+          omega (arith, fewer, sum_by-cons (pins_left pins) gate rest),
+        )
 
     -- the next pin's signal has a level
     pub advanced : {p k : ℕ} → slice_get (pins gate.signal) gate.pin ≡ Some p
         → slice_get marks p ≡ Some (Level k)
         → IsSearch pins n begun marks (passed gate k ∷ rest)
         × (steps pins marks (passed gate k ∷ rest) < steps pins marks (gate ∷ rest))
-    advanced {p} {k} at known = (
-      record {
-        count = state.count;
-        each = state.each;
-        opens = opens;
-        path_is = state.path_is;
-      },
-      (
+    advanced {p} {k} at known =
+        let within = slice_get_within (pins gate.signal) gate.pin p at in
+        let is = state.opens gate (inl refl) in
+        let has = state.each p (Level k) known in
+        let next = get_or_from_slice_get (pins gate.signal) gate.pin p 0 at in
+        let more = take_more (pins gate.signal) gate.pin 0 within in
+        let all = pushed (take gate.pin (pins gate.signal)) gate.level p k is.1 has.0 in
         let sums = sum_by-cons (pins_left pins) in
-        omega (arith, within, sums gate rest, sums (passed gate k) rest)
-      ),
-    )
-      where
-        within : gate.pin < length (pins gate.signal)
-        within = slice_get_within (pins gate.signal) gate.pin p at
-
-        opens : (h : OpenGate) → Among h (passed gate k ∷ rest)
-            → IsOpen pins n (waiting marks (gate ∷ rest)) h
-        opens h a =
-            let is = state.opens gate (inl refl) in
-            let has = state.each p (Level k) known in
-            let next = get_or_from_slice_get (pins gate.signal) gate.pin p 0 at in
-            let more = take_more (pins gate.signal) gate.pin 0 within in
-            let all = pushed (take gate.pin (pins gate.signal)) gate.level p k is.1 has.0 in
-            grind (arith, a, is, has, more, next, all, state.opens h)
+        (
+          record {
+            count = state.count;
+            each = state.each;
+            opens = λ h a. grind (arith, a, is, has, more, next, all, state.opens h);
+            path_is = state.path_is;
+          },
+          omega (arith, within, sums gate rest, sums (passed gate k) rest),
+        )
 
     -- it is open, so the path meets itself
     pub met : (start p : ℕ) → begun ≡ start + 1 → HaveLevelsBelow pins start
@@ -195,11 +182,8 @@ module _ {pins : ℕ → List ℕ} {n begun : ℕ} {marks : List Mark} where
   pub level_at : (s : ℕ) → IsSearch pins n begun marks [] → s < begun → s < n
       → (k : ℕ) × (slice_get marks s ≡ Some (Level k))
   level_at s state met lt =
-      let m = within_place marks s (omega (arith, lt, state.count)) in go m.0 m.1
-    where
-      go : (m : Mark) → slice_get marks s ≡ Some m → (k : ℕ) × (slice_get marks s ≡ Some (Level k))
-      go (Level k) e = (k, e)
-      go m e = grind (arith, state.each s m e, met, lt)
+      let m = within_place marks s (omega (arith, lt, state.count)) in
+      grind (arith, m.1, state.each s m.0 m.1, met, lt)
 
   pub lower_levels : IsSearch pins n begun marks [] → begun ≤ n → HaveLevelsBelow pins begun
   lower_levels state le s lt =
@@ -217,6 +201,5 @@ settled {pins} {n} {marks} state below = record {
     at : (s : ℕ) → s < n → HaveLevels pins (pins s) (slice_index (map level_in marks) s)
     at s lt =
         let k = level_at s state lt lt in
-        rw (get_or-map level_in marks s (Level 0) 0 (omega (arith, lt, state.count)),
-            get_or_from_slice_get marks s (Level k.0) (Level 0) k.1)
-        (state.each s (Level k.0) k.1).0
+        grind (arith, lt, state.count, k.1, state.each s (Level k.0),
+            get_or-map level_in marks s (Level 0) 0, get_or_from_slice_get marks s (Level k.0) (Level 0))
