@@ -146,12 +146,7 @@ module _ {pins : ℕ → List ℕ} {n begun : ℕ} {marks : List Mark} where
         let all = pushed (take gate.pin (pins gate.signal)) gate.level p k is.1 has.0 in
         let sums = sum_by-cons (pins_left pins) in
         (
-          record {
-            count = state.count;
-            each = state.each;
-            opens = λ h a. grind (arith, a, is, has, more, next, all, state.opens h);
-            path_is = state.path_is;
-          },
+          grind (arith, is, has, more, next, all, state.count, state.each, state.opens),
           omega (arith, within, sums gate rest, sums (passed gate k) rest),
         )
 

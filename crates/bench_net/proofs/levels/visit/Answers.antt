@@ -63,6 +63,5 @@ returns-in_ok-push-in-Unknown-2-clause-search c =
     let reads = at_place _ c.args.gate.pin _ at.0 in
     rw (c.in_ok-push-in-Unknown-2.ensures.items, reverse-append)
     (rw (c.in_ok-push-in-Unknown.ensures.items, reverse-append)
-    (opened c.requires.search (c.args.start + 1) c.in-Some.signal (at.1 ∙ ap Some c.in-Unknown.is)
-    (reads, c.requires.search.path_is) (λ s ne le. le)
-    (c.requires.graph.few_pins c.in-Some.signal)))
+    (opened c.requires.search _ _ (at.1 ∙ ap Some c.in-Unknown.is)
+    (reads, c.requires.search.path_is) (λ s ne le. le) (c.requires.graph.few_pins _)))
