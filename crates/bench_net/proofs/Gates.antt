@@ -81,9 +81,8 @@ module _ (c : List Statement) (once : AllPairs (λ m n. m ≢ n) (names c)) wher
           → Among p (pins_in (gate_line c o)) → (a : Name) × HasArgument c m a × (signal c a ≡ p)
       go (Some (Gate n kind args)) e b =
           let own = definition_defines c (signal c m) (Gate n kind args) e in
-          let within = slice_get_within (names c) (signal c m) own.0 own.2 in
-          let number = named_number c m (signal c m) refl within in
-          let same : n ≡ m = grind (arith, own.1, own.2, number) in
+          let same : n ≡ m = grind (arith, own.1, own.2, named_number c m (signal c m) refl,
+          slice_get_within (names c) (signal c m) own.0) in
           let at = mapped_from (signal c) args p b in
           let here = subst (λ x. Contains c (Gate x kind args)) same (contained c _ own.3) in
           (at.0, (kind, args, here, contained args at.0 at.1), at.2)
