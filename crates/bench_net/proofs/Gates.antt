@@ -28,9 +28,7 @@ pins c s = pins_in (gate_of c s)
 -- a source is an input's name, or a cell's q
 of_input : (c : List Statement) (n : Name) → Among n (inputs c) → Among (Input n) c
 of_input [] n a = absurd a
-of_input (Input m ∷ c) n (inl e) = inl (ap Input e)
-of_input (Input m ∷ c) n (inr a) = inr (of_input c n a)
-of_input (_ ∷ c) n a = inr (of_input c n a)
+of_input (_ ∷ c) n a = grind (arith, a, of_input c n)
 
 pub of_cell : (c : List Statement) (n : Name) → Among n (map (λ cell. cell.0) (cells c)) → (d : Name) × Among (Dff n d) c
 of_cell [] n a = absurd a
@@ -40,10 +38,8 @@ of_cell (_ ∷ c) n a = let at = of_cell c n a in (at.0, inr at.1)
 
 pub source_statement : (c : List Statement) (n : Name) → Among n (sources c)
     → (st : Statement) × Among st c × (defined st ≡ n ∷ []) × ((b : List Statement) → gate_line b (Some st) ≡ None)
-source_statement c n a = elim (among_append (inputs c) (map (λ cell. cell.0) (cells c)) n a) [
-  | inl b ↦ (Input n, of_input c n b, refl, λ w. refl)
-  | inr b ↦ (let at = of_cell c n b in (Dff n at.0, at.1, refl, λ w. refl))
-]
+source_statement c n a = grind (arith, of_input c n, of_cell c n,
+    among_append (inputs c) (map (λ cell. cell.0) (cells c)) n a)
 
 pub named : (c : List Statement) (st : Statement) (n : Name) → Among st c → defined st ≡ n ∷ [] → Among n (names c)
 named c st n a d = among_joined defined c st n a (rw d (inl refl))
@@ -59,9 +55,8 @@ defines_some _ n d = refl
 pub named_number : (c : List Statement) (n : Name) (s : ℕ) → signal c n ≡ s
     → s < length (names c) → name_of c s ≡ Some n
 named_number c n s is lt =
-    let below : signal c n < length (names c) = omega (arith, is, lt) in
-    let same = same_bytes n _ (passes_at_first (bytes_eq n) (names c) [] below) in
-    rw (sym is) (slice_get-get_or (names c) (signal c n) [] below ∙ ap Some (sym same))
+    let first = passes_at_first (bytes_eq n) (names c) [] in
+    grind (arith, is, lt, first, same_bytes n, slice_get-get_or (names c) (signal c n) [])
 
 module _ (c : List Statement) (once : AllPairs (λ m n. m ≢ n) (names c)) where
   -- ---- the gate of a signal
@@ -70,10 +65,8 @@ module _ (c : List Statement) (once : AllPairs (λ m n. m ≢ n) (names c)) wher
   defined_at st n a d =
       let at = placed (filter defines c) st (among_filter defines c st a (defines_some st n d)) in
       let own = definition_defines c at.0 st at.1 in
-      let both : own.0 ∷ [] ≡ n ∷ [] = sym own.1 ∙ d in
-      let same : own.0 ≡ n = cc both in
-      let number = signal-name_of c at.0 n once (own.2 ∙ ap Some same) (contained (names c) n (named c st n a d)) in
-      ap (definition c) number ∙ at.1
+      let inside = contained (names c) n (named c st n a d) in
+      grind (arith, own.1, own.2, at.1, d, inside, signal-name_of c at.0 n once)
 
   pins_at : (n : Name) (kind : Kind) (args : List Name) → Among (Gate n kind args) c → pins c (signal c n) ≡ map (signal c) args
   pins_at n kind args a = ap (λ st. pins_in (gate_line c st)) (defined_at (Gate n kind args) n a refl)
@@ -85,17 +78,14 @@ module _ (c : List Statement) (once : AllPairs (λ m n. m ≢ n) (names c)) wher
     where
       go : (o : Option Statement) → definition c (signal c m) ≡ o
           → Among p (pins_in (gate_line c o)) → (a : Name) × HasArgument c m a × (signal c a ≡ p)
-      go None e b = absurd b
       go (Some (Gate n kind args)) e b =
           let own = definition_defines c (signal c m) (Gate n kind args) e in
-          let within = slice_get_within (names c) (signal c m) own.0 own.2 in
-          let both : Some own.0 ≡ Some m = sym own.2 ∙ named_number c m (signal c m) refl within in
-          let line : n ∷ [] ≡ own.0 ∷ [] = own.1 in
-          let same : n ≡ m = cc in
+          let same : n ≡ m = grind (arith, own.1, own.2, named_number c m (signal c m) refl,
+          slice_get_within (names c) (signal c m) own.0) in
           let at = mapped_from (signal c) args p b in
           let here = subst (λ x. Contains c (Gate x kind args)) same (contained c _ own.3) in
           (at.0, (kind, args, here, contained args at.0 at.1), at.2)
-      go (Some _) e b = absurd b
+      go _ e b = absurd b
 
   -- ---- stuck gates
 
@@ -105,8 +95,7 @@ module _ (c : List Statement) (once : AllPairs (λ m n. m ≢ n) (names c)) wher
     where
       member : (m : Name) → Among (signal c m) stuck.0
           → list_any (λ i. i == signal c m) stuck.0 ≡ true
-      member m a =
-          any_true (λ i. i == signal c m) stuck.0 _ (contained stuck.0 _ a) (eq-eqb _ _ refl)
+      member m a = any_true _ stuck.0 _ (contained stuck.0 _ a) (eq-eqb (signal c m) _ refl)
 
       set : IsStuckSet c (λ m. list_any (λ i. i == signal c m) stuck.0)
       set m inside =
@@ -119,13 +108,13 @@ module _ (c : List Statement) (once : AllPairs (λ m n. m ≢ n) (names c)) wher
   -- no signal with a level is stuck
   unstuck : (members : Name → Bool) → IsStuckSet c members → (ps : List ℕ) (k : ℕ) → HaveLevels (pins c) ps k → (m : Name) → Among (signal c m) ps → members m ≡ true → ⊥
   unstuck members set ps k no_signal m a inside = absurd a
-  unstuck members set ps k (one_more q qs i b _ here rest is) m (inr a) inside = unstuck members set qs b rest m a inside
-  unstuck members set ps k (one_more q qs i b _ here rest is) m (inl e) inside =
+  unstuck members set ps k (one_more q qs i b _ here rest is) m a inside =
       let next = set m inside in
       let arg = next.1 in
       let gate = pins_at m arg.0 arg.1 (among c (Gate m arg.0 arg.1) arg.2) in
       let reads = among_map (signal c) arg.1 next.0 (among arg.1 next.0 arg.3) in
-      unstuck members set (pins c q) i here next.0 (rw (e, gate) reads) next.2
+      grind (arith, a, gate, reads, next.2, unstuck members set qs b rest m,
+          unstuck members set (pins c q) i here next.0)
 
   pub not_stuck : (s k : ℕ) (n : Name) → signal c n ≡ s → HaveLevels (pins c) (pins c s) k → ¬ IsStuck c n
   not_stuck s k n is has stuck =
@@ -149,15 +138,12 @@ module _ (c : List Statement) (once : AllPairs (λ m n. m ≢ n) (names c)) wher
         let more = greatest-cons (level a) (map level (b ∷ args)) in
         omega (arith, is, above_rest, more, one_level _ i (level a) here (at a (inl refl)))
 
-    none : (k : ℕ) → HaveLevels (pins c) [] k → k ≡ 0
-    none k no_signal = refl
-
     pub levels_are : AreLevels c level
     levels_are = record {
       source = λ n has.
           let st = source_statement c n (among (sources c) n has) in
           let has = are.each (signal c n) (signal_below c n (named c st.0 n st.1 st.2)) in
-          none (level n) (rw (defined_at st.0 n st.1 st.2, st.3 c) at has);
+          one_level [] (level n) 0 (rw (defined_at st.0 n st.1 st.2, st.3 c) at has) no_signal;
       gate = λ n kind args has.
           let a = among c (Gate n kind args) has in
           let below = signal_below c n (named c (Gate n kind args) n a refl) in
@@ -184,20 +170,16 @@ module _ (c : List Statement) (once : AllPairs (λ m n. m ≢ n) (names c)) wher
     pub has_depth : (depth : ℕ) → depth ≡ greatest levels → HasDepth c depth
     has_depth depth is = (level, levels_are, ap greatest same ∙ sym is)
       where
-        count : length (map level (names c)) ≡ length (names c)
-        count = length-map (names c) level
-
         same : map level (names c) ≡ levels
-        same = same_lists _ levels (count ∙ sym are.count) (λ k d lt.
-            let within : k < length (names c) = omega (arith, lt, count) in
-            get_or-map level (names c) k [] d within ∙ of_name k within
-            ∙ get_or_default levels k 0 d (omega (arith, within, are.count)))
+        same =
+            let count = length-map (names c) level in
+            same_lists _ levels (count ∙ sym are.count) (λ k d lt. grind (arith, lt, count, are.count,
+            of_name k, get_or-map level (names c) k [] d, get_or_default levels k 0 d))
 
     pub level_order : (order starts : List ℕ) (count : ℕ) → AreRows levels count starts order → ((i : ℕ) → i < length levels → get_or levels i 0 < count) → IsLevelOrder c order
     level_order order starts count rows below = record {
-      all = λ s lt. let within : s < length levels = omega (arith, lt, are.count) in
-          rw rows.places_are (place_listed levels (length starts) s within
-          (omega (arith, below s within, rows.starts_count)));
+      all = λ s lt. rw rows.places_are (grind (arith, lt, are.count, below s, rows.starts_count,
+          place_listed levels (length starts) s));
       count = ap length rows.places_are ∙ (rows.starts_are.all ∙ are.count);
       ordered = rw rows.places_are (λ a b d less lt.
           let sorted = rows_before levels (length starts) in

@@ -26,8 +26,7 @@ greatest-cons x xs = omega (arith, fold_max (max 0 x) xs)
 
 pub greatest-among : (xs : List ℕ) (x : ℕ) → Among x xs → x ≤ greatest xs
 greatest-among [] x a = absurd a
-greatest-among (y ∷ xs) x (inl e) = omega (arith, e, greatest-cons y xs)
-greatest-among (y ∷ xs) x (inr a) = omega (arith, greatest-cons y xs, greatest-among xs x a)
+greatest-among (y ∷ xs) x a = grind (arith, a, greatest-cons y xs, greatest-among xs x)
 
 pub greatest-at : (xs : List ℕ) (i : ℕ) → i < length xs → get_or xs i 0 ≤ greatest xs
 greatest-at xs i lt = greatest-among xs _ (among xs _ (Contains-get_or xs i 0 lt))
@@ -46,8 +45,7 @@ module _ {pins : ℕ → List ℕ} where
       → HaveLevels pins (ps ++ p ∷ []) (max a (k + 1))
   pushed ps a p k no_signal has = one_more p [] k 0 (max 0 (k + 1)) has no_signal (omega arith)
   pushed ps a p k (one_more q qs i b _ here rest is) has =
-      one_more q (qs ++ p ∷ []) i (max b (k + 1)) _ here (pushed qs b p k rest has)
-      (omega (arith, is))
+      one_more q (qs ++ p ∷ []) i (max b (k + 1)) _ here (pushed qs b p k rest has) (omega arith)
 
 -- ---- the search for levels
 
@@ -62,10 +60,9 @@ passed gate k = record gate { pin = gate.pin + 1; level = max gate.level (k + 1)
 reads_on : (pins : ℕ → List ℕ) (begun g : ℕ) (path all : List ℕ) → IsPath pins begun (g ∷ path)
     → ((s : ℕ) → Among s (g ∷ path) → Among s all) → (q : ℕ) → Among q (pins g) → Among q all
     → (m : ℕ) → Among m (g ∷ path) → (p : ℕ) × Among p (pins m) × Among p all
-reads_on pins begun g path all is inside q reads has m (inl e) = (q, rw e at reads, has)
-reads_on pins begun g [] all is inside q reads has m (inr a) = absurd a
-reads_on pins begun g (h ∷ path) all is inside q reads has m (inr a) =
-    reads_on pins begun h path all is.1 (λ s b. inside s (inr b)) g is.0 (inside g (inl refl)) m a
+reads_on pins begun g [] all is inside q reads has m a = grind (arith, a, reads, has)
+reads_on pins begun g (h ∷ path) all is inside q reads has m a = grind (arith, a, reads, has,
+    reads_on pins begun h path all is.1 (λ s b. inside s (inr b)) g is.0 (inside g (inl refl)) m)
 
 start_on : (pins : ℕ → List ℕ) (begun start g : ℕ) (path : List ℕ) → begun ≡ start + 1
     → IsPath pins begun (g ∷ path) → Among start (g ∷ path)
@@ -88,23 +85,11 @@ module _ {pins : ℕ → List ℕ} {n begun : ℕ} {marks : List Mark} where
         → IsSearch pins n later (set marks g m) after
     marked later after g m less is stays opens path_is begins = record {
       count = length-set marks g m ∙ state.count;
-      each = λ s x e. elim (written marks g m s x e) [
-        | inl h ↦ rw (h.0, h.1) is
-        | inr h ↦ kept s x h.0 (state.each s x h.1)
-      ];
-      opens = λ h a. elim (opens h a) [
-        | inl b ↦ (let o = state.opens h b in (o.0, o.1, omega (arith, o.2, less)))
-        | inr o ↦ o
-      ];
+      each = λ s x e. grind (arith, is, written marks g m s x e, less, begins s, stays s,
+          state.each s x);
+      opens = λ h a. grind (arith, opens h a, state.opens h);
       path_is = path_is;
     }
-      where
-        kept : (s : ℕ) (x : Mark) → s ≢ g
-            → IsMark pins n begun (waiting marks path) (signals_of path) s x
-            → IsMark pins n later (waiting (set marks g m) after) (signals_of after) s x
-        kept s Unknown ne was = begins s ne was
-        kept s Open ne was = stays s ne was
-        kept s (Level k) ne was = (was.0, omega (arith, was.1, less))
 
     -- an unknown signal is opened
     pub opened : (later p : ℕ) → slice_get marks p ≡ Some Unknown
@@ -112,27 +97,18 @@ module _ {pins : ℕ → List ℕ} {n begun : ℕ} {marks : List Mark} where
         → length (pins p) < 2 ^ 32
         → IsSearch pins n later (set marks p Open) (unpassed p ∷ path)
         × (steps pins (set marks p Open) (unpassed p ∷ path) < steps pins marks path)
-    opened later p unknown is begins few = (
-      marked later (unpassed p ∷ path) p Open (omega (arith, fewer)) (inl refl)
-          (λ s ne a. inr a) opens is begins,
-      omega (arith, fewer, few, sum_by-cons (pins_left pins) (unpassed p) path),
-    )
-      where
-        within : p < length marks
-        within = slice_get_within marks p Unknown unknown
-
-        fewer : count_by is_unknown (set marks p Open) + 1 ≡ count_by is_unknown marks
-        fewer = omega (
-          arith,
-          rw (get_or_from_slice_get marks p Unknown Unknown unknown)
-              at (sum_by-set (λ x. cond (is_unknown x) 1 0) marks p Open Unknown within),
+    opened later p unknown is begins few =
+        let within = slice_get_within marks p Unknown unknown in
+        let was = get_or_from_slice_get marks p Unknown Unknown unknown in
+        let fewer : count_by is_unknown (set marks p Open) + 1 ≡ count_by is_unknown marks =
+        grind (arith, was, sum_by-set (λ x. cond (is_unknown x) 1 0) marks p Open Unknown within) in
+        (
+          marked later (unpassed p ∷ path) p Open (omega (arith, fewer)) (inl refl)
+              (λ s ne a. inr a)
+              (λ h a. grind (arith, a, within, state.count, no_signal, room path state, fewer))
+              is begins,
+          omega (arith, fewer, few, sum_by-cons (pins_left pins) (unpassed p) path),
         )
-
-        opens : (h : OpenGate) → Among h (unpassed p ∷ path)
-            → Among h path ⊎ IsOpen pins n (waiting (set marks p Open) (unpassed p ∷ path)) h
-        opens h (inl e) = inr (rw (sym e)
-            (omega (arith, within, state.count), no_signal, omega (arith, room path state, fewer)))
-        opens h (inr a) = inl a
 
   module _ {gate : OpenGate} {rest : List OpenGate}
       (state : IsSearch pins n begun marks (gate ∷ rest)) where
@@ -140,68 +116,38 @@ module _ {pins : ℕ → List ℕ} {n begun : ℕ} {marks : List Mark} where
     pub finished : slice_get (pins gate.signal) gate.pin ≡ None
         → let after = set marks gate.signal (Level gate.level) in
         IsSearch pins n begun after rest × (steps pins after rest < steps pins marks (gate ∷ rest))
-    finished none = (
-      marked state begun rest gate.signal (Level gate.level) (omega (arith, fewer))
-          (rw (take_all gate.pin (pins gate.signal) all) at is.1, omega (arith, is.2, fewer))
-          stays (λ h a. inl (inr a)) state.path_is.1 (λ s ne le. le),
-      omega (arith, fewer, sum_by-cons (pins_left pins) gate rest),
-    )
-      where
-        is : IsOpen pins n (waiting marks (gate ∷ rest)) gate
-        is = state.opens gate (inl refl)
-
-        all : length (pins gate.signal) ≤ gate.pin
-        all = elim (slice_get_cases (pins gate.signal) gate.pin).1 [
-          | inl at ↦ (let bad = sym none ∙ at.2 in cc bad)
-          | inr past ↦ past.0
-        ]
-
-        fewer : count_by is_unknown (set marks gate.signal (Level gate.level))
-            ≤ count_by is_unknown marks
-        fewer = omega (
-          arith,
-          sum_by-set (λ x. cond (is_unknown x) 1 0) marks gate.signal
-              (Level gate.level) Unknown (omega (arith, is.0, state.count)),
+    finished none =
+        let is = state.opens gate (inl refl) in
+        let past = (slice_get_cases (pins gate.signal) gate.pin).1 in
+        let all = take_all gate.pin (pins gate.signal) in
+        let lt : gate.signal < length marks = omega (arith, is.0, state.count) in
+        let fewer : count_by is_unknown (set marks gate.signal (Level gate.level))
+            ≤ count_by is_unknown marks = omega (arith,
+            sum_by-set (λ x. cond (is_unknown x) 1 0) marks gate.signal (Level gate.level) Unknown lt) in
+        (
+          marked state begun rest gate.signal (Level gate.level) (omega (arith, fewer))
+              (grind (arith, none, past, all, is, fewer)) (λ s ne a. grind (arith, ne, a))
+              (λ h a. inl (inr a)) state.path_is.1 (λ s ne le. le),
+          omega (arith, fewer, sum_by-cons (pins_left pins) gate rest),
         )
-
-        stays : (s : ℕ) → s ≢ gate.signal → Among s (gate.signal ∷ signals_of rest)
-            → Among s (signals_of rest)
-        stays s ne a = grind (arith, ne, a)
 
     -- the next pin's signal has a level
     pub advanced : {p k : ℕ} → slice_get (pins gate.signal) gate.pin ≡ Some p
         → slice_get marks p ≡ Some (Level k)
         → IsSearch pins n begun marks (passed gate k ∷ rest)
         × (steps pins marks (passed gate k ∷ rest) < steps pins marks (gate ∷ rest))
-    advanced {p} {k} at known = (
-      record {
-        count = state.count;
-        each = state.each;
-        opens = opens;
-        path_is = state.path_is;
-      },
-      omega (arith, within, sum_by-cons left gate rest, sum_by-cons left (passed gate k) rest),
-    )
-      where
-        left : OpenGate → ℕ
-        left = pins_left pins
-
-        within : gate.pin < length (pins gate.signal)
-        within = slice_get_within (pins gate.signal) gate.pin p at
-
-        opens : (h : OpenGate) → Among h (passed gate k ∷ rest)
-            → IsOpen pins n (waiting marks (gate ∷ rest)) h
-        opens h (inl e) =
-            let is = state.opens gate (inl refl) in
-            let has = state.each p (Level k) known in
-            let next = get_or_from_slice_get (pins gate.signal) gate.pin p 0 at in
-            rw (sym e) (
-              is.0,
-              rw (take_more (pins gate.signal) gate.pin 0 within, next)
-                  (pushed (take gate.pin (pins gate.signal)) gate.level p k is.1 has.0),
-              omega (arith, is.2, has.1),
-            )
-        opens h (inr a) = state.opens h (inr a)
+    advanced {p} {k} at known =
+        let within = slice_get_within (pins gate.signal) gate.pin p at in
+        let is = state.opens gate (inl refl) in
+        let has = state.each p (Level k) known in
+        let next = get_or_from_slice_get (pins gate.signal) gate.pin p 0 at in
+        let more = take_more (pins gate.signal) gate.pin 0 within in
+        let all = pushed (take gate.pin (pins gate.signal)) gate.level p k is.1 has.0 in
+        let sums = sum_by-cons (pins_left pins) in
+        (
+          grind (arith, is, has, more, next, all, state.count, state.each, state.opens),
+          omega (arith, within, sums gate rest, sums (passed gate k) rest),
+        )
 
     -- it is open, so the path meets itself
     pub met : (start p : ℕ) → begun ≡ start + 1 → HaveLevelsBelow pins start
@@ -221,31 +167,17 @@ module _ {pins : ℕ → List ℕ} {n begun : ℕ} {marks : List Mark} where
       → IsSearch pins n (begun + 1) marks []
   begun_more state known = record {
     count = state.count;
-    each = λ s m e. each s m e (state.each s m e);
+    each = λ s m e. grind (arith, known, e, state.each s m e);
     opens = state.opens;
     path_is = tt;
   }
-    where
-      each : (s : ℕ) (m : Mark) → slice_get marks s ≡ Some m
-          → IsMark pins n begun (waiting marks []) [] s m
-          → IsMark pins n (begun + 1) (waiting marks []) [] s m
-      each s Unknown e le = elim (cases_lt begun s) [
-        | inl lt ↦ omega arith
-        | inr ge ↦ (let same : s ≡ begun = omega arith in absurd (known (rw same at e)))
-      ]
-      each s Open e is = is
-      each s (Level k) e is = is
 
   -- where no signal is open, each that was begun has a level
   pub level_at : (s : ℕ) → IsSearch pins n begun marks [] → s < begun → s < n
       → (k : ℕ) × (slice_get marks s ≡ Some (Level k))
   level_at s state met lt =
-      let m = within_place marks s (omega (arith, lt, state.count)) in go m.0 m.1
-    where
-      go : (m : Mark) → slice_get marks s ≡ Some m → (k : ℕ) × (slice_get marks s ≡ Some (Level k))
-      go Unknown e = absurd (omega (arith, state.each s Unknown e, met))
-      go Open e = absurd (state.each s Open e)
-      go (Level k) e = (k, e)
+      let m = within_place marks s (omega (arith, lt, state.count)) in
+      grind (arith, m.1, state.each s m.0 m.1, met, lt)
 
   pub lower_levels : IsSearch pins n begun marks [] → begun ≤ n → HaveLevelsBelow pins begun
   lower_levels state le s lt =
@@ -263,8 +195,5 @@ settled {pins} {n} {marks} state below = record {
     at : (s : ℕ) → s < n → HaveLevels pins (pins s) (slice_index (map level_in marks) s)
     at s lt =
         let k = level_at s state lt lt in
-        rw (
-          get_or-map level_in marks s (Level 0) 0 (omega (arith, lt, state.count)),
-          get_or_from_slice_get marks s (Level k.0) (Level 0) k.1,
-        )
-        (state.each s (Level k.0) k.1).0
+        grind (arith, lt, state.count, k.1, state.each s (Level k.0),
+            get_or-map level_in marks s (Level 0) 0, get_or_from_slice_get marks s (Level k.0) (Level 0))

@@ -8,6 +8,5 @@ pub rows_of-requires-clause-below : goal.rows_of-requires-clause-below
 rows_of-requires-clause-below c = λ i d lt.
     let levels = c.in_ok-levels.levels.items in
     let is : c.fold-depth.result ≡ greatest levels = search rules in
-    let within = rw c.deref-2.ensures.value at lt in
-    rw c.deref-2.ensures.value
-    (omega (arith, is, get_or_default levels i d 0 within, greatest-at levels i within))
+    let value = c.deref-2.ensures.value in
+    grind (arith, lt, is, value, get_or_default levels i d 0, greatest-at levels i)

@@ -6,7 +6,4 @@ use Rattle.bench_net.specs.Tables.{line_gate}
 use Rattle.bench_net.proofs.levels.pin_of.Goals as goal
 
 pub returns : goal.returns
-returns c =
-    let are : c.pins.result.now ≡ gate_pins c.args.lines.now c.args.signal =
-    c.pins.ensures ∙ sym (ap (λ o. pins_in (line_gate o)) c.line_of.ensures) in
-    rw (← are) (grind (arith, common_steps, gets))
+returns c = grind (arith, common_steps, gets, c.pins.ensures, c.line_of.ensures)

@@ -7,6 +7,5 @@ pub returns-clause-levels : goal.returns-clause-levels
 returns-clause-levels c =
     let end : c.loop-start.start ≡ length c.args.definitions.now =
     omega (arith, c.requires.graph.few) in
-    let state = rw end at c.loop-start.invariant.0 in
     let is : c.in_ok-collect.field-0.items ≡ map level_in c.loop-start.marks.items = search rules in
-    rw is (settled state c.requires.graph.pins_below)
+    rw is (settled (rw end at c.loop-start.invariant.0) c.requires.graph.pins_below)

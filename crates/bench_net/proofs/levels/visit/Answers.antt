@@ -18,8 +18,7 @@ returns-in_default-clause-search c =
 below : (c : In-Some) → c.in-Some.signal < length c.args.marks.now.items
 below c =
     let reads = at_place _ c.args.gate.pin _ (sym c.pin_of.ensures ∙ c.in-Some.is) in
-    let lt = c.requires.graph.pins_below c.args.gate.signal c.in-Some.signal reads in
-    omega (arith, lt, c.requires.search.count)
+    omega (arith, c.requires.graph.pins_below _ _ reads, c.requires.search.count)
 
 pub index-requires : goal.index-requires
 index-requires c = omega (arith, below (goal.at.index-requires c).In-Some)
@@ -34,9 +33,8 @@ next c =
 
 pub overflow_add-gate : goal.overflow_add-gate
 overflow_add-gate c =
-    let at = next (goal.at.overflow_add-gate c).After-index in
-    let within = slice_get_within (gate_pins c.args.lines.now c.args.gate.signal) _ _ at.0 in
-    omega (arith, within, c.requires.graph.few_pins c.args.gate.signal)
+    let pins = gate_pins c.args.lines.now c.args.gate.signal in
+    grind (arith, slice_get_within pins, c.requires.graph.few_pins c.args.gate.signal)
 
 pub overflow_add-lower : goal.overflow_add-lower
 overflow_add-lower c =
@@ -75,6 +73,5 @@ returns-in_ok-push-in-Unknown-2-clause-search c =
     let reads = at_place _ c.args.gate.pin _ at.0 in
     rw (c.in_ok-push-in-Unknown-2.ensures.items, reverse-append)
     (rw (c.in_ok-push-in-Unknown.ensures.items, reverse-append)
-    (opened c.requires.search (c.args.start + 1) c.in-Some.signal (at.1 ∙ ap Some c.in-Unknown.is)
-    (reads, c.requires.search.path_is) (λ s ne le. le)
-    (c.requires.graph.few_pins c.in-Some.signal)))
+    (opened c.requires.search _ _ (at.1 ∙ ap Some c.in-Unknown.is)
+    (reads, c.requires.search.path_is) (λ s ne le. le) (c.requires.graph.few_pins _)))

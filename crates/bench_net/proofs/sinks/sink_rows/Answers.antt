@@ -9,11 +9,9 @@ rows_of-requires-clause-below c = rw (c.deref.ensures.value, c.in_ok-keys.ensure
 
 pub sinks_of-requires : goal.sinks_of-requires
 sinks_of-requires c =
-    let keys = ap length (c.deref.ensures.value ∙ c.in_ok-keys.ensures) in
-    let count = length-map c.args.readers.now (λ reader. reader.signal) in
     let below = places_below c.deref.result.now (length c.in_ok-rows.rows.starts.items) in
     rw (c.deref-2.ensures.value, c.in_ok-rows.ensures.places_are)
-    (λ i d lt. omega (arith, keys, count, (below i d lt).0))
+    (grind (arith, length-map, c.deref.ensures.value, c.in_ok-keys.ensures, below))
 
 pub returns : goal.returns
 returns c = sink_rows_are c.args.readers.now c.args.signals c.in_ok-rows.rows.starts.items
