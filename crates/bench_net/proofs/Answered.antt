@@ -1,9 +1,9 @@
 -- Each text is accepted or refused, in one way, and a plain program says which.
-use Rattle.std.proofs.Common.{◌≡◌, ◌<◌, ◌≤◌, ℕ, zero, suc, refl, sym, ◌∙◌, ap, subst, Bool, true, false, not, List, [], ◌∷◌, length, take, arith, inl, inr, ◌⊎◌}
+use Rattle.std.proofs.Common.{◌≡◌, ◌<◌, ◌≤◌, ℕ, zero, suc, refl, sym, ◌∙◌, subst, Bool, true, false, not, List, [], ◌∷◌, length, take, arith, inl, inr, ◌⊎◌}
 use Rattle.std.specs.Prelude.{◌≢◌, ◌↔◌, option_map, if◌then◌else◌, ◌==◌, nat_lt, Option, Some, None, Result, Ok, Err, slice_get, filter_map, is_none}
 use Rattle.std.specs.List.{AllZip, list_any}
 use Rattle.std.proofs.lemmas.List.{nil_from_length}
-use Rattle.std.proofs.lemmas.Bool.{eqb-true, ne_eqb, both_ways, cond_both, cond-false, ltb-true, ltb-false, le-ltb, not-true, true_from_ne_false}
+use Rattle.std.proofs.lemmas.Bool.{eqb-true, both_ways, cond_both, ltb-true, ltb-false, le-ltb, not-true, true_from_ne_false}
 use Rattle.std.proofs.lemmas.Option.{none-some}
 use Rattle.std.proofs.lemmas.Bool.Decides.{nat_tests}
 use Rattle.bench_net.specs.declared.Limit.TheVariants.{Bytes, Signals, Sinks}
@@ -85,7 +85,6 @@ IsFirst Faulty None = NoLine Faulty
 IsFirst Faulty (Some line) = IsLowest Faulty line
 
 first_one : (F : ℕ → Type 0) (o p : Option ℕ) → IsFirst F o → IsFirst F p → o ≡ p
-first_one F (Some k) (Some l) a b = grind (arith, a.0, b.0, a.1, b.1)
 first_one F _ _ a b = grind (arith, a, b)
 
 -- what holds of the place before all lines, and of each line, holds of each number
@@ -128,8 +127,7 @@ syntax_first text =
 read_all : (ls : List (List ℕ)) (stated : List Stated) → AllZip States ls stated
     → (first (λ i. is_unread) ls ≡ None) × (filter_map stated_of ls ≡ stated)
 read_all [] [] all = (refl, refl)
-read_all (l ∷ ls) (s ∷ stated) all =
-    grind (arith, complete_states l s all.0, read_all ls stated all.1)
+read_all (l ∷ ls) (s ∷ ss) all = grind (arith, complete_states l s all.0, read_all ls ss all.1)
 read_all _ _ all = absurd all
 
 -- and behind such lines the first that isn't read is the lowest
@@ -328,7 +326,7 @@ exact text (Ok c) (stated, within, same, is) =
     (no_redefinition stated (distinct_from_pairs _ well.once))
     (no_undefined stated well.all_defined)
     (λ l bad. none_stuck _ number.0 number.1 bad.4.0 bad.4.1 bad.0 bad.4.2)
-    ∙ cond-false _ _ _ (ne_eqb _ 0 (λ e. well.some (nil_from_length _ e))) ∙ ap Ok (sym same)
+    ∙ grind (arith, same, well.some, nil_from_length (statements stated))
 
 pub one_answer : (text : List ℕ) (r s : Result (List Statement) BenchFault)
     → IsAnswer text r → IsAnswer text s → r ≡ s

@@ -164,5 +164,5 @@ some_source c is =
         let g = driven c none n (among _ n (in_contained (names c) n inside)) in
         let at = contained c (Gate n g.0 g.1) g.2 in
         let first = Contains-get_or g.1 0 [] (some_args g.0 g.1 (is.arities n g.0 g.1 at)) in
-        let defined = read_named c (Gate n g.0 g.1) _ is.well_formed g.2 (among _ _ first) in
-        (_, (g.0, g.1, at, first), among_in (names c) _ (among _ _ defined))
+        let defined = read_named c _ _ is.well_formed g.2 (among _ _ first) in
+        (_, (g.0, g.1, at, first), among_in _ _ (among _ _ defined))
