@@ -1,6 +1,6 @@
 -- The entries of lines, how lines are numbered, and what the passes over them say of the text.
 use Rattle.std.proofs.Common.{◌≡◌, ◌<◌, ◌+◌, ◌==◌, ℕ, zero, suc, refl, sym, ap, List, [], ◌∷◌, ◌++◌, length, take, map, arith, get_or, ◌≤◌, ◌∙◌, append-nil, subst, ◌≢◌, false, filter, inl, inr}
-use Rattle.std.specs.Prelude.{Option, Some, None, slice_get, unwrap_or, flat_map, bytes_eq, ◌||◌, Contains, AllPairs, option_map}
+use Rattle.std.specs.Prelude.{Option, Some, None, slice_get, flat_map, bytes_eq, ◌||◌, Contains, AllPairs, option_map}
 use Rattle.std.specs.List.{slice_split, list_any, All, list_all}
 use Rattle.std.specs.Borrow.{Bor}
 use Rattle.std.specs.Str.Lines.{strip_carriage_return}
