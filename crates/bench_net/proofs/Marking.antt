@@ -1,7 +1,6 @@
 -- Levels, and the marks of a search for them.
-use Rattle.std.proofs.Common.{◌≡◌, ◌≢◌, ◌<◌, ◌≤◌, ◌+◌, ℕ, max, sym, ◌∙◌, refl, cond, List, [], ◌∷◌, ◌++◌, map, length, take, get_or, set, arith, inl, inr, ◌⊎◌}
+use Rattle.std.proofs.Common.{◌≡◌, ◌≢◌, ◌<◌, ◌≤◌, ◌+◌, ℕ, max, ◌∙◌, refl, cond, List, [], ◌∷◌, ◌++◌, map, length, take, get_or, set, arith, inl, inr, ◌⊎◌}
 use Rattle.std.specs.Prelude.{Some, None, slice_get, slice_index, count_by, fold, ◌^◌}
-use Rattle.std.proofs.lemmas.Bool.{cases_lt}
 use Rattle.std.proofs.lemmas.List.{length-map, length-set, get_or-map, take_all, take_more}
 use Rattle.std.proofs.lemmas.List.Sums.{sum_by-set, sum_by-cons, count_by-le-length}
 use Rattle.std.proofs.lemmas.List.Elements.{Contains-get_or}
@@ -62,8 +61,9 @@ reads_on : (pins : ℕ → List ℕ) (begun g : ℕ) (path all : List ℕ) → I
     → ((s : ℕ) → Among s (g ∷ path) → Among s all) → (q : ℕ) → Among q (pins g) → Among q all
     → (m : ℕ) → Among m (g ∷ path) → (p : ℕ) × Among p (pins m) × Among p all
 reads_on pins begun g [] all is inside q reads has m a = grind (arith, a, reads, has)
-reads_on pins begun g (h ∷ path) all is inside q reads has m a = grind (arith, a, reads, has,
-    reads_on pins begun h path all is.1 (λ s b. inside s (inr b)) g is.0 (inside g (inl refl)) m)
+reads_on pins begun g (h ∷ path) all is inside q reads has m a =
+    let more = reads_on pins begun h path all is.1 (λ s b. inside s (inr b)) g is.0 in
+    grind (arith, a, reads, has, more (inside g (inl refl)) m)
 
 start_on : (pins : ℕ → List ℕ) (begun start g : ℕ) (path : List ℕ) → begun ≡ start + 1
     → IsPath pins begun (g ∷ path) → Among start (g ∷ path)
@@ -86,8 +86,9 @@ module _ {pins : ℕ → List ℕ} {n begun : ℕ} {marks : List Mark} where
         → IsSearch pins n later (set marks g m) after
     marked later after g m less is stays opens path_is begins = record {
       count = length-set marks g m ∙ state.count;
-      each = λ s x e. grind (arith, is, written marks g m s x e, less, begins s, stays s,
-          state.each s x);
+      each = λ s x e.
+          let place = written marks g m s x e in
+          grind (arith, is, place, less, begins s, stays s, state.each s x);
       opens = λ h a. grind (arith, opens h a, state.opens h);
       path_is = path_is;
     }
@@ -102,8 +103,7 @@ module _ {pins : ℕ → List ℕ} {n begun : ℕ} {marks : List Mark} where
         let within = slice_get_within marks p Unknown unknown in
         let was = get_or_from_slice_get marks p Unknown Unknown unknown in
         let fewer : count_by is_unknown (set marks p Open) + 1 ≡ count_by is_unknown marks =
-        grind (arith, was, sum_by-set (λ x. cond (is_unknown x) 1 0) marks p Open Unknown within) in
-        (
+        grind (arith, was, sum_by-set (λ x. cond (is_unknown x) 1 0) marks p Open Unknown within) in (
           marked later (unpassed p ∷ path) p Open (omega (arith, fewer)) (inl refl)
               (λ s ne a. inr a)
               (λ h a. grind (arith, a, within, state.count, no_signal, room path state, fewer))
@@ -123,9 +123,10 @@ module _ {pins : ℕ → List ℕ} {n begun : ℕ} {marks : List Mark} where
         let all = take_all gate.pin (pins gate.signal) in
         let lt : gate.signal < length marks = omega (arith, is.0, state.count) in
         let fewer : count_by is_unknown (set marks gate.signal (Level gate.level))
-            ≤ count_by is_unknown marks = omega (arith,
-            sum_by-set (λ x. cond (is_unknown x) 1 0) marks gate.signal (Level gate.level) Unknown lt) in
-        (
+        ≤ count_by is_unknown marks = omega (
+          arith,
+          sum_by-set (λ x. cond (is_unknown x) 1 0) marks gate.signal (Level gate.level) Unknown lt,
+        ) in (
           marked state begun rest gate.signal (Level gate.level) (omega (arith, fewer))
               (grind (arith, none, past, all, is, fewer)) (λ s ne a. grind (arith, ne, a))
               (λ h a. inl (inr a)) state.path_is.1 (λ s ne le. le),
@@ -144,8 +145,7 @@ module _ {pins : ℕ → List ℕ} {n begun : ℕ} {marks : List Mark} where
         let next = get_or_from_slice_get (pins gate.signal) gate.pin p 0 at in
         let more = take_more (pins gate.signal) gate.pin 0 within in
         let all = pushed (take gate.pin (pins gate.signal)) gate.level p k is.1 has.0 in
-        let sums = sum_by-cons (pins_left pins) in
-        (
+        let sums = sum_by-cons (pins_left pins) in (
           grind (arith, is, has, more, next, all, state.count, state.each, state.opens),
           omega (arith, within, sums gate rest, sums (passed gate k) rest),
         )
@@ -196,5 +196,6 @@ settled {pins} {n} {marks} state below = record {
     at : (s : ℕ) → s < n → HaveLevels pins (pins s) (slice_index (map level_in marks) s)
     at s lt =
         let k = level_at s state lt lt in
-        grind (arith, lt, state.count, k.1, state.each s (Level k.0),
-            get_or-map level_in marks s (Level 0) 0, get_or_from_slice_get marks s (Level k.0) (Level 0))
+        let read = get_or_from_slice_get marks s (Level k.0) (Level 0) k.1 in
+        let all = get_or-map level_in marks s (Level 0) 0 in
+        grind (arith, lt, state.count, state.each s (Level k.0) k.1, read, all)

@@ -1,8 +1,6 @@
-use Rattle.std.proofs.Common.{◌≡◌, ◌∙◌, ap, sym, arith}
+use Rattle.std.proofs.Common.{arith}
 use Rattle.std.proofs.lemmas.Option.{gets}
 use Rattle.std.proofs.lemmas.Grind.{common_steps}
-use Rattle.bench_net.specs.Marks.{pins_in, gate_pins}
-use Rattle.bench_net.specs.Tables.{line_gate}
 use Rattle.bench_net.proofs.levels.pin_of.Goals as goal
 
 pub returns : goal.returns

@@ -1,5 +1,4 @@
-use Rattle.std.proofs.Common.{ap, sym, arith, length, subst}
-use Rattle.bench_net.specs.Tables.{PinsFit}
+use Rattle.std.proofs.Common.{sym, arith}
 use Rattle.bench_net.proofs.sinks.add_lines.Goals as goal
 
 pub add_pins-requires : goal.add_pins-requires
