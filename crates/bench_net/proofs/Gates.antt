@@ -38,12 +38,9 @@ of_cell (_ ∷ c) n a = let at = of_cell c n a in (at.0, inr at.1)
 
 pub source_statement : (c : List Statement) (n : Name) → Among n (sources c)
     → (st : Statement) × Among st c × (defined st ≡ n ∷ []) × ((b : List Statement) → gate_line b (Some st) ≡ None)
-source_statement c n a = grind (
-  arith,
-  of_input c n,
-  of_cell c n,
-  among_append (inputs c) (map (λ cell. cell.0) (cells c)) n a,
-)
+source_statement c n a =
+    let cases = among_append (inputs c) (map (λ cell. cell.0) (cells c)) n a in
+    grind (arith, of_input c n, of_cell c n, cases)
 
 pub named : (c : List Statement) (st : Statement) (n : Name) → Among st c → defined st ≡ n ∷ [] → Among n (names c)
 named c st n a d = among_joined defined c st n a (rw d (inl refl))
@@ -84,13 +81,9 @@ module _ (c : List Statement) (once : AllPairs (λ m n. m ≢ n) (names c)) wher
           → Among p (pins_in (gate_line c o)) → (a : Name) × HasArgument c m a × (signal c a ≡ p)
       go (Some (Gate n kind args)) e b =
           let own = definition_defines c (signal c m) (Gate n kind args) e in
-          let same : n ≡ m = grind (
-            arith,
-            own.1,
-            own.2,
-            named_number c m (signal c m) refl,
-            slice_get_within (names c) (signal c m) own.0,
-          ) in
+          let within = slice_get_within (names c) (signal c m) own.0 in
+          let number = named_number c m (signal c m) refl in
+          let same : n ≡ m = grind (arith, own.1, own.2, number, within) in
           let at = mapped_from (signal c) args p b in
           let here = subst (λ x. Contains c (Gate x kind args)) same (contained c _ own.3) in
           (at.0, (kind, args, here, contained args at.0 at.1), at.2)
@@ -122,15 +115,9 @@ module _ (c : List Statement) (once : AllPairs (λ m n. m ≢ n) (names c)) wher
       let arg = next.1 in
       let gate = pins_at m arg.0 arg.1 (among c (Gate m arg.0 arg.1) arg.2) in
       let reads = among_map (signal c) arg.1 next.0 (among arg.1 next.0 arg.3) in
-      grind (
-        arith,
-        a,
-        gate,
-        reads,
-        next.2,
-        unstuck members set qs b rest m,
-        unstuck members set (pins c q) i here next.0,
-      )
+      let one = unstuck members set qs b rest m in
+      let other = unstuck members set (pins c q) i here next.0 in
+      grind (arith, a, gate, reads, next.2, one, other)
 
   pub not_stuck : (s k : ℕ) (n : Name) → signal c n ≡ s → HaveLevels (pins c) (pins c s) k → ¬ IsStuck c n
   not_stuck s k n is has stuck =
@@ -189,26 +176,15 @@ module _ (c : List Statement) (once : AllPairs (λ m n. m ≢ n) (names c)) wher
         same : map level (names c) ≡ levels
         same =
             let count = length-map (names c) level in
-            same_lists _ levels (count ∙ sym are.count) (λ k d lt. grind (
-              arith,
-              lt,
-              count,
-              are.count,
-              of_name k,
-              get_or-map level (names c) k [] d,
-              get_or_default levels k 0 d,
-            ))
+            let all = λ (k : ℕ). get_or-map level (names c) k [] in
+            same_lists _ levels (count ∙ sym are.count)
+            (λ k d lt. grind (arith, count, are.count, of_name k, all k d, get_or_default levels k 0 d))
 
     pub level_order : (order starts : List ℕ) (count : ℕ) → AreRows levels count starts order → ((i : ℕ) → i < length levels → get_or levels i 0 < count) → IsLevelOrder c order
     level_order order starts count rows below = record {
-      all = λ s lt. rw rows.places_are (grind (
-        arith,
-        lt,
-        are.count,
-        below s,
-        rows.starts_count,
-        place_listed levels (length starts) s,
-      ));
+      all = λ s lt.
+          let listed = place_listed levels (length starts) s in
+          rw rows.places_are (grind (arith, are.count, below s, rows.starts_count, listed));
       count = ap length rows.places_are ∙ (rows.starts_are.all ∙ are.count);
       ordered = rw rows.places_are (λ a b d less lt.
           let sorted = rows_before levels (length starts) in

@@ -60,13 +60,9 @@ reads_on : (pins : ℕ → List ℕ) (begun g : ℕ) (path all : List ℕ) → I
     → ((s : ℕ) → Among s (g ∷ path) → Among s all) → (q : ℕ) → Among q (pins g) → Among q all
     → (m : ℕ) → Among m (g ∷ path) → (p : ℕ) × Among p (pins m) × Among p all
 reads_on pins begun g [] all is inside q reads has m a = grind (arith, a, reads, has)
-reads_on pins begun g (h ∷ path) all is inside q reads has m a = grind (
-  arith,
-  a,
-  reads,
-  has,
-  reads_on pins begun h path all is.1 (λ s b. inside s (inr b)) g is.0 (inside g (inl refl)) m,
-)
+reads_on pins begun g (h ∷ path) all is inside q reads has m a =
+    let more = reads_on pins begun h path all is.1 (λ s b. inside s (inr b)) g is.0 in
+    grind (arith, a, reads, has, more (inside g (inl refl)) m)
 
 start_on : (pins : ℕ → List ℕ) (begun start g : ℕ) (path : List ℕ) → begun ≡ start + 1
     → IsPath pins begun (g ∷ path) → Among start (g ∷ path)
@@ -89,15 +85,9 @@ module _ {pins : ℕ → List ℕ} {n begun : ℕ} {marks : List Mark} where
         → IsSearch pins n later (set marks g m) after
     marked later after g m less is stays opens path_is begins = record {
       count = length-set marks g m ∙ state.count;
-      each = λ s x e. grind (
-        arith,
-        is,
-        written marks g m s x e,
-        less,
-        begins s,
-        stays s,
-        state.each s x,
-      );
+      each = λ s x e.
+          let place = written marks g m s x e in
+          grind (arith, is, place, less, begins s, stays s, state.each s x);
       opens = λ h a. grind (arith, opens h a, state.opens h);
       path_is = path_is;
     }
@@ -205,12 +195,6 @@ settled {pins} {n} {marks} state below = record {
     at : (s : ℕ) → s < n → HaveLevels pins (pins s) (slice_index (map level_in marks) s)
     at s lt =
         let k = level_at s state lt lt in
-        grind (
-          arith,
-          lt,
-          state.count,
-          k.1,
-          state.each s (Level k.0),
-          get_or-map level_in marks s (Level 0) 0,
-          get_or_from_slice_get marks s (Level k.0) (Level 0),
-        )
+        let read = get_or_from_slice_get marks s (Level k.0) (Level 0) k.1 in
+        let all = get_or-map level_in marks s (Level 0) 0 in
+        grind (arith, lt, state.count, state.each s (Level k.0) k.1, read, all)
