@@ -178,7 +178,8 @@ module _ (c : List Statement) (once : AllPairs (λ m n. m ≢ n) (names c)) wher
             let count = length-map (names c) level in
             let all = λ (k : ℕ). get_or-map level (names c) k [] in
             same_lists _ levels (count ∙ sym are.count)
-            (λ k d lt. grind (arith, count, are.count, of_name k, all k d, get_or_default levels k 0 d))
+            (λ k d lt. let read = get_or_default levels k 0 d in
+            grind (arith, count, are.count, of_name k, all k d, read))
 
     pub level_order : (order starts : List ℕ) (count : ℕ) → AreRows levels count starts order → ((i : ℕ) → i < length levels → get_or levels i 0 < count) → IsLevelOrder c order
     level_order order starts count rows below = record {

@@ -102,7 +102,7 @@ module _ {pins : ℕ → List ℕ} {n begun : ℕ} {marks : List Mark} where
         let within = slice_get_within marks p Unknown unknown in
         let was = get_or_from_slice_get marks p Unknown Unknown unknown in
         let fewer : count_by is_unknown (set marks p Open) + 1 ≡ count_by is_unknown marks =
-        grind (arith, was, sum_by-set (λ x. cond (is_unknown x) 1 0) marks p Open Unknown within) in (
+        grind (arith, was, sum_by-set (λ x. cond (is_unknown x) 1 0) marks p Open Unknown) in (
           marked later (unpassed p ∷ path) p Open (omega (arith, fewer)) (inl refl)
               (λ s ne a. inr a)
               (λ h a. grind (arith, a, within, state.count, no_signal, room path state, fewer))
