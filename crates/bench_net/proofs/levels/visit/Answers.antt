@@ -58,7 +58,8 @@ pub returns-in-Open-clause-fault : goal.returns-in-Open-clause-fault
 returns-in-Open-clause-fault c =
     let first = stuck (goal.at.returns-in-Open-clause-fault c).In-Open in
     let within : c.args.start < length c.args.at.now = omega (arith, first.0, c.requires.at) in
-    (c.args.start, slice_get-get_or c.args.at.now c.args.start 0 within, first)
+    let read = slice_get-get_or c.args.at.now c.args.start 0 within in
+    (c.args.start, grind (arith, read), first)
 
 pub returns-in_ok-push-in-Level-clause-search : goal.returns-in_ok-push-in-Level-clause-search
 returns-in_ok-push-in-Level-clause-search c =
