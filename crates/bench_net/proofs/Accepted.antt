@@ -1,4 +1,4 @@
--- How many lines, sources and readers there are, and which signals they read.
+-- Numbered statements with levels are a circuit with its tables, and without are refused.
 use Rattle.std.proofs.Common.{◌≡◌, ◌<◌, ◌≤◌, ◌+◌, ◌^◌, ℕ, ap, List, [], ◌∷◌, ◌++◌, map, length, filter, refl, arith, inl, inr, ◌⊎◌, length-append, ◌≢◌, ◌==◌, zero, suc, sym, ◌∙◌, subst, true, drop}
 use Rattle.std.specs.Prelude.{slice_index, flat_map, IsPermutation, Some, slice_get, Contains, AllPairs, bytes_eq, Option, None, slice_index_or}
 use Rattle.std.proofs.lemmas.Grind.{common_steps}
@@ -156,12 +156,14 @@ gate_is ns whole (_ ∷ ls) (suc s) (e, are) = gate_is ns whole ls s are
 
 -- ---- sinks
 
-sinks-append : (xs ys : List Reader) (s : ℕ) → sinks_at (xs ++ ys) s ≡ sinks_at xs s ++ sinks_at ys s
+sinks-append : (xs ys : List Reader) (s : ℕ)
+    → sinks_at (xs ++ ys) s ≡ sinks_at xs s ++ sinks_at ys s
 sinks-append xs ys s = rw (filter-append _ xs ys, map-append) refl
 
 -- ---- the cells' names are defined once
 
-position_after : (before after : List Name) (q : Name) → Distinct (before ++ q ∷ after) → position_or_len (bytes_eq q) (before ++ q ∷ after) ≡ length before
+position_after : (before after : List Name) (q : Name) → Distinct (before ++ q ∷ after)
+    → position_or_len (bytes_eq q) (before ++ q ∷ after) ≡ length before
 position_after [] after q once = rw (bytes_refl q) refl
 position_after (x ∷ before) after q once =
     let differ : bytes_eq q x ≡ true → ⊥ = λ on.
@@ -175,7 +177,11 @@ qs c = map (λ cell. cell.0) (cells c)
 pub cells_once : (c : List Statement) → Distinct (names c) → Distinct (qs c)
 cells_once [] once = tt
 cells_once (Output m ∷ c) once = cells_once c once
-cells_once (Dff q d ∷ c) once = ((λ a. let at = of_cell c q a in once.0 (named c (Dff q at.0) q at.1 refl)), cells_once c once.1)
+cells_once (Dff q d ∷ c) once = (
+  (λ a. let at = of_cell c q a in
+      once.0 (named c (Dff q at.0) q at.1 refl)),
+  cells_once c once.1,
+)
 cells_once (_ ∷ c) once = cells_once c once.1
 
 module _ (whole : List Statement) (n : Name) (named : Contains (names whole) n) where
@@ -190,7 +196,8 @@ module _ (whole : List Statement) (n : Name) (named : Contains (names whole) n) 
 
   -- numbered readers of one kind
   numbered : (kind : ℕ → Sink) (k : ℕ) (xs : List Name)
-      → sinks_at (map (λ at. record { signal = at.1; sink = kind at.0 }) (enumerate_from k (map (signal whole) xs))) (signal whole n)
+      → sinks_at (map (λ at. record { signal = at.1; sink = kind at.0 })
+      (enumerate_from k (map (signal whole) xs))) (signal whole n)
       ≡ map kind (map (λ at. at.0) (filter (λ at. bytes_eq n at.1) (enumerate_from k xs)))
   numbered kind k [] = refl
   numbered kind k (x ∷ xs) = grind (arith, bytes_at x, numbered kind (k + 1) xs)
@@ -284,7 +291,8 @@ module _ (ns : List Name) (lines : List Line) (at : List ℕ) (are : AreStatemen
 
   source_in : (s : ℕ) → Among s (source_signals lines) → s < signals_in lines
   source_in s a =
-      let from = mapped_from (signal c) (sources c) s (rw (sources_are ns (signal c) lines all) at a) in
+      let from = mapped_from (signal c) (sources c) s
+      (rw (sources_are ns (signal c) lines all) at a) in
       let st = source_statement c from.0 from.1 in
       let below = signal_below c from.0 (named c st.0 from.0 st.1 st.2) in
       omega (arith, below, from.2, name_count, count)

@@ -266,7 +266,8 @@ module _ (text : List ℕ) (stated : List StatedLine) (of : AreWithin text state
     place =
         let at = slice_get-map entry_of stated i
         ∙ ap (option_map entry_of) (slice_get_read stated (length stated) i line refl h e) in
-        let p = entry_at 1 of.stated i line.number (stands_for line.statement) (rw of.same at at) in (
+        let p = entry_at 1 of.stated i line.number (stands_for line.statement)
+        (rw of.same at at) in (
           p.0,
           omega (arith, p.1),
           p.2,

@@ -30,22 +30,26 @@ of_input : (c : List Statement) (n : Name) → Among n (inputs c) → Among (Inp
 of_input [] n a = absurd a
 of_input (_ ∷ c) n a = grind (arith, a, of_input c n)
 
-pub of_cell : (c : List Statement) (n : Name) → Among n (map (λ cell. cell.0) (cells c)) → (d : Name) × Among (Dff n d) c
+pub of_cell : (c : List Statement) (n : Name) → Among n (map (λ cell. cell.0) (cells c))
+    → (d : Name) × Among (Dff n d) c
 of_cell [] n a = absurd a
 of_cell (Dff q d ∷ c) n (inl e) = (d, inl (ap (λ x. Dff x d) e))
 of_cell (Dff q d ∷ c) n (inr a) = let at = of_cell c n a in (at.0, inr at.1)
 of_cell (_ ∷ c) n a = let at = of_cell c n a in (at.0, inr at.1)
 
 pub source_statement : (c : List Statement) (n : Name) → Among n (sources c)
-    → (st : Statement) × Among st c × (defined st ≡ n ∷ []) × ((b : List Statement) → gate_line b (Some st) ≡ None)
+    → (st : Statement) × Among st c × (defined st ≡ n ∷ [])
+    × ((b : List Statement) → gate_line b (Some st) ≡ None)
 source_statement c n a =
     let cases = among_append (inputs c) (map (λ cell. cell.0) (cells c)) n a in
     grind (arith, of_input c n, of_cell c n, cases)
 
-pub named : (c : List Statement) (st : Statement) (n : Name) → Among st c → defined st ≡ n ∷ [] → Among n (names c)
+pub named : (c : List Statement) (st : Statement) (n : Name) → Among st c → defined st ≡ n ∷ []
+    → Among n (names c)
 named c st n a d = among_joined defined c st n a (rw d (inl refl))
 
-pub signal_below : (c : List Statement) (n : Name) → Among n (names c) → signal c n < length (names c)
+pub signal_below : (c : List Statement) (n : Name) → Among n (names c)
+    → signal c n < length (names c)
 signal_below c n a = slice_get_within (names c) (signal c n) n (at_position (names c) n a)
 
 defines_some : (st : Statement) (n : Name) → defined st ≡ n ∷ [] → defines st ≡ true
@@ -62,15 +66,18 @@ named_number c n s is lt =
 module _ (c : List Statement) (once : AllPairs (λ m n. m ≢ n) (names c)) where
   -- ---- the gate of a signal
 
-  defined_at : (st : Statement) (n : Name) → Among st c → defined st ≡ n ∷ [] → definition c (signal c n) ≡ Some st
+  defined_at : (st : Statement) (n : Name) → Among st c → defined st ≡ n ∷ []
+      → definition c (signal c n) ≡ Some st
   defined_at st n a d =
       let at = placed (filter defines c) st (among_filter defines c st a (defines_some st n d)) in
       let own = definition_defines c at.0 st at.1 in
       let inside = contained (names c) n (named c st n a d) in
       grind (arith, own.1, own.2, at.1, d, inside, signal-name_of c at.0 n once)
 
-  pins_at : (n : Name) (kind : Kind) (args : List Name) → Among (Gate n kind args) c → pins c (signal c n) ≡ map (signal c) args
-  pins_at n kind args a = ap (λ st. pins_in (gate_line c st)) (defined_at (Gate n kind args) n a refl)
+  pins_at : (n : Name) (kind : Kind) (args : List Name) → Among (Gate n kind args) c
+      → pins c (signal c n) ≡ map (signal c) args
+  pins_at n kind args a = ap (λ st. pins_in (gate_line c st))
+      (defined_at (Gate n kind args) n a refl)
 
   -- what the gate of a name reads is an argument of it
   argument : (m : Name) (p : ℕ) → Among p (pins c (signal c m))
@@ -108,7 +115,8 @@ module _ (c : List Statement) (once : AllPairs (λ m n. m ≢ n) (names c)) wher
           (arg.0, arg.1, member arg.0 (rw (sym arg.2) at next.2))
 
   -- no signal with a level is stuck
-  unstuck : (members : Name → Bool) → IsStuckSet c members → (ps : List ℕ) (k : ℕ) → HaveLevels (pins c) ps k → (m : Name) → Among (signal c m) ps → members m ≡ true → ⊥
+  unstuck : (members : Name → Bool) → IsStuckSet c members → (ps : List ℕ) (k : ℕ)
+      → HaveLevels (pins c) ps k → (m : Name) → Among (signal c m) ps → members m ≡ true → ⊥
   unstuck members set ps k no_signal m a inside = absurd a
   unstuck members set ps k (one_more q qs i b _ here rest is) m a inside =
       let next = set m inside in
@@ -119,13 +127,16 @@ module _ (c : List Statement) (once : AllPairs (λ m n. m ≢ n) (names c)) wher
       let other = unstuck members set (pins c q) i here next.0 in
       grind (arith, a, gate, reads, next.2, one, other)
 
-  pub not_stuck : (s k : ℕ) (n : Name) → signal c n ≡ s → HaveLevels (pins c) (pins c s) k → ¬ IsStuck c n
+  pub not_stuck : (s k : ℕ) (n : Name) → signal c n ≡ s → HaveLevels (pins c) (pins c s) k
+      → ¬ IsStuck c n
   not_stuck s k n is has stuck =
-      unstuck stuck.0 stuck.1 (s ∷ []) (max (1 + k) 0) (one_more s [] k 0 _ has no_signal refl) n (inl (sym is)) stuck.2
+      unstuck stuck.0 stuck.1 (s ∷ []) (max (1 + k) 0) (one_more s [] k 0 _ has no_signal refl) n
+      (inl (sym is)) stuck.2
 
   -- ---- levels
 
-  module _ (arities : HaveArities c) (levels : List ℕ) (are : AreLevelsOf (pins c) (length (names c)) levels) where
+  module _ (arities : HaveArities c) (levels : List ℕ)
+      (are : AreLevelsOf (pins c) (length (names c)) levels) where
     abbrev level : Name → ℕ
     level n = slice_index levels (signal c n)
 
@@ -181,7 +192,8 @@ module _ (c : List Statement) (once : AllPairs (λ m n. m ≢ n) (names c)) wher
             (λ k d lt. let read = get_or_default levels k 0 d in
             grind (arith, count, are.count, of_name k, all k d, read))
 
-    pub level_order : (order starts : List ℕ) (count : ℕ) → AreRows levels count starts order → ((i : ℕ) → i < length levels → get_or levels i 0 < count) → IsLevelOrder c order
+    pub level_order : (order starts : List ℕ) (count : ℕ) → AreRows levels count starts order
+        → ((i : ℕ) → i < length levels → get_or levels i 0 < count) → IsLevelOrder c order
     level_order order starts count rows below = record {
       all = λ s lt.
           let listed = place_listed levels (length starts) s in

@@ -45,7 +45,9 @@ definition_count lines = go 0 lines
 -- ---- places among the sources
 
 -- what stands at a place after a write
-pub written : {X : Type 0} (xs : List X) (g : ℕ) (m : X) (s : ℕ) (x : X) → slice_get (set xs g m) s ≡ Some x → ((s ≡ g) × (x ≡ m)) ⊎ ((s ≢ g) × (slice_get xs s ≡ Some x))
+pub written : {X : Type 0} (xs : List X) (g : ℕ) (m : X) (s : ℕ) (x : X)
+    → slice_get (set xs g m) s ≡ Some x
+    → ((s ≡ g) × (x ≡ m)) ⊎ ((s ≢ g) × (slice_get xs s ≡ Some x))
 written xs g m s x e =
     let within = slice_get_within (set xs g m) s x e in
     let is = get_or_from_slice_get (set xs g m) s x x e in

@@ -57,7 +57,8 @@ defined_few (Output n) = inl refl
 defined_few _ = inr (_, refl)
 
 -- a name of the list stands at its place
-pub at_position : (ns : List Name) (n : Name) → Among n ns → slice_get ns (position_or_len (bytes_eq n) ns) ≡ Some n
+pub at_position : (ns : List Name) (n : Name) → Among n ns
+    → slice_get ns (position_or_len (bytes_eq n) ns) ≡ Some n
 at_position [] n a = absurd a
 at_position (m ∷ ns) n (inl e) = rw (e, bytes_refl n) refl
 at_position (m ∷ ns) n (inr a) = elim (cases_Bool (bytes_eq n m)) [
@@ -66,22 +67,33 @@ at_position (m ∷ ns) n (inr a) = elim (cases_Bool (bytes_eq n m)) [
 ]
 
 -- the number of a defined name gives the name back
-pub name_of-signal : (c : List Statement) (n : Name) → Contains (names c) n → name_of c (signal c n) ≡ Some n
+pub name_of-signal : (c : List Statement) (n : Name) → Contains (names c) n
+    → name_of c (signal c n) ≡ Some n
 name_of-signal c n at = at_position (names c) n (among (names c) n at)
 
 -- where each name is defined once, the name of a number has that number
-pub signal-name_of : (c : List Statement) (s : ℕ) (n : Name) → AllPairs (λ m o. m ≢ o) (names c) → name_of c s ≡ Some n → Contains (names c) n → signal c n ≡ s
-signal-name_of c s n once e at = one_place_of (names c) (signal c n) s n (distinct_from_pairs (names c) once) (name_of-signal c n at) e
+pub signal-name_of : (c : List Statement) (s : ℕ) (n : Name) → AllPairs (λ m o. m ≢ o) (names c)
+    → name_of c s ≡ Some n → Contains (names c) n → signal c n ≡ s
+signal-name_of c s n once e at = one_place_of (names c) (signal c n) s n
+    (distinct_from_pairs (names c) once) (name_of-signal c n at) e
 
 -- the definition of a number is the statement that defines its name
-pub definition_defines : (c : List Statement) (s : ℕ) (st : Statement) → definition c s ≡ Some st → (n : Name) × (defined st ≡ n ∷ []) × (name_of c s ≡ Some n) × Among st c
+pub definition_defines : (c : List Statement) (s : ℕ) (st : Statement) → definition c s ≡ Some st
+    → (n : Name) × (defined st ≡ n ∷ []) × (name_of c s ≡ Some n) × Among st c
 definition_defines [] s st e = let bad : None ≡ Some st = e in cc
-definition_defines (Output m ∷ c) s st e = let p = definition_defines c s st e in (p.0, p.1, p.2, inr p.3)
-definition_defines (Input m ∷ c) zero st e = let h : Input m ≡ st = ap (λ o. unwrap_or o st) e in (m, rw (← h) refl, refl, inl h)
-definition_defines (Gate m kind args ∷ c) zero st e = let h : Gate m kind args ≡ st = ap (λ o. unwrap_or o st) e in (m, rw (← h) refl, refl, inl h)
-definition_defines (Dff q d ∷ c) zero st e = let h : Dff q d ≡ st = ap (λ o. unwrap_or o st) e in (q, rw (← h) refl, refl, inl h)
-definition_defines (_ ∷ c) (suc s) st e = let p = definition_defines c s st e in (p.0, p.1, p.2, inr p.3)
+definition_defines (Output m ∷ c) s st e = let p = definition_defines c s st e in
+    (p.0, p.1, p.2, inr p.3)
+definition_defines (Input m ∷ c) zero st e = let h : Input m ≡ st = ap (λ o. unwrap_or o st) e in
+    (m, rw (← h) refl, refl, inl h)
+definition_defines (Gate m kind args ∷ c) zero st e =
+    let h : Gate m kind args ≡ st = ap (λ o. unwrap_or o st) e in (m, rw (← h) refl, refl, inl h)
+definition_defines (Dff q d ∷ c) zero st e = let h : Dff q d ≡ st = ap (λ o. unwrap_or o st) e in
+    (q, rw (← h) refl, refl, inl h)
+definition_defines (_ ∷ c) (suc s) st e = let p = definition_defines c s st e in
+    (p.0, p.1, p.2, inr p.3)
 
 -- what a statement of a well-formed list reads is defined
-pub read_named : (c : List Statement) (st : Statement) (n : Name) → IsWellFormed c → Among st c → Among n (read st) → Contains (names c) n
-read_named c st n well a h = well.all_defined n (contained (flat_map read c) n (among_joined read c st n a h))
+pub read_named : (c : List Statement) (st : Statement) (n : Name) → IsWellFormed c → Among st c
+    → Among n (read st) → Contains (names c) n
+read_named c st n well a h = well.all_defined n
+    (contained (flat_map read c) n (among_joined read c st n a h))

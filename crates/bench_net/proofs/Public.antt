@@ -2,7 +2,6 @@
 -- Proofs of the crates above cite these alone.
 pub use Rattle.bench_net.specs.reader.Entries.{is_in}
 pub use Rattle.bench_net.proofs.Answered.{answer_text, accepted_by, refused_by}
-pub use Rattle.bench_net.proofs.Names.{bytes_refl, same_bytes}
-pub use Rattle.bench_net.proofs.Names.{at_position, definition_defines, name_of-signal, read_named, signal-name_of}
+pub use Rattle.bench_net.proofs.Names.{bytes_refl, same_bytes, at_position, definition_defines, name_of-signal, read_named, signal-name_of}
 pub use Rattle.bench_net.proofs.Reader.{complete_states}
 pub use Rattle.bench_net.proofs.Settled.{some_signal, stuck}

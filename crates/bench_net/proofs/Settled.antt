@@ -19,14 +19,17 @@ use Rattle.bench_net.proofs.Reader.{some_args}
 
 -- ---- from a numbering to no stuck set
 
-descend : (c : List Statement) (number : Name → ℕ) (members : Name → Bool) → IsNumbering c number → IsStuckSet c members → (bound : ℕ) (n : Name) → number n < bound → IsTrue (members n) → ⊥
+descend : (c : List Statement) (number : Name → ℕ) (members : Name → Bool) → IsNumbering c number
+    → IsStuckSet c members → (bound : ℕ) (n : Name) → number n < bound → IsTrue (members n) → ⊥
 descend c number members numbered stuck zero n lt inside = omega (arith, lt)
 descend c number members numbered stuck (suc bound) n lt inside =
     let (a, arg, in_a) = stuck n inside in
     descend c number members numbered stuck bound a (omega (arith, lt, numbered n a arg)) in_a
 
-pub none_stuck : (c : List Statement) (number : Name → ℕ) → IsNumbering c number → (members : Name → Bool) → IsStuckSet c members → (n : Name) → ¬ IsTrue (members n)
-none_stuck c number numbered members stuck n inside = descend c number members numbered stuck (number n + 1) n (omega arith) inside
+pub none_stuck : (c : List Statement) (number : Name → ℕ) → IsNumbering c number
+    → (members : Name → Bool) → IsStuckSet c members → (n : Name) → ¬ IsTrue (members n)
+none_stuck c number numbered members stuck n inside =
+    descend c number members numbered stuck (number n + 1) n (omega arith) inside
 
 -- ---- what is left after some rounds
 
@@ -138,7 +141,8 @@ numbering c free = (
 -- a well-formed list defines a name
 pub some_signal : (c : List Statement) → IsWellFormed c → 0 < length (names c)
 some_signal [] well = absurd (well.some refl)
-some_signal (Output n ∷ c) well = let at = well.all_defined n (contained (flat_map read (Output n ∷ c)) n (inl refl)) in omega (arith, at.1)
+some_signal (Output n ∷ c) well = let at = well.all_defined n
+    (contained (flat_map read (Output n ∷ c)) n (inl refl)) in omega (arith, at.1)
 some_signal (_ ∷ c) well = omega arith
 
 -- where there is no source, each defined name is a gate's

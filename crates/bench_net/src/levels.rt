@@ -79,7 +79,8 @@ fn visit(
         (start + 1) marks.new.items (reverse path.new.items)
         × (steps (gate_pins lines.now) marks.new.items (reverse path.new.items)
         < steps (gate_pins lines.now) marks.old.items (gate ∷ reverse path.old.items))) }
-    ensures fault { IfErr result (IsLevelFault (gate_pins lines.now) (length definitions.now) at.now) }
+    ensures fault { IfErr result
+        (IsLevelFault (gate_pins lines.now) (length definitions.now) at.now) }
 {
     let Some(signal) = pin_of(lines, definitions, gate.signal, gate.pin) else {
         marks[gate.signal as usize] = Mark::Level(gate.level);
@@ -124,7 +125,8 @@ fn settle(
     ensures search { OnOk result (IsSearch (gate_pins lines.now) (length definitions.now)
         (start + 1) marks.new.items []) }
     ensures path { OnOk result (path.new.items ≡ []) }
-    ensures fault { IfErr result (IsLevelFault (gate_pins lines.now) (length definitions.now) at.now) }
+    ensures fault { IfErr result
+        (IsLevelFault (gate_pins lines.now) (length definitions.now) at.now) }
 {
     if let Mark::Unknown = marks[start as usize] {
         marks[start as usize] = Mark::Open;
@@ -164,7 +166,8 @@ fn signal_levels(
     requires at { length at.now ≡ length definitions.now }
     ensures levels { IfOk result (λ levels. AreLevelsOf (gate_pins lines.now)
         (length definitions.now) levels.items) }
-    ensures fault { IfErr result (IsLevelFault (gate_pins lines.now) (length definitions.now) at.now) }
+    ensures fault { IfErr result
+        (IsLevelFault (gate_pins lines.now) (length definitions.now) at.now) }
 {
     let mut marks = vec![in alloc; Mark::Unknown; definitions.len()]?;
     let mut path = Vec::new(alloc);
@@ -189,7 +192,8 @@ pub fn levels_of(
     ensures order { IfOk result (λ l. (starts : List ℕ)
         × AreRows l.levels.items (l.depth + 1) starts l.order.items) }
     ensures depth { IfOk result (λ l. l.depth ≡ greatest l.levels.items) }
-    ensures fault { IfErr result (IsLevelFault (gate_pins lines.now) (length definitions.now) at.now) }
+    ensures fault { IfErr result
+        (IsLevelFault (gate_pins lines.now) (length definitions.now) at.now) }
 {
     let levels = signal_levels(alloc, lines, definitions, at)?;
     let depth = levels.iter().fold(0, |depth, level| depth.max(*level));

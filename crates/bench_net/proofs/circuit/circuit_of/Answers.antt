@@ -16,7 +16,8 @@ some read full len e = false≢true (full ∙ eq-eqb (vec_len read.lines) 0 (len
 
 pub tables_of-requires : goal.tables_of-requires
 tables_of-requires c = rw (c.deref.ensures.value, c.deref-2.ensures.value) (record {
-  lines = table_lines (ns_of c.args.lines) c.args.lines.lines.items c.args.lines.at.items c.requires;
+  lines = table_lines
+      (ns_of c.args.lines) c.args.lines.lines.items c.args.lines.at.items c.requires;
   at = c.requires.line_count
       ∙ sym (count (ns_of c.args.lines) c.args.lines.lines.items c.args.lines.at.items c.requires);
 })
