@@ -1,14 +1,14 @@
 //! A job: a circuit with its faults, its classes and its tests.
 
-ghost use Rattle.std.specs.Prelude.{◌≡◌, ◌↔◌, ◌<◌, ◌≤◌, Contains, List, ℕ, None, length, map, Err};
-ghost use Rattle.std.specs.Prelude.{IfOk, Some, slice_get};
+ghost use Rattle.std.specs.Prelude.{◌≡◌, ◌↔◌, ◌<◌, ◌≤◌, ◌*◌, Contains, List, ℕ, None, length, map};
+ghost use Rattle.std.specs.Prelude.{Err, IfErr, IfOk, IsTrue, OnOk, Some, slice_get};
 ghost use Rattle.bench_net.specs.Scan.{names, sources};
 ghost use Rattle.bench_net.specs.Circuit.{IsCircuit};
 ghost use Rattle.fault_model.specs.Fault.{faults};
 ghost use Rattle.fault_model.specs.Collapse.{representatives};
-ghost use Rattle.patterns.specs.Tests.{blocks, max_pieces};
+ghost use Rattle.patterns.specs.Tests.{IsTestList, blocks, max_pieces};
 ghost use Rattle.block_sim.specs.Job.{AreFaultFree};
-ghost use Rattle.block_sim.specs.Parts.{BelongTogether, piece_count};
+ghost use Rattle.block_sim.specs.Parts.{BelongTogether, piece_count, with_tests};
 ghost use Rattle.block_sim.specs.Stuck.{stuck_fault};
 ghost use Rattle.block_sim.specs.Words.{AreWords};
 
@@ -111,8 +111,7 @@ impl Job {
           tests = tests;
         }) }
     {
-        let pieces = u64::from(classes.count()) * u64::from(tests.blocks());
-        if pieces > u64::from(MAX_PIECES) {
+        if has_too_many_pieces(&classes, &tests) {
             return Err(JobFault::TooManyPieces);
         }
         let flat = FlatCircuit::new(alloc, circuit)?;
@@ -124,6 +123,28 @@ impl Job {
             tests,
             rows,
         })
+    }
+
+    /// Takes other tests of the same width in place of the job's. The circuit, its faults and its
+    /// classes stay, and so every workspace that fitted fits. It takes a word for each signal and
+    /// block of the new tests.
+    ///
+    /// Refused as [`Job::new`] is, and then the job is as it was.
+    pub fn set_tests(&mut self, alloc: Global, tests: Tests) -> Result<(), JobFault>
+        requires tests { IsTestList tests }
+        requires width { tests.width ≡ length (sources self.old.circuit) }
+        ensures too_many { (result ≡ Err JobFault.TooManyPieces)
+            ↔ (max_pieces < piece_count (with_tests self.old tests)) }
+        ensures job { OnOk result (self.new ≡ with_tests self.old tests) }
+        ensures kept { IfErr result (λ fault. self.new ≡ self.old) }
+    {
+        if has_too_many_pieces(&self.classes, &tests) {
+            return Err(JobFault::TooManyPieces);
+        }
+        let rows = fault_free_rows(alloc, &self.flat, &tests)?;
+        self.tests = tests;
+        self.rows = rows;
+        Ok(())
     }
 
     /// The circuit.
@@ -194,6 +215,14 @@ impl Job {
     {
         self.rows[block as usize].as_slice()
     }
+}
+
+/// Whether classes times blocks are more than [`patterns::MAX_PIECES`].
+fn has_too_many_pieces(classes: &Classes, tests: &Tests) -> bool
+    ensures { IsTrue result ↔ (max_pieces
+        < length classes.now.representative * blocks (length tests.now.tests)) }
+{
+    u64::from(classes.count()) * u64::from(tests.blocks()) > u64::from(MAX_PIECES)
 }
 
 /// The words of every block without a fault, one row a block.

@@ -95,29 +95,32 @@ fn news_of(alloc: Global, job: &Job, before: &Verdicts) -> Result<Vec<(u32, u32)
     news(alloc, job, &mut workspace, 0, before)
 }
 
-/// What three new tests of C17 add to a run before.
-fn news_of_three(alloc: Global, before: &Verdicts) -> Result<Vec<(u32, u32)>, SimFault> {
-    let job = read_job(alloc, C17, b"00000\n10101\n01010\n")?;
-    Ok(news_of(alloc, &job, before)?)
+/// What three new tests of C17 add to a run before. The job takes them in place of its own.
+fn news_of_three(
+    alloc: Global,
+    job: &mut Job,
+    before: &Verdicts,
+) -> Result<Vec<(u32, u32)>, SimFault> {
+    let tests = read_tests(alloc, b"00000\n10101\n01010\n", job.circuit().sources())?;
+    job.set_tests(alloc, tests)?;
+    Ok(news_of(alloc, job, before)?)
 }
 
-/// Checks how many classes three new tests detect that a run before did not.
-fn check_news<R: AllocGlobal + Abort>(rt: &R, before: &Verdicts) -> Result<(), SimFault> {
-    let found = news_of_three(rt.alloc(), before)?;
+/// Checks how many classes three new tests detect that the test of a job of C17 does not.
+fn check_news<R: AllocGlobal + Threads + Wait + Abort>(
+    rt: &R,
+    job: &mut Job,
+) -> Result<(), SimFault> {
+    let before = run(rt, rt.alloc(), job, 4, &OpenGate)?;
+    let found = news_of_three(rt.alloc(), job, &before)?;
     assert!(rt; found.len() == 12);
     Ok(())
 }
 
-/// The verdicts of C17 under one test.
-fn verdicts_of_one<R: AllocGlobal + Threads + Wait>(rt: &R) -> Result<Verdicts, SimFault> {
-    let job = job_of(rt.alloc(), Model::StuckAt, C17, b"11111\n")?;
-    Ok(run(rt, rt.alloc(), &job, 4, &OpenGate)?)
-}
-
 #[test]
 fn new_tests_find_more_classes(rt: HostRuntime) -> Result<(), Fail> {
-    let before = verdicts_of_one(&rt)?;
-    Ok(check_news(&rt, &before)?)
+    let mut job = job_of(rt.alloc(), Model::StuckAt, C17, b"11111\n")?;
+    Ok(check_news(&rt, &mut job)?)
 }
 
 /// How many gates are evaluated for all classes on a block.

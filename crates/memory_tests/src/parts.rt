@@ -67,15 +67,17 @@ pub(crate) enum Part {
     Classes,
     Tests,
     Whole,
+    NewTests,
 }
 
-/// The parts of a job, and a job of all.
-pub(crate) const PARTS: [Part; 5] = [
+/// The parts of a job, a job of all, and one that takes new tests.
+pub(crate) const PARTS: [Part; 6] = [
     Part::Circuit,
     Part::Faults,
     Part::Classes,
     Part::Tests,
     Part::Whole,
+    Part::NewTests,
 ];
 
 /// A part that is made, and the job that has it already.
@@ -94,6 +96,7 @@ impl Trial for Making<'_> {
             Part::Classes => "collapse",
             Part::Tests => "read_tests",
             Part::Whole => "job_of",
+            Part::NewTests => "Job::set_tests",
         }
     }
 
@@ -119,7 +122,25 @@ impl Trial for Making<'_> {
                 Ok(job) => answered(job.classes().count() == 22),
                 Err(fault) => refused(is_want(fault)),
             },
+            Part::NewTests => match job_of(alloc, Model::StuckAt, C17, b"") {
+                Ok(mut job) => try_tests(alloc, &mut job, self.tests),
+                Err(fault) => refused(is_want(fault)),
+            },
         }
+    }
+}
+
+/// Gives a job the tests of a text.
+fn take_tests(alloc: Global, job: &mut Job, text: &[u8]) -> Result<(), SimFault> {
+    let tests = read_tests(alloc, text, job.circuit().sources())?;
+    Ok(job.set_tests(alloc, tests)?)
+}
+
+/// What comes of giving a job without tests the 65 tests of a text: it has them, or none as before.
+fn try_tests(alloc: Global, job: &mut Job, text: &[u8]) -> Outcome {
+    match take_tests(alloc, job, text) {
+        Ok(()) => answered(job.tests().count() == 65),
+        Err(fault) => refused(is_want(fault) && job.tests().count() == 0),
     }
 }
 

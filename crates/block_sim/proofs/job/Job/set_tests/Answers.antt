@@ -1,0 +1,21 @@
+use Rattle.std.proofs.Common.{◌∙◌, ap, arith, length, sym}
+use Rattle.bench_net.specs.Scan.{sources}
+use Rattle.block_sim.proofs.job.Job.set_tests.Goals as goal
+
+pub invariant_of-self : goal.invariant_of-self
+invariant_of-self c =
+    let parts = c.self.invariant.together in
+    let fit = c.if-has_too_many_pieces.ensures in
+    let too_many = c.has_too_many_pieces.ensures in
+    record {
+      together = record {
+        circuit = parts.circuit;
+        list = parts.list;
+        classes = parts.classes;
+        tests = c.requires.tests;
+        width = c.requires.width ∙ ap (λ p. length (sources p.circuit)) (sym c.self.view_is);
+      };
+      few = grind (arith, fit, too_many);
+      count = c.in_ok-rows.ensures.count;
+      fault_free = c.in_ok-rows.ensures.rows;
+    }
