@@ -1,4 +1,5 @@
-//! Tests of calls for which memory or threads are refused, and of calls that go on where none is left.
+//! Tests of calls for which memory or threads are refused, and of calls that go on where none is
+//! left.
 #![tactic(auto)]
 
 #[cfg(test)]

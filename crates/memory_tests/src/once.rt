@@ -1,5 +1,5 @@
-//! Each call once. The test passes with ample memory, and also where one allocation of its process, or the
-//! start of one thread, is refused: `bench/refusals.py` runs it so, with one after another.
+//! Each call once. The test passes with ample memory, and also where one allocation of its process,
+//! or the start of one thread, is refused: `bench/refusals.py` runs it so, with one after another.
 
 use crate::parts::{C17, MEANS, Making, PARTS, Setting, c17_under, tests_of_c17};
 use crate::runs::{Scheduled, Threaded};

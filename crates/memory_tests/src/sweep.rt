@@ -43,8 +43,8 @@ pub(crate) trait Trial {
     fn attempt(&self, alloc: Global) -> Outcome;
 }
 
-/// Makes a call, and once more where it was refused. It must succeed then, since what is refused here is
-/// one allocation or the start of one thread alone.
+/// Makes a call, and once more where it was refused. It must succeed then, since what is refused
+/// here is one allocation or the start of one thread alone.
 pub(crate) fn once<T: Trial, R: Abort>(rt: &R, alloc: Global, trial: &T) {
     let mut outcome = trial.attempt(alloc);
     if outcome == Outcome::Refused {
