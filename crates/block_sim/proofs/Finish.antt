@@ -23,7 +23,7 @@ use Rattle.block_sim.specs.First.{IsOutcome}
 use Rattle.block_sim.specs.Words.{lane, lane_bits, test_of, AreWords, IsLeastLane}
 use Rattle.block_sim.specs.Stirred.{IsStirred, IsStirredBy, HasStirred}
 use Rattle.block_sim.specs.Events.{bits_of, HasEquation, Reads, IsElsewhere}
-use Rattle.block_sim.specs.Spreading.{IsSpreading, IsBalanced, IsFirstChange, AreSeen, AreShown, IsApart, HasTouched}
+use Rattle.block_sim.specs.Spreading.{IsSpreading, IsBalanced, IsFirstChange, AreSeen, AreShown, IsApart, IsClearElsewhere, HasTouched}
 use Rattle.block_sim.proofs.Lanes.{lane_xor, lane_zero, unlike}
 use Rattle.block_sim.proofs.Bridge.{lane_same}
 use Rattle.block_sim.proofs.Balanced.{balanced_solves, fault_free_holds}
@@ -111,6 +111,24 @@ module _ (c : List Statement) (tests : List Test) (block : ℕ) (f : Fault) (goo
       unseen : (k : ℕ) → k < 64 → lane mask k ≡ true → lane seen k ≡ false → (o : Sink × Name) → Contains (observers c) o → shows None (lane_bits c good k) o ≢ shows (Some f) (bits_of c good delta k) o → ⊥
       unseen k lt m none o there differ =
           let here = alike (lane (slice_index_or good (signal c o.1) 0) k) (lane (slice_index_or delta (signal c o.1) 0) k) (λ e. differ (e ∙ sym (shown k (bits_of c good delta k) o there refl))) in
+          false≢true (sym none ∙ are.shown (signal c o.1) k lt m (o, there, refl) here)
+
+  -- where all lanes are followed, each lane that is not seen is clear
+  pub whole_from : (seen : ℕ) → ((s : ℕ) → slice_index_or at s 0 ≡ 0) → ((o : Sink × Name) → Contains (observers c) o → f.line ≢ branch o.0) → AreSeen c lanes delta mask seen → mask ≡ lanes
+      → IsClearElsewhere c tests block f good lanes seen
+  whole_from seen idle off are all k lt in_lanes none =
+      (bits_of c good delta k, balanced_solves c tests block f good mask delta at k well idle h.balanced lt m, λ a. unseen a.0 a.1 a.2)
+    where
+      m : lane mask k ≡ true
+      m = ap (λ x. lane x k) all ∙ in_lanes
+
+      shown : (o : Sink × Name) → Contains (observers c) o
+          → shows (Some f) (bits_of c good delta k) o ≡ unlike (lane (slice_index_or good (signal c o.1) 0) k) (lane (slice_index_or delta (signal c o.1) 0) k)
+      shown o there = under_other f (branch o.0) (bits_of c good delta k o.1) (off o there) ∙ lane_xor (slice_index_or good (signal c o.1) 0) (slice_index_or delta (signal c o.1) 0) k
+
+      unseen : (o : Sink × Name) → Contains (observers c) o → shows None (lane_bits c good k) o ≢ shows (Some f) (bits_of c good delta k) o → ⊥
+      unseen o there differ =
+          let here = alike (lane (slice_index_or good (signal c o.1) 0) k) (lane (slice_index_or delta (signal c o.1) 0) k) (λ e. differ (e ∙ sym (shown o there))) in
           false≢true (sym none ∙ are.shown (signal c o.1) k lt m (o, there, refl) here)
 
   -- a gate that reads a signal that differs is stirred

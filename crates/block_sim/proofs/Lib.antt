@@ -30,4 +30,12 @@ mod Finish
 mod Moments
 mod Carried
 mod TrueTable
+mod OnePin
+mod Entered
+mod Flips
+mod Regions
+mod RegionLanes
+mod FlipLanes
+mod FaultLanes
+mod KnownFlips
 pub mod Public

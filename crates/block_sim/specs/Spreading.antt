@@ -88,3 +88,9 @@ pub record AreShown (c : List Statement) (tests : List Test) (block : ℕ) (f : 
       × ((v : Name → Bool) → Solves c (test_of tests block k) (Some f) v → IsApart c f good k v)
   pub clear : (k : ℕ) → k < 64 → lane lanes k ≡ true → ((j : ℕ) → j ≤ k → lane seen j ≡ false)
       → (v : Name → Bool) × Solves c (test_of tests block k) (Some f) v × (IsApart c f good k v → ⊥)
+
+-- in each lane that is asked for and is not seen some solution with the fault is not apart
+abbrev pub IsClearElsewhere : List Statement → List Test → ℕ → Fault → List ℕ → ℕ → ℕ → Type 0
+IsClearElsewhere c tests block f good lanes seen = (k : ℕ) → k < 64 → lane lanes k ≡ true
+    → lane seen k ≡ false
+    → (v : Name → Bool) × Solves c (test_of tests block k) (Some f) v × (IsApart c f good k v → ⊥)

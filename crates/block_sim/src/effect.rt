@@ -60,7 +60,7 @@ pub fn effect(view: BlockView<'_>, fault: Stuck, extent: Extent, changes: &mut C
 
 /// The lanes, of those that are asked for, in which a fault on a pin of a gate changes the gate's
 /// word.
-fn gate_change(view: BlockView<'_>, fault: Stuck, gate: u32, changes: &mut Changes) -> u64
+pub fn gate_change(view: BlockView<'_>, fault: Stuck, gate: u32, changes: &mut Changes) -> u64
     requires view { HasWords view.circuit.now view.good.now }
     requires room { HasRoomFor view.circuit.now changes.old }
     requires gate { gate < length (names view.circuit.now) }

@@ -16,7 +16,7 @@ ghost use Rattle.fault_model.specs.Solution.{Test};
 ghost use Rattle.block_sim.specs.Changes.{HasRoomFor, IsAsLarge, IsClear, IsTaken};
 ghost use Rattle.block_sim.specs.Events.{level_at, AreWoken, IsWokenAbove, IsObserved};
 ghost use Rattle.block_sim.specs.Moments.{Case, Leads, Spreads, moment, not_yet_taken};
-ghost use Rattle.block_sim.specs.Spreading.{AreShown, IsFirstChange};
+ghost use Rattle.block_sim.specs.Spreading.{AreShown, IsClearElsewhere, IsFirstChange};
 ghost use Rattle.block_sim.specs.Stirred.{AreInBlock, HasStirred};
 ghost use Rattle.block_sim.specs.Words.{lane, HasWords};
 
@@ -163,6 +163,7 @@ fn evaluate_level(
     ensures leads { Leads view.entry.circuit.now view.entry.good.now view.entry.lanes
         (moment changes.old level found.kept found.seen)
         (moment changes.new (level + 1) result.kept result.seen) }
+    ensures whole { extent ≡ Extent.WholeBlock → result.kept ≡ found.kept }
     ensures room { IsAsLarge changes.old changes.new }
 {
     let mut found = found;
@@ -194,6 +195,10 @@ pub fn spread(
     ensures shown { (tests : List Test) (block : ℕ) (f : Fault) → IsFirstChange
         view.entry.circuit.now tests block f view.entry.good.now view.entry.lanes
         changes.old.overlay start diff → AreShown
+        view.entry.circuit.now tests block f view.entry.good.now view.entry.lanes result }
+    ensures whole { extent ≡ Extent.WholeBlock → (tests : List Test) (block : ℕ) (f : Fault)
+        → IsFirstChange view.entry.circuit.now tests block f view.entry.good.now view.entry.lanes
+        changes.old.overlay start diff → IsClearElsewhere
         view.entry.circuit.now tests block f view.entry.good.now view.entry.lanes result }
     ensures counted { (tests : List Test) (block : ℕ) (f : Fault) (gates : List ℕ) → IsFirstChange
         view.entry.circuit.now tests block f view.entry.good.now view.entry.lanes

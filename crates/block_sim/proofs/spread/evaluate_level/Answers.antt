@@ -1,4 +1,4 @@
-use Rattle.std.proofs.Common.{◌∙◌, ap, length, arith}
+use Rattle.std.proofs.Common.{refl, ◌∙◌, ap, length, arith}
 use Rattle.std.specs.Prelude.{bit_or}
 use Rattle.std.proofs.lemmas.List.{length-set}
 use Rattle.block_sim.specs.Events.{level_at}
@@ -9,6 +9,7 @@ use Rattle.block_sim.proofs.spread.evaluate_level.Goals as goal
 pub loop-gate-init : goal.loop-gate-init
 loop-gate-init c = record {
   room = large_none c.args.changes.now;
+  whole = λ is. refl;
   leads = leads_none c.args.view.circuit.now c.args.view.good.now c.args.view.lanes _;
 }
 
@@ -59,6 +60,7 @@ loop-gate-preserved c =
         gates = next.gates ∙ (ap length c.in-Some.ensures.some.2 ∙ (length-set m.buckets.at c.in-Some.gate 0 ∙ last.gates));
         levels = next.levels ∙ (c.in-Some.ensures.levels ∙ last.levels);
       };
+      whole = λ is. c.followed-kept.ensures.whole is ∙ c.loop-gate.invariant.whole is;
       leads = leads_on circuit good lanes _ _ _ c.loop-gate.invariant.leads
           (leads_taken circuit good lanes m.overlay m.buckets.at c.take.new.self.at m.evaluations level kept seen c.in-Some.gate _ c.in-Some.ensures.some.2 c.in-Some.ensures.some.1
           (leads_on circuit good lanes _ _ _ (c.evaluate_waiting.ensures.leads level seen)
