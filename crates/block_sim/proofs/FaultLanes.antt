@@ -1,6 +1,6 @@
 -- The lanes in which a fault begins its way, and those in which it is detected.
 use Rattle.std.proofs.Common.{◌≡◌, ◌<◌, ℕ, refl, sym, ◌∙◌, ap, subst, Bool, true, false, not, List, map, inl}
-use Rattle.std.specs.Prelude.{◌≢◌, All, Contains, Option, Some, None, slice_index_or, bit_and, bit_xor, unwrap_or}
+use Rattle.std.specs.Prelude.{◌≢◌, All, Contains, Option, Some, None, slice_index_or, bit_xor, unwrap_or}
 use Rattle.std.specs.Bool.{Decides}
 use Rattle.std.proofs.lemmas.Bool.{false≢true}
 use Rattle.bench_net.specs.declared.Kind.{Kind}
@@ -17,7 +17,7 @@ use Rattle.fault_model.specs.Solution.{Test, Solves, Detects, value, pins_see}
 use Rattle.fault_model.specs.Detection.{HasBit, carried}
 use Rattle.fault_model.proofs.Public.{agree, carries as carries_named, detection_is_of_any_solution, has_solutions, pins_agree, under_other}
 use Rattle.event_queue.proofs.Public.{index_zero}
-use Rattle.block_sim.specs.Regions.{Alters, DetectsFlip, HasCome, TellsFlips, start_of}
+use Rattle.block_sim.specs.Regions.{Alters, DetectsFlip, HasCome, start_of}
 use Rattle.block_sim.specs.Spreading.{AreShown}
 use Rattle.block_sim.specs.Words.{lane, lane_bits, pin_bits, test_of, AreWords}
 use Rattle.block_sim.proofs.Bridge.{pins_named}
@@ -25,9 +25,7 @@ use Rattle.block_sim.proofs.Entered.{Enters, arg_named, gate_named, outside}
 use Rattle.block_sim.proofs.Equated as equated
 use Rattle.block_sim.proofs.Flips.{altered, entered_back, entered_there, not_itself, pin_enters, stem_back, stem_stuck, stem_there, turned_of}
 use Rattle.block_sim.proofs.Lanes.{lane_xor, lane_zero, unlike}
-use Rattle.block_sim.proofs.RegionLanes.{lanes_both, lanes_first}
 use Rattle.block_sim.proofs.Regions.{observer_law}
-use Rattle.block_sim.proofs.Steps.{lane_of_zero, only_lanes}
 
 pub unlike_differs : (a b x : Bool) → unlike a b ≡ x → a ≢ x → b ≡ true
 unlike_differs true true x e ne = refl
@@ -151,34 +149,10 @@ module _ (c : List Statement) (well : IsWellFormed c) (tests : List Test) (block
           named = let p = carries_named m c f well at in subst (Contains (names c)) (ap (λ o. unwrap_or o n) (sym p.1 ∙ carries)) p.2
 
   -- where nothing is shown nothing is detected
-  pub none_told : AreShown c tests block f good lanes 0 → (k : ℕ) → k < 64 → Decides (lane 0 k) ((lane lanes k ≡ true) × Detects c (test_of tests block k) f)
+  pub none_told : AreShown c tests block (λ _. f) good lanes (λ _. ⊥) 0 → (k : ℕ) → k < 64
+      → Decides (lane 0 k) ((lane lanes k ≡ true) × Detects c (test_of tests block k) f)
   none_told shown k lt = (
     λ e. absurd (false≢true (sym (lane_zero k) ∙ e)),
-    λ h. (let v = shown.clear k lt h.0 (λ j le. lane_zero j) in
+    λ h. (let v = shown.clear k lt h.0 (lane_zero k) (λ bad. bad) in
         absurd (v.2 ((detection_is_of_any_solution c well f (test_of tests block k) (lane_bits c good k) v.0 (words k lt) v.1).0 h.1))),
   )
-
--- what comes to a signal in some lanes is detected in those in which the signal turned round is
-pub behind_told : (c : List Statement) (tests : List Test) (block : ℕ) (f : Fault) (s lanes arrived seen : ℕ) → HasCome c tests block f lanes s arrived → TellsFlips c tests block (bit_and lanes arrived) s seen
-    → (k : ℕ) → k < 64 → Decides (lane (bit_and (bit_and lanes arrived) seen) k) ((lane lanes k ≡ true) × Detects c (test_of tests block k) f)
-behind_told c tests block f s lanes arrived seen come tells k lt = (there, λ h. back h.0 h.1)
-  where
-    there : lane (bit_and (bit_and lanes arrived) seen) k ≡ true → (lane lanes k ≡ true) × Detects c (test_of tests block k) f
-    there e =
-        let wanted = lanes_first (bit_and lanes arrived) seen k e in
-        let in_lanes = lanes_first lanes arrived k wanted in
-        let flip = (tells k lt wanted).0 (only_lanes (bit_and lanes arrived) seen k e) in
-        (in_lanes, (come k lt in_lanes).1 (only_lanes lanes arrived k wanted, flip))
-
-    back : lane lanes k ≡ true → Detects c (test_of tests block k) f → lane (bit_and (bit_and lanes arrived) seen) k ≡ true
-    back in_lanes d =
-        let h = (come k lt in_lanes).0 d in
-        let wanted = lanes_both lanes arrived k in_lanes h.0 in
-        lanes_both (bit_and lanes arrived) seen k wanted ((tells k lt wanted).1 h.1)
-
-pub behind_none : (c : List Statement) (tests : List Test) (block : ℕ) (f : Fault) (s lanes arrived : ℕ) → HasCome c tests block f lanes s arrived → bit_and lanes arrived ≡ 0
-    → (k : ℕ) → k < 64 → Decides (lane 0 k) ((lane lanes k ≡ true) × Detects c (test_of tests block k) f)
-behind_none c tests block f s lanes arrived come none k lt = (
-  λ e. absurd (false≢true (sym (lane_zero k) ∙ e)),
-  λ h. absurd (false≢true (sym (lane_of_zero (bit_and lanes arrived) k none) ∙ lanes_both lanes arrived k h.0 ((come k lt h.0).0 h.1).0)),
-)

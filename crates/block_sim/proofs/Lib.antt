@@ -24,8 +24,10 @@ mod Woken
 mod Flats
 mod Forms
 mod Seen
+mod Settled
 mod Deep
 mod Started
+mod Outcomes
 mod Finish
 mod Moments
 mod Carried
@@ -37,5 +39,4 @@ mod Regions
 mod RegionLanes
 mod FlipLanes
 mod FaultLanes
-mod KnownFlips
 pub mod Public

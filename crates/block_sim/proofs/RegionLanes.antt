@@ -1,5 +1,5 @@
 -- The laws of regions on words of 64 lanes.
-use Rattle.std.proofs.Common.{◌≡◌, ◌<◌, ℕ, ◌+◌, ◌*◌, ◌-◌, min, refl, sym, ◌∙◌, ap, subst, Bool, true, false, not, ◌&&◌, List, [], ◌∷◌, length, set, arith, inl, inr, eqb-true, eq-eqb}
+use Rattle.std.proofs.Common.{◌≡◌, ◌<◌, ◌≤◌, ℕ, ◌+◌, refl, sym, ◌∙◌, ap, subst, Bool, true, false, not, ◌&&◌, List, [], ◌∷◌, length, set, arith, inl, inr, eqb-true, eq-eqb}
 use Rattle.std.specs.Prelude.{◌≢◌, ◌↔◌, ◌==◌, All, Contains, Some, None, map, slice_index_or, bit_and, bit_xor, if◌then◌else◌, unwrap_or}
 use Rattle.std.specs.Bool.{Decides}
 use Rattle.std.specs.List.{enumerate_from}
@@ -14,25 +14,20 @@ use Rattle.bench_net.specs.Statement.{Name, Statement, Gate}
 use Rattle.bench_net.specs.Scan.{names, signal, definition, gate_of}
 use Rattle.bench_net.specs.Circuit.{IsWellFormed}
 use Rattle.lists.proofs.Members.{Among, among, contained}
-use Rattle.lists.proofs.Places.{place_within, within_place}
+use Rattle.lists.proofs.Places.{place_within}
 use Rattle.bench_net.proofs.Public.{name_of-signal, read_named}
 use Rattle.fault_model.specs.declared.Line.TheVariants as line
 use Rattle.fault_model.specs.Fault.{Fault}
 use Rattle.fault_model.specs.Solution.{Test, Solves, Detects, under, value}
-use Rattle.fault_model.specs.Detection.{DetectsAt}
 use Rattle.fault_model.proofs.Public.{agree, defined_among, definition-signal, signal_apart}
-use Rattle.patterns.specs.declared.Outcome.{Outcome}
-use Rattle.patterns.specs.declared.Outcome.TheVariants.{Clear, Hit}
-use Rattle.patterns.specs.Tests.{size_of}
 use Rattle.block_sim.specs.Events.{bits_of, IsObserved, Reads}
-use Rattle.block_sim.specs.First.{IsOutcome}
-use Rattle.block_sim.specs.Regions.{AreLanesFor, DetectsFlip, HasCome, IsReadBy, LanesLaw, Passes, turned_at}
-use Rattle.block_sim.specs.Words.{lane, lane_bits, overlaid, pin_bits, test_of, AreWords, IsLeastLane}
+use Rattle.block_sim.specs.Regions.{DetectsFlip, HasCome, IsReadBy, LanesLaw, Passes, turned_at}
+use Rattle.block_sim.specs.Words.{lane, lane_bits, overlaid, pin_bits, test_of, AreWords}
 use Rattle.block_sim.proofs.Bridge.{lane_same}
 use Rattle.block_sim.proofs.Entered.{free_pins, map_alike}
 use Rattle.block_sim.proofs.Equated.{gate_named}
 use Rattle.block_sim.proofs.Lanes.{lane_and, lane_xor, unlike}
-use Rattle.block_sim.proofs.Placed.{index_of}
+use Rattle.block_sim.proofs.Outcomes.{outcome_of_told}
 use Rattle.block_sim.proofs.Regions.{step_law}
 use Rattle.block_sim.proofs.Steps.{lane_of_zero, left_of, only_lanes, turned_lanes}
 
@@ -46,53 +41,30 @@ lanes_both x y k p q = lane_and x y k ∙ both_are (lane x k) (lane y k) p q
 pub lanes_first : (x y k : ℕ) → lane (bit_and x y) k ≡ true → lane x k ≡ true
 lanes_first x y k e = left_of (lane x k) (lane y k) (sym (lane_and x y k) ∙ e)
 
--- ---- the outcome, of a word that tells the lanes in which the fault is detected
-module _ (c : List Statement) (tests : List Test) (block : ℕ) (f : Fault) (lanes word : ℕ) (decides : AreLanesFor tests block c f lanes)
-    (told : (k : ℕ) → k < 64 → Decides (lane word k) ((lane lanes k ≡ true) × Detects c (test_of tests block k) f)) where
-  detected : (k : ℕ) → k < 64 → lane word k ≡ true → (k < size_of (length tests) block) × DetectsAt c tests f (64 * block + k)
-  detected k lt e =
-      let h = (told k lt).0 e in
-      let d = (decides k lt).0 h.0 in
-      let few : k < min 64 (length tests - 64 * block) = d.0 in
-      let at = within_place tests (64 * block + k) (omega (arith, few)) in
-      let same : test_of tests block k ≡ at.0 = index_of tests (64 * block + k) at.0 [] at.1 in
-      (d.0, (at.0, at.1, subst (λ t. Detects c t f) same h.1, d.1))
-
-  undetected : (k : ℕ) → k < 64 → k < size_of (length tests) block → lane word k ≡ false → DetectsAt c tests f (64 * block + k) → ⊥
-  undetected k lt few none d =
-      let same : test_of tests block k ≡ d.0 = index_of tests (64 * block + k) d.0 [] d.1 in
-      false≢true (sym none ∙ (told k lt).1 ((decides k lt).1 (few, d.3), subst (λ t. Detects c t f) (sym same) d.2))
-
-  within_word : (k : ℕ) → k < size_of (length tests) block → k < 64
-  within_word k few = let le : k < min 64 (length tests - 64 * block) = few in omega (arith, le)
-
-  pub outcome_of_told : (o : Outcome) → IsLeastLane word o → IsOutcome c tests f block o
-  outcome_of_told Clear none = λ k few d. let lt = within_word k few in undetected k lt few (none k lt) d
-  outcome_of_told (Hit k) least =
-      let found = detected k least.0 least.1 in (
-        found.0,
-        found.1,
-        λ lower lt d.
-            let few : k < min 64 (length tests - 64 * block) = found.0 in
-            undetected lower (omega (arith, lt, least.0)) (omega (arith, lt, few)) (least.2 lower lt) d,
-      )
-
 pub lanes_law : (c : List Statement) → LanesLaw c
 lanes_law c tests block f s lanes arrived seen o decides come tells least =
-    outcome_of_told c tests block f lanes (bit_and (bit_and lanes arrived) seen) decides (λ k lt. (there k lt, λ h. back k lt h.0 h.1)) o least
+    outcome_of_told c tests block f lanes (bit_and (bit_and lanes arrived) seen) decides there clear o least
   where
-    there : (k : ℕ) → k < 64 → lane (bit_and (bit_and lanes arrived) seen) k ≡ true → (lane lanes k ≡ true) × Detects c (test_of tests block k) f
+    there : (k : ℕ) → k < 64 → lane (bit_and (bit_and lanes arrived) seen) k ≡ true
+        → (lane lanes k ≡ true) × Detects c (test_of tests block k) f
     there k lt e =
         let wanted = lanes_first (bit_and lanes arrived) seen k e in
         let in_lanes = lanes_first lanes arrived k wanted in
-        let flip = (tells k lt wanted).0 (only_lanes (bit_and lanes arrived) seen k e) in
+        let flip = tells.found k lt wanted (only_lanes (bit_and lanes arrived) seen k e) in
         (in_lanes, (come k lt in_lanes).1 (only_lanes lanes arrived k wanted, flip))
 
-    back : (k : ℕ) → k < 64 → lane lanes k ≡ true → Detects c (test_of tests block k) f → lane (bit_and (bit_and lanes arrived) seen) k ≡ true
-    back k lt in_lanes d =
+    unseen : (j : ℕ) → lane (bit_and (bit_and lanes arrived) seen) j ≡ false
+        → lane (bit_and lanes arrived) j ≡ true → (b : Bool) → lane seen j ≡ b → lane seen j ≡ false
+    unseen j out own false e = e
+    unseen j out own true e = absurd (false≢true (sym out ∙ lanes_both (bit_and lanes arrived) seen j own e))
+
+    clear : (k : ℕ) → k < 64 → lane lanes k ≡ true
+        → ((j : ℕ) → j ≤ k → lane (bit_and (bit_and lanes arrived) seen) j ≡ false)
+        → Detects c (test_of tests block k) f → ⊥
+    clear k lt in_lanes none d =
         let h = (come k lt in_lanes).0 d in
-        let wanted = lanes_both lanes arrived k in_lanes h.0 in
-        lanes_both (bit_and lanes arrived) seen k wanted ((tells k lt wanted).1 h.1)
+        tells.clear k lt (lanes_both lanes arrived k in_lanes h.0)
+        (λ j le own. unseen j (none j le) own (lane seen j) refl) h.1
 
 -- ---- one step on words
 pins_plain : (c : List Statement) (good delta : List ℕ) (g k from : ℕ) (args : List Name)

@@ -1,6 +1,6 @@
 -- Regions without fan-out: signals from which one way alone leads on, and what a signal that is
 -- turned round does at their end.
-use Rattle.std.specs.Prelude.{◌≡◌, ◌≢◌, ◌↔◌, ◌==◌, ◌<◌, ◌+◌, ◌*◌, ℕ, Bool, true, not, List, length}
+use Rattle.std.specs.Prelude.{◌≡◌, ◌≢◌, ◌↔◌, ◌==◌, ◌<◌, ◌≤◌, ◌+◌, ◌*◌, ℕ, Bool, true, false, not, List, length}
 use Rattle.std.specs.Prelude.{map, bit_and, slice_index_or, Contains, Option, Some, None}
 use Rattle.std.specs.Prelude.{if◌then◌else◌}
 use Rattle.std.specs.Bool.{Decides}
@@ -21,6 +21,8 @@ use Rattle.patterns.specs.Tests.{size_of}
 use Rattle.block_sim.specs.Events.{Reads, IsObserved}
 use Rattle.block_sim.specs.First.{IsOutcome}
 use Rattle.block_sim.specs.Words.{lane, test_of, IsLeastLane}
+use Rattle.block_sim.specs.declared.region.Reach.{Reach}
+use Rattle.block_sim.specs.declared.region.Reach.TheVariants.{Observed, Stem}
 
 -- one gate alone reads the signal, by one pin or by more, and no observer does
 pub record IsReadBy (c : List Statement) (g s : ℕ) : Type 0 where
@@ -118,16 +120,15 @@ abbrev pub ObserverLaw : List Statement → Type 0
 ObserverLaw c = (m : Model) (f : Fault) (t : Test) → Contains (faults m c) f
     → start_of f.line ≡ None → Detects c t f ↔ HasBit c t f.line (not f.stuck)
 
--- in the lanes of a mask a word tells which tests detect the signal turned round
-abbrev pub TellsFlips : List Statement → List Test → ℕ → ℕ → ℕ → ℕ → Type 0
-TellsFlips c tests block mask s word = (k : ℕ) → k < 64 → lane mask k ≡ true
-    → Decides (lane word k) (DetectsFlip c (test_of tests block k) s)
-
--- for each signal, in the lanes of its first word, the second tells which tests detect the signal
--- turned round
-abbrev pub AreKnown : List Statement → List Test → ℕ → List ℕ → List ℕ → Type 0
-AreKnown c tests block known seen = (s : ℕ)
-    → TellsFlips c tests block (slice_index_or known s 0) s (slice_index_or seen s 0)
+-- Of the lanes of a mask a word tells those whose tests detect the signal turned round, each up to
+-- the least that the word names; what it says of lanes above that is true where it says yes.
+pub record TellsFirstFlips (c : List Statement) (tests : List Test) (block mask s word : ℕ) :
+    Type 0 where
+  pub found : (k : ℕ) → k < 64 → lane mask k ≡ true → lane word k ≡ true
+      → DetectsFlip c (test_of tests block k) s
+  pub clear : (k : ℕ) → k < 64 → lane mask k ≡ true
+      → ((j : ℕ) → j ≤ k → lane mask j ≡ true → lane word j ≡ false)
+      → ¬ DetectsFlip c (test_of tests block k) s
 
 -- In the lanes of a mask a fault has come to a signal: a test detects the fault exactly where the
 -- word has a 1 and the test detects the signal turned round.
@@ -147,5 +148,16 @@ AreLanesFor tests block c f lanes = (k : ℕ) → k < 64 → Decides (lane lanes
 abbrev pub LanesLaw : List Statement → Type 0
 LanesLaw c = (tests : List Test) (block : ℕ) (f : Fault) (s lanes arrived seen : ℕ) (o : Outcome)
     → AreLanesFor tests block c f lanes → HasCome c tests block f lanes s arrived
-    → TellsFlips c tests block (bit_and lanes arrived) s seen
+    → TellsFirstFlips c tests block (bit_and lanes arrived) s seen
     → IsLeastLane (bit_and (bit_and lanes arrived) seen) o → IsOutcome c tests f block o
+
+-- How far a fault was followed on a block: to an observer, in the lanes in which it is detected
+-- there; or to a signal, in the lanes in which it has come to that.
+abbrev pub IsReached : List Statement → List Test → ℕ → Fault → ℕ → Reach → Type 0
+IsReached c tests block f mask (Observed word) = (k : ℕ) → k < 64
+    → Decides (lane word k) ((lane mask k ≡ true) × Detects c (test_of tests block k) f)
+IsReached c tests block f mask (Stem at) = HasCome c tests block f mask at.signal at.lanes
+
+-- the faults that turn a signal round, each lane from the bit that the signal has there
+abbrev pub flips : List ℕ → ℕ → ℕ → Fault
+flips good s k = flip s (lane (slice_index_or good s 0) k)

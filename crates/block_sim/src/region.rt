@@ -2,22 +2,20 @@
 //! the signal before it.
 
 ghost use Rattle.std.specs.Prelude.{◌≡◌, ℕ, ◌+◌, ◌<◌, ◌≤◌, Contains, IfSome, List, None, true};
-ghost use Rattle.std.specs.Prelude.{length, slice_index_or};
-ghost use Rattle.std.specs.Bool.{Decides};
+ghost use Rattle.std.specs.Prelude.{length};
 ghost use Rattle.bench_net.specs.Scan.{names};
 ghost use Rattle.fault_model.specs.Fault.{Fault, faults};
-ghost use Rattle.fault_model.specs.Solution.{Detects, Test};
+ghost use Rattle.fault_model.specs.Solution.{Test};
 ghost use Rattle.block_sim.specs.Changes.{HasRoomFor, IsAsLarge, IsClear};
-ghost use Rattle.block_sim.specs.Regions.{AreKnown, DetectsFlip, HasCome, IsReadBy, TellsFlips};
+ghost use Rattle.block_sim.specs.Regions.{HasCome, IsReached, IsReadBy, TellsFirstFlips};
 ghost use Rattle.block_sim.specs.Stuck.{stuck_fault};
-ghost use Rattle.block_sim.specs.Words.{lane, test_of, AreWords, HasWords};
+ghost use Rattle.block_sim.specs.Words.{lane, AreWords, HasWords};
 
-use crate::block_lanes::in_each_lane;
 use crate::changes::Changes;
 use crate::effect::gate_change;
 use crate::flat::FlatCircuit;
 use crate::look_back::carried;
-use crate::spread::{Extent, spread};
+use crate::spread::{Extent, Followed, spread};
 use crate::view::BlockView;
 use crate::words::{Stuck, evaluate_gate};
 use fault_model::Line;
@@ -107,142 +105,29 @@ pub fn arrive(view: BlockView<'_>, from: Arrival, changes: &mut Changes) -> Arri
     at
 }
 
-/// The lanes, of those that are asked for and in which a signal has this bit, whose tests detect the
-/// signal turned round.
-fn flip_from(view: BlockView<'_>, signal: u32, bit: bool, changes: &mut Changes) -> u64
-    requires view { HasWords view.circuit.now view.good.now }
-    requires words { (tests : List Test) × (block : ℕ)
-        × AreWords view.circuit.now tests block None view.good.now }
-    requires room { HasRoomFor view.circuit.now changes.old }
-    requires clear { IsClear changes.old }
-    requires signal { signal < length (names view.circuit.now) }
-    ensures told { (tests : List Test) (block k : ℕ)
-        → AreWords view.entry.circuit.now tests block None view.entry.good.now → k < 64
-        → Decides (lane result k) ((lane view.entry.lanes k ≡ true)
-        × (lane (slice_index_or view.entry.good.now signal 0) k ≡ bit)
-        × DetectsFlip view.entry.circuit.now (test_of tests block k) signal) }
-    ensures grown { changes.old.evaluations ≤ changes.new.evaluations }
-    ensures room { IsAsLarge changes.old changes.new }
-    ensures clear { IsClear changes.new }
-{
-    let lanes = (in_each_lane(!bit) ^ view.good[signal as usize]) & view.lanes;
-    let view = BlockView {
-        circuit: view.circuit,
-        good: view.good,
-        lanes,
-    };
-    spread(view, Extent::WholeBlock, signal, lanes, changes)
+/// How far a fault is followed on a block before it shares its way with others.
+#[derive(Clone, Copy)]
+pub enum Reach {
+    /// To an observer, or nowhere: the lanes in which it is detected.
+    Observed(u64),
+    /// To a signal, in some lanes.
+    Stem(Arrival),
 }
 
-/// The lanes, of those that are asked for, whose tests detect a signal turned round.
-pub fn flip_observed(view: BlockView<'_>, signal: u32, changes: &mut Changes) -> u64
-    requires view { HasWords view.circuit.now view.good.now }
-    requires words { (tests : List Test) × (block : ℕ)
-        × AreWords view.circuit.now tests block None view.good.now }
-    requires room { HasRoomFor view.circuit.now changes.old }
-    requires clear { IsClear changes.old }
-    requires signal { signal < length (names view.circuit.now) }
-    ensures told { (tests : List Test) (block : ℕ)
-        → AreWords view.entry.circuit.now tests block None view.entry.good.now
-        → TellsFlips view.entry.circuit.now tests block view.entry.lanes signal result }
-    ensures grown { changes.old.evaluations ≤ changes.new.evaluations }
-    ensures room { IsAsLarge changes.old changes.new }
-    ensures clear { IsClear changes.new }
-{
-    let rises = flip_from(view, signal, false, changes);
-    let falls = flip_from(view, signal, true, changes);
-    rises | falls
-}
-
-/// The same out of two tables, which hold for each signal the lanes in which that is known and what
-/// is known there. Only the lanes that are missing are simulated.
-pub fn flip_known(
-    view: BlockView<'_>,
-    signal: u32,
-    known: &mut [u64],
-    seen: &mut [u64],
-    changes: &mut Changes,
-) -> u64
-    requires view { HasWords view.circuit.now view.good.now }
-    requires words { (tests : List Test) × (block : ℕ)
-        × AreWords view.circuit.now tests block None view.good.now }
-    requires room { HasRoomFor view.circuit.now changes.old }
-    requires clear { IsClear changes.old }
-    requires signal { signal < length (names view.circuit.now) }
-    requires known { length (names view.circuit.now) ≤ length known.old }
-    requires seen { length (names view.circuit.now) ≤ length seen.old }
-    ensures told { (tests : List Test) (block : ℕ)
-        → AreWords view.entry.circuit.now tests block None view.entry.good.now
-        → AreKnown view.entry.circuit.now tests block known.old seen.old
-        → TellsFlips view.entry.circuit.now tests block view.entry.lanes signal result }
-    ensures kept { (tests : List Test) (block : ℕ)
-        → AreWords view.entry.circuit.now tests block None view.entry.good.now
-        → AreKnown view.entry.circuit.now tests block known.old seen.old
-        → AreKnown view.entry.circuit.now tests block known.new seen.new }
-    ensures grown { changes.old.evaluations ≤ changes.new.evaluations }
-    ensures room { IsAsLarge changes.old changes.new }
-    ensures clear { IsClear changes.new }
-{
-    let had = known[signal as usize];
-    let missing = view.lanes & !had;
-    if missing == 0 {
-        return seen[signal as usize];
-    }
-    let narrowed = BlockView {
-        circuit: view.circuit,
-        good: view.good,
-        lanes: missing,
-    };
-    let word = flip_observed(narrowed, signal, changes);
-    let told = seen[signal as usize] & had | word & missing;
-    known[signal as usize] = had | missing;
-    seen[signal as usize] = told;
-    told
-}
-
-/// Of the lanes that are asked for those whose tests detect a fault that has come to a signal in
-/// some of them.
-fn behind(view: BlockView<'_>, from: Arrival, changes: &mut Changes) -> u64
-    requires view { HasWords view.circuit.now view.good.now }
-    requires words { (tests : List Test) × (block : ℕ)
-        × AreWords view.circuit.now tests block None view.good.now }
-    requires room { HasRoomFor view.circuit.now changes.old }
-    requires clear { IsClear changes.old }
-    requires signal { from.signal < length (names view.circuit.now) }
-    ensures told { (tests : List Test) (block k : ℕ) (f : Fault)
-        → AreWords view.entry.circuit.now tests block None view.entry.good.now → k < 64
-        → HasCome view.entry.circuit.now tests block f view.entry.lanes from.signal from.lanes
-        → Decides (lane result k) ((lane view.entry.lanes k ≡ true)
-        × Detects view.entry.circuit.now (test_of tests block k) f) }
-    ensures grown { changes.old.evaluations ≤ changes.new.evaluations }
-    ensures room { IsAsLarge changes.old changes.new }
-    ensures clear { IsClear changes.new }
-{
-    let at = arrive(view, from, changes);
-    let wanted = view.lanes & at.lanes;
-    if wanted == 0 {
-        return 0;
-    }
-    let narrowed = BlockView {
-        circuit: view.circuit,
-        good: view.good,
-        lanes: wanted,
-    };
-    wanted & flip_observed(narrowed, at.signal, changes)
-}
-
-/// Of the lanes that are asked for those whose tests detect a fault, by way of its region.
-pub fn detected(view: BlockView<'_>, fault: Stuck, changes: &mut Changes) -> u64
+/// Follows a fault from its line to the stem of its region: a fault on a signal from that, one on a
+/// gate's pin from the gate's signal. One on an observer's line is detected where it turns that.
+pub fn follow(view: BlockView<'_>, fault: Stuck, changes: &mut Changes) -> Reach
     requires view { HasWords view.circuit.now view.good.now }
     requires words { (tests : List Test) × (block : ℕ)
         × AreWords view.circuit.now tests block None view.good.now }
     requires listed { Contains (faults fault.model view.circuit.now) (stuck_fault fault) }
     requires room { HasRoomFor view.circuit.now changes.old }
     requires clear { IsClear changes.old }
-    ensures told { (tests : List Test) (block k : ℕ)
-        → AreWords view.entry.circuit.now tests block None view.entry.good.now → k < 64
-        → Decides (lane result k) ((lane view.entry.lanes k ≡ true)
-        × Detects view.entry.circuit.now (test_of tests block k) (stuck_fault fault)) }
+    ensures reached { (tests : List Test) (block : ℕ)
+        → AreWords view.entry.circuit.now tests block None view.entry.good.now
+        → IsReached view.entry.circuit.now tests block (stuck_fault fault) view.entry.lanes result }
+    ensures signal { (at : Arrival) → result ≡ Reach.Stem at
+        → at.signal < length (names view.entry.circuit.now) }
     ensures grown { changes.old.evaluations ≤ changes.new.evaluations }
     ensures room { IsAsLarge changes.old changes.new }
     ensures clear { IsClear changes.new }
@@ -250,28 +135,62 @@ pub fn detected(view: BlockView<'_>, fault: Stuck, changes: &mut Changes) -> u64
     let signal = carried(view.circuit, fault.line) as usize;
     let turned = (fault.word() ^ view.good[signal]) & view.lanes;
     if turned == 0 {
-        return 0;
+        return Reach::Observed(0);
     }
     match fault.line {
-        Line::Stem(start) => behind(
-            view,
-            Arrival {
+        Line::Stem(start) => {
+            let from = Arrival {
                 signal: start,
                 lanes: turned,
-            },
-            changes,
-        ),
+            };
+            Reach::Stem(arrive(view, from, changes))
+        }
         Line::Pin { gate, pin: _ } => {
             let lanes = gate_change(view, fault, gate, changes);
-            behind(
-                view,
-                Arrival {
-                    signal: gate,
-                    lanes,
-                },
-                changes,
-            )
+            let from = Arrival {
+                signal: gate,
+                lanes,
+            };
+            Reach::Stem(arrive(view, from, changes))
         }
-        Line::Data { .. } | Line::Out { .. } => turned,
+        Line::Data { .. } | Line::Out { .. } => Reach::Observed(turned),
     }
+}
+
+/// The lanes in which some of the classes that are followed came to a signal.
+fn all_lanes(followed: &[Followed]) -> u64
+    ensures { (one : Followed) (k : ℕ) → Contains followed.now one → lane one.lanes k ≡ true
+        → lane result k ≡ true }
+{
+    let mut lanes = 0;
+    for one in followed {
+        lanes |= one.lanes;
+    }
+    lanes
+}
+
+/// Turns a signal round in the lanes in which some of the classes that are followed came to it, and
+/// tells lanes in which an observer shows that: of each class up to the least.
+pub fn flip(view: BlockView<'_>, followed: &[Followed], signal: u32, changes: &mut Changes) -> u64
+    requires view { HasWords view.circuit.now view.good.now }
+    requires words { (tests : List Test) × (block : ℕ)
+        × AreWords view.circuit.now tests block None view.good.now }
+    requires room { HasRoomFor view.circuit.now changes.old }
+    requires clear { IsClear changes.old }
+    requires signal { signal < length (names view.circuit.now) }
+    ensures told { (tests : List Test) (block : ℕ)
+        → AreWords view.entry.circuit.now tests block None view.entry.good.now
+        → (one : Followed) → Contains followed.now one
+        → TellsFirstFlips view.entry.circuit.now tests block one.lanes signal result }
+    ensures grown { changes.old.evaluations ≤ changes.new.evaluations }
+    ensures room { IsAsLarge changes.old changes.new }
+    ensures clear { IsClear changes.new }
+{
+    let lanes = all_lanes(followed);
+    let view = BlockView {
+        circuit: view.circuit,
+        good: view.good,
+        lanes,
+    };
+    spread(view, Extent::FirstHits(followed), signal, lanes, changes)
 }

@@ -14,7 +14,7 @@ use Rattle.block_sim.proofs.Started.{shown_none, turned_is}
 use Rattle.block_sim.proofs.Steps.{lane_of_zero}
 use Rattle.block_sim.specs.Regions.{start_of}
 use Rattle.block_sim.proofs.FaultLanes.{none_told, observer_told, pin_come, stem_come}
-use Rattle.block_sim.proofs.region.detected.Goals as goal
+use Rattle.block_sim.proofs.region.follow.Goals as goal
 
 pub carried-signal-requires-clause-named : goal.carried-signal-requires-clause-named
 carried-signal-requires-clause-named c =
@@ -38,8 +38,8 @@ bounds-view-signal c =
     let lt = place_within (names circuit) _ n.0 (name_of-signal circuit n.0 n.2) in
     omega (arith, lt, number, c.requires.view.count)
 
-pub returns-then-turned-eq0-clause-told : goal.returns-then-turned-eq0-clause-told
-returns-then-turned-eq0-clause-told c = λ tests block k words lt.
+pub returns-then-turned-eq0-clause-reached : goal.returns-then-turned-eq0-clause-reached
+returns-then-turned-eq0-clause-reached c = λ tests block words k lt.
     let circuit = c.args.view.circuit.now in
     let well = c.requires.view.circuit.well_formed in
     let good = c.args.view.good.now in
@@ -48,11 +48,11 @@ returns-then-turned-eq0-clause-told c = λ tests block k words lt.
     let n = carries c.args.fault.model circuit fault well c.requires.listed in
     let number : c.carried-signal.result ≡ signal circuit n.0 = c.carried-signal.ensures n.0 n.1 in
     none_told circuit well tests block fault good words lanes
-    (shown_none circuit tests block fault good n.0 well words n.1 lanes (bit_and (bit_xor c.word.result (slice_index_or good c.carried-signal.result 0)) lanes)
+    (shown_none circuit tests block fault good n.0 well words n.1 (λ _. ⊥) lanes (bit_and (bit_xor c.word.result (slice_index_or good c.carried-signal.result 0)) lanes)
     (turned_is circuit fault good lanes c.carried-signal.result c.word.result n.0 number c.word.ensures) 0 (λ k lt. lane_of_zero _ k c.if-turned-eq0.true) lane_zero) k lt
 
-pub behind-requires-clause-signal : goal.behind-requires-clause-signal
-behind-requires-clause-signal c =
+pub arrive-requires-clause-signal : goal.arrive-requires-clause-signal
+arrive-requires-clause-signal c =
     let circuit = c.args.view.circuit.now in
     let well = c.requires.view.circuit.well_formed in
     let good = c.args.view.good.now in
@@ -89,8 +89,8 @@ gate_change-lanes-requires-clause-driven c =
     let low : c.in-Pin.gate < length (names circuit) = gate_within circuit c.in-Pin.gate c.in-Pin.pin n.0 reads in
     ((p.kind, map (signal circuit) p.args), gate_is)
 
-pub behind-requires-in-Pin-clause-room : goal.behind-requires-in-Pin-clause-room
-behind-requires-in-Pin-clause-room c =
+pub arrive-requires-in-Pin-clause-room : goal.arrive-requires-in-Pin-clause-room
+arrive-requires-in-Pin-clause-room c =
     let large : IsAsLarge c.args.changes.now c.gate_change-lanes.new.changes = record {
       overlay = ap length c.gate_change-lanes.ensures.overlay;
       gates = ap (λ b. length b.at) c.gate_change-lanes.ensures.buckets;
@@ -98,8 +98,8 @@ behind-requires-in-Pin-clause-room c =
     } in
     large_enough c.args.view.circuit.now c.args.changes.now c.gate_change-lanes.new.changes c.requires.room large
 
-pub behind-requires-in-Pin-clause-signal : goal.behind-requires-in-Pin-clause-signal
-behind-requires-in-Pin-clause-signal c =
+pub arrive-requires-in-Pin-clause-signal : goal.arrive-requires-in-Pin-clause-signal
+arrive-requires-in-Pin-clause-signal c =
     let circuit = c.args.view.circuit.now in
     let well = c.requires.view.circuit.well_formed in
     let good = c.args.view.good.now in
@@ -112,8 +112,8 @@ behind-requires-in-Pin-clause-signal c =
     let low : c.in-Pin.gate < length (names circuit) = gate_within circuit c.in-Pin.gate c.in-Pin.pin n.0 reads in
     low
 
-pub returns-in-Stem-clause-told : goal.returns-in-Stem-clause-told
-returns-in-Stem-clause-told c = λ tests block k words lt.
+pub returns-in-Stem-clause-reached : goal.returns-in-Stem-clause-reached
+returns-in-Stem-clause-reached c = λ tests block words.
     let circuit = c.args.view.circuit.now in
     let well = c.requires.view.circuit.well_formed in
     let good = c.args.view.good.now in
@@ -122,12 +122,12 @@ returns-in-Stem-clause-told c = λ tests block k words lt.
     let n = carries c.args.fault.model circuit fault well c.requires.listed in
     let number : c.carried-signal.result ≡ signal circuit n.0 = c.carried-signal.ensures n.0 n.1 in
     let named : name_of circuit c.in-Stem.start ≡ Some n.0 = ap (carried circuit) (sym c.in-Stem.is) ∙ n.1 in
-    c.behind.ensures.told tests block k fault words lt
+    c.arrive.ensures.come tests block fault words
     (stem_come circuit well tests block fault good words lanes c.in-Stem.start (bit_and (bit_xor c.word.result (slice_index_or good c.carried-signal.result 0)) lanes) n.0 named c.in-Stem.is
     (turned_is circuit fault good lanes c.carried-signal.result c.word.result n.0 number c.word.ensures))
 
-pub returns-in-Pin-clause-told : goal.returns-in-Pin-clause-told
-returns-in-Pin-clause-told c = λ tests block k words lt.
+pub returns-in-Pin-clause-reached : goal.returns-in-Pin-clause-reached
+returns-in-Pin-clause-reached c = λ tests block words.
     let circuit = c.args.view.circuit.now in
     let well = c.requires.view.circuit.well_formed in
     let good = c.args.view.good.now in
@@ -138,13 +138,13 @@ returns-in-Pin-clause-told c = λ tests block k words lt.
     let p = pin_of circuit c.in-Pin.gate c.in-Pin.pin n.0 reads in
     let gate_is : gate_of circuit c.in-Pin.gate ≡ Some (p.kind, map (signal circuit) p.args) = ap (gate_line circuit) p.is in
     let low : c.in-Pin.gate < length (names circuit) = gate_within circuit c.in-Pin.gate c.in-Pin.pin n.0 reads in
-    c.behind-in-Pin.ensures.told tests block k fault words lt
+    c.arrive-in-Pin.ensures.come tests block fault words
     (pin_come circuit well tests block fault good words lanes c.args.fault.model c.requires.listed c.in-Pin.gate c.in-Pin.pin c.in-Pin.is p.kind (map (signal circuit) p.args)
     c.args.changes.now.overlay c.gate_change-lanes.result gate_is c.requires.clear.words
     (λ k lt in_lanes. c.gate_change-lanes.ensures.changed p.kind (map (signal circuit) p.args) k gate_is lt in_lanes))
 
-pub returns-in-Data-clause-told : goal.returns-in-Data-clause-told
-returns-in-Data-clause-told c = λ tests block k words lt.
+pub returns-in-Data-clause-reached : goal.returns-in-Data-clause-reached
+returns-in-Data-clause-reached c = λ tests block words k lt.
     let circuit = c.args.view.circuit.now in
     let well = c.requires.view.circuit.well_formed in
     let good = c.args.view.good.now in
