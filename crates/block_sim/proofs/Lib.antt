@@ -39,4 +39,5 @@ mod Regions
 mod RegionLanes
 mod FlipLanes
 mod FaultLanes
+mod Simulated
 pub mod Public

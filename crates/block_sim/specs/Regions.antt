@@ -1,6 +1,7 @@
 -- Regions without fan-out: signals from which one way alone leads on, and what a signal that is
 -- turned round does at their end.
-use Rattle.std.specs.Prelude.{◌≡◌, ◌≢◌, ◌↔◌, ◌==◌, ◌<◌, ◌≤◌, ◌+◌, ◌*◌, ℕ, Bool, true, false, not, List, length}
+use Rattle.std.specs.Prelude.{◌≡◌, ◌≢◌, ◌↔◌, ◌==◌, ◌<◌, ◌≤◌, ◌+◌, ◌*◌, ℕ, Bool, true, false, not}
+use Rattle.std.specs.Prelude.{List, length}
 use Rattle.std.specs.Prelude.{map, bit_and, slice_index_or, Contains, Option, Some, None}
 use Rattle.std.specs.Prelude.{if◌then◌else◌}
 use Rattle.std.specs.Bool.{Decides}

@@ -35,9 +35,9 @@ pub fn one_outcome()
         → IsTrueOutcome m c tests class block second → first ≡ second }
 {}
 
-/// Faults share what lies behind the stem of a region without fan-out: a signal that one gate alone
-/// reads is detected turned round exactly where the gate passes that on and is detected turned round
-/// itself, and a fault is detected exactly where it alters its first signal and that is detected
+/// Faults share what lies behind the stem of a fan-out-free region: a signal that one gate alone
+/// reads is detected turned round exactly where the gate passes that on and is detected turned
+/// round itself, and a fault is detected exactly where it alters its first signal and that is detected
 /// turned round.
 pub fn regions()
     ensures pin { (c : List Statement) → IsWellFormed c → PinLaw c }

@@ -1,5 +1,5 @@
-//! The way of a fault through a region without fan-out: from gate to gate, each of which alone reads
-//! the signal before it.
+//! The way of a fault through its fan-out-free region: from gate to gate, each of which alone reads
+//! the signal before it, to the stem; and the stem turned round for all that came to it.
 
 ghost use Rattle.std.specs.Prelude.{◌≡◌, ℕ, ◌+◌, ◌<◌, ◌≤◌, Contains, IfSome, List, None, true};
 ghost use Rattle.std.specs.Prelude.{length};
@@ -29,7 +29,7 @@ pub struct Arrival {
 
 /// A gate that alone reads a signal, by one pin. None where several read it, or an observer.
 #[inline(always)]
-fn lone_reader(circuit: &FlatCircuit, signal: u32) -> Option<u32>
+pub fn lone_reader(circuit: &FlatCircuit, signal: u32) -> Option<u32>
     requires { signal < length (names circuit.now) }
     ensures { IfSome result (λ gate. IsReadBy circuit.now gate signal) }
 {
