@@ -19,15 +19,15 @@ use Rattle.fault_ledger.specs.Seats.{ClosedFace, Closes, Place, Sitter, HoldsAll
 use Rattle.fault_ledger.proofs.Public.{held_goes_on, claims_past, legal_claims, ClearBelow, skipped_not_first}
 use Rattle.workers.specs.Settling.{AreSettled, IsShapeOf, shape_for}
 use Rattle.fault_ledger.specs.Settled.{is_skipped}
-use Rattle.workers.specs.Work.{AreBack, IsOfHistory, ReportsTruly, Returns}
+use Rattle.workers.specs.Work.{AreBack, HasRested, IsOfHistory, IsStopped, ReportsTruly, Returns, Stops, WaitsFor}
 use Rattle.workers.proofs.Closing.{none_open, all_settled, settled_goes_on, settled_finished, finished_settled}
 use Rattle.workers.specs.Verdict.{AreFirsts, VerdictList, verdicts}
 use Rattle.lists.proofs.Places.{within_place}
 use Rattle.workers.proofs.Reports.{truly_goes_on, all_true, firsts_truly}
 
-module _ (job : Parts) (p : Place) (P : Type 0) (seats : List Sitter) (h : History) (back : AreBack job p P seats) (holds : HoldsAll h seats) where
+module _ (job : Parts) (p : Place) (P : Type 0) (S : Stops) (seats : List Sitter) (h : History) (back : AreBack job p P S seats) (holds : HoldsAll h seats) where
   -- the seat of a worker
-  seat_of : (w : ℕ) → w < p.shape.workers → (a : Sitter) × ContinuesWithout w h a.seen × Returns job p w P a
+  seat_of : (w : ℕ) → w < p.shape.workers → (a : Sitter) × ContinuesWithout w h a.seen × Returns job p w P S a
   seat_of w lt =
       let low : w < length seats = omega (arith, lt, back.count) in
       let x = within_place seats w low in
@@ -48,7 +48,7 @@ module _ (job : Parts) (p : Place) (P : Type 0) (seats : List Sitter) (h : Histo
   pub rested_settled : P → 0 < p.shape.workers → IsLegal p.shape h → AreSettled p.shape h p.shape.classes
   rested_settled sure some l = go (x.2.rested sure).over
     where
-      x : (a : Sitter) × ContinuesWithout 0 h a.seen × Returns job p 0 P a
+      x : (a : Sitter) × ContinuesWithout 0 h a.seen × Returns job p 0 P S a
       x = seat_of 0 some
 
       s : Shape
@@ -62,6 +62,29 @@ module _ (job : Parts) (p : Place) (P : Type 0) (seats : List Sitter) (h : Histo
           all_settled s h l (none_open s h l (omega arith) (free sure))
       go (inr settled) =
           settled_goes_on s 0 s.classes h x.0.seen x.1 (subst (λ (q : Place). AreSettled q.shape x.0.seen q.shape.classes) x.2.place_is settled)
+
+  -- where a class waits each worker was stopped, or all pieces are claimed
+  pub each_ended : IsLegal p.shape h → (class block : ℕ) → finish p.shape h ≡ finish_is.Waiting class block → (w : ℕ) → w < p.shape.workers
+      → IsStopped p.shape S w h ⊎ (claims h ≡ piece_count p.shape)
+  each_ended l class block waits w lt = go x.2.ended
+    where
+      x : (a : Sitter) × ContinuesWithout w h a.seen × Returns job p w P S a
+      x = seat_of w lt
+
+      over : (claims x.0.seen ≡ piece_count x.0.place.shape) ⊎ AreSettled x.0.place.shape x.0.seen x.0.place.shape.classes → IsStopped p.shape S w h ⊎ (claims h ≡ piece_count p.shape)
+      over (inl all) =
+          let same : claims x.0.seen ≡ piece_count p.shape = all ∙ ap (λ (q : Place). piece_count q.shape) x.2.place_is in
+          let more : claims x.0.seen ≤ claims h = subst (λ k. claims x.0.seen ≤ claims k) (sym x.1.1) (claims_past x.1.0 x.0.seen) in
+          let few = legal_claims p.shape h l in
+          inr (omega arith)
+      over (inr settled) =
+          let all = settled_goes_on p.shape w p.shape.classes h x.0.seen x.1 (subst (λ (q : Place). AreSettled q.shape x.0.seen q.shape.classes) x.2.place_is settled) in
+          let bad = sym waits ∙ settled_finished p.shape h all in
+          absurd (cc)
+
+      go : HasRested x.0 ⊎ IsStopped p.shape S w x.0.seen → IsStopped p.shape S w h ⊎ (claims h ≡ piece_count p.shape)
+      go (inl r) = over r.over
+      go (inr s) = inl (s.0, held_goes_on w h x.0.seen x.1 ∙ s.1, s.2)
 
 -- a class that waits, waits for one of its blocks
 waits_within : (s : Shape) (class : ℕ) (h : History) (x : ℕ) → IsLegal s h → class < s.classes → (n b : ℕ) → b + n ≡ block_count s → ClearBelow s class b h
@@ -102,7 +125,7 @@ waiting_range s h c b l e =
     let lt : c < s.classes = omega (arith, r.0) in
     (lt, waits_within s c h b l lt (block_count s) 0 (omega arith) (λ k m. absurd (omega (arith, m))) r.1)
 
-module _ (job : Parts) (workers : ℕ) (p : Place) (P : Type 0) (seats : List Sitter) (closed : ClosedFace) (is : p.shape ≡ shape_for job workers) (some : 0 < workers) (back : AreBack job p P seats)
+module _ (job : Parts) (workers : ℕ) (p : Place) (P : Type 0) (S : Stops) (seats : List Sitter) (closed : ClosedFace) (is : p.shape ≡ shape_for job workers) (some : 0 < workers) (back : AreBack job p P S seats)
     (closes : Closes p.shape seats closed) where
   same_shape : closed.shape ≡ p.shape
   same_shape = ap (λ (x : ClosedFace). x.shape) closes.3
@@ -113,18 +136,28 @@ module _ (job : Parts) (workers : ℕ) (p : Place) (P : Type 0) (seats : List Si
   among : 0 < p.shape.workers
   among = subst (λ (s : Shape). 0 < s.workers) (sym is) some
 
+  each_worker : (R : Shape → ℕ → Type 0) → ((w : ℕ) → w < p.shape.workers → R p.shape w) → (w : ℕ) → w < workers → R (shape_for job workers) w
+  each_worker R each = subst (λ (s : Shape). (w : ℕ) → w < s.workers → R s w) is each
+
   -- what a run that isn't finished names, and that its gate stopped a worker
   pub closed_waiting : (class block : ℕ) → ((h : History) → IsLegal closed.shape h → closed ≡ closed_face closed.shape h → finish_is.Waiting class block ≡ finish closed.shape h)
-      → (class < length job.classes.representative) × (block < blocks (length job.tests.tests)) × (¬ P)
+      → (class < length job.classes.representative) × (block < blocks (length job.tests.tests)) × (¬ P) × WaitsFor job workers S class block
   closed_waiting class block answers =
       let fin = asked (finish_is.Waiting class block) finish answers in
       let r = waiting_range p.shape closes.0 class block closes.1 (sym fin) in (
         subst (λ (s : Shape). class < s.classes) is r.0,
         subst (λ (s : Shape). block < block_count s) is r.1,
         λ x.
-            let done = settled_finished p.shape closes.0 (rested_settled job p P seats closes.0 back closes.2 x among closes.1) in
+            let done = settled_finished p.shape closes.0 (rested_settled job p P S seats closes.0 back closes.2 x among closes.1) in
             let bad = fin ∙ done in
             absurd (cc),
+        record {
+          history = closes.0;
+          legal = subst (λ s. IsLegal s closes.0) is closes.1;
+          truly = each_worker (λ s w. ReportsTruly job s w closes.0 []) (each_truly job p P S seats closes.0 back closes.2);
+          ended = each_worker (λ s w. IsStopped s S w closes.0 ⊎ (claims closes.0 ≡ piece_count s)) (each_ended job p P S seats closes.0 back closes.2 closes.1 class block (sym fin));
+          waiting = subst (λ s. finish s closes.0 ≡ finish_is.Waiting class block) is (sym fin);
+        },
       )
 
   -- a finished run has settled every class
@@ -142,20 +175,23 @@ module _ (job : Parts) (workers : ℕ) (p : Place) (P : Type 0) (seats : List Si
       let say = asked firsts (λ s h. verdicts s h job.classes.class_of) told in
       let own : IsShapeOf job p.shape = subst (λ s. IsShapeOf job s) (sym is) (record { classes = refl; tests = refl }) in
       subst (AreFirsts job.list.model job.circuit job.tests.tests) (sym say)
-      (firsts_truly job p.shape closes.0 b own closes.1 (all_true job p.shape closes.0 closes.1 (each_truly job p P seats closes.0 back closes.2)) (finished_settled p.shape closes.0 (sym fin)))
+      (firsts_truly job p.shape closes.0 b own closes.1 (all_true job p.shape closes.0 closes.1 (each_truly job p P S seats closes.0 back closes.2)) (finished_settled p.shape closes.0 (sym fin)))
 
   -- the closed ledger's history is one of the job's ledger
-  pub closed_history : (v : VerdictList) → ((h : History) → IsLegal closed.shape h → closed ≡ closed_face closed.shape h → v.firsts ≡ verdicts closed.shape h job.classes.class_of)
+  pub closed_history : (v : VerdictList) → ((h : History) → IsLegal closed.shape h → closed ≡ closed_face closed.shape h → finish_is.Finished ≡ finish closed.shape h)
+      → ((h : History) → IsLegal closed.shape h → closed ≡ closed_face closed.shape h → v.firsts ≡ verdicts closed.shape h job.classes.class_of)
       → ((h : History) → closed ≡ closed_face closed.shape h → v.skipped ≡ count_by is_skipped (states_of closed.shape h)) → IsOfHistory job workers v
-  closed_history v told counted = record {
+  closed_history v answers told counted = record {
     history = closes.0;
     legal = subst (λ s. IsLegal s closes.0) is closes.1;
+    finished = subst (λ s. finish s closes.0 ≡ finish_is.Finished) is (sym (asked finish_is.Finished finish answers));
+    truly = each_worker (λ s w. ReportsTruly job s w closes.0 []) (each_truly job p P S seats closes.0 back closes.2);
     firsts = asked v.firsts (λ s h. verdicts s h job.classes.class_of) told ∙ ap (λ s. verdicts s closes.0 job.classes.class_of) is;
     skipped = asked v.skipped (λ s h. count_by is_skipped (states_of s h)) (λ h l e. counted h e) ∙ ap (λ s. count_by is_skipped (states_of s closes.0)) is;
   }
 
 -- every seat came back to its ledger
-pub back_placed : (job : Parts) (p : Place) (P : Type 0) (seats : List Sitter) → AreBack job p P seats → All (λ seat. seat.place ≡ p) seats
-back_placed job p P seats back k d lt =
+pub back_placed : (job : Parts) (p : Place) (P : Type 0) (S : Stops) (seats : List Sitter) → AreBack job p P S seats → All (λ seat. seat.place ≡ p) seats
+back_placed job p P S seats back k d lt =
     let x = within_place seats k lt in
     ap (λ (a : Sitter). a.place) (get_or_from_slice_get seats k x.0 d x.1) ∙ (back.each k x.0 x.1).place_is

@@ -32,7 +32,7 @@ all_true job s (Event.Claim u ∷ h) l t = all_true job s h l.1 t
 all_true job s (Event.Drop u ∷ h) l t = all_true job s h l.1 t
 all_true job s (Event.Report u o ∷ h) l t =
     let a = report_accepted s h u o l.0 in
-    (subst (λ x. GivesTrue job s (held u x) o) (append-nil h) ((t u a.1).0 refl), all_true job s h l.1 (λ w lt. (t w lt).1))
+    (subst (λ x. GivesTrue job s (held u x) o) (append-nil h) (((t u a.1).0 refl).0), all_true job s h l.1 (λ w lt. (t w lt).1))
 
 -- a worker's reports, in a history that goes on without it
 pub truly_goes_on : (job : Parts) (s : Shape) (w : ℕ) (later earlier : History) → ContinuesWithout w later earlier → ReportsTruly job s w earlier [] → ReportsTruly job s w later []

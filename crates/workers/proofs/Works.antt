@@ -12,7 +12,7 @@ use Rattle.fault_ledger.specs.declared.Reply.TheVariants.{Claimed, Done, Refused
 use Rattle.fault_ledger.specs.declared.Refusal.{Refusal}
 use Rattle.fault_ledger.specs.declared.Refusal.TheVariants.{Holding, NothingHeld, NoEarlierHit}
 use Rattle.fault_ledger.specs.declared.Call.TheVariants as call
-use Rattle.fault_ledger.specs.History.{History, NoneOf, block_count, piece_at, piece_count, class_of, block_of, claims, held}
+use Rattle.fault_ledger.specs.History.{History, ContinuesWithout, NoneOf, block_count, piece_at, piece_count, class_of, block_of, claims, held}
 use Rattle.fault_ledger.specs.Answer.{IsLegal, fits_size, has_earlier_hit}
 use Rattle.fault_ledger.specs.Seats.{Place, Sitter, IsSitter, Sees, Makes, Stays, FindsNoHit}
 use Rattle.fault_ledger.proofs.Public.{claims_past, held_goes_on, claim_accepted, claim_answer, report_answer, at-of, block_of-below, some_class, class_of-at, block_of-at, claim_at, drop_at, held_sees, sitter_sees}
@@ -20,7 +20,7 @@ use Rattle.std.proofs.Math.Nat.{mod-lt}
 use Rattle.fault_ledger.specs.declared.Status.{Status}
 use Rattle.fault_ledger.specs.declared.Status.TheVariants as status_is
 use Rattle.workers.specs.Settling.{AreSettled, IsShapeOf}
-use Rattle.workers.specs.Work.{GivesTrue, ReportsTruly, Works}
+use Rattle.workers.specs.Work.{GivesTrue, IsStopped, ReportsTruly, Stops, WasNoDrop, Works}
 use Rattle.workers.proofs.Truth.{true_fits}
 use Rattle.workers.proofs.Closing.{settled_past}
 
@@ -37,8 +37,20 @@ pub truly_append : (job : Parts) (s : Shape) (w : ℕ) (later newer earlier : Hi
 truly_append job s w [] newer earlier t u = t
 truly_append job s w (Event.Claim v ∷ later) newer earlier t u = truly_append job s w later newer earlier t u
 truly_append job s w (Event.Report v o ∷ later) newer earlier t u =
-    ((λ e. subst (λ h. GivesTrue job s (held w h) o) (sym (append_assoc later newer earlier)) (u.0 e)), truly_append job s w later newer earlier t u.1)
+    ((λ e. subst (λ h. GivesTrue job s (held w h) o × WasNoDrop s w h) (sym (append_assoc later newer earlier)) (u.0 e)), truly_append job s w later newer earlier t u.1)
 truly_append job s w (Event.Drop v ∷ later) newer earlier t u = truly_append job s w later newer earlier t u
+
+-- no event is the worker's in two histories of which none is in either
+none_append : (w : ℕ) (later newer : History) → NoneOf w later → NoneOf w newer → NoneOf w (later ++ newer)
+none_append w [] newer m n = n
+none_append w (e ∷ later) newer m n = (m.0, none_append w later newer m.1 n)
+
+without_twice : (w : ℕ) (c b a : History) → ContinuesWithout w c b → ContinuesWithout w b a → ContinuesWithout w c a
+without_twice w c b a x y = (x.0 ++ y.0, x.1 ∙ ap (λ h. x.0 ++ h) y.1 ∙ sym (append_assoc x.0 y.0 a), none_append w x.0 y.0 x.2 y.2)
+
+-- what could not be dropped still could not, while the worker does nothing
+no_drop_later : (s : Shape) (w : ℕ) (later earlier : History) → ContinuesWithout w later earlier → WasNoDrop s w earlier → WasNoDrop s w later
+no_drop_later s w later earlier c n = (n.0, without_twice w later earlier n.0 c n.1, n.2)
 
 -- a seat that does nothing
 pub works_same : (job : Parts) (a : Sitter) → IsSitter a → Works job a a
@@ -112,11 +124,17 @@ dropped job a b r m = (
   ap (λ (x : Sitter). held x.worker x.seen) m.seat ∙ ap (λ t. cond t None (held a.worker m.before)) (eq-eqb a.worker a.worker refl),
 )
 
--- a report of the true outcome that was made
+-- a report of the true outcome that was made, of a piece that could not be dropped
 pub reported : (job : Parts) (a b : Sitter) (o : Outcome) (r : Reply) → Makes a (Event.Report a.worker o) r b → GivesTrue job a.place.shape (held a.worker a.seen) o
-    → Works job a b × (b.told ≡ a.told) × (held b.worker b.seen ≡ None)
-reported job a b o r m t = (
-  makes_works job a b (Event.Report a.worker o) r m ((λ e. subst (λ x. GivesTrue job a.place.shape x o) (sym (held_goes_on a.worker m.before a.seen m.newer)) t), tt),
+    → WasNoDrop a.place.shape a.worker a.seen → Works job a b × (b.told ≡ a.told) × (held b.worker b.seen ≡ None)
+reported job a b o r m t n = (
+  makes_works job a b (Event.Report a.worker o) r m (
+    (λ e. (
+      subst (λ x. GivesTrue job a.place.shape x o) (sym (held_goes_on a.worker m.before a.seen m.newer)) t,
+      no_drop_later a.place.shape a.worker m.before a.seen m.newer n,
+    )),
+    tt,
+  ),
   ap (λ (x : Sitter). x.told) m.seat,
   ap (λ (x : Sitter). held x.worker x.seen) m.seat ∙ ap (λ t. cond t None (held a.worker m.before)) (eq-eqb a.worker a.worker refl),
 )
@@ -166,15 +184,18 @@ module _ (job : Parts) (a b : Sitter) (p : Place) (class block : ℕ) (at : a.pl
   own_piece = subst (λ (q : Place). held a.worker a.seen ≡ Some (piece_at q.shape class block)) (sym at) holding
 
   -- a drop of a seat that holds a piece, where it was refused
-  pub missed : (r : Refusal) → ((r ≡ NothingHeld) ⊎ (r ≡ NoEarlierHit)) → (r ≡ NothingHeld → Stays a (call.Drop a.worker) (Refused r) b) → (r ≡ NoEarlierHit → FindsNoHit a b) → Sees a a.told b
+  pub missed : (r : Refusal) → ((r ≡ NothingHeld) ⊎ (r ≡ NoEarlierHit)) → (r ≡ NothingHeld → Stays a (call.Drop a.worker) (Refused r) b) → (r ≡ NoEarlierHit → FindsNoHit a b) → FindsNoHit a b
   missed r which stays finds = go which
     where
-      go : (r ≡ NothingHeld) ⊎ (r ≡ NoEarlierHit) → Sees a a.told b
+      go : (r ≡ NothingHeld) ⊎ (r ≡ NoEarlierHit) → FindsNoHit a b
       go (inl e) = absurd (holds_some a b (piece_at p.shape class block) i holding (subst (λ x. Stays a (call.Drop a.worker) (Refused x) b) e (stays e)))
-      go (inr e) = (finds e).sees
+      go (inr e) = finds e
 
   -- a report of the true outcome after it
-  module _ (d : Sitter) (o : Outcome) (sees : Sees a a.told b) (true : IsTrueOutcome job.list.model job.circuit job.tests.tests class block o) where
+  module _ (d : Sitter) (o : Outcome) (found : FindsNoHit a b) (true : IsTrueOutcome job.list.model job.circuit job.tests.tests class block o) where
+    sees : Sees a a.told b
+    sees = found.sees
+
     here : b.place ≡ a.place
     here = ap (λ (x : Sitter). x.place) sees.seat
 
@@ -184,10 +205,14 @@ module _ (job : Parts) (a b : Sitter) (p : Place) (class block : ℕ) (at : a.pl
     own_class_b : class < b.place.shape.classes
     own_class_b = subst (λ (q : Place). class < q.shape.classes) (sym here) own_class
 
+    no_drop : WasNoDrop b.place.shape b.worker b.seen
+    no_drop =
+        subst (λ (x : Sitter). WasNoDrop x.place.shape x.worker b.seen) (sym sees.seat) (found.at, found.later, found.replied)
+
     pub then_reported : (r : Reply) → Makes b (Event.Report b.worker o) r d → Works job a d
     then_reported r m =
         works_twice job a b d (sees_works job a b a.told sees)
-        (reported job b d o r m (true_of_piece job b.place.shape class block o (held b.worker b.seen) own_class_b still true)).0
+        (reported job b d o r m (true_of_piece job b.place.shape class block o (held b.worker b.seen) own_class_b still true) no_drop).0
 
     pub then_taken : (r : Refusal) → Stays b (call.Report b.worker o) (Refused r) d → ⊥
     then_taken r s =
@@ -224,6 +249,18 @@ pub then_held : (a b : Sitter) (p : Place) (class block : ℕ) → a.place ≡ p
 then_held a b p class block at m =
     let g = given a b class block m in
     subst (λ (q : Place). (held b.worker b.seen ≡ Some (piece_at q.shape class block)) × (class < q.shape.classes) × (block < block_count q.shape)) at (g.0, g.1, g.2)
+
+-- a worker that its gate stopped for a piece that it has just claimed
+pub stopped_holding : (stops : Stops) (a b : Sitter) (class block : ℕ) → Makes a (Event.Claim a.worker) (Claimed (claim_is.Piece class block)) b → stops a.worker class block
+    → IsStopped b.place.shape stops b.worker b.seen
+stopped_holding stops a b class block m s =
+    let g = given a b class block m in
+    subst (λ (x : Sitter). IsStopped x.place.shape stops x.worker b.seen) (sym m.seat) (
+      piece_at a.place.shape class block,
+      ap (λ (x : Sitter). held x.worker b.seen) (sym m.seat) ∙ g.0,
+      subst (λ k. stops a.worker k (block_of a.place.shape (piece_at a.place.shape class block))) (sym (class_of-at a.place.shape class block g.1))
+          (subst (λ k. stops a.worker class k) (sym (block_of-at a.place.shape class block g.1)) s),
+    )
 
 -- what stays settled
 pub settled_works : (job : Parts) (s : Shape) (n : ℕ) (a b : Sitter) → Works job a b → AreSettled s a.seen n → AreSettled s b.seen n

@@ -41,7 +41,8 @@ impl<G: Gate> Promise<Seat> for Kept<G> {
     ghost use Rattle.workers.specs.Work.{Returns};
 
     ghost kept_by = { λ p r.
-        Returns p.job.value p.ledger.value p.worker (G.passing p.gate.value) r };
+        Returns p.job.value p.ledger.value p.worker (G.passing p.gate.value)
+        (G.stops p.gate.value) r };
 }
 
 /// The work of one thread.
@@ -49,7 +50,8 @@ fn serve<G: Gate>(job: &Job, ledger: &SharedLedger, gate: &G, worker: Worker) ->
     requires shape { IsShapeOf job.now ledger.now.shape }
     requires new { worker.seat ≡ newcomer ledger.now worker.seat.worker }
     requires fits { HasRoom worker.workspace job.now }
-    ensures { Returns job.now ledger.now worker.seat.worker (G.passing gate.now) result }
+    ensures { Returns job.now ledger.now worker.seat.worker (G.passing gate.now)
+        (G.stops gate.now) result }
 {
     let Worker {
         mut seat,
@@ -72,7 +74,7 @@ fn in_threads<G: Gate + Sync, R: Threads + Wait>(
     requires new { map (λ w. w.seat) workers.items ≡ newcomers ledger.now }
     requires fits { All (λ w. HasRoom w.workspace job.now) workers.items }
     ensures back { IfOk result (λ seats.
-        AreBack job.now ledger.now (G.passing gate.now) seats.items) }
+        AreBack job.now ledger.now (G.passing gate.now) (G.stops gate.now) seats.items) }
     ensures refused { IfErr result (λ fault.
         (fault ≡ RunFault.Memory) ⊎ (fault ≡ RunFault.Threads)) }
 {
@@ -84,7 +86,8 @@ fn in_threads<G: Gate + Sync, R: Threads + Wait>(
             requires new { map (λ w. w.seat) workers.items ≡ newcomers ledger.now }
             requires fits { All (λ w. HasRoom w.workspace job.now) workers.items }
             ensures back { IfOk result (λ seats.
-                AreBack job.entry.now ledger.entry.now (G.passing gate.entry.now) seats.items) }
+                AreBack job.entry.now ledger.entry.now (G.passing gate.entry.now)
+                (G.stops gate.entry.now) seats.items) }
             ensures refused { IfErr result (λ fault.
                 (fault ≡ RunFault.Memory) ⊎ (fault ≡ RunFault.Threads)) }
         {
@@ -169,7 +172,8 @@ pub fn run<G: Gate + Sync, R: Threads + Wait>(
         AreFirsts job.now.list.model job.now.circuit job.now.tests.tests v.firsts) }
     ensures history { IfOk result (IsOfHistory job.now workers) }
     ensures workers { OnOk result ((0 < workers) × (workers ≤ 64)) }
-    ensures refused { IfErr result (IsRunFault job.now workers (G.passing gate.now)) }
+    ensures refused { IfErr result (IsRunFault job.now workers (G.passing gate.now)
+        (G.stops gate.now)) }
 {
     check_workers(workers)?;
     let (ledger, seats) = share_ledger(alloc, job, workers)?;

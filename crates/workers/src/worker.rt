@@ -1,6 +1,6 @@
 //! One worker.
 
-ghost use Rattle.std.specs.Prelude.{◌≡◌, ◌⊎◌, ◌<◌, ◌≤◌, ℕ, true, IsTrue, Some, None};
+ghost use Rattle.std.specs.Prelude.{◌≡◌, ◌⊎◌, ◌<◌, ◌≤◌, ℕ, true, false, IsTrue, Some, None};
 ghost use Rattle.fault_ledger.specs.History.{block_count, held, claims, piece_at, piece_count};
 ghost use Rattle.fault_ledger.specs.Seats.{IsSitter, Sees};
 ghost use Rattle.block_sim.specs.Parts.{HasRoom};
@@ -27,9 +27,13 @@ pub trait Gate {
     /// Where it holds, [`Gate::pass`] lets every piece pass.
     ghost passing: { Self → Type 0 };
 
+    /// What is so of a worker, a class and a block where [`Gate::pass`] stops the worker there.
+    ghost stops: { Self → ℕ → ℕ → ℕ → Type 0 };
+
     /// Whether the worker may go on with the piece.
     fn pass(&self, worker: u32, class: u32, block: u32) -> bool
-        ensures { passing self.now → result ≡ true };
+        ensures passing { passing self.now → result ≡ true }
+        ensures stopped { result ≡ false → stops self.now worker class block };
 }
 
 /// A gate that lets every piece pass.
@@ -38,6 +42,8 @@ pub struct OpenGate;
 
 impl Gate for OpenGate {
     ghost passing = { λ _. Unit {0} };
+
+    ghost stops = { λ _ _ _ _. ⊥ };
 
     fn pass(&self, _worker: u32, _class: u32, _block: u32) -> bool {
         true
@@ -109,7 +115,7 @@ pub fn work<G: Gate>(
     requires free { held seat.old.worker seat.old.seen ≡ None }
     requires fits { HasRoom workspace.old job.now }
     ensures works { Works job.now seat.old seat.new }
-    ensures ends { EndsAs seat.new result }
+    ensures ends { EndsAs (G.stops gate.now) seat.new result }
     ensures passing { G.passing gate.now → (result ≡ End.Exhausted) ⊎ (result ≡ End.AllSettled) }
     ensures fits { HasRoom workspace.new job.now }
 {

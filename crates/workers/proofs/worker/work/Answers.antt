@@ -2,9 +2,8 @@ use Rattle.std.proofs.Common.{◌∙◌, ap, sym, refl, subst, Ok, ◌<◌, ℕ,
 use Rattle.fault_model.specs.Collapse.{Collapsed}
 use Rattle.fault_ledger.specs.declared.Event.{Event}
 use Rattle.fault_ledger.specs.declared.Reply.TheVariants.{Claimed}
-use Rattle.fault_ledger.specs.History.{piece_at}
 use Rattle.fault_ledger.specs.Seats.{Makes, Place}
-use Rattle.workers.proofs.Works.{claimed, exhausted, fewer, then_held, works_twice, settled_works, sees_works}
+use Rattle.workers.proofs.Works.{claimed, exhausted, fewer, stopped_holding, works_twice, settled_works, sees_works}
 use Rattle.fault_ledger.proofs.Public.{held_sees, sees_kept}
 use Rattle.fault_ledger.specs.Settled.{IsSettledAt}
 use Rattle.workers.proofs.worker.work.Goals as goal
@@ -18,8 +17,8 @@ pub returns-then-not-pass-clause-ends : goal.returns-then-not-pass-clause-ends
 returns-then-not-pass-clause-ends g c =
     let m = c.in-Ok-Piece.ensures.piece c.in-Ok-Piece.class c.in-Ok-Piece.block (ap Ok c.in-Ok-Piece.field-0-is) in
     let n = subst (λ x. Makes c.claims.seat (Event.Claim c.claims.seat.worker) (Claimed x) c.claim.new.seat) c.in-Ok-Piece.field-0-is m.1 in
-    let h = then_held c.claims.seat c.claim.new.seat c.claims.seat.place c.in-Ok-Piece.class c.in-Ok-Piece.block refl n in
-    (piece_at c.claims.seat.place.shape c.in-Ok-Piece.class c.in-Ok-Piece.block, h.0)
+    stopped_holding (g.G.Gate.stops c.args.gate.now) c.claims.seat c.claim.new.seat c.in-Ok-Piece.class c.in-Ok-Piece.block n
+    (subst (λ w. g.G.Gate.stops c.args.gate.now w c.in-Ok-Piece.class c.in-Ok-Piece.block) c.worker-worker.ensures.worker (c.pass.ensures.stopped c.if-not-pass.true))
 
 pub lowest_waiting-lowest-requires-clause-settled : goal.lowest_waiting-lowest-requires-clause-settled
 lowest_waiting-lowest-requires-clause-settled g c =

@@ -83,11 +83,13 @@ returns g c =
             let k = (c.in_ok-back.ensures.each w seat low).1 in
             let i = was.each w k.handle low in
             returns_along k.handle.promise.job.value c.captures.job.now k.handle.promise.ledger.value c.captures.ledger.now k.handle.promise.worker w
-            (g.G.Gate.passing k.handle.promise.gate.value) (g.G.Gate.passing c.captures.gate.now) (get_or c.in_ok-back.back.items w seat) seat
+            (g.G.Gate.passing k.handle.promise.gate.value) (g.G.Gate.passing c.captures.gate.now)
+            (g.G.Gate.stops k.handle.promise.gate.value) (g.G.Gate.stops c.captures.gate.now) (get_or c.in_ok-back.back.items w seat) seat
             (ap (λ x. x.promise.job.value) k.handle_is ∙ i.0)
             (ap (λ x. x.promise.ledger.value) k.handle_is ∙ i.1)
             (ap (λ x. x.promise.worker) k.handle_is ∙ i.3)
             (λ p. subst (λ x. g.G.Gate.passing x) (sym (ap (λ x. x.promise.gate.value) k.handle_is ∙ i.2)) p)
+            (λ u class block s. subst (λ x. g.G.Gate.stops x u class block) (ap (λ x. x.promise.gate.value) k.handle_is ∙ i.2) s)
             (get_or_from_slice_get c.in_ok-back.back.items w seat seat e)
             k.kept;
       };
