@@ -1,4 +1,4 @@
-use Rattle.std.proofs.Common.{◌∙◌, ap, sym, refl, subst, Ok, ◌<◌, ℕ, Option, arith, length}
+use Rattle.std.proofs.Common.{◌∙◌, ap, sym, subst, Ok, ◌<◌, ℕ, Option, arith, length}
 use Rattle.fault_model.specs.Collapse.{Collapsed}
 use Rattle.fault_ledger.specs.declared.Event.{Event}
 use Rattle.fault_ledger.specs.declared.Reply.TheVariants.{Claimed}
