@@ -4,9 +4,11 @@ ghost use Rattle.std.specs.Prelude.{◌≡◌, ◌⊎◌, ◌<◌, ◌≤◌, �
 ghost use Rattle.fault_ledger.specs.History.{block_count, held, claims, piece_at, piece_count};
 ghost use Rattle.fault_ledger.specs.Seats.{IsSitter, Sees};
 ghost use Rattle.block_sim.specs.Parts.{HasRoom};
-ghost use Rattle.workers.specs.Settling.{AreSettled, IsShapeOf};
-ghost use Rattle.workers.specs.Work.{EndsAs, Works};
+ghost use Rattle.workers.specs.Chosen.{AreChosenOf};
+ghost use Rattle.workers.specs.Settling.{AreSettled, IsShapeOf, IsShapeOver};
+ghost use Rattle.workers.specs.Work.{EndsAs, Works, WorksOver, stops_over};
 
+use crate::chosen::Chosen;
 use crate::pace::Pace;
 use block_sim::{Job, Workspace, first_hit};
 use fault_ledger::{Claim, Seat, SharedLedger, Status};
@@ -51,22 +53,24 @@ impl Gate for OpenGate {
 }
 
 /// Drops the piece that the seat holds, or simulates it and reports.
-fn finish_piece(
+fn finish_piece<C: Chosen>(
     job: &Job,
+    classes: &C,
     ledger: &SharedLedger,
     workspace: &mut Workspace,
     seat: &mut Seat,
     class: u32,
     block: u32,
 ) -> bool
-    requires shape { IsShapeOf job.now ledger.now.shape }
+    requires chosen { AreChosenOf job.now (C.chosen classes.now) }
+    requires shape { IsShapeOver job.now (C.chosen classes.now) ledger.now.shape }
     requires place { seat.old.place ≡ ledger.now }
     requires piece { held seat.old.worker seat.old.seen
         ≡ Some (piece_at ledger.now.shape class block) }
     requires sitter { IsSitter seat.old }
     requires range { (class < ledger.now.shape.classes) × (block < block_count ledger.now.shape) }
     requires fits { HasRoom workspace.old job.now }
-    ensures works { Works job.now seat.old seat.new }
+    ensures works { WorksOver job.now (C.chosen classes.now) seat.old seat.new }
     ensures told { seat.new.told ≡ seat.old.told }
     ensures free { held seat.new.worker seat.new.seen ≡ None }
     ensures fits { HasRoom workspace.new job.now }
@@ -75,7 +79,7 @@ fn finish_piece(
         Ok(()) => return false,
         Err(_) => {}
     }
-    let outcome = first_hit(job, workspace, class, block);
+    let outcome = first_hit(job, workspace, classes.class_at(class), block);
     let Ok(()) = ledger.report(seat, outcome) else {
         unreachable!()
     };
@@ -119,19 +123,41 @@ pub fn work<G: Gate>(
     ensures passing { G.passing gate.now → (result ≡ End.Exhausted) ⊎ (result ≡ End.AllSettled) }
     ensures fits { HasRoom workspace.new job.now }
 {
+    work_over(job, job.classes(), ledger, workspace, seat, gate)
+}
+
+/// The work of [`work`] at a ledger of chosen classes.
+pub(crate) fn work_over<G: Gate, C: Chosen>(
+    job: &Job,
+    chosen: &C,
+    ledger: &SharedLedger,
+    workspace: &mut Workspace,
+    seat: &mut Seat,
+    gate: &G,
+) -> End
+    requires chosen { AreChosenOf job.now (C.chosen chosen.now) }
+    requires shape { IsShapeOver job.now (C.chosen chosen.now) ledger.now.shape }
+    requires place { seat.old.place ≡ ledger.now }
+    requires free { held seat.old.worker seat.old.seen ≡ None }
+    requires fits { HasRoom workspace.old job.now }
+    ensures works { WorksOver job.now (C.chosen chosen.now) seat.old seat.new }
+    ensures ends { EndsAs (stops_over (C.chosen chosen.now) (G.stops gate.now)) seat.new result }
+    ensures passing { G.passing gate.now → (result ≡ End.Exhausted) ⊎ (result ≡ End.AllSettled) }
+    ensures fits { HasRoom workspace.new job.now }
+{
     let _sitter = seat.worker();
-    let classes = job.classes().count();
+    let classes = chosen.count();
     let mut lowest = 0;
     let mut pace = Pace::of(seat.worker(), classes, workspace.gate_evaluations());
     'claims: loop {
         let worker = seat.worker();
         match ledger.claim(seat) {
             Ok(Claim::Piece { class, block }) => {
-                if !gate.pass(worker, class, block) {
+                if !gate.pass(worker, chosen.class_at(class), block) {
                     return End::Stopped;
                 }
                 let _sitter = seat.worker();
-                let reported = finish_piece(job, ledger, workspace, seat, class, block);
+                let reported = finish_piece(job, chosen, ledger, workspace, seat, class, block);
                 pace.after_piece(class, block, workspace.gate_evaluations());
                 if reported {
                     let _sitter = seat.worker();
