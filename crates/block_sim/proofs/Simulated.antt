@@ -1,7 +1,7 @@
 -- Outcomes that are kept, and classes that are followed to one stem.
-use Rattle.std.proofs.Common.{◌≡◌, ◌≢◌, ◌<◌, ◌≤◌, ℕ, sym, ◌∙◌, ap, subst, List, [], ◌∷◌, ◌++◌, length, set}
+use Rattle.std.proofs.Common.{◌≡◌, ◌≢◌, ◌+◌, ◌<◌, ◌≤◌, ℕ, sym, ◌∙◌, ap, subst, List, [], ◌∷◌, ◌++◌, length, set}
 use Rattle.std.proofs.Common.{inl, inr, ◌⊎◌, arith}
-use Rattle.std.specs.Prelude.{Contains, Option, Some, None, bit_and, slice_index_or, unwrap_or}
+use Rattle.std.specs.Prelude.{Contains, Some, None, bit_and, slice_index_or, unwrap_or}
 use Rattle.std.proofs.lemmas.Bool.{cases_eq}
 use Rattle.std.proofs.lemmas.List.{get_or-set_same, get_or-set_other, length-set}
 use Rattle.lists.proofs.Members.{Among, among, among_append, contained}
@@ -17,12 +17,13 @@ use Rattle.fault_model.specs.Detection.{carried}
 use Rattle.fault_model.proofs.Public.{carries}
 use Rattle.patterns.specs.declared.Outcome.{Outcome}
 use Rattle.block_sim.specs.declared.simulation.Memo.{Memo}
+use Rattle.block_sim.specs.declared.simulation.Memo.TheVariants.{Nothing}
 use Rattle.block_sim.specs.declared.spread.Followed.{Followed}
 use Rattle.block_sim.specs.declared.changes.Changes.{Changes}
-use Rattle.block_sim.specs.Changes.{HasRoomFor, IsAtRest}
+use Rattle.block_sim.specs.Changes.{HasRoomFor, IsAsLarge, IsAtRest, IsClear}
 use Rattle.block_sim.specs.Parts.{Parts}
 use Rattle.block_sim.specs.Regions.{TellsFirstFlips, start_of}
-use Rattle.block_sim.specs.Simulation.{AreFollowed, AreTrueMemos, HasArrived, IsOutcomeIn}
+use Rattle.block_sim.specs.Simulation.{AreFollowed, AreTrueMemos, HasArrived, IsOutcomeIn, IsSimulation, IsTrueMemo}
 use Rattle.block_sim.specs.Words.{IsLeastLane}
 use Rattle.block_sim.proofs.Carried.{gate_within}
 use Rattle.block_sim.proofs.Deep.{level_within}
@@ -41,25 +42,18 @@ arrived_outcome job block stem class word seen o a told least = (
       (subst (λ w. IsLeastLane (bit_and w seen) o) a.6 least),
 )
 
--- one outcome more is kept
-pub memo_kept : (job : Parts) (memos : List (Option Memo)) (class : ℕ) (memo : Memo)
-    → AreTrueMemos job memos → class < length memos → IsOutcomeIn job class memo.block memo.outcome
-    → AreTrueMemos job (set memos class (Some memo))
+-- one memo more
+pub memo_kept : (job : Parts) (memos : List Memo) (class : ℕ) (memo : Memo) → AreTrueMemos job memos
+    → class < length memos → IsTrueMemo job class memo → AreTrueMemos job (set memos class memo)
 memo_kept job memos class memo before within is = record {
-  count = length-set memos class (Some memo) ∙ before.count;
-  each = λ x m at. go x m at (cases_eq x class);
+  count = length-set memos class memo ∙ before.count;
+  each = λ x. go x (cases_eq x class);
 }
   where
-    go : (x : ℕ) (m : Memo) → slice_index_or (set memos class (Some memo)) x None ≡ Some m
-        → (x ≡ class) ⊎ (x ≢ class) → IsOutcomeIn job x m.block m.outcome
-    go x m at (inl same) =
-        let own : Some memo ≡ Some m =
-        sym (get_or-set_same memos class (Some memo) None within)
-        ∙ (ap (λ y. slice_index_or (set memos class (Some memo)) y None) (sym same) ∙ at) in
-        let one : memo ≡ m = ap (λ (o : Option Memo). unwrap_or o memo) own in
-        subst (λ y. IsOutcomeIn job y m.block m.outcome) (sym same)
-        (subst (λ (y : Memo). IsOutcomeIn job class y.block y.outcome) one is)
-    go x m at (inr other) = before.each x m (sym (get_or-set_other memos class x (Some memo) None other) ∙ at)
+    go : (x : ℕ) → (x ≡ class) ⊎ (x ≢ class) → IsTrueMemo job x (slice_index_or (set memos class memo) x Nothing)
+    go x (inl same) = subst (λ y. IsTrueMemo job y (slice_index_or (set memos class memo) y Nothing)) (sym same)
+        (subst (IsTrueMemo job class) (sym (get_or-set_same memos class memo Nothing within)) is)
+    go x (inr other) = subst (IsTrueMemo job x) (sym (get_or-set_other memos class x memo Nothing other)) (before.each x)
 
 -- one class more is followed
 pub followed_more : (job : Parts) (block stem : ℕ) (followed : List Followed) (one : Followed)
@@ -99,4 +93,20 @@ room_at_rest job changes well rest room = record {
   overlay = room;
   gates = (let same = rest.gates in omega (arith, same, room));
   levels = λ g k h. (let le = level_within job.circuit g k well h in let same = rest.levels in omega (arith, le, same, room));
+}
+
+-- a simulation after a call: as much room, nothing that waits, and memos that are true
+pub simulation_with : (job : Parts) (before after : Changes) (memos kept : List Memo) (capacity : ℕ)
+    → IsSimulation job before memos capacity → IsAsLarge before after → IsClear after → AreTrueMemos job kept
+    → IsSimulation job after kept capacity
+simulation_with job before after memos kept capacity h large clear outcomes = record {
+  together = h.together;
+  rest = record {
+    clear = clear;
+    gates = large.gates ∙ (h.rest.gates ∙ sym large.overlay);
+    levels = large.levels ∙ (h.rest.levels ∙ ap (λ n. n + 1) (sym large.overlay));
+  };
+  room = (let le = h.room in let same = large.overlay in omega (arith, le, same));
+  outcomes = outcomes;
+  followed = h.followed;
 }

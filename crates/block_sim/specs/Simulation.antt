@@ -1,14 +1,17 @@
 -- What a simulation of a job keeps: outcomes that are true, and classes that came to a stem.
-use Rattle.std.specs.Prelude.{◌≡◌, ℕ, ◌<◌, ◌≤◌, List, Contains, Option, Some, None, length}
+use Rattle.std.specs.Prelude.{◌≡◌, ℕ, ◌<◌, ◌≤◌, List, Contains, Some, length}
 use Rattle.std.specs.Prelude.{slice_get, slice_index_or, bit_and}
 use Rattle.bench_net.specs.Scan.{names}
 use Rattle.fault_model.specs.Fault.{Fault}
 use Rattle.fault_model.specs.Collapse.{representatives}
 use Rattle.patterns.specs.declared.Outcome.{Outcome}
+use Rattle.patterns.specs.declared.Outcome.TheVariants as outcome
 use Rattle.block_sim.specs.declared.changes.Changes.{Changes}
 use Rattle.block_sim.specs.declared.simulation.Approach.{Approach}
 use Rattle.block_sim.specs.declared.simulation.Approach.TheVariants.{Known, Stem}
 use Rattle.block_sim.specs.declared.simulation.Memo.{Memo}
+use Rattle.block_sim.specs.declared.simulation.Memo.TheVariants.{Nothing}
+use Rattle.block_sim.specs.declared.simulation.Memo.TheVariants as memo
 use Rattle.block_sim.specs.declared.spread.Followed.{Followed}
 use Rattle.block_sim.specs.Changes.{IsAtRest}
 use Rattle.block_sim.specs.First.{IsTrueOutcome}
@@ -25,11 +28,16 @@ abbrev pub IsOutcomeIn : Parts → ℕ → ℕ → Outcome → Type 0
 IsOutcomeIn job class block outcome =
     IsTrueOutcome job.list.model job.circuit job.tests.tests class block outcome
 
--- each outcome that is kept is the true one of its class on its block
-pub record AreTrueMemos (job : Parts) (memos : List (Option Memo)) : Type 0 where
+-- what is known of a class is true
+abbrev pub IsTrueMemo : Parts → ℕ → Memo → Type 0
+IsTrueMemo job class Nothing = Unit {0}
+IsTrueMemo job class (memo.Clear block) = IsOutcomeIn job class block outcome.Clear
+IsTrueMemo job class (memo.Hit block test) = IsOutcomeIn job class block (outcome.Hit test)
+
+-- there is a memo for each class, and each is true
+pub record AreTrueMemos (job : Parts) (memos : List Memo) : Type 0 where
   pub count : length memos ≡ length job.classes.representative
-  pub each : (class : ℕ) (memo : Memo) → slice_index_or memos class None ≡ Some memo
-      → IsOutcomeIn job class memo.block memo.outcome
+  pub each : (class : ℕ) → IsTrueMemo job class (slice_index_or memos class Nothing)
 
 -- In these lanes of a block a class came to a signal: they are those of the block's tests that look
 -- back as its representative asks and in which that came there.
@@ -54,7 +62,7 @@ IsApproach job class block (Stem at) =
     (at.signal < length (names job.circuit)) × HasArrived job block at.signal class at.lanes
 
 -- what is true of a simulation between two calls; it can follow all classes of the job at once
-pub record IsSimulation (job : Parts) (changes : Changes) (memos : List (Option Memo))
+pub record IsSimulation (job : Parts) (changes : Changes) (memos : List Memo)
     (capacity : ℕ) : Type 0 where
   pub together : BelongTogether job
   pub rest : IsAtRest changes

@@ -1,13 +1,15 @@
 //! The outcomes of a job's pieces, found out together for the classes of a fan-out-free region.
 
-ghost use Rattle.std.specs.Prelude.{◌≡◌, ◌<◌, ◌≤◌, Contains, IfOk, IfSome, Some};
+ghost use Rattle.std.specs.Prelude.{◌≡◌, ◌<◌, ◌≤◌, ℕ, Contains, IfOk, IfSome};
 ghost use Rattle.std.specs.Prelude.{length, vec_capacity, vec_len};
 ghost use Rattle.bench_net.specs.Scan.{names};
 ghost use Rattle.patterns.specs.Tests.{blocks};
 ghost use Rattle.block_sim.specs.Changes.{HasRoomFor, IsAsLarge, IsClear};
 ghost use Rattle.block_sim.specs.First.{IsTrueOutcome};
 ghost use Rattle.block_sim.specs.Regions.{TellsFirstFlips};
+ghost use Rattle.block_sim.specs.Parts.{Parts};
 ghost use Rattle.block_sim.specs.Simulation.{AreFollowed, AreTrueMemos, HasArrived, IsApproach};
+ghost use Rattle.block_sim.specs.Simulation.{IsOutcomeIn, IsTrueMemo};
 
 use crate::block_lanes::{lanes_below, least_lane};
 use crate::changes::Changes;
@@ -21,11 +23,41 @@ use std::alloc::{AllocError, Global};
 use std::marker::Model;
 use std::snapshot::Snapshot;
 
-/// The outcome of a class on the block on which it was found out last.
+/// What is known of a class: its outcome on the block on which it was found out last.
 #[derive(Clone, Copy)]
-pub struct Memo {
-    pub block: u32,
-    pub outcome: Outcome,
+pub enum Memo {
+    /// It was found out on no block.
+    Nothing,
+    /// No test of the block detects it.
+    Clear { block: u32 },
+    /// This test of the block, counted from 0, is the first that detects it.
+    Hit { block: u32, test: u32 },
+}
+
+impl Memo {
+    /// The outcome on a block.
+    fn of(block: u32, outcome: Outcome) -> Memo
+        ensures { (job : Parts) (class : ℕ) → IsOutcomeIn job class block outcome
+            → IsTrueMemo job class result }
+    {
+        match outcome {
+            Outcome::Clear => Memo::Clear { block },
+            Outcome::Hit(test) => Memo::Hit { block, test },
+        }
+    }
+
+    /// The outcome on a block, where that is the one that is known.
+    #[inline(always)]
+    fn on(self, block: u32) -> Option<Outcome>
+        ensures { IfSome result (λ outcome. (job : Parts) (class : ℕ)
+            → IsTrueMemo job class self → IsOutcomeIn job class block outcome) }
+    {
+        match self {
+            Memo::Clear { block: last } if last == block => Some(Outcome::Clear),
+            Memo::Hit { block: last, test } if last == block => Some(Outcome::Hit(test)),
+            _ => None,
+        }
+    }
 }
 
 /// How far a class is followed on a block by itself.
@@ -45,7 +77,7 @@ pub enum Approach {
 pub struct Simulation {
     job: Snapshot<Job>,
     changes: Changes,
-    memos: Vec<Option<Memo>>,
+    memos: Vec<Memo>,
     followed: Vec<Followed>,
 }
 
@@ -73,7 +105,7 @@ impl Simulation {
     {
         let classes = job.classes().count() as usize;
         let changes = Changes::new(alloc, job.circuit().signals())?;
-        let memos = vec![in alloc; None; classes]?;
+        let memos = vec![in alloc; Memo::Nothing; classes]?;
         let followed = Vec::with_capacity(alloc, classes)?;
         Ok(Simulation {
             job: Snapshot::of(job),
@@ -102,12 +134,12 @@ impl Simulation {
         ensures job { self.new.job ≡ self.old.job }
         ensures grown { self.old.evaluations ≤ self.new.evaluations }
     {
-        if let Some(outcome) = remembered(self.memos[class as usize], block) {
+        if let Some(outcome) = self.memos[class as usize].on(block) {
             return outcome;
         }
         match follow_alone(job, class, block, &mut self.changes) {
             Approach::Known(outcome) => {
-                self.memos[class as usize] = Some(Memo { block, outcome });
+                self.memos[class as usize] = Memo::of(block, outcome);
                 outcome
             }
             Approach::Stem(at) => {
@@ -125,20 +157,6 @@ impl Simulation {
     }
 }
 
-/// The outcome on a block, where it is the one that was kept.
-#[inline(always)]
-fn remembered(memo: Option<Memo>, block: u32) -> Option<Outcome>
-    ensures { IfSome result (λ outcome. memo ≡ Some (record {
-      block = block;
-      outcome = outcome;
-    })) }
-{
-    match memo {
-        Some(memo) if memo.block == block => Some(memo.outcome),
-        _ => None,
-    }
-}
-
 /// Finds out a class that came to the stem of its region, together with the others that are likely
 /// to be asked for on the block. Tells lanes in which the stem turned round is detected.
 fn find_out_region(
@@ -147,7 +165,7 @@ fn find_out_region(
     stem: u32,
     own: Followed,
     changes: &mut Changes,
-    memos: &mut [Option<Memo>],
+    memos: &mut [Memo],
     followed: &mut Vec<Followed>,
 ) -> u64
     requires block { block < blocks (length job.now.tests.tests) }
@@ -210,12 +228,11 @@ fn follow_alone(job: &Job, class: u32, block: u32, changes: &mut Changes) -> App
 /// Whether a class is likely to be asked for on a block: it was clear on the block before, or it
 /// is the first block and nothing is known of it. Any answer is right; it decides what is worth
 /// finding out beside the class that is asked for.
-fn is_likely(memo: Option<Memo>, block: u32) -> bool {
+fn is_likely(memo: Memo, block: u32) -> bool {
     match memo {
-        Some(memo) => memo.block < block
-            && memo.block + 1 == block
-            && memo.outcome == Outcome::Clear,
-        None => block == 0,
+        Memo::Nothing => block == 0,
+        Memo::Clear { block: last } => last < block && last + 1 == block,
+        Memo::Hit { .. } => false,
     }
 }
 
@@ -227,7 +244,7 @@ fn gather(
     stem: u32,
     first: u32,
     changes: &mut Changes,
-    memos: &mut [Option<Memo>],
+    memos: &mut [Memo],
     followed: &mut Vec<Followed>,
 )
     requires block { block < blocks (length job.now.tests.tests) }
@@ -265,7 +282,7 @@ fn follow_too(
     stem: u32,
     class: u32,
     changes: &mut Changes,
-    memos: &mut [Option<Memo>],
+    memos: &mut [Memo],
     followed: &mut Vec<Followed>,
 )
     requires block { block < blocks (length job.now.tests.tests) }
@@ -285,7 +302,7 @@ fn follow_too(
     ensures clear { IsClear changes.new }
 {
     match follow_alone(job, class, block, changes) {
-        Approach::Known(outcome) => memos[class as usize] = Some(Memo { block, outcome }),
+        Approach::Known(outcome) => memos[class as usize] = Memo::of(block, outcome),
         Approach::Stem(at) => {
             if at.signal != stem {
                 return;
@@ -319,14 +336,7 @@ fn flip_stem(job: &Job, block: u32, stem: u32, followed: &[Followed], changes: &
 }
 
 /// Keeps the outcomes of all classes that were followed.
-fn conclude(
-    job: &Job,
-    block: u32,
-    stem: u32,
-    seen: u64,
-    followed: &[Followed],
-    memos: &mut [Option<Memo>],
-)
+fn conclude(job: &Job, block: u32, stem: u32, seen: u64, followed: &[Followed], memos: &mut [Memo])
     requires block { block < blocks (length job.now.tests.tests) }
     requires memos { AreTrueMemos job.now memos.old }
     requires followed { AreFollowed job.now block stem followed.now }
@@ -336,6 +346,6 @@ fn conclude(
 {
     for one in followed {
         let outcome = least_lane(one.lanes & seen);
-        memos[one.class as usize] = Some(Memo { block, outcome });
+        memos[one.class as usize] = Memo::of(block, outcome);
     }
 }

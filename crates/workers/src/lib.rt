@@ -15,6 +15,7 @@ mod chosen;
 mod classes;
 mod pace;
 mod schedule;
+mod simulator;
 mod threads;
 mod verdicts;
 mod worker;

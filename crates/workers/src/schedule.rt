@@ -4,7 +4,6 @@ ghost use Rattle.std.specs.Prelude.{◌≡◌, ◌≢◌, ◌<◌, ◌≤◌, �
 ghost use Rattle.std.specs.Prelude.{All, Some, position, length, IfOk, IfErr, OnOk};
 ghost use Rattle.std.specs.Option.{option_map_or};
 ghost use Rattle.patterns.specs.Least.{Table, below};
-ghost use Rattle.block_sim.specs.Parts.{HasRoom};
 ghost use Rattle.fault_ledger.specs.declared.Shape.{Shape};
 ghost use Rattle.fault_ledger.specs.Answer.{IsLegal};
 ghost use Rattle.fault_ledger.specs.Face.{HasHistory, face};
@@ -16,24 +15,24 @@ ghost use Rattle.workers.specs.Verdict.{AreFirsts};
 
 use crate::verdicts::verdicts_of;
 use crate::{RunFault, Verdicts, check_workers};
-use block_sim::{Job, Workspace, first_hit};
+use block_sim::{Job, Simulation};
 use fault_ledger::{Claim, Event, Ledger};
 use std::alloc::{AllocError, Global};
 
 /// A move of a worker: it claims where it holds nothing, else it drops its piece where it can,
 /// else it simulates it and reports. Gives the event of the ledger, or none where there is
 /// nothing left to claim.
-fn step(job: &Job, ledger: &mut Ledger, workspace: &mut Workspace, worker: u32) -> Option<Event>
+fn step(job: &Job, ledger: &mut Ledger, simulation: &mut Simulation, worker: u32) -> Option<Event>
     requires shape { IsShapeOf job.now ledger.old.shape }
     requires worker { worker < ledger.old.shape.workers }
-    requires fits { HasRoom workspace.old job.now }
+    requires serves { simulation.old.job ≡ job.now }
     ensures shape { ledger.new.shape ≡ ledger.old.shape }
     ensures moved { (table : Table) (h : History) → IsTableOf job.now table
         → IsLegal ledger.old.shape h → ledger.old ≡ face ledger.old.shape h
         → let later : History = move table ledger.old.shape h worker in
         (ledger.new ≡ face ledger.old.shape later)
         × (later ≡ option_map_or (λ event. event ∷ h) result h) }
-    ensures fits { HasRoom workspace.new job.now }
+    ensures serves { simulation.new.job ≡ job.now }
 {
     let _parts = job.classes();
     let Some((class, block)) = ledger.held(worker) else {
@@ -46,7 +45,7 @@ fn step(job: &Job, ledger: &mut Ledger, workspace: &mut Workspace, worker: u32) 
     match ledger.drop_piece(worker) {
         Ok(()) => Some(Event::Drop(worker)),
         Err(_) => {
-            let outcome = first_hit(job, workspace, class, block);
+            let outcome = simulation.outcome(job, class, block);
             let Ok(()) = ledger.report(worker, outcome) else {
                 unreachable!()
             };
@@ -65,11 +64,11 @@ struct Played {
 }
 
 /// The moves of these workers, in order.
-fn play(job: &Job, ledger: &mut Ledger, workspace: &mut Workspace, moves: &[u32]) -> Played
+fn play(job: &Job, ledger: &mut Ledger, simulation: &mut Simulation, moves: &[u32]) -> Played
     requires shape { IsShapeOf job.now ledger.old.shape }
     requires history { HasHistory ledger.old }
     requires workers { All (λ worker. worker < ledger.old.shape.workers) moves.now }
-    requires fits { HasRoom workspace.old job.now }
+    requires serves { simulation.old.job ≡ job.now }
     ensures shape { ledger.new.shape ≡ ledger.old.shape }
     ensures moved { (table : Table) (h : History) → IsTableOf job.now table
         → IsLegal ledger.old.shape h → ledger.old ≡ face ledger.old.shape h
@@ -79,13 +78,13 @@ fn play(job: &Job, ledger: &mut Ledger, workspace: &mut Workspace, moves: &[u32]
         × (result.changed ≡ true → length h < length later)
         × (result.changed ≡ false → (later ≡ h)
         × All (λ w. (claims h ≡ piece_count ledger.old.shape) × (held w h ≡ None)) moves.now) }
-    ensures fits { HasRoom workspace.new job.now }
+    ensures serves { simulation.new.job ≡ job.now }
 {
     let _parts = job.classes();
     let mut skipped = 0;
     let mut changed = false;
     for worker in moves {
-        if let Some(event) = step(job, ledger, workspace, *worker) {
+        if let Some(event) = step(job, ledger, simulation, *worker) {
             changed = true;
             if let Event::Drop(_) = event {
                 skipped += 1;
@@ -97,12 +96,12 @@ fn play(job: &Job, ledger: &mut Ledger, workspace: &mut Workspace, moves: &[u32]
 
 /// The moves of all workers in turn, until none has anything left to do. Gives the number of
 /// pieces that were dropped.
-fn take_turns(job: &Job, ledger: &mut Ledger, workspace: &mut Workspace, everyone: &[u32]) -> u32
+fn take_turns(job: &Job, ledger: &mut Ledger, simulation: &mut Simulation, everyone: &[u32]) -> u32
     requires shape { IsShapeOf job.now ledger.old.shape }
     requires history { HasHistory ledger.old }
     requires everyone { everyone.now ≡ below ledger.old.shape.workers }
     requires some { 0 < ledger.old.shape.workers }
-    requires fits { HasRoom workspace.old job.now }
+    requires serves { simulation.old.job ≡ job.now }
     ensures shape { ledger.new.shape ≡ ledger.old.shape }
     ensures moved { (table : Table) (h : History) → IsTableOf job.now table
         → IsLegal ledger.old.shape h → ledger.old ≡ face ledger.old.shape h
@@ -114,7 +113,7 @@ fn take_turns(job: &Job, ledger: &mut Ledger, workspace: &mut Workspace, everyon
     let _parts = job.classes();
     let mut skipped = 0;
     'turns: loop {
-        let turn = play(job, ledger, workspace, everyone);
+        let turn = play(job, ledger, simulation, everyone);
         skipped += turn.skipped;
         if !turn.changed {
             return skipped;
@@ -143,7 +142,7 @@ fn check_moves(workers: u32, moves: &[u32]) -> Result<(), RunFault>
 /// It is refused, in this order, with [`RunFault::NoWorkers`], with [`RunFault::TooManyWorkers`]
 /// above 64 workers, with [`RunFault::NoSuchMove`] and the least index of a move of a worker that
 /// isn't below the number of workers, before any move is made, and with [`RunFault::Memory`].
-/// Beside the ledger, a workspace and the verdicts it takes a word for each worker.
+/// Beside the ledger, a simulation and the verdicts it takes a word for each worker.
 pub fn run_schedule(
     alloc: Global,
     job: &Job,
@@ -161,10 +160,10 @@ pub fn run_schedule(
     check_moves(workers, moves)?;
     let everyone = workers_in_order(alloc, workers)?;
     let mut ledger = open_ledger(alloc, job, workers)?;
-    let mut workspace = Workspace::new(alloc, job)?;
+    let mut simulation = Simulation::new(alloc, job)?;
     let firsts = Vec::with_capacity(alloc, job.faults().count() as usize)?;
-    let played = play(job, &mut ledger, &mut workspace, moves);
-    let turned = take_turns(job, &mut ledger, &mut workspace, everyone.as_slice());
+    let played = play(job, &mut ledger, &mut simulation, moves);
+    let turned = take_turns(job, &mut ledger, &mut simulation, everyone.as_slice());
     let verdicts = verdicts_of(job, &ledger, played.skipped + turned, firsts)?;
     Ok(verdicts)
 }

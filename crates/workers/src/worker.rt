@@ -10,7 +10,8 @@ ghost use Rattle.workers.specs.Work.{EndsAs, Works, WorksOver, stops_over};
 
 use crate::chosen::Chosen;
 use crate::pace::Pace;
-use block_sim::{Job, Workspace, first_hit};
+use crate::simulator::Simulator;
+use block_sim::{Job, Workspace};
 use fault_ledger::{Claim, Seat, SharedLedger, Status};
 
 /// How a worker's work ends.
@@ -53,11 +54,11 @@ impl Gate for OpenGate {
 }
 
 /// Drops the piece that the seat holds, or simulates it and reports.
-fn finish_piece<C: Chosen>(
+fn finish_piece<C: Chosen, K: Simulator>(
     job: &Job,
     classes: &C,
     ledger: &SharedLedger,
-    workspace: &mut Workspace,
+    simulator: &mut K,
     seat: &mut Seat,
     class: u32,
     block: u32,
@@ -69,17 +70,17 @@ fn finish_piece<C: Chosen>(
         ≡ Some (piece_at ledger.now.shape class block) }
     requires sitter { IsSitter seat.old }
     requires range { (class < ledger.now.shape.classes) × (block < block_count ledger.now.shape) }
-    requires fits { HasRoom workspace.old job.now }
+    requires serves { K.serves simulator.old job.now }
     ensures works { WorksOver job.now (C.chosen classes.now) seat.old seat.new }
     ensures told { seat.new.told ≡ seat.old.told }
     ensures free { held seat.new.worker seat.new.seen ≡ None }
-    ensures fits { HasRoom workspace.new job.now }
+    ensures serves { K.serves simulator.new job.now }
 {
     match ledger.drop_piece(seat) {
         Ok(()) => return false,
         Err(_) => {}
     }
-    let outcome = first_hit(job, workspace, classes.class_at(class), block);
+    let outcome = simulator.outcome_of(job, classes.class_at(class), block);
     let Ok(()) = ledger.report(seat, outcome) else {
         unreachable!()
     };
@@ -127,11 +128,11 @@ pub fn work<G: Gate>(
 }
 
 /// The work of [`work`] at a ledger of chosen classes.
-pub(crate) fn work_over<G: Gate, C: Chosen>(
+pub(crate) fn work_over<G: Gate, C: Chosen, K: Simulator>(
     job: &Job,
     chosen: &C,
     ledger: &SharedLedger,
-    workspace: &mut Workspace,
+    simulator: &mut K,
     seat: &mut Seat,
     gate: &G,
 ) -> End
@@ -139,16 +140,16 @@ pub(crate) fn work_over<G: Gate, C: Chosen>(
     requires shape { IsShapeOver job.now (C.chosen chosen.now) ledger.now.shape }
     requires place { seat.old.place ≡ ledger.now }
     requires free { held seat.old.worker seat.old.seen ≡ None }
-    requires fits { HasRoom workspace.old job.now }
+    requires serves { K.serves simulator.old job.now }
     ensures works { WorksOver job.now (C.chosen chosen.now) seat.old seat.new }
     ensures ends { EndsAs (stops_over (C.chosen chosen.now) (G.stops gate.now)) seat.new result }
     ensures passing { G.passing gate.now → (result ≡ End.Exhausted) ⊎ (result ≡ End.AllSettled) }
-    ensures fits { HasRoom workspace.new job.now }
+    ensures serves { K.serves simulator.new job.now }
 {
     let _sitter = seat.worker();
     let classes = chosen.count();
     let mut lowest = 0;
-    let mut pace = Pace::of(seat.worker(), classes, workspace.gate_evaluations());
+    let mut pace = Pace::of(seat.worker(), classes, simulator.evaluations());
     'claims: loop {
         let worker = seat.worker();
         match ledger.claim(seat) {
@@ -157,8 +158,8 @@ pub(crate) fn work_over<G: Gate, C: Chosen>(
                     return End::Stopped;
                 }
                 let _sitter = seat.worker();
-                let reported = finish_piece(job, chosen, ledger, workspace, seat, class, block);
-                pace.after_piece(class, block, workspace.gate_evaluations());
+                let reported = finish_piece(job, chosen, ledger, simulator, seat, class, block);
+                pace.after_piece(class, block, simulator.evaluations());
                 if reported {
                     let _sitter = seat.worker();
                     lowest = lowest_waiting(ledger, seat, classes, lowest);

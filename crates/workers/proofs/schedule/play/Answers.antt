@@ -11,7 +11,7 @@ use Rattle.workers.proofs.schedule.play.Goals.{in-Some+in-Drop, in-Some+in_defau
 use Rattle.workers.proofs.schedule.play.Goals as goal
 
 pub loop-worker-init : goal.loop-worker-init
-loop-worker-init c = record { shape = refl; fits = c.requires.fits; done = λ t h is l e. done_none t c.args.ledger.now.shape h c.args.ledger.now l e }
+loop-worker-init c = record { shape = refl; serves = c.requires.serves; done = λ t h is l e. done_none t c.args.ledger.now.shape h c.args.ledger.now l e }
 
 pub overflow_add-skipped : goal.overflow_add-skipped
 overflow_add-skipped c =
@@ -43,7 +43,7 @@ loop-worker-preserved c =
     let next = ap (λ i. take i xs) (add-one k) ∙ take-suc xs k 0 c.loop-worker-test.true in
     record {
       shape = c.step.ensures.shape ∙ was.shape;
-      fits = c.step.ensures.fits;
+      serves = c.step.ensures.serves;
       done = λ t h is l e.
           let at = was.done t h is l e in
           let g : History = moved t s h (take k xs) in

@@ -1,6 +1,5 @@
 use Rattle.std.proofs.Common.{◌≡◌, take}
 use Rattle.patterns.specs.Least.{Table}
-use Rattle.block_sim.specs.Parts.{HasRoom}
 use Rattle.fault_ledger.specs.History.{History}
 use Rattle.fault_ledger.specs.Answer.{IsLegal}
 use Rattle.fault_ledger.specs.Face.{face}
@@ -11,7 +10,7 @@ use Rattle.workers.proofs.schedule.play.Given as goal
 abbrev pub invariant-loop-worker : goal.invariant-loop-worker
 invariant-loop-worker l = record {
   shape : l.ledger.shape ≡ l.fn.ledger.shape;
-  fits : HasRoom l.workspace l.job;
+  serves : l.simulation.job ≡ l.job;
   done : (table : Table) (h : History) → IsTableOf l.job table → IsLegal l.fn.ledger.shape h → l.fn.ledger ≡ face l.fn.ledger.shape h
       → Done table l.fn.ledger.shape h (take l.worker-index l.moves) l.ledger l.skipped l.changed;
 }

@@ -11,7 +11,7 @@ use Rattle.workers.proofs.schedule.take_turns.Goals as goal
 use Rattle.std.proofs.lemmas.Bool.{not-false, not-true}
 
 pub turns-init : goal.turns-init
-turns-init c = record { shape = refl; fits = c.requires.fits; turned = λ t h is l e. turned_none t c.args.ledger.now.shape h c.args.ledger.now l e }
+turns-init c = record { shape = refl; serves = c.requires.serves; turned = λ t h is l e. turned_none t c.args.ledger.now.shape h c.args.ledger.now l e }
 
 pub play-turn-requires-clause-history : goal.play-turn-requires-clause-history
 play-turn-requires-clause-history c =
@@ -56,7 +56,7 @@ returns-then-not-turn-clause-moved c = λ t h is l e.
 pub turns-preserved : goal.turns-preserved
 turns-preserved c = record {
   shape = c.play-turn.ensures.shape ∙ c.turns.invariant.shape;
-  fits = c.play-turn.ensures.fits;
+  serves = c.play-turn.ensures.serves;
   turned = λ t h is l e.
       let job = c.args.job.now in
       let s = c.args.ledger.now.shape in

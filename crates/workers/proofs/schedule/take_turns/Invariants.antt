@@ -1,6 +1,5 @@
 use Rattle.std.proofs.Common.{◌≡◌}
 use Rattle.patterns.specs.Least.{Table}
-use Rattle.block_sim.specs.Parts.{HasRoom}
 use Rattle.fault_ledger.specs.History.{History}
 use Rattle.fault_ledger.specs.Answer.{IsLegal}
 use Rattle.fault_ledger.specs.Face.{face}
@@ -11,7 +10,7 @@ use Rattle.workers.proofs.schedule.take_turns.Given as goal
 abbrev pub invariant-turns : goal.invariant-turns
 invariant-turns l = record {
   shape : l.ledger.shape ≡ l.fn.ledger.shape;
-  fits : HasRoom l.workspace l.job;
+  serves : l.simulation.job ≡ l.job;
   turned : (table : Table) (h : History) → IsTableOf l.job table → IsLegal l.fn.ledger.shape h → l.fn.ledger ≡ face l.fn.ledger.shape h
       → Turned table l.fn.ledger.shape h l.ledger l.skipped;
 }

@@ -76,7 +76,7 @@ claims-preserved-else-lowest-classes g c =
           c.finish_piece-reported.ensures.works)
           (sees_works j over c.finish_piece-reported.new.seat c.lowest_waiting-lowest.new.seat _ c.lowest_waiting-lowest.ensures.sees);
       free = held_sees c.finish_piece-reported.new.seat c.lowest_waiting-lowest.new.seat c.lowest_waiting-lowest.ensures.sees ∙ c.finish_piece-reported.ensures.free;
-      fits = c.finish_piece-reported.ensures.fits;
+      serves = c.finish_piece-reported.ensures.serves;
       range = c.lowest_waiting-lowest.ensures.range;
       settled = c.lowest_waiting-lowest.ensures.settled;
     }
@@ -99,7 +99,7 @@ claims-preserved g c =
           (works_twice j over c.args.seat.now c.claims.seat c.claim.new.seat c.claims.invariant.works (claimed j over c.claims.seat c.claim.new.seat _ m.1))
           c.finish_piece-reported.ensures.works;
       free = c.finish_piece-reported.ensures.free;
-      fits = c.finish_piece-reported.ensures.fits;
+      serves = c.finish_piece-reported.ensures.serves;
       range = c.claims.invariant.range;
       settled = settled_works j over c.args.ledger.now.shape c.claims.lowest c.claim.new.seat c.finish_piece-reported.new.seat c.finish_piece-reported.ensures.works
           (settled_works j over c.args.ledger.now.shape c.claims.lowest c.claims.seat c.claim.new.seat (claimed j over c.claims.seat c.claim.new.seat _ m.1) c.claims.invariant.settled);

@@ -1,6 +1,5 @@
 use Rattle.std.proofs.Common.{◌≡◌, ◌-◌, ◌≤◌}
 use Rattle.std.specs.Prelude.{None}
-use Rattle.block_sim.specs.Parts.{HasRoom}
 use Rattle.fault_ledger.specs.History.{claims, held, piece_count}
 use Rattle.workers.specs.Settling.{AreSettled}
 use Rattle.workers.specs.Work.{WorksOver}
@@ -10,7 +9,7 @@ abbrev pub invariant-claims : goal.invariant-claims
 invariant-claims g l = record {
   works : WorksOver l.job (g.C.Chosen.chosen l.chosen) l.fn.seat l.seat;
   free : held l.seat.worker l.seat.seen ≡ None;
-  fits : HasRoom l.workspace l.job;
+  serves : g.K.Simulator.serves l.simulator l.job;
   range : l.lowest ≤ l.classes;
   settled : AreSettled l.ledger.shape l.seat.seen l.lowest;
 }

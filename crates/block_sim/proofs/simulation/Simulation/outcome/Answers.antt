@@ -1,11 +1,11 @@
 use Rattle.std.proofs.Common.{◌≡◌, ◌<◌, sym, ◌∙◌, ap, subst, length, arith}
-use Rattle.std.specs.Prelude.{None, slice_index_or}
 use Rattle.std.proofs.lemmas.List.{get_or_read}
 use Rattle.block_sim.specs.Changes.{HasRoomFor}
-use Rattle.block_sim.specs.Simulation.{IsOutcomeIn}
-use Rattle.block_sim.specs.declared.simulation.Memo.{Memo}
+use Rattle.std.specs.Prelude.{slice_set}
+use Rattle.block_sim.specs.Simulation.{IsOutcomeIn, IsTrueMemo}
+use Rattle.block_sim.specs.declared.simulation.Memo.TheVariants.{Nothing}
 use Rattle.block_sim.proofs.Moments.{large_enough}
-use Rattle.block_sim.proofs.Simulated.{arrived_outcome, room_at_rest}
+use Rattle.block_sim.proofs.Simulated.{arrived_outcome, memo_kept, room_at_rest, simulation_with}
 use Rattle.block_sim.proofs.simulation.Simulation.outcome.Goals as goal
 
 pub returns-in-Some-clause-outcome : goal.returns-in-Some-clause-outcome
@@ -14,10 +14,9 @@ returns-in-Some-clause-outcome c =
     let memos = c.self.inside.memos.items in
     let low : c.args.class < length memos =
     (let count = c.self.invariant.outcomes.count in let same = ap (λ p. length p.classes.representative) job in omega (arith, c.requires.class, count, same)) in
-    let is : c.index.result.now ≡ slice_index_or memos c.args.class None = get_or_read memos _ _ low c.index.ensures None in
-    let memo : Memo = record { block = c.args.block; outcome = c.in-Some.outcome } in
-    subst (λ p. IsOutcomeIn p c.args.class c.args.block c.in-Some.outcome) job
-    (c.self.invariant.outcomes.each c.args.class memo (sym is ∙ c.in-Some.ensures))
+    let is = get_or_read memos _ _ low c.index.ensures Nothing in
+    c.in-Some.ensures c.args.job.now c.args.class (subst (λ p. IsTrueMemo p c.args.class c.index.result.now) job
+    (subst (IsTrueMemo c.self.inside.job.value c.args.class) (sym is) (c.self.invariant.outcomes.each c.args.class)))
 
 pub follow_alone-requires-clause-room : goal.follow_alone-requires-clause-room
 follow_alone-requires-clause-room c =
@@ -36,3 +35,16 @@ pub returns-in-Stem-clause-outcome : goal.returns-in-Stem-clause-outcome
 returns-in-Stem-clause-outcome c =
     arrived_outcome c.args.job.now c.args.block c.in-Stem.at.signal c.args.class c.in-Stem.at.lanes c.find_out_region-seen.result
     c.least_lane.result c.in-Stem.ensures.approach.1 c.find_out_region-seen.ensures.told c.least_lane.ensures
+
+pub invariant_of-self : goal.invariant_of-self
+invariant_of-self c =
+    let own = c.self.inside.job.value in
+    let job : own ≡ c.args.job.now = ap (λ v. v.job) c.self.view_is ∙ c.requires.job in
+    let before = c.self.invariant.outcomes in
+    let low : c.args.class < length c.self.inside.memos.items =
+    (let count = before.count in let same = ap (λ p. length p.classes.representative) job in omega (arith, c.requires.class, count, same)) in
+    let truth : IsOutcomeIn own c.args.class c.args.block c.in-Known.outcome =
+    subst (λ p. IsOutcomeIn p c.args.class c.args.block c.in-Known.outcome) (sym job) c.in-Known.ensures.approach in
+    simulation_with own c.self.inside.changes c.follow_alone.new.changes c.self.inside.memos.items
+    (slice_set c.self.inside.memos.items c.args.class c.of.result) _ c.self.invariant c.follow_alone.ensures.room c.follow_alone.ensures.clear
+    (memo_kept own c.self.inside.memos.items c.args.class c.of.result before low (c.of.ensures own c.args.class truth))
