@@ -1,11 +1,15 @@
 -- That parts are a partition, and what runs over them give.
 use Rattle.std.proofs.Common.{◌≡◌, ◌≢◌, ◌<◌, ◌≤◌, ◌+◌, ◌⊎◌, inl, inr, ℕ, zero, suc, Bool, true, false, cond, eqb, List, [], ◌∷◌, ◌++◌, map, set, length, get_or, All, Option, Some, None, refl, sym, ap, ◌∙◌, subst, arith, replicate, eq-eqb, ne_eqb, eqb-true, add-one, append-nil}
 use Rattle.std.specs.Prelude.{filter, slice_get}
+use Rattle.bench_net.specs.Statement.{Statement}
+use Rattle.fault_model.specs.declared.Model.{Model}
+use Rattle.fault_model.specs.Solution.{Test}
+use Rattle.block_sim.specs.First.{IsFirst}
 use Rattle.std.proofs.Math.Nat.{mod-lt}
 use Rattle.std.proofs.lemmas.Bool.{cases_lt}
 use Rattle.std.proofs.lemmas.Option.{get_or_from_slice_get, slice_get-get_or, slice_get_within}
 use Rattle.std.proofs.lemmas.List.{get_or-set_same, get_or-set_other, length-map, length-set}
-use Rattle.std.proofs.lemmas.List.Elements.{All-filter, filter-append}
+use Rattle.std.proofs.lemmas.List.Elements.{All-append, All-filter, filter-append}
 use Rattle.lists.proofs.Places.{from_mapped}
 use Rattle.patterns.specs.Least.{below}
 use Rattle.patterns.proofs.Public.{get_or-below, length-below}
@@ -14,9 +18,14 @@ use Rattle.fault_model.specs.Collapse.{IsClassOf}
 use Rattle.block_sim.specs.Parts.{Parts, BelongTogether}
 use Rattle.workers.specs.declared.parts.PartVerdict.{PartVerdict}
 use Rattle.workers.specs.declared.parts.PartVerdict.TheVariants.{First, OtherPart}
-use Rattle.workers.specs.Part.{AreClassVerdicts, ArePartVerdicts, IsClassVerdict, IsInOnePart, IsPartVerdict, classes_of, part_of}
+use Rattle.workers.specs.Part.{AreClassVerdicts, ArePartVerdicts, IsClassVerdict, IsInOnePart, IsGathered, IsPartVerdict, classes_of, first_in, part_of}
+use Rattle.workers.specs.declared.RunFault.{RunFault}
+use Rattle.workers.specs.declared.RunFault.TheVariants as run_fault
+use Rattle.workers.specs.Chosen.{listed}
+use Rattle.workers.specs.Refused.{IsPartsFault, IsRunFaultOver}
+use Rattle.workers.specs.Work.{Stops}
 use Rattle.workers.specs.Settling.{shape_for}
-use Rattle.workers.specs.Verdict.{AreClassFirsts}
+use Rattle.workers.specs.Verdict.{AreClassFirsts, AreFirsts}
 use Rattle.workers.proofs.Truth.{class_in}
 use Rattle.workers.proofs.Turns.{below_last, all_below}
 
@@ -189,3 +198,93 @@ part_verdicts job parts part firsts table verdicts b found by is = record {
       where
         slice_within : (class : ℕ) → slice_get table class ≡ Some OtherPart → class < count
         slice_within class e = omega (arith, slice_get_within table class OtherPart e, by.long)
+
+-- the first tests of two lists of classes are those of both together
+append_firsts : (m : Model) (c : List Statement) (tests : List Test) (xs ys : List ℕ) (f g : List (Option ℕ)) → AreClassFirsts m c tests xs f → AreClassFirsts m c tests ys g → AreClassFirsts m c tests (xs ++ ys) (f ++ g)
+append_firsts m c tests [] ys [] g a b = b
+append_firsts m c tests [] ys (y ∷ f) g a b = absurd (omega (arith, a.count))
+append_firsts m c tests (x ∷ xs) ys [] g a b = absurd (omega (arith, a.count))
+append_firsts m c tests (x ∷ xs) ys (y ∷ f) g a b =
+    let rest = append_firsts m c tests xs ys f g (record { count = omega (arith, a.count); first = λ k. a.first (suc k) }) b in
+    record { count = ap suc rest.count; first = at rest }
+  where
+    at : AreClassFirsts m c tests (xs ++ ys) (f ++ g) → (k class : ℕ) (fault : Fault) (first : Option ℕ) → slice_get (x ∷ (xs ++ ys)) k ≡ Some class → IsClassOf m c fault class → slice_get (y ∷ (f ++ g)) k ≡ Some first → IsFirst c tests fault first
+    at rest zero class fault first e of v = a.first 0 class fault first e of v
+    at rest (suc k) class fault first e of v = rest.first k class fault first e of v
+
+place_left : (xs ys : List ℕ) (k x : ℕ) → slice_get xs k ≡ Some x → slice_get (xs ++ ys) k ≡ Some x
+place_left [] ys k x e = let bad : None ≡ Some x = e in absurd (cc)
+place_left (y ∷ xs) ys zero x e = e
+place_left (y ∷ xs) ys (suc k) x e = place_left xs ys k x e
+
+place_right : (xs ys : List ℕ) (k x : ℕ) → slice_get ys k ≡ Some x → (j : ℕ) × (slice_get (xs ++ ys) j ≡ Some x)
+place_right [] ys k x e = (k, e)
+place_right (y ∷ xs) ys k x e = let j = place_right xs ys k x e in (suc j.0, j.1)
+
+-- before the first part
+pub gathered_none : (job : Parts) (parts : ℕ) → IsGathered job parts 0 [] []
+gathered_none job parts = record {
+  found = record { count = refl; first = λ k class f first e of at. let bad : None ≡ Some class = e in absurd (cc) };
+  within = λ k d lt. absurd (omega (arith, lt));
+  all = λ class lt low. absurd (omega (arith, low));
+}
+
+-- one part more
+pub gathered_more : (job : Parts) (parts n : ℕ) (classes : List ℕ) (firsts more : List (Option ℕ)) → IsGathered job parts n classes firsts
+    → AreClassFirsts job.list.model job.circuit job.tests.tests (classes_of (length job.classes.representative) parts n) more
+    → IsGathered job parts (n + 1) (classes ++ classes_of (length job.classes.representative) parts n) (firsts ++ more)
+gathered_more job parts n classes firsts more was found = record {
+  found = append_firsts job.list.model job.circuit job.tests.tests classes own firsts more was.found found;
+  within = All-append (λ class. class < count) classes own was.within (part_within count parts n);
+  all = λ class lt low. pick class lt low (cases_lt (part_of parts class) n);
+}
+  where
+    count : ℕ
+    count = length job.classes.representative
+
+    own : List ℕ
+    own = classes_of count parts n
+
+    pick : (class : ℕ) → class < count → part_of parts class < n + 1 → (part_of parts class < n) ⊎ (n ≤ part_of parts class) → (k : ℕ) × (slice_get (classes ++ own) k ≡ Some class)
+    pick class lt low (inl x) = let k = was.all class lt x in (k.0, place_left classes own k.0 class k.1)
+    pick class lt low (inr x) =
+        let e : part_of parts class ≡ n = omega (arith, low, x) in
+        let k = part_place count parts n class lt e in
+        place_right classes own k.0 class k.1
+
+-- the first tests of all parts are those of all faults
+pub gathered_firsts : (job : Parts) (parts : ℕ) (classes : List ℕ) (firsts found : List (Option ℕ)) (table : List PartVerdict) → 0 < parts → BelongTogether job → IsGathered job parts parts classes firsts
+    → AreClassVerdicts (length job.classes.representative) classes firsts (length classes) table → found ≡ map (λ class. first_in (get_or table class OtherPart)) job.classes.class_of
+    → AreFirsts job.list.model job.circuit job.tests.tests found
+gathered_firsts job parts classes firsts found table some b gathered by is = record {
+  count = ap (λ (l : List (Option ℕ)). length l) is ∙ length-map job.classes.class_of g ∙ b.classes.count;
+  first = λ i f first at v.
+      let x = from_mapped g job.classes.class_of i first (ap (λ (l : List (Option ℕ)). slice_get l i) (sym is) ∙ v) in
+      let of : IsClassOf job.list.model job.circuit f x.0 = b.classes.class i f x.0 at x.1 in
+      let lt : x.0 < count = class_in job (shape_for job 1) i x.0 b (record { classes = refl; tests = refl }) x.1 in
+      subst (IsFirst job.circuit job.tests.tests f) x.2 (go f x.0 lt of (by.each x.0 lt));
+}
+  where
+    count : ℕ
+    count = length job.classes.representative
+
+    g : ℕ → Option ℕ
+    g class = first_in (get_or table class OtherPart)
+
+    go : (f : Fault) (class : ℕ) → class < count → IsClassOf job.list.model job.circuit f class → IsClassVerdict classes firsts (length classes) class (slice_get table class) → IsFirst job.circuit job.tests.tests f (g class)
+    go f class lt of (inl x) =
+        subst (λ v. IsFirst job.circuit job.tests.tests f (first_in v)) (sym (get_or_from_slice_get table class (First x.1) OtherPart x.5))
+        (gathered.found.first x.0 class f x.1 x.3 of x.4)
+    go f class lt of (inr x) =
+        let k = gathered.all class lt (mod-lt class some) in
+        absurd (x.0 k.0 (slice_get_within classes k.0 class k.1) k.1)
+
+-- the fault of a part's run is one of the run of all parts
+pub part_fault : (job : Parts) (parts part workers : ℕ) (P : Type 0) (S : Stops) (f : RunFault) → part < parts
+    → IsRunFaultOver job (listed (classes_of (length job.classes.representative) parts part)) workers P S f → IsPartsFault job parts workers P S f
+part_fault job parts part workers P S run_fault.NoWorkers lt r = r
+part_fault job parts part workers P S run_fault.TooManyWorkers lt r = r
+part_fault job parts part workers P S (run_fault.NoSuchMove index) lt r = r
+part_fault job parts part workers P S run_fault.Memory lt r = r
+part_fault job parts part workers P S run_fault.Threads lt r = r
+part_fault job parts part workers P S (run_fault.Unfinished class block) lt r = (part, lt, r)

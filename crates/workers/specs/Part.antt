@@ -1,10 +1,11 @@
 -- The parts of the classes, and what a run over a part says of each fault.
 use Rattle.std.specs.Prelude.{◌≡◌, ◌≢◌, ◌⊎◌, ◌<◌, ℕ, ◌%◌, ◌==◌, Bool, true, false, List, length}
-use Rattle.std.specs.Prelude.{filter, Contains, slice_get, Option, Some}
+use Rattle.std.specs.Prelude.{filter, All, Contains, slice_get, Option, Some, None}
 use Rattle.fault_model.specs.Fault.{Fault, faults}
 use Rattle.patterns.specs.Least.{below}
 use Rattle.block_sim.specs.First.{IsFirst}
 use Rattle.block_sim.specs.Parts.{Parts}
+use Rattle.workers.specs.Verdict.{AreClassFirsts}
 use Rattle.workers.specs.declared.parts.PartVerdict.{PartVerdict}
 use Rattle.workers.specs.declared.parts.PartVerdict.TheVariants.{First, OtherPart}
 
@@ -41,6 +42,11 @@ pub record AreClassVerdicts (count : ℕ) (classes : List ℕ) (firsts : List (O
   pub each : (class : ℕ) → class < count
       → IsClassVerdict classes firsts n class (slice_get verdicts class)
 
+-- the first test in a verdict, none in one of another part
+abbrev pub first_in : PartVerdict → Option ℕ
+first_in (First first) = first
+first_in OtherPart = None
+
 -- the verdict on a fault whose class is of the part or not
 abbrev pub IsPartVerdict : Parts → Fault → Bool → PartVerdict → Type 0
 IsPartVerdict job f true (First first) = IsFirst job.circuit job.tests.tests f first
@@ -57,3 +63,12 @@ pub record ArePartVerdicts (job : Parts) (parts part : ℕ) (verdicts : List Par
       → slice_get job.classes.class_of i ≡ Some class
       → slice_get verdicts i ≡ Some verdict
       → IsPartVerdict job f (part_of parts class == part) verdict
+
+-- What runs over the first parts gave: the classes, and the first test of each; each class of these
+-- parts is among them.
+pub record IsGathered (job : Parts) (parts n : ℕ) (classes : List ℕ)
+    (firsts : List (Option ℕ)) : Type 0 where
+  pub found : AreClassFirsts job.list.model job.circuit job.tests.tests classes firsts
+  pub within : All (λ class. class < length job.classes.representative) classes
+  pub all : (class : ℕ) → class < length job.classes.representative → part_of parts class < n
+      → (k : ℕ) × (slice_get classes k ≡ Some class)
