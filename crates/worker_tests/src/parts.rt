@@ -1,5 +1,7 @@
 //! Runs over a part of the classes, and over all parts.
 
+ghost use Rattle.std.specs.Prelude.{◌<◌};
+
 use crate::fixtures::{C17, C17_FIRSTS, check, job_of};
 use crate::gates::Shut;
 use block_sim::Job;

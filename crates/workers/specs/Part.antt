@@ -56,7 +56,8 @@ IsPartVerdict job f _ _ = ⊥
 -- The verdicts on all faults, before collapsing, of a run over a part: for each fault of one of its
 -- classes the first test that detects it, or none where no test does, and for each other that it is
 -- of another part.
-pub record ArePartVerdicts (job : Parts) (parts part : ℕ) (verdicts : List PartVerdict) : Type 0 where
+pub record ArePartVerdicts (job : Parts) (parts part : ℕ)
+    (verdicts : List PartVerdict) : Type 0 where
   pub count : length verdicts ≡ length (faults job.list.model job.circuit)
   pub each : (i class : ℕ) (f : Fault) (verdict : PartVerdict)
       → slice_get (faults job.list.model job.circuit) i ≡ Some f

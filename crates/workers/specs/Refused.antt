@@ -24,9 +24,9 @@ IsScheduleFault workers moves Memory =
     (0 < workers) × (workers ≤ 64) × All (λ worker. worker < workers) moves
 IsScheduleFault workers moves fault = IsWorkersFault workers fault
 
--- When a run in threads over chosen classes is refused: for its number of workers, and then for want of memory or of
--- a thread. One whose gate always lets pass finishes; else the fault names the class and the block
--- of the job for which the run waits.
+-- When a run in threads over chosen classes is refused: for its number of workers, and then for want
+-- of memory or of a thread. One whose gate always lets pass finishes; else the fault names the class
+-- and the block of the job for which the run waits.
 abbrev pub IsRunFaultOver : Parts → Chosen → ℕ → Type 0 → Stops → RunFault → Type 0
 IsRunFaultOver job chosen workers passing stops Memory = (0 < workers) × (workers ≤ 64)
 IsRunFaultOver job chosen workers passing stops Threads = (0 < workers) × (workers ≤ 64)
