@@ -6,3 +6,4 @@ pub mod Works
 pub mod Reports
 pub mod Crew
 pub mod Finish
+pub mod Partition

@@ -1,4 +1,5 @@
 pub mod Chosen
+pub mod Part
 pub mod Verdict
 pub mod Settling
 pub mod Schedule

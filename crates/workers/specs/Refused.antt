@@ -5,7 +5,8 @@ use Rattle.block_sim.specs.Parts.{Parts}
 use Rattle.workers.specs.declared.RunFault.{RunFault}
 use Rattle.workers.specs.declared.RunFault.TheVariants.{NoWorkers, TooManyWorkers, NoSuchMove}
 use Rattle.workers.specs.declared.RunFault.TheVariants.{Memory, Threads, Unfinished}
-use Rattle.workers.specs.Chosen.{Chosen, every}
+use Rattle.workers.specs.Chosen.{Chosen, every, listed}
+use Rattle.workers.specs.Part.{classes_of}
 use Rattle.workers.specs.Work.{Stops, WaitsFor}
 
 -- when a number of workers is refused
@@ -23,9 +24,9 @@ IsScheduleFault workers moves Memory =
     (0 < workers) × (workers ≤ 64) × All (λ worker. worker < workers) moves
 IsScheduleFault workers moves fault = IsWorkersFault workers fault
 
--- When a run in threads over chosen classes is refused: for its number of workers, and then for want of memory or of
--- a thread. One whose gate always lets pass finishes; else the fault names the class and the block
--- of the job for which the run waits.
+-- When a run in threads over chosen classes is refused: for its number of workers, and then for want
+-- of memory or of a thread. One whose gate always lets pass finishes; else the fault names the class
+-- and the block of the job for which the run waits.
 abbrev pub IsRunFaultOver : Parts → Chosen → ℕ → Type 0 → Stops → RunFault → Type 0
 IsRunFaultOver job chosen workers passing stops Memory = (0 < workers) × (workers ≤ 64)
 IsRunFaultOver job chosen workers passing stops Threads = (0 < workers) × (workers ≤ 64)
@@ -34,6 +35,16 @@ IsRunFaultOver job chosen workers passing stops (Unfinished class block) =
     × (class < length job.classes.representative) × (block < blocks (length job.tests.tests))
     × (¬ passing) × WaitsFor job chosen workers stops class block
 IsRunFaultOver job chosen workers passing stops fault = IsWorkersFault workers fault
+
+-- the same where the classes are those of so many parts, one part after another
+abbrev pub IsPartsFault : Parts → ℕ → ℕ → Type 0 → Stops → RunFault → Type 0
+IsPartsFault job parts workers passing stops Memory = (0 < workers) × (workers ≤ 64)
+IsPartsFault job parts workers passing stops Threads = (0 < workers) × (workers ≤ 64)
+IsPartsFault job parts workers passing stops (Unfinished class block) =
+    (part : ℕ) × (part < parts)
+    × IsRunFaultOver job (listed (classes_of (length job.classes.representative) parts part))
+    workers passing stops (Unfinished class block)
+IsPartsFault job parts workers passing stops fault = IsWorkersFault workers fault
 
 -- the same where all classes are chosen
 abbrev pub IsRunFault : Parts → ℕ → Type 0 → Stops → RunFault → Type 0

@@ -1,6 +1,6 @@
 -- What a worker's seat has done with a job, and how its work ends.
-use Rattle.std.specs.Prelude.{◌≡◌, ◌<◌, ◌⊎◌, ℕ, true, count_by, List, [], ◌∷◌, ◌++◌, length, slice_get}
-use Rattle.std.specs.Prelude.{Option, Some, None}
+use Rattle.std.specs.Prelude.{◌≡◌, ◌<◌, ◌⊎◌, ℕ, true, count_by, List, [], ◌∷◌, ◌++◌, length}
+use Rattle.std.specs.Prelude.{slice_get, Option, Some, None}
 use Rattle.patterns.specs.declared.Outcome.{Outcome}
 use Rattle.block_sim.specs.First.{IsTrueOutcome}
 use Rattle.block_sim.specs.Parts.{Parts}
@@ -28,14 +28,14 @@ GivesTrue job chosen shape (Some piece) o =
     IsTrueOutcome job.list.model job.circuit job.tests.tests
     (chosen.class_at (class_of shape piece)) (block_of shape piece) o
 
--- the worker's drop of the piece that it holds was refused for want of a hit in an earlier block, at
--- a time since its last event
+-- the worker's drop of the piece that it holds was refused for want of a hit in an earlier block,
+-- at a time since its last event
 abbrev pub WasNoDrop : Shape → ℕ → History → Type 0
 WasNoDrop shape w h = (at : History) × ContinuesWithout w h at
     × (Refused NoEarlierHit ≡ answer shape at (call.Drop w))
 
--- Each report of the worker among the newer events gives the true outcome of the piece that it held,
--- which the worker could not drop.
+-- Each report of the worker among the newer events gives the true outcome of the piece that it
+-- held, which the worker could not drop.
 abbrev pub ReportsTruly : Parts → Chosen → Shape → ℕ → History → History → Type 0
 ReportsTruly job chosen shape w [] earlier = Unit {0}
 ReportsTruly job chosen shape w (Event.Report u o ∷ newer) earlier =
@@ -124,8 +124,8 @@ pub record HasRun (job : Parts) (chosen : Chosen) (workers : ℕ) (closed : Clos
   pub truly : AllReportTruly job chosen closed.shape history
 
 -- The verdicts are those of some legal and finished history of the job's ledger, and so is the
--- number of pieces that it says are Skipped. Each report in it is true, of a piece that could not be
--- dropped.
+-- number of pieces that it says are Skipped. Each report in it is true, of a piece that could not
+-- be dropped.
 pub record IsOfHistory (job : Parts) (workers : ℕ) (v : VerdictList) : Type 0 where
   pub history : History
   pub legal : IsLegal (shape_for job workers) history
@@ -134,9 +134,9 @@ pub record IsOfHistory (job : Parts) (workers : ℕ) (v : VerdictList) : Type 0 
   pub firsts : v.firsts ≡ verdicts (shape_for job workers) history job.classes.class_of
   pub skipped : v.skipped ≡ count_by is_skipped (states_of (shape_for job workers) history)
 
--- A run over chosen classes that its gate stopped waits for this class and block of the job: so says
--- some legal history of a ledger of these classes, whose reports are true, of pieces that could not
--- be dropped, and at whose end each worker was stopped, or all pieces are claimed.
+-- A run over chosen classes that its gate stopped waits for this class and block of the job: so
+-- says some legal history of a ledger of these classes, whose reports are true, of pieces that could
+-- not be dropped, and at whose end each worker was stopped, or all pieces are claimed.
 pub record WaitsFor (job : Parts) (chosen : Chosen) (workers : ℕ) (stops : Stops)
     (class block : ℕ) : Type 0 where
   pub history : History

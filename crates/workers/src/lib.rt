@@ -14,6 +14,7 @@
 mod chosen;
 mod classes;
 mod pace;
+mod parts;
 mod schedule;
 mod simulator;
 mod threads;
@@ -25,6 +26,7 @@ ghost use Rattle.workers.specs.Refused.{IsWorkersFault};
 
 pub use classes::run_classes;
 pub use fault_ledger::MAX_WORKERS;
+pub use parts::{PartVerdict, in_one_part, part_of, run_in_parts, run_part};
 pub use schedule::run_schedule;
 use std::alloc::{AllocError, AllocFailed};
 use thiserror::Error;

@@ -34,7 +34,7 @@ impl Model for Verdicts {
 
 impl Verdicts {
     /// The verdicts of faults in the order of their list.
-    fn of(firsts: Vec<Option<u32>>, skipped: u32) -> Verdicts
+    pub(crate) fn of(firsts: Vec<Option<u32>>, skipped: u32) -> Verdicts
         requires { length firsts.items < 2 ^ 32 }
         ensures firsts { result.firsts ≡ firsts.items }
         ensures skipped { result.skipped ≡ skipped }

@@ -7,7 +7,7 @@ use Rattle.workers.specs.Verdict.{settled_at}
 use Rattle.workers.specs.Work.{HasRun}
 use Rattle.workers.proofs.Closing.{finished_settled}
 use Rattle.workers.proofs.Finish.{run_class_firsts}
-use Rattle.workers.proofs.classes.run_classes.Goals as goal
+use Rattle.workers.proofs.classes.run_listed.Goals as goal
 
 pub class_firsts-requires-clause-settled : goal.class_firsts-requires-clause-settled
 class_firsts-requires-clause-settled g c =

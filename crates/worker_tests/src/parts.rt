@@ -1,0 +1,75 @@
+//! Runs over a part of the classes, and over all parts.
+
+ghost use Rattle.std.specs.Prelude.{◌<◌};
+
+use crate::fixtures::{C17, C17_FIRSTS, check, job_of};
+use crate::gates::Shut;
+use block_sim::Job;
+use fault_model::Model;
+use std::alloc::Global;
+use std::process::Abort;
+use std::sync::Wait;
+use std::test::Fail;
+use std::thread::Threads;
+use workers::{OpenGate, PartVerdict, RunFault, part_of, run_in_parts, run_part};
+
+/// Checks C17 in several numbers of parts: all parts together, and each alone.
+fn check_parts<R: Threads + Wait + Abort>(rt: &R, alloc: Global, job: &Job) -> Result<(), Fail> {
+    for parts in [1, 2, 3, 22, 23, 64] {
+        assert!(rt; parts > 0);
+        let verdicts = run_in_parts(rt, alloc, job, parts, 2, &OpenGate)?;
+        check(rt, &verdicts, &C17_FIRSTS);
+        for part in 0..parts {
+            check_part(rt, alloc, job, part, parts)?;
+        }
+    }
+    Ok(())
+}
+
+/// Checks a part of C17 alone.
+fn check_part<R: Threads + Wait + Abort>(
+    rt: &R,
+    alloc: Global,
+    job: &Job,
+    part: u32,
+    parts: u32,
+) -> Result<(), Fail>
+    requires { part < parts }
+{
+    let verdicts = run_part(rt, alloc, job, part, parts, 2, &OpenGate)?;
+    let classes = job.classes();
+    for fault in 0..job.faults().count() {
+        let expected = if part_of(classes.class_of(fault), parts) == part {
+            C17_FIRSTS
+                .get(fault as usize)
+                .map(|first| PartVerdict::First(*first))
+        } else {
+            Some(PartVerdict::OtherPart)
+        };
+        assert_eq!(rt; verdicts.get(fault as usize).copied(), expected);
+    }
+    Ok(())
+}
+
+#[test]
+fn c17_in_parts(rt: HostRuntime) -> Result<(), Fail> {
+    let job = job_of(rt.alloc(), Model::StuckAt, C17, &[("11111", 1)])?;
+    check_parts(&rt, rt.alloc(), &job)
+}
+
+/// Checks how runs in parts are refused.
+fn check_refused<R: Threads + Wait + Abort>(rt: &R, alloc: Global, job: &Job) {
+    let stopped = run_part(rt, alloc, job, 1, 3, 1, &Shut).err();
+    assert_eq!(rt; stopped, Some(RunFault::Unfinished { class: 1, block: 0 }));
+    let stopped = run_in_parts(rt, alloc, job, 3, 1, &Shut).err();
+    assert_eq!(rt; stopped, Some(RunFault::Unfinished { class: 0, block: 0 }));
+    let none = run_in_parts(rt, alloc, job, 3, 0, &OpenGate).err();
+    assert_eq!(rt; none, Some(RunFault::NoWorkers));
+}
+
+#[test]
+fn a_stopped_part_names_the_class_of_the_job(rt: HostRuntime) -> Result<(), Fail> {
+    let job = job_of(rt.alloc(), Model::StuckAt, C17, &[("11111", 1)])?;
+    check_refused(&rt, rt.alloc(), &job);
+    Ok(())
+}

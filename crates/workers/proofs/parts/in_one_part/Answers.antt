@@ -1,0 +1,5 @@
+use Rattle.workers.proofs.Partition.{one_part}
+use Rattle.workers.proofs.parts.in_one_part.Goals as goal
+
+pub returns : goal.returns
+returns c = λ count parts class some lt. one_part count parts class some lt

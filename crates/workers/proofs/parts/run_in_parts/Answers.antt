@@ -1,0 +1,25 @@
+use Rattle.std.proofs.Common.{◌≡◌, ◌∙◌, List, ap, get_or, length, map, subst, sym}
+use Rattle.fault_model.specs.Collapse.{Collapsed}
+use Rattle.workers.specs.declared.parts.PartVerdict.{PartVerdict}
+use Rattle.workers.specs.declared.parts.PartVerdict.TheVariants.{OtherPart}
+use Rattle.workers.specs.Part.{AreClassVerdicts, first_in}
+use Rattle.workers.specs.Verdict.{AreFirsts}
+use Rattle.workers.proofs.Partition.{gathered_firsts}
+use Rattle.workers.proofs.parts.run_in_parts.Goals as goal
+
+pub returns-clause-firsts : goal.returns-clause-firsts
+returns-clause-firsts g c =
+    let job = c.args.job.now in
+    let n = length job.classes.representative in
+    let classes = c.in_ok-gathered.gathered.classes.items in
+    let firsts = c.in_ok-gathered.gathered.firsts.items in
+    let table = c.in_ok-table.table.items in
+    let count = c.count-count.ensures ∙ ap (λ (x : Collapsed). length x.representative) c.classes.ensures.part in
+    let by : AreClassVerdicts n classes firsts (length classes) table =
+    subst (λ k. AreClassVerdicts k classes firsts (length classes) table) count
+    (subst (λ l. AreClassVerdicts c.count-count.result l firsts (length l) table) c.as_slice.ensures.value
+    (subst (λ l. AreClassVerdicts c.count-count.result c.as_slice.result.now l (length c.as_slice.result.now) table) c.as_slice-2.ensures.value c.in_ok-table.ensures)) in
+    let is : c.in_ok-found.found.items ≡ map (λ class. first_in (get_or table class OtherPart)) job.classes.class_of =
+    c.in_ok-found.ensures.firsts ∙ ap (λ (l : List PartVerdict). map (λ class. first_in (get_or l class OtherPart)) job.classes.class_of) c.as_slice-3.ensures.value in
+    subst (AreFirsts job.list.model job.circuit job.tests.tests) (sym c.of.ensures.firsts)
+    (gathered_firsts job c.args.parts classes firsts c.in_ok-found.found.items table c.requires c.classes.ensures.together c.in_ok-gathered.ensures.gathered by is)
