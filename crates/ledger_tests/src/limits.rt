@@ -73,10 +73,9 @@ fn classes_without_a_piece_take_no_time_and_memory(rt: HostRuntime) -> Result<()
         assert!(rt; staffed.reply_to(*call) == *reply, "{call:?}");
     }
     let closed = staffed.close(rt.alloc())?;
-    let status = closed.status(u32::MAX - 1);
     assert_eq!(rt;
-        (closed.finished(), status, closed.skipped()),
-        (Finish::Finished, Status::Settled(None), 0)
+        (closed.finished(), closed.skipped()),
+        (Finish::Finished, 0)
     );
     Ok(())
 }
