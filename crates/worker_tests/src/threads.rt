@@ -91,21 +91,35 @@ fn one_of_two_workers_leaves_its_piece_open(rt: HostRuntime) -> Result<(), Fail>
     Ok(())
 }
 
-/// Two pieces that stay open, and the one that an unfinished run of the buffer names where all its
-/// tests are 1. Class 0, that of `z` stuck at 0, is settled by block 0, and class 1 by all blocks.
-static OPEN_PAIRS: [([(u32, u32); 2], (u32, u32)); 2] = [
+/// Gates that leave two pieces open, and the piece that an unfinished run of the buffer names where
+/// all its tests are 1. Class 0, that of `z` stuck at 0, is settled by block 0, and class 1 by all
+/// blocks.
+static OPEN_PAIRS: [(ShutForTwo, u32, u32); 2] = [
     // Class 0 is settled and block 0 of class 1 is clear: of blocks 1 and 2 the lower is named.
-    ([(1, 1), (1, 2)], (1, 1)),
+    (
+        ShutForTwo {
+            first: (1, 1),
+            second: (1, 2),
+        },
+        1,
+        1,
+    ),
     // Both classes wait for block 0: the lower class is named.
-    ([(0, 0), (1, 0)], (0, 0)),
+    (
+        ShutForTwo {
+            first: (0, 0),
+            second: (1, 0),
+        },
+        0,
+        0,
+    ),
 ];
 
 /// Checks that a run of two workers, each of which leaves a piece open, names the lower one.
 fn check_open_pairs<R: Threads + Wait + Abort>(rt: &R, alloc: Global, job: &Job) {
-    for ([first, second], (class, block)) in &OPEN_PAIRS {
-        let (first, second) = (*first, *second);
-        let stopped = refusal(rt, alloc, job, 2, &ShutForTwo { first, second });
+    for (gate, class, block) in &OPEN_PAIRS {
         let (class, block) = (*class, *block);
+        let stopped = refusal(rt, alloc, job, 2, gate);
         assert_eq!(rt; stopped, Some(RunFault::Unfinished { class, block }));
     }
 }
