@@ -14,6 +14,7 @@ use std::test::Fail;
 use std::thread::Threads;
 
 /// The files `bench`, which is C17, and `tests`, which has one test, each read into new memory.
+#[derive(Clone, Copy)]
 struct Files;
 
 impl Source for Files {
