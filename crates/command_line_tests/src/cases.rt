@@ -73,7 +73,7 @@ pub static CASES: [Case; 9] = [
     },
     Case {
         name: "buffer_64_zeros",
-        line: "faultsim run --bench bench --tests tests",
+        line: "faultsim run --bench bench --tests tests --list",
         bench: BUFFER,
         tests: "\
             0\n0\n0\n0\n0\n0\n0\n0\n0\n0\n0\n0\n0\n0\n0\n0\n\
@@ -82,7 +82,13 @@ pub static CASES: [Case; 9] = [
             0\n0\n0\n0\n0\n0\n0\n0\n0\n0\n0\n0\n0\n0\n0\n0\n\
             ",
         order: "",
-        stdout: "2 of 4 (50.00%)\n",
+        stdout: "\
+            stem a sa0 none\n\
+            stem a sa1 0\n\
+            stem z sa0 none\n\
+            stem z sa1 0\n\
+            2 of 4 (50.00%)\n\
+            ",
         stderr: "",
         status: 0,
     },
@@ -206,7 +212,7 @@ pub static CASES: [Case; 9] = [
     },
     Case {
         name: "eleven_inputs_one_output",
-        line: "faultsim run --bench bench --tests tests",
+        line: "faultsim run --bench bench --tests tests --list",
         bench: "\
             INPUT(i0)\n\
             INPUT(i1)\n\
@@ -223,7 +229,31 @@ pub static CASES: [Case; 9] = [
             ",
         tests: "00000000000\n11111111111\n",
         order: "",
-        stdout: "2 of 22 (9.09%)\n",
+        stdout: "\
+            stem i0 sa0 1\n\
+            stem i0 sa1 0\n\
+            stem i1 sa0 none\n\
+            stem i1 sa1 none\n\
+            stem i2 sa0 none\n\
+            stem i2 sa1 none\n\
+            stem i3 sa0 none\n\
+            stem i3 sa1 none\n\
+            stem i4 sa0 none\n\
+            stem i4 sa1 none\n\
+            stem i5 sa0 none\n\
+            stem i5 sa1 none\n\
+            stem i6 sa0 none\n\
+            stem i6 sa1 none\n\
+            stem i7 sa0 none\n\
+            stem i7 sa1 none\n\
+            stem i8 sa0 none\n\
+            stem i8 sa1 none\n\
+            stem i9 sa0 none\n\
+            stem i9 sa1 none\n\
+            stem i10 sa0 none\n\
+            stem i10 sa1 none\n\
+            2 of 22 (9.09%)\n\
+            ",
         stderr: "",
         status: 0,
     },
@@ -240,10 +270,10 @@ pub static CASES: [Case; 9] = [
 ];
 
 /// More cases of stuck-at faults.
-pub static MORE_CASES: [Case; 10] = [
+pub static MORE_CASES: [Case; 11] = [
     Case {
         name: "idle_lanes_count_for_nothing",
-        line: "faultsim run --bench bench --tests tests",
+        line: "faultsim run --bench bench --tests tests --list",
         bench: "INPUT(a)\nINPUT(b)\nOUTPUT(z)\nz = NOR(a, b)\n",
         tests: "\
             11\n11\n11\n11\n11\n11\n11\n11\n11\n11\n11\n11\n11\n11\n11\n11\n\
@@ -253,7 +283,15 @@ pub static MORE_CASES: [Case; 10] = [
             11\n\
             ",
         order: "",
-        stdout: "1 of 6 (16.66%)\n",
+        stdout: "\
+            stem a sa0 none\n\
+            stem a sa1 none\n\
+            stem b sa0 none\n\
+            stem b sa1 none\n\
+            stem z sa0 none\n\
+            stem z sa1 0\n\
+            1 of 6 (16.66%)\n\
+            ",
         stderr: "",
         status: 0,
     },
@@ -320,12 +358,32 @@ pub static MORE_CASES: [Case; 10] = [
         status: 0,
     },
     Case {
+        name: "order_of_the_fifth_worker",
+        line: "faultsim schedule --bench bench --tests tests --order order --workers 5",
+        bench: BUFFER,
+        tests: "0\n1\n",
+        order: "4\n",
+        stdout: "4 of 4 (100.00%)\n",
+        stderr: "",
+        status: 0,
+    },
+    Case {
         name: "output_makes_a_branch",
-        line: "faultsim run --bench bench --tests tests",
+        line: "faultsim run --bench bench --tests tests --list",
         bench: "INPUT(a)\nOUTPUT(a)\nOUTPUT(z)\nz = NOT(a)\n",
         tests: "0\n",
         order: "",
-        stdout: "4 of 8 (50.00%)\n",
+        stdout: "\
+            stem a sa0 none\n\
+            stem a sa1 0\n\
+            pin z 1 sa0 none\n\
+            pin z 1 sa1 0\n\
+            out 1 sa0 none\n\
+            out 1 sa1 0\n\
+            stem z sa0 0\n\
+            stem z sa1 none\n\
+            4 of 8 (50.00%)\n\
+            ",
         stderr: "",
         status: 0,
     },
@@ -468,11 +526,21 @@ pub static TRANSITION_CASES: [Case; 7] = [
     },
     Case {
         name: "transition_inverter_with_output",
-        line: "faultsim run --bench bench --tests tests --model transition",
+        line: "faultsim run --bench bench --tests tests --list --model transition",
         bench: "INPUT(a)\nOUTPUT(a)\nOUTPUT(z)\nz = NOT(a)\n",
         tests: "0\n1\n",
         order: "",
-        stdout: "4 of 8 (50.00%)\n",
+        stdout: "\
+            stem a str 1\n\
+            stem a stf none\n\
+            pin z 1 str 1\n\
+            pin z 1 stf none\n\
+            out 1 str 1\n\
+            out 1 stf none\n\
+            stem z str none\n\
+            stem z stf 1\n\
+            4 of 8 (50.00%)\n\
+            ",
         stderr: "",
         status: 0,
     },
@@ -499,7 +567,7 @@ pub static TRANSITION_CASES: [Case; 7] = [
 ];
 
 /// Refused texts.
-pub static REFUSED_CASES: [Case; 18] = [
+pub static REFUSED_CASES: [Case; 19] = [
     Case {
         name: "carriage_return_inside",
         line: "faultsim faults --bench bench",
@@ -526,6 +594,16 @@ pub static REFUSED_CASES: [Case; 18] = [
         bench: C17,
         tests: "11111\n",
         order: "4\n",
+        stdout: "",
+        stderr: "faultsim: order line 1: no such worker\n",
+        status: 1,
+    },
+    Case {
+        name: "order_of_a_third_of_two_workers",
+        line: "faultsim schedule --bench bench --tests tests --order order --workers 2",
+        bench: C17,
+        tests: "11111\n",
+        order: "2\n",
         stdout: "",
         stderr: "faultsim: order line 1: no such worker\n",
         status: 1,

@@ -2,7 +2,7 @@
 
 use crate::cases::C17;
 use crate::commands::C17_FILES;
-use crate::screen::{Answer, Screen, run_on};
+use crate::screen::{Answer, Screen, run_between, run_on};
 use report::{Plain, ReportFault, SimFault, simulate_text};
 use std::alloc::{AllocError, Global};
 use std::io::{self, Write};
@@ -55,6 +55,41 @@ fn output_of_few_bytes_a_call_takes_all(rt: HostRuntime) -> Result<(), Fail> {
     ] {
         let told = run_cut(&rt, 4096, step)?;
         assert!(rt; has_told(&told, written.as_bytes(), said, status), "{step}");
+    }
+    Ok(())
+}
+
+/// Command lines that are refused, and the status of each.
+static REFUSED: [(&str, u8); 3] = [
+    ("faultsim faults --bench tests", 1),
+    ("faultsim simulate", 2),
+    ("faultsim faults --bench none", 3),
+];
+
+/// Whether a refused command line has this status where standard error takes so many bytes, and
+/// those are the first of what it tells otherwise.
+fn is_refused<R: AllocGlobal + Threads + Wait>(
+    rt: &R,
+    line: &str,
+    status: u8,
+    limit: usize,
+) -> Result<bool, AllocError> {
+    let whole = run_on(rt, line, C17_FILES, Screen::new(rt.alloc()))?;
+    let (out, err) = (
+        Screen::new(rt.alloc()),
+        Screen::cut(rt.alloc(), limit, 4096),
+    );
+    let told = run_between(rt, line, C17_FILES, out, err)?;
+    let is_beginning = whole.err.text().get(..limit) == Some(told.err.text());
+    Ok(is_beginning && told.out.text().is_empty() && told.status == status)
+}
+
+#[test]
+fn failing_standard_error_leaves_the_status(rt: HostRuntime) -> Result<(), Fail> {
+    for (line, status) in &REFUSED {
+        for limit in [0, 5] {
+            assert!(rt; is_refused(&rt, line, *status, limit)?, "{line}: {limit}");
+        }
     }
     Ok(())
 }

@@ -89,16 +89,26 @@ pub struct Answer {
     pub err: Screen,
 }
 
-/// Runs the words of a command line on files.
+/// Runs the words of a command line on files, with this standard output.
 pub fn run_on<R: AllocGlobal + Threads + Wait>(
     rt: &R,
     line: &str,
     files: Texts<'_>,
+    out: Screen,
+) -> Result<Answer, AllocError> {
+    run_between(rt, line, files, out, Screen::new(rt.alloc()))
+}
+
+/// Runs the words of a command line on files, with these outputs.
+pub fn run_between<R: AllocGlobal + Threads + Wait>(
+    rt: &R,
+    line: &str,
+    files: Texts<'_>,
     mut out: Screen,
+    mut err: Screen,
 ) -> Result<Answer, AllocError> {
     let words: Vec<&str> = line.split(' ').collect(rt.alloc())?;
     let mut files = files;
-    let mut err = Screen::new(rt.alloc());
     let status = run_words(rt, rt.alloc(), &words, &mut files, &mut out, &mut err);
     Ok(Answer { status, out, err })
 }

@@ -1,14 +1,16 @@
 -- Whether all classes are settled, read from their statuses.
-use Rattle.std.proofs.Common.{◌≡◌, ℕ, zero, suc, ◌+◌, ◌-◌, ◌<◌, ◌≤◌, List, ◌∷◌, map, Option, ap, ◌∙◌, arith}
+use Rattle.std.proofs.Common.{◌≡◌, ℕ, zero, suc, ◌+◌, ◌-◌, ◌<◌, ◌≤◌, List, ◌∷◌, map, Option, None, ap, ◌∙◌, arith}
 use Rattle.patterns.specs.Least.{from_up, below}
 use Rattle.fault_ledger.specs.declared.Shape.{Shape}
 use Rattle.fault_ledger.specs.declared.PieceState.{PieceState}
 use Rattle.fault_ledger.specs.declared.Status.{Status}
 use Rattle.fault_ledger.specs.declared.Status.TheVariants as status_is
 use Rattle.fault_ledger.specs.declared.Finish.TheVariants as finish_is
-use Rattle.fault_ledger.specs.History.{History, states_of}
-use Rattle.fault_ledger.specs.Settled.{status, finish_from}
+use Rattle.fault_ledger.specs.History.{History, entry, states_of, block_count, piece_count, piece_at}
+use Rattle.fault_ledger.specs.Settled.{status, finish, finish_from}
 use Rattle.fault_ledger.specs.Answer.{IsLegal}
+use Rattle.fault_ledger.proofs.Pieces.{no_block}
+use Rattle.fault_ledger.proofs.Statuses.{status-none}
 
 -- past classes that are settled
 finish-past : (g : ℕ → Status) (a m n all b : ℕ) → m + n ≡ all → a + m ≡ b → ((k : ℕ) → a ≤ k → k < b → (at : Option ℕ) × (g k ≡ status_is.Settled at))
@@ -34,3 +36,12 @@ finish-all g n settled = finish-past g 0 n 0 n n (omega arith) (omega arith) (λ
 -- each class below n is settled, in every legal history with these states
 abbrev pub SettledBelow : Shape → List PieceState → ℕ → Type 0
 SettledBelow s states n = (h : History) → IsLegal s h → states ≡ states_of s h → (k : ℕ) → k < n → (at : Option ℕ) × (status s h k ≡ status_is.Settled at)
+
+-- where there is no piece all classes are settled
+pub finish-none : (s : Shape) (h : History) → piece_count s ≡ 0 → finish s h ≡ finish_is.Finished
+finish-none s h none =
+    finish-all (status s h) s.classes (λ k l. (
+      None,
+      status-none (λ block. entry (piece_at s k block) h) (block_count s)
+          (λ j m. let a = no_block s k l (omega arith) in absurd (omega arith)),
+    ))

@@ -10,7 +10,7 @@ use Rattle.fault_ledger.specs.Answer.{is_hit}
 use Rattle.fault_ledger.specs.Face.{Face, IsLedger}
 use Rattle.fault_ledger.specs.Lowest.{hit_below, AreLowestHits}
 use Rattle.fault_ledger.proofs.Tables.{set_same, any-below, any_at-below, any_none-below}
-use Rattle.fault_ledger.proofs.Pieces.{some_class, class_of-at, block_of-at, block_of-below, piece_at-below, at-of}
+use Rattle.fault_ledger.proofs.Pieces.{some_class, class_of-at, block_of-at, block_of-below, class-below, at-of}
 use Rattle.fault_ledger.proofs.Histories.{held_open}
 use Rattle.fault_ledger.proofs.Faces.{state-entry, found-held, found-piece, ledger-states, shows_hit}
 
@@ -185,9 +185,6 @@ length-replicated : (n x : ℕ) → length (replicate n x) ≡ n
 length-replicated zero x = refl
 length-replicated (suc n) x = ap suc (length-replicated n x)
 
-all_have_pieces : (s : Shape) (class block : ℕ) → class < s.classes → block < block_count s → class < piece_count s
-all_have_pieces s class block l m = let a = piece_at-below s class 0 l (omega arith) in omega arith
-
 pub lowest-new : (s : Shape) (n m : ℕ) → n ≡ min s.classes (piece_count s) → AreLowestHits s (replicate m state.Open) (replicate n (block_count s))
 lowest-new s n m e = record {
   long = length-replicated n (block_count s) ∙ e;
@@ -199,6 +196,6 @@ lowest-new s n m e = record {
     no_number : (class k : ℕ) → class < s.classes → k ≤ block_count s → nat_lt (get_or (replicate n (block_count s)) class 0) k ≡ false
     no_number class zero l few = le-ltb (get_or (replicate n (block_count s)) class 0) 0 (omega arith)
     no_number class (suc k) l few =
-        let has = all_have_pieces s class k l (omega arith) in
+        let has = class-below s class k l (omega arith) in
         let at = get-repeated n class (block_count s) (omega arith) in
         le-ltb (get_or (replicate n (block_count s)) class 0) (suc k) (omega arith)

@@ -1,5 +1,5 @@
 -- The numbers of pieces, classes and blocks.
-use Rattle.std.proofs.Common.{◌≡◌, ℕ, zero, suc, ◌+◌, ◌*◌, ◌<◌, ◌≤◌, ◌∙◌, arith}
+use Rattle.std.proofs.Common.{◌≡◌, ℕ, zero, suc, ◌+◌, ◌*◌, ◌<◌, ◌≤◌, refl, ◌∙◌, arith}
 use Rattle.std.proofs.Math.Nat.{add-mul-mod_self_left, mod-eq_of_lt, add-mul-div_left, div-eq_of_lt, mul-le-mul_left, mod-add-div, div-lt_iff_lt-mul}
 use Rattle.fault_ledger.specs.declared.Shape.{Shape}
 use Rattle.fault_ledger.specs.History.{block_count, piece_count, class_of, block_of, piece_at}
@@ -15,6 +15,17 @@ piece_at-below s class block l m =
     let e : block + 1 ≤ block_count s = omega arith in
     let f : s.classes * (block + 1) ≤ s.classes * block_count s = mul-le-mul_left s.classes e in
     omega arith
+
+-- a class with a block has a piece, and without pieces it has no block
+pub class-below : (s : Shape) (class block : ℕ) → class < s.classes → block < block_count s → class < piece_count s
+class-below s class block l m = let a = piece_at-below s class 0 l (omega arith) in omega arith
+
+pub no_block : (s : Shape) (class : ℕ) → class < s.classes → piece_count s ≤ class → block_count s ≡ 0
+no_block s class l none = go (block_count s) refl
+  where
+    go : (n : ℕ) → block_count s ≡ n → block_count s ≡ 0
+    go zero e = e
+    go (suc n) e = let a = class-below s class 0 l (omega arith) in absurd (omega arith)
 
 pub some_class : (s : Shape) (p : ℕ) → p < piece_count s → 0 < s.classes
 some_class s p l = go s.classes l

@@ -1,9 +1,9 @@
 -- How many of the first blocks of each class are Clear, by the states of all pieces.
-use Rattle.std.specs.Prelude.{◌≡◌, ◌≢◌, ℕ, ◌<◌, ◌≤◌, List, length, slice_index, slice_index_or}
+use Rattle.std.specs.Prelude.{◌≡◌, ◌≢◌, ℕ, ◌<◌, ◌≤◌, min, List, length, slice_index, slice_index_or}
 use Rattle.fault_ledger.specs.declared.Shape.{Shape}
 use Rattle.fault_ledger.specs.declared.PieceState.{PieceState}
 use Rattle.fault_ledger.specs.declared.PieceState.TheVariants as state
-use Rattle.fault_ledger.specs.History.{block_count, piece_at}
+use Rattle.fault_ledger.specs.History.{block_count, piece_at, piece_count}
 
 -- the state of a class and a block
 abbrev pub state_in : Shape → List PieceState → ℕ → ℕ → PieceState
@@ -15,8 +15,8 @@ pub record IsHead (shape : Shape) (states : List PieceState) (class blocks : ℕ
   pub clear : (earlier : ℕ) → earlier < blocks → state_in shape states class earlier ≡ state.Clear
   pub next : blocks < block_count shape → state_in shape states class blocks ≢ state.Clear
 
--- for each class its number
+-- for each class that has a piece its number, and 0 for the others
 pub record AreHeads (shape : Shape) (states : List PieceState) (heads : List ℕ) : Type 0 where
-  pub long : length heads ≡ shape.classes
+  pub long : length heads ≡ min shape.classes (piece_count shape)
   pub each : (class : ℕ) → class < shape.classes
       → IsHead shape states class (slice_index heads class)

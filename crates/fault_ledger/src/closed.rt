@@ -1,6 +1,6 @@
 //! What is left of a shared ledger once it is closed.
 
-ghost use Rattle.std.specs.Prelude.{◌≡◌, ◌<◌, count_by, map, IfOk, None};
+ghost use Rattle.std.specs.Prelude.{◌≡◌, ◌<◌, count_by, map, slice_index, IfOk, None};
 ghost use Rattle.fault_ledger.specs.History.{History, block_count, entry, piece_at};
 ghost use Rattle.fault_ledger.specs.Answer.{IsLegal};
 ghost use Rattle.fault_ledger.specs.Settled.{status, finish, is_skipped};
@@ -21,7 +21,7 @@ pub struct Closed {
     shape: Shape,
     // The code of each piece's state, as it stood in its word.
     codes: Vec<u8>,
-    // For each class how many of its first blocks are clear.
+    // For each class that has a piece how many of its first blocks are clear.
     clear_blocks: Vec<u32>,
 }
 
@@ -49,8 +49,9 @@ impl Closed {
         ensures { IfOk result (λ closed.
             closed ≡ closed_of shape (map rule.state_at codes.items)) }
     {
-        let mut clear_blocks = Vec::with_capacity(alloc, shape.classes as usize)?;
-        for class in 0..shape.classes {
+        let with_pieces = shape.classes_with_pieces();
+        let mut clear_blocks = Vec::with_capacity(alloc, with_pieces as usize)?;
+        for class in 0..with_pieces {
             clear_blocks.push(clear_head(shape, &codes, class))?;
         }
         Ok(Closed {
@@ -78,7 +79,7 @@ impl Closed {
         ensures status { (h : History) → IsLegal self.now.shape h
             → self.now ≡ closed_face self.now.shape h → result ≡ status self.now.shape h class }
     {
-        let clear = self.clear_blocks[class as usize];
+        let clear = clear_of(&self.clear_blocks, class);
         if clear == self.shape.blocks() {
             return Status::Settled(None);
         }
@@ -94,12 +95,15 @@ impl Closed {
 
     /// Whether all classes are settled, else the lowest class that isn't, with the block that it
     /// waits for. It takes at most the time of [`Closed::status`] for that class and each lower
-    /// one.
+    /// one, and constant time where there is no piece.
     pub fn finished(&self) -> Finish
         ensures states { AreStates self.now.shape self.now.states }
         ensures finish { (h : History) → IsLegal self.now.shape h
             → self.now ≡ closed_face self.now.shape h → result ≡ finish self.now.shape h }
     {
+        if self.shape.pieces() == 0 {
+            return Finish::Finished;
+        }
         for class in 0..self.shape.classes {
             if let Status::Waiting(block) = self.status(class) {
                 return Finish::Waiting { class, block };
@@ -132,6 +136,16 @@ fn state_of(shape: Shape, codes: &[u8], class: u32, block: u32) -> PieceState
     let piece = class + shape.classes * block;
     let code = codes[piece as usize];
     state_at(u64::from(code))
+}
+
+/// How many of the first blocks of a class are clear: none where the class has no piece.
+fn clear_of(clear_blocks: &[u32], class: u32) -> u32
+    ensures { result ≡ slice_index clear_blocks.now class }
+{
+    match clear_blocks.get(class as usize) {
+        Some(clear) => *clear,
+        None => 0,
+    }
 }
 
 /// How many of the first blocks of a class are clear, by the codes of all pieces.

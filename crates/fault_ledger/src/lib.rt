@@ -18,7 +18,7 @@ mod shared;
 mod states;
 mod words;
 
-ghost use Rattle.std.specs.Prelude.{◌≡◌, ◌<◌};
+ghost use Rattle.std.specs.Prelude.{◌≡◌, ◌<◌, min};
 ghost use Rattle.patterns.specs.Tests.{size_of};
 ghost use Rattle.fault_ledger.specs.Answer.{fits_size};
 ghost use Rattle.fault_ledger.specs.History.{block_count, block_of, piece_count, state_of};
@@ -206,6 +206,13 @@ impl Shape {
         ensures { result ≡ piece_count self }
     {
         u64::from(self.classes) * u64::from(self.blocks())
+    }
+
+    /// The number of classes that have a piece: all, or none where there are no tests.
+    pub(crate) fn classes_with_pieces(self) -> u32
+        ensures { result ≡ min self.classes (piece_count self) }
+    {
+        u64::from(self.classes).min(self.pieces()) as u32
     }
 
     /// The number of tests in a block.

@@ -74,8 +74,7 @@ impl Ledger {
         }
         let holding = vec![in alloc; None; workers as usize]?;
         let states = vec![in alloc; PieceState::Open; shape.pieces() as usize]?;
-        let with_pieces = u64::from(classes).min(shape.pieces());
-        let lowest_hits = vec![in alloc; shape.blocks(); with_pieces as usize]?;
+        let lowest_hits = vec![in alloc; shape.blocks(); shape.classes_with_pieces() as usize]?;
         Ok(Ledger {
             shape,
             claimed: 0,
@@ -189,7 +188,7 @@ impl Ledger {
 
     /// Whether all classes are settled, else the lowest class that isn't, with the block that it
     /// waits for. It takes at most the time of [`Ledger::status`] for that class and each lower
-    /// one.
+    /// one, and constant time where there is no piece.
     pub fn finished(&self) -> Finish
         ensures { Answers self.now Call.Finished (Reply.Finish result) self.now }
     {

@@ -121,7 +121,7 @@ impl SharedLedger {
     /// It is refused, in this order, with [`LedgerFault::NoWorkers`], with
     /// [`LedgerFault::TooManyWorkers`] above 64 workers, with [`LedgerFault::TooManyPieces`] above
     /// 16,777,216 pieces, and with [`LedgerFault::Memory`]. It takes a byte a piece, twice for a
-    /// moment, and for each seat 8 bytes a class, for the first 65,536 classes.
+    /// moment, and for each seat 8 bytes a class that has a piece, for the first 65,536 classes.
     #[tactic(auto, using(crate::proofs::Deals::newcomers_placed))]
     pub fn new(
         alloc: Global,
@@ -307,7 +307,8 @@ impl SharedLedger {
     }
 
     /// The clear blocks at the head of a class, below an end. It looks at those that the seat
-    /// doesn't remember as clear, and remembers them.
+    /// doesn't remember as clear, and remembers them. Where the seat remembers all as clear, it
+    /// takes no look, and remembers what it did.
     fn passes_clear(&self, seat: &mut Seat, class: u32, end: u32) -> ClearHead
         requires place { seat.old.place ≡ self.now }
         requires range { (class < self.now.shape.classes) × (end ≤ block_count self.now.shape) }
@@ -317,6 +318,12 @@ impl SharedLedger {
         ensures head { EndsClear self.now.shape seat.new.seen class end result.clear result.next }
     {
         let known = remembered_of(&seat.remembered, class);
+        if end <= known.clear {
+            return ClearHead {
+                clear: known.clear,
+                next: None,
+            };
+        }
         let head = self.passes_clear_from(&mut seat.token, class, known.clear, end);
         let clear = head.clear;
         let hit = ends_in_hit(head);
@@ -390,7 +397,8 @@ impl SharedLedger {
 
     /// Whether all classes are settled, else the lowest class that isn't, with the block that it
     /// waits for. It takes the looks of [`SharedLedger::status`] for that class and each lower one,
-    /// and takes effect at its last look. Where there is no piece it takes no look.
+    /// and takes effect at its last look. Where there is no piece it takes no look, and constant
+    /// time.
     pub fn finished(&self, seat: &mut Seat) -> Finish
         requires { seat.old.place ≡ self.now }
         ensures kept { Keeps seat.old seat.new }
@@ -399,7 +407,11 @@ impl SharedLedger {
         ensures no_piece { (self.now.shape.classes ≡ 0) ⊎ (block_count self.now.shape ≡ 0)
             → seat.new ≡ seat.old }
     {
-        for class in 0..seat.row.classes() {
+        let classes = seat.row.classes();
+        if self.shape.pieces() == 0 {
+            return Finish::Finished;
+        }
+        for class in 0..classes {
             if let Status::Waiting(block) = self.status(seat, class) {
                 return Finish::Waiting { class, block };
             }
@@ -491,7 +503,7 @@ fn seats_of(
     for worker in 0..shape.workers {
         let (token, rest) = words.part(group);
         group = rest;
-        let count = shape.classes.min(REMEMBERED_CLASSES);
+        let count = shape.classes_with_pieces().min(REMEMBERED_CLASSES);
         let remembered = vec![in alloc; NOTHING_SEEN; count as usize]?;
         seats.push(Seat {
             token,

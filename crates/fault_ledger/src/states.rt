@@ -39,6 +39,9 @@ pub(crate) fn finish_in(shape: Shape, states: &[PieceState]) -> Finish
     ensures { (h : History) → IsLegal shape h → states.now ≡ states_of shape h
         → result ≡ finish shape h }
 {
+    if shape.pieces() == 0 {
+        return Finish::Finished;
+    }
     for class in 0..shape.classes {
         if let Status::Waiting(block) = status_in(shape, states, class) {
             return Finish::Waiting { class, block };

@@ -1,6 +1,9 @@
 //! The limits of a ledger, and the words of its faults.
 
-use fault_ledger::{Ledger, LedgerFault, SharedLedger};
+use crate::staffed::Staffed;
+use fault_ledger::{
+    Call, Claim, Finish, Ledger, LedgerFault, Refusal, Reply, Shape, SharedLedger, Status, replay,
+};
 use std::test::Fail;
 
 #[test]
@@ -39,5 +42,40 @@ fn words_of_faults(rt: HostRuntime) -> Result<(), Fail> {
         let said = format!(in rt.alloc(); "{fault}")?;
         assert_eq!(rt; said.as_str(), words);
     }
+    Ok(())
+}
+
+/// The most classes that a shape can have, and no tests: there is no piece.
+const NO_PIECES: Shape = Shape {
+    classes: u32::MAX,
+    tests: 0,
+    workers: 1,
+};
+
+/// What both ledgers of that shape reply: all is claimed, and each class is settled at no test.
+static NO_PIECES_REPLIES: [(Call, Reply); 4] = [
+    (Call::Claim(0), Reply::Claimed(Claim::Exhausted)),
+    (
+        Call::Status(u32::MAX - 1),
+        Reply::Status(Status::Settled(None)),
+    ),
+    (Call::Status(u32::MAX), Reply::Refused(Refusal::NoSuchClass)),
+    (Call::Finished, Reply::Finish(Finish::Finished)),
+];
+
+/// A walk over all classes would take minutes, and a word for each of them 17 GB.
+#[test]
+fn classes_without_a_piece_take_no_time_and_memory(rt: HostRuntime) -> Result<(), Fail> {
+    let mut staffed = Staffed::new(rt.alloc(), NO_PIECES)?;
+    for (call, reply) in &NO_PIECES_REPLIES {
+        let (_, replies) = replay(rt.alloc(), NO_PIECES, &[*call])?;
+        assert!(rt; replies.as_slice() == [*reply].as_slice(), "{call:?}");
+        assert!(rt; staffed.reply_to(*call) == *reply, "{call:?}");
+    }
+    let closed = staffed.close(rt.alloc())?;
+    assert_eq!(rt;
+        (closed.finished(), closed.skipped()),
+        (Finish::Finished, 0)
+    );
     Ok(())
 }

@@ -5,6 +5,8 @@
 #[cfg(test)]
 mod ballast;
 #[cfg(test)]
+mod commands;
+#[cfg(test)]
 mod full;
 #[cfg(test)]
 mod once;

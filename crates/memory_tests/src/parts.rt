@@ -46,7 +46,7 @@ pub(crate) fn c17_job(alloc: Global) -> Result<Job, Fail> {
     c17_under(alloc, tests.as_slice())
 }
 
-/// Whether a text call was refused for want of memory, or of a thread.
+/// Whether a call was refused for want of memory.
 pub(crate) fn is_want(fault: SimFault) -> bool {
     match fault {
         SimFault::Memory => true,
@@ -54,7 +54,7 @@ pub(crate) fn is_want(fault: SimFault) -> bool {
         SimFault::Tests(fault) => fault == TestFault::Memory,
         SimFault::Order(fault) => fault == OrderFault::Memory,
         SimFault::Job(fault) => fault == JobFault::Memory,
-        SimFault::Run(fault) => fault == RunFault::Memory || fault == RunFault::Threads,
+        SimFault::Run(fault) => fault == RunFault::Memory,
         SimFault::Report(_) => false,
     }
 }

@@ -6,7 +6,7 @@ use crate::parts::{C17, ORDER, is_want, tests_of_c17};
 use crate::sweep::{Outcome, Trial, answered, refused, sweep};
 use fault_model::Model;
 use report::{
-    Out, OutFailed, SimFault, faults_text, listing_bytes, report_bytes, schedule_text,
+    Out, OutFailed, RunFault, SimFault, faults_text, listing_bytes, report_bytes, schedule_text,
     simulate_text,
 };
 use std::alloc::Global;
@@ -89,6 +89,14 @@ impl<R: Threads + Wait> Written<'_, R> {
             TextCall::Faults => faults_text(alloc, C17, screen),
         }
     }
+
+    /// Whether the call may be refused so: for want of memory, and of a thread where it starts some.
+    fn is_want(&self, fault: SimFault) -> bool {
+        match self.call {
+            TextCall::Simulate => is_want(fault) || fault == SimFault::Run(RunFault::Threads),
+            TextCall::Schedule | TextCall::Faults => is_want(fault),
+        }
+    }
 }
 
 impl<R: Threads + Wait> Trial for Written<'_, R> {
@@ -104,7 +112,7 @@ impl<R: Threads + Wait> Trial for Written<'_, R> {
         let mut screen = Screen::new();
         match self.write(alloc, &mut screen) {
             Ok(()) => answered(screen.text() == self.text),
-            Err(fault) => refused(screen.text().is_empty() && is_want(fault)),
+            Err(fault) => refused(screen.text().is_empty() && self.is_want(fault)),
         }
     }
 }

@@ -1,9 +1,13 @@
-//! Gates that stop workers, count pieces, or hold a piece until another has arrived.
+//! Gates that stop workers, count pieces, or hold a piece until another piece or other workers have
+//! come.
 
 use std::sync::atomic::{AtomicU64, Ordering};
 use std::thread;
 use std::time::{Clock, Duration};
 use workers::Gate;
+
+/// How many turns of 1 ms a gate holds a piece.
+const TURNS: u32 = 10_000;
 
 /// A gate that lets nothing pass.
 #[derive(Clone, Copy, Debug)]
@@ -33,6 +37,21 @@ impl Gate for ShutFor {
 
     fn pass(&self, _worker: u32, class: u32, block: u32) -> bool {
         (class, block) != (self.class, self.block)
+    }
+}
+
+/// A gate that stops the workers of two pieces.
+#[derive(Clone, Copy, Debug)]
+pub(crate) struct ShutForTwo {
+    pub(crate) first: (u32, u32),
+    pub(crate) second: (u32, u32),
+}
+
+impl Gate for ShutForTwo {
+    ghost passing = { λ _. ⊥ };
+
+    fn pass(&self, _worker: u32, class: u32, block: u32) -> bool {
+        (class, block) != self.first && (class, block) != self.second
     }
 }
 
@@ -66,7 +85,7 @@ impl Gate for Counter {
 }
 
 /// A gate that holds the worker of one piece until a second piece has arrived, and where both are
-/// held that of the second until the first has. It gives up after 10,000 turns of 1 ms.
+/// held that of the second until the first has. It gives up after some turns of 1 ms.
 #[derive(Drop)]
 pub(crate) struct Meeting<'a, C> {
     clock: &'a C,
@@ -103,22 +122,49 @@ impl<C: Clock> Gate for Meeting<'_, C> {
     fn pass(&self, _worker: u32, class: u32, block: u32) -> bool {
         if (class, block) == self.first {
             self.first_came.store(1, Ordering::SeqCst);
-            return came(self.clock, &self.second_came);
+            return came(self.clock, &self.second_came, 1);
         }
         if (class, block) == self.second {
             self.second_came.store(1, Ordering::SeqCst);
             if self.both {
-                return came(self.clock, &self.first_came);
+                return came(self.clock, &self.first_came, 1);
             }
         }
         true
     }
 }
 
-/// Waits for a piece that is to arrive, and says whether it did.
-fn came<C: Clock>(clock: &C, arrival: &AtomicU64) -> bool {
-    for _ in 0..10_000 {
-        if arrival.load(Ordering::SeqCst) == 1 {
+/// A gate that holds every worker until workers 0 to 3 have come, each with its own number. It
+/// gives up as a meeting does.
+#[derive(Drop)]
+pub(crate) struct Roll<'a, C> {
+    clock: &'a C,
+    // The bit of each worker that has come.
+    called: AtomicU64,
+}
+
+impl<'a, C: Clock> Roll<'a, C> {
+    pub(crate) fn new(clock: &'a C) -> Roll<'a, C> {
+        Roll {
+            clock,
+            called: AtomicU64::new(0),
+        }
+    }
+}
+
+impl<C: Clock> Gate for Roll<'_, C> {
+    ghost passing = { λ _. ⊥ };
+
+    fn pass(&self, worker: u32, _class: u32, _block: u32) -> bool {
+        self.called.fetch_or(1 << (worker % 64), Ordering::SeqCst);
+        came(self.clock, &self.called, 0b1111)
+    }
+}
+
+/// Waits until a word has the value that it is to have, and says whether it has.
+fn came<C: Clock>(clock: &C, word: &AtomicU64, wanted: u64) -> bool {
+    for _ in 0..TURNS {
+        if word.load(Ordering::SeqCst) == wanted {
             return true;
         }
         thread::sleep(clock, Duration::from_millis(1));

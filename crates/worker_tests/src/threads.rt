@@ -4,7 +4,7 @@ ghost use Rattle.std.specs.Prelude.{◌≡◌, ◌<◌, All, IfOk, length};
 ghost use Rattle.workers.specs.Settling.{IsShapeOf};
 
 use crate::fixtures::{BUFFER, C17, C17_FIRSTS, WIRE, check, job_of};
-use crate::gates::{Counter, Meeting, Shut, ShutFor};
+use crate::gates::{Counter, Meeting, Roll, Shut, ShutFor, ShutForTwo};
 use block_sim::{Job, Workspace};
 use fault_ledger::{Finish, Seat, SharedLedger};
 use fault_model::Model;
@@ -91,6 +91,46 @@ fn one_of_two_workers_leaves_its_piece_open(rt: HostRuntime) -> Result<(), Fail>
     Ok(())
 }
 
+/// Gates that leave two pieces open, and the piece that an unfinished run of the buffer names where
+/// all its tests are 1. Class 0, that of `z` stuck at 0, is settled by block 0, and class 1 by all
+/// blocks.
+static OPEN_PAIRS: [(ShutForTwo, u32, u32); 2] = [
+    // Class 0 is settled and block 0 of class 1 is clear: of blocks 1 and 2 the lower is named.
+    (
+        ShutForTwo {
+            first: (1, 1),
+            second: (1, 2),
+        },
+        1,
+        1,
+    ),
+    // Both classes wait for block 0: the lower class is named.
+    (
+        ShutForTwo {
+            first: (0, 0),
+            second: (1, 0),
+        },
+        0,
+        0,
+    ),
+];
+
+/// Checks that a run of two workers, each of which leaves a piece open, names the lower one.
+fn check_open_pairs<R: Threads + Wait + Abort>(rt: &R, alloc: Global, job: &Job) {
+    for (gate, class, block) in &OPEN_PAIRS {
+        let (class, block) = (*class, *block);
+        let stopped = refusal(rt, alloc, job, 2, gate);
+        assert_eq!(rt; stopped, Some(RunFault::Unfinished { class, block }));
+    }
+}
+
+#[test]
+fn the_lowest_open_block_of_the_lowest_class_is_named(rt: HostRuntime) -> Result<(), Fail> {
+    let job = job_of(rt.alloc(), Model::StuckAt, BUFFER, &[("1", 129)])?;
+    check_open_pairs(&rt, rt.alloc(), &job);
+    Ok(())
+}
+
 /// Checks a run whose gate is shut for a piece behind a hit, and then one of the same job whose
 /// gate is open.
 fn check_behind_a_hit<R: Threads + Wait + Abort>(
@@ -139,6 +179,40 @@ fn check_one_held<R: Threads + Wait + Abort + Clock + Sync>(
 fn a_worker_goes_on_while_another_is_held(rt: HostRuntime) -> Result<(), Fail> {
     let job = job_of(rt.alloc(), Model::StuckAt, BUFFER, &[("0", 64), ("1", 1)])?;
     check_one_held(&rt, rt.alloc(), &job)
+}
+
+/// Checks a run whose gate holds the four workers until all have come: each has a thread of its
+/// own, and is asked for by its own number.
+fn check_roll<R: Threads + Wait + Abort + Clock + Sync>(
+    rt: &R,
+    alloc: Global,
+    job: &Job,
+) -> Result<(), Fail> {
+    check_run(rt, alloc, job, 4, &Roll::new(rt), &BUFFER_FIRSTS)
+}
+
+#[test]
+fn four_workers_come_to_the_gate(rt: HostRuntime) -> Result<(), Fail> {
+    let job = job_of(rt.alloc(), Model::StuckAt, BUFFER, &[("0", 64), ("1", 1)])?;
+    check_roll(&rt, rt.alloc(), &job)
+}
+
+/// Checks the number of pieces that a run of one worker skips.
+///
+/// The worker claims class 0, of `z` stuck at 0, and class 1 on block 0 and then both on block 1.
+/// Each test is 1, so it reports a hit of class 0 and class 1 as clear. On block 1 it drops class
+/// 0, behind that hit, and reports class 1 as clear: one piece of four is skipped.
+fn check_skipped<R: Threads + Wait + Abort>(rt: &R, alloc: Global, job: &Job) -> Result<(), Fail> {
+    let verdicts = run(rt, alloc, job, 1, &OpenGate)?;
+    check(rt, &verdicts, &[Some(0), None, Some(0), None]);
+    assert_eq!(rt; verdicts.skipped(), 1);
+    Ok(())
+}
+
+#[test]
+fn a_piece_behind_a_hit_is_skipped(rt: HostRuntime) -> Result<(), Fail> {
+    let job = job_of(rt.alloc(), Model::StuckAt, BUFFER, &[("1", 128)])?;
+    check_skipped(&rt, rt.alloc(), &job)
 }
 
 /// Checks that a run of one worker ends after the pieces of the first block.

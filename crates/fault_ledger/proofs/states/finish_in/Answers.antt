@@ -1,8 +1,11 @@
 use Rattle.std.proofs.Common.{◌≡◌, ℕ, Option, sym, arith, below_more}
 use Rattle.fault_ledger.specs.declared.Status.TheVariants.{Settled}
 use Rattle.fault_ledger.specs.Settled.{status}
-use Rattle.fault_ledger.proofs.Finishes.{finish-waits, finish-all}
+use Rattle.fault_ledger.proofs.Finishes.{finish-waits, finish-all, finish-none}
 use Rattle.fault_ledger.proofs.states.finish_in.Goals as goal
+
+pub returns-then-pieces-eq0 : goal.returns-then-pieces-eq0
+returns-then-pieces-eq0 c = λ h legal e. sym (finish-none c.args.shape h (let a = c.pieces.ensures in let b = c.if-pieces-eq0.true in omega arith))
 
 pub loop-class-init : goal.loop-class-init
 loop-class-init c = λ h legal e k l. absurd (omega arith)

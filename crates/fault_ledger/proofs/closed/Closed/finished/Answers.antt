@@ -1,9 +1,15 @@
 use Rattle.std.proofs.Common.{◌≡◌, ◌<◌, ℕ, Option, sym, ap, subst, arith, below_more}
 use Rattle.fault_ledger.specs.declared.Status.TheVariants.{Settled}
+use Rattle.fault_ledger.specs.History.{piece_count}
 use Rattle.fault_ledger.specs.Settled.{status}
 use Rattle.fault_ledger.specs.Seats.{ClosedFace, closed_of}
-use Rattle.fault_ledger.proofs.Finishes.{finish-waits, finish-all}
+use Rattle.fault_ledger.proofs.Finishes.{finish-waits, finish-all, finish-none}
 use Rattle.fault_ledger.proofs.closed.Closed.finished.Goals as goal
+
+pub returns-then-pieces-eq0-clause-finish : goal.returns-then-pieces-eq0-clause-finish
+returns-then-pieces-eq0-clause-finish c = λ h legal e.
+    let none : piece_count c.self.inside.shape ≡ 0 = (let a = c.pieces.ensures in let b = c.if-pieces-eq0.true in omega arith) in
+    sym (finish-none c.args.self.now.shape h (subst (λ (f : ClosedFace). piece_count f.shape ≡ 0) c.self.view_is none))
 
 pub returns-in-Waiting-clause-finish : goal.returns-in-Waiting-clause-finish
 returns-in-Waiting-clause-finish c = λ h legal e.

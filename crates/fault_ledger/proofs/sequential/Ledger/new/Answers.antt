@@ -24,10 +24,10 @@ lowest c =
     let states = c.in_ok-states.ensures.items_if_clones_equal (λ y is. is) in
     let hits = c.in_ok-lowest_hits.ensures.items_if_clones_equal (λ y is. is) in
     let blocks : c.blocks-2.result ≡ block_count s = c.blocks-2.ensures in
-    let count : c.min-with_pieces.result ≡ min s.classes (piece_count s) = c.min-with_pieces.ensures ∙ (λ i. min (c.from.ensures i) (c.pieces-2.ensures i)) in
+    let count : c.classes_with_pieces.result ≡ min s.classes (piece_count s) = c.classes_with_pieces.ensures in
     subst (λ (l : List PieceState). AreLowestHits s l c.in_ok-lowest_hits.lowest_hits.items) (sym states)
-    (subst (λ (l : List ℕ). AreLowestHits s (replicate c.pieces.result Open) l) (sym (hits ∙ ap (replicate c.min-with_pieces.result) blocks))
-    (lowest-new s c.min-with_pieces.result c.pieces.result count))
+    (subst (λ (l : List ℕ). AreLowestHits s (replicate c.pieces.result Open) l) (sym (hits ∙ ap (replicate c.classes_with_pieces.result) blocks))
+    (lowest-new s c.classes_with_pieces.result c.pieces.result count))
 
 pub invariant_of-result : goal.invariant_of-result
 invariant_of-result c = (

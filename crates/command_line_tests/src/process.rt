@@ -1,0 +1,212 @@
+//! Runs on the arguments of a process: files that can't be had, and an output that refuses its bytes
+//! or its flush.
+
+use crate::screen::Screen;
+use command_line::run_arguments;
+use std::alloc::{Allocator, Global};
+use std::env::FillError;
+use std::fs::{Metadata, OpenOptions};
+use std::io::{self, ErrorKind, Write};
+use std::rt::{Env, Files};
+use std::sync::Wait;
+use std::test::Fail;
+use std::thread::Threads;
+
+/// A process with the words of a line as its arguments, in which each call on files is refused.
+#[derive(Drop)]
+struct Process<'a, R> {
+    rt: &'a R,
+    line: &'a str,
+    refusal: ErrorKind,
+}
+
+impl<R: Threads> Threads for Process<'_, R> {}
+
+impl<R: Wait> Wait for Process<'_, R> {}
+
+impl<R: AllocGlobal> Alloc for Process<'_, R> {
+    type A = Global;
+
+    fn alloc(&self) -> Global {
+        self.rt.alloc()
+    }
+}
+
+impl<R> Env for Process<'_, R> {
+    fn arg(&self, i: usize, buf: &mut [u8]) -> Result<usize, FillError> {
+        let Some(word) = self.line.split(' ').nth(i) else {
+            return Err(FillError::NotPresent);
+        };
+        let Some(room) = buf.get_mut(..word.len()) else {
+            return Err(FillError::TooLong);
+        };
+        room.copy_from_slice(word.as_bytes());
+        Ok(word.len())
+    }
+
+    fn var(&self, _name: &str, _buf: &mut [u8]) -> Result<usize, FillError> {
+        Err(FillError::NotPresent)
+    }
+
+    fn var_at(&self, _i: usize, _buf: &mut [u8]) -> Result<usize, FillError> {
+        Err(FillError::NotPresent)
+    }
+}
+
+impl<R: Files> Files for Process<'_, R> {
+    type File = R::File;
+
+    type Dir = R::Dir;
+
+    fn open_file(&self, _how: &OpenOptions, _path: &str) -> io::Result<R::File> {
+        Err(self.refusal.into())
+    }
+
+    fn open_dir(&self, _path: &str) -> io::Result<R::Dir> {
+        Err(self.refusal.into())
+    }
+
+    fn metadata(&self, _path: &str) -> io::Result<Metadata> {
+        Err(self.refusal.into())
+    }
+
+    fn symlink_metadata(&self, _path: &str) -> io::Result<Metadata> {
+        Err(self.refusal.into())
+    }
+
+    fn copy(&self, _from: &str, _to: &str) -> io::Result<u64> {
+        Err(self.refusal.into())
+    }
+
+    fn rename(&self, _from: &str, _to: &str) -> io::Result<()> {
+        Err(self.refusal.into())
+    }
+
+    fn remove_file(&self, _path: &str) -> io::Result<()> {
+        Err(self.refusal.into())
+    }
+
+    fn create_dir(&self, _path: &str) -> io::Result<()> {
+        Err(self.refusal.into())
+    }
+
+    fn remove_dir(&self, _path: &str) -> io::Result<()> {
+        Err(self.refusal.into())
+    }
+
+    fn remove_dir_all<B: Allocator>(&self, _alloc: B, _path: &str) -> io::Result<()> {
+        Err(self.refusal.into())
+    }
+}
+
+/// A writer that takes bytes or none, and is flushed or not.
+#[derive(Clone, Copy)]
+struct Tube {
+    takes: bool,
+    flushes: bool,
+}
+
+impl Write for Tube {
+    fn write(&mut self, buf: &[u8]) -> io::Result<usize> {
+        if self.takes {
+            Ok(buf.len())
+        } else {
+            Err(ErrorKind::WriteZero.into())
+        }
+    }
+
+    fn flush(&mut self) -> io::Result<()> {
+        if self.flushes {
+            Ok(())
+        } else {
+            Err(ErrorKind::WriteZero.into())
+        }
+    }
+}
+
+/// The arguments of a process, its output and why it has no files, and what it must tell on
+/// standard error and answer.
+#[derive(Clone, Copy)]
+struct Case {
+    line: &'static str,
+    out: Tube,
+    files: ErrorKind,
+    stderr: &'static str,
+    status: u8,
+}
+
+const OPEN: Tube = Tube {
+    takes: true,
+    flushes: true,
+};
+
+const NOT_FLUSHED: Tube = Tube {
+    takes: true,
+    flushes: false,
+};
+
+const FULL: Tube = Tube {
+    takes: false,
+    flushes: true,
+};
+
+const CANNOT_WRITE: &str = "faultsim: cannot write\n";
+
+/// The version stays in the buffer before the output until that is flushed.
+static CASES: [Case; 5] = [
+    Case {
+        line: "faultsim --version",
+        out: OPEN,
+        files: ErrorKind::NotFound,
+        stderr: "",
+        status: 0,
+    },
+    Case {
+        line: "faultsim --version",
+        out: NOT_FLUSHED,
+        files: ErrorKind::NotFound,
+        stderr: CANNOT_WRITE,
+        status: 3,
+    },
+    Case {
+        line: "faultsim --version",
+        out: FULL,
+        files: ErrorKind::NotFound,
+        stderr: CANNOT_WRITE,
+        status: 3,
+    },
+    Case {
+        line: "faultsim faults --bench bench",
+        out: NOT_FLUSHED,
+        files: ErrorKind::NotFound,
+        stderr: "faultsim: cannot read bench\n",
+        status: 3,
+    },
+    Case {
+        line: "faultsim faults --bench bench",
+        out: OPEN,
+        files: ErrorKind::OutOfMemory,
+        stderr: "faultsim: out of memory\n",
+        status: 3,
+    },
+];
+
+/// Whether a process ends as a case wants.
+fn ends_right<R: AllocGlobal + Files + Threads + Wait>(rt: &R, case: &Case) -> bool {
+    let process = Process {
+        rt,
+        line: case.line,
+        refusal: case.files,
+    };
+    let mut err = Screen::new(rt.alloc());
+    let status = run_arguments(&process, case.out, &mut err);
+    err.text() == case.stderr.as_bytes() && status == case.status
+}
+
+#[test]
+fn refused_files_and_flushes_are_told(rt: HostRuntime) -> Result<(), Fail> {
+    for case in &CASES {
+        assert!(rt; ends_right(&rt, case), "{}: {}", case.line, case.stderr);
+    }
+    Ok(())
+}

@@ -1,0 +1,113 @@
+//! Command lines for which memory or a thread is refused: they say so, and write nothing else.
+
+use crate::ballast::Ballast;
+use crate::parts::C17;
+use crate::sweep::{Outcome, Trial, answered, refused, sweep};
+use crate::texts::Screen;
+use command_line::{Source, SourceFault, run_words};
+use fault_model::Model;
+use report::listing_bytes;
+use std::alloc::Global;
+use std::process::Abort;
+use std::sync::Wait;
+use std::test::Fail;
+use std::thread::Threads;
+
+/// The files `bench`, which is C17, and `tests`, which has one test, each read into new memory.
+#[derive(Clone, Copy)]
+struct Files;
+
+impl Source for Files {
+    fn read(&mut self, alloc: Global, path: &str) -> Result<Vec<u8>, SourceFault> {
+        let text = match path {
+            "bench" => C17,
+            "tests" => b"11111\n".as_slice(),
+            _ => return Err(SourceFault::Unreadable),
+        };
+        Vec::from_slice(alloc, text).map_err(|_| SourceFault::Memory)
+    }
+}
+
+/// What a command line writes, and how it is refused.
+#[derive(Drop)]
+struct Commanded<'a, R> {
+    rt: &'a R,
+    words: &'a [&'a str],
+    text: &'a [u8],
+    refusal: &'a str,
+}
+
+impl<R: Threads + Wait> Trial for Commanded<'_, R> {
+    fn name(&self) -> &str {
+        "run_words"
+    }
+
+    fn attempt(&self, alloc: Global) -> Outcome {
+        let (mut out, mut err) = (Screen::new(), Screen::new());
+        let status = run_words(self.rt, alloc, self.words, &mut Files, &mut out, &mut err);
+        if status == 0 {
+            return answered(out.text() == self.text && err.text().is_empty());
+        }
+        let is_told = err.text() == self.refusal.as_bytes();
+        refused(status == 3 && is_told && out.text().is_empty())
+    }
+}
+
+/// Tries the listing of C17 with no memory and then with more and more.
+fn sweep_listing<R: Threads + Wait + Abort>(
+    rt: &R,
+    alloc: Global,
+    listing: &[u8],
+) -> Result<(), Fail> {
+    let listed = Commanded {
+        rt,
+        words: &["faultsim", "faults", "--bench", "bench"],
+        text: listing,
+        refusal: "faultsim: out of memory\n",
+    };
+    sweep(rt, alloc, &listed)
+}
+
+#[test]
+fn command_lines_say_that_memory_is_out(rt: HostRuntime) -> Result<(), Fail> {
+    let listing = listing_bytes(rt.alloc(), Model::StuckAt, C17)?;
+    sweep_listing(&rt, rt.alloc(), listing.as_slice())
+}
+
+/// A run of C17 by this number of workers.
+fn run_by<'a, R>(rt: &'a R, words: &'a [&'a str; 8]) -> Commanded<'a, R> {
+    Commanded {
+        rt,
+        words,
+        text: b"14 of 34 (41.17%)\n",
+        refusal: "faultsim: thread refused\n",
+    }
+}
+
+/// The words of a run of C17 by this number of workers.
+fn run_words_by<'a>(workers: &'a str) -> [&'a str; 8] {
+    [
+        "faultsim",
+        "run",
+        "--bench",
+        "bench",
+        "--tests",
+        "tests",
+        "--workers",
+        workers,
+    ]
+}
+
+/// A run of 64 workers finds no room for their stacks, though one of 4, the number by default, ran
+/// just before, whose stacks may still be there.
+#[test]
+fn command_lines_start_as_many_workers_as_they_name(rt: HostRuntime) -> Result<(), Fail> {
+    let few = run_words_by("4");
+    let many = run_words_by("64");
+    assert_eq!(rt; run_by(&rt, &few).attempt(rt.alloc()), Outcome::Right);
+    let ballast = Ballast::large(rt.alloc(), 20)?;
+    let outcome = run_by(&rt, &many).attempt(rt.alloc());
+    drop(ballast);
+    assert_eq!(rt; outcome, Outcome::Refused);
+    Ok(())
+}
