@@ -33,7 +33,7 @@ count_apart p q (x ∷ xs) h =
     let a = sum_by-cons (λ y. weight (p y)) x xs in let b = sum_by-cons (λ y. weight (q y)) x xs in let w = apart (p x) (q x) (h x) in let rest = count_apart p q xs h in
     omega (arith, a, b, w, rest)
 
-module _ (c : List Statement) (tests : List Test) (block : ℕ) (f : Fault) (good : List ℕ) (lanes : ℕ) (lv : ℕ → ℕ) (start : ℕ) (well : IsWellFormed c) (rises : (g s : ℕ) → Reads c g s → lv s < lv g)
+module _ (c : List Statement) (tests : List Test) (block : ℕ) (f : ℕ → Fault) (good : List ℕ) (lanes : ℕ) (lv : ℕ → ℕ) (start : ℕ) (well : IsWellFormed c) (rises : (g s : ℕ) → Reads c g s → lv s < lv g)
     (delta at after : List ℕ) (idle : (t : ℕ) → slice_index_or at t 0 ≡ 0) (woken : AreWoken c lv start at after) where
   which : (r : ℕ) → slice_index_or after r 0 ≢ 0 → Reads c r start × (slice_index_or after r 0 ≡ lv r + 1)
   which r ne = go (woken.only r)
@@ -49,8 +49,8 @@ module _ (c : List Statement) (tests : List Test) (block : ℕ) (f : Fault) (goo
       go x e (inl lt) = let same : lv x ≡ lv start = ap lv e in omega (arith, lt, same)
       go x e (inr ne) = let up = rises x start (which x ne).0 in let same : lv x ≡ lv start = ap lv e in omega (arith, up, same)
 
-  pub spreading_first : (diff : ℕ) → AreWords c tests block None good → ((t : ℕ) → slice_index_or delta t 0 ≡ 0) → ((t : ℕ) → t ≢ start → IsElsewhere f t)
-      → ((k : ℕ) → k < 64 → lane lanes k ≡ true → HasEquation c (test_of tests block k) (Some f) (bits_of c good (set delta start diff) k) start)
+  pub spreading_first : (diff : ℕ) → AreWords c tests block None good → ((t : ℕ) → slice_index_or delta t 0 ≡ 0) → ((t k : ℕ) → t ≢ start → IsElsewhere (f k) t)
+      → ((k : ℕ) → k < 64 → lane lanes k ≡ true → HasEquation c (test_of tests block k) (Some (f k)) (bits_of c good (set delta start diff) k) start)
       → start < length delta → diff ≢ 0 → (k : ℕ) × (k < 64) × (lane diff k ≡ true) → ((k : ℕ) → k < 64 → lane diff k ≡ true → lane lanes k ≡ true)
       → IsSpreading c tests block f good lanes lv start lanes (set delta start diff) after (lv start)
   spreading_first diff words clear off holds within differs a_lane in_lanes = record {

@@ -24,10 +24,20 @@ mod Woken
 mod Flats
 mod Forms
 mod Seen
+mod Settled
 mod Deep
 mod Started
+mod Outcomes
 mod Finish
 mod Moments
 mod Carried
 mod TrueTable
+mod OnePin
+mod Entered
+mod Flips
+mod Regions
+mod RegionLanes
+mod FlipLanes
+mod FaultLanes
+mod Simulated
 pub mod Public

@@ -1,5 +1,5 @@
 -- From one moment of a simulation by events to a later one.
-use Rattle.std.proofs.Common.{◌≡◌, ◌≢◌, ◌<◌, ◌≤◌, ℕ, ◌+◌, refl, sym, ◌∙◌, ap, subst, true, false, List, length, map, arith, set}
+use Rattle.std.proofs.Common.{◌≡◌, ◌≢◌, ◌<◌, ◌≤◌, ℕ, ◌+◌, refl, sym, ◌∙◌, ap, subst, true, List, length, map, arith, set}
 use Rattle.std.specs.Prelude.{Some, None, slice_index_or, slice_set, bit_or, bit_xor, count_by, ◌==◌}
 use Rattle.std.specs.Bool.{Decides}
 use Rattle.std.proofs.lemmas.Bool.{false≢true}
@@ -62,13 +62,12 @@ module _ (c : List Statement) (good : List ℕ) (lanes : ℕ) where
 
   -- ---- fewer lanes are followed
   pub leads_narrower : (delta at : List ℕ) (evaluations level kept seen narrow : ℕ) → ((k : ℕ) → k < 64 → lane narrow k ≡ true → lane kept k ≡ true)
-      → ((k : ℕ) → k < 64 → lane kept k ≡ true → lane narrow k ≡ false → (j : ℕ) × (j ≤ k) × (lane seen j ≡ true))
       → Leads c good lanes (moment_of delta at evaluations level kept seen) (moment_of delta at evaluations level narrow seen)
-  leads_narrower delta at evaluations level kept seen narrow within out = record {
+  leads_narrower delta at evaluations level kept seen narrow within = record {
     spreading = λ case h.
         spreading_narrower c case.tests case.block case.fault good lanes (level_at c case.level) case.start kept delta at level narrow within h;
     counted = λ case gates h all. omega arith;
-    seen = seen_narrower c lanes delta kept seen narrow within out;
+    seen = seen_narrower c delta kept seen narrow within;
     more = λ s ne. ne;
     grown = omega arith;
   }
@@ -108,7 +107,7 @@ module _ (c : List Statement) (good : List ℕ) (lanes : ℕ) where
         let lv = level_at c case.level in
         let less = subst (λ x. ahead lv x level gates ≤ ahead lv taken_at level gates) back (ahead_skipped lv taken_at level gate gates in_taken) in
         omega (arith, less);
-    seen = seen_like c lanes delta kept seen (bit_or seen 0) (with_none seen);
+    seen = seen_like c delta kept seen (bit_or seen 0) (with_none seen);
     more = λ s ne. ne;
     grown = omega arith;
   }
@@ -153,7 +152,7 @@ module _ (c : List Statement) (good : List ℕ) (lanes : ℕ) where
           (ahead_same c case.tests case.block case.fault good lanes lv case.start kept well (reads_rise c case.level well case.levels) case.elsewhere
           delta taken_at level gate h taken in_taken in_delta kind pins is word valued gates all) in
           omega (arith, less, one);
-      seen = seen_like c lanes delta kept seen (bit_or seen 0) (with_none seen);
+      seen = seen_like c delta kept seen (bit_or seen 0) (with_none seen);
       more = λ s ne. ne;
       grown = grown;
     }
@@ -174,7 +173,7 @@ module _ (c : List Statement) (good : List ℕ) (lanes : ℕ) where
               let less = ahead_changed c case.tests case.block case.fault good lanes (level_at c case.level) case.start kept well (reads_rise c case.level well case.levels) case.elsewhere
               delta taken_at level gate h taken in_taken in_delta kind pins is word valued diff new differs a_lane in_kept changed (woken_now case) gates all in
               omega (arith, less, one);
-          seen = seen_changed c lanes delta kept seen gate diff shown clear in_delta observed;
+          seen = seen_changed c delta kept seen gate diff shown clear in_delta observed;
           more = more;
           grown = grown;
         })
@@ -188,7 +187,7 @@ module _ (c : List Statement) (good : List ℕ) (lanes : ℕ) where
             ne (sym (get_or-set_other delta gate s diff 0 other) ∙ e)
 
 -- ---- the first moment, after the first change of a fault
-abbrev pub case_of : (c : List Statement) (tests : List Test) (block : ℕ) (f : Fault) (good : List ℕ) (lanes : ℕ) (delta : List ℕ) (start diff : ℕ)
+abbrev pub case_of : (c : List Statement) (tests : List Test) (block : ℕ) (f : ℕ → Fault) (good : List ℕ) (lanes : ℕ) (delta : List ℕ) (start diff : ℕ)
     → IsFirstChange c tests block f good lanes delta start diff → (level : Name → ℕ) → AreLevels c level → Case c
 case_of c tests block f good lanes delta start diff first level levels = record {
   tests = tests;
@@ -200,7 +199,7 @@ case_of c tests block f good lanes delta start diff first level levels = record 
   levels = levels;
 }
 
-module _ (c : List Statement) (tests : List Test) (block : ℕ) (f : Fault) (good : List ℕ) (lanes : ℕ) (before after : Changes) (start diff : ℕ) (well : IsWellFormed c)
+module _ (c : List Statement) (tests : List Test) (block : ℕ) (f : ℕ → Fault) (good : List ℕ) (lanes : ℕ) (before after : Changes) (start diff : ℕ) (well : IsWellFormed c)
     (first : IsFirstChange c tests block f good lanes before.overlay start diff) (level : Name → ℕ) (levels : AreLevels c level)
     (clear : IsClear before) (woken : (level : Name → ℕ) → AreLevels c level → AreWoken c (level_at c level) start before.buckets.at after.buckets.at)
     (now : ℕ) (here : level_at c level start ≡ now) (kept seen : ℕ) where
@@ -223,13 +222,14 @@ module _ (c : List Statement) (tests : List Test) (block : ℕ) (f : Fault) (goo
       omega (arith, few, same)
 
 -- what is seen of the first change, and of the lanes that are then followed
-pub first_seen : (c : List Statement) (lanes : ℕ) (before after : Changes) (start diff seen kept : ℕ) → IsClear before → after.overlay ≡ set before.overlay start diff → start < length before.overlay
-    → ((k : ℕ) → k < 64 → Decides (lane seen k) (IsObserved c start × (lane diff k ≡ true))) → ((k : ℕ) → k < 64 → lane kept k ≡ true → lane lanes k ≡ true)
-    → ((k : ℕ) → k < 64 → lane lanes k ≡ true → lane kept k ≡ false → (j : ℕ) × (j ≤ k) × (lane seen j ≡ true)) → AreSeen c lanes after.overlay kept seen
-first_seen c lanes before after start diff seen kept rest changed within shown narrow out =
-    seen_narrower c lanes after.overlay lanes seen kept narrow out (subst (λ x. AreSeen c lanes x lanes seen) (sym changed)
-    (seen_like c lanes (set before.overlay start diff) lanes (bit_or 0 seen) seen (from_none seen)
-    (seen_changed c lanes before.overlay lanes 0 start diff seen (clear start) within shown (seen_first c lanes before.overlay clear))))
+pub first_seen : (c : List Statement) (lanes : ℕ) (before after : Changes) (start diff seen kept : ℕ) → IsClear before
+    → after.overlay ≡ set before.overlay start diff → start < length before.overlay
+    → ((k : ℕ) → k < 64 → Decides (lane seen k) (IsObserved c start × (lane diff k ≡ true)))
+    → ((k : ℕ) → k < 64 → lane kept k ≡ true → lane lanes k ≡ true) → AreSeen c after.overlay kept seen
+first_seen c lanes before after start diff seen kept rest changed within shown narrow =
+    seen_narrower c after.overlay lanes seen kept narrow (subst (λ x. AreSeen c x lanes seen) (sym changed)
+    (seen_like c (set before.overlay start diff) lanes (bit_or 0 seen) seen (from_none seen)
+    (seen_changed c before.overlay lanes 0 start diff seen (clear start) within shown (seen_first c before.overlay lanes clear))))
   where
     clear : (t : ℕ) → slice_index_or before.overlay t 0 ≡ 0
     clear t = index_zero before.overlay t rest.words

@@ -1,5 +1,5 @@
 -- The lanes that are seen, as signals change and as fewer lanes are followed.
-use Rattle.std.proofs.Common.{◌≡◌, ◌≢◌, ◌<◌, ◌≤◌, ℕ, refl, sym, ◌∙◌, ap, subst, Bool, true, false, ◌||◌, List, length, set, inl, inr, ◌⊎◌}
+use Rattle.std.proofs.Common.{◌≡◌, ◌≢◌, ◌<◌, ℕ, refl, sym, ◌∙◌, ap, subst, Bool, true, false, ◌||◌, List, length, set, inl, inr, ◌⊎◌}
 use Rattle.std.specs.Prelude.{slice_index_or, bit_or}
 use Rattle.std.specs.Bool.{Decides}
 use Rattle.std.proofs.lemmas.List.{get_or-set_same, get_or-set_other}
@@ -14,20 +14,18 @@ none_in_zero : (d k : ℕ) → d ≡ 0 → lane d k ≡ true → ⊥
 none_in_zero d k e h = false≢true (sym (lane_zero k) ∙ (ap (λ x. lane x k) (sym e) ∙ h))
 
 -- at the start none is seen
-pub seen_first : (c : List Statement) (lanes : ℕ) (delta : List ℕ) → ((s : ℕ) → slice_index_or delta s 0 ≡ 0) → AreSeen c lanes delta lanes 0
-seen_first c lanes delta clear = record {
+pub seen_first : (c : List Statement) (delta : List ℕ) (mask : ℕ) → ((s : ℕ) → slice_index_or delta s 0 ≡ 0) → AreSeen c delta mask 0
+seen_first c delta mask clear = record {
   found = λ k lt e. absurd (none_in_zero 0 k refl e);
   shown = λ s k lt m o e. absurd (none_in_zero (slice_index_or delta s 0) k (clear s) e);
-  below = λ k lt is isnt. absurd (false≢true (sym isnt ∙ is));
 }
 
 -- a signal that changes is seen where it is observed
-pub seen_changed : (c : List Statement) (lanes : ℕ) (delta : List ℕ) (mask seen g diff shown : ℕ) → slice_index_or delta g 0 ≡ 0 → g < length delta
-    → ((k : ℕ) → k < 64 → Decides (lane shown k) (IsObserved c g × (lane diff k ≡ true))) → AreSeen c lanes delta mask seen → AreSeen c lanes (set delta g diff) mask (bit_or seen shown)
-seen_changed c lanes delta mask seen g diff shown clear within is h = record {
+pub seen_changed : (c : List Statement) (delta : List ℕ) (mask seen g diff shown : ℕ) → slice_index_or delta g 0 ≡ 0 → g < length delta
+    → ((k : ℕ) → k < 64 → Decides (lane shown k) (IsObserved c g × (lane diff k ≡ true))) → AreSeen c delta mask seen → AreSeen c (set delta g diff) mask (bit_or seen shown)
+seen_changed c delta mask seen g diff shown clear within is h = record {
   found = λ k lt e. found k lt (or_cases (lane seen k) (lane shown k) (sym (lane_or seen shown k) ∙ e));
   shown = λ s k lt m o e. lane_or seen shown k ∙ seen_now s k lt m o e (cases_eq s g);
-  below = λ k lt a b. let j = h.below k lt a b in (j.0, j.1, lane_or seen shown j.0 ∙ or_left (lane seen j.0) (lane shown j.0) j.2);
 }
   where
     at : slice_index_or (set delta g diff) g 0 ≡ diff
@@ -48,25 +46,20 @@ seen_changed c lanes delta mask seen g diff shown clear within is h = record {
         or_right (lane seen k) (lane shown k) ((is k lt).1 (subst (IsObserved c) same o, here))
     seen_now s k lt m o e (inr other) = or_left (lane seen k) (lane shown k) (h.shown s k lt m o (ap (λ d. lane d k) (sym (kept s other)) ∙ e))
 
--- fewer lanes are followed: those that are left out are seen, or lie above one that is
-pub seen_narrower : (c : List Statement) (lanes : ℕ) (delta : List ℕ) (mask seen narrow : ℕ) → ((k : ℕ) → k < 64 → lane narrow k ≡ true → lane mask k ≡ true)
-    → ((k : ℕ) → k < 64 → lane mask k ≡ true → lane narrow k ≡ false → (j : ℕ) × (j ≤ k) × (lane seen j ≡ true)) → AreSeen c lanes delta mask seen → AreSeen c lanes delta narrow seen
-seen_narrower c lanes delta mask seen narrow within out h = record {
+-- fewer lanes are followed
+pub seen_narrower : (c : List Statement) (delta : List ℕ) (mask seen narrow : ℕ)
+    → ((k : ℕ) → k < 64 → lane narrow k ≡ true → lane mask k ≡ true) → AreSeen c delta mask seen
+    → AreSeen c delta narrow seen
+seen_narrower c delta mask seen narrow within h = record {
   found = h.found;
   shown = λ s k lt m o e. h.shown s k lt (within k lt m) o e;
-  below = λ k lt a b. below k lt a b (lane mask k) refl;
 }
-  where
-    below : (k : ℕ) → k < 64 → lane lanes k ≡ true → lane narrow k ≡ false → (m : Bool) → lane mask k ≡ m → (j : ℕ) × (j ≤ k) × (lane seen j ≡ true)
-    below k lt a b true e = out k lt e b
-    below k lt a b false e = h.below k lt a e
 
 -- the same lanes, written otherwise
-pub seen_like : (c : List Statement) (lanes : ℕ) (delta : List ℕ) (mask seen now : ℕ) → ((k : ℕ) → lane now k ≡ lane seen k) → AreSeen c lanes delta mask seen → AreSeen c lanes delta mask now
-seen_like c lanes delta mask seen now same h = record {
+pub seen_like : (c : List Statement) (delta : List ℕ) (mask seen now : ℕ) → ((k : ℕ) → lane now k ≡ lane seen k) → AreSeen c delta mask seen → AreSeen c delta mask now
+seen_like c delta mask seen now same h = record {
   found = λ k lt e. h.found k lt (sym (same k) ∙ e);
   shown = λ s k lt m o e. same k ∙ h.shown s k lt m o e;
-  below = λ k lt a b. let j = h.below k lt a b in (j.0, j.1, same j.0 ∙ j.2);
 }
 
 or_none : (a : Bool) → (a || false) ≡ a

@@ -18,7 +18,7 @@ use Rattle.block_sim.proofs.Equated.{word_other}
 use Rattle.block_sim.proofs.RightByNow.{right_by_now}
 use Rattle.block_sim.proofs.Ahead.{ahead_taken, ahead_woken}
 
-module _ (c : List Statement) (tests : List Test) (block : ℕ) (f : Fault) (good : List ℕ) (lanes : ℕ) (lv : ℕ → ℕ) (start mask : ℕ) where
+module _ (c : List Statement) (tests : List Test) (block : ℕ) (f : ℕ → Fault) (good : List ℕ) (lanes : ℕ) (lv : ℕ → ℕ) (start mask : ℕ) where
   -- ---- a level higher
   pub level_done : (delta at : List ℕ) (level : ℕ) → ((g : ℕ) → slice_index_or at g 0 ≢ level + 1) → IsSpreading c tests block f good lanes lv start mask delta at level
       → IsSpreading c tests block f good lanes lv start mask delta at (level + 1)
@@ -39,7 +39,7 @@ module _ (c : List Statement) (tests : List Test) (block : ℕ) (f : Fault) (goo
   }
 
   -- ---- one evaluation
-  module _ (well : IsWellFormed c) (rises : (g s : ℕ) → Reads c g s → lv s < lv g) (elsewhere : (t : ℕ) → t ≢ start → IsElsewhere f t)
+  module _ (well : IsWellFormed c) (rises : (g s : ℕ) → Reads c g s → lv s < lv g) (elsewhere : (t k : ℕ) → t ≢ start → IsElsewhere (f k) t)
       (delta at : List ℕ) (level g : ℕ) (h : IsSpreading c tests block f good lanes lv start mask delta at level) (taken : slice_index_or at g 0 ≡ level + 1) (in_at : g < length at) (in_delta : g < length delta)
       (kind : Kind) (pins : List ℕ) (is : gate_of c g ≡ Some (kind, pins)) (word : ℕ) (valued : (k : ℕ) → k < 64 → lane word k ≡ value kind (pin_bits None g pins good delta k)) where
     waits : slice_index_or at g 0 ≢ 0
@@ -64,7 +64,7 @@ module _ (c : List Statement) (tests : List Test) (block : ℕ) (f : Fault) (goo
 
     pub evaluated_same : ((k : ℕ) → k < 64 → lane mask k ≡ true → lane (slice_index_or good g 0) k ≡ lane word k) → IsSpreading c tests block f good lanes lv start mask delta (set at g 0) level
     evaluated_same same = record {
-      balanced = balanced_same c tests block f good mask lv well rises delta at g h.balanced (elsewhere g not_start) kind pins is word valued clear same;
+      balanced = balanced_same c tests block f good mask lv well rises delta at g h.balanced (λ k. elsewhere g k not_start) kind pins is word valued clear same;
       at_level = λ t ne. let w = still_waits t ne in get_or-set_other at g t 0 0 w.0 ∙ h.at_level t w.1;
       not_below = λ t ne. h.not_below t (still_waits t ne).1;
       touched = λ t ne. h.touched t (still_waits t ne).1;
@@ -127,7 +127,7 @@ module _ (c : List Statement) (tests : List Test) (block : ℕ) (f : Fault) (goo
       }
         where
           balanced_now : IsBalanced c tests block f good mask (set delta g diff) after
-          balanced_now = balanced_changed c tests block f good mask lv well rises delta at g h.balanced (elsewhere g not_start) kind pins is word valued diff after in_delta changed woken
+          balanced_now = balanced_changed c tests block f good mask lv well rises delta at g h.balanced (λ k. elsewhere g k not_start) kind pins is word valued diff after in_delta changed woken
 
           at_level : (t : ℕ) → slice_index_or after t 0 ≢ 0 → slice_index_or after t 0 ≡ lv t + 1
           at_level t ne = go (which t ne)
@@ -195,7 +195,7 @@ module _ (c : List Statement) (tests : List Test) (block : ℕ) (f : Fault) (goo
               ∙ h.right s k lt (ap (λ d. lane d k) (sym (kept_at s other)) ∙ e) n v named number solves
 
 -- fewer lanes are followed
-pub spreading_narrower : (c : List Statement) (tests : List Test) (block : ℕ) (f : Fault) (good : List ℕ) (lanes : ℕ) (lv : ℕ → ℕ) (start mask : ℕ) (delta at : List ℕ) (level narrow : ℕ)
+pub spreading_narrower : (c : List Statement) (tests : List Test) (block : ℕ) (f : ℕ → Fault) (good : List ℕ) (lanes : ℕ) (lv : ℕ → ℕ) (start mask : ℕ) (delta at : List ℕ) (level narrow : ℕ)
     → ((k : ℕ) → k < 64 → lane narrow k ≡ true → lane mask k ≡ true) → IsSpreading c tests block f good lanes lv start mask delta at level → IsSpreading c tests block f good lanes lv start narrow delta at level
 spreading_narrower c tests block f good lanes lv start mask delta at level narrow within h = record {
   balanced = λ s k idle lt e. h.balanced s k idle lt (within k lt e);
@@ -222,7 +222,7 @@ woken_above c lv g before after rises woken r = go (woken.only r)
     go (inr w) = inr (rises r g w.0, w.2)
 
 -- a gate that is taken where no lane is followed any more
-pub spreading_skipped : (c : List Statement) (tests : List Test) (block : ℕ) (f : Fault) (good : List ℕ) (lanes : ℕ) (lv : ℕ → ℕ) (start mask : ℕ) (delta at : List ℕ) (level g : ℕ) → g < length at
+pub spreading_skipped : (c : List Statement) (tests : List Test) (block : ℕ) (f : ℕ → Fault) (good : List ℕ) (lanes : ℕ) (lv : ℕ → ℕ) (start mask : ℕ) (delta at : List ℕ) (level g : ℕ) → g < length at
     → ((k : ℕ) → lane mask k ≡ true → ⊥) → IsSpreading c tests block f good lanes lv start mask delta at level → IsSpreading c tests block f good lanes lv start mask delta (set at g 0) level
 spreading_skipped c tests block f good lanes lv start mask delta at level g in_at none h = record {
   balanced = λ s k idle lt e. absurd (none k e);

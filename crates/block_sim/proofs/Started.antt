@@ -106,7 +106,7 @@ module _ (c : List Statement) (tests : List Test) (block : ℕ) (f : Fault) (goo
     unapart h = h.2 (sym (under_same f (branch h.0.0) (lane_bits c good k h.0.1) (λ own. stuck_name h.0.1 (sym (observer_carries c h.0 h.1) ∙ (ap (carried c) (sym own) ∙ carries)))))
 
   -- ---- the lanes in which the fault turns its line
-  module _ (lanes turned : ℕ) (is : (k : ℕ) → k < 64 → Decides (lane turned k) ((lane lanes k ≡ true) × (lane_bits c good k n ≢ f.stuck))) where
+  module _ (settled : ℕ → Type 0) (lanes turned : ℕ) (is : (k : ℕ) → k < 64 → Decides (lane turned k) ((lane lanes k ≡ true) × (lane_bits c good k n ≢ f.stuck))) where
     same_or : (a b : Bool) → (a ≢ b → ⊥) → a ≡ b
     same_or true true h = refl
     same_or true false h = absurd (h (λ e. false≢true (sym e)))
@@ -120,17 +120,17 @@ module _ (c : List Statement) (tests : List Test) (block : ℕ) (f : Fault) (goo
     cleared k lt in_lanes none = let stuck = still k lt in_lanes none in (lane_bits c good k, unmoved k lt stuck, unapart k lt stuck)
 
     -- where it turns none, nothing is shown
-    pub shown_none : (seen : ℕ) → ((k : ℕ) → k < 64 → lane turned k ≡ false) → ((k : ℕ) → lane seen k ≡ false) → AreShown c tests block f good lanes seen
+    pub shown_none : (seen : ℕ) → ((k : ℕ) → k < 64 → lane turned k ≡ false) → ((k : ℕ) → lane seen k ≡ false) → AreShown c tests block (λ _. f) good lanes settled seen
     shown_none seen none unseen = record {
       found = λ k lt e. absurd (false≢true (sym (unseen k) ∙ e));
-      clear = λ k lt in_lanes lower. cleared k lt in_lanes (none k lt);
+      clear = λ k lt in_lanes out _. cleared k lt in_lanes (none k lt);
     }
 
     -- the line of an observer: what is turned is shown
-    pub shown_at_observer : (o : Sink) → branch o ≡ f.line → Contains (observers c) (o, n) → AreShown c tests block f good lanes turned
+    pub shown_at_observer : (o : Sink) → branch o ≡ f.line → Contains (observers c) (o, n) → AreShown c tests block (λ _. f) good lanes settled turned
     shown_at_observer o own there = record {
       found = λ k lt e. let d = (is k lt).0 e in (d.0, λ v solves. ((o, n), there, λ same. d.1 (same ∙ under_own f (branch o) (v n) (sym own))));
-      clear = λ k lt in_lanes lower. cleared k lt in_lanes (lower k (omega arith));
+      clear = λ k lt in_lanes out _. cleared k lt in_lanes out;
     }
 
     -- the gate whose pin is turned is stirred
@@ -164,22 +164,24 @@ module _ (c : List Statement) (tests : List Test) (block : ℕ) (f : Fault) (goo
 unobserved : (c : List Statement) (f : Fault) (l : Line) → IsWellFormed c → f.line ≡ l → ((o : Sink × Name) → Contains (observers c) o → l ≢ branch o.0) → (o : Sink × Name) → Contains (observers c) o → f.line ≢ branch o.0
 unobserved c f l well on off o there e = off o there (sym on ∙ e)
 
-pub first_on_stem : (c : List Statement) (tests : List Test) (block : ℕ) (f : Fault) (good : List ℕ) (lanes : ℕ) (delta : List ℕ) (start diff : ℕ) → IsWellFormed c → f.line ≡ line.Stem start → start < length delta
-    → AreWords c tests block None good → ((k : ℕ) → k < 64 → lane lanes k ≡ true → lane (bit_xor (slice_index_or good start 0) diff) k ≡ f.stuck) → IsFirstChange c tests block f good lanes delta start diff
+pub first_on_stem : (c : List Statement) (tests : List Test) (block : ℕ) (f : ℕ → Fault) (good : List ℕ) (lanes : ℕ) (delta : List ℕ) (start diff : ℕ) → IsWellFormed c
+    → ((k : ℕ) → (f k).line ≡ line.Stem start) → start < length delta → AreWords c tests block None good
+    → ((k : ℕ) → k < 64 → lane lanes k ≡ true → lane (bit_xor (slice_index_or good start 0) diff) k ≡ (f k).stuck)
+    → IsFirstChange c tests block f good lanes delta start diff
 first_on_stem c tests block f good lanes delta start diff well on within words now = record {
   words = words;
-  elsewhere = λ t ne. record {
-    stem = λ e. let same : line.Stem start ≡ line.Stem t = sym on ∙ e in let is : start ≡ t = cc in ne (sym is);
-    pin = λ p e. let same : line.Stem start ≡ line.Pin t p = sym on ∙ e in cc;
+  elsewhere = λ t k ne. record {
+    stem = λ e. let same : line.Stem start ≡ line.Stem t = sym (on k) ∙ e in let is : start ≡ t = cc in ne (sym is);
+    pin = λ p e. let same : line.Stem start ≡ line.Pin t p = sym (on k) ∙ e in cc;
   };
-  unobserved = unobserved c f (line.Stem start) well on (λ o there. (observes c o well there).no_stem start);
+  unobserved = λ o k. unobserved c (f k) (line.Stem start) well (on k) (λ p there. (observes c p well there).no_stem start) o;
   first = λ k lt in_lanes. record {
-    source = λ i n number at. here k lt in_lanes n number ∙ sym (under_own f (line.Stem start) _ on);
-    gate = λ n kind args number at. here k lt in_lanes n number ∙ sym (under_own f (line.Stem start) _ on);
+    source = λ i n number at. here k lt in_lanes n number ∙ sym (under_own (f k) (line.Stem start) _ (on k));
+    gate = λ n kind args number at. here k lt in_lanes n number ∙ sym (under_own (f k) (line.Stem start) _ (on k));
   };
 }
   where
-    here : (k : ℕ) → k < 64 → lane lanes k ≡ true → (n : Name) → signal c n ≡ start → bits_of c good (set delta start diff) k n ≡ f.stuck
+    here : (k : ℕ) → k < 64 → lane lanes k ≡ true → (n : Name) → signal c n ≡ start → bits_of c good (set delta start diff) k n ≡ (f k).stuck
     here k lt in_lanes n number =
         ap (λ s. lane (overlaid good (set delta start diff) s) k) number
         ∙ (ap (λ d. lane (bit_xor (slice_index_or good start 0) d) k) (get_or-set_same delta start diff 0 within) ∙ now k lt in_lanes)
@@ -187,14 +189,14 @@ first_on_stem c tests block f good lanes delta start diff well on within words n
 pub first_on_pin : (c : List Statement) (tests : List Test) (block : ℕ) (f : Fault) (good : List ℕ) (lanes : ℕ) (delta : List ℕ) (start pin diff : ℕ) (kind : Kind) (pins : List ℕ)
     → IsWellFormed c → AreWords c tests block None good → f.line ≡ line.Pin start pin → start < length delta → (Reads c start start → ⊥) → gate_of c start ≡ Some (kind, pins)
     → ((k : ℕ) → k < 64 → lane lanes k ≡ true → lane (bit_xor (slice_index_or good start 0) diff) k ≡ value kind (pin_bits (Some f) start pins good delta k))
-    → IsFirstChange c tests block f good lanes delta start diff
+    → IsFirstChange c tests block (λ _. f) good lanes delta start diff
 first_on_pin c tests block f good lanes delta start pin diff kind pins well words on within loop is now = record {
   words = words;
-  elsewhere = λ t ne. record {
+  elsewhere = λ t k ne. record {
     stem = λ e. let same : line.Pin start pin ≡ line.Stem t = sym on ∙ e in cc;
     pin = λ p e. let same : line.Pin start pin ≡ line.Pin t p = sym on ∙ e in let is : start ≡ t = cc in ne (sym is);
   };
-  unobserved = unobserved c f (line.Pin start pin) well on (λ o there. (observes c o well there).no_pin_line start pin);
+  unobserved = λ o k. unobserved c f (line.Pin start pin) well on (λ p there. (observes c p well there).no_pin_line start pin) o;
   first = λ k lt in_lanes. equation_of c (test_of tests block k) (Some f) good delta (set delta start diff) start k kind pins well loop is (λ s ne. word_other good delta start diff s k ne)
       (ap (λ d. lane (bit_xor (slice_index_or good start 0) d) k) (get_or-set_same delta start diff 0 within)
       ∙ (now k lt in_lanes ∙ sym (under_other f (line.Stem start) _ (λ e. let same : line.Pin start pin ≡ line.Stem start = sym on ∙ e in cc))));
@@ -203,10 +205,10 @@ first_on_pin c tests block f good lanes delta start pin diff kind pins well word
 -- the same out of the word of the signal that the line carries
 pub stem_change : (c : List Statement) (tests : List Test) (block : ℕ) (f : Fault) (good : List ℕ) (lanes : ℕ) (delta : List ℕ) (start number word : ℕ) → IsWellFormed c → AreWords c tests block None good
     → f.line ≡ line.Stem start → start < length delta → number ≡ start → ((k : ℕ) → k < 64 → lane word k ≡ f.stuck)
-    → IsFirstChange c tests block f good lanes delta start (bit_and (bit_xor word (slice_index_or good number 0)) lanes)
+    → IsFirstChange c tests block (λ _. f) good lanes delta start (bit_and (bit_xor word (slice_index_or good number 0)) lanes)
 stem_change c tests block f good lanes delta start number word well words on within same stuck =
-    subst (λ x. IsFirstChange c tests block f good lanes delta start (bit_and (bit_xor word (slice_index_or good x 0)) lanes)) (sym same)
-    (first_on_stem c tests block f good lanes delta start (bit_and (bit_xor word (slice_index_or good start 0)) lanes) well on within words
+    subst (λ x. IsFirstChange c tests block (λ _. f) good lanes delta start (bit_and (bit_xor word (slice_index_or good x 0)) lanes)) (sym same)
+    (first_on_stem c tests block (λ _. f) good lanes delta start (bit_and (bit_xor word (slice_index_or good start 0)) lanes) well (λ _. on) within words
     (λ k lt in_lanes. changed_to word (slice_index_or good start 0) lanes k in_lanes ∙ stuck k lt))
 
 -- the lanes in which the code sees the line turned

@@ -1,5 +1,5 @@
 -- What is true of a job, its parts and the fault-free words that it holds.
-use Rattle.std.specs.Prelude.{◌≡◌, ℕ, ◌≤◌, List, length, Some, None, slice_get}
+use Rattle.std.specs.Prelude.{◌≡◌, ℕ, ◌<◌, ◌≤◌, All, List, length, Some, None, slice_get}
 use Rattle.bench_net.specs.Statement.{Statement}
 use Rattle.bench_net.specs.Scan.{names}
 use Rattle.fault_model.specs.Solution.{Test}
@@ -12,10 +12,12 @@ abbrev pub AreFaultFree : List Statement → List Test → List (List ℕ) → T
 AreFaultFree c tests rows = (block : ℕ) (row : List ℕ) → slice_get rows block ≡ Some row
     → (length row ≡ length (names c)) × AreWords c tests block None row
 
--- the parts belong together, their pieces are within the limit, and the rows are the fault-free
--- words of all blocks
-pub record IsJob (parts : Parts) (rows : List (List ℕ)) : Type 0 where
+-- The parts belong together, their pieces are within the limit, the rows are the fault-free words
+-- of all blocks, and each class has a next one.
+pub record IsJob (parts : Parts) (rows : List (List ℕ)) (next : List ℕ) : Type 0 where
   pub together : BelongTogether parts
   pub few : piece_count parts ≤ max_pieces
   pub count : length rows ≡ blocks (length parts.tests.tests)
   pub fault_free : AreFaultFree parts.circuit parts.tests.tests rows
+  pub nexts : length next ≡ length parts.classes.representative
+  pub next_within : All (λ class. class < length parts.classes.representative) next

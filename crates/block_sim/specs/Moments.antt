@@ -40,13 +40,14 @@ not_yet_taken gate m = record {
   seen = m.seen;
 }
 
--- A case of a simulation: a fault that starts at a signal, on a block of tests, and the levels.
+-- A case of a simulation: faults that start at a signal, one a lane, on a block of tests, and the
+-- levels.
 pub record Case (c : List Statement) : Type 0 where
   pub tests : List Test
   pub block : ℕ
-  pub fault : Fault
+  pub fault : ℕ → Fault
   pub start : ℕ
-  pub elsewhere : (t : ℕ) → t ≢ start → IsElsewhere fault t
+  pub elsewhere : (t k : ℕ) → t ≢ start → IsElsewhere (fault k) t
   pub level : Name → ℕ
   pub levels : AreLevels c level
 
@@ -67,6 +68,6 @@ pub record Leads (c : List Statement) (good : List ℕ) (lanes : ℕ) (m n : Mom
   pub counted : (case : Case c) (gates : List ℕ) → Spreads c good lanes case m
       → HasTouched c n.delta gates
       → n.evaluations + left c case n gates ≤ m.evaluations + left c case m gates
-  pub seen : AreSeen c lanes m.delta m.kept m.seen → AreSeen c lanes n.delta n.kept n.seen
+  pub seen : AreSeen c m.delta m.kept m.seen → AreSeen c n.delta n.kept n.seen
   pub more : (s : ℕ) → slice_index_or m.delta s 0 ≢ 0 → slice_index_or n.delta s 0 ≢ 0
   pub grown : m.evaluations ≤ n.evaluations

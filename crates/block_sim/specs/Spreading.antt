@@ -1,4 +1,5 @@
--- What is true at each step of a simulation by events, and what it tells.
+-- What is true at each step of a simulation by events, and what it tells. Each lane has a fault of
+-- its own, so that a signal can be turned round in lanes in which it has either bit.
 use Rattle.std.specs.Prelude.{◌≡◌, ◌≢◌, ℕ, ◌+◌, ◌<◌, ◌≤◌, Bool, true, false, not}
 use Rattle.std.specs.Prelude.{◌||◌, ◌==◌, nat_lt, List, Contains, Some, None}
 use Rattle.std.specs.Prelude.{count_by, slice_index_or, slice_set}
@@ -7,14 +8,18 @@ use Rattle.bench_net.specs.Statement.{Name, Statement}
 use Rattle.bench_net.specs.Scan.{names, signal, observers}
 use Rattle.fault_model.specs.Fault.{Fault, branch}
 use Rattle.fault_model.specs.Solution.{Test, Solves, shows}
+use Rattle.block_sim.specs.declared.spread.Extent.{Extent}
+use Rattle.block_sim.specs.declared.spread.Extent.TheVariants.{WholeBlock, FirstHits}
+use Rattle.block_sim.specs.declared.spread.Followed.{Followed}
 use Rattle.block_sim.specs.Words.{lane, lane_bits, test_of, AreWords}
 use Rattle.block_sim.specs.Events.{bits_of, HasEquation, Reads, IsElsewhere, IsObserved}
 
 -- the equation of each signal that does not wait holds in each lane of the mask
-abbrev pub IsBalanced : List Statement → List Test → ℕ → Fault → List ℕ → ℕ → List ℕ → List ℕ
-    → Type 0
+abbrev pub IsBalanced : List Statement → List Test → ℕ → (ℕ → Fault) → List ℕ → ℕ → List ℕ
+    → List ℕ → Type 0
 IsBalanced c tests block f good mask delta at = (s k : ℕ) → slice_index_or at s 0 ≡ 0 → k < 64
-    → lane mask k ≡ true → HasEquation c (test_of tests block k) (Some f) (bits_of c good delta k) s
+    → lane mask k ≡ true
+    → HasEquation c (test_of tests block k) (Some (f k)) (bits_of c good delta k) s
 
 -- the gate waits, or lies above the level
 abbrev pub is_ahead : (ℕ → ℕ) → List ℕ → ℕ → ℕ → Bool
@@ -27,15 +32,17 @@ ahead lv at level gates = count_by (is_ahead lv at level) gates
 abbrev pub HasTouched : List Statement → List ℕ → List ℕ → Type 0
 HasTouched c delta gates = (g s : ℕ) → Reads c g s → slice_index_or delta s 0 ≢ 0 → Contains gates g
 
--- a signal has in a lane the bit that every solution with the fault gives it
-abbrev pub IsRightIn : List Statement → List Test → ℕ → Fault → List ℕ → List ℕ → ℕ → ℕ → Type 0
+-- a signal has in a lane the bit that every solution with the lane's fault gives it
+abbrev pub IsRightIn : List Statement → List Test → ℕ → (ℕ → Fault) → List ℕ → List ℕ → ℕ → ℕ
+    → Type 0
 IsRightIn c tests block f good delta s k = (n : Name) (v : Name → Bool) → Contains (names c) n
-    → signal c n ≡ s → Solves c (test_of tests block k) (Some f) v → bits_of c good delta k n ≡ v n
+    → signal c n ≡ s → Solves c (test_of tests block k) (Some (f k)) v
+    → bits_of c good delta k n ≡ v n
 
 -- Signals of the levels below are as they will be; gates of this level and above wait where a
 -- signal that they read differs. The mask has the lanes, of those that are asked for, that are
 -- still followed.
-pub record IsSpreading (c : List Statement) (tests : List Test) (block : ℕ) (f : Fault)
+pub record IsSpreading (c : List Statement) (tests : List Test) (block : ℕ) (f : ℕ → Fault)
     (good : List ℕ) (lanes : ℕ) (lv : ℕ → ℕ) (start mask : ℕ) (delta at : List ℕ) (level : ℕ) :
     Type 0 where
   pub balanced : IsBalanced c tests block f good mask delta at
@@ -53,25 +60,38 @@ pub record IsSpreading (c : List Statement) (tests : List Test) (block : ℕ) (f
   pub right : (s k : ℕ) → k < 64 → lane (slice_index_or delta s 0) k ≡ true
       → IsRightIn c tests block f good delta s k
 
--- A lane is seen only where an observed signal differs, and each such lane of the mask is seen. A
--- lane that was asked for and is not followed any more is one that is seen, or lies above one.
-pub record AreSeen (c : List Statement) (lanes : ℕ) (delta : List ℕ) (mask seen : ℕ) : Type 0 where
+-- a lane is seen only where an observed signal differs, and each such lane of the mask is seen
+pub record AreSeen (c : List Statement) (delta : List ℕ) (mask seen : ℕ) : Type 0 where
   pub found : (k : ℕ) → k < 64 → lane seen k ≡ true
       → (s : ℕ) × IsObserved c s × (lane (slice_index_or delta s 0) k ≡ true)
   pub shown : (s k : ℕ) → k < 64 → lane mask k ≡ true → IsObserved c s
       → lane (slice_index_or delta s 0) k ≡ true → lane seen k ≡ true
-  pub below : (k : ℕ) → k < 64 → lane lanes k ≡ true → lane mask k ≡ false
-      → (j : ℕ) × (j ≤ k) × (lane seen j ≡ true)
 
--- The first change of a fault on stem or pin: in each lane that is asked for the start has its bit
--- under the fault, and every other equation is without it.
-pub record IsFirstChange (c : List Statement) (tests : List Test) (block : ℕ) (f : Fault)
+-- each that is followed in a lane has a lane of its own that was seen, this one or one below
+abbrev pub HaveHits : List Followed → ℕ → ℕ → Type 0
+HaveHits followed seen k = (one : Followed) → Contains followed one → lane one.lanes k ≡ true
+    → (j : ℕ) × (j ≤ k) × (lane one.lanes j ≡ true) × (lane seen j ≡ true)
+
+-- Where some lanes were seen, a lane is settled: nothing more is asked of it. Where the whole block
+-- is asked for, none is.
+abbrev pub IsSettled : Extent → ℕ → ℕ → Type 0
+IsSettled WholeBlock seen k = ⊥
+IsSettled (FirstHits followed) seen k = HaveHits followed.now seen k
+
+-- the lanes that were asked for and are not followed any more are settled
+abbrev pub LeavesSettled : Extent → ℕ → ℕ → ℕ → Type 0
+LeavesSettled extent lanes kept seen = (k : ℕ) → k < 64 → lane lanes k ≡ true
+    → lane kept k ≡ false → IsSettled extent seen k
+
+-- The first change of faults on stem or pin: in each lane that is asked for the start has its bit
+-- under the lane's fault, and every other equation is without it.
+pub record IsFirstChange (c : List Statement) (tests : List Test) (block : ℕ) (f : ℕ → Fault)
     (good : List ℕ) (lanes : ℕ) (delta : List ℕ) (start diff : ℕ) : Type 0 where
   pub words : AreWords c tests block None good
-  pub elsewhere : (t : ℕ) → t ≢ start → IsElsewhere f t
-  pub unobserved : (o : Sink × Name) → Contains (observers c) o → f.line ≢ branch o.0
+  pub elsewhere : (t k : ℕ) → t ≢ start → IsElsewhere (f k) t
+  pub unobserved : (o : Sink × Name) (k : ℕ) → Contains (observers c) o → (f k).line ≢ branch o.0
   pub first : (k : ℕ) → k < 64 → lane lanes k ≡ true
-      → HasEquation c (test_of tests block k) (Some f)
+      → HasEquation c (test_of tests block k) (Some (f k))
       (bits_of c good (slice_set delta start diff) k) start
 
 -- some observer shows another bit than without the fault
@@ -79,12 +99,22 @@ abbrev pub IsApart : List Statement → Fault → List ℕ → ℕ → (Name →
 IsApart c f good k v = (o : Sink × Name) × Contains (observers c) o
     × (shows None (lane_bits c good k) o ≢ shows (Some f) v o)
 
--- In each lane that is seen every solution with the fault is apart, and in those asked for below
--- the least seen some is not.
-pub record AreShown (c : List Statement) (tests : List Test) (block : ℕ) (f : Fault) (good : List ℕ)
-    (lanes seen : ℕ) : Type 0 where
+-- some solution with the fault is not apart
+abbrev pub IsAlike : List Statement → Test → Fault → List ℕ → ℕ → Type 0
+IsAlike c t f good k = (v : Name → Bool) × Solves c t (Some f) v × (IsApart c f good k v → ⊥)
+
+-- In each lane that is seen every solution with the lane's fault is apart, and in each that was
+-- asked for, is not seen and is not settled some is not.
+pub record AreShown (c : List Statement) (tests : List Test) (block : ℕ) (f : ℕ → Fault)
+    (good : List ℕ) (lanes : ℕ) (settled : ℕ → Type 0) (seen : ℕ) : Type 0 where
   pub found : (k : ℕ) → k < 64 → lane seen k ≡ true
       → (lane lanes k ≡ true)
-      × ((v : Name → Bool) → Solves c (test_of tests block k) (Some f) v → IsApart c f good k v)
-  pub clear : (k : ℕ) → k < 64 → lane lanes k ≡ true → ((j : ℕ) → j ≤ k → lane seen j ≡ false)
-      → (v : Name → Bool) × Solves c (test_of tests block k) (Some f) v × (IsApart c f good k v → ⊥)
+      × ((v : Name → Bool) → Solves c (test_of tests block k) (Some (f k)) v
+      → IsApart c (f k) good k v)
+  pub clear : (k : ℕ) → k < 64 → lane lanes k ≡ true → lane seen k ≡ false
+      → (settled k → ⊥) → IsAlike c (test_of tests block k) (f k) good k
+
+-- where a lane is settled, it is seen or lies above one that is
+abbrev pub EndsAtHits : Extent → Type 0
+EndsAtHits extent = (seen k : ℕ) → k < 64 → IsSettled extent seen k
+    → (j : ℕ) × (j ≤ k) × (lane seen j ≡ true)

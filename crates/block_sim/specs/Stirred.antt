@@ -34,12 +34,20 @@ abbrev pub AreInBlock : List Test → ℕ → ℕ → Type 0
 AreInBlock tests block lanes = (k : ℕ) → k < 64 → lane lanes k ≡ true
     → k < size_of (length tests) block
 
--- some test of the block stirs the gate
-abbrev pub IsStirred : List Statement → List Test → ℕ → Fault → ℕ → Type 0
-IsStirred c tests block f gate =
+-- some test of the block stirs the gate, with the fault of its lane
+abbrev pub IsStirredIn : List Statement → List Test → ℕ → (ℕ → Fault) → ℕ → Type 0
+IsStirredIn c tests block f gate =
     (k : ℕ) × (t : Test) × (k < size_of (length tests) block)
-    × (slice_get tests (64 * block + k) ≡ Some t) × IsStirredBy c t f gate
+    × (slice_get tests (64 * block + k) ≡ Some t) × IsStirredBy c t (f k) gate
 
--- the list names each gate that the fault stirs on the block
+-- the list names each gate that the faults stir on the block, one a lane
+abbrev pub HasStirredIn : List Statement → List Test → ℕ → (ℕ → Fault) → List ℕ → Type 0
+HasStirredIn c tests block f gates = (gate : ℕ) → IsStirredIn c tests block f gate
+    → Contains gates gate
+
+-- the same of one fault in all lanes
+abbrev pub IsStirred : List Statement → List Test → ℕ → Fault → ℕ → Type 0
+IsStirred c tests block f gate = IsStirredIn c tests block (λ _. f) gate
+
 abbrev pub HasStirred : List Statement → List Test → ℕ → Fault → List ℕ → Type 0
-HasStirred c tests block f gates = (gate : ℕ) → IsStirred c tests block f gate → Contains gates gate
+HasStirred c tests block f gates = HasStirredIn c tests block (λ _. f) gates

@@ -8,7 +8,7 @@ ghost use Rattle.bench_net.specs.Scan.{names, gate_of};
 ghost use Rattle.fault_model.specs.Fault.{faults};
 ghost use Rattle.fault_model.specs.Solution.{Test, value};
 ghost use Rattle.block_sim.specs.Changes.{HasRoomFor, IsAsLarge, IsClear};
-ghost use Rattle.block_sim.specs.Spreading.{AreShown};
+ghost use Rattle.block_sim.specs.Spreading.{AreShown, IsSettled};
 ghost use Rattle.block_sim.specs.Stirred.{AreInBlock, HasStirred};
 ghost use Rattle.block_sim.specs.Stuck.{stuck_fault};
 ghost use Rattle.block_sim.specs.Words.{lane, pin_bits, AreWords, HasWords};
@@ -21,9 +21,9 @@ use crate::words::{Stuck, evaluate_gate};
 use fault_model::Line;
 
 /// Of the lanes that are asked for those in which some observer shows another bit with the fault
-/// than without it; where the first hit is asked for, some of them with the least. No gate is
+/// than without it; where first hits are asked for, some of them with those. No gate is
 /// evaluated where the fault turns its line in none of the lanes.
-pub fn effect(view: BlockView<'_>, fault: Stuck, extent: Extent, changes: &mut Changes) -> u64
+pub fn effect(view: BlockView<'_>, fault: Stuck, extent: Extent<'_>, changes: &mut Changes) -> u64
     requires view { HasWords view.circuit.now view.good.now }
     requires words { (tests : List Test) × (block : ℕ)
         × AreWords view.circuit.now tests block None view.good.now }
@@ -32,8 +32,8 @@ pub fn effect(view: BlockView<'_>, fault: Stuck, extent: Extent, changes: &mut C
     requires clear { IsClear changes.old }
     ensures shown { (tests : List Test) (block : ℕ)
         → AreWords view.entry.circuit.now tests block None view.entry.good.now
-        → AreShown view.entry.circuit.now tests block (stuck_fault fault) view.entry.good.now
-        view.entry.lanes result }
+        → AreShown view.entry.circuit.now tests block (λ _. stuck_fault fault) view.entry.good.now
+        view.entry.lanes (IsSettled extent.entry result) result }
     ensures counted { (tests : List Test) (block : ℕ) (gates : List ℕ)
         → AreWords view.entry.circuit.now tests block None view.entry.good.now
         → AreInBlock tests block view.entry.lanes
@@ -60,7 +60,7 @@ pub fn effect(view: BlockView<'_>, fault: Stuck, extent: Extent, changes: &mut C
 
 /// The lanes, of those that are asked for, in which a fault on a pin of a gate changes the gate's
 /// word.
-fn gate_change(view: BlockView<'_>, fault: Stuck, gate: u32, changes: &mut Changes) -> u64
+pub fn gate_change(view: BlockView<'_>, fault: Stuck, gate: u32, changes: &mut Changes) -> u64
     requires view { HasWords view.circuit.now view.good.now }
     requires room { HasRoomFor view.circuit.now changes.old }
     requires gate { gate < length (names view.circuit.now) }

@@ -13,6 +13,7 @@ ghost use Rattle.block_sim.specs.Stuck.{stuck_fault};
 ghost use Rattle.block_sim.specs.Words.{AreWords};
 
 use crate::flat::FlatCircuit;
+use crate::region_classes::next_in_region;
 use crate::words::{Stuck, evaluate};
 use bench_net::Circuit;
 use fault_model::{Classes, Faults};
@@ -43,7 +44,8 @@ impl From<AllocError> for JobFault {
     }
 }
 
-/// A circuit, its faults and classes, and tests for it, with the fault-free words of every block.
+/// A circuit, its faults and classes, and tests for it, with the fault-free words of every block
+/// and the classes of each fan-out-free region in a circle.
 #[derive(Drop)]
 pub struct Job {
     flat: FlatCircuit,
@@ -51,6 +53,7 @@ pub struct Job {
     classes: Classes,
     tests: Tests,
     rows: Vec<Vec<u64>>,
+    next_in_region: Vec<u32>,
 }
 
 impl Model for Job {
@@ -73,12 +76,13 @@ impl Model for Job {
       classes = j.classes;
       tests = j.tests;
     })
-        (map (λ row. row.items) j.rows.items) };
+        (map (λ row. row.items) j.rows.items) j.next_in_region.items };
 }
 
 impl Job {
     /// A job of parts that belong together: the faults and the classes are those of the circuit,
-    /// and the tests have its width. It takes a word for each signal and block.
+    /// and the tests have its width. It takes a word for each signal and block, and a number for
+    /// each class.
     ///
     /// Refused as `TooManyPieces` exactly where classes times blocks are more than
     /// [`patterns::MAX_PIECES`], before memory is asked for, and as `Memory` where some was
@@ -116,12 +120,14 @@ impl Job {
         }
         let flat = FlatCircuit::new(alloc, circuit)?;
         let rows = fault_free_rows(alloc, &flat, &tests)?;
+        let next_in_region = next_in_region(alloc, &flat, &faults, &classes)?;
         Ok(Job {
             flat,
             faults,
             classes,
             tests,
             rows,
+            next_in_region,
         })
     }
 
@@ -205,6 +211,14 @@ impl Job {
             line: self.faults.line_of(fault),
             at_one: self.faults.stuck_of(fault),
         }
+    }
+
+    /// The class after this one in the circle of its region.
+    pub(crate) fn next_in_region(&self, class: u32) -> u32
+        requires { class < length self.now.classes.representative }
+        ensures { result < length self.now.classes.representative }
+    {
+        self.next_in_region[class as usize]
     }
 
     /// The words of a block without a fault, one a signal.

@@ -11,6 +11,8 @@ ghost use Rattle.fault_model.specs.Solution.{Test};
 ghost use Rattle.patterns.specs.declared.Outcome.{Outcome};
 ghost use Rattle.patterns.specs.Least.{Table};
 ghost use Rattle.block_sim.specs.First.{IsTrueOutcome, IsTrueTable, LeastIsFirst};
+ghost use Rattle.block_sim.specs.Regions.{FaultLaw, LanesLaw, ObserverLaw, OneStemLaw, PinLaw};
+ghost use Rattle.block_sim.specs.Regions.{RegionLaw, StemLaw, StepLaw};
 
 /// The first test that detects a fault is found by blocks: over a table with the true outcome of
 /// each class and block, the test of a class's first Hit is the first test that detects each fault
@@ -31,4 +33,19 @@ pub fn one_outcome()
     ensures { (m : Model) (c : List Statement) (tests : List Test) (class block : ℕ)
         (first second : Outcome) → IsTrueOutcome m c tests class block first
         → IsTrueOutcome m c tests class block second → first ≡ second }
+{}
+
+/// Faults share what lies behind the stem of a fan-out-free region: a signal that one gate alone
+/// reads is detected turned round exactly where the gate passes that on and is detected turned
+/// round itself, and a fault is detected exactly where it alters its first signal and that is detected
+/// turned round.
+pub fn regions()
+    ensures pin { (c : List Statement) → IsWellFormed c → PinLaw c }
+    ensures one_stem { (c : List Statement) → OneStemLaw c }
+    ensures step { (c : List Statement) → IsWellFormed c → StepLaw c }
+    ensures region { (c : List Statement) → IsWellFormed c → RegionLaw c }
+    ensures fault { (c : List Statement) → IsWellFormed c → FaultLaw c }
+    ensures stem { (c : List Statement) → IsWellFormed c → StemLaw c }
+    ensures observer { (c : List Statement) → IsWellFormed c → ObserverLaw c }
+    ensures lanes { (c : List Statement) → LanesLaw c }
 {}

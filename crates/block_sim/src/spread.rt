@@ -4,8 +4,9 @@
 //! differs, and a gate is evaluated only where a signal that it reads differs (event-driven
 //! simulation: Bushnell and Agrawal, Essentials of Electronic Testing).
 
-ghost use Rattle.std.specs.Prelude.{◌≡◌, ◌≢◌, ◌↔◌, ℕ, ◌+◌, ◌<◌, ◌≤◌, ◌==◌, List, IsTrue, true};
-ghost use Rattle.std.specs.Prelude.{false, length, bit_or, count_by, slice_index_or, slice_set};
+ghost use Rattle.std.specs.Prelude.{◌≡◌, ◌≢◌, ◌↔◌, ℕ, ◌+◌, ◌<◌, ◌≤◌, ◌==◌, Contains, List, IsTrue};
+ghost use Rattle.std.specs.Prelude.{true, false, length, bit_or, count_by, slice_index_or};
+ghost use Rattle.std.specs.Prelude.{slice_set};
 ghost use Rattle.std.specs.Bool.{Decides};
 ghost use Rattle.bench_net.specs.Statement.{Name};
 ghost use Rattle.bench_net.specs.Scan.{names};
@@ -16,8 +17,9 @@ ghost use Rattle.fault_model.specs.Solution.{Test};
 ghost use Rattle.block_sim.specs.Changes.{HasRoomFor, IsAsLarge, IsClear, IsTaken};
 ghost use Rattle.block_sim.specs.Events.{level_at, AreWoken, IsWokenAbove, IsObserved};
 ghost use Rattle.block_sim.specs.Moments.{Case, Leads, Spreads, moment, not_yet_taken};
-ghost use Rattle.block_sim.specs.Spreading.{AreShown, IsFirstChange};
-ghost use Rattle.block_sim.specs.Stirred.{AreInBlock, HasStirred};
+ghost use Rattle.block_sim.specs.Spreading.{AreShown, HaveHits, IsFirstChange, IsSettled};
+ghost use Rattle.block_sim.specs.Spreading.{LeavesSettled};
+ghost use Rattle.block_sim.specs.Stirred.{AreInBlock, HasStirredIn};
 ghost use Rattle.block_sim.specs.Words.{lane, HasWords};
 
 use crate::block_lanes::lanes_below;
@@ -27,31 +29,53 @@ use crate::view::BlockView;
 use crate::words::evaluate_gate;
 use event_queue::Buckets;
 
-/// How far the lanes of a block are followed.
+/// A class that is followed, and the lanes in which its fault came as far as the simulation starts.
 #[derive(Clone, Copy)]
-pub enum Extent {
-    /// Each lane to the end.
-    WholeBlock,
-    /// Only the lanes below the least in which a difference was observed.
-    FirstHit,
+pub struct Followed {
+    pub class: u32,
+    pub lanes: u64,
 }
 
-impl Extent {
+/// How far the lanes of a block are followed.
+#[derive(Clone, Copy)]
+pub enum Extent<'a> {
+    /// Each lane to the end.
+    WholeBlock,
+    /// Each lane that is below the least of its own in which a difference was observed, for some of
+    /// those that are followed.
+    FirstHits(&'a [Followed]),
+}
+
+impl Extent<'_> {
     /// The lanes that are still followed, of some that are, where these lanes were seen.
     #[inline(always)]
     fn followed(self, lanes: u64, seen: u64) -> u64
         ensures within { (k : ℕ) → k < 64 → lane result k ≡ true → lane lanes k ≡ true }
         ensures rest { (k : ℕ) → k < 64 → lane lanes k ≡ true → lane result k ≡ false
-            → (j : ℕ) × (j ≤ k) × (lane seen j ≡ true) }
-        ensures whole { self ≡ Extent.WholeBlock → result ≡ lanes }
-        ensures first { self ≡ Extent.FirstHit → (j k : ℕ) → k < 64 → j ≤ k → lane seen j ≡ true
-            → lane result k ≡ false }
+            → IsSettled self.entry seen k }
+        ensures below { (k : ℕ) → k < 64 → IsSettled self.entry seen k → lane result k ≡ false }
     {
         match self {
             Extent::WholeBlock => lanes,
-            Extent::FirstHit => lanes & lanes_below(seen.trailing_zeros()),
+            Extent::FirstHits(followed) => lanes & below_hits(followed, seen),
         }
     }
+}
+
+/// The lanes of some that are followed, each below the least of its own that was seen.
+fn below_hits(followed: &[Followed], seen: u64) -> u64
+    ensures below { (k : ℕ) → k < 64 → lane result k ≡ true → (one : Followed)
+        × Contains followed.now one × (lane one.lanes k ≡ true)
+        × ((j : ℕ) → j ≤ k → lane one.lanes j ≡ true → lane seen j ≡ false) }
+    ensures rest { (k : ℕ) → k < 64 → lane result k ≡ false
+        → HaveHits followed.now seen k }
+{
+    let mut below = 0;
+    for one in followed {
+        let hits = one.lanes & seen;
+        below |= one.lanes & lanes_below(hits.trailing_zeros());
+    }
+    below
 }
 
 /// Lets the gates that read a signal wait, each at its level, and tells whether an observer reads
@@ -150,7 +174,7 @@ struct Found {
 #[inline(always)]
 fn evaluate_level(
     view: BlockView<'_>,
-    extent: Extent,
+    extent: Extent<'_>,
     level: u32,
     found: Found,
     changes: &mut Changes,
@@ -163,11 +187,16 @@ fn evaluate_level(
     ensures leads { Leads view.entry.circuit.now view.entry.good.now view.entry.lanes
         (moment changes.old level found.kept found.seen)
         (moment changes.new (level + 1) result.kept result.seen) }
+    ensures settled { LeavesSettled extent.entry view.entry.lanes found.kept found.seen
+        → LeavesSettled extent.entry view.entry.lanes result.kept result.seen }
     ensures room { IsAsLarge changes.old changes.new }
 {
     let mut found = found;
     while let Some(gate) = changes.buckets.take(level) {
         let seen = found.seen | evaluate_waiting(view, found.kept, gate, changes);
+        if seen == found.seen {
+            continue;
+        }
         let kept = extent.followed(found.kept, seen);
         found = Found { seen, kept };
     }
@@ -175,11 +204,11 @@ fn evaluate_level(
 }
 
 /// Spreads the first change of a fault, which is that of one signal in some of the lanes that are
-/// asked for. Tells lanes in which an observer shows another bit: all such lanes, or where the
-/// first hit is asked for some with the least of them.
+/// asked for; each lane may have a fault of its own. Tells lanes in which an observer shows another
+/// bit: all such lanes, or where first hits are asked for some with the least of each.
 pub fn spread(
     view: BlockView<'_>,
-    extent: Extent,
+    extent: Extent<'_>,
     start: u32,
     diff: u64,
     changes: &mut Changes,
@@ -189,17 +218,19 @@ pub fn spread(
     requires clear { IsClear changes.old }
     requires start { start < length (names view.circuit.now) }
     requires inside { (k : ℕ) → k < 64 → lane diff k ≡ true → lane view.lanes k ≡ true }
-    requires first { (tests : List Test) × (block : ℕ) × (f : Fault) × IsFirstChange
+    requires first { (tests : List Test) × (block : ℕ) × (f : ℕ → Fault) × IsFirstChange
         view.circuit.now tests block f view.good.now view.lanes changes.old.overlay start diff }
-    ensures shown { (tests : List Test) (block : ℕ) (f : Fault) → IsFirstChange
+    ensures shown { (tests : List Test) (block : ℕ) (f : ℕ → Fault) → IsFirstChange
         view.entry.circuit.now tests block f view.entry.good.now view.entry.lanes
         changes.old.overlay start diff → AreShown
-        view.entry.circuit.now tests block f view.entry.good.now view.entry.lanes result }
-    ensures counted { (tests : List Test) (block : ℕ) (f : Fault) (gates : List ℕ) → IsFirstChange
+        view.entry.circuit.now tests block f view.entry.good.now view.entry.lanes
+        (IsSettled extent.entry result) result }
+    ensures counted { (tests : List Test) (block : ℕ) (f : ℕ → Fault) (gates : List ℕ)
+        → IsFirstChange
         view.entry.circuit.now tests block f view.entry.good.now view.entry.lanes
         changes.old.overlay start diff
         → AreInBlock tests block view.entry.lanes
-        → HasStirred view.entry.circuit.now tests block f gates
+        → HasStirredIn view.entry.circuit.now tests block f gates
         → changes.new.evaluations + count_by (λ g. g == start) gates
         ≤ changes.old.evaluations + length gates }
     ensures grown { changes.old.evaluations ≤ changes.new.evaluations }

@@ -7,6 +7,7 @@ ghost use Rattle.fault_model.specs.Fault.{Fault};
 ghost use Rattle.patterns.specs.Tests.{blocks};
 ghost use Rattle.block_sim.specs.First.{IsTrueOutcome};
 ghost use Rattle.block_sim.specs.Parts.{HasRoom};
+ghost use Rattle.block_sim.specs.Spreading.{EndsAtHits};
 ghost use Rattle.block_sim.specs.Stirred.{HasStirred};
 
 use crate::block_lanes::{lanes_below, least_lane};
@@ -14,7 +15,7 @@ use crate::changes::Changes;
 use crate::effect::effect;
 use crate::job::Job;
 use crate::look_back::lanes_that_fit;
-use crate::spread::Extent;
+use crate::spread::{Extent, Followed};
 use crate::view::BlockView;
 use patterns::Outcome;
 use std::alloc::{AllocError, Global};
@@ -114,14 +115,22 @@ pub fn first_hit(job: &Job, workspace: &mut Workspace, class: u32, block: u32) -
         → HasStirred job.now.circuit job.now.tests.tests block r gates
         → workspace.new.evaluations ≤ workspace.old.evaluations + length gates }
 {
-    outcome(job, workspace, class, block, Extent::FirstHit)
+    let all = [Followed { class, lanes: !0 }];
+    outcome(job, workspace, class, block, Extent::FirstHits(&all))
 }
 
 /// The outcome of a class on a block, by following its lanes so far.
-fn outcome(job: &Job, workspace: &mut Workspace, class: u32, block: u32, extent: Extent) -> Outcome
+fn outcome(
+    job: &Job,
+    workspace: &mut Workspace,
+    class: u32,
+    block: u32,
+    extent: Extent<'_>,
+) -> Outcome
     requires class { class < length job.now.classes.representative }
     requires block { block < blocks (length job.now.tests.tests) }
     requires fits { HasRoom workspace.old job.now }
+    requires ends { EndsAtHits extent }
     ensures outcome { IsTrueOutcome job.now.list.model job.now.circuit
         job.now.tests.tests class block result }
     ensures room { workspace.new.signals ≡ workspace.old.signals }

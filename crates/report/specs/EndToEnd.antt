@@ -99,7 +99,7 @@ IsJobWithin m bench text job = IsJobOf m bench text job × (piece_count job ≤ 
 -- piece pass, then an output that takes nothing more.
 abbrev pub IsReportFault : Model → List ℕ → List ℕ → ℕ → SimFault → Type 0
 IsReportFault m bench text workers (fault.Run f) =
-    (job : Parts) × IsJobWithin m bench text job × IsRunFault job workers ⊤ f
+    (job : Parts) × IsJobWithin m bench text job × IsRunFault job workers ⊤ (λ _ _ _. ⊥) f
 IsReportFault m bench text workers (fault.Report f) =
     (job : Parts) × IsJobWithin m bench text job × (0 < workers) × (workers ≤ 64)
 IsReportFault m bench text workers f = IsJobFault m bench text f
@@ -137,7 +137,7 @@ IsReportOfJob job list bytes = (firsts : List (Option ℕ))
 -- When each fault of the report of a job that is run in threads comes: those of the run, then an
 -- output that takes nothing more.
 abbrev pub IsRunReportFault : Parts → ℕ → SimFault → Type 0
-IsRunReportFault job workers (fault.Run f) = IsRunFault job workers ⊤ f
+IsRunReportFault job workers (fault.Run f) = IsRunFault job workers ⊤ (λ _ _ _. ⊥) f
 IsRunReportFault job workers (fault.Report f) = (0 < workers) × (workers ≤ 64)
 IsRunReportFault job workers _ = ⊥
 

@@ -12,6 +12,8 @@ pub(crate) struct Shut;
 impl Gate for Shut {
     ghost passing = { λ _. ⊥ };
 
+    ghost stops = { λ _ _ _ _. Unit {0} };
+
     fn pass(&self, _worker: u32, _class: u32, _block: u32) -> bool {
         false
     }
@@ -26,6 +28,8 @@ pub(crate) struct ShutFor {
 
 impl Gate for ShutFor {
     ghost passing = { λ _. ⊥ };
+
+    ghost stops = { λ _ _ _ _. Unit {0} };
 
     fn pass(&self, _worker: u32, class: u32, block: u32) -> bool {
         (class, block) != (self.class, self.block)
@@ -52,6 +56,8 @@ impl Counter {
 
 impl Gate for Counter {
     ghost passing = { λ _. ⊥ };
+
+    ghost stops = { λ _ _ _ _. Unit {0} };
 
     fn pass(&self, _worker: u32, _class: u32, _block: u32) -> bool {
         self.pieces.fetch_add(1, Ordering::SeqCst);
@@ -91,6 +97,8 @@ impl<'a, C: Clock> Meeting<'a, C> {
 
 impl<C: Clock> Gate for Meeting<'_, C> {
     ghost passing = { λ _. ⊥ };
+
+    ghost stops = { λ _ _ _ _. Unit {0} };
 
     fn pass(&self, _worker: u32, class: u32, block: u32) -> bool {
         if (class, block) == self.first {

@@ -1,11 +1,13 @@
 -- The workers of a run, and the handles of their threads.
-use Rattle.std.proofs.Common.{◌≡◌, ◌<◌, ℕ, zero, suc, List, [], ◌∷◌, map, length, get_or, All, refl, sym, ap, ◌∙◌, subst, arith}
+use Rattle.std.proofs.Common.{◌≡◌, ◌<◌, ◌⊎◌, inl, inr, ℕ, zero, suc, List, [], ◌∷◌, map, length, get_or, All, refl, sym, ap, ◌∙◌, subst, arith}
 use Rattle.std.proofs.lemmas.List.{length-map}
 use Rattle.block_sim.specs.Parts.{Parts, HasRoom}
+use Rattle.fault_ledger.specs.History.{class_of, block_of}
 use Rattle.fault_ledger.specs.Seats.{Place, Sitter, newcomer, newcomers}
 use Rattle.patterns.proofs.Public.{length-map-below, get_or-map-below}
+use Rattle.workers.specs.Chosen.{Chosen}
 use Rattle.workers.specs.declared.threads.Worker.{Worker}
-use Rattle.workers.specs.Work.{Returns}
+use Rattle.workers.specs.Work.{HasRested, IsStopped, Returns, Stops, stops_over}
 
 get_map : {A B : Type 0} (f : A → B) (xs : List A) (k : ℕ) (d : A) → f (get_or xs k d) ≡ get_or (map f xs) k (f d)
 get_map f [] k d = refl
@@ -32,10 +34,16 @@ pub own_newcomer : (p : Place) (n : ℕ) (a : Sitter) → a ≡ newcomer p n →
 own_newcomer p n a e = e ∙ ap (newcomer p) (ap (λ (x : Sitter). x.worker) (sym e))
 
 -- what became of a seat, under other names of the same
-pub returns_along : (j j' : Parts) (p p' : Place) (w w' : ℕ) (P P' : Type 0) (a a' : Sitter) → j ≡ j' → p ≡ p' → w ≡ w' → (P' → P) → a ≡ a' → Returns j p w P a → Returns j' p' w' P' a'
-returns_along j j' p p' w w' P P' a a' e f h q s r =
-    subst (λ x. Returns x p' w' P' a') e
-    (subst (λ x. Returns j x w' P' a') f
-    (subst (λ x. Returns j p x P' a') h
-    (subst (λ x. Returns j p w P' x) s
-    (record { place_is = r.place_is; worker_is = r.worker_is; legal = r.legal; truly = r.truly; rested = λ x. r.rested (q x) }))))
+pub returns_along : (j j' : Parts) (o o' : Chosen) (p p' : Place) (w w' : ℕ) (P P' : Type 0) (S S' : Stops) (a a' : Sitter) → j ≡ j' → o ≡ o' → p ≡ p' → w ≡ w' → (P' → P)
+    → ((u k b : ℕ) → S u k b → S' u k b) → a ≡ a' → Returns j o p w P S a → Returns j' o' p' w' P' S' a'
+returns_along j j' o o' p p' w w' P P' S S' a a' e d f h q t s r =
+    subst (λ x. Returns x o' p' w' P' S' a') e
+    (subst (λ x. Returns j x p' w' P' S' a') d
+    (subst (λ x. Returns j o x w' P' S' a') f
+    (subst (λ x. Returns j o p x P' S' a') h
+    (subst (λ x. Returns j o p w P' S' x) s
+    (record { place_is = r.place_is; worker_is = r.worker_is; legal = r.legal; truly = r.truly; rested = λ x. r.rested (q x); ended = stopped r.ended })))))
+  where
+    stopped : HasRested a ⊎ IsStopped p.shape (stops_over o S) w a.seen → HasRested a ⊎ IsStopped p.shape (stops_over o S') w a.seen
+    stopped (inl x) = inl x
+    stopped (inr x) = inr (x.0, x.1, t w (o.class_at (class_of p.shape x.0)) (block_of p.shape x.0) x.2)

@@ -1,8 +1,8 @@
 -- What a closed ledger says of the run.
-use Rattle.std.proofs.Common.{◌≡◌, ◌<◌, ◌≤◌, ◌+◌, ◌⊎◌, inl, inr, ℕ, zero, suc, List, [], ◌∷◌, map, length, All, Option, None, refl, sym, ap, ◌∙◌, subst, arith}
-use Rattle.std.specs.Prelude.{count_by}
+use Rattle.std.proofs.Common.{◌≡◌, ◌<◌, ◌≤◌, ◌+◌, ◌⊎◌, inl, inr, ℕ, zero, suc, List, [], ◌∷◌, map, length, All, Option, None, get_or, refl, sym, ap, ◌∙◌, subst, arith}
+use Rattle.std.specs.Prelude.{count_by, slice_get}
 use Rattle.std.proofs.lemmas.Bool.{cases_lt}
-use Rattle.std.proofs.lemmas.Option.{get_or_from_slice_get}
+use Rattle.std.proofs.lemmas.Option.{get_or_from_slice_get, slice_get_within}
 use Rattle.patterns.specs.Tests.{blocks}
 use Rattle.patterns.specs.Least.{from_up}
 use Rattle.block_sim.specs.Parts.{Parts, BelongTogether}
@@ -17,17 +17,26 @@ use Rattle.fault_ledger.specs.Answer.{IsLegal}
 use Rattle.fault_ledger.specs.Settled.{status, status_from, finish, finish_from}
 use Rattle.fault_ledger.specs.Seats.{ClosedFace, Closes, Place, Sitter, HoldsAll, closed_face}
 use Rattle.fault_ledger.proofs.Public.{held_goes_on, claims_past, legal_claims, ClearBelow, skipped_not_first}
-use Rattle.workers.specs.Settling.{AreSettled, IsShapeOf, shape_for}
+use Rattle.workers.specs.Chosen.{AreChosenOf, Chosen, every, listed}
+use Rattle.workers.specs.Settling.{AreSettled, IsShapeOf, IsShapeOver, shape_over}
 use Rattle.fault_ledger.specs.Settled.{is_skipped}
-use Rattle.workers.specs.Work.{AreBack, IsOfHistory, ReportsTruly, Returns}
+use Rattle.workers.specs.Work.{AllReportTruly, AreBack, HasRested, HasRun, IsOfHistory, IsStopped, ReportsTruly, Returns, Stops, WaitsFor, stops_over}
 use Rattle.workers.proofs.Closing.{none_open, all_settled, settled_goes_on, settled_finished, finished_settled}
-use Rattle.workers.specs.Verdict.{AreFirsts, VerdictList, verdicts}
-use Rattle.lists.proofs.Places.{within_place}
-use Rattle.workers.proofs.Reports.{truly_goes_on, all_true, firsts_truly}
+use Rattle.workers.specs.Schedule.{IsTableOf}
+use Rattle.workers.specs.Verdict.{AreClassFirsts, AreFirsts, VerdictList, settled_at, verdicts}
+use Rattle.workers.proofs.Truth.{first_over, table_over}
+use Rattle.patterns.specs.Least.{Table, below}
+use Rattle.patterns.proofs.Public.{get_or-below, length-map-below}
+use Rattle.block_sim.specs.First.{IsFirst}
+use Rattle.block_sim.proofs.Public.{true_table}
+use Rattle.fault_model.specs.Collapse.{IsClassOf}
+use Rattle.fault_ledger.specs.Answer.{IsTrueTo}
+use Rattle.lists.proofs.Places.{from_mapped, within_place}
+use Rattle.workers.proofs.Reports.{truly_goes_on, all_true, firsts_truly, true_to}
 
-module _ (job : Parts) (p : Place) (P : Type 0) (seats : List Sitter) (h : History) (back : AreBack job p P seats) (holds : HoldsAll h seats) where
+module _ (job : Parts) (over : Chosen) (p : Place) (P : Type 0) (S : Stops) (seats : List Sitter) (h : History) (back : AreBack job over p P S seats) (holds : HoldsAll h seats) where
   -- the seat of a worker
-  seat_of : (w : ℕ) → w < p.shape.workers → (a : Sitter) × ContinuesWithout w h a.seen × Returns job p w P a
+  seat_of : (w : ℕ) → w < p.shape.workers → (a : Sitter) × ContinuesWithout w h a.seen × Returns job over p w P S a
   seat_of w lt =
       let low : w < length seats = omega (arith, lt, back.count) in
       let x = within_place seats w low in
@@ -36,8 +45,8 @@ module _ (job : Parts) (p : Place) (P : Type 0) (seats : List Sitter) (h : Histo
       subst (λ (a : Sitter). ContinuesWithout a.worker h a.seen) (get_or_from_slice_get seats w x.0 x.0 x.1) (holds w x.0 low) in
       (x.0, subst (λ v. ContinuesWithout v h x.0.seen) r.worker_is c, r)
 
-  pub each_truly : (w : ℕ) → w < p.shape.workers → ReportsTruly job p.shape w h []
-  each_truly w lt = let x = seat_of w lt in truly_goes_on job p.shape w h x.0.seen x.1 x.2.truly
+  pub each_truly : (w : ℕ) → w < p.shape.workers → ReportsTruly job over p.shape w h []
+  each_truly w lt = let x = seat_of w lt in truly_goes_on job over p.shape w h x.0.seen x.1 x.2.truly
 
   free : P → (w : ℕ) → w < p.shape.workers → held w h ≡ None
   free sure w lt =
@@ -48,7 +57,7 @@ module _ (job : Parts) (p : Place) (P : Type 0) (seats : List Sitter) (h : Histo
   pub rested_settled : P → 0 < p.shape.workers → IsLegal p.shape h → AreSettled p.shape h p.shape.classes
   rested_settled sure some l = go (x.2.rested sure).over
     where
-      x : (a : Sitter) × ContinuesWithout 0 h a.seen × Returns job p 0 P a
+      x : (a : Sitter) × ContinuesWithout 0 h a.seen × Returns job over p 0 P S a
       x = seat_of 0 some
 
       s : Shape
@@ -62,6 +71,29 @@ module _ (job : Parts) (p : Place) (P : Type 0) (seats : List Sitter) (h : Histo
           all_settled s h l (none_open s h l (omega arith) (free sure))
       go (inr settled) =
           settled_goes_on s 0 s.classes h x.0.seen x.1 (subst (λ (q : Place). AreSettled q.shape x.0.seen q.shape.classes) x.2.place_is settled)
+
+  -- where a class waits each worker was stopped, or all pieces are claimed
+  pub each_ended : IsLegal p.shape h → (class block : ℕ) → finish p.shape h ≡ finish_is.Waiting class block → (w : ℕ) → w < p.shape.workers
+      → IsStopped p.shape (stops_over over S) w h ⊎ (claims h ≡ piece_count p.shape)
+  each_ended l class block waits w lt = go x.2.ended
+    where
+      x : (a : Sitter) × ContinuesWithout w h a.seen × Returns job over p w P S a
+      x = seat_of w lt
+
+      past : (claims x.0.seen ≡ piece_count x.0.place.shape) ⊎ AreSettled x.0.place.shape x.0.seen x.0.place.shape.classes → IsStopped p.shape (stops_over over S) w h ⊎ (claims h ≡ piece_count p.shape)
+      past (inl all) =
+          let same : claims x.0.seen ≡ piece_count p.shape = all ∙ ap (λ (q : Place). piece_count q.shape) x.2.place_is in
+          let more : claims x.0.seen ≤ claims h = subst (λ k. claims x.0.seen ≤ claims k) (sym x.1.1) (claims_past x.1.0 x.0.seen) in
+          let few = legal_claims p.shape h l in
+          inr (omega arith)
+      past (inr settled) =
+          let all = settled_goes_on p.shape w p.shape.classes h x.0.seen x.1 (subst (λ (q : Place). AreSettled q.shape x.0.seen q.shape.classes) x.2.place_is settled) in
+          let bad = sym waits ∙ settled_finished p.shape h all in
+          absurd (cc)
+
+      go : HasRested x.0 ⊎ IsStopped p.shape (stops_over over S) w x.0.seen → IsStopped p.shape (stops_over over S) w h ⊎ (claims h ≡ piece_count p.shape)
+      go (inl r) = past r.over
+      go (inr s) = inl (s.0, held_goes_on w h x.0.seen x.1 ∙ s.1, s.2)
 
 -- a class that waits, waits for one of its blocks
 waits_within : (s : Shape) (class : ℕ) (h : History) (x : ℕ) → IsLegal s h → class < s.classes → (n b : ℕ) → b + n ≡ block_count s → ClearBelow s class b h
@@ -102,7 +134,7 @@ waiting_range s h c b l e =
     let lt : c < s.classes = omega (arith, r.0) in
     (lt, waits_within s c h b l lt (block_count s) 0 (omega arith) (λ k m. absurd (omega (arith, m))) r.1)
 
-module _ (job : Parts) (workers : ℕ) (p : Place) (P : Type 0) (seats : List Sitter) (closed : ClosedFace) (is : p.shape ≡ shape_for job workers) (some : 0 < workers) (back : AreBack job p P seats)
+module _ (job : Parts) (over : Chosen) (workers : ℕ) (p : Place) (P : Type 0) (S : Stops) (seats : List Sitter) (closed : ClosedFace) (is : p.shape ≡ shape_over job over workers) (some : 0 < workers) (back : AreBack job over p P S seats)
     (closes : Closes p.shape seats closed) where
   same_shape : closed.shape ≡ p.shape
   same_shape = ap (λ (x : ClosedFace). x.shape) closes.3
@@ -113,49 +145,116 @@ module _ (job : Parts) (workers : ℕ) (p : Place) (P : Type 0) (seats : List Si
   among : 0 < p.shape.workers
   among = subst (λ (s : Shape). 0 < s.workers) (sym is) some
 
+  each_worker : (R : Shape → ℕ → Type 0) → ((w : ℕ) → w < p.shape.workers → R p.shape w) → (w : ℕ) → w < workers → R (shape_over job over workers) w
+  each_worker R each = subst (λ (s : Shape). (w : ℕ) → w < s.workers → R s w) is each
+
   -- what a run that isn't finished names, and that its gate stopped a worker
   pub closed_waiting : (class block : ℕ) → ((h : History) → IsLegal closed.shape h → closed ≡ closed_face closed.shape h → finish_is.Waiting class block ≡ finish closed.shape h)
-      → (class < length job.classes.representative) × (block < blocks (length job.tests.tests)) × (¬ P)
+      → (class < over.count) × (block < blocks (length job.tests.tests)) × (¬ P) × WaitsFor job over workers S (over.class_at class) block
   closed_waiting class block answers =
       let fin = asked (finish_is.Waiting class block) finish answers in
       let r = waiting_range p.shape closes.0 class block closes.1 (sym fin) in (
         subst (λ (s : Shape). class < s.classes) is r.0,
         subst (λ (s : Shape). block < block_count s) is r.1,
         λ x.
-            let done = settled_finished p.shape closes.0 (rested_settled job p P seats closes.0 back closes.2 x among closes.1) in
+            let done = settled_finished p.shape closes.0 (rested_settled job over p P S seats closes.0 back closes.2 x among closes.1) in
             let bad = fin ∙ done in
             absurd (cc),
+        record {
+          history = closes.0;
+          legal = subst (λ s. IsLegal s closes.0) is closes.1;
+          truly = each_worker (λ s w. ReportsTruly job over s w closes.0 []) (each_truly job over p P S seats closes.0 back closes.2);
+          ended = each_worker (λ s w. IsStopped s (stops_over over S) w closes.0 ⊎ (claims closes.0 ≡ piece_count s)) (each_ended job over p P S seats closes.0 back closes.2 closes.1 class block (sym fin));
+          number = class;
+          class_is = refl;
+          waiting = subst (λ s. finish s closes.0 ≡ finish_is.Waiting class block) is (sym fin);
+        },
       )
 
-  -- a finished run has settled every class
-  pub closed_settled : ((h : History) → IsLegal closed.shape h → closed ≡ closed_face closed.shape h → finish_is.Finished ≡ finish closed.shape h)
-      → (h : History) × IsLegal closed.shape h × (closed ≡ closed_face closed.shape h) × AreSettled closed.shape h closed.shape.classes
-  closed_settled answers =
+  -- a finished run leaves a finished history
+  pub closed_run : ((h : History) → IsLegal closed.shape h → closed ≡ closed_face closed.shape h → finish_is.Finished ≡ finish closed.shape h) → HasRun job over workers closed
+  closed_run answers =
       let fin = asked finish_is.Finished finish answers in
-      subst (λ s. (h : History) × IsLegal s h × (closed ≡ closed_face s h) × AreSettled s h s.classes) (sym same_shape) (closes.0, closes.1, closes.3, finished_settled p.shape closes.0 (sym fin))
+      record {
+        shape = same_shape ∙ is;
+        history = closes.0;
+        legal = subst (λ s. IsLegal s closes.0) (sym same_shape) closes.1;
+        shows = subst (λ s. closed ≡ closed_face s closes.0) (sym same_shape) closes.3;
+        finished = subst (λ s. finish s closes.0 ≡ finish_is.Finished) (sym same_shape) (sym fin);
+        truly = subst (λ s. AllReportTruly job over s closes.0) (sym same_shape) (each_truly job over p P S seats closes.0 back closes.2);
+      }
+
+module _ (job : Parts) (workers : ℕ) (closed : ClosedFace) (run : HasRun job (every job.classes) workers closed) where
+  is_shape : IsShapeOf job closed.shape
+  is_shape = subst (λ s. IsShapeOf job s) (sym run.shape) (record { classes = refl; tests = refl })
+
+  -- a finished run has settled every class
+  pub run_settled : AreSettled closed.shape run.history closed.shape.classes
+  run_settled = finished_settled closed.shape run.history run.finished
 
   -- and its verdicts are the first tests
-  pub closed_firsts : (firsts : List (Option ℕ)) → BelongTogether job → ((h : History) → IsLegal closed.shape h → closed ≡ closed_face closed.shape h → finish_is.Finished ≡ finish closed.shape h)
-      → ((h : History) → IsLegal closed.shape h → closed ≡ closed_face closed.shape h → firsts ≡ verdicts closed.shape h job.classes.class_of) → AreFirsts job.list.model job.circuit job.tests.tests firsts
-  closed_firsts firsts b answers told =
-      let fin = asked finish_is.Finished finish answers in
-      let say = asked firsts (λ s h. verdicts s h job.classes.class_of) told in
-      let own : IsShapeOf job p.shape = subst (λ s. IsShapeOf job s) (sym is) (record { classes = refl; tests = refl }) in
-      subst (AreFirsts job.list.model job.circuit job.tests.tests) (sym say)
-      (firsts_truly job p.shape closes.0 b own closes.1 (all_true job p.shape closes.0 closes.1 (each_truly job p P seats closes.0 back closes.2)) (finished_settled p.shape closes.0 (sym fin)))
+  pub run_firsts : (firsts : List (Option ℕ)) → BelongTogether job → ((h : History) → IsLegal closed.shape h → closed ≡ closed_face closed.shape h → firsts ≡ verdicts closed.shape h job.classes.class_of)
+      → AreFirsts job.list.model job.circuit job.tests.tests firsts
+  run_firsts firsts b told =
+      subst (AreFirsts job.list.model job.circuit job.tests.tests) (sym (told run.history run.legal run.shows))
+      (firsts_truly job closed.shape run.history b is_shape run.legal (all_true job (every job.classes) closed.shape run.history run.legal run.truly) run_settled)
 
   -- the closed ledger's history is one of the job's ledger
-  pub closed_history : (v : VerdictList) → ((h : History) → IsLegal closed.shape h → closed ≡ closed_face closed.shape h → v.firsts ≡ verdicts closed.shape h job.classes.class_of)
+  pub run_history : (v : VerdictList) → ((h : History) → IsLegal closed.shape h → closed ≡ closed_face closed.shape h → v.firsts ≡ verdicts closed.shape h job.classes.class_of)
       → ((h : History) → closed ≡ closed_face closed.shape h → v.skipped ≡ count_by is_skipped (states_of closed.shape h)) → IsOfHistory job workers v
-  closed_history v told counted = record {
-    history = closes.0;
-    legal = subst (λ s. IsLegal s closes.0) is closes.1;
-    firsts = asked v.firsts (λ s h. verdicts s h job.classes.class_of) told ∙ ap (λ s. verdicts s closes.0 job.classes.class_of) is;
-    skipped = asked v.skipped (λ s h. count_by is_skipped (states_of s h)) (λ h l e. counted h e) ∙ ap (λ s. count_by is_skipped (states_of s closes.0)) is;
+  run_history v told counted = record {
+    history = run.history;
+    legal = subst (λ s. IsLegal s run.history) run.shape run.legal;
+    finished = subst (λ s. finish s run.history ≡ finish_is.Finished) run.shape run.finished;
+    truly = subst (λ s. AllReportTruly job (every job.classes) s run.history) run.shape run.truly;
+    firsts = told run.history run.legal run.shows ∙ ap (λ s. verdicts s run.history job.classes.class_of) run.shape;
+    skipped = counted run.history run.shows ∙ ap (λ s. count_by is_skipped (states_of s run.history)) run.shape;
   }
 
+-- a run over the classes of a list gives the first test of each
+pub run_class_firsts : (job : Parts) (classes : List ℕ) (workers : ℕ) (closed : ClosedFace) (firsts : List (Option ℕ)) → BelongTogether job → AreChosenOf job (listed classes)
+    → HasRun job (listed classes) workers closed
+    → ((h : History) → IsLegal closed.shape h → closed ≡ closed_face closed.shape h → firsts ≡ map (λ k. settled_at (status closed.shape h k)) (below closed.shape.classes))
+    → AreClassFirsts job.list.model job.circuit job.tests.tests classes firsts
+run_class_firsts job classes workers closed firsts b among run told = record {
+  count = ap (λ (l : List (Option ℕ)). length l) say ∙ length-map-below g s.classes ∙ is.classes;
+  first = λ k class f first e of at.
+      let lt : k < s.classes = omega (arith, slice_get_within classes k class e, is.classes) in
+      let x = from_mapped g (below s.classes) k first (ap (λ (l : List (Option ℕ)). slice_get l k) (sym say) ∙ at) in
+      let same : x.0 ≡ k = sym (get_or_from_slice_get (below s.classes) k x.0 0 x.1) ∙ get_or-below s.classes k 0 lt in
+      let here : first ≡ g k = sym x.2 ∙ ap g same in
+      let own = settled k lt in
+      let in_job : get_or classes k 0 ≡ class = get_or_from_slice_get classes k class 0 e in
+      subst (IsFirst job.circuit job.tests.tests f) (sym (here ∙ ap settled_at own.1))
+      (first_over job (listed classes) s t.0 h b is t.1 to k own.0 f lt own.1 (subst (λ n. IsClassOf job.list.model job.circuit f n) (sym in_job) of));
+}
+  where
+    s : Shape
+    s = closed.shape
+
+    h : History
+    h = run.history
+
+    g : ℕ → Option ℕ
+    g k = settled_at (status closed.shape run.history k)
+
+    t : (table : Table) × IsTableOf job table
+    t = true_table job.list.model job.circuit job.tests.tests b.circuit.well_formed
+
+    is : IsShapeOver job (listed classes) s
+    is = subst (λ x. IsShapeOver job (listed classes) x) (sym run.shape) (record { classes = refl; tests = refl })
+
+    settled : AreSettled s h s.classes
+    settled = finished_settled s h run.finished
+
+    to : IsTrueTo s (table_over (listed classes) t.0) h
+    to = true_to job (listed classes) s t.0 h b among is t.1 run.legal (all_true job (listed classes) s h run.legal run.truly)
+
+    say : firsts ≡ map g (below s.classes)
+    say = told h run.legal run.shows
+
 -- every seat came back to its ledger
-pub back_placed : (job : Parts) (p : Place) (P : Type 0) (seats : List Sitter) → AreBack job p P seats → All (λ seat. seat.place ≡ p) seats
-back_placed job p P seats back k d lt =
+pub back_placed : (job : Parts) (over : Chosen) (p : Place) (P : Type 0) (S : Stops) (seats : List Sitter) → AreBack job over p P S seats → All (λ seat. seat.place ≡ p) seats
+back_placed job over p P S seats back k d lt =
     let x = within_place seats k lt in
     ap (λ (a : Sitter). a.place) (get_or_from_slice_get seats k x.0 d x.1) ∙ (back.each k x.0 x.1).place_is

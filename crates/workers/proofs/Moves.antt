@@ -71,7 +71,7 @@ move_legal job t s h w b is each l among = go (held w h) refl
         pick : (x : Bool) → has_earlier_hit s h p ≡ x → IsLegal s (move t s h w)
         pick true q = subst (IsLegal s) (drop_moves t s h w p among e q) (legal_after s h (call.Drop w) l)
         pick false q =
-            subst (IsLegal s) (report_moves t s h w p among e q (true_fits job s (class_of s p) (block_of s p) (t (class_of s p) (block_of s p)) is (each (class_of s p) (block_of s p) c d)))
+            subst (IsLegal s) (report_moves t s h w p among e q (true_fits job s (class_of s p) (block_of s p) (t (class_of s p) (block_of s p)) is.tests (each (class_of s p) (block_of s p) c d)))
             (legal_after s h (call.Report w (t (class_of s p) (block_of s p))) l)
 
 -- and true to the table
@@ -124,7 +124,7 @@ reported_moves job t s h w class block o r b is each l among e refused truth =
     let same : o ≡ t class block = one_outcome job.list.model job.circuit job.tests.tests class block o (t class block) truth own in
     let at : t class block ≡ t (class_of s p.0) (block_of s p.0) = ap (λ n. t n block) p.2 ∙ ap (t (class_of s p.0)) p.3 in
     let fits = subst (λ n. fits_size (size_of s.tests n) (t (class_of s p.0) (block_of s p.0)) ≡ true) p.3
-    (subst (λ x. fits_size (size_of s.tests block) x ≡ true) at (true_fits job s class block (t class block) is own)) in
+    (subst (λ x. fits_size (size_of s.tests block) x ≡ true) at (true_fits job s class block (t class block) is.tests own)) in
     ap (λ x. after s h (call.Report w x)) (same ∙ at) ∙ report_moves t s h w p.0 among p.1 (drop_missed s h w p.0 r among p.1 refused) fits
 
 -- the event that a move adds, by the reply to its call

@@ -1,3 +1,4 @@
+pub mod Chosen
 pub mod Verdict
 pub mod Settling
 pub mod Schedule

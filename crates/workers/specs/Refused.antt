@@ -5,6 +5,8 @@ use Rattle.block_sim.specs.Parts.{Parts}
 use Rattle.workers.specs.declared.RunFault.{RunFault}
 use Rattle.workers.specs.declared.RunFault.TheVariants.{NoWorkers, TooManyWorkers, NoSuchMove}
 use Rattle.workers.specs.declared.RunFault.TheVariants.{Memory, Threads, Unfinished}
+use Rattle.workers.specs.Chosen.{Chosen, every}
+use Rattle.workers.specs.Work.{Stops, WaitsFor}
 
 -- when a number of workers is refused
 abbrev pub IsWorkersFault : ℕ → RunFault → Type 0
@@ -21,13 +23,19 @@ IsScheduleFault workers moves Memory =
     (0 < workers) × (workers ≤ 64) × All (λ worker. worker < workers) moves
 IsScheduleFault workers moves fault = IsWorkersFault workers fault
 
--- When a run in threads is refused: for its number of workers, and then for want of memory or of
--- a thread. One whose gate always lets pass finishes; else the fault names a class and a block of
--- the job.
-abbrev pub IsRunFault : Parts → ℕ → Type 0 → RunFault → Type 0
-IsRunFault job workers passing Memory = (0 < workers) × (workers ≤ 64)
-IsRunFault job workers passing Threads = (0 < workers) × (workers ≤ 64)
-IsRunFault job workers passing (Unfinished class block) = (0 < workers) × (workers ≤ 64)
+-- When a run in threads over chosen classes is refused: for its number of workers, and then for want of memory or of
+-- a thread. One whose gate always lets pass finishes; else the fault names the class and the block
+-- of the job for which the run waits.
+abbrev pub IsRunFaultOver : Parts → Chosen → ℕ → Type 0 → Stops → RunFault → Type 0
+IsRunFaultOver job chosen workers passing stops Memory = (0 < workers) × (workers ≤ 64)
+IsRunFaultOver job chosen workers passing stops Threads = (0 < workers) × (workers ≤ 64)
+IsRunFaultOver job chosen workers passing stops (Unfinished class block) =
+    (0 < workers) × (workers ≤ 64)
     × (class < length job.classes.representative) × (block < blocks (length job.tests.tests))
-    × (¬ passing)
-IsRunFault job workers passing fault = IsWorkersFault workers fault
+    × (¬ passing) × WaitsFor job chosen workers stops class block
+IsRunFaultOver job chosen workers passing stops fault = IsWorkersFault workers fault
+
+-- the same where all classes are chosen
+abbrev pub IsRunFault : Parts → ℕ → Type 0 → Stops → RunFault → Type 0
+IsRunFault job workers passing stops fault =
+    IsRunFaultOver job (every job.classes) workers passing stops fault

@@ -8,7 +8,9 @@ use Rattle.fault_ledger.specs.declared.Shape.{Shape}
 use Rattle.fault_ledger.specs.declared.Event.{Event}
 use Rattle.fault_ledger.specs.declared.Event.TheVariants.{Claim, Report, Drop}
 use Rattle.fault_ledger.specs.History.{History, claims, held, piece_count, class_of, block_of}
+use Rattle.fault_ledger.specs.declared.Finish.TheVariants.{Finished}
 use Rattle.fault_ledger.specs.Answer.{has_earlier_hit}
+use Rattle.fault_ledger.specs.Settled.{finish}
 use Rattle.workers.specs.Settling.{shape_for}
 use Rattle.workers.specs.Verdict.{VerdictList, verdicts}
 
@@ -50,11 +52,13 @@ drops h = count_by is_drop h
 abbrev pub IsTableOf : Parts → Table → Type 0
 IsTableOf job table = IsTrueTable job.list.model job.circuit job.tests.tests table
 
--- The verdicts are those of the schedule's history over a true table, and so is the number of
--- skipped pieces, which is that of its drops.
+-- The verdicts are those of the schedule's history over a true table, which is finished, and so is
+-- the number of skipped pieces, which is that of its drops.
 pub record IsScheduled (job : Parts) (workers : ℕ) (moves : List ℕ) (v : VerdictList) : Type 0 where
   pub table : Table
   pub is_true : IsTableOf job table
+  pub finished : finish (shape_for job workers)
+      (schedule_history table (shape_for job workers) moves) ≡ Finished
   pub firsts : v.firsts ≡ verdicts (shape_for job workers)
       (schedule_history table (shape_for job workers) moves) job.classes.class_of
   pub skipped : v.skipped ≡ drops (schedule_history table (shape_for job workers) moves)

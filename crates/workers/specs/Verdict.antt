@@ -4,6 +4,7 @@ use Rattle.std.specs.Prelude.{slice_get}
 use Rattle.bench_net.specs.Statement.{Statement}
 use Rattle.fault_model.specs.declared.Model.{Model}
 use Rattle.fault_model.specs.Fault.{Fault, faults}
+use Rattle.fault_model.specs.Collapse.{IsClassOf}
 use Rattle.fault_model.specs.Solution.{Test}
 use Rattle.block_sim.specs.First.{IsFirst}
 use Rattle.fault_ledger.specs.declared.Shape.{Shape}
@@ -26,6 +27,13 @@ settled_at (Waiting block) = None
 -- the verdict of each fault after a finished history: that of its class
 abbrev pub verdicts : Shape → History → List ℕ → List (Option ℕ)
 verdicts shape h class_of = map (λ class. settled_at (status shape h class)) class_of
+
+-- for each class of a list the first test that detects its faults, or none where no test does
+pub record AreClassFirsts (m : Model) (c : List Statement) (tests : List Test) (classes : List ℕ)
+    (firsts : List (Option ℕ)) : Type 0 where
+  pub count : length firsts ≡ length classes
+  pub first : (k class : ℕ) (f : Fault) (first : Option ℕ) → slice_get classes k ≡ Some class
+      → IsClassOf m c f class → slice_get firsts k ≡ Some first → IsFirst c tests f first
 
 -- the number of detected faults
 abbrev pub detected : List (Option ℕ) → ℕ

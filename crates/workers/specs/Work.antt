@@ -1,55 +1,86 @@
 -- What a worker's seat has done with a job, and how its work ends.
-use Rattle.std.specs.Prelude.{◌≡◌, ◌⊎◌, ℕ, true, count_by, List, [], ◌∷◌, ◌++◌, length, slice_get}
+use Rattle.std.specs.Prelude.{◌≡◌, ◌<◌, ◌⊎◌, ℕ, true, count_by, List, [], ◌∷◌, ◌++◌, length, slice_get}
 use Rattle.std.specs.Prelude.{Option, Some, None}
 use Rattle.patterns.specs.declared.Outcome.{Outcome}
 use Rattle.block_sim.specs.First.{IsTrueOutcome}
 use Rattle.block_sim.specs.Parts.{Parts}
 use Rattle.fault_ledger.specs.declared.Event.{Event}
 use Rattle.fault_ledger.specs.declared.Shape.{Shape}
+use Rattle.fault_ledger.specs.declared.Call.TheVariants as call
+use Rattle.fault_ledger.specs.declared.Finish.TheVariants.{Finished, Waiting}
+use Rattle.fault_ledger.specs.declared.Refusal.TheVariants.{NoEarlierHit}
+use Rattle.fault_ledger.specs.declared.Reply.TheVariants.{Refused}
 use Rattle.fault_ledger.specs.History.{History, piece_count, class_of, block_of, claims, held}
-use Rattle.fault_ledger.specs.History.{states_of}
-use Rattle.fault_ledger.specs.Answer.{IsLegal}
-use Rattle.fault_ledger.specs.Settled.{is_skipped}
-use Rattle.fault_ledger.specs.Seats.{Place, Sitter}
+use Rattle.fault_ledger.specs.History.{ContinuesWithout, states_of}
+use Rattle.fault_ledger.specs.Answer.{IsLegal, answer}
+use Rattle.fault_ledger.specs.Settled.{finish, is_skipped}
+use Rattle.fault_ledger.specs.Seats.{ClosedFace, Place, Sitter, closed_face}
 use Rattle.workers.specs.declared.worker.End.{End}
 use Rattle.workers.specs.declared.worker.End.TheVariants.{Exhausted, AllSettled, Stopped}
-use Rattle.workers.specs.Settling.{AreSettled, shape_for}
+use Rattle.workers.specs.Chosen.{Chosen, every}
+use Rattle.workers.specs.Settling.{AreSettled, shape_for, shape_over}
 use Rattle.workers.specs.Verdict.{VerdictList, verdicts}
 
--- the outcome is the true one of the piece that is held
-abbrev pub GivesTrue : Parts → Shape → Option ℕ → Outcome → Type 0
-GivesTrue job shape None o = ⊥
-GivesTrue job shape (Some piece) o =
+-- the outcome is the true one of the piece that is held, in a ledger of chosen classes
+abbrev pub GivesTrue : Parts → Chosen → Shape → Option ℕ → Outcome → Type 0
+GivesTrue job chosen shape None o = ⊥
+GivesTrue job chosen shape (Some piece) o =
     IsTrueOutcome job.list.model job.circuit job.tests.tests
-    (class_of shape piece) (block_of shape piece) o
+    (chosen.class_at (class_of shape piece)) (block_of shape piece) o
 
--- each report of the worker among the newer events gives the true outcome of the piece that it held
-abbrev pub ReportsTruly : Parts → Shape → ℕ → History → History → Type 0
-ReportsTruly job shape w [] earlier = Unit {0}
-ReportsTruly job shape w (Event.Report u o ∷ newer) earlier =
-    (u ≡ w → GivesTrue job shape (held w (newer ++ earlier)) o)
-    × ReportsTruly job shape w newer earlier
-ReportsTruly job shape w (_ ∷ newer) earlier = ReportsTruly job shape w newer earlier
+-- the worker's drop of the piece that it holds was refused for want of a hit in an earlier block, at
+-- a time since its last event
+abbrev pub WasNoDrop : Shape → ℕ → History → Type 0
+WasNoDrop shape w h = (at : History) × ContinuesWithout w h at
+    × (Refused NoEarlierHit ≡ answer shape at (call.Drop w))
+
+-- Each report of the worker among the newer events gives the true outcome of the piece that it held,
+-- which the worker could not drop.
+abbrev pub ReportsTruly : Parts → Chosen → Shape → ℕ → History → History → Type 0
+ReportsTruly job chosen shape w [] earlier = Unit {0}
+ReportsTruly job chosen shape w (Event.Report u o ∷ newer) earlier =
+    (u ≡ w → GivesTrue job chosen shape (held w (newer ++ earlier)) o
+    × WasNoDrop shape w (newer ++ earlier))
+    × ReportsTruly job chosen shape w newer earlier
+ReportsTruly job chosen shape w (_ ∷ newer) earlier =
+    ReportsTruly job chosen shape w newer earlier
 
 -- What a seat has seen after its worker's work is legal and begins with what it had seen, and
--- each new report of the worker in it gives the true outcome.
-pub record Works (job : Parts) (old new : Sitter) : Type 0 where
+-- each new report of the worker in it is true, of a piece that could not be dropped.
+pub record WorksOver (job : Parts) (chosen : Chosen) (old new : Sitter) : Type 0 where
   pub place : new.place ≡ old.place
   pub worker : new.worker ≡ old.worker
   pub newer : History
   pub begins : new.seen ≡ newer ++ old.seen
   pub legal : IsLegal old.place.shape new.seen
-  pub truly : ReportsTruly job old.place.shape old.worker newer old.seen
+  pub truly : ReportsTruly job chosen old.place.shape old.worker newer old.seen
+
+-- the same at a ledger of all classes
+abbrev pub Works : Parts → Sitter → Sitter → Type 0
+Works job old new = WorksOver job (every job.classes) old new
+
+-- for which worker, class and block a gate may stop the worker
+abbrev pub Stops : Type 1
+Stops = ℕ → ℕ → ℕ → Type 0
+
+-- the same by the ledger's numbers of chosen classes
+abbrev pub stops_over : Chosen → Stops → Stops
+stops_over chosen stops worker class block = stops worker (chosen.class_at class) block
+
+-- a worker that its gate stopped holds the piece that it was stopped for
+abbrev pub IsStopped : Shape → Stops → ℕ → History → Type 0
+IsStopped shape stops w h = (piece : ℕ) × (held w h ≡ Some piece)
+    × stops w (class_of shape piece) (block_of shape piece)
 
 -- how a seat stands at each end of its work
-abbrev pub EndsAs : Sitter → End → Type 0
-EndsAs seat Exhausted =
+abbrev pub EndsAs : Stops → Sitter → End → Type 0
+EndsAs stops seat Exhausted =
     (seat.told ≡ true) × (held seat.worker seat.seen ≡ None)
     × (claims seat.seen ≡ piece_count seat.place.shape)
-EndsAs seat AllSettled =
+EndsAs stops seat AllSettled =
     (held seat.worker seat.seen ≡ None)
     × AreSettled seat.place.shape seat.seen seat.place.shape.classes
-EndsAs seat Stopped = (piece : ℕ) × (held seat.worker seat.seen ≡ Some piece)
+EndsAs stops seat Stopped = IsStopped seat.place.shape stops seat.worker seat.seen
 
 -- a seat whose worker was not stopped: it holds nothing, and all pieces are claimed or all
 -- classes settled
@@ -59,27 +90,61 @@ pub record HasRested (seat : Sitter) : Type 0 where
       ⊎ AreSettled seat.place.shape seat.seen seat.place.shape.classes
 
 -- What became of a worker's seat of a new ledger: it came back, what it has seen is legal, and
--- each report of the worker gives the true outcome; where its gate always lets pass, it has
--- rested.
-pub record Returns (job : Parts) (place : Place) (w : ℕ) (passing : Type 0)
-    (seat : Sitter) : Type 0 where
+-- each report of the worker is true, of a piece that could not be dropped. The worker has rested or
+-- was stopped; where its gate always lets pass, it has rested.
+pub record Returns (job : Parts) (chosen : Chosen) (place : Place) (w : ℕ) (passing : Type 0)
+    (stops : Stops) (seat : Sitter) : Type 0 where
   pub place_is : seat.place ≡ place
   pub worker_is : seat.worker ≡ w
   pub legal : IsLegal place.shape seat.seen
-  pub truly : ReportsTruly job place.shape w seat.seen []
+  pub truly : ReportsTruly job chosen place.shape w seat.seen []
   pub rested : passing → HasRested seat
+  pub ended : HasRested seat ⊎ IsStopped place.shape (stops_over chosen stops) w seat.seen
 
 -- all seats came back: one of each worker, by number
-pub record AreBack (job : Parts) (place : Place) (passing : Type 0)
-    (seats : List Sitter) : Type 0 where
+pub record AreBack (job : Parts) (chosen : Chosen) (place : Place) (passing : Type 0)
+    (stops : Stops) (seats : List Sitter) : Type 0 where
   pub count : length seats ≡ place.shape.workers
   pub each : (w : ℕ) (seat : Sitter) → slice_get seats w ≡ Some seat
-      → Returns job place w passing seat
+      → Returns job chosen place w passing stops seat
 
--- The verdicts are those of some legal history of the job's ledger, and so is the number of
--- pieces that it says are Skipped.
+-- each worker's reports in a history are true, of pieces that it could not drop
+abbrev pub AllReportTruly : Parts → Chosen → Shape → History → Type 0
+AllReportTruly job chosen shape h =
+    (w : ℕ) → w < shape.workers → ReportsTruly job chosen shape w h []
+
+-- What a run over chosen classes leaves: the closed ledger shows a legal and finished history of a
+-- ledger of these classes, in which each report is true, of a piece that could not be dropped.
+pub record HasRun (job : Parts) (chosen : Chosen) (workers : ℕ) (closed : ClosedFace) : Type 0 where
+  pub shape : closed.shape ≡ shape_over job chosen workers
+  pub history : History
+  pub legal : IsLegal closed.shape history
+  pub shows : closed ≡ closed_face closed.shape history
+  pub finished : finish closed.shape history ≡ Finished
+  pub truly : AllReportTruly job chosen closed.shape history
+
+-- The verdicts are those of some legal and finished history of the job's ledger, and so is the
+-- number of pieces that it says are Skipped. Each report in it is true, of a piece that could not be
+-- dropped.
 pub record IsOfHistory (job : Parts) (workers : ℕ) (v : VerdictList) : Type 0 where
   pub history : History
   pub legal : IsLegal (shape_for job workers) history
+  pub finished : finish (shape_for job workers) history ≡ Finished
+  pub truly : AllReportTruly job (every job.classes) (shape_for job workers) history
   pub firsts : v.firsts ≡ verdicts (shape_for job workers) history job.classes.class_of
   pub skipped : v.skipped ≡ count_by is_skipped (states_of (shape_for job workers) history)
+
+-- A run over chosen classes that its gate stopped waits for this class and block of the job: so says
+-- some legal history of a ledger of these classes, whose reports are true, of pieces that could not
+-- be dropped, and at whose end each worker was stopped, or all pieces are claimed.
+pub record WaitsFor (job : Parts) (chosen : Chosen) (workers : ℕ) (stops : Stops)
+    (class block : ℕ) : Type 0 where
+  pub history : History
+  pub legal : IsLegal (shape_over job chosen workers) history
+  pub truly : AllReportTruly job chosen (shape_over job chosen workers) history
+  pub ended : (w : ℕ) → w < workers
+      → IsStopped (shape_over job chosen workers) (stops_over chosen stops) w history
+      ⊎ (claims history ≡ piece_count (shape_over job chosen workers))
+  pub number : ℕ
+  pub class_is : class ≡ chosen.class_at number
+  pub waiting : finish (shape_over job chosen workers) history ≡ Waiting number block

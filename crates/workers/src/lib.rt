@@ -11,6 +11,8 @@
 //! work of one.
 #![tactic(auto)]
 
+mod chosen;
+mod classes;
 mod pace;
 mod schedule;
 mod threads;
@@ -20,6 +22,7 @@ mod worker;
 ghost use Rattle.std.specs.Prelude.{◌<◌, ◌≤◌, IfErr, OnOk};
 ghost use Rattle.workers.specs.Refused.{IsWorkersFault};
 
+pub use classes::run_classes;
 pub use fault_ledger::MAX_WORKERS;
 pub use schedule::run_schedule;
 use std::alloc::{AllocError, AllocFailed};

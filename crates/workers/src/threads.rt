@@ -4,16 +4,18 @@ ghost use Rattle.std.specs.Prelude.{◌≡◌, ◌⊎◌, ◌<◌, ◌≤◌, Al
 ghost use Rattle.block_sim.specs.Parts.{BelongTogether, HasRoom};
 ghost use Rattle.fault_ledger.specs.Answer.{IsLegal};
 ghost use Rattle.fault_ledger.specs.Seats.{newcomer, newcomers};
-ghost use Rattle.workers.specs.Refused.{IsRunFault};
-ghost use Rattle.workers.specs.Settling.{IsShapeOf, shape_for};
+ghost use Rattle.workers.specs.Chosen.{AreChosenOf};
+ghost use Rattle.workers.specs.Refused.{IsRunFault, IsRunFaultOver};
+ghost use Rattle.workers.specs.Settling.{IsShapeOver, shape_over};
 ghost use Rattle.workers.specs.Verdict.{AreFirsts};
-ghost use Rattle.workers.specs.Work.{AreBack, IsOfHistory, Returns};
+ghost use Rattle.workers.specs.Work.{AreBack, HasRun, IsOfHistory, Returns};
 
+use crate::chosen::Chosen;
 use crate::verdicts::verdicts_of;
-use crate::worker::{Gate, work};
+use crate::worker::{Gate, work_over};
 use crate::{RunFault, Verdicts, check_workers};
 use block_sim::{Job, Workspace};
-use fault_ledger::{Finish, Seat, SharedLedger};
+use fault_ledger::{Closed, Finish, Seat, SharedLedger};
 use std::alloc::{AllocError, Global};
 use std::snapshot::Snapshot;
 use std::sync::Wait;
@@ -30,49 +32,62 @@ struct Worker {
 /// What the thread of a worker borrows: the seat that it gives back is its worker's, and has
 /// reported the truth.
 #[derive(Drop)]
-struct Kept<G> {
+struct Kept<G, C> {
     job: Snapshot<Job>,
+    chosen: Snapshot<C>,
     ledger: Snapshot<SharedLedger>,
     gate: Snapshot<G>,
     worker: u32,
 }
 
-impl<G: Gate> Promise<Seat> for Kept<G> {
+impl<G: Gate, C: Chosen> Promise<Seat> for Kept<G, C> {
     ghost use Rattle.workers.specs.Work.{Returns};
 
     ghost kept_by = { λ p r.
-        Returns p.job.value p.ledger.value p.worker (G.passing p.gate.value) r };
+        Returns p.job.value (C.chosen p.chosen.value) p.ledger.value p.worker
+        (G.passing p.gate.value) (G.stops p.gate.value) r };
 }
 
 /// The work of one thread.
-fn serve<G: Gate>(job: &Job, ledger: &SharedLedger, gate: &G, worker: Worker) -> Seat
-    requires shape { IsShapeOf job.now ledger.now.shape }
+fn serve<G: Gate, C: Chosen>(
+    job: &Job,
+    chosen: &C,
+    ledger: &SharedLedger,
+    gate: &G,
+    worker: Worker,
+) -> Seat
+    requires chosen { AreChosenOf job.now (C.chosen chosen.now) }
+    requires shape { IsShapeOver job.now (C.chosen chosen.now) ledger.now.shape }
     requires new { worker.seat ≡ newcomer ledger.now worker.seat.worker }
     requires fits { HasRoom worker.workspace job.now }
-    ensures { Returns job.now ledger.now worker.seat.worker (G.passing gate.now) result }
+    ensures { Returns job.now (C.chosen chosen.now) ledger.now worker.seat.worker
+        (G.passing gate.now) (G.stops gate.now) result }
 {
     let Worker {
         mut seat,
         mut workspace,
     } = worker;
-    work(job, ledger, &mut workspace, &mut seat, gate);
+    work_over(job, chosen, ledger, &mut workspace, &mut seat, gate);
     seat
 }
 
 /// Lets each worker work in a thread of its own, and gives the seats back.
-fn in_threads<G: Gate + Sync, R: Threads + Wait>(
+fn in_threads<G: Gate + Sync, C: Chosen + Sync, R: Threads + Wait>(
     rt: &R,
     alloc: Global,
     job: &Job,
+    chosen: &C,
     ledger: &SharedLedger,
     gate: &G,
     workers: Vec<Worker>,
 ) -> Result<Vec<Seat>, RunFault>
-    requires shape { IsShapeOf job.now ledger.now.shape }
+    requires chosen { AreChosenOf job.now (C.chosen chosen.now) }
+    requires shape { IsShapeOver job.now (C.chosen chosen.now) ledger.now.shape }
     requires new { map (λ w. w.seat) workers.items ≡ newcomers ledger.now }
     requires fits { All (λ w. HasRoom w.workspace job.now) workers.items }
     ensures back { IfOk result (λ seats.
-        AreBack job.now ledger.now (G.passing gate.now) seats.items) }
+        AreBack job.now (C.chosen chosen.now) ledger.now (G.passing gate.now) (G.stops gate.now)
+        seats.items) }
     ensures refused { IfErr result (λ fault.
         (fault ≡ RunFault.Memory) ⊎ (fault ≡ RunFault.Threads)) }
 {
@@ -80,11 +95,13 @@ fn in_threads<G: Gate + Sync, R: Threads + Wait>(
         thread::scope_env(),
         rt,
         |scope| -> Result<Vec<Seat>, RunFault>
-            requires shape { IsShapeOf job.now ledger.now.shape }
+            requires chosen { AreChosenOf job.now (C.chosen chosen.now) }
+            requires shape { IsShapeOver job.now (C.chosen chosen.now) ledger.now.shape }
             requires new { map (λ w. w.seat) workers.items ≡ newcomers ledger.now }
             requires fits { All (λ w. HasRoom w.workspace job.now) workers.items }
             ensures back { IfOk result (λ seats.
-                AreBack job.entry.now ledger.entry.now (G.passing gate.entry.now) seats.items) }
+                AreBack job.entry.now (C.chosen chosen.entry.now) ledger.entry.now
+                (G.passing gate.entry.now) (G.stops gate.entry.now) seats.items) }
             ensures refused { IfErr result (λ fault.
                 (fault ≡ RunFault.Memory) ⊎ (fault ≡ RunFault.Threads)) }
         {
@@ -93,12 +110,15 @@ fn in_threads<G: Gate + Sync, R: Threads + Wait>(
             for worker in workers {
                 let kept = Kept {
                     job: Snapshot::of(job),
+                    chosen: Snapshot::of(chosen),
                     ledger: Snapshot::of(ledger),
                     gate: Snapshot::of(gate),
                     worker: worker.seat.worker(),
                 };
-                let Ok(handle) = scope.spawn_with(kept, move || serve(job, ledger, gate, worker))
-                else {
+                let Ok(handle) = scope.spawn_with(
+                    kept,
+                    move || serve(job, chosen, ledger, gate, worker),
+                ) else {
                     break;
                 };
                 handles.push(handle)?;
@@ -126,20 +146,23 @@ fn workers_of(alloc: Global, job: &Job, seats: Vec<Seat>) -> Result<Vec<Worker>,
     Ok(workers)
 }
 
-/// A new shared ledger of a job, and the seats of its workers. A job has no more pieces than a
-/// ledger takes, so it is refused for want of memory alone.
-fn share_ledger(
+/// A new shared ledger of chosen classes of a job, and the seats of its workers. A job has no more
+/// pieces than a ledger takes, so it is refused for want of memory alone.
+fn share_ledger<C: Chosen>(
     alloc: Global,
     job: &Job,
+    chosen: &C,
     workers: u32,
 ) -> Result<(SharedLedger, Vec<Seat>), RunFault>
-    requires { (0 < workers) × (workers ≤ 64) }
-    ensures ledger { IfOk result (λ made. made.0.shape ≡ shape_for job.now workers) }
+    requires workers { (0 < workers) × (workers ≤ 64) }
+    requires chosen { AreChosenOf job.now (C.chosen chosen.now) }
+    ensures ledger { IfOk result (λ made.
+        made.0.shape ≡ shape_over job.now (C.chosen chosen.now) workers) }
     ensures seats { IfOk result (λ made. made.1.items ≡ newcomers made.0) }
     ensures refused { IfErr result (λ fault. fault ≡ RunFault.Memory) }
     ensures together { BelongTogether job.now }
 {
-    match SharedLedger::new(alloc, job.classes().count(), job.tests().count(), workers) {
+    match SharedLedger::new(alloc, chosen.count(), job.tests().count(), workers) {
         Ok(made) => Ok(made),
         Err(_) => Err(RunFault::Memory),
     }
@@ -169,19 +192,40 @@ pub fn run<G: Gate + Sync, R: Threads + Wait>(
         AreFirsts job.now.list.model job.now.circuit job.now.tests.tests v.firsts) }
     ensures history { IfOk result (IsOfHistory job.now workers) }
     ensures workers { OnOk result ((0 < workers) × (workers ≤ 64)) }
-    ensures refused { IfErr result (IsRunFault job.now workers (G.passing gate.now)) }
+    ensures refused { IfErr result (IsRunFault job.now workers (G.passing gate.now)
+        (G.stops gate.now)) }
 {
     check_workers(workers)?;
-    let (ledger, seats) = share_ledger(alloc, job, workers)?;
-    let crew = workers_of(alloc, job, seats)?;
     let firsts = Vec::with_capacity(alloc, job.faults().count() as usize)?;
-    let seats = in_threads(rt, alloc, job, &ledger, gate, crew)?;
+    let closed = run_over(rt, alloc, job, job.classes(), workers, gate)?;
+    let verdicts = verdicts_of(job, &closed, closed.skipped(), firsts)?;
+    Ok(verdicts)
+}
+
+/// The run of [`run`] over chosen classes.
+pub(crate) fn run_over<G: Gate + Sync, C: Chosen + Sync, R: Threads + Wait>(
+    rt: &R,
+    alloc: Global,
+    job: &Job,
+    chosen: &C,
+    workers: u32,
+    gate: &G,
+) -> Result<Closed, RunFault>
+    requires workers { (0 < workers) × (workers ≤ 64) }
+    requires chosen { AreChosenOf job.now (C.chosen chosen.now) }
+    ensures run { IfOk result (HasRun job.now (C.chosen chosen.now) workers) }
+    ensures refused { IfErr result (IsRunFaultOver job.now (C.chosen chosen.now) workers
+        (G.passing gate.now) (G.stops gate.now)) }
+{
+    let (ledger, seats) = share_ledger(alloc, job, chosen, workers)?;
+    let crew = workers_of(alloc, job, seats)?;
+    let seats = in_threads(rt, alloc, job, chosen, &ledger, gate, crew)?;
     let Ok(closed) = ledger.close(alloc, seats) else {
         return Err(RunFault::Memory);
     };
     if let Finish::Waiting { class, block } = closed.finished() {
+        let class = chosen.class_at(class);
         return Err(RunFault::Unfinished { class, block });
     }
-    let verdicts = verdicts_of(job, &closed, closed.skipped(), firsts)?;
-    Ok(verdicts)
+    Ok(closed)
 }

@@ -1,12 +1,14 @@
 //! One worker.
 
-ghost use Rattle.std.specs.Prelude.{◌≡◌, ◌⊎◌, ◌<◌, ◌≤◌, ℕ, true, IsTrue, Some, None};
+ghost use Rattle.std.specs.Prelude.{◌≡◌, ◌⊎◌, ◌<◌, ◌≤◌, ℕ, true, false, IsTrue, Some, None};
 ghost use Rattle.fault_ledger.specs.History.{block_count, held, claims, piece_at, piece_count};
 ghost use Rattle.fault_ledger.specs.Seats.{IsSitter, Sees};
 ghost use Rattle.block_sim.specs.Parts.{HasRoom};
-ghost use Rattle.workers.specs.Settling.{AreSettled, IsShapeOf};
-ghost use Rattle.workers.specs.Work.{EndsAs, Works};
+ghost use Rattle.workers.specs.Chosen.{AreChosenOf};
+ghost use Rattle.workers.specs.Settling.{AreSettled, IsShapeOf, IsShapeOver};
+ghost use Rattle.workers.specs.Work.{EndsAs, Works, WorksOver, stops_over};
 
+use crate::chosen::Chosen;
 use crate::pace::Pace;
 use block_sim::{Job, Workspace, first_hit};
 use fault_ledger::{Claim, Seat, SharedLedger, Status};
@@ -27,9 +29,13 @@ pub trait Gate {
     /// Where it holds, [`Gate::pass`] lets every piece pass.
     ghost passing: { Self → Type 0 };
 
+    /// What is so of a worker, a class and a block where [`Gate::pass`] stops the worker there.
+    ghost stops: { Self → ℕ → ℕ → ℕ → Type 0 };
+
     /// Whether the worker may go on with the piece.
     fn pass(&self, worker: u32, class: u32, block: u32) -> bool
-        ensures { passing self.now → result ≡ true };
+        ensures passing { passing self.now → result ≡ true }
+        ensures stopped { result ≡ false → stops self.now worker class block };
 }
 
 /// A gate that lets every piece pass.
@@ -39,28 +45,32 @@ pub struct OpenGate;
 impl Gate for OpenGate {
     ghost passing = { λ _. Unit {0} };
 
+    ghost stops = { λ _ _ _ _. ⊥ };
+
     fn pass(&self, _worker: u32, _class: u32, _block: u32) -> bool {
         true
     }
 }
 
 /// Drops the piece that the seat holds, or simulates it and reports.
-fn finish_piece(
+fn finish_piece<C: Chosen>(
     job: &Job,
+    classes: &C,
     ledger: &SharedLedger,
     workspace: &mut Workspace,
     seat: &mut Seat,
     class: u32,
     block: u32,
 ) -> bool
-    requires shape { IsShapeOf job.now ledger.now.shape }
+    requires chosen { AreChosenOf job.now (C.chosen classes.now) }
+    requires shape { IsShapeOver job.now (C.chosen classes.now) ledger.now.shape }
     requires place { seat.old.place ≡ ledger.now }
     requires piece { held seat.old.worker seat.old.seen
         ≡ Some (piece_at ledger.now.shape class block) }
     requires sitter { IsSitter seat.old }
     requires range { (class < ledger.now.shape.classes) × (block < block_count ledger.now.shape) }
     requires fits { HasRoom workspace.old job.now }
-    ensures works { Works job.now seat.old seat.new }
+    ensures works { WorksOver job.now (C.chosen classes.now) seat.old seat.new }
     ensures told { seat.new.told ≡ seat.old.told }
     ensures free { held seat.new.worker seat.new.seen ≡ None }
     ensures fits { HasRoom workspace.new job.now }
@@ -69,7 +79,7 @@ fn finish_piece(
         Ok(()) => return false,
         Err(_) => {}
     }
-    let outcome = first_hit(job, workspace, class, block);
+    let outcome = first_hit(job, workspace, classes.class_at(class), block);
     let Ok(()) = ledger.report(seat, outcome) else {
         unreachable!()
     };
@@ -109,23 +119,45 @@ pub fn work<G: Gate>(
     requires free { held seat.old.worker seat.old.seen ≡ None }
     requires fits { HasRoom workspace.old job.now }
     ensures works { Works job.now seat.old seat.new }
-    ensures ends { EndsAs seat.new result }
+    ensures ends { EndsAs (G.stops gate.now) seat.new result }
+    ensures passing { G.passing gate.now → (result ≡ End.Exhausted) ⊎ (result ≡ End.AllSettled) }
+    ensures fits { HasRoom workspace.new job.now }
+{
+    work_over(job, job.classes(), ledger, workspace, seat, gate)
+}
+
+/// The work of [`work`] at a ledger of chosen classes.
+pub(crate) fn work_over<G: Gate, C: Chosen>(
+    job: &Job,
+    chosen: &C,
+    ledger: &SharedLedger,
+    workspace: &mut Workspace,
+    seat: &mut Seat,
+    gate: &G,
+) -> End
+    requires chosen { AreChosenOf job.now (C.chosen chosen.now) }
+    requires shape { IsShapeOver job.now (C.chosen chosen.now) ledger.now.shape }
+    requires place { seat.old.place ≡ ledger.now }
+    requires free { held seat.old.worker seat.old.seen ≡ None }
+    requires fits { HasRoom workspace.old job.now }
+    ensures works { WorksOver job.now (C.chosen chosen.now) seat.old seat.new }
+    ensures ends { EndsAs (stops_over (C.chosen chosen.now) (G.stops gate.now)) seat.new result }
     ensures passing { G.passing gate.now → (result ≡ End.Exhausted) ⊎ (result ≡ End.AllSettled) }
     ensures fits { HasRoom workspace.new job.now }
 {
     let _sitter = seat.worker();
-    let classes = job.classes().count();
+    let classes = chosen.count();
     let mut lowest = 0;
     let mut pace = Pace::of(seat.worker(), classes, workspace.gate_evaluations());
     'claims: loop {
         let worker = seat.worker();
         match ledger.claim(seat) {
             Ok(Claim::Piece { class, block }) => {
-                if !gate.pass(worker, class, block) {
+                if !gate.pass(worker, chosen.class_at(class), block) {
                     return End::Stopped;
                 }
                 let _sitter = seat.worker();
-                let reported = finish_piece(job, ledger, workspace, seat, class, block);
+                let reported = finish_piece(job, chosen, ledger, workspace, seat, class, block);
                 pace.after_piece(class, block, workspace.gate_evaluations());
                 if reported {
                     let _sitter = seat.worker();

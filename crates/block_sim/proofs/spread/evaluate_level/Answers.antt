@@ -1,14 +1,17 @@
-use Rattle.std.proofs.Common.{◌∙◌, ap, length, arith}
+use Rattle.std.proofs.Common.{◌∙◌, ap, subst, length, arith}
 use Rattle.std.specs.Prelude.{bit_or}
 use Rattle.std.proofs.lemmas.List.{length-set}
 use Rattle.block_sim.specs.Events.{level_at}
+use Rattle.block_sim.specs.Moments.{Leads, moment, not_yet_taken}
 use Rattle.block_sim.proofs.Ahead.{waiting_less}
-use Rattle.block_sim.proofs.Moments.{large_enough, large_none, leads_higher, leads_narrower, leads_none, leads_on, leads_taken, taken_here, taken_now}
+use Rattle.block_sim.proofs.Settled.{settled_on}
+use Rattle.block_sim.proofs.Moments.{large_enough, large_none, leads_higher, leads_narrower, leads_none, leads_on, leads_taken, moment_of, taken_here, taken_now}
 use Rattle.block_sim.proofs.spread.evaluate_level.Goals as goal
 
 pub loop-gate-init : goal.loop-gate-init
 loop-gate-init c = record {
   room = large_none c.args.changes.now;
+  settled = λ h. h;
   leads = leads_none c.args.view.circuit.now c.args.view.good.now c.args.view.lanes _;
 }
 
@@ -59,10 +62,46 @@ loop-gate-preserved c =
         gates = next.gates ∙ (ap length c.in-Some.ensures.some.2 ∙ (length-set m.buckets.at c.in-Some.gate 0 ∙ last.gates));
         levels = next.levels ∙ (c.in-Some.ensures.levels ∙ last.levels);
       };
+      settled = λ h.
+          settled_on c.args.extent lanes kept c.followed-kept.result seen c.evaluate_waiting.result (c.loop-gate.invariant.settled h) c.followed-kept.ensures.rest;
       leads = leads_on circuit good lanes _ _ _ c.loop-gate.invariant.leads
           (leads_taken circuit good lanes m.overlay m.buckets.at c.take.new.self.at m.evaluations level kept seen c.in-Some.gate _ c.in-Some.ensures.some.2 c.in-Some.ensures.some.1
           (leads_on circuit good lanes _ _ _ (c.evaluate_waiting.ensures.leads level seen)
-          (leads_narrower circuit good lanes n.overlay n.buckets.at n.evaluations level kept seen_now c.followed-kept.result c.followed-kept.ensures.within c.followed-kept.ensures.rest)));
+          (leads_narrower circuit good lanes n.overlay n.buckets.at n.evaluations level kept seen_now c.followed-kept.result c.followed-kept.ensures.within)));
+    }
+
+pub loop-gate-smaller-then-seen-found : goal.loop-gate-smaller-then-seen-found
+loop-gate-smaller-then-seen-found c =
+    let circuit = c.args.view.circuit.now in
+    let s = c.requires.spreads in
+    let m = c.loop-gate.changes in
+    let here = taken_here circuit c.args.view.good.now c.args.view.lanes s.0 m.overlay m.buckets.at m.evaluations c.args.level c.loop-gate.found.kept c.loop-gate.found.seen c.in-Some.gate
+    (c.loop-gate.invariant.leads.spreading s.0 s.1) c.in-Some.ensures.some.1 in
+    waiting_less (level_at circuit s.0.level) m.buckets.at c.take.new.self.at c.evaluate_waiting.new.changes.buckets.at c.in-Some.gate c.args.level
+    c.in-Some.ensures.some.0 c.in-Some.ensures.some.1 c.in-Some.ensures.some.2 here c.evaluate_waiting.ensures.room.gates (c.evaluate_waiting.ensures.woken s.0.level s.0.levels)
+
+pub loop-gate-preserved-then-seen-found : goal.loop-gate-preserved-then-seen-found
+loop-gate-preserved-then-seen-found c =
+    let circuit = c.args.view.circuit.now in
+    let good = c.args.view.good.now in
+    let lanes = c.args.view.lanes in
+    let level = c.args.level in
+    let m = c.loop-gate.changes in
+    let n = c.evaluate_waiting.new.changes in
+    let kept = c.loop-gate.found.kept in
+    let seen = c.loop-gate.found.seen in
+    let last = c.loop-gate.invariant.room in
+    let next = c.evaluate_waiting.ensures.room in
+    record {
+      room = record {
+        overlay = next.overlay ∙ last.overlay;
+        gates = next.gates ∙ (ap length c.in-Some.ensures.some.2 ∙ (length-set m.buckets.at c.in-Some.gate 0 ∙ last.gates));
+        levels = next.levels ∙ (c.in-Some.ensures.levels ∙ last.levels);
+      };
+      settled = c.loop-gate.invariant.settled;
+      leads = leads_on circuit good lanes _ _ _ c.loop-gate.invariant.leads
+          (leads_taken circuit good lanes m.overlay m.buckets.at c.take.new.self.at m.evaluations level kept seen c.in-Some.gate _ c.in-Some.ensures.some.2 c.in-Some.ensures.some.1
+          (subst (λ x. Leads circuit good lanes (not_yet_taken c.in-Some.gate (moment_of m.overlay c.take.new.self.at m.evaluations level kept seen)) (moment n level kept x)) c.if-seen-found.true (c.evaluate_waiting.ensures.leads level seen)));
     }
 
 pub returns-clause-leads : goal.returns-clause-leads

@@ -4,6 +4,7 @@ use Rattle.std.proofs.lemmas.List.{get_or_default}
 use Rattle.bench_net.specs.Scan.{names}
 use Rattle.event_queue.proofs.Public.{index_zero}
 use Rattle.block_sim.specs.Events.{level_at}
+use Rattle.block_sim.specs.Spreading.{IsSettled}
 use Rattle.block_sim.proofs.Ahead.{count_at_most}
 use Rattle.block_sim.proofs.Finish.{shown_from, shown_unchanged, stirred_touched, none_above}
 use Rattle.block_sim.proofs.Moments.{case_of, first_left, first_seen, first_spreads, large_enough, large_none, large_on, leads_none, leads_on}
@@ -14,7 +15,7 @@ use Rattle.block_sim.proofs.spread.spread.Goals.{else-loop-level-test, then-loop
 pub returns-then-diff-eq0-clause-shown : goal.returns-then-diff-eq0-clause-shown
 returns-then-diff-eq0-clause-shown c = λ tests block f first.
     let overlay = c.args.changes.now.overlay in
-    shown_unchanged c.args.view.circuit.now tests block f c.args.view.good.now c.args.view.lanes overlay c.args.start c.args.diff c.requires.view.circuit.well_formed
+    shown_unchanged c.args.view.circuit.now tests block f c.args.view.good.now c.args.view.lanes overlay c.args.start c.args.diff (IsSettled c.args.extent 0) c.requires.view.circuit.well_formed
     (λ t. index_zero overlay t c.requires.clear.words) (omega (arith, c.requires.start, c.requires.room.overlay)) c.if-diff-eq0.true first
 
 pub returns-then-diff-eq0-clause-counted : goal.returns-then-diff-eq0-clause-counted
@@ -24,6 +25,7 @@ returns-then-diff-eq0-clause-counted c = λ tests block f gates first sized all.
 pub loop-level-init : goal.loop-level-init
 loop-level-init c = record {
   room = large_none c.change-seen.new.changes;
+  settled = λ k lt in_lanes out. c.followed-kept.ensures.rest k lt in_lanes out;
   leads = leads_none c.args.view.circuit.now c.args.view.good.now c.args.view.lanes _;
 }
 
@@ -55,6 +57,7 @@ evaluate_level-found-requires-clause-spreads c =
 pub loop-level-preserved : goal.loop-level-preserved
 loop-level-preserved c = record {
   room = large_on c.change-seen.new.changes c.loop-level.changes c.evaluate_level-found.new.changes c.loop-level.invariant.room c.evaluate_level-found.ensures.room;
+  settled = c.evaluate_level-found.ensures.settled c.loop-level.invariant.settled;
   leads = leads_on c.args.view.circuit.now c.args.view.good.now c.args.view.lanes _ _ _ c.loop-level.invariant.leads c.evaluate_level-found.ensures.leads;
 }
 
@@ -77,7 +80,7 @@ returns-clause-shown c = λ tests block f first.
     c.change-seen.ensures.some c.requires.inside c.followed-kept.ensures.within) in
     let seen = c.loop-level.invariant.leads.seen
     (first_seen circuit lanes old c.change-seen.new.changes start c.args.diff c.change-seen.result c.followed-kept.result c.requires.clear c.change-seen.ensures.changed within
-    c.change-seen.ensures.shown c.followed-kept.ensures.within c.followed-kept.ensures.rest) in
+    c.change-seen.ensures.shown c.followed-kept.ensures.within) in
     let below : (g : ℕ) → g < length (names circuit) → level_at circuit levels.0 g < c.change-seen.new.changes.buckets.levels =
     λ g lt. (let less = c.requires.room.levels g (level_at circuit levels.0 g) (has_level circuit levels.0 g levels.2 lt) in omega (arith, less, c.change-seen.ensures.room.levels)) in
     let idle : (s : ℕ) → slice_index_or now.buckets.at s 0 ≡ 0 = elim c.loop-level-test.branch [
@@ -86,7 +89,7 @@ returns-clause-shown c = λ tests block f first.
       | then-loop-level-test+then-is_empty x ↦ λ s. index_zero now.buckets.at s (x.is_empty.ensures.0 x.if-is_empty.true)
     ] in
     shown_from circuit tests block f good lanes (level_at circuit levels.0) start c.loop-level.found.kept now.overlay now.buckets.at c.loop-level.level well
-    spreads c.loop-level.found.seen idle first.unobserved seen
+    spreads (IsSettled c.args.extent c.loop-level.found.seen) c.loop-level.found.seen idle first.unobserved seen c.loop-level.invariant.settled
 
 pub returns-clause-counted : goal.returns-clause-counted
 returns-clause-counted c = λ tests block f gates first sized all.

@@ -6,7 +6,7 @@ use Rattle.bench_net.specs.Level.{HasLevel}
 use Rattle.fault_model.specs.Detection.{LooksBack}
 use Rattle.fault_model.specs.Fault.{Fault}
 use Rattle.patterns.specs.Tests.{size_of}
-use Rattle.block_sim.specs.Spreading.{AreShown}
+use Rattle.block_sim.specs.Spreading.{AreShown, IsSettled}
 use Rattle.block_sim.specs.Stirred.{HasStirred}
 use Rattle.block_sim.specs.Stuck.{stuck_fault}
 use Rattle.block_sim.specs.Words.{lane, AreWords}
@@ -47,8 +47,10 @@ returns-clause-outcome c =
     let decides : (k : ℕ) → k < 64 → Decides (lane lanes k) ((k < size_of (length tests) block) × LooksBack job.circuit tests fault.model fault.line fault.stuck (64 * block + k)) =
     λ k lt. lanes_decide c.lanes_below.result c.lanes_that_fit.result (size_of (length tests) block) k (c.lanes_below.ensures k lt ∙ ap (nat_lt k) size) (c.lanes_that_fit.ensures k) in
     let words : AreWords c.flat.result.now tests block None good = subst (λ x. AreWords x tests block None good) (sym c.flat.ensures.part) c.fault_free.ensures.words in
-    let shown : AreShown job.circuit tests block fault good lanes c.effect.result = subst (λ x. AreShown x tests block fault good lanes c.effect.result) c.flat.ensures.part (c.effect.ensures.shown tests block words) in
-    (fault, c.representative-fault.ensures.representative, outcome_of_shown job.circuit tests block fault good lanes c.effect.result well c.fault_free.ensures.words decides shown c.least_lane.result c.least_lane.ensures)
+    let settled = IsSettled c.args.extent c.effect.result in
+    let shown : AreShown job.circuit tests block (λ _. fault) good lanes settled c.effect.result =
+    subst (λ x. AreShown x tests block (λ _. fault) good lanes settled c.effect.result) c.flat.ensures.part (c.effect.ensures.shown tests block words) in
+    (fault, c.representative-fault.ensures.representative, outcome_of_shown job.circuit tests block fault good lanes c.effect.result well c.fault_free.ensures.words decides settled (c.requires.ends c.effect.result) shown c.least_lane.result c.least_lane.ensures)
 
 pub returns-clause-counted : goal.returns-clause-counted
 returns-clause-counted c = λ r gates at all.

@@ -9,6 +9,7 @@ use Rattle.workers.specs.Schedule.{moved, turns, schedule_history}
 use Rattle.workers.specs.Settling.{AreSettled, IsShapeOf, shape_for}
 use Rattle.workers.specs.Verdict.{AreFirsts, verdicts}
 use Rattle.workers.proofs.Truth.{firsts_of}
+use Rattle.workers.proofs.Closing.{settled_finished}
 use Rattle.workers.proofs.Turns.{played_on, scheduled, skipped_few, moved_true}
 use Rattle.workers.proofs.schedule.run_schedule.Goals as goal
 
@@ -73,6 +74,7 @@ returns-clause-history c =
     record {
       table = t.0;
       is_true = t.1;
+      finished = settled_finished s (schedule_history t.0 s c.args.moves.now) x.3;
       firsts = told job s (schedule_history t.0 s c.args.moves.now) c.take_turns-turned.new.ledger c.in_ok-verdicts.verdicts.firsts x.1 x.0 c.in_ok-verdicts.ensures.firsts;
       skipped = c.in_ok-verdicts.ensures.skipped ∙ sym x.2;
     }

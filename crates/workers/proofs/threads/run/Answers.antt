@@ -1,33 +1,17 @@
-use Rattle.std.proofs.Common.{ap, ◌∙◌}
-use Rattle.std.specs.Prelude.{count_by}
-use Rattle.fault_ledger.specs.Settled.{is_skipped}
-use Rattle.fault_ledger.specs.Seats.{ClosedFace}
-use Rattle.workers.proofs.Finish.{back_placed, closed_waiting, closed_settled, closed_firsts, closed_history}
+use Rattle.std.proofs.Common.{subst}
+use Rattle.workers.specs.Chosen.{every}
+use Rattle.workers.specs.Work.{HasRun}
+use Rattle.workers.proofs.Finish.{run_settled, run_firsts}
 use Rattle.workers.proofs.threads.run.Goals as goal
-
-pub close-requires-clause-places : goal.close-requires-clause-places
-close-requires-clause-places g c = back_placed c.args.job.now c.in_ok-ledger.ledger (g.G.Gate.passing c.args.gate.now) c.in_ok-seats.seats.items c.in_ok-seats.ensures.back
-
-pub returns-in-Waiting-clause-refused : goal.returns-in-Waiting-clause-refused
-returns-in-Waiting-clause-refused g c =
-    let range = c.in_ok-check_workers.ensures.in_range in
-    let r = closed_waiting c.args.job.now c.args.workers c.in_ok-ledger.ledger (g.G.Gate.passing c.args.gate.now) c.in_ok-seats.seats.items c.in-Ok.closed
-    c.in_ok-ledger.ensures.ledger range.0 c.in_ok-seats.ensures.back c.in-Ok.ensures.closed c.in-Waiting.class c.in-Waiting.block c.in-Waiting.ensures.finish in
-    (range.0, range.1, r.0, r.1, r.2)
 
 pub verdicts_of-requires-clause-settled : goal.verdicts_of-requires-clause-settled
 verdicts_of-requires-clause-settled g c =
-    closed_settled c.args.job.now c.args.workers c.in_ok-ledger.ledger (g.G.Gate.passing c.args.gate.now) c.in_ok-seats.seats.items c.in-Ok.closed
-    c.in_ok-ledger.ensures.ledger c.in_ok-check_workers.ensures.in_range.0 c.in_ok-seats.ensures.back c.in-Ok.ensures.closed c.in_default-finished.ensures.finish
+    let closed = c.in_ok-closed.closed in
+    let run = subst (λ k. HasRun c.args.job.now (every k) c.args.workers closed) c.classes.ensures.part c.in_ok-closed.ensures.run in
+    (run.history, run.legal, run.shows, run_settled c.args.job.now c.args.workers closed run)
 
 pub returns-clause-firsts : goal.returns-clause-firsts
 returns-clause-firsts g c =
-    closed_firsts c.args.job.now c.args.workers c.in_ok-ledger.ledger (g.G.Gate.passing c.args.gate.now) c.in_ok-seats.seats.items c.in-Ok.closed
-    c.in_ok-ledger.ensures.ledger c.in_ok-check_workers.ensures.in_range.0 c.in_ok-seats.ensures.back c.in-Ok.ensures.closed c.in_ok-verdicts.verdicts.firsts c.share_ledger.ensures.together
-    c.in_default-finished.ensures.finish c.in_ok-verdicts.ensures.firsts
-
-pub returns-clause-history : goal.returns-clause-history
-returns-clause-history g c =
-    closed_history c.args.job.now c.args.workers c.in_ok-ledger.ledger (g.G.Gate.passing c.args.gate.now) c.in_ok-seats.seats.items c.in-Ok.closed
-    c.in_ok-ledger.ensures.ledger c.in_ok-check_workers.ensures.in_range.0 c.in_ok-seats.ensures.back c.in-Ok.ensures.closed c.in_ok-verdicts.verdicts
-    c.in_ok-verdicts.ensures.firsts (λ h e. c.in_ok-verdicts.ensures.skipped ∙ c.skipped.ensures ∙ ap (λ (f : ClosedFace). count_by is_skipped f.states) e)
+    let closed = c.in_ok-closed.closed in
+    let run = subst (λ k. HasRun c.args.job.now (every k) c.args.workers closed) c.classes.ensures.part c.in_ok-closed.ensures.run in
+    run_firsts c.args.job.now c.args.workers closed run c.in_ok-verdicts.verdicts.firsts c.classes.ensures.together c.in_ok-verdicts.ensures.firsts

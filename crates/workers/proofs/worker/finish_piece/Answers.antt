@@ -1,25 +1,28 @@
-use Rattle.std.proofs.Common.{ap, Err}
-use Rattle.fault_ledger.specs.Seats.{Sees}
+use Rattle.std.proofs.Common.{ap, subst, Err}
+use Rattle.block_sim.specs.First.{IsTrueOutcome}
+use Rattle.fault_ledger.specs.Seats.{FindsNoHit}
 use Rattle.workers.proofs.Works.{dropped, missed, then_reported, then_taken}
 use Rattle.workers.proofs.worker.finish_piece.Goals as goal
 
 pub returns-in-Ok-clause-works : goal.returns-in-Ok-clause-works
-returns-in-Ok-clause-works c = (dropped c.args.job.now c.args.seat.now c.drop_piece.new.seat _ c.in-Ok.ensures.accepted).0
+returns-in-Ok-clause-works g c = (dropped c.args.job.now (g.C.Chosen.chosen c.args.classes.now) c.args.seat.now c.drop_piece.new.seat _ c.in-Ok.ensures.accepted).0
 
 pub unreachable-requires : goal.unreachable-requires
-unreachable-requires c =
+unreachable-requires g c =
     let a = c.args.seat.now in
     let b = c.drop_piece.new.seat in
-    let sees : Sees a a.told b = missed c.args.job.now a b c.args.ledger.now c.args.class c.args.block c.requires.place c.requires.sitter c.requires.shape c.requires.range.0 c.requires.piece
+    let found : FindsNoHit a b = missed c.args.job.now (g.C.Chosen.chosen c.args.classes.now) a b c.args.ledger.now c.args.class c.args.block c.requires.place c.requires.sitter c.requires.shape c.requires.range.0 c.requires.piece
     c.in-Err.field-0 c.in-Err.ensures.refusal (λ e. c.in-Err.ensures.nothing_held (ap Err e)) (λ e. c.in-Err.ensures.no_earlier_hit (ap Err e)) in
-    then_taken c.args.job.now a b c.args.ledger.now c.args.class c.args.block c.requires.place c.requires.sitter c.requires.shape c.requires.range.0 c.requires.piece
-    c.report.new.seat c.first_hit-outcome.result sees c.first_hit-outcome.ensures.outcome c.in_default.field-0 c.in_default.ensures.refused
+    let truth = subst (λ k. IsTrueOutcome c.args.job.now.list.model c.args.job.now.circuit c.args.job.now.tests.tests k c.args.block c.first_hit-outcome.result) c.class_at.ensures c.first_hit-outcome.ensures.outcome in
+    then_taken c.args.job.now (g.C.Chosen.chosen c.args.classes.now) a b c.args.ledger.now c.args.class c.args.block c.requires.place c.requires.sitter c.requires.shape c.requires.range.0 c.requires.piece
+    c.report.new.seat c.first_hit-outcome.result found truth c.in_default.field-0 c.in_default.ensures.refused
 
 pub returns-clause-works : goal.returns-clause-works
-returns-clause-works c =
+returns-clause-works g c =
     let a = c.args.seat.now in
     let b = c.drop_piece.new.seat in
-    let sees : Sees a a.told b = missed c.args.job.now a b c.args.ledger.now c.args.class c.args.block c.requires.place c.requires.sitter c.requires.shape c.requires.range.0 c.requires.piece
+    let found : FindsNoHit a b = missed c.args.job.now (g.C.Chosen.chosen c.args.classes.now) a b c.args.ledger.now c.args.class c.args.block c.requires.place c.requires.sitter c.requires.shape c.requires.range.0 c.requires.piece
     c.in-Err.field-0 c.in-Err.ensures.refusal (λ e. c.in-Err.ensures.nothing_held (ap Err e)) (λ e. c.in-Err.ensures.no_earlier_hit (ap Err e)) in
-    then_reported c.args.job.now a b c.args.ledger.now c.args.class c.args.block c.requires.place c.requires.sitter c.requires.shape c.requires.range.0 c.requires.piece
-    c.report.new.seat c.first_hit-outcome.result sees c.first_hit-outcome.ensures.outcome _ c.in-Ok-report.ensures.accepted
+    let truth = subst (λ k. IsTrueOutcome c.args.job.now.list.model c.args.job.now.circuit c.args.job.now.tests.tests k c.args.block c.first_hit-outcome.result) c.class_at.ensures c.first_hit-outcome.ensures.outcome in
+    then_reported c.args.job.now (g.C.Chosen.chosen c.args.classes.now) a b c.args.ledger.now c.args.class c.args.block c.requires.place c.requires.sitter c.requires.shape c.requires.range.0 c.requires.piece
+    c.report.new.seat c.first_hit-outcome.result found truth _ c.in-Ok-report.ensures.accepted

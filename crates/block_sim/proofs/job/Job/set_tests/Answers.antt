@@ -18,4 +18,6 @@ invariant_of-self c =
       few = grind (arith, fit, too_many);
       count = c.in_ok-rows.ensures.count;
       fault_free = c.in_ok-rows.ensures.rows;
+      nexts = c.self.invariant.nexts;
+      next_within = c.self.invariant.next_within;
     }

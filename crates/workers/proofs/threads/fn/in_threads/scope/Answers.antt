@@ -36,7 +36,7 @@ loop-worker-preserved g c =
     let seat = ap (λ x. x.seat) next ∙ (was.left 0 c.in-Some.worker some).0 in
     let by = c.push.ensures.by_index in
     let promised = c.in-Ok.ensures.ok in
-    let job = c.captures.job.now in let ledger = c.captures.ledger.now in let gate = c.captures.gate.now in
+    let job = c.captures.job.now in let ledger = c.captures.ledger.now in let gate = c.captures.gate.now in let chosen = c.captures.chosen.now in
     record {
       sum = omega (arith, grown, was.sum, step.1);
       left = λ k d lt.
@@ -45,13 +45,14 @@ loop-worker-preserved g c =
           let same = ap (λ l. get_or l (suc k) d) step.0 in
           (ap (λ x. x.seat) (sym same) ∙ h.0 ∙ ap (newcomer ledger) n, subst (λ x. HasRoom x.workspace job) same h.1);
       each = λ k d lt.
-          below_more (λ i. let p = (get_or (vec_items c.push.new.self) i d).promise in (p.job.value ≡ job) × (p.ledger.value ≡ ledger) × (p.gate.value ≡ gate) × (p.worker ≡ i)) done
-          (λ i low. subst (λ x. (x.promise.job.value ≡ job) × (x.promise.ledger.value ≡ ledger) × (x.promise.gate.value ≡ gate) × (x.promise.worker ≡ i)) (sym (by.0 i d low)) (was.each i d low))
+          below_more (λ i. let p = (get_or (vec_items c.push.new.self) i d).promise in (p.job.value ≡ job) × (p.ledger.value ≡ ledger) × (p.gate.value ≡ gate) × (p.worker ≡ i) × (p.chosen.value ≡ chosen)) done
+          (λ i low. subst (λ x. (x.promise.job.value ≡ job) × (x.promise.ledger.value ≡ ledger) × (x.promise.gate.value ≡ gate) × (x.promise.worker ≡ i) × (x.promise.chosen.value ≡ chosen)) (sym (by.0 i d low)) (was.each i d low))
           (let at = by.1 d (search rules) in (
             ap (λ x. x.promise.job.value) at ∙ ap (λ p. p.job.value) promised ∙ c.of.ensures,
-            ap (λ x. x.promise.ledger.value) at ∙ ap (λ p. p.ledger.value) promised ∙ c.of-in-loop-worker.ensures,
-            ap (λ x. x.promise.gate.value) at ∙ ap (λ p. p.gate.value) promised ∙ c.of-in-loop-worker-2.ensures,
+            ap (λ x. x.promise.ledger.value) at ∙ ap (λ p. p.ledger.value) promised ∙ c.of-in-loop-worker-2.ensures,
+            ap (λ x. x.promise.gate.value) at ∙ ap (λ p. p.gate.value) promised ∙ c.of-in-loop-worker-3.ensures,
             ap (λ x. x.promise.worker) at ∙ ap (λ p. p.worker) promised ∙ c.worker.ensures.worker ∙ ap (λ s. s.worker) seat ∙ omega arith,
+            ap (λ x. x.promise.chosen.value) at ∙ ap (λ p. p.chosen.value) promised ∙ c.of-in-loop-worker.ensures,
           ))
           k (omega (arith, lt, grown));
     }
@@ -82,12 +83,15 @@ returns g c =
             let low : w < vec_len c.loop-worker.handles = omega (arith, lt, sized, len) in
             let k = (c.in_ok-back.ensures.each w seat low).1 in
             let i = was.each w k.handle low in
-            returns_along k.handle.promise.job.value c.captures.job.now k.handle.promise.ledger.value c.captures.ledger.now k.handle.promise.worker w
-            (g.G.Gate.passing k.handle.promise.gate.value) (g.G.Gate.passing c.captures.gate.now) (get_or c.in_ok-back.back.items w seat) seat
+            returns_along k.handle.promise.job.value c.captures.job.now (g.C.Chosen.chosen k.handle.promise.chosen.value) (g.C.Chosen.chosen c.captures.chosen.now) k.handle.promise.ledger.value c.captures.ledger.now k.handle.promise.worker w
+            (g.G.Gate.passing k.handle.promise.gate.value) (g.G.Gate.passing c.captures.gate.now)
+            (g.G.Gate.stops k.handle.promise.gate.value) (g.G.Gate.stops c.captures.gate.now) (get_or c.in_ok-back.back.items w seat) seat
             (ap (λ x. x.promise.job.value) k.handle_is ∙ i.0)
+            (ap (λ x. g.C.Chosen.chosen x.promise.chosen.value) k.handle_is ∙ ap (λ x. g.C.Chosen.chosen x) i.4)
             (ap (λ x. x.promise.ledger.value) k.handle_is ∙ i.1)
             (ap (λ x. x.promise.worker) k.handle_is ∙ i.3)
             (λ p. subst (λ x. g.G.Gate.passing x) (sym (ap (λ x. x.promise.gate.value) k.handle_is ∙ i.2)) p)
+            (λ u class block s. subst (λ x. g.G.Gate.stops x u class block) (ap (λ x. x.promise.gate.value) k.handle_is ∙ i.2) s)
             (get_or_from_slice_get c.in_ok-back.back.items w seat seat e)
             k.kept;
       };

@@ -12,5 +12,6 @@ invariant-loop-worker g l =
       sum : done + into_iter_len rest ≡ l.ledger.now.shape.workers;
       left : (k : ℕ) (d : _) → k < into_iter_len rest → ((get_or (into_iter_items rest) k d).seat ≡ newcomer l.ledger.now (done + k)) × HasRoom (get_or (into_iter_items rest) k d).workspace l.job.now;
       each : (k : ℕ) (d : _) → k < done → ((get_or (vec_items l.handles) k d).promise.job.value ≡ l.job.now) × ((get_or (vec_items l.handles) k d).promise.ledger.value ≡ l.ledger.now)
-          × ((get_or (vec_items l.handles) k d).promise.gate.value ≡ l.gate.now) × ((get_or (vec_items l.handles) k d).promise.worker ≡ k);
+          × ((get_or (vec_items l.handles) k d).promise.gate.value ≡ l.gate.now) × ((get_or (vec_items l.handles) k d).promise.worker ≡ k)
+          × ((get_or (vec_items l.handles) k d).promise.chosen.value ≡ l.chosen.now);
     }

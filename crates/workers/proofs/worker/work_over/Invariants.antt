@@ -3,12 +3,12 @@ use Rattle.std.specs.Prelude.{None}
 use Rattle.block_sim.specs.Parts.{HasRoom}
 use Rattle.fault_ledger.specs.History.{claims, held, piece_count}
 use Rattle.workers.specs.Settling.{AreSettled}
-use Rattle.workers.specs.Work.{Works}
-use Rattle.workers.proofs.worker.work.Given as goal
+use Rattle.workers.specs.Work.{WorksOver}
+use Rattle.workers.proofs.worker.work_over.Given as goal
 
 abbrev pub invariant-claims : goal.invariant-claims
 invariant-claims g l = record {
-  works : Works l.job l.fn.seat l.seat;
+  works : WorksOver l.job (g.C.Chosen.chosen l.chosen) l.fn.seat l.seat;
   free : held l.seat.worker l.seat.seen ≡ None;
   fits : HasRoom l.workspace l.job;
   range : l.lowest ≤ l.classes;

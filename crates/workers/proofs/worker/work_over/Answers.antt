@@ -1,73 +1,80 @@
-use Rattle.std.proofs.Common.{◌∙◌, ap, sym, refl, subst, Ok, ◌<◌, ℕ, Option, arith, length}
-use Rattle.fault_model.specs.Collapse.{Collapsed}
+use Rattle.std.proofs.Common.{◌∙◌, ap, sym, subst, Ok, ◌<◌, ℕ, Option, arith}
+use Rattle.workers.specs.Work.{stops_over}
 use Rattle.fault_ledger.specs.declared.Event.{Event}
 use Rattle.fault_ledger.specs.declared.Reply.TheVariants.{Claimed}
-use Rattle.fault_ledger.specs.History.{piece_at}
 use Rattle.fault_ledger.specs.Seats.{Makes, Place}
-use Rattle.workers.proofs.Works.{claimed, exhausted, fewer, then_held, works_twice, settled_works, sees_works}
+use Rattle.workers.proofs.Works.{claimed, exhausted, fewer, stopped_holding, works_twice, settled_works, sees_works}
 use Rattle.fault_ledger.proofs.Public.{held_sees, sees_kept}
 use Rattle.fault_ledger.specs.Settled.{IsSettledAt}
-use Rattle.workers.proofs.worker.work.Goals as goal
+use Rattle.workers.proofs.worker.work_over.Goals as goal
 
 pub returns-then-not-pass-clause-works : goal.returns-then-not-pass-clause-works
 returns-then-not-pass-clause-works g c =
+    let over = g.C.Chosen.chosen c.args.chosen.now in
     let m = c.in-Ok-Piece.ensures.piece c.in-Ok-Piece.class c.in-Ok-Piece.block (ap Ok c.in-Ok-Piece.field-0-is) in
-    works_twice c.args.job.now c.args.seat.now c.claims.seat c.claim.new.seat c.claims.invariant.works (claimed c.args.job.now c.claims.seat c.claim.new.seat _ m.1)
+    works_twice c.args.job.now over c.args.seat.now c.claims.seat c.claim.new.seat c.claims.invariant.works (claimed c.args.job.now over c.claims.seat c.claim.new.seat _ m.1)
 
 pub returns-then-not-pass-clause-ends : goal.returns-then-not-pass-clause-ends
 returns-then-not-pass-clause-ends g c =
+    let over = g.C.Chosen.chosen c.args.chosen.now in
     let m = c.in-Ok-Piece.ensures.piece c.in-Ok-Piece.class c.in-Ok-Piece.block (ap Ok c.in-Ok-Piece.field-0-is) in
     let n = subst (λ x. Makes c.claims.seat (Event.Claim c.claims.seat.worker) (Claimed x) c.claim.new.seat) c.in-Ok-Piece.field-0-is m.1 in
-    let h = then_held c.claims.seat c.claim.new.seat c.claims.seat.place c.in-Ok-Piece.class c.in-Ok-Piece.block refl n in
-    (piece_at c.claims.seat.place.shape c.in-Ok-Piece.class c.in-Ok-Piece.block, h.0)
+    stopped_holding (stops_over over (g.G.Gate.stops c.args.gate.now)) c.claims.seat c.claim.new.seat c.in-Ok-Piece.class c.in-Ok-Piece.block n
+    (subst (λ w. g.G.Gate.stops c.args.gate.now w (over.class_at c.in-Ok-Piece.class) c.in-Ok-Piece.block) c.worker-worker.ensures.worker
+    (subst (λ k. g.G.Gate.stops c.args.gate.now c.worker-worker.result k c.in-Ok-Piece.block) c.class_at.ensures (c.pass.ensures.stopped c.if-not-pass.true)))
 
 pub lowest_waiting-lowest-requires-clause-settled : goal.lowest_waiting-lowest-requires-clause-settled
 lowest_waiting-lowest-requires-clause-settled g c =
+    let over = g.C.Chosen.chosen c.args.chosen.now in
     let j = c.args.job.now in
     let m = c.in-Ok-Piece.ensures.piece c.in-Ok-Piece.class c.in-Ok-Piece.block (ap Ok c.in-Ok-Piece.field-0-is) in
-    settled_works j c.args.ledger.now.shape c.claims.lowest c.claim.new.seat c.finish_piece-reported.new.seat c.finish_piece-reported.ensures.works
-    (settled_works j c.args.ledger.now.shape c.claims.lowest c.claims.seat c.claim.new.seat (claimed j c.claims.seat c.claim.new.seat _ m.1) c.claims.invariant.settled)
+    settled_works j over c.args.ledger.now.shape c.claims.lowest c.claim.new.seat c.finish_piece-reported.new.seat c.finish_piece-reported.ensures.works
+    (settled_works j over c.args.ledger.now.shape c.claims.lowest c.claims.seat c.claim.new.seat (claimed j over c.claims.seat c.claim.new.seat _ m.1) c.claims.invariant.settled)
 
 pub returns-then-lowest-classes-clause-works : goal.returns-then-lowest-classes-clause-works
 returns-then-lowest-classes-clause-works g c =
+    let over = g.C.Chosen.chosen c.args.chosen.now in
     let j = c.args.job.now in
     let m = c.in-Ok-Piece.ensures.piece c.in-Ok-Piece.class c.in-Ok-Piece.block (ap Ok c.in-Ok-Piece.field-0-is) in
-    works_twice j c.args.seat.now c.finish_piece-reported.new.seat c.lowest_waiting-lowest.new.seat
-    (works_twice j c.args.seat.now c.claim.new.seat c.finish_piece-reported.new.seat
-    (works_twice j c.args.seat.now c.claims.seat c.claim.new.seat c.claims.invariant.works (claimed j c.claims.seat c.claim.new.seat _ m.1))
+    works_twice j over c.args.seat.now c.finish_piece-reported.new.seat c.lowest_waiting-lowest.new.seat
+    (works_twice j over c.args.seat.now c.claim.new.seat c.finish_piece-reported.new.seat
+    (works_twice j over c.args.seat.now c.claims.seat c.claim.new.seat c.claims.invariant.works (claimed j over c.claims.seat c.claim.new.seat _ m.1))
     c.finish_piece-reported.ensures.works)
-    (sees_works j c.finish_piece-reported.new.seat c.lowest_waiting-lowest.new.seat _ c.lowest_waiting-lowest.ensures.sees)
+    (sees_works j over c.finish_piece-reported.new.seat c.lowest_waiting-lowest.new.seat _ c.lowest_waiting-lowest.ensures.sees)
 
 pub returns-then-lowest-classes-clause-ends : goal.returns-then-lowest-classes-clause-ends
 returns-then-lowest-classes-clause-ends g c =
+    let over = g.C.Chosen.chosen c.args.chosen.now in
     let x = sees_kept c.finish_piece-reported.new.seat c.lowest_waiting-lowest.new.seat c.lowest_waiting-lowest.ensures.sees in
     let place = x.0 ∙ c.finish_piece-reported.ensures.works.place ∙ c.claim.ensures.kept.0 ∙ c.claims.invariant.works.place ∙ c.requires.place in (
       held_sees c.finish_piece-reported.new.seat c.lowest_waiting-lowest.new.seat c.lowest_waiting-lowest.ensures.sees ∙ c.finish_piece-reported.ensures.free,
       λ class lt.
           let low : class < c.args.ledger.now.shape.classes = subst (λ (p : Place). class < p.shape.classes) place lt in
-          let s = c.lowest_waiting-lowest.ensures.settled class (omega (arith, low, c.if-lowest-classes.true, c.count-classes.ensures, c.requires.shape.classes, ap (λ (x : Collapsed). length x.representative) c.classes.ensures.part)) in
+          let s = c.lowest_waiting-lowest.ensures.settled class (omega (arith, low, c.if-lowest-classes.true, c.count-classes.ensures, c.requires.shape.classes)) in
           subst (λ (p : Place). (at : Option ℕ) × IsSettledAt p.shape c.lowest_waiting-lowest.new.seat.seen class at) (sym place) s,
     )
 
 pub claims-smaller-else-lowest-classes : goal.claims-smaller-else-lowest-classes
 claims-smaller-else-lowest-classes g c =
+    let over = g.C.Chosen.chosen c.args.chosen.now in
     let j = c.args.job.now in
     let m = c.in-Ok-Piece.ensures.piece c.in-Ok-Piece.class c.in-Ok-Piece.block (ap Ok c.in-Ok-Piece.field-0-is) in
     let n = subst (λ x. Makes c.claims.seat (Event.Claim c.claims.seat.worker) (Claimed x) c.claim.new.seat) c.in-Ok-Piece.field-0-is m.1 in
-    fewer j c.claims.seat c.claim.new.seat c.lowest_waiting-lowest.new.seat c.args.ledger.now c.in-Ok-Piece.class c.in-Ok-Piece.block
+    fewer j over c.claims.seat c.claim.new.seat c.lowest_waiting-lowest.new.seat c.args.ledger.now c.in-Ok-Piece.class c.in-Ok-Piece.block
     (c.claims.invariant.works.place ∙ c.requires.place) n
-    (works_twice j c.claim.new.seat c.finish_piece-reported.new.seat c.lowest_waiting-lowest.new.seat c.finish_piece-reported.ensures.works (sees_works j c.finish_piece-reported.new.seat c.lowest_waiting-lowest.new.seat _ c.lowest_waiting-lowest.ensures.sees))
+    (works_twice j over c.claim.new.seat c.finish_piece-reported.new.seat c.lowest_waiting-lowest.new.seat c.finish_piece-reported.ensures.works (sees_works j over c.finish_piece-reported.new.seat c.lowest_waiting-lowest.new.seat _ c.lowest_waiting-lowest.ensures.sees))
 
 pub claims-preserved-else-lowest-classes : goal.claims-preserved-else-lowest-classes
 claims-preserved-else-lowest-classes g c =
+    let over = g.C.Chosen.chosen c.args.chosen.now in
     let j = c.args.job.now in
     let m = c.in-Ok-Piece.ensures.piece c.in-Ok-Piece.class c.in-Ok-Piece.block (ap Ok c.in-Ok-Piece.field-0-is) in
     record {
-      works = works_twice j c.args.seat.now c.finish_piece-reported.new.seat c.lowest_waiting-lowest.new.seat
-          (works_twice j c.args.seat.now c.claim.new.seat c.finish_piece-reported.new.seat
-          (works_twice j c.args.seat.now c.claims.seat c.claim.new.seat c.claims.invariant.works (claimed j c.claims.seat c.claim.new.seat _ m.1))
+      works = works_twice j over c.args.seat.now c.finish_piece-reported.new.seat c.lowest_waiting-lowest.new.seat
+          (works_twice j over c.args.seat.now c.claim.new.seat c.finish_piece-reported.new.seat
+          (works_twice j over c.args.seat.now c.claims.seat c.claim.new.seat c.claims.invariant.works (claimed j over c.claims.seat c.claim.new.seat _ m.1))
           c.finish_piece-reported.ensures.works)
-          (sees_works j c.finish_piece-reported.new.seat c.lowest_waiting-lowest.new.seat _ c.lowest_waiting-lowest.ensures.sees);
+          (sees_works j over c.finish_piece-reported.new.seat c.lowest_waiting-lowest.new.seat _ c.lowest_waiting-lowest.ensures.sees);
       free = held_sees c.finish_piece-reported.new.seat c.lowest_waiting-lowest.new.seat c.lowest_waiting-lowest.ensures.sees ∙ c.finish_piece-reported.ensures.free;
       fits = c.finish_piece-reported.ensures.fits;
       range = c.lowest_waiting-lowest.ensures.range;
@@ -76,30 +83,33 @@ claims-preserved-else-lowest-classes g c =
 
 pub claims-smaller : goal.claims-smaller
 claims-smaller g c =
+    let over = g.C.Chosen.chosen c.args.chosen.now in
     let m = c.in-Ok-Piece.ensures.piece c.in-Ok-Piece.class c.in-Ok-Piece.block (ap Ok c.in-Ok-Piece.field-0-is) in
     let n = subst (λ x. Makes c.claims.seat (Event.Claim c.claims.seat.worker) (Claimed x) c.claim.new.seat) c.in-Ok-Piece.field-0-is m.1 in
-    fewer c.args.job.now c.claims.seat c.claim.new.seat c.finish_piece-reported.new.seat c.args.ledger.now c.in-Ok-Piece.class c.in-Ok-Piece.block
+    fewer c.args.job.now over c.claims.seat c.claim.new.seat c.finish_piece-reported.new.seat c.args.ledger.now c.in-Ok-Piece.class c.in-Ok-Piece.block
     (c.claims.invariant.works.place ∙ c.requires.place) n c.finish_piece-reported.ensures.works
 
 pub claims-preserved : goal.claims-preserved
 claims-preserved g c =
+    let over = g.C.Chosen.chosen c.args.chosen.now in
     let j = c.args.job.now in
     let m = c.in-Ok-Piece.ensures.piece c.in-Ok-Piece.class c.in-Ok-Piece.block (ap Ok c.in-Ok-Piece.field-0-is) in
     record {
-      works = works_twice j c.args.seat.now c.claim.new.seat c.finish_piece-reported.new.seat
-          (works_twice j c.args.seat.now c.claims.seat c.claim.new.seat c.claims.invariant.works (claimed j c.claims.seat c.claim.new.seat _ m.1))
+      works = works_twice j over c.args.seat.now c.claim.new.seat c.finish_piece-reported.new.seat
+          (works_twice j over c.args.seat.now c.claims.seat c.claim.new.seat c.claims.invariant.works (claimed j over c.claims.seat c.claim.new.seat _ m.1))
           c.finish_piece-reported.ensures.works;
       free = c.finish_piece-reported.ensures.free;
       fits = c.finish_piece-reported.ensures.fits;
       range = c.claims.invariant.range;
-      settled = settled_works j c.args.ledger.now.shape c.claims.lowest c.claim.new.seat c.finish_piece-reported.new.seat c.finish_piece-reported.ensures.works
-          (settled_works j c.args.ledger.now.shape c.claims.lowest c.claims.seat c.claim.new.seat (claimed j c.claims.seat c.claim.new.seat _ m.1) c.claims.invariant.settled);
+      settled = settled_works j over c.args.ledger.now.shape c.claims.lowest c.claim.new.seat c.finish_piece-reported.new.seat c.finish_piece-reported.ensures.works
+          (settled_works j over c.args.ledger.now.shape c.claims.lowest c.claims.seat c.claim.new.seat (claimed j over c.claims.seat c.claim.new.seat _ m.1) c.claims.invariant.settled);
     }
 
 pub returns-in-Ok-Exhausted-clause-works : goal.returns-in-Ok-Exhausted-clause-works
 returns-in-Ok-Exhausted-clause-works g c =
+    let over = g.C.Chosen.chosen c.args.chosen.now in
     let j = c.args.job.now in
-    works_twice j c.args.seat.now c.claims.seat c.claim.new.seat c.claims.invariant.works
-    (exhausted j c.claims.seat c.claim.new.seat _ c.worker-worker.ensures.sitter
+    works_twice j over c.args.seat.now c.claims.seat c.claim.new.seat c.claims.invariant.works
+    (exhausted j over c.claims.seat c.claim.new.seat _ c.worker-worker.ensures.sitter
     (λ e. (c.in-Ok-Exhausted.ensures.exhausted (ap Ok c.in-Ok-Exhausted.field-0-is) e).0)
     (λ e. (c.in-Ok-Exhausted.ensures.again e).1))

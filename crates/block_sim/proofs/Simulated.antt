@@ -1,0 +1,102 @@
+-- Outcomes that are kept, and classes that are followed to one stem.
+use Rattle.std.proofs.Common.{◌≡◌, ◌≢◌, ◌<◌, ◌≤◌, ℕ, sym, ◌∙◌, ap, subst, List, [], ◌∷◌, ◌++◌, length, set}
+use Rattle.std.proofs.Common.{inl, inr, ◌⊎◌, arith}
+use Rattle.std.specs.Prelude.{Contains, Option, Some, None, bit_and, slice_index_or, unwrap_or}
+use Rattle.std.proofs.lemmas.Bool.{cases_eq}
+use Rattle.std.proofs.lemmas.List.{get_or-set_same, get_or-set_other, length-set}
+use Rattle.lists.proofs.Members.{Among, among, among_append, contained}
+use Rattle.lists.proofs.Places.{place_within}
+use Rattle.bench_net.specs.Statement.{Name, Statement}
+use Rattle.bench_net.specs.Scan.{names}
+use Rattle.bench_net.specs.Circuit.{IsWellFormed}
+use Rattle.fault_model.specs.declared.Line.{Line}
+use Rattle.fault_model.specs.declared.Line.TheVariants as line
+use Rattle.fault_model.specs.declared.Model.{Model}
+use Rattle.fault_model.specs.Fault.{Fault, FaultList, fault_list}
+use Rattle.fault_model.specs.Detection.{carried}
+use Rattle.fault_model.proofs.Public.{carries}
+use Rattle.patterns.specs.declared.Outcome.{Outcome}
+use Rattle.block_sim.specs.declared.simulation.Memo.{Memo}
+use Rattle.block_sim.specs.declared.spread.Followed.{Followed}
+use Rattle.block_sim.specs.declared.changes.Changes.{Changes}
+use Rattle.block_sim.specs.Changes.{HasRoomFor, IsAtRest}
+use Rattle.block_sim.specs.Parts.{Parts}
+use Rattle.block_sim.specs.Regions.{TellsFirstFlips, start_of}
+use Rattle.block_sim.specs.Simulation.{AreFollowed, AreTrueMemos, HasArrived, IsOutcomeIn}
+use Rattle.block_sim.specs.Words.{IsLeastLane}
+use Rattle.block_sim.proofs.Carried.{gate_within}
+use Rattle.block_sim.proofs.Deep.{level_within}
+use Rattle.block_sim.proofs.RegionLanes.{lanes_law}
+
+-- the outcome of a class that came to a stem in some lanes
+pub arrived_outcome : (job : Parts) (block stem class word seen : ℕ) (o : Outcome)
+    → HasArrived job block stem class word
+    → TellsFirstFlips job.circuit job.tests.tests block word stem seen
+    → IsLeastLane (bit_and word seen) o → IsOutcomeIn job class block o
+arrived_outcome job block stem class word seen o a told least = (
+  a.0,
+  a.3,
+  lanes_law job.circuit job.tests.tests block a.0 stem a.1 a.2 seen o a.4 a.5
+      (subst (λ w. TellsFirstFlips job.circuit job.tests.tests block w stem seen) a.6 told)
+      (subst (λ w. IsLeastLane (bit_and w seen) o) a.6 least),
+)
+
+-- one outcome more is kept
+pub memo_kept : (job : Parts) (memos : List (Option Memo)) (class : ℕ) (memo : Memo)
+    → AreTrueMemos job memos → class < length memos → IsOutcomeIn job class memo.block memo.outcome
+    → AreTrueMemos job (set memos class (Some memo))
+memo_kept job memos class memo before within is = record {
+  count = length-set memos class (Some memo) ∙ before.count;
+  each = λ x m at. go x m at (cases_eq x class);
+}
+  where
+    go : (x : ℕ) (m : Memo) → slice_index_or (set memos class (Some memo)) x None ≡ Some m
+        → (x ≡ class) ⊎ (x ≢ class) → IsOutcomeIn job x m.block m.outcome
+    go x m at (inl same) =
+        let own : Some memo ≡ Some m =
+        sym (get_or-set_same memos class (Some memo) None within)
+        ∙ (ap (λ y. slice_index_or (set memos class (Some memo)) y None) (sym same) ∙ at) in
+        let one : memo ≡ m = ap (λ (o : Option Memo). unwrap_or o memo) own in
+        subst (λ y. IsOutcomeIn job y m.block m.outcome) (sym same)
+        (subst (λ (y : Memo). IsOutcomeIn job class y.block y.outcome) one is)
+    go x m at (inr other) = before.each x m (sym (get_or-set_other memos class x (Some memo) None other) ∙ at)
+
+-- one class more is followed
+pub followed_more : (job : Parts) (block stem : ℕ) (followed : List Followed) (one : Followed)
+    → AreFollowed job block stem followed → one.class < length job.classes.representative
+    → HasArrived job block stem one.class one.lanes
+    → AreFollowed job block stem (followed ++ one ∷ [])
+followed_more job block stem followed one before within at x there =
+    go (among_append followed (one ∷ []) x (among (followed ++ one ∷ []) x there))
+  where
+    go : Among x followed ⊎ Among x (one ∷ [])
+        → (x.class < length job.classes.representative) × HasArrived job block stem x.class x.lanes
+    go (inl h) = before x (contained followed x h)
+    go (inr (inl same)) =
+        subst (λ (y : Followed). (y.class < length job.classes.representative) × HasArrived job block stem y.class y.lanes)
+        same (within, at)
+    go (inr (inr bad)) = absurd bad
+
+-- the first signal that a listed fault can alter is one of the circuit
+pub start_within : (m : Model) (c : List Statement) (f : Fault) (s : ℕ) → IsWellFormed c → (list : FaultList)
+    → list ≡ fault_list m c → Contains list.list f → {l : Line} → l ≡ f.line → start_of l ≡ Some s
+    → s < length (names c)
+start_within m c f s well list is at on begins = go f.line n.0 n.1 (ap start_of (sym on) ∙ begins)
+  where
+    n : (n : Name) × (carried c f.line ≡ Some n) × Contains (names c) n
+    n = carries m c f well (subst (λ fs. Contains fs f) (ap (λ (x : FaultList). x.list) is) at)
+
+    go : (l : Line) (n : Name) → carried c l ≡ Some n → start_of l ≡ Some s → s < length (names c)
+    go (line.Stem r) n at e = subst (λ x. x < length (names c)) (ap (λ o. unwrap_or o r) e) (place_within (names c) r n at)
+    go (line.Pin g p) n at e = subst (λ x. x < length (names c)) (ap (λ o. unwrap_or o g) e) (gate_within c g p n at)
+    go (line.Data cell) n at e = let bad : None ≡ Some s = e in cc
+    go (line.Out o) n at e = let bad : None ≡ Some s = e in cc
+
+-- what is at rest has room for each level of a circuit that it has room for
+pub room_at_rest : (job : Parts) (changes : Changes) → IsWellFormed job.circuit → IsAtRest changes
+    → length (names job.circuit) ≤ length changes.overlay → HasRoomFor job.circuit changes
+room_at_rest job changes well rest room = record {
+  overlay = room;
+  gates = (let same = rest.gates in omega (arith, same, room));
+  levels = λ g k h. (let le = level_within job.circuit g k well h in let same = rest.levels in omega (arith, le, same, room));
+}

@@ -1,0 +1,19 @@
+use Rattle.std.proofs.Common.{ℕ, ◌<◌, ◌≤◌, List, length}
+use Rattle.std.specs.Prelude.{None}
+use Rattle.bench_net.specs.Scan.{names}
+use Rattle.fault_model.specs.Fault.{Fault}
+use Rattle.fault_model.specs.Solution.{Test}
+use Rattle.block_sim.specs.Changes.{IsAsLarge, IsClear}
+use Rattle.block_sim.specs.Regions.{HasCome}
+use Rattle.block_sim.specs.Words.{AreWords}
+use Rattle.block_sim.proofs.region.arrive.Given as goal
+
+abbrev pub invariant-loop-step : goal.invariant-loop-step
+invariant-loop-step l = record {
+  room : IsAsLarge l.fn.changes l.changes;
+  clear : IsClear l.changes;
+  grown : l.fn.changes.evaluations ≤ l.changes.evaluations;
+  within : l.at.signal < length (names l.view.circuit.now);
+  come : (tests : List Test) (block : ℕ) (f : Fault) → AreWords l.view.circuit.now tests block None l.view.good.now
+      → HasCome l.view.circuit.now tests block f l.view.lanes l.fn.from.signal l.fn.from.lanes → HasCome l.view.circuit.now tests block f l.view.lanes l.at.signal l.at.lanes;
+}

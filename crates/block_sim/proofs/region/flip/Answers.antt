@@ -1,0 +1,35 @@
+use Rattle.std.proofs.Common.{◌<◌, length, arith}
+use Rattle.block_sim.specs.Regions.{flips}
+use Rattle.block_sim.specs.Spreading.{HaveHits}
+use Rattle.block_sim.proofs.FlipLanes.{flip_first, flip_told}
+use Rattle.block_sim.proofs.region.flip.Goals as goal
+
+pub spread-requires-clause-first : goal.spread-requires-clause-first
+spread-requires-clause-first c =
+    let w = c.requires.words in
+    let s = c.args.signal in
+    let good = c.args.view.good.now in
+    let delta = c.args.changes.now.overlay in
+    let within : s < length delta = omega (arith, c.requires.signal, c.requires.room.overlay) in (
+      w.0,
+      w.1,
+      flips good s,
+      flip_first c.args.view.circuit.now c.requires.view.circuit.well_formed w.0 w.1 good w.2 s
+          c.requires.signal delta c.all_lanes-lanes.result within,
+    )
+
+pub returns-clause-told : goal.returns-clause-told
+returns-clause-told c = λ tests block words one there.
+    let s = c.args.signal in
+    let good = c.args.view.good.now in
+    let circuit = c.args.view.circuit.now in
+    let well = c.requires.view.circuit.well_formed in
+    let delta = c.args.changes.now.overlay in
+    let followed = c.args.followed.now in
+    let lanes = c.all_lanes-lanes.result in
+    let seen = c.spread.result in
+    let within : s < length delta = omega (arith, c.requires.signal, c.requires.room.overlay) in
+    let first = flip_first circuit well tests block good words s c.requires.signal delta lanes within in
+    flip_told circuit well tests block good words s c.requires.signal lanes seen (HaveHits followed seen)
+    (c.spread.ensures.shown tests block (flips good s) first) one (λ k own. c.all_lanes-lanes.ensures one k there own)
+    (λ k settled own. settled one there own)

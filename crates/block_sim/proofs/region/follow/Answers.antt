@@ -1,0 +1,160 @@
+use Rattle.std.proofs.Common.{◌≡◌, ◌<◌, sym, ◌∙◌, ap, length, map, arith, inl, inr}
+use Rattle.std.specs.Prelude.{Some, None, slice_index_or, bit_and, bit_xor}
+use Rattle.bench_net.specs.Scan.{names, signal, name_of, definition, gate_of, gate_line}
+use Rattle.bench_net.proofs.Public.{name_of-signal}
+use Rattle.lists.proofs.Places.{place_within}
+use Rattle.fault_model.specs.Detection.{argument, carried}
+use Rattle.fault_model.proofs.Public.{carries}
+use Rattle.block_sim.specs.Changes.{IsAsLarge}
+use Rattle.block_sim.specs.Stuck.{stuck_fault}
+use Rattle.block_sim.proofs.Carried.{pin_of, gate_within}
+use Rattle.block_sim.proofs.Lanes.{lane_zero}
+use Rattle.block_sim.proofs.Moments.{large_enough}
+use Rattle.block_sim.proofs.Started.{shown_none, turned_is}
+use Rattle.block_sim.proofs.Steps.{lane_of_zero}
+use Rattle.block_sim.specs.Regions.{start_of}
+use Rattle.block_sim.proofs.FaultLanes.{none_told, observer_told, pin_come, stem_come}
+use Rattle.block_sim.proofs.region.follow.Goals as goal
+
+pub carried-signal-requires-clause-named : goal.carried-signal-requires-clause-named
+carried-signal-requires-clause-named c =
+    let circuit = c.args.view.circuit.now in
+    let well = c.requires.view.circuit.well_formed in
+    let good = c.args.view.good.now in
+    let lanes = c.args.view.lanes in
+    let fault = stuck_fault c.args.fault in
+    let n = carries c.args.fault.model circuit fault well c.requires.listed in
+    (n.0, n.1)
+
+pub bounds-view-signal : goal.bounds-view-signal
+bounds-view-signal c =
+    let circuit = c.args.view.circuit.now in
+    let well = c.requires.view.circuit.well_formed in
+    let good = c.args.view.good.now in
+    let lanes = c.args.view.lanes in
+    let fault = stuck_fault c.args.fault in
+    let n = carries c.args.fault.model circuit fault well c.requires.listed in
+    let number : c.carried-signal.result ≡ signal circuit n.0 = c.carried-signal.ensures n.0 n.1 in
+    let lt = place_within (names circuit) _ n.0 (name_of-signal circuit n.0 n.2) in
+    omega (arith, lt, number, c.requires.view.count)
+
+pub returns-then-turned-eq0-clause-reached : goal.returns-then-turned-eq0-clause-reached
+returns-then-turned-eq0-clause-reached c = λ tests block words k lt.
+    let circuit = c.args.view.circuit.now in
+    let well = c.requires.view.circuit.well_formed in
+    let good = c.args.view.good.now in
+    let lanes = c.args.view.lanes in
+    let fault = stuck_fault c.args.fault in
+    let n = carries c.args.fault.model circuit fault well c.requires.listed in
+    let number : c.carried-signal.result ≡ signal circuit n.0 = c.carried-signal.ensures n.0 n.1 in
+    none_told circuit well tests block fault good words lanes
+    (shown_none circuit tests block fault good n.0 well words n.1 (λ _. ⊥) lanes (bit_and (bit_xor c.word.result (slice_index_or good c.carried-signal.result 0)) lanes)
+    (turned_is circuit fault good lanes c.carried-signal.result c.word.result n.0 number c.word.ensures) 0 (λ k lt. lane_of_zero _ k c.if-turned-eq0.true) lane_zero) k lt
+
+pub arrive-requires-clause-signal : goal.arrive-requires-clause-signal
+arrive-requires-clause-signal c =
+    let circuit = c.args.view.circuit.now in
+    let well = c.requires.view.circuit.well_formed in
+    let good = c.args.view.good.now in
+    let lanes = c.args.view.lanes in
+    let fault = stuck_fault c.args.fault in
+    let n = carries c.args.fault.model circuit fault well c.requires.listed in
+    place_within (names circuit) c.in-Stem.start n.0 (ap (carried circuit) (sym c.in-Stem.is) ∙ n.1)
+
+pub gate_change-lanes-requires-clause-gate : goal.gate_change-lanes-requires-clause-gate
+gate_change-lanes-requires-clause-gate c =
+    let circuit = c.args.view.circuit.now in
+    let well = c.requires.view.circuit.well_formed in
+    let good = c.args.view.good.now in
+    let lanes = c.args.view.lanes in
+    let fault = stuck_fault c.args.fault in
+    let n = carries c.args.fault.model circuit fault well c.requires.listed in
+    let reads : argument (definition circuit c.in-Pin.gate) c.in-Pin.pin ≡ Some n.0 = ap (carried circuit) (sym c.in-Pin.is) ∙ n.1 in
+    let p = pin_of circuit c.in-Pin.gate c.in-Pin.pin n.0 reads in
+    let gate_is : gate_of circuit c.in-Pin.gate ≡ Some (p.kind, map (signal circuit) p.args) = ap (gate_line circuit) p.is in
+    let low : c.in-Pin.gate < length (names circuit) = gate_within circuit c.in-Pin.gate c.in-Pin.pin n.0 reads in
+    low
+
+pub gate_change-lanes-requires-clause-driven : goal.gate_change-lanes-requires-clause-driven
+gate_change-lanes-requires-clause-driven c =
+    let circuit = c.args.view.circuit.now in
+    let well = c.requires.view.circuit.well_formed in
+    let good = c.args.view.good.now in
+    let lanes = c.args.view.lanes in
+    let fault = stuck_fault c.args.fault in
+    let n = carries c.args.fault.model circuit fault well c.requires.listed in
+    let reads : argument (definition circuit c.in-Pin.gate) c.in-Pin.pin ≡ Some n.0 = ap (carried circuit) (sym c.in-Pin.is) ∙ n.1 in
+    let p = pin_of circuit c.in-Pin.gate c.in-Pin.pin n.0 reads in
+    let gate_is : gate_of circuit c.in-Pin.gate ≡ Some (p.kind, map (signal circuit) p.args) = ap (gate_line circuit) p.is in
+    let low : c.in-Pin.gate < length (names circuit) = gate_within circuit c.in-Pin.gate c.in-Pin.pin n.0 reads in
+    ((p.kind, map (signal circuit) p.args), gate_is)
+
+pub arrive-requires-in-Pin-clause-room : goal.arrive-requires-in-Pin-clause-room
+arrive-requires-in-Pin-clause-room c =
+    let large : IsAsLarge c.args.changes.now c.gate_change-lanes.new.changes = record {
+      overlay = ap length c.gate_change-lanes.ensures.overlay;
+      gates = ap (λ b. length b.at) c.gate_change-lanes.ensures.buckets;
+      levels = ap (λ b. b.levels) c.gate_change-lanes.ensures.buckets;
+    } in
+    large_enough c.args.view.circuit.now c.args.changes.now c.gate_change-lanes.new.changes c.requires.room large
+
+pub arrive-requires-in-Pin-clause-signal : goal.arrive-requires-in-Pin-clause-signal
+arrive-requires-in-Pin-clause-signal c =
+    let circuit = c.args.view.circuit.now in
+    let well = c.requires.view.circuit.well_formed in
+    let good = c.args.view.good.now in
+    let lanes = c.args.view.lanes in
+    let fault = stuck_fault c.args.fault in
+    let n = carries c.args.fault.model circuit fault well c.requires.listed in
+    let reads : argument (definition circuit c.in-Pin.gate) c.in-Pin.pin ≡ Some n.0 = ap (carried circuit) (sym c.in-Pin.is) ∙ n.1 in
+    let p = pin_of circuit c.in-Pin.gate c.in-Pin.pin n.0 reads in
+    let gate_is : gate_of circuit c.in-Pin.gate ≡ Some (p.kind, map (signal circuit) p.args) = ap (gate_line circuit) p.is in
+    let low : c.in-Pin.gate < length (names circuit) = gate_within circuit c.in-Pin.gate c.in-Pin.pin n.0 reads in
+    low
+
+pub returns-in-Stem-clause-reached : goal.returns-in-Stem-clause-reached
+returns-in-Stem-clause-reached c = λ tests block words.
+    let circuit = c.args.view.circuit.now in
+    let well = c.requires.view.circuit.well_formed in
+    let good = c.args.view.good.now in
+    let lanes = c.args.view.lanes in
+    let fault = stuck_fault c.args.fault in
+    let n = carries c.args.fault.model circuit fault well c.requires.listed in
+    let number : c.carried-signal.result ≡ signal circuit n.0 = c.carried-signal.ensures n.0 n.1 in
+    let named : name_of circuit c.in-Stem.start ≡ Some n.0 = ap (carried circuit) (sym c.in-Stem.is) ∙ n.1 in
+    c.arrive.ensures.come tests block fault words
+    (stem_come circuit well tests block fault good words lanes c.in-Stem.start (bit_and (bit_xor c.word.result (slice_index_or good c.carried-signal.result 0)) lanes) n.0 named c.in-Stem.is
+    (turned_is circuit fault good lanes c.carried-signal.result c.word.result n.0 number c.word.ensures))
+
+pub returns-in-Pin-clause-reached : goal.returns-in-Pin-clause-reached
+returns-in-Pin-clause-reached c = λ tests block words.
+    let circuit = c.args.view.circuit.now in
+    let well = c.requires.view.circuit.well_formed in
+    let good = c.args.view.good.now in
+    let lanes = c.args.view.lanes in
+    let fault = stuck_fault c.args.fault in
+    let n = carries c.args.fault.model circuit fault well c.requires.listed in
+    let reads : argument (definition circuit c.in-Pin.gate) c.in-Pin.pin ≡ Some n.0 = ap (carried circuit) (sym c.in-Pin.is) ∙ n.1 in
+    let p = pin_of circuit c.in-Pin.gate c.in-Pin.pin n.0 reads in
+    let gate_is : gate_of circuit c.in-Pin.gate ≡ Some (p.kind, map (signal circuit) p.args) = ap (gate_line circuit) p.is in
+    let low : c.in-Pin.gate < length (names circuit) = gate_within circuit c.in-Pin.gate c.in-Pin.pin n.0 reads in
+    c.arrive-in-Pin.ensures.come tests block fault words
+    (pin_come circuit well tests block fault good words lanes c.args.fault.model c.requires.listed c.in-Pin.gate c.in-Pin.pin c.in-Pin.is p.kind (map (signal circuit) p.args)
+    c.args.changes.now.overlay c.gate_change-lanes.result gate_is c.requires.clear.words
+    (λ k lt in_lanes. c.gate_change-lanes.ensures.changed p.kind (map (signal circuit) p.args) k gate_is lt in_lanes))
+
+pub returns-in-Data-clause-reached : goal.returns-in-Data-clause-reached
+returns-in-Data-clause-reached c = λ tests block words k lt.
+    let circuit = c.args.view.circuit.now in
+    let well = c.requires.view.circuit.well_formed in
+    let good = c.args.view.good.now in
+    let lanes = c.args.view.lanes in
+    let fault = stuck_fault c.args.fault in
+    let n = carries c.args.fault.model circuit fault well c.requires.listed in
+    let number : c.carried-signal.result ≡ signal circuit n.0 = c.carried-signal.ensures n.0 n.1 in
+    let told = λ (none : start_of fault.line ≡ None). observer_told circuit well tests block fault good words lanes c.args.fault.model (bit_and (bit_xor c.word.result (slice_index_or good c.carried-signal.result 0)) lanes) n.0 c.requires.listed none n.1
+    (turned_is circuit fault good lanes c.carried-signal.result c.word.result n.0 number c.word.ensures) k lt in
+    elim c.in-Data.is [
+      | inl x ↦ told (ap start_of x.1)
+      | inr x ↦ told (ap start_of x.1)
+    ]

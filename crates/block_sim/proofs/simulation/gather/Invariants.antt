@@ -1,0 +1,18 @@
+use Rattle.std.proofs.Common.{◌≡◌, ◌<◌, ◌≤◌, Contains, length}
+use Rattle.std.specs.Prelude.{vec_capacity}
+use Rattle.block_sim.specs.declared.spread.Followed.{Followed}
+use Rattle.block_sim.specs.Changes.{IsAsLarge, IsClear}
+use Rattle.block_sim.specs.Simulation.{AreFollowed, AreTrueMemos}
+use Rattle.block_sim.proofs.simulation.gather.Given as goal
+
+abbrev pub invariant-loop-step : goal.invariant-loop-step
+invariant-loop-step l = record {
+  within : l.class < length l.job.classes.representative;
+  memos : AreTrueMemos l.job l.memos;
+  followed : AreFollowed l.job l.block l.stem l.followed.items;
+  kept : (one : Followed) → Contains l.fn.followed.items one → Contains l.followed.items one;
+  capacity : vec_capacity l.followed ≡ vec_capacity l.fn.followed;
+  grown : l.fn.changes.evaluations ≤ l.changes.evaluations;
+  room : IsAsLarge l.fn.changes l.changes;
+  clear : IsClear l.changes;
+}

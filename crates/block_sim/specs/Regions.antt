@@ -1,0 +1,164 @@
+-- Regions without fan-out: signals from which one way alone leads on, and what a signal that is
+-- turned round does at their end.
+use Rattle.std.specs.Prelude.{◌≡◌, ◌≢◌, ◌↔◌, ◌==◌, ◌<◌, ◌≤◌, ◌+◌, ◌*◌, ℕ, Bool, true, false, not}
+use Rattle.std.specs.Prelude.{List, length}
+use Rattle.std.specs.Prelude.{map, bit_and, slice_index_or, Contains, Option, Some, None}
+use Rattle.std.specs.Prelude.{if◌then◌else◌}
+use Rattle.std.specs.Bool.{Decides}
+use Rattle.bench_net.specs.declared.Kind.{Kind}
+use Rattle.bench_net.specs.Statement.{Name, Statement, Gate}
+use Rattle.bench_net.specs.Scan.{signal, name_of}
+use Rattle.fault_model.specs.declared.Line.{Line}
+use Rattle.fault_model.specs.declared.Line.TheVariants as line
+use Rattle.fault_model.specs.declared.Model.{Model}
+use Rattle.fault_model.specs.declared.Model.TheVariants.{StuckAt}
+use Rattle.fault_model.specs.Fault.{Fault, faults}
+use Rattle.fault_model.specs.Solution.{Test, Solves, Detects, value}
+use Rattle.fault_model.specs.Collapse.{readers}
+use Rattle.fault_model.specs.Known.{only_gate}
+use Rattle.fault_model.specs.Detection.{HasBit, LooksBack}
+use Rattle.patterns.specs.declared.Outcome.{Outcome}
+use Rattle.patterns.specs.Tests.{size_of}
+use Rattle.block_sim.specs.Events.{Reads, IsObserved}
+use Rattle.block_sim.specs.First.{IsOutcome}
+use Rattle.block_sim.specs.Words.{lane, test_of, IsLeastLane}
+use Rattle.block_sim.specs.declared.region.Reach.{Reach}
+use Rattle.block_sim.specs.declared.region.Reach.TheVariants.{Observed, Stem}
+
+-- one gate alone reads the signal, by one pin or by more, and no observer does
+pub record IsReadBy (c : List Statement) (g s : ℕ) : Type 0 where
+  pub reads : Reads c g s
+  pub alone : (h : ℕ) → Reads c h s → h ≡ g
+  pub unobserved : ¬ IsObserved c s
+
+-- so it is where one pin is all that reads it
+abbrev pub PinLaw : List Statement → Type 0
+PinLaw c = (s g : ℕ) → only_gate (readers c (line.Stem s)) ≡ Some g → IsReadBy c g s
+
+-- a signal runs to another: over gates each of which alone reads the signal before it
+pub data RunsTo (c : List Statement) : ℕ → ℕ → Type 0 where
+  here : {s : ℕ} → RunsTo c s s
+  onward : {s g r : ℕ} → IsReadBy c g s → RunsTo c g r → RunsTo c s r
+
+-- the stem of a signal's region: the signal runs to it, and it is read by no gate alone
+abbrev pub IsStemOf : List Statement → ℕ → ℕ → Type 0
+IsStemOf c r s = RunsTo c s r × ((g : ℕ) → ¬ IsReadBy c g r)
+
+-- a signal's region has one stem
+abbrev pub OneStemLaw : List Statement → Type 0
+OneStemLaw c = (s r q : ℕ) → IsStemOf c r s → IsStemOf c q s → r ≡ q
+
+-- the stuck-at fault that turns a signal round which has this bit
+abbrev pub flip : ℕ → Bool → Fault
+flip s bit = record { model = StuckAt; line = line.Stem s; stuck = not bit }
+
+-- The test detects the signal turned round: stuck at the complement of the bit that it has without
+-- a fault.
+abbrev pub DetectsFlip : List Statement → Test → ℕ → Type 0
+DetectsFlip c t s = (bit : Bool) × HasBit c t (line.Stem s) bit × Detects c t (flip s bit)
+
+-- the bits of a valuation, but one signal turned round
+abbrev pub turned_at : List Statement → ℕ → (Name → Bool) → Name → Bool
+turned_at c s v n = if signal c n == s then not (v n) else v n
+
+-- The gate gives another bit where one signal is turned round and all others have the bits that
+-- they have without a fault.
+pub record Passes (c : List Statement) (t : Test) (s g : ℕ) : Type 0 where
+  pub bits : Name → Bool
+  pub name : Name
+  pub kind : Kind
+  pub args : List Name
+  pub solves : Solves c t None bits
+  pub stands : Contains c (Gate name kind args)
+  pub number : signal c name ≡ g
+  pub differs : value kind (map (turned_at c s bits) args) ≢ bits name
+
+-- a signal that is turned round turns the next, and so on up to this one
+pub data Arrives (c : List Statement) (t : Test) : ℕ → ℕ → Type 0 where
+  there : {s : ℕ} → Arrives c t s s
+  over : {s g r : ℕ} → IsReadBy c g s → Passes c t s g → Arrives c t g r → Arrives c t s r
+
+-- with the fault the signal has another bit than without
+pub record Alters (c : List Statement) (t : Test) (f : Fault) (s : ℕ) : Type 0 where
+  pub fault_free : Name → Bool
+  pub faulty : Name → Bool
+  pub name : Name
+  pub solves : Solves c t None fault_free
+  pub solves_faulty : Solves c t (Some f) faulty
+  pub named : name_of c s ≡ Some name
+  pub differs : fault_free name ≢ faulty name
+
+-- the first signal that a fault on a line can alter; none where the line is an observer's
+abbrev pub start_of : Line → Option ℕ
+start_of (line.Stem s) = Some s
+start_of (line.Pin gate pin) = Some gate
+start_of _ = None
+
+-- one step: a signal that one gate alone reads is detected turned round exactly where the gate
+-- passes that on and is detected turned round
+abbrev pub StepLaw : List Statement → Type 0
+StepLaw c = (t : Test) (s g : ℕ) → IsReadBy c g s
+    → DetectsFlip c t s ↔ (Passes c t s g × DetectsFlip c t g)
+
+-- all steps of a region
+abbrev pub RegionLaw : List Statement → Type 0
+RegionLaw c = (t : Test) (s r : ℕ) → RunsTo c s r
+    → DetectsFlip c t s ↔ (Arrives c t s r × DetectsFlip c t r)
+
+-- a fault on a stem or a gate's pin is detected exactly where it alters its first signal and that
+-- is detected turned round
+abbrev pub FaultLaw : List Statement → Type 0
+FaultLaw c = (m : Model) (f : Fault) (t : Test) (s : ℕ) → Contains (faults m c) f
+    → start_of f.line ≡ Some s → Detects c t f ↔ (Alters c t f s × DetectsFlip c t s)
+
+-- a fault on a stem alters its signal where this has the other bit without it
+abbrev pub StemLaw : List Statement → Type 0
+StemLaw c = (m : Model) (f : Fault) (t : Test) (s : ℕ) → Contains (faults m c) f
+    → f.line ≡ line.Stem s → Alters c t f s ↔ HasBit c t f.line (not f.stuck)
+
+-- a fault on an observer's line is detected where the line has the other bit without it
+abbrev pub ObserverLaw : List Statement → Type 0
+ObserverLaw c = (m : Model) (f : Fault) (t : Test) → Contains (faults m c) f
+    → start_of f.line ≡ None → Detects c t f ↔ HasBit c t f.line (not f.stuck)
+
+-- Of the lanes of a mask a word tells those whose tests detect the signal turned round, each up to
+-- the least that the word names; what it says of lanes above that is true where it says yes.
+pub record TellsFirstFlips (c : List Statement) (tests : List Test) (block mask s word : ℕ) :
+    Type 0 where
+  pub found : (k : ℕ) → k < 64 → lane mask k ≡ true → lane word k ≡ true
+      → DetectsFlip c (test_of tests block k) s
+  pub clear : (k : ℕ) → k < 64 → lane mask k ≡ true
+      → ((j : ℕ) → j ≤ k → lane mask j ≡ true → lane word j ≡ false)
+      → ¬ DetectsFlip c (test_of tests block k) s
+
+-- In the lanes of a mask a fault has come to a signal: a test detects the fault exactly where the
+-- word has a 1 and the test detects the signal turned round.
+abbrev pub HasCome : List Statement → List Test → ℕ → Fault → ℕ → ℕ → ℕ → Type 0
+HasCome c tests block f mask s word = (k : ℕ) → k < 64 → lane mask k ≡ true
+    → Detects c (test_of tests block k) f
+    ↔ ((lane word k ≡ true) × DetectsFlip c (test_of tests block k) s)
+
+-- the lanes are those of a block's tests that look back as the fault asks
+abbrev pub AreLanesFor : List Test → ℕ → List Statement → Fault → ℕ → Type 0
+AreLanesFor tests block c f lanes = (k : ℕ) → k < 64 → Decides (lane lanes k)
+    ((k < size_of (length tests) block)
+    × LooksBack c tests f.model f.line f.stuck (64 * block + k))
+
+-- on words: of the lanes in which a fault has come to a signal those in which a word tells that
+-- this is detected turned round, whatever the word says in other lanes; the least is the outcome
+abbrev pub LanesLaw : List Statement → Type 0
+LanesLaw c = (tests : List Test) (block : ℕ) (f : Fault) (s lanes arrived seen : ℕ) (o : Outcome)
+    → AreLanesFor tests block c f lanes → HasCome c tests block f lanes s arrived
+    → TellsFirstFlips c tests block (bit_and lanes arrived) s seen
+    → IsLeastLane (bit_and (bit_and lanes arrived) seen) o → IsOutcome c tests f block o
+
+-- How far a fault was followed on a block: to an observer, in the lanes in which it is detected
+-- there; or to a signal, in the lanes in which it has come to that.
+abbrev pub IsReached : List Statement → List Test → ℕ → Fault → ℕ → Reach → Type 0
+IsReached c tests block f mask (Observed word) = (k : ℕ) → k < 64
+    → Decides (lane word k) ((lane mask k ≡ true) × Detects c (test_of tests block k) f)
+IsReached c tests block f mask (Stem at) = HasCome c tests block f mask at.signal at.lanes
+
+-- the faults that turn a signal round, each lane from the bit that the signal has there
+abbrev pub flips : List ℕ → ℕ → ℕ → Fault
+flips good s k = flip s (lane (slice_index_or good s 0) k)

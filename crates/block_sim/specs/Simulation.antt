@@ -1,0 +1,63 @@
+-- What a simulation of a job keeps: outcomes that are true, and classes that came to a stem.
+use Rattle.std.specs.Prelude.{◌≡◌, ℕ, ◌<◌, ◌≤◌, List, Contains, Option, Some, None, length}
+use Rattle.std.specs.Prelude.{slice_get, slice_index_or, bit_and}
+use Rattle.bench_net.specs.Scan.{names}
+use Rattle.fault_model.specs.Fault.{Fault}
+use Rattle.fault_model.specs.Collapse.{representatives}
+use Rattle.patterns.specs.declared.Outcome.{Outcome}
+use Rattle.block_sim.specs.declared.changes.Changes.{Changes}
+use Rattle.block_sim.specs.declared.simulation.Approach.{Approach}
+use Rattle.block_sim.specs.declared.simulation.Approach.TheVariants.{Known, Stem}
+use Rattle.block_sim.specs.declared.simulation.Memo.{Memo}
+use Rattle.block_sim.specs.declared.spread.Followed.{Followed}
+use Rattle.block_sim.specs.Changes.{IsAtRest}
+use Rattle.block_sim.specs.First.{IsTrueOutcome}
+use Rattle.block_sim.specs.Parts.{BelongTogether, Parts}
+use Rattle.block_sim.specs.Regions.{AreLanesFor, HasCome}
+
+-- what contracts see of a simulation: its job, and the evaluations that it has counted
+pub record Simulated : Type 0 where
+  pub job : Parts
+  pub evaluations : ℕ
+
+-- the true outcome of a class of the job on a block
+abbrev pub IsOutcomeIn : Parts → ℕ → ℕ → Outcome → Type 0
+IsOutcomeIn job class block outcome =
+    IsTrueOutcome job.list.model job.circuit job.tests.tests class block outcome
+
+-- each outcome that is kept is the true one of its class on its block
+pub record AreTrueMemos (job : Parts) (memos : List (Option Memo)) : Type 0 where
+  pub count : length memos ≡ length job.classes.representative
+  pub each : (class : ℕ) (memo : Memo) → slice_index_or memos class None ≡ Some memo
+      → IsOutcomeIn job class memo.block memo.outcome
+
+-- In these lanes of a block a class came to a signal: they are those of the block's tests that look
+-- back as its representative asks and in which that came there.
+abbrev pub HasArrived : Parts → ℕ → ℕ → ℕ → ℕ → Type 0
+HasArrived job block signal class word =
+    (r : Fault) × (lanes arrived : ℕ)
+    × (slice_get (representatives job.list.model job.circuit) class ≡ Some r)
+    × AreLanesFor job.tests.tests block job.circuit r lanes
+    × HasCome job.circuit job.tests.tests block r lanes signal arrived
+    × (word ≡ bit_and lanes arrived)
+
+-- all that are followed on a block are classes of the job that came to one signal
+abbrev pub AreFollowed : Parts → ℕ → ℕ → List Followed → Type 0
+AreFollowed job block signal followed = (one : Followed) → Contains followed one
+    → (one.class < length job.classes.representative)
+    × HasArrived job block signal one.class one.lanes
+
+-- a class was followed by itself: its outcome is known, or it came to a signal
+abbrev pub IsApproach : Parts → ℕ → ℕ → Approach → Type 0
+IsApproach job class block (Known outcome) = IsOutcomeIn job class block outcome
+IsApproach job class block (Stem at) =
+    (at.signal < length (names job.circuit)) × HasArrived job block at.signal class at.lanes
+
+-- what is true of a simulation between two calls; it can follow all classes of the job at once
+pub record IsSimulation (job : Parts) (changes : Changes) (memos : List (Option Memo))
+    (capacity : ℕ) : Type 0 where
+  pub together : BelongTogether job
+  pub rest : IsAtRest changes
+  pub room : length (names job.circuit) ≤ length changes.overlay
+  pub outcomes : AreTrueMemos job memos
+  pub followed : length job.classes.representative ≤ capacity

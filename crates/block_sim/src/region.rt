@@ -1,0 +1,196 @@
+//! The way of a fault through its fan-out-free region: from gate to gate, each of which alone reads
+//! the signal before it, to the stem; and the stem turned round for all that came to it.
+
+ghost use Rattle.std.specs.Prelude.{◌≡◌, ℕ, ◌+◌, ◌<◌, ◌≤◌, Contains, IfSome, List, None, true};
+ghost use Rattle.std.specs.Prelude.{length};
+ghost use Rattle.bench_net.specs.Scan.{names};
+ghost use Rattle.fault_model.specs.Fault.{Fault, faults};
+ghost use Rattle.fault_model.specs.Solution.{Test};
+ghost use Rattle.block_sim.specs.Changes.{HasRoomFor, IsAsLarge, IsClear};
+ghost use Rattle.block_sim.specs.Regions.{HasCome, IsReached, IsReadBy, TellsFirstFlips};
+ghost use Rattle.block_sim.specs.Stuck.{stuck_fault};
+ghost use Rattle.block_sim.specs.Words.{lane, AreWords, HasWords};
+
+use crate::changes::Changes;
+use crate::effect::gate_change;
+use crate::flat::FlatCircuit;
+use crate::look_back::carried;
+use crate::spread::{Extent, Followed, spread};
+use crate::view::BlockView;
+use crate::words::{Stuck, evaluate_gate};
+use fault_model::Line;
+
+/// A signal to which a fault has come, and the lanes in which it did.
+#[derive(Clone, Copy)]
+pub struct Arrival {
+    pub signal: u32,
+    pub lanes: u64,
+}
+
+/// A gate that alone reads a signal, by one pin. None where several read it, or an observer.
+#[inline(always)]
+pub fn lone_reader(circuit: &FlatCircuit, signal: u32) -> Option<u32>
+    requires { signal < length (names circuit.now) }
+    ensures { IfSome result (λ gate. IsReadBy circuit.now gate signal) }
+{
+    let readers = circuit.readers_of(signal);
+    if readers.len() == 1 && !circuit.is_observed(signal) {
+        Some(readers[0].gate)
+    } else {
+        None
+    }
+}
+
+/// The lanes in which a fault comes over the gate that alone reads a signal, of those in which it
+/// has come to the signal.
+#[inline(always)]
+fn cross(view: BlockView<'_>, at: Arrival, gate: u32, changes: &mut Changes) -> u64
+    requires view { HasWords view.circuit.now view.good.now }
+    requires room { HasRoomFor view.circuit.now changes.old }
+    requires clear { IsClear changes.old }
+    requires read { IsReadBy view.circuit.now gate at.signal }
+    ensures come { (tests : List Test) (block : ℕ) (f : Fault)
+        → AreWords view.entry.circuit.now tests block None view.entry.good.now
+        → HasCome view.entry.circuit.now tests block f view.entry.lanes at.signal at.lanes
+        → HasCome view.entry.circuit.now tests block f view.entry.lanes gate result }
+    ensures counted { changes.new.evaluations ≤ changes.old.evaluations + 1 }
+    ensures grown { changes.old.evaluations ≤ changes.new.evaluations }
+    ensures room { IsAsLarge changes.old changes.new }
+    ensures clear { IsClear changes.new }
+{
+    if at.lanes == 0 {
+        return 0;
+    }
+    match view.circuit.gate_of(gate) {
+        Some(line) => {
+            changes.overlay.change(at.signal, at.lanes);
+            let delta = changes.overlay.words();
+            let word = evaluate_gate(line, gate, None, view.good, delta, &mut changes.evaluations);
+            changes.overlay.clear();
+            (word ^ view.good[gate as usize]) & view.lanes
+        }
+        None => unreachable!(),
+    }
+}
+
+/// Follows a fault from a signal to which it has come, over gates that alone read what is before
+/// them, while it comes over in some lane.
+pub fn arrive(view: BlockView<'_>, from: Arrival, changes: &mut Changes) -> Arrival
+    requires view { HasWords view.circuit.now view.good.now }
+    requires room { HasRoomFor view.circuit.now changes.old }
+    requires clear { IsClear changes.old }
+    requires signal { from.signal < length (names view.circuit.now) }
+    ensures come { (tests : List Test) (block : ℕ) (f : Fault)
+        → AreWords view.entry.circuit.now tests block None view.entry.good.now
+        → HasCome view.entry.circuit.now tests block f view.entry.lanes from.signal from.lanes
+        → HasCome view.entry.circuit.now tests block f view.entry.lanes result.signal result.lanes }
+    ensures signal { result.signal < length (names view.entry.circuit.now) }
+    ensures grown { changes.old.evaluations ≤ changes.new.evaluations }
+    ensures room { IsAsLarge changes.old changes.new }
+    ensures clear { IsClear changes.new }
+{
+    let mut at = from;
+    for _step in 0..changes.buckets.levels() {
+        match lone_reader(view.circuit, at.signal) {
+            Some(gate) => {
+                let lanes = cross(view, at, gate, changes);
+                at = Arrival {
+                    signal: gate,
+                    lanes,
+                };
+            }
+            None => break,
+        }
+    }
+    at
+}
+
+/// How far a fault is followed on a block before it shares its way with others.
+#[derive(Clone, Copy)]
+pub enum Reach {
+    /// To an observer, or nowhere: the lanes in which it is detected.
+    Observed(u64),
+    /// To a signal, in some lanes.
+    Stem(Arrival),
+}
+
+/// Follows a fault from its line to the stem of its region: a fault on a signal from that, one on a
+/// gate's pin from the gate's signal. One on an observer's line is detected where it turns that.
+pub fn follow(view: BlockView<'_>, fault: Stuck, changes: &mut Changes) -> Reach
+    requires view { HasWords view.circuit.now view.good.now }
+    requires words { (tests : List Test) × (block : ℕ)
+        × AreWords view.circuit.now tests block None view.good.now }
+    requires listed { Contains (faults fault.model view.circuit.now) (stuck_fault fault) }
+    requires room { HasRoomFor view.circuit.now changes.old }
+    requires clear { IsClear changes.old }
+    ensures reached { (tests : List Test) (block : ℕ)
+        → AreWords view.entry.circuit.now tests block None view.entry.good.now
+        → IsReached view.entry.circuit.now tests block (stuck_fault fault) view.entry.lanes result }
+    ensures signal { (at : Arrival) → result ≡ Reach.Stem at
+        → at.signal < length (names view.entry.circuit.now) }
+    ensures grown { changes.old.evaluations ≤ changes.new.evaluations }
+    ensures room { IsAsLarge changes.old changes.new }
+    ensures clear { IsClear changes.new }
+{
+    let signal = carried(view.circuit, fault.line) as usize;
+    let turned = (fault.word() ^ view.good[signal]) & view.lanes;
+    if turned == 0 {
+        return Reach::Observed(0);
+    }
+    match fault.line {
+        Line::Stem(start) => {
+            let from = Arrival {
+                signal: start,
+                lanes: turned,
+            };
+            Reach::Stem(arrive(view, from, changes))
+        }
+        Line::Pin { gate, pin: _ } => {
+            let lanes = gate_change(view, fault, gate, changes);
+            let from = Arrival {
+                signal: gate,
+                lanes,
+            };
+            Reach::Stem(arrive(view, from, changes))
+        }
+        Line::Data { .. } | Line::Out { .. } => Reach::Observed(turned),
+    }
+}
+
+/// The lanes in which some of the classes that are followed came to a signal.
+fn all_lanes(followed: &[Followed]) -> u64
+    ensures { (one : Followed) (k : ℕ) → Contains followed.now one → lane one.lanes k ≡ true
+        → lane result k ≡ true }
+{
+    let mut lanes = 0;
+    for one in followed {
+        lanes |= one.lanes;
+    }
+    lanes
+}
+
+/// Turns a signal round in the lanes in which some of the classes that are followed came to it, and
+/// tells lanes in which an observer shows that: of each class up to the least.
+pub fn flip(view: BlockView<'_>, followed: &[Followed], signal: u32, changes: &mut Changes) -> u64
+    requires view { HasWords view.circuit.now view.good.now }
+    requires words { (tests : List Test) × (block : ℕ)
+        × AreWords view.circuit.now tests block None view.good.now }
+    requires room { HasRoomFor view.circuit.now changes.old }
+    requires clear { IsClear changes.old }
+    requires signal { signal < length (names view.circuit.now) }
+    ensures told { (tests : List Test) (block : ℕ)
+        → AreWords view.entry.circuit.now tests block None view.entry.good.now
+        → (one : Followed) → Contains followed.now one
+        → TellsFirstFlips view.entry.circuit.now tests block one.lanes signal result }
+    ensures grown { changes.old.evaluations ≤ changes.new.evaluations }
+    ensures room { IsAsLarge changes.old changes.new }
+    ensures clear { IsClear changes.new }
+{
+    let lanes = all_lanes(followed);
+    let view = BlockView {
+        circuit: view.circuit,
+        good: view.good,
+        lanes,
+    };
+    spread(view, Extent::FirstHits(followed), signal, lanes, changes)
+}

@@ -1,0 +1,341 @@
+//! The outcomes of a job's pieces, found out together for the classes of a fan-out-free region.
+
+ghost use Rattle.std.specs.Prelude.{◌≡◌, ◌<◌, ◌≤◌, Contains, IfOk, IfSome, Some};
+ghost use Rattle.std.specs.Prelude.{length, vec_capacity, vec_len};
+ghost use Rattle.bench_net.specs.Scan.{names};
+ghost use Rattle.patterns.specs.Tests.{blocks};
+ghost use Rattle.block_sim.specs.Changes.{HasRoomFor, IsAsLarge, IsClear};
+ghost use Rattle.block_sim.specs.First.{IsTrueOutcome};
+ghost use Rattle.block_sim.specs.Regions.{TellsFirstFlips};
+ghost use Rattle.block_sim.specs.Simulation.{AreFollowed, AreTrueMemos, HasArrived, IsApproach};
+
+use crate::block_lanes::{lanes_below, least_lane};
+use crate::changes::Changes;
+use crate::job::Job;
+use crate::look_back::lanes_that_fit;
+use crate::region::{Arrival, Reach, flip, follow};
+use crate::spread::Followed;
+use crate::view::BlockView;
+use patterns::Outcome;
+use std::alloc::{AllocError, Global};
+use std::marker::Model;
+use std::snapshot::Snapshot;
+
+/// The outcome of a class on the block on which it was found out last.
+#[derive(Clone, Copy)]
+pub struct Memo {
+    pub block: u32,
+    pub outcome: Outcome,
+}
+
+/// How far a class is followed on a block by itself.
+#[derive(Clone, Copy)]
+pub enum Approach {
+    /// Its outcome is known.
+    Known(Outcome),
+    /// It came to the stem of its region, in some lanes.
+    Stem(Arrival),
+}
+
+/// What simulates the pieces of one job. Faults of one fan-out-free region all leave it through
+/// its stem, so one simulation of the stem serves all classes of the region that are likely to be
+/// asked for on a block (Lee and Ha, HOPE: An Efficient Parallel Fault Simulator). It keeps for
+/// each class the outcome that it found out last.
+#[derive(Drop)]
+pub struct Simulation {
+    job: Snapshot<Job>,
+    changes: Changes,
+    memos: Vec<Option<Memo>>,
+    followed: Vec<Followed>,
+}
+
+impl Model for Simulation {
+    ghost use Rattle.std.specs.Prelude.{vec_capacity};
+    ghost use Rattle.block_sim.specs.Simulation.{IsSimulation, Simulated};
+
+    ghost Value = { Simulated };
+
+    ghost view = { λ s. record {
+      job = s.job.value;
+      evaluations = s.changes.evaluations;
+    } };
+
+    ghost invariant = { λ s.
+        IsSimulation s.job.value s.changes s.memos.items (vec_capacity s.followed) };
+}
+
+impl Simulation {
+    /// Room for the simulation of a job. It takes a word and a few numbers for each signal, and a
+    /// few numbers for each class.
+    pub fn new(alloc: Global, job: &Job) -> Result<Simulation, AllocError>
+        ensures job { IfOk result (λ simulation. simulation.job ≡ job.now) }
+        ensures fresh { IfOk result (λ simulation. simulation.evaluations ≡ 0) }
+    {
+        let classes = job.classes().count() as usize;
+        let changes = Changes::new(alloc, job.circuit().signals())?;
+        let memos = vec![in alloc; None; classes]?;
+        let followed = Vec::with_capacity(alloc, classes)?;
+        Ok(Simulation {
+            job: Snapshot::of(job),
+            changes,
+            memos,
+            followed,
+        })
+    }
+
+    /// How often a gate was evaluated on a word since the simulation was made. It stays at the
+    /// greatest u64.
+    pub fn gate_evaluations(&self) -> u64
+        ensures { result ≡ self.now.evaluations }
+    {
+        self.changes.evaluations
+    }
+
+    /// The outcome of a class on a block of the job, as [`crate::simulate`] gives it. It takes no
+    /// memory.
+    pub fn outcome(&mut self, job: &Job, class: u32, block: u32) -> Outcome
+        requires job { self.old.job ≡ job.now }
+        requires class { class < length job.now.classes.representative }
+        requires block { block < blocks (length job.now.tests.tests) }
+        ensures outcome { IsTrueOutcome job.now.list.model job.now.circuit
+            job.now.tests.tests class block result }
+        ensures job { self.new.job ≡ self.old.job }
+        ensures grown { self.old.evaluations ≤ self.new.evaluations }
+    {
+        if let Some(outcome) = remembered(self.memos[class as usize], block) {
+            return outcome;
+        }
+        match follow_alone(job, class, block, &mut self.changes) {
+            Approach::Known(outcome) => {
+                self.memos[class as usize] = Some(Memo { block, outcome });
+                outcome
+            }
+            Approach::Stem(at) => {
+                let own = Followed {
+                    class,
+                    lanes: at.lanes,
+                };
+                let followed = &mut self.followed;
+                let memos = &mut self.memos;
+                let changes = &mut self.changes;
+                let seen = find_out_region(job, block, at.signal, own, changes, memos, followed);
+                least_lane(at.lanes & seen)
+            }
+        }
+    }
+}
+
+/// The outcome on a block, where it is the one that was kept.
+#[inline(always)]
+fn remembered(memo: Option<Memo>, block: u32) -> Option<Outcome>
+    ensures { IfSome result (λ outcome. memo ≡ Some (record {
+      block = block;
+      outcome = outcome;
+    })) }
+{
+    match memo {
+        Some(memo) if memo.block == block => Some(memo.outcome),
+        _ => None,
+    }
+}
+
+/// Finds out a class that came to the stem of its region, together with the others that are likely
+/// to be asked for on the block. Tells lanes in which the stem turned round is detected.
+fn find_out_region(
+    job: &Job,
+    block: u32,
+    stem: u32,
+    own: Followed,
+    changes: &mut Changes,
+    memos: &mut [Option<Memo>],
+    followed: &mut Vec<Followed>,
+) -> u64
+    requires block { block < blocks (length job.now.tests.tests) }
+    requires room { HasRoomFor job.now.circuit changes.old }
+    requires clear { IsClear changes.old }
+    requires memos { AreTrueMemos job.now memos.old }
+    requires stem { stem < length (names job.now.circuit) }
+    requires class { own.class < length job.now.classes.representative }
+    requires arrived { HasArrived job.now block stem own.class own.lanes }
+    requires capacity { 0 < vec_capacity followed.old }
+    ensures told { TellsFirstFlips job.now.circuit job.now.tests.tests block own.lanes stem result }
+    ensures memos { AreTrueMemos job.now memos.new }
+    ensures capacity { vec_capacity followed.new ≡ vec_capacity followed.old }
+    ensures grown { changes.old.evaluations ≤ changes.new.evaluations }
+    ensures room { IsAsLarge changes.old changes.new }
+    ensures clear { IsClear changes.new }
+{
+    followed.clear();
+    followed.push_reserved(own);
+    gather(job, block, stem, own.class, changes, memos, followed);
+    let all = followed.as_slice();
+    let seen = flip_stem(job, block, stem, all, changes);
+    conclude(job, block, stem, seen, all, memos);
+    seen
+}
+
+/// Follows a class to the stem of its region.
+fn follow_alone(job: &Job, class: u32, block: u32, changes: &mut Changes) -> Approach
+    requires class { class < length job.now.classes.representative }
+    requires block { block < blocks (length job.now.tests.tests) }
+    requires room { HasRoomFor job.now.circuit changes.old }
+    requires clear { IsClear changes.old }
+    ensures approach { IsApproach job.now class block result }
+    ensures grown { changes.old.evaluations ≤ changes.new.evaluations }
+    ensures room { IsAsLarge changes.old changes.new }
+    ensures clear { IsClear changes.new }
+{
+    let fault = job.representative(class);
+    let lanes = lanes_below(job.tests().size_of(block)) & lanes_that_fit(job, block, fault);
+    let view = BlockView {
+        circuit: job.flat(),
+        good: job.fault_free(block),
+        lanes,
+    };
+    match follow(view, fault, changes) {
+        Reach::Observed(word) => Approach::Known(least_lane(word)),
+        Reach::Stem(at) => {
+            let lanes = lanes & at.lanes;
+            if lanes == 0 {
+                return Approach::Known(Outcome::Clear);
+            }
+            Approach::Stem(Arrival {
+                signal: at.signal,
+                lanes,
+            })
+        }
+    }
+}
+
+/// Whether a class is likely to be asked for on a block: it was clear on the block before, or it
+/// is the first block and nothing is known of it. Any answer is right; it decides what is worth
+/// finding out beside the class that is asked for.
+fn is_likely(memo: Option<Memo>, block: u32) -> bool {
+    match memo {
+        Some(memo) => memo.block < block
+            && memo.block + 1 == block
+            && memo.outcome == Outcome::Clear,
+        None => block == 0,
+    }
+}
+
+/// Goes round the region of a class, and follows with it the others that are likely to be asked for
+/// on the block and come to the same stem. What is known of others at once is kept.
+fn gather(
+    job: &Job,
+    block: u32,
+    stem: u32,
+    first: u32,
+    changes: &mut Changes,
+    memos: &mut [Option<Memo>],
+    followed: &mut Vec<Followed>,
+)
+    requires block { block < blocks (length job.now.tests.tests) }
+    requires first { first < length job.now.classes.representative }
+    requires room { HasRoomFor job.now.circuit changes.old }
+    requires clear { IsClear changes.old }
+    requires memos { AreTrueMemos job.now memos.old }
+    requires followed { AreFollowed job.now block stem followed.old.items }
+    ensures memos { AreTrueMemos job.now memos.new }
+    ensures followed { AreFollowed job.now block stem followed.new.items }
+    ensures kept { (one : Followed) → Contains followed.old.items one
+        → Contains followed.new.items one }
+    ensures capacity { vec_capacity followed.new ≡ vec_capacity followed.old }
+    ensures grown { changes.old.evaluations ≤ changes.new.evaluations }
+    ensures room { IsAsLarge changes.old changes.new }
+    ensures clear { IsClear changes.new }
+{
+    let mut class = first;
+    for _step in 0..memos.len() {
+        class = job.next_in_region(class);
+        if class == first || followed.len() >= followed.capacity() {
+            break;
+        }
+        if !is_likely(memos[class as usize], block) {
+            continue;
+        }
+        follow_too(job, block, stem, class, changes, memos, followed);
+    }
+}
+
+/// Follows one more class, and keeps its outcome where that is known at once.
+fn follow_too(
+    job: &Job,
+    block: u32,
+    stem: u32,
+    class: u32,
+    changes: &mut Changes,
+    memos: &mut [Option<Memo>],
+    followed: &mut Vec<Followed>,
+)
+    requires block { block < blocks (length job.now.tests.tests) }
+    requires class { class < length job.now.classes.representative }
+    requires room { HasRoomFor job.now.circuit changes.old }
+    requires clear { IsClear changes.old }
+    requires memos { AreTrueMemos job.now memos.old }
+    requires followed { AreFollowed job.now block stem followed.old.items }
+    requires capacity { vec_len followed.old < vec_capacity followed.old }
+    ensures memos { AreTrueMemos job.now memos.new }
+    ensures followed { AreFollowed job.now block stem followed.new.items }
+    ensures kept { (one : Followed) → Contains followed.old.items one
+        → Contains followed.new.items one }
+    ensures capacity { vec_capacity followed.new ≡ vec_capacity followed.old }
+    ensures grown { changes.old.evaluations ≤ changes.new.evaluations }
+    ensures room { IsAsLarge changes.old changes.new }
+    ensures clear { IsClear changes.new }
+{
+    match follow_alone(job, class, block, changes) {
+        Approach::Known(outcome) => memos[class as usize] = Some(Memo { block, outcome }),
+        Approach::Stem(at) => {
+            if at.signal != stem {
+                return;
+            }
+            followed.push_reserved(Followed {
+                class,
+                lanes: at.lanes,
+            });
+        }
+    }
+}
+
+/// Turns the stem round for all classes that are followed.
+fn flip_stem(job: &Job, block: u32, stem: u32, followed: &[Followed], changes: &mut Changes) -> u64
+    requires block { block < blocks (length job.now.tests.tests) }
+    requires room { HasRoomFor job.now.circuit changes.old }
+    requires clear { IsClear changes.old }
+    requires stem { stem < length (names job.now.circuit) }
+    ensures told { (one : Followed) → Contains followed.now one
+        → TellsFirstFlips job.now.circuit job.now.tests.tests block one.lanes stem result }
+    ensures grown { changes.old.evaluations ≤ changes.new.evaluations }
+    ensures room { IsAsLarge changes.old changes.new }
+    ensures clear { IsClear changes.new }
+{
+    let view = BlockView {
+        circuit: job.flat(),
+        good: job.fault_free(block),
+        lanes: 0,
+    };
+    flip(view, followed, stem, changes)
+}
+
+/// Keeps the outcomes of all classes that were followed.
+fn conclude(
+    job: &Job,
+    block: u32,
+    stem: u32,
+    seen: u64,
+    followed: &[Followed],
+    memos: &mut [Option<Memo>],
+)
+    requires block { block < blocks (length job.now.tests.tests) }
+    requires memos { AreTrueMemos job.now memos.old }
+    requires followed { AreFollowed job.now block stem followed.now }
+    requires told { (one : Followed) → Contains followed.now one
+        → TellsFirstFlips job.now.circuit job.now.tests.tests block one.lanes stem seen }
+    ensures memos { AreTrueMemos job.now memos.new }
+{
+    for one in followed {
+        let outcome = least_lane(one.lanes & seen);
+        memos[one.class as usize] = Some(Memo { block, outcome });
+    }
+}
