@@ -19,7 +19,7 @@ are busy with something else.
 
 With --counts it prints how many gates the baseline evaluates by events and by regions, and what part of
 the first number the second is. These depend on no machine, and the program isn't built for them.
---only takes the name of a case, of whatever kind, or a part of a title.
+--only takes the name of any case, or a part of a title.
 """
 
 import argparse
@@ -35,7 +35,6 @@ from typing import NamedTuple
 HERE = pathlib.Path(__file__).resolve().parent
 CRATE = HERE.parent / "crates" / "faultsim"
 PROGRAM = CRATE / "out" / "faultsim"
-
 
 
 class Case(NamedTuple):
@@ -86,14 +85,8 @@ HARD_CASES = [
     Case("W", "W: as V with 1,636 flip-flops, 8,192 tests", DEEP + " --ffs 1636", 8192),
 ]
 
-# With --workers.
-WORKER_CASES = [
-    Case("c17", "c17, 4,096 tests", "c17", 4096),
-    Case("ecc32long", "a 32-bit error corrector, 4,096 tests", "ecc 32", 4096),
-    Case("mult16long", "a 16 x 16 multiplier of 2,352 gates, 4,096 tests", "mult 16", 4096),
-    Case("r22klong", "a random circuit of 22,000 gates, 4,096 tests", R22K, 4096),
-    Case("r100kshort", "a random circuit of 100,000 gates, 128 tests", R100K, 128),
-]
+# With --workers, where --only names no other.
+WORKER_CASES = ("c17", "ecc32long", "mult16long", "r22klong", "r100kshort")
 WORKERS = (1, 2, 4)
 
 REGIONS = ["--algorithm", "regions", "--prune", "--groups"]
@@ -143,7 +136,8 @@ def memory(words):
 
 def chosen(cases, only):
     """The case of that name, or else those whose title has it."""
-    return [case for case in cases if only == case.name] or [case for case in cases if only in case.title]
+    named = [case for case in cases if only == case.name] or [case for case in cases if only in case.title]
+    return named or sys.exit(f"no case is named {only}")
 
 
 def words_of(folder, case, model):
@@ -214,12 +208,12 @@ def compare_workers(folder, baseline, case, options):
 
 
 def count(folder, baseline, case, options):
-    if not case.tests:
-        return
     words = [str(baseline), *words_of(folder, case, options.model), "--workers", "1", "--time"]
     counts = []
     for more in ([], REGIONS):
-        told = subprocess.run([*words, *more], check=True, stdout=subprocess.DEVNULL, stderr=subprocess.PIPE, text=True)
+        told = subprocess.run([*words, *more], stdout=subprocess.DEVNULL, stderr=subprocess.PIPE, text=True)
+        if told.returncode != 0:
+            return print(f"{case.name}, {case.title}: {told.stderr.splitlines()[-1]}", flush=True)
         counts.append(int(re.search(r"gate evaluations ([0-9]+)", told.stderr)[1]))
     print(f"{case.name}, {case.title}: {counts[0]:,} by events, {counts[1] / counts[0]:.3f} of it by regions", flush=True)
 
@@ -238,12 +232,13 @@ def main():
     parser.add_argument("--workers", action="store_true")
     parser.add_argument("--counts", action="store_true")
     options = parser.parse_args()
-    if options.workers:
-        cases = WORKER_CASES
-    elif options.only or options.counts:
-        cases = CASES + HARD_CASES
-    else:
+    cases = CASES + HARD_CASES
+    if options.workers and not options.only:
+        cases = [case for case in cases if case.name in WORKER_CASES]
+    elif not options.counts and not options.only:
         cases = HARD_CASES if options.hard else CASES
+    if options.workers or options.counts:
+        cases = [case for case in cases if case.tests]
     with tempfile.TemporaryDirectory() as name:
         folder = pathlib.Path(name)
         baseline = build_baseline(folder) if options.counts else build(folder)
