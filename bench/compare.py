@@ -66,7 +66,7 @@ CASES = [
     Case("r100kshort", "a random circuit of 100,000 gates, 128 tests", R100K, 128),
 ]
 
-# With --hard: many tests, large circuits, and circuits with few outputs, most of whose faults stay undetected.
+# With --hard: many tests, large circuits, and circuits with few outputs, many of whose faults stay undetected.
 HARD_CASES = [
     Case("ecc32long", "a 32-bit error corrector, 4,096 tests", "ecc 32", 4096),
     Case("mult32", "a 32 x 32 multiplier, 1,024 tests", "mult 32", 1024),
