@@ -1,64 +1,109 @@
 #!/usr/bin/env python3
-"""Times `faultsim` against a C++ simulator of the same job, and checks that both write the same.
+"""Times `faultsim` against a C++ simulator of the same job, and checks that all write the same.
 
-    bench/compare.py [--workers] [--rounds N] [--only WORD]
-
-With --workers it runs other cases, each with 1, 2 and 4 workers against the baseline with as many, and prints for
-each number the ratio of the least times, and how much faster each of both is than its own run with 1 worker: as a
-whole, and without the time of a run with the first test alone, which is reading and setting up. It also prints how
-much processor time each takes beside its run with 1 worker, which says what sharing the work costs even where the
-processors are busy with something else.
+    bench/compare.py [--hard] [--workers] [--counts] [--model M] [--rounds N] [--only WORD]
 
 It builds baseline.cpp with g++ and the program with `rt run`, makes circuits and tests with
-generate.py in a temporary folder, runs both in turn, and prints for each case the ratio of the
-least times, for a run also that beside the baseline with --no-trim, which looks at whole blocks,
-and the most memory that each had. Times depend on the machine, so their ratios alone are printed.
+generate.py in a temporary folder, and runs in turn the program, the baseline by events, and the
+baseline by regions with all of its options (`--algorithm regions --prune --groups`). For each case it
+prints the ratios of the least times: ours beside the baseline by events, beside the baseline by
+regions, and beside the baseline with --no-trim, which looks at whole blocks; and the most memory that
+ours and the baseline by events had. Times depend on the machine, so their ratios alone are printed.
+
+Without an option it runs the short cases, and with --hard the long ones. With --workers it runs the
+cases for several workers, each with 1, 2 and 4 against the baseline with as many, and prints how much
+faster each program is than its own run with 1 worker: as a whole, and without the time of a run with
+the first test alone, which is reading and setting up. It also prints how much processor time each
+takes beside its run with 1 worker, which says what sharing the work costs even where the processors
+are busy with something else.
+
+With --counts it prints how many gates the baseline evaluates by events and by regions, and what part of
+the first number the second is. These depend on no machine, and the program isn't built for them.
+--only takes the name of any case, or a part of a title.
 """
 
 import argparse
 import pathlib
+import re
 import resource
 import subprocess
 import sys
 import tempfile
 import time
+from typing import NamedTuple
 
 HERE = pathlib.Path(__file__).resolve().parent
 CRATE = HERE.parent / "crates" / "faultsim"
 PROGRAM = CRATE / "out" / "faultsim"
 
-# name, words for the circuit, number of tests (None: the listing), a line to add
+
+class Case(NamedTuple):
+    name: str
+    title: str
+    circuit: str        # words for generate.py
+    tests: int = 0      # how many; 0 for the listing
+    line: str = ""      # a line that is added to the circuit
+
+
+R900K = "random --gates 900000 --inputs 500 --outputs 500 --ffs 60000 --depth 80 --short"
+R20K = "random --gates 20000 --inputs 200 --outputs 200 --ffs 800 --depth 50"
+R22K = "random --gates 22000 --inputs 200 --outputs 200 --ffs 1500 --depth 50"
+R100K = "random --gates 100000 --inputs 500 --outputs 500 --ffs 5000 --depth 60"
+S38417 = "random --gates 22179 --inputs 28 --outputs 106 --ffs 1636 --depth 47"
+FEW_OUTPUTS = "random --gates 5000 --inputs 100 --outputs 3"
+DEEP = "random --gates 22179 --inputs 28 --outputs 10 --depth 47"
+
 CASES = [
-    ("read a random circuit of 900,000 gates, and refuse its cycle", "random --gates 900000 --inputs 500 --outputs 500 --ffs 60000 --depth 80 --short", None, "cyclic = NOT(cyclic)\n"),
-    ("read and list a random circuit of 900,000 gates", "random --gates 900000 --inputs 500 --outputs 500 --ffs 60000 --depth 80 --short", None, ""),
-    ("list a random circuit of 20,000 gates", "random --gates 20000 --inputs 200 --outputs 200 --ffs 800 --depth 50", None, ""),
-    ("c17, 4,096 tests", "c17", 4096, ""),
-    ("a 16 x 16 multiplier of 2,352 gates, 256 tests", "mult 16", 256, ""),
-    ("a 16 x 16 multiplier of 2,352 gates, 4,096 tests", "mult 16", 4096, ""),
-    ("a random circuit of 22,000 gates, 512 tests", "random --gates 22000 --inputs 200 --outputs 200 --ffs 1500 --depth 50", 512, ""),
-    ("a 32-bit error corrector, 512 tests", "ecc 32", 512, ""),
-    ("a ripple adder of 64 bits, 512 tests", "ripple 64", 512, ""),
-    ("a random circuit of 100,000 gates, 128 tests", "random --gates 100000 --inputs 500 --outputs 500 --ffs 5000 --depth 60", 128, ""),
+    Case("cycle900k", "read a random circuit of 900,000 gates, and refuse its cycle", R900K, 0, "cyclic = NOT(cyclic)\n"),
+    Case("list900k", "read and list a random circuit of 900,000 gates", R900K),
+    Case("list20k", "list a random circuit of 20,000 gates", R20K),
+    Case("c17", "c17, 4,096 tests", "c17", 4096),
+    Case("mult16", "a 16 x 16 multiplier of 2,352 gates, 256 tests", "mult 16", 256),
+    Case("mult16long", "a 16 x 16 multiplier of 2,352 gates, 4,096 tests", "mult 16", 4096),
+    Case("r22k", "a random circuit of 22,000 gates, 512 tests", R22K, 512),
+    Case("ecc32", "a 32-bit error corrector, 512 tests", "ecc 32", 512),
+    Case("ripple64", "a ripple adder of 64 bits, 512 tests", "ripple 64", 512),
+    Case("r100kshort", "a random circuit of 100,000 gates, 128 tests", R100K, 128),
 ]
 
-# the same, for --workers
-WORKER_CASES = [
-    ("c17, 4,096 tests", "c17", 4096),
-    ("a 32-bit error corrector, 4,096 tests", "ecc 32", 4096),
-    ("a 16 x 16 multiplier of 2,352 gates, 4,096 tests", "mult 16", 4096),
-    ("a random circuit of 22,000 gates, 4,096 tests", "random --gates 22000 --inputs 200 --outputs 200 --ffs 1500 --depth 50", 4096),
-    ("a random circuit of 100,000 gates, 128 tests", "random --gates 100000 --inputs 500 --outputs 500 --ffs 5000 --depth 60", 128),
+# With --hard: many tests, large circuits, and circuits with few outputs, many of whose faults stay undetected.
+HARD_CASES = [
+    Case("ecc32long", "a 32-bit error corrector, 4,096 tests", "ecc 32", 4096),
+    Case("mult32", "a 32 x 32 multiplier, 1,024 tests", "mult 32", 1024),
+    Case("mult32long", "a 32 x 32 multiplier, 4,096 tests", "mult 32", 4096),
+    Case("r22klong", "a random circuit of 22,000 gates, 4,096 tests", R22K, 4096),
+    Case("s38417", "the shape of s38417: 22,179 gates, 512 tests", S38417, 512),
+    Case("s38417long", "the shape of s38417: 22,179 gates, 4,096 tests", S38417, 4096),
+    Case("r100k", "a random circuit of 100,000 gates, 256 tests", R100K, 256),
+    Case("U", "U: 5,000 gates, 3 outputs, 16,384 tests", FEW_OUTPUTS, 16384),
+    Case("V", "V: 22,179 gates, 10 outputs, 2,048 tests", DEEP, 2048),
+    Case("U2", "U2: as U, without dead gates", FEW_OUTPUTS + " --join-unread", 16384),
+    Case("V2", "V2: as V, without dead gates", DEEP + " --join-unread", 2048),
+    Case("A", "A: 5,000 gates, 20 outputs, 65,536 tests", "random --gates 5000 --inputs 100 --outputs 20", 65536),
+    Case("B", "B: 5,000 gates, 50 inputs, depth 50, 65,536 tests",
+         "random --gates 5000 --inputs 50 --outputs 20 --depth 50", 65536),
+    Case("W", "W: as V with 1,636 flip-flops, 8,192 tests", DEEP + " --ffs 1636", 8192),
 ]
+
+# With --workers, where --only names no other.
+WORKER_CASES = ("c17", "ecc32long", "mult16long", "r22klong", "r100kshort")
 WORKERS = (1, 2, 4)
+
+REGIONS = ["--algorithm", "regions", "--prune", "--groups"]
 
 
 def run(words, **options):
     return subprocess.run(words, check=True, stdout=subprocess.PIPE, **options).stdout
 
 
-def build(folder):
+def build_baseline(folder):
     baseline = folder / "baseline"
     run(["g++", "-O3", "-march=x86-64-v2", "-std=c++17", "-pthread", str(HERE / "baseline.cpp"), "-o", str(baseline)])
+    return baseline
+
+
+def build(folder):
+    baseline = build_baseline(folder)
     subprocess.run(["rt", "run", "--", "--help"], cwd=CRATE, stdout=subprocess.DEVNULL, check=True)
     return baseline
 
@@ -89,41 +134,88 @@ def memory(words):
     return int(run([sys.executable, "-c", MEMORY, *words])) / 1024
 
 
-def compare_workers(folder, baseline, rounds, only):
-    for title, circuit, tests in WORKER_CASES:
-        if only not in title:
-            continue
-        bench = generated(folder, "bench", circuit.split())
-        rows = generated(folder, "tests", ["tests", "--bench", bench, "--count", str(tests)])
-        first = folder / "first"
-        first.write_text(pathlib.Path(rows).read_text().split("\n")[0] + "\n")
-        least, spent = {}, {}
-        for _ in range(rounds):
-            # 0 stands for one worker and the first test alone
-            for workers in (0, *WORKERS):
-                words = ["run", "--bench", bench, "--tests", rows if workers else str(first),
-                         "--workers", str(max(workers, 1)), "--list"]
-                outs = []
-                for program in (str(PROGRAM), str(baseline)):
-                    before = processor_time()
-                    took, out = timed([program, *words])
-                    used = processor_time() - before
-                    least[program, workers] = min(took, least.get((program, workers), took))
-                    spent[program, workers] = min(used, spent.get((program, workers), used))
-                    outs.append(out)
-                if outs[0] != outs[1]:
-                    sys.exit(f"{title}: the reports differ")
-        print(title)
-        for workers in WORKERS:
-            ratio = least[str(PROGRAM), workers] / least[str(baseline), workers]
-            line = f"  {workers} workers: {ratio:.2f} of the baseline's time"
-            for name, program in (("ours", str(PROGRAM)), ("its", str(baseline))):
-                one, many, set_up = (least[program, number] for number in (1, workers, 0))
-                line += f"; {name} {one / many:.2f} times as fast as with 1"
-                if many - set_up > 0.05:
-                    line += f", {(one - set_up) / (many - set_up):.2f} without setting up"
-                line += f", for {spent[program, workers] / max(spent[program, 1], 1e-3):.2f} of its processor time"
-            print(line, flush=True)
+def chosen(cases, only):
+    """The case of that name, or else those whose title has it."""
+    named = [case for case in cases if only == case.name] or [case for case in cases if only in case.title]
+    return named or sys.exit(f"no case is named {only}")
+
+
+def words_of(folder, case, model):
+    """The words for a run of the case, or for its listing, with its files in the folder."""
+    bench = generated(folder, "bench", case.circuit.split(), case.line)
+    if not case.tests:
+        return ["faults", "--bench", bench, "--model", model]
+    rows = generated(folder, "tests", ["tests", "--bench", bench, "--count", str(case.tests)])
+    return ["run", "--bench", bench, "--tests", rows, "--list", "--model", model]
+
+
+def compare(folder, baseline, case, options, whole_blocks):
+    words = words_of(folder, case, options.model)
+    # The program, then the baseline in its ways.
+    ours, events = [str(PROGRAM), *words], [str(baseline), *words]
+    ways = {"ours": ours, "by events": events}
+    if case.tests:
+        ours += ["--workers", "1"]
+        events += ["--workers", "1"]
+        ways["by regions"] = [*events, *REGIONS]
+        if whole_blocks:
+            ways["with --no-trim"] = [*events, "--no-trim"]
+    least, expected = {}, None
+    for _ in range(options.rounds):
+        for way, command in ways.items():
+            took, out = timed(command)
+            expected = expected or out
+            if out != expected:
+                sys.exit(f"{case.title}: the reports differ")
+            least[way] = min(took, least.get(way, took))
+    ratios = [f"{least['ours'] / least[way]:.2f} {way}" for way in ways if way != "ours"]
+    print(f"{case.name}, {case.title}: {', '.join(ratios)}; {memory(ours):.0f} MB beside {memory(events):.0f}", flush=True)
+
+
+def compare_workers(folder, baseline, case, options):
+    words = words_of(folder, case, options.model)
+    first = folder / "first"
+    first.write_text((folder / "tests").read_text().split("\n")[0] + "\n")
+    set_up = [str(first) if word == str(folder / "tests") else word for word in words]
+    programs = {"ours": [str(PROGRAM)], "by events": [str(baseline)], "by regions": [str(baseline)]}
+    more = {"ours": [], "by events": [], "by regions": REGIONS}
+    least, spent = {}, {}
+    for _ in range(options.rounds):
+        # 0 stands for one worker and the first test alone
+        for workers in (0, *WORKERS):
+            outs = []
+            for way, program in programs.items():
+                before = processor_time()
+                command = [*program, *(words if workers else set_up), "--workers", str(max(workers, 1)), *more[way]]
+                took, out = timed(command)
+                used = processor_time() - before
+                least[way, workers] = min(took, least.get((way, workers), took))
+                spent[way, workers] = min(used, spent.get((way, workers), used))
+                outs.append(out)
+            if outs.count(outs[0]) != len(outs):
+                sys.exit(f"{case.title}: the reports differ")
+    print(f"{case.name}, {case.title}")
+    for workers in WORKERS:
+        ratios = [f"{least['ours', workers] / least[way, workers]:.2f} {way}" for way in ("by events", "by regions")]
+        line = f"  {workers} workers: {', '.join(ratios)}"
+        for way in programs:
+            one, many, start = (least[way, number] for number in (1, workers, 0))
+            line += f"; {way} {one / many:.2f} times as fast as with 1"
+            if many - start > 0.05:
+                line += f", {(one - start) / (many - start):.2f} without setting up"
+            line += f", for {spent[way, workers] / max(spent[way, 1], 1e-3):.2f} of its processor time"
+        print(line, flush=True)
+
+
+def count(folder, baseline, case, options):
+    words = [str(baseline), *words_of(folder, case, options.model), "--workers", "1", "--time"]
+    counts = []
+    for more in ([], REGIONS):
+        told = subprocess.run([*words, *more], stdout=subprocess.DEVNULL, stderr=subprocess.PIPE, text=True)
+        if told.returncode != 0:
+            return print(f"{case.name}, {case.title}: {told.stderr.splitlines()[-1]}", flush=True)
+        counts.append(int(re.search(r"gate evaluations ([0-9]+)", told.stderr)[1]))
+    print(f"{case.name}, {case.title}: {counts[0]:,} by events, {counts[1] / counts[0]:.3f} of it by regions", flush=True)
 
 
 def processor_time():
@@ -135,38 +227,29 @@ def main():
     parser = argparse.ArgumentParser(description=__doc__, formatter_class=argparse.RawDescriptionHelpFormatter)
     parser.add_argument("--rounds", type=int, default=5)
     parser.add_argument("--only", default="")
+    parser.add_argument("--model", choices=("stuck", "transition"), default="stuck")
+    parser.add_argument("--hard", action="store_true")
     parser.add_argument("--workers", action="store_true")
+    parser.add_argument("--counts", action="store_true")
     options = parser.parse_args()
+    cases = CASES + HARD_CASES
+    if options.workers and not options.only:
+        cases = [case for case in cases if case.name in WORKER_CASES]
+    elif not options.counts and not options.only:
+        cases = HARD_CASES if options.hard else CASES
+    if options.workers or options.counts:
+        cases = [case for case in cases if case.tests]
     with tempfile.TemporaryDirectory() as name:
         folder = pathlib.Path(name)
-        baseline = build(folder)
-        if options.workers:
-            return compare_workers(folder, baseline, options.rounds, options.only)
-        for title, circuit, tests, line in CASES:
-            if options.only not in title:
-                continue
-            bench = generated(folder, "bench", circuit.split(), line)
-            words = ["faults", "--bench", bench]
-            # The baseline also looks at whole blocks.
-            ways = [[]]
-            if tests is not None:
-                rows = generated(folder, "tests", ["tests", "--bench", bench, "--count", str(tests)])
-                words = ["run", "--bench", bench, "--tests", rows, "--workers", "1", "--list"]
-                ways = [[], ["--no-trim"]]
-            least = {}
-            for _ in range(options.rounds):
-                for program, more in [(PROGRAM, []), *((baseline, way) for way in ways)]:
-                    took, out = timed([str(program), *words, *more])
-                    if out != least.setdefault("out", out):
-                        sys.exit(f"{title}: the reports differ")
-                    key = (program, *more)
-                    least[key] = min(took, least.get(key, took))
-            ratios = [least[PROGRAM,] / least[(baseline, *way)] for way in ways]
-            line = f"{title}: {ratios[0]:.2f}"
-            if len(ratios) > 1:
-                line += f" ({ratios[1]:.2f} with --no-trim)"
-            ours, theirs = memory([str(PROGRAM), *words]), memory([str(baseline), *words])
-            print(f"{line}, {ours:.0f} MB beside {theirs:.0f}", flush=True)
+        baseline = build_baseline(folder) if options.counts else build(folder)
+        for case in chosen(cases, options.only):
+            if options.counts:
+                count(folder, baseline, case, options)
+            elif options.workers:
+                compare_workers(folder, baseline, case, options)
+            else:
+                # a look at whole blocks takes up to ten times as long, and hard cases are long already
+                compare(folder, baseline, case, options, whole_blocks=case in CASES)
 
 
 if __name__ == "__main__":
