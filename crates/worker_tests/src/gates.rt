@@ -50,6 +50,8 @@ pub(crate) struct ShutForTwo {
 impl Gate for ShutForTwo {
     ghost passing = { λ _. ⊥ };
 
+    ghost stops = { λ _ _ _ _. Unit {0} };
+
     fn pass(&self, _worker: u32, class: u32, block: u32) -> bool {
         (class, block) != self.first && (class, block) != self.second
     }
@@ -154,6 +156,8 @@ impl<'a, C: Clock> Roll<'a, C> {
 
 impl<C: Clock> Gate for Roll<'_, C> {
     ghost passing = { λ _. ⊥ };
+
+    ghost stops = { λ _ _ _ _. Unit {0} };
 
     fn pass(&self, worker: u32, _class: u32, _block: u32) -> bool {
         self.called.fetch_or(1 << (worker % 64), Ordering::SeqCst);
