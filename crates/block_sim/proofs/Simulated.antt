@@ -23,7 +23,7 @@ use Rattle.block_sim.specs.declared.changes.Changes.{Changes}
 use Rattle.block_sim.specs.Changes.{HasRoomFor, IsAsLarge, IsAtRest, IsClear}
 use Rattle.block_sim.specs.Parts.{Parts}
 use Rattle.block_sim.specs.Regions.{TellsFirstFlips, start_of}
-use Rattle.block_sim.specs.Simulation.{AreFollowed, AreTrueMemos, HasArrived, IsOutcomeIn, IsSimulation, IsTrueMemo}
+use Rattle.block_sim.specs.Simulation.{AreFollowed, AreTrueMemos, HasArrived, IsOutcomeIn, IsTrueMemo}
 use Rattle.block_sim.specs.Words.{IsLeastLane}
 use Rattle.block_sim.proofs.Carried.{gate_within}
 use Rattle.block_sim.proofs.Deep.{level_within}
@@ -95,18 +95,10 @@ room_at_rest job changes well rest room = record {
   levels = λ g k h. (let le = level_within job.circuit g k well h in let same = rest.levels in omega (arith, le, same, room));
 }
 
--- a simulation after a call: as much room, nothing that waits, and memos that are true
-pub simulation_with : (job : Parts) (before after : Changes) (memos kept : List Memo) (capacity : ℕ)
-    → IsSimulation job before memos capacity → IsAsLarge before after → IsClear after → AreTrueMemos job kept
-    → IsSimulation job after kept capacity
-simulation_with job before after memos kept capacity h large clear outcomes = record {
-  together = h.together;
-  rest = record {
-    clear = clear;
-    gates = large.gates ∙ (h.rest.gates ∙ sym large.overlay);
-    levels = large.levels ∙ (h.rest.levels ∙ ap (λ n. n + 1) (sym large.overlay));
-  };
-  room = (let le = h.room in let same = large.overlay in omega (arith, le, same));
-  outcomes = outcomes;
-  followed = h.followed;
+-- after a call nothing waits, and there is as much room
+pub rest_after : (before after : Changes) → IsAtRest before → IsAsLarge before after → IsClear after → IsAtRest after
+rest_after before after rest large clear = record {
+  clear = clear;
+  gates = large.gates ∙ (rest.gates ∙ sym large.overlay);
+  levels = large.levels ∙ (rest.levels ∙ ap (λ n. n + 1) (sym large.overlay));
 }

@@ -6,22 +6,15 @@ use Rattle.fault_model.specs.Fault.{Fault}
 use Rattle.fault_model.specs.Collapse.{representatives}
 use Rattle.patterns.specs.declared.Outcome.{Outcome}
 use Rattle.patterns.specs.declared.Outcome.TheVariants as outcome
-use Rattle.block_sim.specs.declared.changes.Changes.{Changes}
 use Rattle.block_sim.specs.declared.simulation.Approach.{Approach}
 use Rattle.block_sim.specs.declared.simulation.Approach.TheVariants.{Known, Stem}
 use Rattle.block_sim.specs.declared.simulation.Memo.{Memo}
 use Rattle.block_sim.specs.declared.simulation.Memo.TheVariants.{Nothing}
 use Rattle.block_sim.specs.declared.simulation.Memo.TheVariants as memo
 use Rattle.block_sim.specs.declared.spread.Followed.{Followed}
-use Rattle.block_sim.specs.Changes.{IsAtRest}
 use Rattle.block_sim.specs.First.{IsTrueOutcome}
-use Rattle.block_sim.specs.Parts.{BelongTogether, Parts}
+use Rattle.block_sim.specs.Parts.{Parts}
 use Rattle.block_sim.specs.Regions.{AreLanesFor, HasCome}
-
--- what contracts see of a simulation: its job, and the evaluations that it has counted
-pub record Simulated : Type 0 where
-  pub job : Parts
-  pub evaluations : ℕ
 
 -- the true outcome of a class of the job on a block
 abbrev pub IsOutcomeIn : Parts → ℕ → ℕ → Outcome → Type 0
@@ -61,11 +54,16 @@ IsApproach job class block (Known outcome) = IsOutcomeIn job class block outcome
 IsApproach job class block (Stem at) =
     (at.signal < length (names job.circuit)) × HasArrived job block at.signal class at.lanes
 
--- what is true of a simulation between two calls; it can follow all classes of the job at once
-pub record IsSimulation (job : Parts) (changes : Changes) (memos : List Memo)
-    (capacity : ℕ) : Type 0 where
-  pub together : BelongTogether job
-  pub rest : IsAtRest changes
-  pub room : length (names job.circuit) ≤ length changes.overlay
-  pub outcomes : AreTrueMemos job memos
-  pub followed : length job.classes.representative ≤ capacity
+-- what contracts see of a simulation: for how many signals it has room, the evaluations that it has
+-- counted, what it knows of each class, and how many classes it can follow at once
+pub record Simulated : Type 0 where
+  pub signals : ℕ
+  pub evaluations : ℕ
+  pub memos : List Memo
+  pub capacity : ℕ
+
+-- A simulation serves a job: it is large enough, and what it knows is true of this job.
+pub record Serves (simulation : Simulated) (job : Parts) : Type 0 where
+  pub room : length (names job.circuit) ≤ simulation.signals
+  pub outcomes : AreTrueMemos job simulation.memos
+  pub followed : length job.classes.representative ≤ simulation.capacity

@@ -9,7 +9,7 @@ ghost use Rattle.block_sim.specs.First.{IsTrueOutcome};
 ghost use Rattle.block_sim.specs.Regions.{TellsFirstFlips};
 ghost use Rattle.block_sim.specs.Parts.{Parts};
 ghost use Rattle.block_sim.specs.Simulation.{AreFollowed, AreTrueMemos, HasArrived, IsApproach};
-ghost use Rattle.block_sim.specs.Simulation.{IsOutcomeIn, IsTrueMemo};
+ghost use Rattle.block_sim.specs.Simulation.{IsOutcomeIn, IsTrueMemo, Serves};
 
 use crate::block_lanes::{lanes_below, least_lane};
 use crate::changes::Changes;
@@ -21,7 +21,6 @@ use crate::view::BlockView;
 use patterns::Outcome;
 use std::alloc::{AllocError, Global};
 use std::marker::Model;
-use std::snapshot::Snapshot;
 
 /// What is known of a class: its outcome on the block on which it was found out last.
 #[derive(Clone, Copy)]
@@ -69,38 +68,39 @@ pub enum Approach {
     Stem(Arrival),
 }
 
-/// What simulates the pieces of one job. Faults of one fan-out-free region all leave it through
+/// What simulates the pieces of a job. Faults of one fan-out-free region all leave it through
 /// its stem, so one simulation of the stem serves all classes of the region that are likely to be
 /// asked for on a block (Lee and Ha, HOPE: An Efficient Parallel Fault Simulator). It keeps for
 /// each class the outcome that it found out last.
 #[derive(Drop)]
 pub struct Simulation {
-    job: Snapshot<Job>,
     changes: Changes,
     memos: Vec<Memo>,
     followed: Vec<Followed>,
 }
 
 impl Model for Simulation {
-    ghost use Rattle.std.specs.Prelude.{vec_capacity};
-    ghost use Rattle.block_sim.specs.Simulation.{IsSimulation, Simulated};
+    ghost use Rattle.std.specs.Prelude.{length, vec_capacity};
+    ghost use Rattle.block_sim.specs.Changes.{IsAtRest};
+    ghost use Rattle.block_sim.specs.Simulation.{Simulated};
 
     ghost Value = { Simulated };
 
     ghost view = { λ s. record {
-      job = s.job.value;
+      signals = length s.changes.overlay;
       evaluations = s.changes.evaluations;
+      memos = s.memos.items;
+      capacity = vec_capacity s.followed;
     } };
 
-    ghost invariant = { λ s.
-        IsSimulation s.job.value s.changes s.memos.items (vec_capacity s.followed) };
+    ghost invariant = { λ s. IsAtRest s.changes };
 }
 
 impl Simulation {
     /// Room for the simulation of a job. It takes a word and a few numbers for each signal, and a
     /// few numbers for each class.
     pub fn new(alloc: Global, job: &Job) -> Result<Simulation, AllocError>
-        ensures job { IfOk result (λ simulation. simulation.job ≡ job.now) }
+        ensures serves { IfOk result (λ simulation. Serves simulation job.now) }
         ensures fresh { IfOk result (λ simulation. simulation.evaluations ≡ 0) }
     {
         let classes = job.classes().count() as usize;
@@ -108,7 +108,6 @@ impl Simulation {
         let memos = vec![in alloc; Memo::Nothing; classes]?;
         let followed = Vec::with_capacity(alloc, classes)?;
         Ok(Simulation {
-            job: Snapshot::of(job),
             changes,
             memos,
             followed,
@@ -126,14 +125,15 @@ impl Simulation {
     /// The outcome of a class on a block of the job, as [`crate::simulate`] gives it. It takes no
     /// memory.
     pub fn outcome(&mut self, job: &Job, class: u32, block: u32) -> Outcome
-        requires job { self.old.job ≡ job.now }
+        requires serves { Serves self.old job.now }
         requires class { class < length job.now.classes.representative }
         requires block { block < blocks (length job.now.tests.tests) }
         ensures outcome { IsTrueOutcome job.now.list.model job.now.circuit
             job.now.tests.tests class block result }
-        ensures job { self.new.job ≡ self.old.job }
+        ensures serves { Serves self.new job.now }
         ensures grown { self.old.evaluations ≤ self.new.evaluations }
     {
+        let _circuit = job.flat();
         if let Some(outcome) = self.memos[class as usize].on(block) {
             return outcome;
         }

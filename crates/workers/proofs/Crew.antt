@@ -1,7 +1,8 @@
 -- The workers of a run, and the handles of their threads.
 use Rattle.std.proofs.Common.{◌≡◌, ◌<◌, ◌⊎◌, inl, inr, ℕ, zero, suc, List, [], ◌∷◌, map, length, get_or, All, refl, sym, ap, ◌∙◌, subst, arith}
 use Rattle.std.proofs.lemmas.List.{length-map}
-use Rattle.block_sim.specs.Parts.{Parts, HasRoom}
+use Rattle.block_sim.specs.Parts.{Parts}
+use Rattle.block_sim.specs.Simulation.{Serves}
 use Rattle.fault_ledger.specs.History.{class_of, block_of}
 use Rattle.fault_ledger.specs.Seats.{Place, Sitter, newcomer, newcomers}
 use Rattle.patterns.proofs.Public.{length-map-below, get_or-map-below}
@@ -25,9 +26,9 @@ seat_at ws p k d e lt =
     let n = workers_count ws p e in
     get_map (λ (w : Worker). w.seat) ws k d ∙ ap (λ (l : List Sitter). get_or l k d.seat) e ∙ get_or-map-below (newcomer p) p.shape.workers k d.seat (omega arith)
 
--- and room for the job
-pub room_at : (ws : List Worker) (job : Parts) (k : ℕ) (d : Worker) → All (λ (w : Worker). HasRoom w.workspace job) ws → k < length ws → HasRoom (get_or ws k d).workspace job
-room_at ws job k d all lt = all k d lt
+-- and its simulation serves the job
+pub serves_at : (ws : List Worker) (job : Parts) (k : ℕ) (d : Worker) → All (λ (w : Worker). Serves w.simulation job) ws → k < length ws → Serves (get_or ws k d).simulation job
+serves_at ws job k d all lt = all k d lt
 
 -- a seat of a newcomer is the newcomer of its own number
 pub own_newcomer : (p : Place) (n : ℕ) (a : Sitter) → a ≡ newcomer p n → a ≡ newcomer p a.worker

@@ -4,6 +4,7 @@ ghost use Rattle.std.specs.Prelude.{◌≡◌, ◌≢◌, ◌<◌, ◌≤◌, �
 ghost use Rattle.std.specs.Prelude.{All, Some, position, length, IfOk, IfErr, OnOk};
 ghost use Rattle.std.specs.Option.{option_map_or};
 ghost use Rattle.patterns.specs.Least.{Table, below};
+ghost use Rattle.block_sim.specs.Simulation.{Serves};
 ghost use Rattle.fault_ledger.specs.declared.Shape.{Shape};
 ghost use Rattle.fault_ledger.specs.Answer.{IsLegal};
 ghost use Rattle.fault_ledger.specs.Face.{HasHistory, face};
@@ -25,14 +26,14 @@ use std::alloc::{AllocError, Global};
 fn step(job: &Job, ledger: &mut Ledger, simulation: &mut Simulation, worker: u32) -> Option<Event>
     requires shape { IsShapeOf job.now ledger.old.shape }
     requires worker { worker < ledger.old.shape.workers }
-    requires serves { simulation.old.job ≡ job.now }
+    requires serves { Serves simulation.old job.now }
     ensures shape { ledger.new.shape ≡ ledger.old.shape }
     ensures moved { (table : Table) (h : History) → IsTableOf job.now table
         → IsLegal ledger.old.shape h → ledger.old ≡ face ledger.old.shape h
         → let later : History = move table ledger.old.shape h worker in
         (ledger.new ≡ face ledger.old.shape later)
         × (later ≡ option_map_or (λ event. event ∷ h) result h) }
-    ensures serves { simulation.new.job ≡ job.now }
+    ensures serves { Serves simulation.new job.now }
 {
     let _parts = job.classes();
     let Some((class, block)) = ledger.held(worker) else {
@@ -68,7 +69,7 @@ fn play(job: &Job, ledger: &mut Ledger, simulation: &mut Simulation, moves: &[u3
     requires shape { IsShapeOf job.now ledger.old.shape }
     requires history { HasHistory ledger.old }
     requires workers { All (λ worker. worker < ledger.old.shape.workers) moves.now }
-    requires serves { simulation.old.job ≡ job.now }
+    requires serves { Serves simulation.old job.now }
     ensures shape { ledger.new.shape ≡ ledger.old.shape }
     ensures moved { (table : Table) (h : History) → IsTableOf job.now table
         → IsLegal ledger.old.shape h → ledger.old ≡ face ledger.old.shape h
@@ -78,7 +79,7 @@ fn play(job: &Job, ledger: &mut Ledger, simulation: &mut Simulation, moves: &[u3
         × (result.changed ≡ true → length h < length later)
         × (result.changed ≡ false → (later ≡ h)
         × All (λ w. (claims h ≡ piece_count ledger.old.shape) × (held w h ≡ None)) moves.now) }
-    ensures serves { simulation.new.job ≡ job.now }
+    ensures serves { Serves simulation.new job.now }
 {
     let _parts = job.classes();
     let mut skipped = 0;
@@ -101,7 +102,7 @@ fn take_turns(job: &Job, ledger: &mut Ledger, simulation: &mut Simulation, every
     requires history { HasHistory ledger.old }
     requires everyone { everyone.now ≡ below ledger.old.shape.workers }
     requires some { 0 < ledger.old.shape.workers }
-    requires serves { simulation.old.job ≡ job.now }
+    requires serves { Serves simulation.old job.now }
     ensures shape { ledger.new.shape ≡ ledger.old.shape }
     ensures moved { (table : Table) (h : History) → IsTableOf job.now table
         → IsLegal ledger.old.shape h → ledger.old ≡ face ledger.old.shape h

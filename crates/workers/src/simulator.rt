@@ -4,6 +4,7 @@ ghost use Rattle.std.specs.Prelude.{◌≡◌, ◌<◌, ◌≤◌, length};
 ghost use Rattle.patterns.specs.Tests.{blocks};
 ghost use Rattle.block_sim.specs.First.{IsTrueOutcome};
 ghost use Rattle.block_sim.specs.Parts.{HasRoom};
+ghost use Rattle.block_sim.specs.Simulation.{Serves};
 
 use block_sim::{Job, Simulation, Workspace, first_hit};
 use patterns::Outcome;
@@ -43,7 +44,7 @@ impl Simulator for Workspace {
 
 /// The classes of a fan-out-free region together.
 impl Simulator for Simulation {
-    ghost serves = { λ simulation job. simulation.job ≡ job };
+    ghost serves = { λ simulation job. Serves simulation job };
 
     fn outcome_of(&mut self, job: &Job, class: u32, block: u32) -> Outcome {
         self.outcome(job, class, block)

@@ -1,7 +1,8 @@
 //! A run of workers in threads of their own.
 
 ghost use Rattle.std.specs.Prelude.{◌≡◌, ◌⊎◌, ◌<◌, ◌≤◌, All, map, IfOk, IfErr, OnOk};
-ghost use Rattle.block_sim.specs.Parts.{BelongTogether, HasRoom};
+ghost use Rattle.block_sim.specs.Parts.{BelongTogether};
+ghost use Rattle.block_sim.specs.Simulation.{Serves};
 ghost use Rattle.fault_ledger.specs.Answer.{IsLegal};
 ghost use Rattle.fault_ledger.specs.Seats.{newcomer, newcomers};
 ghost use Rattle.workers.specs.Chosen.{AreChosenOf};
@@ -14,7 +15,7 @@ use crate::chosen::Chosen;
 use crate::verdicts::verdicts_of;
 use crate::worker::{Gate, work_over};
 use crate::{RunFault, Verdicts, check_workers};
-use block_sim::{Job, Workspace};
+use block_sim::{Job, Simulation};
 use fault_ledger::{Closed, Finish, Seat, SharedLedger};
 use std::alloc::{AllocError, Global};
 use std::snapshot::Snapshot;
@@ -26,7 +27,7 @@ use std::thread::{Promise, Threads};
 #[derive(Drop)]
 struct Worker {
     seat: Seat,
-    workspace: Workspace,
+    simulation: Simulation,
 }
 
 /// What the thread of a worker borrows: the seat that it gives back is its worker's, and has
@@ -59,15 +60,15 @@ fn serve<G: Gate, C: Chosen>(
     requires chosen { AreChosenOf job.now (C.chosen chosen.now) }
     requires shape { IsShapeOver job.now (C.chosen chosen.now) ledger.now.shape }
     requires new { worker.seat ≡ newcomer ledger.now worker.seat.worker }
-    requires fits { HasRoom worker.workspace job.now }
+    requires fits { Serves worker.simulation job.now }
     ensures { Returns job.now (C.chosen chosen.now) ledger.now worker.seat.worker
         (G.passing gate.now) (G.stops gate.now) result }
 {
     let Worker {
         mut seat,
-        mut workspace,
+        mut simulation,
     } = worker;
-    work_over(job, chosen, ledger, &mut workspace, &mut seat, gate);
+    work_over(job, chosen, ledger, &mut simulation, &mut seat, gate);
     seat
 }
 
@@ -84,7 +85,7 @@ fn in_threads<G: Gate + Sync, C: Chosen + Sync, R: Threads + Wait>(
     requires chosen { AreChosenOf job.now (C.chosen chosen.now) }
     requires shape { IsShapeOver job.now (C.chosen chosen.now) ledger.now.shape }
     requires new { map (λ w. w.seat) workers.items ≡ newcomers ledger.now }
-    requires fits { All (λ w. HasRoom w.workspace job.now) workers.items }
+    requires fits { All (λ w. Serves w.simulation job.now) workers.items }
     ensures back { IfOk result (λ seats.
         AreBack job.now (C.chosen chosen.now) ledger.now (G.passing gate.now) (G.stops gate.now)
         seats.items) }
@@ -98,7 +99,7 @@ fn in_threads<G: Gate + Sync, C: Chosen + Sync, R: Threads + Wait>(
             requires chosen { AreChosenOf job.now (C.chosen chosen.now) }
             requires shape { IsShapeOver job.now (C.chosen chosen.now) ledger.now.shape }
             requires new { map (λ w. w.seat) workers.items ≡ newcomers ledger.now }
-            requires fits { All (λ w. HasRoom w.workspace job.now) workers.items }
+            requires fits { All (λ w. Serves w.simulation job.now) workers.items }
             ensures back { IfOk result (λ seats.
                 AreBack job.entry.now (C.chosen chosen.entry.now) ledger.entry.now
                 (G.passing gate.entry.now) (G.stops gate.entry.now) seats.items) }
@@ -136,12 +137,12 @@ fn in_threads<G: Gate + Sync, C: Chosen + Sync, R: Threads + Wait>(
 /// A worker for each seat, with room of its own.
 fn workers_of(alloc: Global, job: &Job, seats: Vec<Seat>) -> Result<Vec<Worker>, AllocError>
     ensures seats { IfOk result (λ workers. map (λ w. w.seat) workers.items ≡ seats.items) }
-    ensures fits { IfOk result (λ workers. All (λ w. HasRoom w.workspace job.now) workers.items) }
+    ensures fits { IfOk result (λ workers. All (λ w. Serves w.simulation job.now) workers.items) }
 {
     let mut workers = Vec::with_capacity(alloc, seats.len())?;
     for seat in seats {
-        let workspace = Workspace::new(alloc, job)?;
-        workers.push(Worker { seat, workspace })?;
+        let simulation = Simulation::new(alloc, job)?;
+        workers.push(Worker { seat, simulation })?;
     }
     Ok(workers)
 }
@@ -179,7 +180,7 @@ fn share_ledger<C: Chosen>(
 /// stopped workers and not all classes are settled it is [`RunFault::Unfinished`]. The job is
 /// unchanged, and can be run again.
 ///
-/// The ledger, a workspace for each worker and the room of the verdicts are there before the
+/// The ledger, a simulation for each worker and the room of the verdicts are there before the
 /// first claim, and the workers take no memory.
 pub fn run<G: Gate + Sync, R: Threads + Wait>(
     rt: &R,

@@ -5,12 +5,13 @@ use Rattle.fault_ledger.specs.Answer.{IsLegal}
 use Rattle.fault_ledger.specs.Face.{face}
 use Rattle.workers.specs.Schedule.{IsTableOf}
 use Rattle.workers.proofs.Turns.{Done}
+use Rattle.block_sim.specs.Simulation.{Serves}
 use Rattle.workers.proofs.schedule.play.Given as goal
 
 abbrev pub invariant-loop-worker : goal.invariant-loop-worker
 invariant-loop-worker l = record {
   shape : l.ledger.shape ≡ l.fn.ledger.shape;
-  serves : l.simulation.job ≡ l.job;
+  serves : Serves l.simulation l.job;
   done : (table : Table) (h : History) → IsTableOf l.job table → IsLegal l.fn.ledger.shape h → l.fn.ledger ≡ face l.fn.ledger.shape h
       → Done table l.fn.ledger.shape h (take l.worker-index l.moves) l.ledger l.skipped l.changed;
 }

@@ -5,12 +5,13 @@ use Rattle.fault_ledger.specs.Answer.{IsLegal}
 use Rattle.fault_ledger.specs.Face.{face}
 use Rattle.workers.specs.Schedule.{IsTableOf}
 use Rattle.workers.proofs.Turns.{Turned, left_of}
+use Rattle.block_sim.specs.Simulation.{Serves}
 use Rattle.workers.proofs.schedule.take_turns.Given as goal
 
 abbrev pub invariant-turns : goal.invariant-turns
 invariant-turns l = record {
   shape : l.ledger.shape ≡ l.fn.ledger.shape;
-  serves : l.simulation.job ≡ l.job;
+  serves : Serves l.simulation l.job;
   turned : (table : Table) (h : History) → IsTableOf l.job table → IsLegal l.fn.ledger.shape h → l.fn.ledger ≡ face l.fn.ledger.shape h
       → Turned table l.fn.ledger.shape h l.ledger l.skipped;
 }

@@ -1,50 +1,44 @@
-use Rattle.std.proofs.Common.{◌≡◌, ◌<◌, sym, ◌∙◌, ap, subst, length, arith}
+use Rattle.std.proofs.Common.{◌<◌, ◌≤◌, length, subst, sym, arith}
 use Rattle.std.proofs.lemmas.List.{get_or_read}
-use Rattle.block_sim.specs.Changes.{HasRoomFor}
-use Rattle.std.specs.Prelude.{slice_set}
-use Rattle.block_sim.specs.Simulation.{IsOutcomeIn, IsTrueMemo}
+use Rattle.bench_net.specs.Scan.{names}
+use Rattle.block_sim.specs.Simulation.{IsTrueMemo, Serves}
 use Rattle.block_sim.specs.declared.simulation.Memo.TheVariants.{Nothing}
 use Rattle.block_sim.proofs.Moments.{large_enough}
-use Rattle.block_sim.proofs.Simulated.{arrived_outcome, memo_kept, room_at_rest, simulation_with}
+use Rattle.block_sim.proofs.Simulated.{arrived_outcome, memo_kept, room_at_rest}
 use Rattle.block_sim.proofs.simulation.Simulation.outcome.Goals as goal
 
 pub returns-in-Some-clause-outcome : goal.returns-in-Some-clause-outcome
 returns-in-Some-clause-outcome c =
-    let job : c.self.inside.job.value ≡ c.args.job.now = ap (λ v. v.job) c.self.view_is ∙ c.requires.job in
+    let served = subst (λ v. Serves v c.args.job.now) (sym c.self.view_is) c.requires.serves in
     let memos = c.self.inside.memos.items in
-    let low : c.args.class < length memos =
-    (let count = c.self.invariant.outcomes.count in let same = ap (λ p. length p.classes.representative) job in omega (arith, c.requires.class, count, same)) in
+    let low : c.args.class < length memos = (let count = served.outcomes.count in omega (arith, c.requires.class, count)) in
     let is = get_or_read memos _ _ low c.index.ensures Nothing in
-    c.in-Some.ensures c.args.job.now c.args.class (subst (λ p. IsTrueMemo p c.args.class c.index.result.now) job
-    (subst (IsTrueMemo c.self.inside.job.value c.args.class) (sym is) (c.self.invariant.outcomes.each c.args.class)))
+    c.in-Some.ensures c.args.job.now c.args.class (subst (IsTrueMemo c.args.job.now c.args.class) (sym is) (served.outcomes.each c.args.class))
 
 pub follow_alone-requires-clause-room : goal.follow_alone-requires-clause-room
 follow_alone-requires-clause-room c =
-    let job : c.self.inside.job.value ≡ c.args.job.now = ap (λ v. v.job) c.self.view_is ∙ c.requires.job in
-    subst (λ p. HasRoomFor p.circuit c.self.inside.changes) job
-    (room_at_rest c.self.inside.job.value c.self.inside.changes c.self.invariant.together.circuit.well_formed c.self.invariant.rest c.self.invariant.room)
+    let served = subst (λ v. Serves v c.args.job.now) (sym c.self.view_is) c.requires.serves in
+    room_at_rest c.args.job.now c.self.inside.changes c.flat-circuit.ensures.together.circuit.well_formed c.self.invariant served.room
 
 pub find_out_region-seen-requires-clause-room : goal.find_out_region-seen-requires-clause-room
 find_out_region-seen-requires-clause-room c =
-    let job : c.self.inside.job.value ≡ c.args.job.now = ap (λ v. v.job) c.self.view_is ∙ c.requires.job in
+    let served = subst (λ v. Serves v c.args.job.now) (sym c.self.view_is) c.requires.serves in
     large_enough c.args.job.now.circuit c.self.inside.changes c.follow_alone.new.changes
-    (subst (λ p. HasRoomFor p.circuit c.self.inside.changes) job
-    (room_at_rest c.self.inside.job.value c.self.inside.changes c.self.invariant.together.circuit.well_formed c.self.invariant.rest c.self.invariant.room)) c.follow_alone.ensures.room
+    (room_at_rest c.args.job.now c.self.inside.changes c.flat-circuit.ensures.together.circuit.well_formed c.self.invariant served.room) c.follow_alone.ensures.room
 
 pub returns-in-Stem-clause-outcome : goal.returns-in-Stem-clause-outcome
 returns-in-Stem-clause-outcome c =
     arrived_outcome c.args.job.now c.args.block c.in-Stem.at.signal c.args.class c.in-Stem.at.lanes c.find_out_region-seen.result
     c.least_lane.result c.in-Stem.ensures.approach.1 c.find_out_region-seen.ensures.told c.least_lane.ensures
 
-pub invariant_of-self : goal.invariant_of-self
-invariant_of-self c =
-    let own = c.self.inside.job.value in
-    let job : own ≡ c.args.job.now = ap (λ v. v.job) c.self.view_is ∙ c.requires.job in
-    let before = c.self.invariant.outcomes in
+pub returns-in-Known-clause-serves : goal.returns-in-Known-clause-serves
+returns-in-Known-clause-serves c =
+    let job = c.args.job.now in
+    let served = subst (λ v. Serves v c.args.job.now) (sym c.self.view_is) c.requires.serves in
     let low : c.args.class < length c.self.inside.memos.items =
-    (let count = before.count in let same = ap (λ p. length p.classes.representative) job in omega (arith, c.requires.class, count, same)) in
-    let truth : IsOutcomeIn own c.args.class c.args.block c.in-Known.outcome =
-    subst (λ p. IsOutcomeIn p c.args.class c.args.block c.in-Known.outcome) (sym job) c.in-Known.ensures.approach in
-    simulation_with own c.self.inside.changes c.follow_alone.new.changes c.self.inside.memos.items
-    (slice_set c.self.inside.memos.items c.args.class c.of.result) _ c.self.invariant c.follow_alone.ensures.room c.follow_alone.ensures.clear
-    (memo_kept own c.self.inside.memos.items c.args.class c.of.result before low (c.of.ensures own c.args.class truth))
+    (let count = served.outcomes.count in omega (arith, c.requires.class, count)) in
+    record {
+      room = subst (λ n. length (names job.circuit) ≤ n) (sym c.follow_alone.ensures.room.overlay) served.room;
+      outcomes = memo_kept job c.self.inside.memos.items c.args.class c.of.result served.outcomes low (c.of.ensures job c.args.class c.in-Known.ensures.approach);
+      followed = served.followed;
+    }

@@ -2,9 +2,9 @@ use Rattle.std.proofs.Common.{rules, arith, below_more, ◌≡◌, ◌<◌, ◌+
 use Rattle.std.specs.Vec.Iter.{into_iter_items, into_iter_len}
 use Rattle.std.proofs.lemmas.Option.{get_or_from_slice_get, slice_get_within}
 use Rattle.std.proofs.iter.Serving.{serving}
-use Rattle.block_sim.specs.Parts.{HasRoom}
+use Rattle.block_sim.specs.Simulation.{Serves}
 use Rattle.fault_ledger.specs.Seats.{newcomer}
-use Rattle.workers.proofs.Crew.{workers_count, seat_at, room_at, own_newcomer, returns_along}
+use Rattle.workers.proofs.Crew.{workers_count, seat_at, serves_at, own_newcomer, returns_along}
 use Rattle.workers.proofs.threads.fn.in_threads.scope.Goals as goal
 
 pub loop-worker-init : goal.loop-worker-init
@@ -20,7 +20,7 @@ loop-worker-init g c =
           let n : vec_len c.in_ok-handles.handles + k ≡ k = omega (arith, none) in
           let same = ap (λ l. get_or l k d) began.0 in (
             ap (λ x. x.seat) same ∙ seat_at c.captures.workers.items c.captures.ledger.now k d c.requires.new within ∙ ap (newcomer c.captures.ledger.now) (sym n),
-            subst (λ x. HasRoom x.workspace c.captures.job.now) (sym same) (room_at c.captures.workers.items c.captures.job.now k d c.requires.fits within),
+            subst (λ x. Serves x.simulation c.captures.job.now) (sym same) (serves_at c.captures.workers.items c.captures.job.now k d c.requires.fits within),
           );
       each = λ k d lt. absurd (omega (arith, lt, none));
     }
@@ -43,7 +43,7 @@ loop-worker-preserved g c =
           let h = was.left (suc k) d (omega (arith, lt, step.1)) in
           let n : done + suc k ≡ vec_len c.push.new.self + k = omega (arith, grown) in
           let same = ap (λ l. get_or l (suc k) d) step.0 in
-          (ap (λ x. x.seat) (sym same) ∙ h.0 ∙ ap (newcomer ledger) n, subst (λ x. HasRoom x.workspace job) same h.1);
+          (ap (λ x. x.seat) (sym same) ∙ h.0 ∙ ap (newcomer ledger) n, subst (λ x. Serves x.simulation job) same h.1);
       each = λ k d lt.
           below_more (λ i. let p = (get_or (vec_items c.push.new.self) i d).promise in (p.job.value ≡ job) × (p.ledger.value ≡ ledger) × (p.gate.value ≡ gate) × (p.worker ≡ i) × (p.chosen.value ≡ chosen)) done
           (λ i low. subst (λ x. (x.promise.job.value ≡ job) × (x.promise.ledger.value ≡ ledger) × (x.promise.gate.value ≡ gate) × (x.promise.worker ≡ i) × (x.promise.chosen.value ≡ chosen)) (sym (by.0 i d low)) (was.each i d low))
@@ -65,7 +65,7 @@ spawn_with-requires-clause-runs g c κs within =
     let h = c.loop-worker.invariant.left 0 c.in-Some.worker some in
     let new : c.in-Some.worker.seat ≡ newcomer c.captures.ledger.now c.in-Some.worker.seat.worker =
     own_newcomer c.captures.ledger.now (vec_len c.loop-worker.handles + 0) c.in-Some.worker.seat (ap (λ x. x.seat) next ∙ h.0) in
-    let room : HasRoom c.in-Some.worker.workspace c.captures.job.now = subst (λ x. HasRoom x.workspace c.captures.job.now) (sym next) h.1 in
+    let room : Serves c.in-Some.worker.simulation c.captures.job.now = subst (λ x. Serves x.simulation c.captures.job.now) (sym next) h.1 in
     grind serving
 
 pub returns : goal.returns
