@@ -165,6 +165,45 @@ impl<C: Clock> Gate for Roll<'_, C> {
     }
 }
 
+/// A gate that lets two workers pass two by two: each waits until both have a piece. So of two
+/// pieces that a worker claims one after the other there are mostly others between.
+#[derive(Drop)]
+pub(crate) struct TwoByTwo<'a, C> {
+    clock: &'a C,
+    called: AtomicU64,
+}
+
+impl<'a, C: Clock> TwoByTwo<'a, C> {
+    pub(crate) fn new(clock: &'a C) -> TwoByTwo<'a, C> {
+        TwoByTwo {
+            clock,
+            called: AtomicU64::new(0),
+        }
+    }
+}
+
+impl<C: Clock> Gate for TwoByTwo<'_, C> {
+    ghost passing = { λ _. ⊥ };
+
+    ghost stops = { λ _ _ _ _. Unit {0} };
+
+    fn pass(&self, _worker: u32, _class: u32, _block: u32) -> bool {
+        let before = self.called.fetch_add(1, Ordering::SeqCst);
+        both_came(self.clock, &self.called, before / 2 * 2)
+    }
+}
+
+/// Waits until two more have been counted than so many, and says whether they have.
+fn both_came<C: Clock>(clock: &C, count: &AtomicU64, before: u64) -> bool {
+    for _ in 0..TURNS {
+        if count.load(Ordering::SeqCst).wrapping_sub(before) >= 2 {
+            return true;
+        }
+        thread::sleep(clock, Duration::from_millis(1));
+    }
+    false
+}
+
 /// Waits until a word has the value that it is to have, and says whether it has.
 fn came<C: Clock>(clock: &C, word: &AtomicU64, wanted: u64) -> bool {
     for _ in 0..TURNS {

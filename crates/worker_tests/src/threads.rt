@@ -4,7 +4,7 @@ ghost use Rattle.std.specs.Prelude.{◌≡◌, ◌<◌, All, IfOk, length};
 ghost use Rattle.workers.specs.Settling.{IsShapeOf};
 
 use crate::fixtures::{BUFFER, C17, C17_FIRSTS, WIRE, check, job_of};
-use crate::gates::{Counter, Meeting, Roll, Shut, ShutFor, ShutForTwo};
+use crate::gates::{Counter, Meeting, Roll, Shut, ShutFor, ShutForTwo, TwoByTwo};
 use block_sim::{Job, Workspace};
 use fault_ledger::{Finish, Seat, SharedLedger};
 use fault_model::Model;
@@ -195,6 +195,26 @@ fn check_roll<R: Threads + Wait + Abort + Clock + Sync>(
 fn four_workers_come_to_the_gate(rt: HostRuntime) -> Result<(), Fail> {
     let job = job_of(rt.alloc(), Model::StuckAt, BUFFER, &[("0", 64), ("1", 1)])?;
     check_roll(&rt, rt.alloc(), &job)
+}
+
+/// Checks a run in which worker 1 surely rests.
+///
+/// The workers hold pieces two by two, so of two claims of a worker one at most comes right after
+/// the other, and nearly all pieces take no evaluation: class 0 is dropped behind its hit, and
+/// class 1 takes two. In 200 rounds worker 1 owes far more than what makes it rest.
+fn check_rests<R: Threads + Wait + Abort + Clock + Sync>(
+    rt: &R,
+    alloc: Global,
+    job: &Job,
+) -> Result<(), Fail> {
+    let gate = TwoByTwo::new(rt);
+    check_run(rt, alloc, job, 2, &gate, &[Some(0), None, Some(0), None])
+}
+
+#[test]
+fn a_worker_that_rests_goes_on(rt: HostRuntime) -> Result<(), Fail> {
+    let job = job_of(rt.alloc(), Model::StuckAt, BUFFER, &[("1", 12_800)])?;
+    check_rests(&rt, rt.alloc(), &job)
 }
 
 /// Checks the number of pieces that a run of one worker skips.

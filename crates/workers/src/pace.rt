@@ -1,5 +1,7 @@
 //! The pace of a worker, who rests where pieces are smaller than what claims cost.
 
+ghost use Rattle.std.specs.Prelude.{◌≡◌, ◌≤◌};
+
 use std::hint::spin_loop;
 
 /// What a claim and a change of its piece cost where other workers claim too, in evaluations of a
@@ -38,7 +40,9 @@ pub(crate) struct Pace {
 
 impl Pace {
     /// The pace of a worker that has not claimed, at a ledger of so many classes.
-    pub(crate) fn of(worker: u32, classes: u32, evaluations: u64) -> Pace {
+    pub(crate) fn of(worker: u32, classes: u32, evaluations: u64) -> Pace
+        ensures first { worker ≡ 0 → result.pauses ≡ 0 }
+    {
         Pace {
             pauses: PAUSES * worker.min(LONGEST),
             classes,
@@ -50,7 +54,9 @@ impl Pace {
 
     /// Takes account of a finished piece and of all evaluations that the worker has made, and rests
     /// where the worker owes much.
-    pub(crate) fn after_piece(&mut self, class: u32, block: u32, evaluations: u64) {
+    pub(crate) fn after_piece(&mut self, class: u32, block: u32, evaluations: u64)
+        ensures rest { self.new.pauses ≡ self.old.pauses }
+    {
         let piece = u64::from(self.classes) * u64::from(block) + u64::from(class);
         let is_alone = piece == self.last.wrapping_add(1);
         self.last = piece;
@@ -62,14 +68,20 @@ impl Pace {
         self.owed = self.owed.saturating_add(price).saturating_sub(paid);
         if self.owed >= LIMIT {
             self.owed -= RESTED;
-            rest(self.pauses);
+            let _paused = rest(self.pauses.min(PAUSES * LONGEST));
         }
     }
 }
 
-/// Lets a processor pause so many times.
-fn rest(pauses: u32) {
-    for _ in 0..pauses {
+/// Lets a processor pause so many times, and counts them.
+fn rest(pauses: u32) -> u32
+    requires { pauses ≤ 8000 }
+    ensures { result ≡ pauses }
+{
+    let mut paused = 0;
+    for before in 0..pauses {
         spin_loop();
+        paused = before + 1;
     }
+    paused
 }

@@ -3,7 +3,8 @@ use Rattle.workers.specs.Work.{stops_over}
 use Rattle.fault_ledger.specs.declared.Event.{Event}
 use Rattle.fault_ledger.specs.declared.Reply.TheVariants.{Claimed}
 use Rattle.fault_ledger.specs.Seats.{Makes, Place}
-use Rattle.workers.proofs.Works.{claimed, exhausted, fewer, stopped_holding, works_twice, settled_works, sees_works}
+use Rattle.fault_ledger.specs.History.{block_count}
+use Rattle.workers.proofs.Works.{claimed, exhausted, fewer, given, stopped_holding, works_twice, settled_works, sees_works}
 use Rattle.fault_ledger.proofs.Public.{held_sees, sees_kept}
 use Rattle.fault_ledger.specs.Settled.{IsSettledAt}
 use Rattle.workers.proofs.worker.work_over.Goals as goal
@@ -22,6 +23,16 @@ returns-then-not-pass-clause-ends g c =
     stopped_holding (stops_over over (g.G.Gate.stops c.args.gate.now)) c.claims.seat c.claim.new.seat c.in-Ok-Piece.class c.in-Ok-Piece.block n
     (subst (λ w. g.G.Gate.stops c.args.gate.now w (over.class_at c.in-Ok-Piece.class) c.in-Ok-Piece.block) c.worker-worker.ensures.worker
     (subst (λ k. g.G.Gate.stops c.args.gate.now c.worker-worker.result k c.in-Ok-Piece.block) c.class_at.ensures (c.pass.ensures.stopped c.if-not-pass.true)))
+
+pub finish_piece-reported-requires-clause-range : goal.finish_piece-reported-requires-clause-range
+finish_piece-reported-requires-clause-range g c =
+    let class = c.in-Ok-Piece.class in
+    let block = c.in-Ok-Piece.block in
+    let m = c.in-Ok-Piece.ensures.piece class block (ap Ok c.in-Ok-Piece.field-0-is) in
+    let n = subst (λ x. Makes c.claims.seat (Event.Claim c.claims.seat.worker) (Claimed x) c.claim.new.seat) c.in-Ok-Piece.field-0-is m.1 in
+    let r = given c.claims.seat c.claim.new.seat class block n in
+    let place = c.claims.invariant.works.place ∙ c.requires.place in
+    (subst (λ (p : Place). class < p.shape.classes) place r.1, subst (λ (p : Place). block < block_count p.shape) place r.2)
 
 pub lowest_waiting-lowest-requires-clause-settled : goal.lowest_waiting-lowest-requires-clause-settled
 lowest_waiting-lowest-requires-clause-settled g c =
