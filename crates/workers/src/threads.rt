@@ -182,6 +182,7 @@ fn share_ledger<C: Chosen>(
 ///
 /// The ledger, a simulation for each worker and the room of the verdicts are there before the
 /// first claim, and the workers take no memory.
+/// They rest between pieces as [`crate::work`] does.
 pub fn run<G: Gate + Sync, R: Threads + Wait>(
     rt: &R,
     alloc: Global,

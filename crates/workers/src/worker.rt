@@ -108,6 +108,10 @@ fn lowest_waiting(ledger: &SharedLedger, seat: &mut Seat, classes: u32, from: u3
 
 /// One worker of a run: claims pieces until all are claimed, the gate stops it, or every class is
 /// settled.
+///
+/// Where others claim too and pieces take little work, a worker rests between two pieces, and holds
+/// none meanwhile: it spins for 1,000 pauses of the processor times its number, at most 8,000, some
+/// 400 microseconds. Worker 0 never rests.
 pub fn work<G: Gate>(
     job: &Job,
     ledger: &SharedLedger,
