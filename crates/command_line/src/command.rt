@@ -8,7 +8,9 @@ use crate::status::{DONE, Fault, MISUSED, NO_MEMORY, UNWRITTEN, answer_fault};
 use clap::error::ErrorKind;
 use clap::{ArgMatches, Error};
 use fault_model::Model;
-use report::{Formatted, Out, faults_text_in, schedule_text_in, simulate_text_in};
+use report::{
+    Formatted, Out, faults_text_in, schedule_text_in, simulate_text_in, simulate_text_in_parts,
+};
 use std::alloc::{AllocError, Global};
 use std::fmt::Write;
 use std::sync::Wait;
@@ -169,7 +171,16 @@ fn do_run<'a, R: Threads + Wait, S: Source, W: Out>(
     } = read_settings(matches)?;
     let bench = read_option(alloc, matches, "bench", files)?;
     let tests = read_option(alloc, matches, "tests", files)?;
-    match simulate_text_in(rt, alloc, model, &bench, &tests, workers, list, out) {
+    let done = match matches.get_one::<u32>("parts") {
+        None => simulate_text_in(rt, alloc, model, &bench, &tests, workers, list, out),
+        Some(parts) => {
+            if parts == 0 {
+                return Err(Fault::Misused("--parts"));
+            }
+            simulate_text_in_parts(rt, alloc, model, &bench, &tests, parts, workers, list, out)
+        }
+    };
+    match done {
         Ok(()) => Ok(()),
         Err(fault) => Err(Fault::Sim(fault)),
     }

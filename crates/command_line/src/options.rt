@@ -5,6 +5,9 @@ use fault_model::Model;
 use report::MAX_WORKERS;
 use std::alloc::{AllocError, Global};
 
+/// The greatest number of parts of a run.
+const MAX_PARTS: i64 = 65_536;
+
 /// What `--version` tells.
 const VERSION: &str = "0.2.0";
 
@@ -73,15 +76,17 @@ enum Choice {
     Order,
     Model,
     Workers,
+    Parts,
     List,
 }
 
 /// The options of `run`.
-static RUN_CHOICES: [Choice; 5] = [
+static RUN_CHOICES: [Choice; 6] = [
     Choice::Bench,
     Choice::Tests,
     Choice::Model,
     Choice::Workers,
+    Choice::Parts,
     Choice::List,
 ];
 
@@ -223,6 +228,15 @@ fn workers_option<'a>(alloc: Global, help: &'a str) -> Arg<'a> {
         .help(help)
 }
 
+/// The option `--parts N`.
+fn parts_option<'a>(alloc: Global) -> Arg<'a> {
+    Arg::new(alloc, "parts")
+        .long("parts")
+        .value_name("N")
+        .value_parser(value_parser!(u32).range(1..=MAX_PARTS))
+        .help("Run the fault classes in parts, one after another, 1 to 65536")
+}
+
 /// What is said of the option `--workers N`.
 pub(crate) fn workers_help(alloc: Global) -> Result<String, AllocError> {
     format!(in alloc; "How many workers share the run, 1 to {MAX_WORKERS}")
@@ -252,6 +266,7 @@ fn option<'a>(alloc: Global, choice: Choice, workers: &'a str) -> Arg<'a> {
         ),
         Choice::Model => model_option(alloc),
         Choice::Workers => workers_option(alloc, workers),
+        Choice::Parts => parts_option(alloc),
         Choice::List => list_flag(alloc),
     }
 }

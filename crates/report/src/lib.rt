@@ -14,6 +14,6 @@ pub use output::{Formatted, Out, OutFailed, Plain};
 pub use report::{ReportFault, write_listing, write_report};
 pub use text::{
     SimFault, faults_text, faults_text_in, job_of, listing_bytes, report_bytes, schedule_text,
-    schedule_text_in, simulate_text, simulate_text_in,
+    schedule_text_in, simulate_text, simulate_text_in, simulate_text_in_parts,
 };
 pub use workers::{MAX_WORKERS, RunFault};
