@@ -12,9 +12,9 @@ const BUFFER_PART: &str = "\
     part 1 of 1 model stuck rule class \
     bench dadfe99a35e42a5e6328afad078dcfd2990725814c7801000cc80af3843e0f15 \
     tests 4355a46b19d348dc2f57c046f8ef63d4538ebb936000f3c9ee954a27460dd865\n\
-    stem a sa0 1\n\
+    stem a sa0 0\n\
     stem a sa1 none\n\
-    stem z sa0 1\n\
+    stem z sa0 0\n\
     stem z sa1 none\n\
     part 1 of 1: 2 of 4\n\
     ";
