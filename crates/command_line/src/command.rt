@@ -1,14 +1,18 @@
 //! Commands: what the words ask for is done.
 
-ghost use Rattle.std.specs.Prelude.{◌≤◌};
+ghost use Rattle.std.specs.Prelude.{◌≤◌, IfOk, IfSome};
+ghost use Rattle.command_line.specs.Split.{HasParts};
 
-use crate::options::{Task, command_line, model_named, workers_help};
+use crate::options::{MAX_PARTS, Task, command_line, model_named, workers_help};
 use crate::source::{Source, SourceFault};
 use crate::status::{DONE, Fault, MISUSED, NO_MEMORY, UNWRITTEN, answer_fault};
 use clap::error::ErrorKind;
 use clap::{ArgMatches, Error};
 use fault_model::Model;
-use report::{Formatted, Out, faults_text_in, schedule_text_in, simulate_text_in};
+use report::{
+    Formatted, Out, faults_text_in, part_text_in, schedule_text_in, simulate_text_in,
+    simulate_text_in_parts,
+};
 use std::alloc::{AllocError, Global};
 use std::fmt::Write;
 use std::sync::Wait;
@@ -154,6 +158,46 @@ fn read_settings<'a>(matches: &ArgMatches<'a>) -> Result<Settings, Fault<'a>> {
     })
 }
 
+/// How `run` shares the classes out.
+#[derive(Clone, Copy)]
+enum Split {
+    Whole,
+    /// In so many parts, one after another.
+    Parts(u32),
+    /// One part alone, counted from 0.
+    Part { part: u32, parts: u32 },
+}
+
+/// How the command line shares the classes out.
+fn read_split<'a>(matches: &ArgMatches<'a>) -> Result<Split, Fault<'a>>
+    ensures { IfOk result HasParts }
+{
+    let parts = matches.get_one::<u32>("parts");
+    let part = matches.get_str("part");
+    match (parts, part) {
+        (None, None) => Ok(Split::Whole),
+        (Some(parts), None) if parts > 0 => Ok(Split::Parts(parts)),
+        (None, Some(text)) => read_part(text).ok_or(Fault::Misused("--part")),
+        _ => Err(Fault::Misused("--parts")),
+    }
+}
+
+/// The part that a text `I/N` names, I from 1.
+fn read_part(text: &str) -> Option<Split>
+    ensures { IfSome result HasParts }
+{
+    let (part, parts) = text.split_once('/')?;
+    let number = part.parse::<u32>().ok()?;
+    let parts = parts.parse::<u32>().ok()?;
+    if number == 0 || number > parts || parts > MAX_PARTS {
+        return None;
+    }
+    Some(Split::Part {
+        part: number - 1,
+        parts,
+    })
+}
+
 /// `run`: both files are read before either text is looked at.
 fn do_run<'a, R: Threads + Wait, S: Source, W: Out>(
     rt: &R,
@@ -167,9 +211,19 @@ fn do_run<'a, R: Threads + Wait, S: Source, W: Out>(
         workers,
         list,
     } = read_settings(matches)?;
+    let split = read_split(matches)?;
     let bench = read_option(alloc, matches, "bench", files)?;
     let tests = read_option(alloc, matches, "tests", files)?;
-    match simulate_text_in(rt, alloc, model, &bench, &tests, workers, list, out) {
+    let done = match split {
+        Split::Whole => simulate_text_in(rt, alloc, model, &bench, &tests, workers, list, out),
+        Split::Parts(parts) => {
+            simulate_text_in_parts(rt, alloc, model, &bench, &tests, parts, workers, list, out)
+        }
+        Split::Part { part, parts } => {
+            part_text_in(rt, alloc, model, &bench, &tests, part, parts, workers, out)
+        }
+    };
+    match done {
         Ok(()) => Ok(()),
         Err(fault) => Err(Fault::Sim(fault)),
     }

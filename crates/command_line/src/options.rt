@@ -5,6 +5,9 @@ use fault_model::Model;
 use report::MAX_WORKERS;
 use std::alloc::{AllocError, Global};
 
+/// The greatest number of parts of a run.
+pub(crate) const MAX_PARTS: u32 = 65_536;
+
 /// What `--version` tells.
 const VERSION: &str = "0.2.0";
 
@@ -73,15 +76,19 @@ enum Choice {
     Order,
     Model,
     Workers,
+    Parts,
+    Part,
     List,
 }
 
 /// The options of `run`.
-static RUN_CHOICES: [Choice; 5] = [
+static RUN_CHOICES: [Choice; 7] = [
     Choice::Bench,
     Choice::Tests,
     Choice::Model,
     Choice::Workers,
+    Choice::Parts,
+    Choice::Part,
     Choice::List,
 ];
 
@@ -223,6 +230,23 @@ fn workers_option<'a>(alloc: Global, help: &'a str) -> Arg<'a> {
         .help(help)
 }
 
+/// The option `--parts N`.
+fn parts_option<'a>(alloc: Global) -> Arg<'a> {
+    Arg::new(alloc, "parts")
+        .long("parts")
+        .value_name("N")
+        .value_parser(value_parser!(u32).range(1..=i64::from(MAX_PARTS)))
+        .help("Run the fault classes in parts, one after another, 1 to 65536")
+}
+
+/// The option `--part I/N`.
+fn part_option<'a>(alloc: Global) -> Arg<'a> {
+    Arg::new(alloc, "part")
+        .long("part")
+        .value_name("I/N")
+        .help("Run part I of N alone, from 1, and write its part text")
+}
+
 /// What is said of the option `--workers N`.
 pub(crate) fn workers_help(alloc: Global) -> Result<String, AllocError> {
     format!(in alloc; "How many workers share the run, 1 to {MAX_WORKERS}")
@@ -252,6 +276,8 @@ fn option<'a>(alloc: Global, choice: Choice, workers: &'a str) -> Arg<'a> {
         ),
         Choice::Model => model_option(alloc),
         Choice::Workers => workers_option(alloc, workers),
+        Choice::Parts => parts_option(alloc),
+        Choice::Part => part_option(alloc),
         Choice::List => list_flag(alloc),
     }
 }

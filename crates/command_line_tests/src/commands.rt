@@ -35,22 +35,32 @@ fn is_right<R: AllocGlobal + Threads + Wait>(
     answers(rt, line, files, wanted)
 }
 
-/// Whether a case comes out with a number of workers.
+/// Whether a case comes out with options more.
 fn comes_out_by<R: AllocGlobal + Threads + Wait>(
     rt: &R,
     case: &Case,
-    workers: &str,
+    options: &str,
 ) -> Result<bool, AllocError> {
-    let line = format!(in rt.alloc(); "{} --workers {workers}", case.line)?;
+    let line = format!(in rt.alloc(); "{} {options}", case.line)?;
     is_right(rt, &line, case)
 }
 
-/// Whether a case comes out, a run also with 1, 2 and 64 workers.
+/// Options that have no effect on what a run answers.
+static SAME: [&str; 6] = [
+    "--workers 1",
+    "--workers 2",
+    "--workers 64",
+    "--parts 1",
+    "--parts 3 --workers 1",
+    "--parts 65",
+];
+
+/// Whether a case comes out, a run also with other numbers of workers, and in parts.
 fn comes_out<R: AllocGlobal + Threads + Wait>(rt: &R, case: &Case) -> Result<bool, AllocError> {
     let mut right = is_right(rt, case.line, case)?;
     if case.line.contains(" run ") {
-        for workers in ["1", "2", "64"] {
-            right &= comes_out_by(rt, case, workers)?;
+        for options in &SAME {
+            right &= comes_out_by(rt, case, options)?;
         }
     }
     Ok(right)

@@ -10,6 +10,8 @@ mod limits;
 #[cfg(test)]
 mod outputs;
 #[cfg(test)]
+mod parts;
+#[cfg(test)]
 mod process;
 #[cfg(test)]
 mod screen;

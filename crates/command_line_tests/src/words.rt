@@ -10,7 +10,7 @@ pub static MISSING: [&str; 5] = [
 ];
 
 /// Command lines that the program refuses, and what it says of each.
-pub static MISUSED: [(&str, &str); 18] = [
+pub static MISUSED: [(&str, &str); 28] = [
     ("faultsim", "Usage"),
     ("faultsim simulate", "simulate"),
     ("faultsim run --bench bench", "--tests <FILE>"),
@@ -62,12 +62,52 @@ pub static MISUSED: [(&str, &str); 18] = [
         "faultsim run --bench bench --tests tests --workers",
         "--workers",
     ),
+    (
+        "faultsim run --bench bench --tests tests --parts 0",
+        "'--parts <N>': 0 is not in 1..=65536",
+    ),
+    (
+        "faultsim run --bench bench --tests tests --parts 65537",
+        "'--parts <N>': 65537 is not in 1..=65536",
+    ),
+    (
+        "faultsim run --bench bench --tests tests --parts 1/2",
+        "'1/2' for '--parts <N>'",
+    ),
+    (
+        "faultsim run --bench bench --tests tests --part 0/2",
+        "cannot use --part\n",
+    ),
+    (
+        "faultsim run --bench bench --tests tests --part 3/2",
+        "cannot use --part\n",
+    ),
+    (
+        "faultsim run --bench bench --tests tests --part 2",
+        "cannot use --part\n",
+    ),
+    (
+        "faultsim run --bench bench --tests tests --part 1/65537",
+        "cannot use --part\n",
+    ),
+    (
+        "faultsim run --bench bench --tests none --part 1/x",
+        "cannot use --part\n",
+    ),
+    (
+        "faultsim run --bench bench --tests tests --parts 2 --part 1/2",
+        "cannot use --parts\n",
+    ),
+    (
+        "faultsim schedule --bench bench --tests tests --order order --parts 2",
+        "--parts",
+    ),
 ];
 
 /// What help tells: the version, each option with the name of its value, the defaults, the range of
 /// the workers, a worked example and the status. The outputs of the examples are cases of their
 /// own.
-pub static HELP: [(&str, &str); 18] = [
+pub static HELP: [(&str, &str); 21] = [
     ("faultsim --version", "faultsim 0.2.0\n"),
     ("faultsim --help", "6 of 6 (100.00%)"),
     ("faultsim help run", "--bench <FILE>"),
@@ -79,6 +119,9 @@ pub static HELP: [(&str, &str); 18] = [
     ("faultsim run --help", "--workers <N>"),
     ("faultsim run --help", "1 to 64"),
     ("faultsim run --help", "[default: 4]"),
+    ("faultsim run --help", "--parts <N>"),
+    ("faultsim run --help", "1 to 65536"),
+    ("faultsim run --help", "--part <I/N>"),
     ("faultsim run --help", "--list"),
     ("faultsim run --help", "stem b sa0 3\n    stem b sa1 2\n"),
     ("faultsim run -h", "/dev/stdin"),

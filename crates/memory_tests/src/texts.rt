@@ -7,7 +7,7 @@ use crate::sweep::{Outcome, Trial, answered, refused, sweep};
 use fault_model::Model;
 use report::{
     Out, OutFailed, RunFault, SimFault, faults_text, listing_bytes, report_bytes, schedule_text,
-    simulate_text,
+    simulate_text, simulate_text_in_parts,
 };
 use std::alloc::Global;
 use std::process::Abort;
@@ -60,6 +60,7 @@ impl Out for Screen {
 #[derive(Clone, Copy, Debug)]
 pub(crate) enum TextCall {
     Simulate,
+    InParts,
     Schedule,
     Faults,
 }
@@ -67,7 +68,7 @@ pub(crate) enum TextCall {
 /// What a text call on C17 writes, of its report and its listing.
 pub(crate) fn text_of<'a>(call: TextCall, report: &'a [u8], listing: &'a [u8]) -> &'a [u8] {
     match call {
-        TextCall::Simulate | TextCall::Schedule => report,
+        TextCall::Simulate | TextCall::InParts | TextCall::Schedule => report,
         TextCall::Faults => listing,
     }
 }
@@ -85,6 +86,10 @@ impl<R: Threads + Wait> Written<'_, R> {
     fn write(&self, alloc: Global, screen: &mut Screen) -> Result<(), SimFault> {
         match self.call {
             TextCall::Simulate => simulate_text(self.rt, alloc, C17, self.tests, 2, true, screen),
+            TextCall::InParts => {
+                let model = Model::StuckAt;
+                simulate_text_in_parts(self.rt, alloc, model, C17, self.tests, 3, 2, true, screen)
+            }
             TextCall::Schedule => schedule_text(alloc, C17, self.tests, ORDER, 2, true, screen),
             TextCall::Faults => faults_text(alloc, C17, screen),
         }
@@ -93,7 +98,9 @@ impl<R: Threads + Wait> Written<'_, R> {
     /// Whether the call may be refused so: for want of memory, and of a thread where it starts some.
     fn is_want(&self, fault: SimFault) -> bool {
         match self.call {
-            TextCall::Simulate => is_want(fault) || fault == SimFault::Run(RunFault::Threads),
+            TextCall::Simulate | TextCall::InParts => {
+                is_want(fault) || fault == SimFault::Run(RunFault::Threads)
+            }
             TextCall::Schedule | TextCall::Faults => is_want(fault),
         }
     }
@@ -103,6 +110,7 @@ impl<R: Threads + Wait> Trial for Written<'_, R> {
     fn name(&self) -> &str {
         match self.call {
             TextCall::Simulate => "simulate_text",
+            TextCall::InParts => "simulate_text_in_parts",
             TextCall::Schedule => "schedule_text",
             TextCall::Faults => "faults_text",
         }
@@ -125,7 +133,12 @@ fn sweep_texts<R: Threads + Wait + Abort>(
     report: &[u8],
     listing: &[u8],
 ) -> Result<(), Fail> {
-    for call in [TextCall::Simulate, TextCall::Schedule, TextCall::Faults] {
+    for call in [
+        TextCall::Simulate,
+        TextCall::InParts,
+        TextCall::Schedule,
+        TextCall::Faults,
+    ] {
         let text = text_of(call, report, listing);
         let written = Written {
             rt,

@@ -4,3 +4,4 @@ pub mod Texts
 pub mod Lines
 pub mod Accepted
 pub mod Runs
+pub mod PartTexts

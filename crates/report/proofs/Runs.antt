@@ -1,6 +1,6 @@
 -- From the report of a job to that of the texts that the job was read from.
-use Rattle.std.proofs.Common.{◌≡◌, ◌∙◌, ℕ, ap, subst, List, Bool}
-use Rattle.std.specs.Prelude.{Option, Result, Ok, Err, IfErr}
+use Rattle.std.proofs.Common.{◌∙◌, ℕ, ap, subst, List, Bool}
+use Rattle.std.specs.Prelude.{Result, Ok, Err, IfErr}
 use Rattle.fault_model.specs.declared.Model.{Model}
 use Rattle.patterns.specs.Order.{HasMoves}
 use Rattle.block_sim.specs.Parts.{Parts}

@@ -7,13 +7,15 @@
 //! to an [`Out`], and their contracts say which bytes.
 #![tactic(auto)]
 
+mod part;
 mod report;
 mod text;
 
 pub use output::{Formatted, Out, OutFailed, Plain};
+pub use part::part_text_in;
 pub use report::{ReportFault, write_listing, write_report};
 pub use text::{
     SimFault, faults_text, faults_text_in, job_of, listing_bytes, report_bytes, schedule_text,
-    schedule_text_in, simulate_text, simulate_text_in,
+    schedule_text_in, simulate_text, simulate_text_in, simulate_text_in_parts,
 };
 pub use workers::{MAX_WORKERS, RunFault};

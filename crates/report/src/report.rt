@@ -133,7 +133,7 @@ fn put_coverage<W: Out>(detected: u32, total: u32, out: &mut W) -> Result<(), Ou
 }
 
 /// Writes a line of the report or of the listing: a fault, and what is said of it.
-fn put_fault_line<'a, W: Out>(
+pub(crate) fn put_fault_line<'a, W: Out>(
     circuit: &Circuit,
     list: &Faults,
     fault: u32,
@@ -153,7 +153,7 @@ fn put_fault_line<'a, W: Out>(
 
 /// Writes the line of the report for a fault: the fault, and the first test that detects it or
 /// `none`.
-fn put_first_line<W: Out>(
+pub(crate) fn put_first_line<W: Out>(
     circuit: &Circuit,
     list: &Faults,
     fault: u32,

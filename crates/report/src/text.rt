@@ -1,11 +1,14 @@
 //! From the bytes of texts to the bytes of the report or the listing.
 
-ghost use Rattle.std.specs.Prelude.{◌≢◌, ◌<◌, ◌≤◌, length, Err, IfOk, IfErr, OnOk};
+ghost use Rattle.std.specs.Prelude.{◌≢◌, ◌<◌, ◌≤◌, ⊤, length, Err, IfOk, IfErr, OnOk};
 ghost use Rattle.bench_net.specs.Refusal.{IsAccepted};
 ghost use Rattle.bench_net.specs.Scan.{sources};
 ghost use Rattle.fault_model.specs.declared.Model.TheVariants as model;
 ghost use Rattle.patterns.specs.Tests.{HasTests, max_pieces};
 ghost use Rattle.block_sim.specs.Parts.{BelongTogether, piece_count};
+ghost use Rattle.workers.specs.Refused.{IsRunFault};
+ghost use Rattle.workers.specs.Verdict.{AreFirsts};
+ghost use Rattle.report.specs.Split.{HasParts};
 ghost use Rattle.report.specs.EndToEnd.{WritesOneOf, AreTestsFor, IsReportOf, IsReportFault, IsScheduleTextFault, HasSomeMoves, IsListingOf, IsListingFault, IsJobOf, IsJobFor, IsJobFault, IsInputFault, IsPiecesFault, IsReportOfJob, IsRunReportFault, IsScheduleReportFault};
 
 use crate::report::{ReportFault, write_listing, write_report};
@@ -18,7 +21,7 @@ use std::alloc::{AllocError, Global};
 use std::sync::Wait;
 use std::thread::Threads;
 use thiserror::Error;
-use workers::{OpenGate, RunFault, run, run_schedule};
+use workers::{OpenGate, RunFault, Verdicts, run, run_in_parts, run_schedule};
 
 /// Why a text call gave no text: the fault of the part that refused.
 #[derive(Clone, Copy, Debug, PartialEq, Eq, Error)]
@@ -164,8 +167,63 @@ pub fn simulate_text_in<R: Threads + Wait, W: Out>(
     ensures refused { IfErr result (IsReportFault model bench.now tests.now workers) }
     ensures workers { OnOk result ((0 < workers) × (workers ≤ 64)) }
 {
+    let split = Split::Whole;
+    simulate_split(rt, alloc, model, bench, tests, split, workers, list, out)
+}
+
+/// Reads a circuit and tests for it, and writes the report that [`simulate_text_in`] writes, with
+/// the same bytes and the same refusals. The classes of the faults are run in so many parts, one
+/// after another ([`workers::run_in_parts`]), so that a ledger takes the memory of one part alone.
+pub fn simulate_text_in_parts<R: Threads + Wait, W: Out>(
+    rt: &R,
+    alloc: Global,
+    model: Model,
+    bench: &[u8],
+    tests: &[u8],
+    parts: u32,
+    workers: u32,
+    list: bool,
+    out: &mut W,
+) -> Result<(), SimFault>
+    requires { 0 < parts }
+    ensures written { WritesOneOf (IsReportOf model bench.now tests.now list) result
+        (W.seen out.old) (W.seen out.new) }
+    ensures refused { IfErr result (IsReportFault model bench.now tests.now workers) }
+    ensures workers { OnOk result ((0 < workers) × (workers ≤ 64)) }
+{
+    let split = Split::Parts(parts);
+    simulate_split(rt, alloc, model, bench, tests, split, workers, list, out)
+}
+
+/// How the classes of a run are shared out.
+#[derive(Clone, Copy)]
+enum Split {
+    /// All in one ledger.
+    Whole,
+    /// In so many parts, at least one, each with a ledger of its own.
+    Parts(u32),
+}
+
+/// Reads a circuit and tests for it, and writes the report of a run that is split in some way.
+fn simulate_split<R: Threads + Wait, W: Out>(
+    rt: &R,
+    alloc: Global,
+    model: Model,
+    bench: &[u8],
+    tests: &[u8],
+    split: Split,
+    workers: u32,
+    list: bool,
+    out: &mut W,
+) -> Result<(), SimFault>
+    requires { HasParts split }
+    ensures written { WritesOneOf (IsReportOf model bench.now tests.now list) result
+        (W.seen out.old) (W.seen out.new) }
+    ensures refused { IfErr result (IsReportFault model bench.now tests.now workers) }
+    ensures workers { OnOk result ((0 < workers) × (workers ≤ 64)) }
+{
     let job = job_of(alloc, model, bench, tests)?;
-    report_run(rt, alloc, &job, workers, list, out)
+    report_run(rt, alloc, &job, split, workers, list, out)
 }
 
 /// Runs a job by workers in threads of their own, and writes its report.
@@ -173,19 +231,41 @@ fn report_run<R: Threads + Wait, W: Out>(
     rt: &R,
     alloc: Global,
     job: &Job,
+    split: Split,
     workers: u32,
     list: bool,
     out: &mut W,
 ) -> Result<(), SimFault>
-    requires { BelongTogether job.now }
+    requires job { BelongTogether job.now }
+    requires split { HasParts split }
     ensures written { WritesOneOf (IsReportOfJob job.now list) result
         (W.seen out.old) (W.seen out.new) }
     ensures refused { IfErr result (IsRunReportFault job.now workers) }
     ensures workers { OnOk result ((0 < workers) × (workers ≤ 64)) }
 {
-    let verdicts = run(rt, alloc, job, workers, &OpenGate)?;
+    let verdicts = run_split(rt, alloc, job, split, workers)?;
     write_report(job, &verdicts, list, out)?;
     Ok(())
+}
+
+/// Runs a job by workers in threads of their own, whole or in parts.
+fn run_split<R: Threads + Wait>(
+    rt: &R,
+    alloc: Global,
+    job: &Job,
+    split: Split,
+    workers: u32,
+) -> Result<Verdicts, RunFault>
+    requires { HasParts split }
+    ensures firsts { IfOk result (λ v.
+        AreFirsts job.now.list.model job.now.circuit job.now.tests.tests v.firsts) }
+    ensures workers { OnOk result ((0 < workers) × (workers ≤ 64)) }
+    ensures refused { IfErr result (IsRunFault job.now workers ⊤ (λ _ _ _. ⊥)) }
+{
+    match split {
+        Split::Whole => run(rt, alloc, job, workers, &OpenGate),
+        Split::Parts(parts) => run_in_parts(rt, alloc, job, parts, workers, &OpenGate),
+    }
 }
 
 /// Reads a circuit, tests for it and an order of moves, and writes the report of the stuck-at

@@ -6,7 +6,7 @@ use Rattle.report.proofs.text.report_run.Goals as goal
 
 pub write_report-requires : goal.write_report-requires
 write_report-requires g c =
-    record { count = verdicts_counted c.args.job.now c.in_ok-verdicts.verdicts.firsts c.requires c.in_ok-verdicts.ensures.firsts }
+    record { count = verdicts_counted c.args.job.now c.in_ok-verdicts.verdicts.firsts c.requires.job c.in_ok-verdicts.ensures.firsts }
 
 pub returns-in_err-write_report-clause-written : goal.returns-in_err-write_report-clause-written
 returns-in_err-write_report-clause-written g c =

@@ -1,9 +1,9 @@
 use Rattle.report.specs.EndToEnd.{IsReportOf, IsReportOfJob, IsReportFault, IsRunReportFault}
 use Rattle.report.proofs.Runs.{written_as, refused_as, report_of, run_fault}
-use Rattle.report.proofs.text.simulate_text_in.Goals as goal
+use Rattle.report.proofs.text.simulate_split.Goals as goal
 
-pub report_run-requires : goal.report_run-requires
-report_run-requires g c = c.in_ok-job.ensures.job.2
+pub report_run-requires-clause-job : goal.report_run-requires-clause-job
+report_run-requires-clause-job g c = c.in_ok-job.ensures.job.2
 
 pub returns-clause-written : goal.returns-clause-written
 returns-clause-written g c =

@@ -1,0 +1,30 @@
+-- The pieces of a part text make the text.
+use Rattle.std.proofs.Common.{◌≡◌, ◌+◌, ◌∙◌, ℕ, List, [], ◌∷◌, ◌++◌, append_assoc, map, refl, ap}
+use Rattle.std.specs.Prelude.{codes, decimal, zip}
+use Rattle.std.specs.List.{flat_map}
+use Rattle.bench_net.specs.Statement.{Statement}
+use Rattle.fault_model.specs.declared.Model.{Model}
+use Rattle.fault_model.specs.Fault.{Fault, faults}
+use Rattle.workers.specs.declared.parts.PartVerdict.{PartVerdict}
+use Rattle.report.specs.Report.{fault_text}
+use Rattle.report.specs.PartText.{PartHead, head_line, part_line, verdict_line}
+
+-- the first line from its words, given as texts
+pub head_text : (h : PartHead) (part parts : List ℕ) → part ≡ decimal (h.part + 1) → parts ≡ decimal h.parts
+    → codes "part " ++ (part ++ (codes " of " ++ (parts ++ (codes " model " ++ (h.model ++ (codes " rule " ++ (h.rule
+    ++ (codes " bench " ++ (h.bench ++ (codes " tests " ++ (h.tests ++ (codes "\n" ++ []))))))))))))
+    ≡ head_line h
+head_text h part parts e f = rw (e, f) (simp append_assoc)
+
+-- the lines of a circuit's faults are those of their texts
+pub lines_of_texts : (c : List Statement) (fs : List Fault) (verdicts : List PartVerdict)
+    → flat_map (part_line c) (zip fs verdicts) ≡ flat_map verdict_line (zip (map (fault_text c) fs) verdicts)
+lines_of_texts c [] verdicts = refl
+lines_of_texts c (f ∷ fs) [] = refl
+lines_of_texts c (f ∷ fs) (v ∷ verdicts) = ap (λ l. part_line c (f, v) ++ l) (lines_of_texts c fs verdicts)
+
+-- the same, where they are those of a model
+pub lines_of_model : (m : Model) (c : List Statement) (fs : List Fault) (verdicts : List PartVerdict) → fs ≡ faults m c
+    → flat_map (part_line c) (zip fs verdicts) ≡ flat_map verdict_line (zip (map (fault_text c) (faults m c)) verdicts)
+lines_of_model m c fs verdicts list =
+    lines_of_texts c fs verdicts ∙ ap (λ l. flat_map verdict_line (zip (map (fault_text c) l) verdicts)) list

@@ -1,0 +1,22 @@
+use Rattle.report.specs.EndToEnd.{IsReportFault, IsRunReportFault}
+use Rattle.report.specs.PartText.{IsPartTextOf, IsPartTextOfJob, head_of}
+use Rattle.report.proofs.Runs.{written_as, refused_as, run_fault}
+use Rattle.report.proofs.part.part_text_in.Goals as goal
+
+pub report_part-requires-clause-job : goal.report_part-requires-clause-job
+report_part-requires-clause-job g c = c.in_ok-job.ensures.job.2
+
+pub returns-clause-written : goal.returns-clause-written
+returns-clause-written g c =
+    let job = c.in_ok-job.job in
+    let wrote = rw (c.name_of.ensures, c.as_str.ensures.value, c.as_str-2.ensures.value, c.in_ok-bench_sum.ensures, c.in_ok-test_sum.ensures) at c.report_part.ensures.written in
+    let h = head_of c.args.model c.args.bench.now c.args.tests.now c.args.part c.args.parts in
+    written_as (IsPartTextOfJob h job) (IsPartTextOf c.args.model c.args.bench.now c.args.tests.now c.args.part c.args.parts)
+    c.report_part.result _ _ (λ bytes is. (job, c.in_ok-job.ensures.job, is)) wrote
+
+pub returns-clause-refused : goal.returns-clause-refused
+returns-clause-refused g c =
+    let job = c.in_ok-job.job in
+    refused_as (IsRunReportFault job c.args.workers) (IsReportFault c.args.model c.args.bench.now c.args.tests.now c.args.workers)
+    c.report_part.result (run_fault c.args.model c.args.bench.now c.args.tests.now c.args.workers job (c.in_ok-job.ensures.job, c.in_ok-job.ensures.few))
+    c.report_part.ensures.refused

@@ -1,0 +1,269 @@
+//! From the bytes of texts to the text of one part of a run.
+
+ghost use Rattle.std.specs.Prelude.{◌≡◌, ◌<◌, ◌≤◌, ◌++◌, ◌+◌, ⊤, codes, count_by, decimal, length, slice_get};
+ghost use Rattle.std.specs.Prelude.{zip, string_bytes, IfErr, IfOk, OnOk, Some};
+ghost use Rattle.std.specs.List.{flat_map};
+ghost use Rattle.fault_model.specs.Fault.{Fault, faults};
+ghost use Rattle.block_sim.specs.Parts.{BelongTogether};
+ghost use Rattle.output.specs.Output.{Writes};
+ghost use Rattle.report.specs.EndToEnd.{IsReportFault, IsRunReportFault, WritesOneOf};
+ghost use Rattle.report.specs.PartText.{IsPartTextOf, IsPartTextOfJob, head_line, head_of, is_found, is_own};
+ghost use Rattle.report.specs.PartText.{end_line, job_part_text, model_name, part_name, rule_name, sum_text};
+ghost use Rattle.report.specs.PartText.{part_line, said_by};
+ghost use Rattle.report.specs.Report.{fault_text};
+
+use crate::report::{ReportFault, put_fault_line, put_first_line};
+use crate::text::{SimFault, job_of};
+use bench_net::Circuit;
+use block_sim::Job;
+use fault_model::{Faults, Model};
+use hex::encode;
+use itoa::Buffer;
+use output::{Out, OutFailed, put_pieces};
+use sha2::{Digest, Sha256};
+use std::alloc::{AllocError, Global};
+use std::sync::Wait;
+use std::thread::Threads;
+use workers::{OpenGate, PartVerdict, run_part};
+
+/// The rule by which parts are made, as a part text names it: by the number of the class.
+const RULE: &str = "class";
+
+/// Reads a circuit and tests for it, runs one part of the fault classes, counted from 0, of so
+/// many, and writes its part text: which part of what it is, each fault of the list with the first
+/// test that detects it, with `none`, or with `-` where the fault is of another part, and then how
+/// many faults of the part are detected. The work is done as in [`crate::simulate_text_in`].
+///
+/// It is refused as [`crate::simulate_text_in`] is, in the same order.
+pub fn part_text_in<R: Threads + Wait, W: Out>(
+    rt: &R,
+    alloc: Global,
+    model: Model,
+    bench: &[u8],
+    tests: &[u8],
+    part: u32,
+    parts: u32,
+    workers: u32,
+    out: &mut W,
+) -> Result<(), SimFault>
+    requires { part < parts }
+    ensures written { WritesOneOf (IsPartTextOf model bench.now tests.now part parts) result
+        (W.seen out.old) (W.seen out.new) }
+    ensures refused { IfErr result (IsReportFault model bench.now tests.now workers) }
+    ensures workers { OnOk result ((0 < workers) × (workers ≤ 64)) }
+{
+    let job = job_of(alloc, model, bench, tests)?;
+    let bench_sum = sum_of(alloc, bench)?;
+    let test_sum = sum_of(alloc, tests)?;
+    let head = Head {
+        part,
+        parts,
+        model: name_of(model),
+        rule: RULE,
+        bench: bench_sum.as_str(),
+        tests: test_sum.as_str(),
+    };
+    report_part(rt, alloc, &job, &head, workers, out)
+}
+
+/// What a part text says of its part in the first line. Parts count from 0.
+#[derive(Clone, Copy)]
+struct Head<'a> {
+    part: u32,
+    parts: u32,
+    model: &'a str,
+    rule: &'a str,
+    bench: &'a str,
+    tests: &'a str,
+}
+
+/// The name of a model.
+fn name_of(model: Model) -> &'static str
+    ensures { result.now ≡ model_name model }
+{
+    match model {
+        Model::StuckAt => "stuck",
+        Model::Transition => "transition",
+    }
+}
+
+/// The SHA-256 of a text in lower case hex digits.
+fn sum_of(alloc: Global, text: &[u8]) -> Result<String, AllocError>
+    ensures { IfOk result (λ sum. string_bytes sum ≡ sum_text text.now) }
+{
+    encode(alloc, Sha256::digest(text))
+}
+
+/// Runs a part of a job by workers in threads of their own, and writes its part text.
+fn report_part<R: Threads + Wait, W: Out>(
+    rt: &R,
+    alloc: Global,
+    job: &Job,
+    head: &Head<'_>,
+    workers: u32,
+    out: &mut W,
+) -> Result<(), SimFault>
+    requires job { BelongTogether job.now }
+    requires part { head.now.part < head.now.parts }
+    ensures written { WritesOneOf (IsPartTextOfJob (said_by head.now) job.now) result
+        (W.seen out.old) (W.seen out.new) }
+    ensures refused { IfErr result (IsRunReportFault job.now workers) }
+    ensures workers { OnOk result ((0 < workers) × (workers ≤ 64)) }
+{
+    let verdicts = run_part(rt, alloc, job, head.part, head.parts, workers, &OpenGate)?;
+    write_part(job.circuit(), job.faults(), head, verdicts.as_slice(), out)?;
+    Ok(())
+}
+
+/// Writes the part text of the verdicts of faults. It takes no memory.
+fn write_part<W: Out>(
+    circuit: &Circuit,
+    list: &Faults,
+    head: &Head<'_>,
+    verdicts: &[PartVerdict],
+    out: &mut W,
+) -> Result<(), ReportFault>
+    requires list { list.now.list ≡ faults list.now.model circuit.now }
+    requires count { length verdicts.now ≡ length list.now.list }
+    ensures { Writes result (W.seen out.old) (W.seen out.new)
+        (job_part_text (said_by head.now) list.now.model circuit.now verdicts.now) }
+{
+    put_head(head, out)?;
+    put_verdicts(circuit, list, verdicts, out)?;
+    let found = count_found(verdicts);
+    let own = count_own(verdicts);
+    put_end(head.part, head.parts, found, own, out)?;
+    Ok(())
+}
+
+/// Writes the first line.
+fn put_head<W: Out>(head: &Head<'_>, out: &mut W) -> Result<(), OutFailed>
+    ensures { Writes result (W.seen out.old) (W.seen out.new) (head_line (said_by head.now)) }
+{
+    let mut part = Buffer::new();
+    let mut parts = Buffer::new();
+    let pieces = [
+        "part ",
+        part.format(u64::from(head.part) + 1),
+        " of ",
+        parts.format(head.parts),
+        " model ",
+        head.model,
+        " rule ",
+        head.rule,
+        " bench ",
+        head.bench,
+        " tests ",
+        head.tests,
+        "\n",
+    ];
+    put_pieces(&pieces, out)
+}
+
+/// Writes the line of each fault.
+fn put_verdicts<W: Out>(
+    circuit: &Circuit,
+    list: &Faults,
+    verdicts: &[PartVerdict],
+    out: &mut W,
+) -> Result<(), OutFailed>
+    requires list { list.now.list ≡ faults list.now.model circuit.now }
+    requires count { length verdicts.now ≡ length list.now.list }
+    ensures { Writes result (W.seen out.old) (W.seen out.new)
+        (flat_map (part_line circuit.now) (zip list.now.list verdicts.now)) }
+{
+    for fault in 0..list.count() {
+        put_verdict_line(circuit, list, fault, verdict_at(verdicts, fault), out)?;
+    }
+    Ok(())
+}
+
+/// The verdict on a fault.
+fn verdict_at(verdicts: &[PartVerdict], fault: u32) -> PartVerdict
+    requires { fault < length verdicts.now }
+    ensures { slice_get verdicts.now fault ≡ Some result }
+{
+    verdicts[fault as usize]
+}
+
+/// Writes the line of a fault: the fault, and the first test that detects it, `none`, or `-` where
+/// it is of another part.
+fn put_verdict_line<W: Out>(
+    circuit: &Circuit,
+    list: &Faults,
+    fault: u32,
+    verdict: PartVerdict,
+    out: &mut W,
+) -> Result<(), OutFailed>
+    requires list { list.now.list ≡ faults list.now.model circuit.now }
+    requires in_range { fault < length list.now.list }
+    ensures { (f : Fault) → slice_get list.now.list fault ≡ Some f
+        → Writes result (W.seen out.old) (W.seen out.new) (part_line circuit.now (f, verdict)) }
+{
+    match verdict {
+        PartVerdict::First(first) => put_first_line(circuit, list, fault, first, out),
+        PartVerdict::OtherPart => put_fault_line(circuit, list, fault, " ", "-", out),
+    }
+}
+
+/// Whether a fault is of the part.
+fn is_own(verdict: &PartVerdict) -> bool
+    ensures { result ≡ is_own verdict.now }
+{
+    match verdict {
+        PartVerdict::First(_) => true,
+        PartVerdict::OtherPart => false,
+    }
+}
+
+/// Whether a fault is of the part, and a test detects it.
+fn is_found(verdict: &PartVerdict) -> bool
+    ensures { result ≡ is_found verdict.now }
+{
+    match verdict {
+        PartVerdict::First(first) => first.is_some(),
+        PartVerdict::OtherPart => false,
+    }
+}
+
+/// How many faults of the part a test detects.
+fn count_found(verdicts: &[PartVerdict]) -> usize
+    ensures { result ≡ count_by is_found verdicts.now }
+{
+    verdicts.iter().filter(|verdict| is_found(verdict)).count()
+}
+
+/// How many faults are of the part.
+fn count_own(verdicts: &[PartVerdict]) -> usize
+    ensures { result ≡ count_by is_own verdicts.now }
+{
+    verdicts.iter().filter(|verdict| is_own(verdict)).count()
+}
+
+/// Writes the last line: how many faults of the part are detected, and how many there are.
+fn put_end<W: Out>(
+    part: u32,
+    parts: u32,
+    found: usize,
+    own: usize,
+    out: &mut W,
+) -> Result<(), OutFailed>
+    ensures { Writes result (W.seen out.old) (W.seen out.new) (end_line part parts found own) }
+{
+    let mut number = Buffer::new();
+    let mut count = Buffer::new();
+    let mut detected = Buffer::new();
+    let mut all = Buffer::new();
+    let pieces = [
+        "part ",
+        number.format(u64::from(part) + 1),
+        " of ",
+        count.format(parts),
+        ": ",
+        detected.format(found),
+        " of ",
+        all.format(own),
+        "\n",
+    ];
+    put_pieces(&pieces, out)
+}
