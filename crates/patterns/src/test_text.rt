@@ -119,7 +119,8 @@ pub fn write_tests(alloc: Global, tests: &Tests) -> Result<Vec<u8>, AllocError>
 impl Tests {
     /// No tests, of so many sources.
     pub fn new(alloc: Global, width: u32) -> Self
-        ensures { result ≡ record { width = width; tests = [] } }
+        ensures tests { result ≡ record { width = width; tests = [] } }
+        ensures list { IsTestList result }
     {
         Tests {
             width,
@@ -175,13 +176,15 @@ impl Tests {
     pub fn push(&mut self, alloc: Global, row: &[bool]) -> Result<(), PushFault>
         ensures pushed { OnOk result (self.new ≡ with_test self.old row.now) }
         ensures kept { OnErr result (self.new ≡ self.old) }
+        ensures list { IsTestList self.new }
         ensures refused { IfErr result (λ fault.
             (fault ≡ PushFault.Memory) ⊎ IsPushRefusal self.old row.now fault) }
     {
+        let width = self.width() as usize;
         if self.count() >= MAX_TESTS {
             return Err(PushFault::TooMany);
         }
-        if row.len() != self.width() as usize {
+        if row.len() != width {
             return Err(PushFault::BadWidth);
         }
         Ok(self.add(alloc, row)?)
