@@ -124,7 +124,7 @@ fn a_row_of_a_test(rt: HostRuntime) -> Result<(), Fail> {
     let mut text = Vec::from_slice(rt.alloc(), b"# kept\n")?;
     assert!(rt; tests.count() == 3);
     tests.push_row(1, &mut text)?;
-    assert!(rt; text.as_slice() == b"# kept\n01\n");
+    assert!(rt; text.as_slice() == b"# kept\n01\n".as_slice());
     Ok(())
 }
 

@@ -1,9 +1,8 @@
-use Rattle.std.proofs.Common.{◌≡◌, ◌<◌, ◌∙◌, ap, subst, sym, arith, length, get_or}
-use Rattle.std.specs.Prelude.{None, Some}
+use Rattle.std.proofs.Common.{◌≡◌, ◌<◌, ap, subst, sym, arith, length, get_or}
 use Rattle.std.proofs.lemmas.List.{length-map, get_or_read}
 use Rattle.bench_net.specs.Scan.{names}
 use Rattle.patterns.specs.Tests.{blocks}
-use Rattle.block_sim.specs.Words.{AreWords, IsFaultFreeWord}
+use Rattle.block_sim.specs.Words.{IsFaultFreeWord}
 use Rattle.block_sim.proofs.LookedBack.{fault_free_word}
 use Rattle.block_sim.proofs.Rows.{mapped_get}
 use Rattle.block_sim.proofs.job.Job.word.Goals as goal
