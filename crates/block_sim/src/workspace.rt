@@ -167,13 +167,7 @@ fn outcome(
 }
 
 /// The lanes of a block whose tests detect a class, as far as they are followed.
-fn told(
-    job: &Job,
-    workspace: &mut Workspace,
-    class: u32,
-    block: u32,
-    extent: Extent<'_>,
-) -> u64
+fn told(job: &Job, workspace: &mut Workspace, class: u32, block: u32, extent: Extent<'_>) -> u64
     requires class { class < length job.now.classes.representative }
     requires block { block < blocks (length job.now.tests.tests) }
     requires fits { HasRoom workspace.old job.now }
