@@ -14,12 +14,11 @@ use Rattle.fault_model.specs.declared.Line.TheVariants as line
 use Rattle.fault_model.specs.Fault.{Fault, branch}
 use Rattle.fault_model.specs.Solution.{Test, Solves, Detects, shows}
 use Rattle.fault_model.proofs.Public.{detection_is_of_any_solution, has_solutions, under_other, observes}
-use Rattle.patterns.specs.declared.Outcome.{Outcome}
 use Rattle.patterns.specs.Tests.{size_of}
-use Rattle.block_sim.specs.First.{IsOutcome}
+use Rattle.block_sim.specs.First.{AreTold}
 use Rattle.block_sim.specs.Regions.{AreLanesFor}
-use Rattle.block_sim.proofs.Outcomes.{outcome_of_told}
-use Rattle.block_sim.specs.Words.{lane, lane_bits, test_of, AreWords, IsLeastLane}
+use Rattle.block_sim.proofs.Told.{told_of_lanes}
+use Rattle.block_sim.specs.Words.{lane, lane_bits, test_of, AreWords}
 use Rattle.block_sim.specs.Stirred.{IsStirredIn, IsStirredBy, HasStirredIn}
 use Rattle.block_sim.specs.Events.{bits_of, HasEquation, Reads, IsElsewhere}
 use Rattle.block_sim.specs.Spreading.{IsSpreading, IsBalanced, IsFirstChange, AreSeen, AreShown, IsApart, HasTouched}
@@ -45,12 +44,11 @@ alike a true h = refl
 alike true false h = absurd (h refl)
 alike false false h = absurd (h refl)
 
--- ---- the outcome, of what is shown
-pub outcome_of_shown : (c : List Statement) (tests : List Test) (block : ℕ) (r : Fault) (good : List ℕ) (lanes seen : ℕ)
+-- ---- what the tests of the block detect, of what is shown
+pub told_of_shown : (c : List Statement) (tests : List Test) (block : ℕ) (r : Fault) (good : List ℕ) (lanes seen : ℕ)
     → IsWellFormed c → AreWords c tests block None good → AreLanesFor tests block c r lanes → (settled : ℕ → Type 0)
-    → ((k : ℕ) → k < 64 → settled k → (j : ℕ) × (j ≤ k) × (lane seen j ≡ true))
-    → AreShown c tests block (λ _. r) good lanes settled seen → (o : Outcome) → IsLeastLane seen o → IsOutcome c tests r block o
-outcome_of_shown c tests block r good lanes seen well words decides settled ends h = outcome_of_told c tests block r lanes seen decides found clear
+    → AreShown c tests block (λ _. r) good lanes settled seen → AreTold c tests block r settled seen
+told_of_shown c tests block r good lanes seen well words decides settled h = told_of_lanes c tests block r lanes seen decides settled found clear
   where
     found : (k : ℕ) → k < 64 → lane seen k ≡ true → (lane lanes k ≡ true) × Detects c (test_of tests block k) r
     found k lt e =
@@ -58,10 +56,9 @@ outcome_of_shown c tests block r good lanes seen well words decides settled ends
         let u = has_solutions c well (test_of tests block k) (Some r) in
         (f.0, (detection_is_of_any_solution c well r (test_of tests block k) (lane_bits c good k) u.0 (words k lt) u.1).1 (f.1 u.0 u.1))
 
-    clear : (k : ℕ) → k < 64 → lane lanes k ≡ true → ((j : ℕ) → j ≤ k → lane seen j ≡ false) → Detects c (test_of tests block k) r → ⊥
-    clear k lt in_lanes none d =
-        let unsettled : settled k → ⊥ = λ x. (let j = ends k lt x in false≢true (sym (none j.0 j.1) ∙ j.2)) in
-        let v = h.clear k lt in_lanes (none k (omega arith)) unsettled in
+    clear : (k : ℕ) → k < 64 → lane lanes k ≡ true → lane seen k ≡ false → (settled k → ⊥) → Detects c (test_of tests block k) r → ⊥
+    clear k lt in_lanes unseen unsettled d =
+        let v = h.clear k lt in_lanes unseen unsettled in
         v.2 ((detection_is_of_any_solution c well r (test_of tests block k) (lane_bits c good k) v.0 (words k lt) v.1).0 d)
 
 -- ---- what was seen

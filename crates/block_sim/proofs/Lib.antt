@@ -28,6 +28,7 @@ mod Settled
 mod Deep
 mod Started
 mod Outcomes
+mod Told
 mod Finish
 mod Moments
 mod Carried

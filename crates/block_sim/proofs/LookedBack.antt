@@ -13,10 +13,12 @@ use Rattle.fault_model.specs.declared.Model.TheVariants.{Transition}
 use Rattle.fault_model.specs.Solution.{Test}
 use Rattle.fault_model.specs.Detection.{carried, HasBit, LooksBack}
 use Rattle.fault_model.proofs.Public.{agree}
-use Rattle.lists.proofs.Places.{within_place}
+use Rattle.bench_net.proofs.Public.{signal-name_of}
+use Rattle.lists.proofs.Members.{contained}
+use Rattle.lists.proofs.Places.{at_place, within_place}
 use Rattle.block_sim.proofs.Placed.{index_of}
 use Rattle.patterns.specs.Tests.{size_of}
-use Rattle.block_sim.specs.Words.{lane, lane_bits, test_of, AreWords}
+use Rattle.block_sim.specs.Words.{lane, lane_bits, test_of, AreWords, IsFaultFreeWord}
 use Rattle.block_sim.proofs.Lanes.{lane_and, lane_not, lane_ones}
 
 pub lane_has_bit : (c : List Statement) (tests : List Test) (block k : ℕ) (row : List ℕ) (l : Line) (n : Name) (bit : Bool) → IsWellFormed c → AreWords c tests block None row → k < 64
@@ -31,6 +33,15 @@ lane_has_bit c tests block k row l n bit well words lt at named = (there, back)
         let same : h.1 ≡ n = ap (λ o. unwrap_or o n) (sym h.3 ∙ at) in
         let own : h.0 n ≡ bit = subst (λ x. h.0 x ≡ bit) same h.4 in
         agree c (test_of tests block k) None (lane_bits c row k) h.0 well (words k lt) h.2 n named ∙ own
+
+-- a word of a block without a fault is that of its signal
+pub fault_free_word : (c : List Statement) (tests : List Test) (block s : ℕ) (row : List ℕ) → IsWellFormed c → AreWords c tests block None row
+    → IsFaultFreeWord c tests block s (slice_index_or row s 0)
+fault_free_word c tests block s row well words k n v lt at solves =
+    let named = contained (names c) n (at_place (names c) s n at) in
+    let number = signal-name_of c s n well.once at named in
+    ap (λ x. lane (slice_index_or row x 0) k) (sym number)
+    ∙ agree c (test_of tests block k) None (lane_bits c row k) v well (words k lt) solves n named
 
 and_false : (b : Bool) → (b && false) ≡ false
 and_false true = refl

@@ -1,6 +1,6 @@
 -- Words of 64 lanes: a block's bits side by side, one word a signal.
 use Rattle.std.specs.Prelude.{◌≡◌, ℕ, ◌+◌, ◌*◌, ◌<◌, ◌==◌, Bool, true, false, List, [], length, map}
-use Rattle.std.specs.Prelude.{Contains, Option, Some, slice_get, slice_index_or, bit_xor}
+use Rattle.std.specs.Prelude.{Contains, Option, Some, None, slice_get, slice_index_or, bit_xor}
 use Rattle.std.specs.Int.{bit_at}
 use Rattle.std.specs.List.{enumerate_from}
 use Rattle.bench_net.specs.declared.Kind.{Kind}
@@ -31,6 +31,12 @@ test_of tests block k = slice_index_or tests (64 * block + k) []
 abbrev pub AreWords : List Statement → List Test → ℕ → Option Fault → List ℕ → Type 0
 AreWords c tests block f words = (k : ℕ) → k < 64
     → Solves c (test_of tests block k) f (lane_bits c words k)
+
+-- The word of one signal without a fault, by its number: in each lane the bit that the solution
+-- under the lane's test gives it.
+abbrev pub IsFaultFreeWord : List Statement → List Test → ℕ → ℕ → ℕ → Type 0
+IsFaultFreeWord c tests block s word = (k : ℕ) (n : Name) (v : Name → Bool) → k < 64
+    → name_of c s ≡ Some n → Solves c (test_of tests block k) None v → lane word k ≡ v n
 
 -- a circuit, and a word for each of its signals
 pub record HasWords (c : List Statement) (words : List ℕ) : Type 0 where

@@ -10,7 +10,7 @@ ghost use Rattle.patterns.specs.Tests.{IsTestList, blocks, max_pieces};
 ghost use Rattle.block_sim.specs.Job.{AreFaultFree};
 ghost use Rattle.block_sim.specs.Parts.{BelongTogether, piece_count, with_tests};
 ghost use Rattle.block_sim.specs.Stuck.{stuck_fault};
-ghost use Rattle.block_sim.specs.Words.{AreWords};
+ghost use Rattle.block_sim.specs.Words.{AreWords, IsFaultFreeWord};
 
 use crate::flat::FlatCircuit;
 use crate::region_classes::next_in_region;
@@ -219,6 +219,17 @@ impl Job {
         ensures { result < length self.now.classes.representative }
     {
         self.next_in_region[class as usize]
+    }
+
+    /// The word of a signal without a fault, by the signal's number from 0: bit k, from the least,
+    /// is the signal's bit under test `64 * block + k`. Past the last test it is that under a test
+    /// of bits 0.
+    pub fn word(&self, block: u32, signal: u32) -> u64
+        requires block { block < blocks (length self.now.tests.tests) }
+        requires signal { signal < length (names self.now.circuit) }
+        ensures { IsFaultFreeWord self.now.circuit self.now.tests.tests block signal result }
+    {
+        self.rows[block as usize][signal as usize]
     }
 
     /// The words of a block without a fault, one a signal.

@@ -5,9 +5,9 @@ ghost use Rattle.std.specs.Prelude.{Some, length, slice_get};
 ghost use Rattle.fault_model.specs.Collapse.{representatives};
 ghost use Rattle.fault_model.specs.Fault.{Fault};
 ghost use Rattle.patterns.specs.Tests.{blocks};
-ghost use Rattle.block_sim.specs.First.{IsTrueOutcome};
+ghost use Rattle.block_sim.specs.First.{AreDetecting, AreTold, IsTrueOutcome};
 ghost use Rattle.block_sim.specs.Parts.{HasRoom};
-ghost use Rattle.block_sim.specs.Spreading.{EndsAtHits};
+ghost use Rattle.block_sim.specs.Spreading.{EndsAtHits, IsSettled};
 ghost use Rattle.block_sim.specs.Stirred.{HasStirred};
 
 use crate::block_lanes::{lanes_below, least_lane};
@@ -119,6 +119,29 @@ pub fn first_hit(job: &Job, workspace: &mut Workspace, class: u32, block: u32) -
     outcome(job, workspace, class, block, Extent::FirstHits(&all))
 }
 
+/// The tests of a block that detect a class: bit k, from the least, is 1 exactly where test
+/// `64 * block + k` detects the representative of the class, and 0 past the last test. It takes no
+/// memory.
+///
+/// Each test is followed to the end, within the same bound as [`simulate`]. A transition fault is
+/// detected with the test before, so that a bit tells of a pair of tests: that of lane 0 of the
+/// last test of the block before, and the first test of all detects none.
+pub fn detecting(job: &Job, workspace: &mut Workspace, class: u32, block: u32) -> u64
+    requires class { class < length job.now.classes.representative }
+    requires block { block < blocks (length job.now.tests.tests) }
+    requires fits { HasRoom workspace.old job.now }
+    ensures lanes { AreDetecting job.now.list.model job.now.circuit
+        job.now.tests.tests class block result }
+    ensures room { workspace.new.signals ≡ workspace.old.signals }
+    ensures grown { workspace.old.evaluations ≤ workspace.new.evaluations }
+    ensures counted { (r : Fault) (gates : List ℕ)
+        → slice_get (representatives job.now.list.model job.now.circuit) class ≡ Some r
+        → HasStirred job.now.circuit job.now.tests.tests block r gates
+        → workspace.new.evaluations ≤ workspace.old.evaluations + length gates }
+{
+    told(job, workspace, class, block, Extent::WholeBlock)
+}
+
 /// The outcome of a class on a block, by following its lanes so far.
 fn outcome(
     job: &Job,
@@ -140,6 +163,25 @@ fn outcome(
         → HasStirred job.now.circuit job.now.tests.tests block r gates
         → workspace.new.evaluations ≤ workspace.old.evaluations + length gates }
 {
+    least_lane(told(job, workspace, class, block, extent))
+}
+
+/// The lanes of a block whose tests detect a class, as far as they are followed.
+fn told(job: &Job, workspace: &mut Workspace, class: u32, block: u32, extent: Extent<'_>) -> u64
+    requires class { class < length job.now.classes.representative }
+    requires block { block < blocks (length job.now.tests.tests) }
+    requires fits { HasRoom workspace.old job.now }
+    ensures told { (r : Fault)
+        × (slice_get (representatives job.now.list.model job.now.circuit) class ≡ Some r)
+        × AreTold job.now.circuit job.now.tests.tests block r
+        (IsSettled extent.entry result) result }
+    ensures room { workspace.new.signals ≡ workspace.old.signals }
+    ensures grown { workspace.old.evaluations ≤ workspace.new.evaluations }
+    ensures counted { (r : Fault) (gates : List ℕ)
+        → slice_get (representatives job.now.list.model job.now.circuit) class ≡ Some r
+        → HasStirred job.now.circuit job.now.tests.tests block r gates
+        → workspace.new.evaluations ≤ workspace.old.evaluations + length gates }
+{
     let fault = job.representative(class);
     let lanes = lanes_below(job.tests().size_of(block)) & lanes_that_fit(job, block, fault);
     let view = BlockView {
@@ -147,5 +189,5 @@ fn outcome(
         good: job.fault_free(block),
         lanes,
     };
-    least_lane(effect(view, fault, extent, &mut workspace.changes))
+    effect(view, fault, extent, &mut workspace.changes)
 }

@@ -8,6 +8,8 @@ mod circuits;
 #[cfg(test)]
 mod faults;
 #[cfg(test)]
+mod made;
+#[cfg(test)]
 mod orders;
 #[cfg(test)]
 mod refusals;

@@ -17,7 +17,7 @@ use std::thread::Threads;
 use workers::{OpenGate, RunFault, Verdicts, run};
 
 /// C17 of the ISCAS-85 benchmarks.
-const C17: &[u8] = b"\
+pub(crate) const C17: &[u8] = b"\
     INPUT(G1)\n\
     INPUT(G2)\n\
     INPUT(G3)\n\

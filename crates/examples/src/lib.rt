@@ -2,4 +2,6 @@
 #![tactic(auto)]
 
 #[cfg(test)]
+mod compactor;
+#[cfg(test)]
 mod generator;

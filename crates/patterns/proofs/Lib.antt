@@ -8,4 +8,6 @@ mod LeastLemmas
 mod FaultLemmas
 mod AnswerLemmas
 mod TestLemmas
+mod MakingLemmas
+mod WrittenLemmas
 pub mod Public

@@ -1,23 +1,17 @@
 -- Lemmas on adding a test to the words that hold a list of tests.
-use Rattle.std.proofs.Common.{◌≡◌, ◌≢◌, ℕ, ◌+◌, ◌*◌, ◌/◌, ◌%◌, ◌<◌, ◌≤◌, ◌==◌, All, List, [], ◌∷◌, ◌++◌, map, length, get_or, set, replicate, sym, refl, ap, ◌∙◌, subst, ⊎_elim, arith, get_or-set_same, get_or-set_other, length-set}
+use Rattle.std.proofs.Common.{◌≡◌, ◌≢◌, ℕ, ◌+◌, ◌*◌, ◌/◌, ◌%◌, ◌<◌, ◌≤◌, ◌==◌, Bool, false, List, [], ◌∷◌, ◌++◌, map, length, get_or, set, replicate, sym, refl, ap, ◌∙◌, subst, ⊎_elim, arith, get_or-set_same, get_or-set_other, length-set}
 use Rattle.std.specs.declared.vec.Vec.{Vec}
 use Rattle.std.specs.Vec.{with_items}
 use Rattle.std.specs.Int.{bit_at}
-use Rattle.std.proofs.lemmas.List.{map_push, map-set, length-map, with_items_is}
+use Rattle.std.proofs.lemmas.List.{map_push, map-id, map-set, length-map, with_items_is}
 use Rattle.std.proofs.lemmas.Bool.{cases_eq, cases_lt}
 use Rattle.std.proofs.lemmas.List.{get_or-replicate, get_or_past, get_or_append_left, get_or_push, length_push, length-replicate}
 use Rattle.std.proofs.lemmas.List.Elements.{All-push, All-set}
-use Rattle.patterns.specs.Tests.{blocks, as_number, max_tests}
+use Rattle.patterns.specs.Tests.{as_number, max_tests}
 use Rattle.patterns.specs.Least.{below}
-use Rattle.patterns.specs.Words.{word_at, bit_of, tests_of, AreWords}
+use Rattle.patterns.specs.Words.{word_at, bit_of, tests_of, AreWords, HaveRoom}
 use Rattle.patterns.proofs.BelowLemmas.{map-below_more, map-below_same, map-below_elements}
 use Rattle.patterns.proofs.WordLemmas.{as_number_one, word_lists, word_lists-read}
-
--- the words after room was made for one more test: a block of zeros more, where the last block was full
-pub record HaveRoom (width count : ℕ) (old words : List (List ℕ)) : Type 0 where
-  pub block_count : length words ≡ blocks (count + 1)
-  pub each : All (λ block. length block ≡ width) words
-  pub same : (block source : ℕ) → word_at words block source ≡ word_at old block source
 
 pub HaveRoom-in_last : (width count : ℕ) (words : List (List ℕ)) → count % 64 ≢ 0 → AreWords width count words → HaveRoom width count words words
 HaveRoom-in_last width count words inside are =
@@ -55,13 +49,13 @@ HaveRoom-in_next width count words full are =
       same = word_at-push_zeros words width;
     }
 
--- a row whose bits were written into the words of a block
-pub record IsWritten (width lane : ℕ) (row old new : List ℕ) : Type 0 where
+-- a row of bits that was written into the words of a block
+pub record IsWritten (width lane : ℕ) (row : List Bool) (old new : List ℕ) : Type 0 where
   pub len : length new ≡ width
-  pub lane_bits : (source : ℕ) → source < length row → bit_at (get_or new source 0) lane ≡ as_number (get_or row source 0 == 49)
+  pub lane_bits : (source : ℕ) → source < length row → bit_at (get_or new source 0) lane ≡ as_number (get_or row source false)
   pub other_bits : (source k : ℕ) → k ≢ lane → bit_at (get_or new source 0) k ≡ bit_at (get_or old source 0) k
 
-module _ (width count : ℕ) (old words : List (List ℕ)) (row new : List ℕ)
+module _ (width count : ℕ) (old words : List (List ℕ)) (row : List Bool) (new : List ℕ)
     (are : AreWords width count old) (room : HaveRoom width count old words)
     (written : IsWritten width (count % 64) row (get_or words (count / 64) []) new)
     (row_width : length row ≡ width) (limit : count < max_tests) where
@@ -100,12 +94,13 @@ module _ (width count : ℕ) (old words : List (List ℕ)) (row new : List ℕ)
   same_test : (test : ℕ) → test < count → map (bit_of after test) (below width) ≡ map (bit_of old test) (below width)
   same_test test earlier = map-below_same (bit_of after test) (bit_of old test) width (λ source h. ap (λ n. n == 1) (kept_bit (test / 64) source (test % 64) (omega arith) (λ (e : 64 * (test / 64) + test % 64 ≡ count). omega arith)))
 
-  new_test : map (bit_of after count) (below width) ≡ map (λ b. b == 49) row
+  new_test : map (bit_of after count) (below width) ≡ row
   new_test =
-      map-below_elements (λ b. b == 49) row (bit_of after count) width 0 row_width
+      map-below_elements (λ b. b) row (bit_of after count) width false row_width
       (λ source h. ap (λ r. bit_at (get_or r source 0) (count % 64) == 1) here ∙ ap (λ n. n == 1) (written.lane_bits source (omega arith)) ∙ as_number_one _)
+      ∙ map-id row
 
-  pub tests_of-push : tests_of width (count + 1) after ≡ tests_of width count old ++ map (λ b. b == 49) row ∷ []
+  pub tests_of-push : tests_of width (count + 1) after ≡ tests_of width count old ++ row ∷ []
   unfolding tests_of
   tests_of-push =
       map-below_more (λ test. map (bit_of after test) (below width)) count
@@ -141,8 +136,8 @@ module _ {Z : Type 0} (width count : ℕ) (old : List (List ℕ)) (words : List 
       ∙ ap (λ w. bit_at w (count % 64)) (room.same (count / 64) source)
       ∙ are.idle (count / 64) source (count % 64) (omega arith) (omega arith)
 
-  module _ (row new : List ℕ) (len : length new ≡ length block.items)
-      (lane_bits : (source : ℕ) → source < length row → bit_at (get_or new source 0) (count % 64) ≡ as_number (get_or row source 0 == 49))
+  module _ (row : List Bool) (new : List ℕ) (len : length new ≡ length block.items)
+      (lane_bits : (source : ℕ) → source < length row → bit_at (get_or new source 0) (count % 64) ≡ as_number (get_or row source false))
       (other_bits : (source k : ℕ) → k ≢ count % 64 → bit_at (get_or new source 0) k ≡ bit_at (get_or block.items source 0) k) where
     IsWritten-from_bits : IsWritten width (count % 64) row (get_or (word_lists words) (count / 64) []) new
     IsWritten-from_bits = record {
@@ -165,7 +160,7 @@ module _ {Z : Type 0} (width count : ℕ) (old : List (List ℕ)) (words : List 
         (AreWords-push width count old (word_lists words) row new are room IsWritten-from_bits row_width limit)
 
     pub tests_of-written : AreWords width count old → length row ≡ width → count < max_tests
-        → tests_of width (count + 1) (word_lists written) ≡ tests_of width count old ++ map (λ b. b == 49) row ∷ []
+        → tests_of width (count + 1) (word_lists written) ≡ tests_of width count old ++ row ∷ []
     tests_of-written are row_width limit =
         ap (tests_of width (count + 1)) word_lists-written
         ∙ tests_of-push width count old (word_lists words) row new are room IsWritten-from_bits row_width limit

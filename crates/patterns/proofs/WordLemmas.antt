@@ -20,7 +20,7 @@ pub word_lists-read : {Z : Type 0} (blocks : List (Vec ℕ Z)) (b : ℕ) (block 
     → get_or (word_lists blocks) b [] ≡ block.items
 word_lists-read blocks b block within read = get_or-map (λ v. v.items) blocks b block [] within ∙ sym (ap (λ v. v.items) read)
 
-length-tests_of : (width count : ℕ) (words : List (List ℕ)) → length (tests_of width count words) ≡ count
+pub length-tests_of : (width count : ℕ) (words : List (List ℕ)) → length (tests_of width count words) ≡ count
 unfolding tests_of
 length-tests_of width count words = length-map-below _ count
 

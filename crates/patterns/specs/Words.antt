@@ -26,3 +26,9 @@ pub record AreWords (width count : ℕ) (words : List (List ℕ)) : Type 0 where
   pub each : All (λ block. length block ≡ width) words
   pub idle : (block source k : ℕ) → count ≤ 64 * block + k → k < 64
       → bit_at (word_at words block source) k ≡ 0
+
+-- the words after room was made for one more test: a block of zeros more, where the last was full
+pub record HaveRoom (width count : ℕ) (old words : List (List ℕ)) : Type 0 where
+  pub block_count : length words ≡ blocks (count + 1)
+  pub each : All (λ block. length block ≡ width) words
+  pub same : (block source : ℕ) → word_at words block source ≡ word_at old block source

@@ -1,12 +1,14 @@
 //! Tests, laid out in words of 64, and their reader.
-ghost use Rattle.std.specs.Prelude.{◌≡◌, ◌≢◌, ℕ, ◌<◌, ◌≤◌, ◌==◌, ◌||◌, ◌⊎◌, [], ◌∷◌, ◌++◌, map, length, slice_index, IfOk, IfErr, OnOk};
+ghost use Rattle.std.specs.Prelude.{◌≡◌, ◌≢◌, ℕ, ◌+◌, ◌<◌, ◌≤◌, ◌==◌, ◌||◌, ◌⊎◌, [], ◌++◌, false, map, length, slice_index, slice_index_or, IfOk, IfErr, OnOk, OnErr};
 ghost use Rattle.std.specs.Int.{bit_at};
 ghost use Rattle.std.specs.List.{list_all};
+ghost use Rattle.patterns.specs.Making.{IsMadeOf, IsPushRefusal, IsWordsRefusal, digit, row_text, test_text, with_test};
 ghost use Rattle.patterns.specs.Tests.{HasTests, IsTestList, IsTestRefusal, IsWord, as_number, bit, blocks, max_tests, size_of, test_fault};
 ghost use Rattle.patterns.specs.Reading.{row_of};
 
 use crate::rows::{Row, Rows};
-use crate::{BLOCK_SIZE, MAX_TESTS, TestFault};
+use crate::word_rows::{check_idle_bits, make_room, rows_of};
+use crate::{BLOCK_SIZE, MAX_TESTS, PushFault, TestFault, WordsFault};
 use std::alloc::{AllocError, Global};
 use std::marker::Model;
 
@@ -53,9 +55,11 @@ pub fn read_tests(alloc: Global, text: &[u8], width: u32) -> Result<Tests, TestF
         (fault ≡ TestFault.Memory) ⊎ IsTestRefusal text.now width fault) }
 {
     let mut tests = Tests::new(alloc, width);
+    let mut bits = vec![in alloc; false; width as usize]?;
     for row in Rows::new(text) {
         check_row(tests.count(), row, width)?;
-        tests.push(alloc, row.bytes)?;
+        read_bits(&mut bits, row.bytes);
+        tests.add(alloc, &bits)?;
     }
     Ok(tests)
 }
@@ -87,10 +91,36 @@ fn are_bits(bytes: &[u8]) -> bool
     bytes.iter().all(|byte| matches!(byte, b'0' | b'1'))
 }
 
+/// Whether each byte is `1`, one after another.
+fn read_bits(bits: &mut [bool], bytes: &[u8])
+    requires { length bits.old ≡ length bytes.now }
+    ensures { bits.new ≡ map (λ b. b == 49) bytes.now }
+{
+    for (source, byte) in bytes.iter().enumerate() {
+        bits[source] = *byte == b'1';
+    }
+}
+
+/// The text of tests, which [`read_tests`] reads as the same tests: for each a row of a `0` or a
+/// `1` for each source, and a line feed.
+pub fn write_tests(alloc: Global, tests: &Tests) -> Result<Vec<u8>, AllocError>
+    ensures text { IfOk result (λ text. text.items ≡ test_text tests.now.tests) }
+    ensures read { 1 ≤ tests.now.width
+        → IfOk result (λ text. HasTests text.items tests.now.width tests.now) }
+{
+    let row = tests.width() as usize + 1;
+    let mut text = Vec::with_capacity(alloc, tests.count() as usize * row)?;
+    for test in 0..tests.count() {
+        tests.push_row(test, &mut text)?;
+    }
+    Ok(text)
+}
+
 impl Tests {
-    /// No tests.
-    fn new(alloc: Global, width: u32) -> Self
-        ensures { result ≡ record { width = width; tests = [] } }
+    /// No tests, of so many sources.
+    pub fn new(alloc: Global, width: u32) -> Self
+        ensures tests { result ≡ record { width = width; tests = [] } }
+        ensures list { IsTestList result }
     {
         Tests {
             width,
@@ -99,22 +129,93 @@ impl Tests {
         }
     }
 
-    /// Adds a test, given by a `0` or a `1` for each source.
-    fn push(&mut self, alloc: Global, row: &[u8]) -> Result<(), AllocError>
+    /// Tests that are made of words: for each block, from the first on, a word for each source, as
+    /// [`Tests::word`] gives it. Bit k of a word, from the least, is that of the block's test k,
+    /// and 0 past the last test.
+    ///
+    /// # Errors
+    ///
+    /// More than [`MAX_TESTS`] tests are [`WordsFault::TooMany`]; another number of words than
+    /// that of the blocks times `width` is [`WordsFault::BadCount`]; a bit past the last test is
+    /// [`WordsFault::IdleBits`], with the first source that has one. [`WordsFault::Memory`] may
+    /// come in place of a list of tests, where memory ran out.
+    pub fn from_words(
+        alloc: Global,
+        width: u32,
+        count: u32,
+        words: &[u64],
+    ) -> Result<Tests, WordsFault>
+        ensures tests { IfOk result (λ t. IsMadeOf width count words.now t) }
+        ensures list { IfOk result (λ t. IsTestList t) }
+        ensures refused { IfErr result (λ fault.
+            (fault ≡ WordsFault.Memory) ⊎ IsWordsRefusal width count words.now fault) }
+    {
+        if count > MAX_TESTS {
+            return Err(WordsFault::TooMany);
+        }
+        let blocks = count.div_ceil(BLOCK_SIZE);
+        if words.len() != width as usize * blocks as usize {
+            return Err(WordsFault::BadCount);
+        }
+        check_idle_bits(width, count, words)?;
+        let words = rows_of(alloc, width, blocks, words)?;
+        Ok(Tests {
+            width,
+            count,
+            words,
+        })
+    }
+
+    /// Adds a test, given by a bit for each source.
+    ///
+    /// # Errors
+    ///
+    /// A test past [`MAX_TESTS`] is [`PushFault::TooMany`] whatever its bits; one with another
+    /// number of bits is [`PushFault::BadWidth`]; [`PushFault::Memory`] where memory ran out. The
+    /// tests are then as they were.
+    pub fn push(&mut self, alloc: Global, row: &[bool]) -> Result<(), PushFault>
+        ensures pushed { OnOk result (self.new ≡ with_test self.old row.now) }
+        ensures kept { OnErr result (self.new ≡ self.old) }
+        ensures list { IsTestList self.new }
+        ensures refused { IfErr result (λ fault.
+            (fault ≡ PushFault.Memory) ⊎ IsPushRefusal self.old row.now fault) }
+    {
+        let width = self.width() as usize;
+        if self.count() >= MAX_TESTS {
+            return Err(PushFault::TooMany);
+        }
+        if row.len() != width {
+            return Err(PushFault::BadWidth);
+        }
+        Ok(self.add(alloc, row)?)
+    }
+
+    /// Adds a test of the right width, where there is room for one.
+    fn add(&mut self, alloc: Global, row: &[bool]) -> Result<(), AllocError>
         requires room { length self.old.tests < max_tests }
         requires width { length row.now ≡ self.old.width }
-        ensures { OnOk result (self.new ≡ record {
-          width = self.old.width;
-          tests = self.old.tests ++ map (λ b. b == 49) row.now ∷ [];
-        }) }
+        ensures pushed { OnOk result (self.new ≡ with_test self.old row.now) }
+        ensures kept { OnErr result (self.new ≡ self.old) }
     {
-        let lane = self.count % BLOCK_SIZE;
-        if lane == 0 {
-            self.words.push(vec![in alloc; 0; self.width as usize]?)?;
-        }
+        make_room(alloc, &mut self.words, self.width, self.count)?;
         let block = (self.count / BLOCK_SIZE) as usize;
-        set_lane(&mut self.words[block], row, lane);
+        set_lane(&mut self.words[block], row, self.count % BLOCK_SIZE);
         self.count += 1;
+        Ok(())
+    }
+
+    /// Adds the row of a test to a text: a `0` or a `1` for each source, and a line feed. Where
+    /// memory was refused, the text is as it was.
+    pub fn push_row(&self, test: u32, text: &mut Vec<u8>) -> Result<(), AllocError>
+        requires { test < length self.now.tests }
+        ensures row { OnOk result (text.new.items
+            ≡ text.old.items ++ row_text (slice_index_or self.now.tests test [])) }
+        ensures kept { OnErr result (text.new.items ≡ text.old.items) }
+    {
+        let start = text.len();
+        text.resize(start + self.width as usize + 1, b'\n')?;
+        let words = self.words[(test / BLOCK_SIZE) as usize].as_slice();
+        write_digits(text, start, words, test % BLOCK_SIZE);
         Ok(())
     }
 
@@ -169,20 +270,43 @@ impl Tests {
     }
 }
 
-/// Sets the bit at `lane` of the word of each source where the row has a `1`.
-fn set_lane(words: &mut [u64], row: &[u8], lane: u32)
+/// Sets the bit at `lane` of the word of each source where the row has a 1.
+fn set_lane(words: &mut [u64], row: &[bool], lane: u32)
     requires lane { lane < 64 }
     requires sources { length words.old ≡ length row.now }
     requires clear { (source : ℕ) → bit_at (slice_index words.old source) lane ≡ 0 }
     ensures set { (source : ℕ) → source < length row.now
         → bit_at (slice_index words.new source) lane
-        ≡ as_number (slice_index row.now source == 49) }
+        ≡ as_number (slice_index_or row.now source false) }
     ensures others { (source k : ℕ) → k ≢ lane
         → bit_at (slice_index words.new source) k ≡ bit_at (slice_index words.old source) k }
 {
-    for (source, byte) in row.iter().enumerate() {
-        if *byte == b'1' {
+    for (source, bit) in row.iter().enumerate() {
+        if *bit {
             words[source] |= 1 << lane;
         }
     }
+}
+
+/// Writes the bit of each word at `lane`, as a digit, from this place of a text on.
+fn write_digits(text: &mut [u8], start: usize, words: &[u64], lane: u32)
+    requires lane { lane < 64 }
+    requires place { start + length words.now ≤ length text.old }
+    ensures digits { (source byte : ℕ) → source < length words.now
+        → slice_index_or text.new (start + source) byte
+        ≡ digit (bit_at (slice_index words.now source) lane == 1) }
+    ensures others { (place byte : ℕ) → (place < start) ⊎ (start + length words.now ≤ place)
+        → slice_index_or text.new place byte ≡ slice_index_or text.old place byte }
+{
+    for (source, word) in words.iter().enumerate() {
+        text[start + source] = digit_at(*word, lane);
+    }
+}
+
+/// The bit of a word at `lane`, as a digit.
+fn digit_at(word: u64, lane: u32) -> u8
+    requires { lane < 64 }
+    ensures { result ≡ digit (bit_at word lane == 1) }
+{
+    if (word >> lane) & 1 == 1 { b'1' } else { b'0' }
 }

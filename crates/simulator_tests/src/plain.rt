@@ -158,6 +158,26 @@ fn detects(
     Ok(is_shown(circuit, held, good.as_slice(), bad.as_slice()))
 }
 
+/// The line and the bit of the representative of a class.
+fn held_of(job: &Job, class: u32) -> Option<Held> {
+    if class >= job.classes().count() {
+        return None;
+    }
+    let fault = job.classes().representative(class);
+    if fault >= job.faults().count() {
+        return None;
+    }
+    Some(Held {
+        line: job.faults().line_of(fault),
+        bit: job.faults().stuck_of(fault),
+    })
+}
+
+/// The number of the test in a lane of a block.
+fn test_in(block: u32, lane: u32) -> u32 {
+    block.saturating_mul(BLOCK_SIZE).saturating_add(lane)
+}
+
 /// The outcome of a class on a block, by plain evaluation.
 pub fn plain_outcome(
     alloc: Global,
@@ -165,22 +185,46 @@ pub fn plain_outcome(
     class: u32,
     block: u32,
 ) -> Result<Outcome, AllocError> {
-    if class >= job.classes().count() || block >= job.tests().blocks() {
+    let Some(held) = held_of(job, class) else {
         return Ok(Outcome::Clear);
-    }
-    let fault = job.classes().representative(class);
-    if fault >= job.faults().count() {
-        return Ok(Outcome::Clear);
-    }
-    let held = Held {
-        line: job.faults().line_of(fault),
-        bit: job.faults().stuck_of(fault),
     };
+    if block >= job.tests().blocks() {
+        return Ok(Outcome::Clear);
+    }
     for lane in 0..job.tests().size_of(block) {
-        let test = block.saturating_mul(BLOCK_SIZE).saturating_add(lane);
-        if detects(alloc, job, job.faults().model(), held, test)? {
+        if detects(alloc, job, job.faults().model(), held, test_in(block, lane))? {
             return Ok(Outcome::Hit(lane));
         }
     }
     Ok(Outcome::Clear)
+}
+
+/// The tests of a block that detect a class, one a bit, by plain evaluation.
+pub fn plain_lanes(alloc: Global, job: &Job, class: u32, block: u32) -> Result<u64, AllocError> {
+    let mut lanes = 0;
+    let Some(held) = held_of(job, class) else {
+        return Ok(lanes);
+    };
+    if block >= job.tests().blocks() {
+        return Ok(lanes);
+    }
+    for lane in 0..job.tests().size_of(block) {
+        if detects(alloc, job, job.faults().model(), held, test_in(block, lane))? {
+            lanes |= 1u64.wrapping_shl(lane);
+        }
+    }
+    Ok(lanes)
+}
+
+/// The bit of a signal without a fault under the test in a lane of a block, by plain evaluation.
+pub fn plain_bit(
+    alloc: Global,
+    job: &Job,
+    block: u32,
+    lane: u32,
+    signal: u32,
+) -> Result<bool, AllocError> {
+    let test = test_in(block, lane);
+    let bits = bits_under(alloc, job.circuit(), job.tests(), test, None)?;
+    Ok(bit_of(bits.as_slice(), signal))
 }

@@ -1,11 +1,11 @@
 use Rattle.std.proofs.Common.{arith, rules}
 use Rattle.patterns.proofs.LaneLemmas.{IsSetBelow-one, IsSetBelow-zero}
 use Rattle.patterns.proofs.test_text.set_lane.Goals as goal
-use Rattle.patterns.proofs.test_text.set_lane.Goals.{then-byte-eq49, else-byte-eq49}
+use Rattle.patterns.proofs.test_text.set_lane.Goals.{then-bit, else-bit}
 
 pub loop-source-preserved : goal.loop-source-preserved
 loop-source-preserved c =
-    elim c.if-byte-eq49.branch [
-      | then-byte-eq49 w ↦ rw w.words-is (IsSetBelow-one _ _ _ _ _ c.requires.lane (omega arith) (search rules) c.loop-source.invariant)
-      | else-byte-eq49 w ↦ rw w.words-is (IsSetBelow-zero _ _ _ _ _ (search rules) c.loop-source.invariant)
+    elim c.if-bit.branch [
+      | then-bit w ↦ rw w.words-is (IsSetBelow-one _ _ _ _ _ c.requires.lane (omega arith) (search rules) c.loop-source.invariant)
+      | else-bit w ↦ rw w.words-is (IsSetBelow-zero _ _ _ _ _ (search rules) c.loop-source.invariant)
     ]

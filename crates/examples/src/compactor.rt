@@ -1,0 +1,141 @@
+//! Tests that are made of words and of bits, the tests of a block that are kept, and their text.
+
+ghost use Rattle.std.specs.Prelude.{◌≡◌, ◌<◌, ◌≤◌, IfOk, length};
+ghost use Rattle.bench_net.specs.Scan.{names, sources};
+ghost use Rattle.block_sim.specs.Parts.{HasRoom};
+ghost use Rattle.patterns.specs.Tests.{IsTestList, blocks};
+
+use crate::generator::C17;
+use block_sim::{Job, Workspace, detecting};
+use fault_model::Model;
+use patterns::{BLOCK_SIZE, PushFault, Tests, write_tests};
+use report::{SimFault, job_of};
+use std::alloc::{AllocError, Global};
+use std::process::Abort;
+use std::test::Fail;
+
+/// The lanes of a block whose tests are kept: of each class that no kept test detects, the first
+/// test that does.
+fn kept_lanes(job: &Job, workspace: &mut Workspace, block: u32) -> u64
+    requires block { block < blocks (length job.now.tests.tests) }
+    requires fits { HasRoom workspace.old job.now }
+{
+    let mut kept = 0;
+    for class in 0..job.classes().count() {
+        let lanes = detecting(job, workspace, class, block);
+        if lanes != 0 && lanes & kept == 0 {
+            kept |= 1 << lanes.trailing_zeros();
+        }
+    }
+    kept
+}
+
+/// The text of the tests of a block that are kept.
+fn kept_text(alloc: Global, tests: &Tests, block: u32, kept: u64) -> Result<Vec<u8>, AllocError>
+    requires { block < blocks (length tests.now.tests) }
+{
+    let mut text = Vec::new(alloc);
+    for lane in 0..tests.size_of(block) {
+        if (kept >> lane) & 1 == 1 {
+            tests.push_row(BLOCK_SIZE * block + lane, &mut text)?;
+        }
+    }
+    Ok(text)
+}
+
+/// The tests that are kept of the first block of a job, as a text.
+fn compacted(alloc: Global, job: &Job) -> Result<Vec<u8>, AllocError> {
+    let mut workspace = Workspace::new(alloc, job)?;
+    if job.tests().blocks() == 0 {
+        return Ok(Vec::new(alloc));
+    }
+    let kept = kept_lanes(job, &mut workspace, 0);
+    kept_text(alloc, job.tests(), 0, kept)
+}
+
+/// Checks which of five tests of C17 are kept.
+fn check_compacted<R: AllocGlobal + Abort>(rt: &R, job: &Job) -> Result<(), AllocError> {
+    let text = compacted(rt.alloc(), job)?;
+    assert!(rt; text.as_slice() == b"11111\n00000\n10101\n01010\n".as_slice());
+    Ok(())
+}
+
+#[test]
+fn a_test_that_finds_nothing_new_is_left_out(rt: HostRuntime) -> Result<(), Fail> {
+    let tests = b"11111\n00000\n11111\n10101\n01010\n";
+    let job = job_of(rt.alloc(), Model::StuckAt, C17, tests)?;
+    Ok(check_compacted(&rt, &job)?)
+}
+
+#[test]
+fn tests_are_made_of_words(rt: HostRuntime) -> Result<(), Fail> {
+    let tests = Tests::from_words(rt.alloc(), 2, 3, &[0b101, 0b110])?;
+    let text = write_tests(rt.alloc(), &tests)?;
+    assert!(rt; text.as_slice() == b"10\n01\n11\n".as_slice());
+    Ok(())
+}
+
+/// The last of some tests, as bits.
+fn last_test(alloc: Global, tests: &Tests) -> Result<Vec<bool>, AllocError> {
+    let mut bits = Vec::new(alloc);
+    if tests.count() > 0 {
+        for source in 0..tests.width() {
+            bits.push(tests.bit(tests.count() - 1, source))?;
+        }
+    }
+    Ok(bits)
+}
+
+/// The last of a job's own tests and one more behind it: the two are the pair over the edge.
+fn with_last(alloc: Global, job: &Job, row: &[bool]) -> Result<Tests, PushFault>
+    ensures list { IfOk result (λ tests. IsTestList tests) }
+    ensures width { IfOk result (λ tests. tests.width ≡ length (sources job.now.circuit)) }
+{
+    let mut tests = Tests::new(alloc, job.circuit().sources());
+    if job.tests().count() > 0 {
+        let last = last_test(alloc, job.tests())?;
+        tests.push(alloc, &last)?;
+    }
+    tests.push(alloc, row)?;
+    Ok(tests)
+}
+
+/// Gives a job of one input one more test, and checks which tests detect its first class: the new
+/// one, since the line has the other bit under the test before.
+fn check_edge<R: AllocGlobal + Abort>(rt: &R, job: &mut Job) -> Result<(), Fail> {
+    let tests = with_last(rt.alloc(), job, &[true])?;
+    job.set_tests(rt.alloc(), tests)?;
+    let mut workspace = Workspace::new(rt.alloc(), job)?;
+    assert!(rt; job.classes().count() > 0 && job.tests().blocks() == 1);
+    assert_eq!(rt; detecting(job, &mut workspace, 0, 0), 0b10);
+    Ok(())
+}
+
+#[test]
+fn the_pair_over_the_edge_is_kept(rt: HostRuntime) -> Result<(), Fail> {
+    let bench = b"INPUT(a)\nOUTPUT(z)\nz = BUFF(a)\n";
+    let mut job = job_of(rt.alloc(), Model::Transition, bench, b"0\n")?;
+    check_edge(&rt, &mut job)
+}
+
+/// How many tests of a block give a signal the bit 1.
+fn ones(job: &Job, block: u32, signal: u32) -> u32
+    requires block { block < blocks (length job.now.tests.tests) }
+    requires signal { signal < length (names job.now.circuit) }
+{
+    let idle = BLOCK_SIZE - job.tests().size_of(block);
+    (job.word(block, signal) << idle).count_ones()
+}
+
+/// Checks under how many of three tests of C17 its first gate is 1.
+fn check_ones<R: Abort>(rt: &R, job: &Job) {
+    assert!(rt; job.tests().blocks() == 1 && job.circuit().signals() > 5);
+    assert_eq!(rt; ones(job, 0, 5), 2);
+}
+
+#[test]
+fn fault_free_words_are_read(rt: HostRuntime) -> Result<(), Fail> {
+    let job = job_of(rt.alloc(), Model::StuckAt, C17, b"11111\n00000\n10011\n")?;
+    check_ones(&rt, &job);
+    Ok(())
+}

@@ -1,0 +1,190 @@
+//! Which tests of a block detect a class, and the words of signals, on worked circuits and against
+//! a plain evaluation.
+
+use crate::plain::{plain_bit, plain_lanes};
+use crate::texts::{Numbers, push_bench, push_rows};
+use block_sim::{Job, Workspace, detecting};
+use fault_model::Model;
+use report::job_of;
+use std::alloc::{AllocError, Global};
+use std::process::Abort;
+use std::test::Fail;
+
+/// A circuit with tests: as many rows `0` as `zeros`, and then `tests`. For each fault of the list
+/// the tests of the last block that detect it, one a bit.
+#[derive(Clone, Copy)]
+struct Worked {
+    name: &'static str,
+    bench: &'static str,
+    model: Model,
+    zeros: u32,
+    tests: &'static str,
+    lanes: &'static [u64],
+}
+
+const BUFFER: &str = "INPUT(a)\nOUTPUT(z)\nz = BUFF(a)\n";
+
+static WORKED: [Worked; 5] = [
+    Worked {
+        name: "buffer",
+        bench: BUFFER,
+        model: Model::StuckAt,
+        zeros: 0,
+        tests: "0\n1\n0\n1\n",
+        lanes: &[0b1010, 0b0101, 0b1010, 0b0101],
+    },
+    Worked {
+        name: "buffer with 64 rows",
+        bench: BUFFER,
+        model: Model::StuckAt,
+        zeros: 64,
+        tests: "",
+        lanes: &[0, u64::MAX, 0, u64::MAX],
+    },
+    Worked {
+        name: "transitions of a buffer",
+        bench: BUFFER,
+        model: Model::Transition,
+        zeros: 0,
+        tests: "0\n1\n0\n1\n",
+        lanes: &[0b1010, 0b0100, 0b1010, 0b0100],
+    },
+    Worked {
+        name: "transitions across blocks",
+        bench: BUFFER,
+        model: Model::Transition,
+        zeros: 64,
+        tests: "1\n0\n",
+        lanes: &[0b01, 0b10, 0b01, 0b10],
+    },
+    Worked {
+        name: "transitions of an and",
+        bench: "INPUT(a)\nINPUT(b)\nOUTPUT(z)\nz = AND(a, b)\n",
+        model: Model::Transition,
+        zeros: 0,
+        tests: "00\n01\n10\n11\n",
+        lanes: &[0, 0, 0b1000, 0b0100, 0b1000, 0],
+    },
+];
+
+/// The tests of a block that detect a class.
+fn lanes_of(job: &Job, workspace: &mut Workspace, class: u32, block: u32) -> Option<u64> {
+    if class < job.classes().count() && block < job.tests().blocks() && workspace.fits(job) {
+        return Some(detecting(job, workspace, class, block));
+    }
+    None
+}
+
+/// Checks the lanes of each fault of a worked circuit in its last block.
+fn check_worked<R: Abort>(rt: &R, alloc: Global, worked: &Worked, job: &Job) -> Result<(), Fail> {
+    let mut workspace = Workspace::new(alloc, job)?;
+    let last = job.tests().blocks().saturating_sub(1);
+    assert_eq!(rt;
+        job.faults().count() as usize,
+        worked.lanes.len(),
+        "{}",
+        worked.name
+    );
+    for fault in 0..job.faults().count() {
+        let class = job.classes().class_of(fault);
+        let lanes = lanes_of(job, &mut workspace, class, last);
+        let wanted = worked.lanes.get(fault as usize).copied();
+        assert_eq!(rt; lanes, wanted, "{}, fault {fault}", worked.name);
+    }
+    Ok(())
+}
+
+/// Checks the lanes of a worked circuit under these tests.
+fn check_under<R: Abort>(rt: &R, alloc: Global, worked: &Worked, tests: &[u8]) -> Result<(), Fail> {
+    let job = job_of(alloc, worked.model, worked.bench.as_bytes(), tests)?;
+    check_worked(rt, alloc, worked, &job)
+}
+
+/// Adds the tests of a worked circuit.
+fn push_tests(text: &mut Vec<u8>, worked: &Worked) -> Result<(), AllocError> {
+    for _ in 0..worked.zeros {
+        text.extend_from_slice(b"0\n")?;
+    }
+    text.extend_from_slice(worked.tests.as_bytes())
+}
+
+#[test]
+fn worked_circuits_have_their_detecting_tests(rt: HostRuntime) -> Result<(), Fail> {
+    for worked in &WORKED {
+        let mut tests = Vec::new(rt.alloc());
+        push_tests(&mut tests, worked)?;
+        check_under(&rt, rt.alloc(), worked, tests.as_slice())?;
+    }
+    Ok(())
+}
+
+/// Checks the lanes of all classes in a block against those of plain evaluation.
+fn check_lanes<R: Abort>(rt: &R, alloc: Global, job: &Job, block: u32) -> Result<(), Fail> {
+    let mut workspace = Workspace::new(alloc, job)?;
+    for class in 0..job.classes().count() {
+        let plain = plain_lanes(alloc, job, class, block)?;
+        let lanes = lanes_of(job, &mut workspace, class, block);
+        assert_eq!(rt; lanes, Some(plain), "class {class}, block {block}");
+    }
+    Ok(())
+}
+
+/// The bit of a signal in a lane of a block.
+fn bit_of_word(job: &Job, block: u32, lane: u32, signal: u32) -> Option<bool> {
+    if block < job.tests().blocks() && signal < job.circuit().signals() {
+        return Some(job.word(block, signal).wrapping_shr(lane) & 1 == 1);
+    }
+    None
+}
+
+/// Checks the bits of all signals in a lane against those of plain evaluation.
+fn check_bits<R: Abort>(
+    rt: &R,
+    alloc: Global,
+    job: &Job,
+    block: u32,
+    lane: u32,
+) -> Result<(), Fail> {
+    for signal in 0..job.circuit().signals() {
+        let plain = plain_bit(alloc, job, block, lane, signal)?;
+        let bit = bit_of_word(job, block, lane, signal);
+        assert_eq!(rt; bit, Some(plain), "signal {signal}, lane {lane}");
+    }
+    Ok(())
+}
+
+/// Checks all blocks of a job.
+fn check_job<R: Abort>(rt: &R, alloc: Global, job: &Job) -> Result<(), Fail> {
+    for block in 0..job.tests().blocks() {
+        check_lanes(rt, alloc, job, block)?;
+    }
+    for lane in 0..6u32 {
+        check_bits(rt, alloc, job, 1, lane)?;
+    }
+    Ok(())
+}
+
+/// Checks the job of texts under a model.
+fn check_model<R: Abort>(
+    rt: &R,
+    alloc: Global,
+    model: Model,
+    bench: &[u8],
+    tests: &[u8],
+) -> Result<(), Fail> {
+    let job = job_of(alloc, model, bench, tests)?;
+    check_job(rt, alloc, &job)
+}
+
+#[test]
+fn a_random_circuit_has_the_lanes_of_plain_evaluation(rt: HostRuntime) -> Result<(), Fail> {
+    let mut numbers = Numbers::new(11);
+    let mut bench = Vec::new(rt.alloc());
+    push_bench(&mut bench, &mut numbers, 8, 40)?;
+    let mut tests = Vec::new(rt.alloc());
+    push_rows(&mut tests, &mut numbers, 12, 70)?;
+    for model in [Model::StuckAt, Model::Transition] {
+        check_model(&rt, rt.alloc(), model, bench.as_slice(), tests.as_slice())?;
+    }
+    Ok(())
+}
