@@ -195,18 +195,3 @@ read_within c g s well r =
 -- what reads a signal is a gate
 pub reader_driven : (c : List Statement) (g s : ℕ) → IsWellFormed c → Reads c g s → gate_of c g ≡ None → ⊥
 reader_driven c g s well r none = never (gate_of c g) (r.kind, map (signal c) r.args) (gate_named c r.name r.kind r.args g well r.number r.gate) none
-
--- the one reader of a signal that no observer reads
-pub lone : (c : List Statement) (s : ℕ) (readers : List Reader) (none : Reader) (observed : Bool) → AreReaders c s readers → length readers ≡ 1 → ((observed ≡ true) ↔ IsObserved c s) → observed ≡ false
-    → IsReadBy c (slice_index_or readers 0 none).gate s
-lone c s [] none observed are one is off = let bad : 0 ≡ 1 = one in absurd (omega (arith, bad))
-lone c s (r ∷ q ∷ readers) none observed are one is off = absurd (omega (arith, one))
-lone c s (r ∷ []) none observed are one is off = record {
-  reads = (are.each 0 none (omega arith)).0;
-  alone = λ h reads. only h (among (r.gate ∷ []) h (are.all h reads));
-  unobserved = λ o. false≢true (sym off ∙ is.1 o);
-}
-  where
-    only : (h : ℕ) → Among h (r.gate ∷ []) → h ≡ r.gate
-    only h (inl e) = sym e
-    only h (inr bad) = absurd bad

@@ -71,21 +71,6 @@ followed_more job block stem followed one before within at x there =
         same (within, at)
     go (inr (inr bad)) = absurd bad
 
--- the first signal that a listed fault can alter is one of the circuit
-pub start_within : (m : Model) (c : List Statement) (f : Fault) (s : ℕ) → IsWellFormed c → (list : FaultList)
-    → list ≡ fault_list m c → Contains list.list f → {l : Line} → l ≡ f.line → start_of l ≡ Some s
-    → s < length (names c)
-start_within m c f s well list is at on begins = go f.line n.0 n.1 (ap start_of (sym on) ∙ begins)
-  where
-    n : (n : Name) × (carried c f.line ≡ Some n) × Contains (names c) n
-    n = carries m c f well (subst (λ fs. Contains fs f) (ap (λ (x : FaultList). x.list) is) at)
-
-    go : (l : Line) (n : Name) → carried c l ≡ Some n → start_of l ≡ Some s → s < length (names c)
-    go (line.Stem r) n at e = subst (λ x. x < length (names c)) (ap (λ o. unwrap_or o r) e) (place_within (names c) r n at)
-    go (line.Pin g p) n at e = subst (λ x. x < length (names c)) (ap (λ o. unwrap_or o g) e) (gate_within c g p n at)
-    go (line.Data cell) n at e = let bad : None ≡ Some s = e in cc
-    go (line.Out o) n at e = let bad : None ≡ Some s = e in cc
-
 -- what is at rest has room for each level of a circuit that it has room for
 pub room_at_rest : (job : Parts) (changes : Changes) → IsWellFormed job.circuit → IsAtRest changes
     → length (names job.circuit) ≤ length changes.overlay → HasRoomFor job.circuit changes
