@@ -15,12 +15,12 @@ AreFaultFree c tests rows = (block : ℕ) (row : List ℕ) → slice_get rows bl
 
 -- The parts belong together, their pieces are within the limit, the rows are the fault-free words
 -- of all blocks, and each class has its stem and a next class.
-pub record IsJob (parts : Parts) (rows : List (List ℕ)) (stems next : List ℕ) : Type 0 where
+pub record IsJob (parts : Parts) (rows : List (List ℕ)) (class_stems next : List ℕ) : Type 0 where
   pub together : BelongTogether parts
   pub few : piece_count parts ≤ max_pieces
   pub count : length rows ≡ blocks (length parts.tests.tests)
   pub fault_free : AreFaultFree parts.circuit parts.tests.tests rows
-  pub stem_count : length stems ≡ length parts.classes.representative
-  pub stems : HaveStems parts.list.model parts.circuit stems
+  pub stem_count : length class_stems ≡ length parts.classes.representative
+  pub stems : HaveStems parts.list.model parts.circuit class_stems
   pub nexts : length next ≡ length parts.classes.representative
   pub next_within : All (λ class. class < length parts.classes.representative) next

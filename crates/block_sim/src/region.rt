@@ -7,7 +7,7 @@ ghost use Rattle.bench_net.specs.Scan.{names};
 ghost use Rattle.fault_model.specs.Fault.{Fault, faults};
 ghost use Rattle.fault_model.specs.Solution.{Test};
 ghost use Rattle.block_sim.specs.Changes.{HasRoomFor, IsAsLarge, IsClear};
-ghost use Rattle.block_sim.specs.Regions.{HasCome, IsReached, IsReadBy, IsStemOf, IsStemOfLine};
+ghost use Rattle.block_sim.specs.Regions.{HasCome, IsReached, IsReadBy};
 ghost use Rattle.block_sim.specs.Regions.{TellsFirstFlips};
 ghost use Rattle.block_sim.specs.Stuck.{stuck_fault};
 ghost use Rattle.block_sim.specs.Words.{lane, AreWords, HasWords};
@@ -71,23 +71,24 @@ pub fn arrive(view: BlockView<'_>, from: Arrival, changes: &mut Changes) -> Arri
         → HasCome view.entry.circuit.now tests block f view.entry.lanes from.signal from.lanes
         → HasCome view.entry.circuit.now tests block f view.entry.lanes result.signal result.lanes }
     ensures signal { result.signal < length (names view.entry.circuit.now) }
-    ensures stem { IsStemOf view.entry.circuit.now result.signal from.signal }
     ensures grown { changes.old.evaluations ≤ changes.new.evaluations }
     ensures room { IsAsLarge changes.old changes.new }
     ensures clear { IsClear changes.new }
 {
     let mut at = from;
     for _step in 0..changes.buckets.levels() {
-        let Some(gate) = view.circuit.lone_reader(at.signal) else {
-            return at;
-        };
-        let lanes = cross(view, at, gate, changes);
-        at = Arrival {
-            signal: gate,
-            lanes,
-        };
+        match view.circuit.lone_reader(at.signal) {
+            Some(gate) => {
+                let lanes = cross(view, at, gate, changes);
+                at = Arrival {
+                    signal: gate,
+                    lanes,
+                };
+            }
+            None => break,
+        }
     }
-    unreachable!()
+    at
 }
 
 /// How far a fault is followed on a block before it shares its way with others.
@@ -113,8 +114,6 @@ pub fn follow(view: BlockView<'_>, fault: Stuck, changes: &mut Changes) -> Reach
         → IsReached view.entry.circuit.now tests block (stuck_fault fault) view.entry.lanes result }
     ensures signal { (at : Arrival) → result ≡ Reach.Stem at
         → at.signal < length (names view.entry.circuit.now) }
-    ensures stem { (at : Arrival) → result ≡ Reach.Stem at
-        → IsStemOfLine view.entry.circuit.now at.signal fault.line }
     ensures grown { changes.old.evaluations ≤ changes.new.evaluations }
     ensures room { IsAsLarge changes.old changes.new }
     ensures clear { IsClear changes.new }
