@@ -1,20 +1,12 @@
 -- Outcomes that are kept, and classes that are followed to one stem.
 use Rattle.std.proofs.Common.{◌≡◌, ◌≢◌, ◌+◌, ◌<◌, ◌≤◌, ℕ, sym, ◌∙◌, ap, subst, List, [], ◌∷◌, ◌++◌, length, set}
 use Rattle.std.proofs.Common.{inl, inr, ◌⊎◌, arith}
-use Rattle.std.specs.Prelude.{Contains, Some, None, bit_and, slice_index_or, unwrap_or}
+use Rattle.std.specs.Prelude.{bit_and, slice_index_or}
 use Rattle.std.proofs.lemmas.Bool.{cases_eq}
 use Rattle.std.proofs.lemmas.List.{get_or-set_same, get_or-set_other, length-set}
 use Rattle.lists.proofs.Members.{Among, among, among_append, contained}
-use Rattle.lists.proofs.Places.{place_within}
-use Rattle.bench_net.specs.Statement.{Name, Statement}
 use Rattle.bench_net.specs.Scan.{names}
 use Rattle.bench_net.specs.Circuit.{IsWellFormed}
-use Rattle.fault_model.specs.declared.Line.{Line}
-use Rattle.fault_model.specs.declared.Line.TheVariants as line
-use Rattle.fault_model.specs.declared.Model.{Model}
-use Rattle.fault_model.specs.Fault.{Fault, FaultList, fault_list}
-use Rattle.fault_model.specs.Detection.{carried}
-use Rattle.fault_model.proofs.Public.{carries}
 use Rattle.patterns.specs.declared.Outcome.{Outcome}
 use Rattle.block_sim.specs.declared.simulation.Memo.{Memo}
 use Rattle.block_sim.specs.declared.simulation.Memo.TheVariants.{Nothing}
@@ -22,10 +14,9 @@ use Rattle.block_sim.specs.declared.spread.Followed.{Followed}
 use Rattle.block_sim.specs.declared.changes.Changes.{Changes}
 use Rattle.block_sim.specs.Changes.{HasRoomFor, IsAsLarge, IsAtRest, IsClear}
 use Rattle.block_sim.specs.Parts.{Parts}
-use Rattle.block_sim.specs.Regions.{TellsFirstFlips, start_of}
+use Rattle.block_sim.specs.Regions.{TellsFirstFlips}
 use Rattle.block_sim.specs.Simulation.{AreFollowed, AreTrueMemos, HasArrived, IsOutcomeIn, IsSimulation, IsTrueMemo}
 use Rattle.block_sim.specs.Words.{IsLeastLane}
-use Rattle.block_sim.proofs.Carried.{gate_within}
 use Rattle.block_sim.proofs.Deep.{level_within}
 use Rattle.block_sim.proofs.RegionLanes.{lanes_law}
 

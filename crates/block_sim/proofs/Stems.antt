@@ -1,7 +1,7 @@
 -- Stems: each signal and each class has one, and a table of them.
 use Rattle.std.proofs.Common.{◌≡◌, ◌≢◌, ◌<◌, ◌≤◌, ◌+◌, ◌-◌, ℕ, zero, suc, refl, sym, ◌∙◌, ap, subst, List, [], ◌∷◌, ◌++◌, length, set, arith, inl, inr, ◌⊎◌}
 use Rattle.std.specs.Option.{option_map_or}
-use Rattle.std.specs.Prelude.{Contains, Option, Some, None, IfSome, map, option_map, slice_get, slice_index_or, unwrap_or}
+use Rattle.std.specs.Prelude.{Contains, Option, Some, None, IfSome, map, option_map, slice_get, slice_index_or}
 use Rattle.std.proofs.lemmas.Bool.{cases_eq, cases_order}
 use Rattle.std.proofs.lemmas.List.{get_or_default, get_or-set_same, get_or-set_other}
 use Rattle.bench_net.specs.Statement.{Name, Statement}
@@ -9,7 +9,7 @@ use Rattle.bench_net.specs.Scan.{names, signal, name_of}
 use Rattle.bench_net.specs.Circuit.{IsWellFormed}
 use Rattle.bench_net.specs.Level.{GoesBefore, IsLevelOrder, greatest}
 use Rattle.bench_net.proofs.Public.{name_of-signal, read_named}
-use Rattle.lists.proofs.Members.{Among, among, among_map, contained, filtered_from}
+use Rattle.lists.proofs.Members.{among, among_map, contained, filtered_from}
 use Rattle.lists.proofs.Places.{at_place, place_within, within_place}
 use Rattle.fault_model.specs.declared.Line.{Line}
 use Rattle.fault_model.specs.declared.Line.TheVariants as line
@@ -19,7 +19,7 @@ use Rattle.fault_model.specs.Collapse.{AreClassesOf, Collapsed, representatives}
 use Rattle.fault_model.specs.Detection.{carried}
 use Rattle.fault_model.proofs.Public.{below_greatest, carries, defined_among}
 use Rattle.block_sim.specs.Events.{Reads, level_at}
-use Rattle.block_sim.specs.Regions.{Chain, HasStem, HaveStems, IsReadBy, IsStem, IsStemOf, IsStemOfClass, LeadLaw, LeadsTo, OneClassStemLaw, OneStemLaw, RunsTo, SomeClassStemLaw, SomeStemLaw, here, lone_reader, onward, way_from}
+use Rattle.block_sim.specs.Regions.{HasStem, HaveStems, IsStem, IsStemOf, IsStemOfClass, LeadLaw, LeadsTo, OneClassStemLaw, OneStemLaw, RunsTo, SomeClassStemLaw, SomeStemLaw, here, lone_reader, onward, way_from}
 use Rattle.block_sim.proofs.Carried.{gate_within}
 use Rattle.block_sim.proofs.LevelOrder.{not_before, order_within}
 use Rattle.block_sim.proofs.OnePin.{pin_law}

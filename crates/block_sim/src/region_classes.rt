@@ -41,11 +41,7 @@ pub fn class_stems(
 
 /// For each class the next one with its stem, and for the last the first, where there are this
 /// many signals.
-pub fn next_with_stem(
-    alloc: Global,
-    stems: &[u32],
-    signals: u32,
-) -> Result<Vec<u32>, AllocError>
+pub fn next_with_stem(alloc: Global, stems: &[u32], signals: u32) -> Result<Vec<u32>, AllocError>
     requires stems { All (λ stem. stem < signals) stems.now }
     requires few { length stems.now < 2 ^ 32 }
     ensures count { IfOk result (λ next. length next.items ≡ length stems.now) }

@@ -1,5 +1,4 @@
 use Rattle.std.proofs.Common.{◌≡◌, ◌<◌, sym, subst, length}
-
 use Rattle.bench_net.specs.Scan.{names}
 use Rattle.block_sim.specs.Regions.{lone_reader}
 use Rattle.block_sim.proofs.Flats.{row_of}
