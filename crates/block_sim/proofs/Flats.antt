@@ -90,6 +90,7 @@ row_kept c pins more_pins readers more_readers s row pins_more readers_more h =
       driven = ap (λ own. option_map (λ driver. (driver.kind, own)) row.driver) pins_are ∙ h.driven;
       formed = h.formed;
       read_by = subst (AreReaders c s) (sym readers_are) h.read_by;
+      lone = h.lone;
       level = h.level;
       observed = h.observed;
     }

@@ -98,7 +98,7 @@ module _ (c : List Statement) (well : IsWellFormed c) where
   one_level f g n p q a = levels_below f g p q (suc (well.acyclic.0 n)) n (omega arith) a
 
   -- a signal goes before a gate that reads it, never behind
-  not_before : (n a : Name) (kind : Kind) (args : List Name) → Among (Gate n kind args) c → Among a args → GoesBefore c (signal c n) (signal c a) → ⊥
+  pub not_before : (n a : Name) (kind : Kind) (args : List Name) → Among (Gate n kind args) c → Among a args → GoesBefore c (signal c n) (signal c a) → ⊥
   not_before n a kind args gate reads before = go before.0 before.1 before.2 before.3 before.4
     where
       gate_named : Contains (names c) n

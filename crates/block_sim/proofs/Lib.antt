@@ -37,6 +37,7 @@ mod OnePin
 mod Entered
 mod Flips
 mod Regions
+mod Stems
 mod RegionLanes
 mod FlipLanes
 mod FaultLanes

@@ -1,26 +1,24 @@
 -- The laws of regions on words of 64 lanes.
-use Rattle.std.proofs.Common.{◌≡◌, ◌<◌, ◌≤◌, ℕ, ◌+◌, refl, sym, ◌∙◌, ap, subst, Bool, true, false, not, ◌&&◌, List, [], ◌∷◌, length, set, arith, inl, inr, eqb-true, eq-eqb}
+use Rattle.std.proofs.Common.{◌≡◌, ◌<◌, ◌≤◌, ℕ, ◌+◌, refl, sym, ◌∙◌, ap, subst, Bool, true, false, not, ◌&&◌, List, [], ◌∷◌, length, set, arith, eqb-true, eq-eqb}
 use Rattle.std.specs.Prelude.{◌≢◌, ◌↔◌, ◌==◌, All, Contains, Some, None, map, slice_index_or, bit_and, bit_xor, if◌then◌else◌, unwrap_or}
 use Rattle.std.specs.Bool.{Decides}
 use Rattle.std.specs.List.{enumerate_from}
 use Rattle.std.proofs.lemmas.Bool.{false≢true}
 use Rattle.std.proofs.lemmas.List.{get_or-set_same, get_or-set_other}
 use Rattle.event_queue.proofs.Public.{index_zero}
-use Rattle.block_sim.specs.declared.flat.Reader.{Reader}
-use Rattle.block_sim.specs.Flat.{AreReaders}
 use Rattle.block_sim.proofs.Carried.{never}
 use Rattle.bench_net.specs.declared.Kind.{Kind}
 use Rattle.bench_net.specs.Statement.{Name, Statement, Gate}
 use Rattle.bench_net.specs.Scan.{names, signal, definition, gate_of}
 use Rattle.bench_net.specs.Circuit.{IsWellFormed}
-use Rattle.lists.proofs.Members.{Among, among, contained}
+use Rattle.lists.proofs.Members.{among, contained}
 use Rattle.lists.proofs.Places.{place_within}
 use Rattle.bench_net.proofs.Public.{name_of-signal, read_named}
 use Rattle.fault_model.specs.declared.Line.TheVariants as line
 use Rattle.fault_model.specs.Fault.{Fault}
 use Rattle.fault_model.specs.Solution.{Test, Solves, Detects, under, value}
 use Rattle.fault_model.proofs.Public.{agree, defined_among, definition-signal, signal_apart}
-use Rattle.block_sim.specs.Events.{bits_of, IsObserved, Reads}
+use Rattle.block_sim.specs.Events.{bits_of, Reads}
 use Rattle.block_sim.specs.Regions.{DetectsFlip, HasCome, IsReadBy, LanesLaw, Passes, turned_at}
 use Rattle.block_sim.specs.Words.{lane, lane_bits, overlaid, pin_bits, test_of, AreWords}
 use Rattle.block_sim.proofs.Bridge.{lane_same}
@@ -195,18 +193,3 @@ read_within c g s well r =
 -- what reads a signal is a gate
 pub reader_driven : (c : List Statement) (g s : ℕ) → IsWellFormed c → Reads c g s → gate_of c g ≡ None → ⊥
 reader_driven c g s well r none = never (gate_of c g) (r.kind, map (signal c) r.args) (gate_named c r.name r.kind r.args g well r.number r.gate) none
-
--- the one reader of a signal that no observer reads
-pub lone : (c : List Statement) (s : ℕ) (readers : List Reader) (none : Reader) (observed : Bool) → AreReaders c s readers → length readers ≡ 1 → ((observed ≡ true) ↔ IsObserved c s) → observed ≡ false
-    → IsReadBy c (slice_index_or readers 0 none).gate s
-lone c s [] none observed are one is off = let bad : 0 ≡ 1 = one in absurd (omega (arith, bad))
-lone c s (r ∷ q ∷ readers) none observed are one is off = absurd (omega (arith, one))
-lone c s (r ∷ []) none observed are one is off = record {
-  reads = (are.each 0 none (omega arith)).0;
-  alone = λ h reads. only h (among (r.gate ∷ []) h (are.all h reads));
-  unobserved = λ o. false≢true (sym off ∙ is.1 o);
-}
-  where
-    only : (h : ℕ) → Among h (r.gate ∷ []) → h ≡ r.gate
-    only h (inl e) = sym e
-    only h (inr bad) = absurd bad

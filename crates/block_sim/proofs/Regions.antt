@@ -17,7 +17,7 @@ use Rattle.fault_model.specs.Fault.{Fault, branch, faults, same_line}
 use Rattle.fault_model.specs.Solution.{Test, Solves, Detects, value}
 use Rattle.fault_model.specs.Detection.{HasBit, carried}
 use Rattle.fault_model.proofs.Public.{IsOn, defined_among, definition-signal, has_solutions, listed_on, observes, same_lines, signal_apart, under_own}
-use Rattle.block_sim.specs.Regions.{Alters, Arrives, there, over, DetectsFlip, FaultLaw, IsReadBy, ObserverLaw, OneStemLaw, Passes, RegionLaw, RunsTo, here, onward, StemLaw, StepLaw, flip, start_of, turned_at}
+use Rattle.block_sim.specs.Regions.{Alters, Arrives, there, over, DetectsFlip, FaultLaw, IsReadBy, ObserverLaw, Passes, RegionLaw, RunsTo, here, onward, StemLaw, StepLaw, flip, start_of, turned_at}
 use Rattle.block_sim.proofs.Entered.{Enters, IsFree, arg_named, gate_named, same_where}
 use Rattle.block_sim.proofs.Started.{data_observed, output_observed}
 use Rattle.block_sim.proofs.Flips.{altered, bit_is, entered_back, entered_there, gate_turned, not_back, not_itself, pin_enters, stem_back, stem_enters, stem_stuck, stem_there, turned_of}
@@ -244,13 +244,3 @@ module _ (c : List Statement) (well : IsWellFormed c) (f : Fault) (t : Test) (is
 
 pub observer_law : (c : List Statement) → IsWellFormed c → ObserverLaw c
 observer_law c well m f t at is = (observed_there c well f t is, observed_back c well f t is)
-
--- ---- a region has one stem
-one_end : {c : List Statement} {s r q : ℕ} → RunsTo c s r → ((g : ℕ) → IsReadBy c g r → ⊥) → RunsTo c s q → ((g : ℕ) → IsReadBy c g q → ⊥) → r ≡ q
-one_end here p here l = refl
-one_end here p (onward {g = g} h y) l = absurd (p g h)
-one_end (onward {g = g} h x) p here l = absurd (l g h)
-one_end {c} {q = q} (onward {g = g} h x) p (onward {g = k} j y) l = one_end x p (subst (λ z. RunsTo c z q) (h.alone k j.reads) y) l
-
-pub one_stem_law : (c : List Statement) → OneStemLaw c
-one_stem_law c s r q a b = one_end a.0 a.1 b.0 b.1

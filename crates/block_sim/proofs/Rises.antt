@@ -13,7 +13,7 @@ use Rattle.fault_model.proofs.Public.{below_greatest, defined_among}
 use Rattle.block_sim.specs.Events.{Reads, level_at}
 use Rattle.block_sim.proofs.LevelOrder.{one_level}
 
-level_named : (c : List Statement) (level : Name → ℕ) (n : Name) (s : ℕ) → Contains (names c) n → signal c n ≡ s → level_at c level s ≡ level n
+pub level_named : (c : List Statement) (level : Name → ℕ) (n : Name) (s : ℕ) → Contains (names c) n → signal c n ≡ s → level_at c level s ≡ level n
 level_named c level n s at number = ap (λ x. level_at c level x) (sym number) ∙ ap (λ (o : Option Name). option_map_or level o 0) (name_of-signal c n at)
 
 pub reads_rise : (c : List Statement) (level : Name → ℕ) → IsWellFormed c → AreLevels c level → (g s : ℕ) → Reads c g s → level_at c level s < level_at c level g

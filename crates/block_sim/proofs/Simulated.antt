@@ -1,20 +1,12 @@
 -- Outcomes that are kept, and classes that are followed to one stem.
 use Rattle.std.proofs.Common.{◌≡◌, ◌≢◌, ◌+◌, ◌<◌, ◌≤◌, ℕ, sym, ◌∙◌, ap, subst, List, [], ◌∷◌, ◌++◌, length, set}
 use Rattle.std.proofs.Common.{inl, inr, ◌⊎◌, arith}
-use Rattle.std.specs.Prelude.{Contains, Some, None, bit_and, slice_index_or, unwrap_or}
+use Rattle.std.specs.Prelude.{bit_and, slice_index_or}
 use Rattle.std.proofs.lemmas.Bool.{cases_eq}
 use Rattle.std.proofs.lemmas.List.{get_or-set_same, get_or-set_other, length-set}
 use Rattle.lists.proofs.Members.{Among, among, among_append, contained}
-use Rattle.lists.proofs.Places.{place_within}
-use Rattle.bench_net.specs.Statement.{Name, Statement}
 use Rattle.bench_net.specs.Scan.{names}
 use Rattle.bench_net.specs.Circuit.{IsWellFormed}
-use Rattle.fault_model.specs.declared.Line.{Line}
-use Rattle.fault_model.specs.declared.Line.TheVariants as line
-use Rattle.fault_model.specs.declared.Model.{Model}
-use Rattle.fault_model.specs.Fault.{Fault, FaultList, fault_list}
-use Rattle.fault_model.specs.Detection.{carried}
-use Rattle.fault_model.proofs.Public.{carries}
 use Rattle.patterns.specs.declared.Outcome.{Outcome}
 use Rattle.block_sim.specs.declared.simulation.Memo.{Memo}
 use Rattle.block_sim.specs.declared.simulation.Memo.TheVariants.{Nothing}
@@ -22,10 +14,9 @@ use Rattle.block_sim.specs.declared.spread.Followed.{Followed}
 use Rattle.block_sim.specs.declared.changes.Changes.{Changes}
 use Rattle.block_sim.specs.Changes.{HasRoomFor, IsAsLarge, IsAtRest, IsClear}
 use Rattle.block_sim.specs.Parts.{Parts}
-use Rattle.block_sim.specs.Regions.{TellsFirstFlips, start_of}
+use Rattle.block_sim.specs.Regions.{TellsFirstFlips}
 use Rattle.block_sim.specs.Simulation.{AreFollowed, AreTrueMemos, HasArrived, IsOutcomeIn, IsTrueMemo}
 use Rattle.block_sim.specs.Words.{IsLeastLane}
-use Rattle.block_sim.proofs.Carried.{gate_within}
 use Rattle.block_sim.proofs.Deep.{level_within}
 use Rattle.block_sim.proofs.RegionLanes.{lanes_law}
 
@@ -70,21 +61,6 @@ followed_more job block stem followed one before within at x there =
         subst (λ (y : Followed). (y.class < length job.classes.representative) × HasArrived job block stem y.class y.lanes)
         same (within, at)
     go (inr (inr bad)) = absurd bad
-
--- the first signal that a listed fault can alter is one of the circuit
-pub start_within : (m : Model) (c : List Statement) (f : Fault) (s : ℕ) → IsWellFormed c → (list : FaultList)
-    → list ≡ fault_list m c → Contains list.list f → {l : Line} → l ≡ f.line → start_of l ≡ Some s
-    → s < length (names c)
-start_within m c f s well list is at on begins = go f.line n.0 n.1 (ap start_of (sym on) ∙ begins)
-  where
-    n : (n : Name) × (carried c f.line ≡ Some n) × Contains (names c) n
-    n = carries m c f well (subst (λ fs. Contains fs f) (ap (λ (x : FaultList). x.list) is) at)
-
-    go : (l : Line) (n : Name) → carried c l ≡ Some n → start_of l ≡ Some s → s < length (names c)
-    go (line.Stem r) n at e = subst (λ x. x < length (names c)) (ap (λ o. unwrap_or o r) e) (place_within (names c) r n at)
-    go (line.Pin g p) n at e = subst (λ x. x < length (names c)) (ap (λ o. unwrap_or o g) e) (gate_within c g p n at)
-    go (line.Data cell) n at e = let bad : None ≡ Some s = e in cc
-    go (line.Out o) n at e = let bad : None ≡ Some s = e in cc
 
 -- what is at rest has room for each level of a circuit that it has room for
 pub room_at_rest : (job : Parts) (changes : Changes) → IsWellFormed job.circuit → IsAtRest changes

@@ -11,13 +11,15 @@ use Rattle.block_sim.specs.declared.flat.Row.{Row}
 use Rattle.block_sim.specs.declared.flat.Reader.{Reader}
 use Rattle.block_sim.specs.Events.{Reads, IsObserved}
 use Rattle.block_sim.specs.Forms.{IsFormOf}
+use Rattle.block_sim.specs.Regions.{lone_reader}
 
 -- each reader is a gate that reads the signal, with its level, and each such gate is among them
 pub record AreReaders (c : List Statement) (s : ℕ) (readers : List Reader) : Type 0 where
   pub each : All (λ reader. Reads c reader.gate s × HasLevel c reader.gate reader.level) readers
   pub all : (g : ℕ) → Reads c g s → Contains (map (λ reader. reader.gate) readers) g
 
--- a row says what drives a signal, what reads it, its level, and whether an observer observes it
+-- a row says what drives a signal, what reads it and what alone does, its level, and whether an
+-- observer observes it
 pub record IsRow (c : List Statement) (pins : List ℕ) (readers : List Reader) (s : ℕ) (row : Row) :
     Type 0 where
   pub pins_in : (row.pins_start ≤ row.pins_end) × (row.pins_end ≤ length pins)
@@ -27,6 +29,7 @@ pub record IsRow (c : List Statement) (pins : List ℕ) (readers : List Reader) 
       ≡ gate_of c s
   pub formed : IfSome row.driver (λ driver. IsFormOf driver.kind driver.form)
   pub read_by : AreReaders c s (slice_range readers row.readers_start row.readers_end)
+  pub lone : row.lone_reader ≡ lone_reader c s
   pub level : HasLevel c s row.level
   pub observed : IsTrue row.observed ↔ IsObserved c s
 

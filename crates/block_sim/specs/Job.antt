@@ -5,6 +5,7 @@ use Rattle.bench_net.specs.Scan.{names}
 use Rattle.fault_model.specs.Solution.{Test}
 use Rattle.patterns.specs.Tests.{blocks, max_pieces}
 use Rattle.block_sim.specs.Parts.{Parts, BelongTogether, piece_count}
+use Rattle.block_sim.specs.Regions.{HaveStems}
 use Rattle.block_sim.specs.Words.{AreWords}
 
 -- the words of the first blocks without a fault, one row of words a block
@@ -13,11 +14,13 @@ AreFaultFree c tests rows = (block : ℕ) (row : List ℕ) → slice_get rows bl
     → (length row ≡ length (names c)) × AreWords c tests block None row
 
 -- The parts belong together, their pieces are within the limit, the rows are the fault-free words
--- of all blocks, and each class has a next one.
-pub record IsJob (parts : Parts) (rows : List (List ℕ)) (next : List ℕ) : Type 0 where
+-- of all blocks, and each class has its stem and a next class.
+pub record IsJob (parts : Parts) (rows : List (List ℕ)) (class_stems next : List ℕ) : Type 0 where
   pub together : BelongTogether parts
   pub few : piece_count parts ≤ max_pieces
   pub count : length rows ≡ blocks (length parts.tests.tests)
   pub fault_free : AreFaultFree parts.circuit parts.tests.tests rows
+  pub stem_count : length class_stems ≡ length parts.classes.representative
+  pub stems : HaveStems parts.list.model parts.circuit class_stems
   pub nexts : length next ≡ length parts.classes.representative
   pub next_within : All (λ class. class < length parts.classes.representative) next

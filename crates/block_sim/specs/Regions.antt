@@ -1,22 +1,22 @@
 -- Regions without fan-out: signals from which one way alone leads on, and what a signal that is
 -- turned round does at their end.
-use Rattle.std.specs.Prelude.{◌≡◌, ◌≢◌, ◌↔◌, ◌==◌, ◌<◌, ◌≤◌, ◌+◌, ◌*◌, ℕ, Bool, true, false, not}
-use Rattle.std.specs.Prelude.{List, length}
+use Rattle.std.specs.Prelude.{◌≡◌, ◌≢◌, ◌↔◌, ◌==◌, ◌<◌, ◌≤◌, ◌+◌, ◌*◌, ℕ, Bool, true, false}
+use Rattle.std.specs.Prelude.{not, List, length, slice_get, option_map}
 use Rattle.std.specs.Prelude.{map, bit_and, slice_index_or, Contains, Option, Some, None}
 use Rattle.std.specs.Prelude.{if◌then◌else◌}
 use Rattle.std.specs.Bool.{Decides}
 use Rattle.bench_net.specs.declared.Kind.{Kind}
 use Rattle.bench_net.specs.Statement.{Name, Statement, Gate}
-use Rattle.bench_net.specs.Scan.{signal, name_of}
+use Rattle.bench_net.specs.Scan.{names, signal, name_of}
 use Rattle.fault_model.specs.declared.Line.{Line}
 use Rattle.fault_model.specs.declared.Line.TheVariants as line
 use Rattle.fault_model.specs.declared.Model.{Model}
 use Rattle.fault_model.specs.declared.Model.TheVariants.{StuckAt}
 use Rattle.fault_model.specs.Fault.{Fault, faults}
 use Rattle.fault_model.specs.Solution.{Test, Solves, Detects, value}
-use Rattle.fault_model.specs.Collapse.{readers}
+use Rattle.fault_model.specs.Collapse.{readers, representatives}
 use Rattle.fault_model.specs.Known.{only_gate}
-use Rattle.fault_model.specs.Detection.{HasBit, LooksBack}
+use Rattle.fault_model.specs.Detection.{HasBit, LooksBack, carried}
 use Rattle.patterns.specs.declared.Outcome.{Outcome}
 use Rattle.patterns.specs.Tests.{size_of}
 use Rattle.block_sim.specs.Events.{Reads, IsObserved}
@@ -31,22 +31,83 @@ pub record IsReadBy (c : List Statement) (g s : ℕ) : Type 0 where
   pub alone : (h : ℕ) → Reads c h s → h ≡ g
   pub unobserved : ¬ IsObserved c s
 
--- so it is where one pin is all that reads it
+-- the gate of the pin that is the whole fan-out of a signal, where that is one pin of one gate
+abbrev pub lone_reader : List Statement → ℕ → Option ℕ
+lone_reader c s = only_gate (readers c (line.Stem s))
+
+-- such a gate reads the signal alone
 abbrev pub PinLaw : List Statement → Type 0
-PinLaw c = (s g : ℕ) → only_gate (readers c (line.Stem s)) ≡ Some g → IsReadBy c g s
+PinLaw c = (s g : ℕ) → lone_reader c s ≡ Some g → IsReadBy c g s
+
+-- A signal is a stem where its fan-out is not one pin of one gate: where it has none or several
+-- pins, be they of one gate, or where it is observed, at an output or a cell's data pin.
+abbrev pub IsStem : List Statement → ℕ → Type 0
+IsStem c s = lone_reader c s ≡ None
+
+-- from one signal to another by steps of a relation
+pub data Chain (step : ℕ → ℕ → Type 0) : ℕ → ℕ → Type 0 where
+  here : {s : ℕ} → Chain step s s
+  onward : {s g r : ℕ} → step s g → Chain step g r → Chain step s r
 
 -- a signal runs to another: over gates each of which alone reads the signal before it
-pub data RunsTo (c : List Statement) : ℕ → ℕ → Type 0 where
-  here : {s : ℕ} → RunsTo c s s
-  onward : {s g r : ℕ} → IsReadBy c g s → RunsTo c g r → RunsTo c s r
+abbrev pub RunsTo : List Statement → ℕ → ℕ → Type 0
+RunsTo c s r = Chain (λ t g. IsReadBy c g t) s r
 
--- the stem of a signal's region: the signal runs to it, and it is read by no gate alone
+-- a signal leads to another: over signals that are no stems, each to the gate that it fans out to
+abbrev pub LeadsTo : List Statement → ℕ → ℕ → Type 0
+LeadsTo c s r = Chain (λ t g. lone_reader c t ≡ Some g) s r
+
+-- the stem of a signal's fan-out-free region: the first stem to which the signal leads
 abbrev pub IsStemOf : List Statement → ℕ → ℕ → Type 0
-IsStemOf c r s = RunsTo c s r × ((g : ℕ) → ¬ IsReadBy c g r)
+IsStemOf c r s = LeadsTo c s r × IsStem c r
 
--- a signal's region has one stem
+-- each signal's region has a stem, and has one alone
 abbrev pub OneStemLaw : List Statement → Type 0
 OneStemLaw c = (s r q : ℕ) → IsStemOf c r s → IsStemOf c q s → r ≡ q
+
+abbrev pub SomeStemLaw : List Statement → Type 0
+SomeStemLaw c = (s : ℕ) → s < length (names c)
+    → (r : ℕ) × (r < length (names c)) × IsStemOf c r s
+
+-- what leads to a signal runs to it
+abbrev pub LeadLaw : List Statement → Type 0
+LeadLaw c = (s r : ℕ) → LeadsTo c s r → RunsTo c s r
+
+-- where a line's way to its stem begins: at the gate of a pin, and of any other line at the signal
+-- that it carries
+abbrev pub way_from : List Statement → Line → Option ℕ
+way_from c (line.Stem s) = Some s
+way_from c (line.Pin gate pin) = Some gate
+way_from c (line.Data cell) = option_map (signal c) (carried c (line.Data cell))
+way_from c (line.Out output) = option_map (signal c) (carried c (line.Out output))
+
+-- the stem of a line's region
+abbrev pub IsStemOfLine : List Statement → ℕ → Line → Type 0
+IsStemOfLine c r l = (s : ℕ) × (way_from c l ≡ Some s) × IsStemOf c r s
+
+-- the stem of a class: that of its representative's line
+abbrev pub IsStemOfClass : Model → List Statement → ℕ → ℕ → Type 0
+IsStemOfClass m c class r =
+    (f : Fault) × (slice_get (representatives m c) class ≡ Some f) × IsStemOfLine c r f.line
+
+-- each class has a stem, and has one alone
+abbrev pub OneClassStemLaw : Model → List Statement → Type 0
+OneClassStemLaw m c = (class r q : ℕ) → IsStemOfClass m c class r → IsStemOfClass m c class q
+    → r ≡ q
+
+abbrev pub SomeClassStemLaw : Model → List Statement → Type 0
+SomeClassStemLaw m c = (class : ℕ) → class < length (representatives m c)
+    → (r : ℕ) × (r < length (names c)) × IsStemOfClass m c class r
+
+-- the table has at a signal's number the stem of the signal
+abbrev pub HasStem : List Statement → List ℕ → ℕ → Type 0
+HasStem c stems s = (slice_index_or stems s 0 < length (names c))
+    × IsStemOf c (slice_index_or stems s 0) s
+
+-- the table has the stems of the first classes, each the number of a signal
+abbrev pub HaveStems : Model → List Statement → List ℕ → Type 0
+HaveStems m c stems = (class r : ℕ) → slice_get stems class ≡ Some r
+    → (r < length (names c)) × IsStemOfClass m c class r
 
 -- the stuck-at fault that turns a signal round which has this bit
 abbrev pub flip : ℕ → Bool → Fault

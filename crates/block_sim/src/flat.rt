@@ -7,9 +7,11 @@ ghost use Rattle.bench_net.specs.declared.Kind.{Kind};
 ghost use Rattle.bench_net.specs.Scan.{names, gate_of};
 ghost use Rattle.bench_net.specs.Circuit.{IsCircuit};
 ghost use Rattle.bench_net.specs.Level.{HasLevel};
+ghost use Rattle.fault_model.specs.Known.{only_gate};
 ghost use Rattle.block_sim.specs.Events.{IsObserved};
 ghost use Rattle.block_sim.specs.Flat.{AreReaders, HasMore, IsDriver, IsFlat, IsRow};
 ghost use Rattle.block_sim.specs.Forms.{IsFormOf};
+ghost use Rattle.block_sim.specs.Regions.{lone_reader};
 
 use crate::form::Form;
 use bench_net::{Circuit, Kind, Sink};
@@ -44,6 +46,8 @@ struct Driver {
 struct Row {
     /// `None` for a source.
     driver: Option<Driver>,
+    /// The gate of the pin that is all that reads the signal; `None` for a stem.
+    lone_reader: Option<u32>,
     observed: bool,
     level: u32,
     pins_start: usize,
@@ -126,6 +130,16 @@ impl FlatCircuit {
         &self.lists.readers[row.readers_start..row.readers_end]
     }
 
+    /// The gate of the pin that is the whole fan-out of a signal. `None` for a stem: a signal that
+    /// no pin or several pins read, or an observer.
+    #[inline(always)]
+    pub fn lone_reader(&self, signal: u32) -> Option<u32>
+        requires { signal < length (names self.now) }
+        ensures { result ≡ lone_reader self.now signal }
+    {
+        self.lists.rows[signal as usize].lone_reader
+    }
+
     /// Whether an observer observes a signal.
     #[inline(always)]
     pub fn is_observed(&self, signal: u32) -> bool
@@ -184,6 +198,7 @@ fn add_row(
     let observed = add_readers(circuit, signal, readers)?;
     Ok(Row {
         driver,
+        lone_reader: only_gate(circuit.sinks_of(signal)),
         observed,
         level: circuit.level_of(signal),
         pins_start,
@@ -211,6 +226,16 @@ fn add_pins(
             Ok(Some(Driver { kind, form }))
         }
         None => Ok(None),
+    }
+}
+
+/// The gate whose pin is the only one of these sinks.
+fn only_gate(sinks: &[Sink]) -> Option<u32>
+    ensures { result ≡ only_gate sinks.now }
+{
+    match sinks {
+        [Sink::Pin { gate, .. }] => Some(*gate),
+        _ => None,
     }
 }
 

@@ -9,11 +9,12 @@ ghost use Rattle.fault_model.specs.Collapse.{representatives};
 ghost use Rattle.patterns.specs.Tests.{IsTestList, blocks, max_pieces};
 ghost use Rattle.block_sim.specs.Job.{AreFaultFree};
 ghost use Rattle.block_sim.specs.Parts.{BelongTogether, piece_count, with_tests};
+ghost use Rattle.block_sim.specs.Regions.{IsStemOfClass};
 ghost use Rattle.block_sim.specs.Stuck.{stuck_fault};
 ghost use Rattle.block_sim.specs.Words.{AreWords, IsFaultFreeWord};
 
 use crate::flat::FlatCircuit;
-use crate::region_classes::next_in_region;
+use crate::region_classes::{class_stems, next_with_stem};
 use crate::words::{Stuck, evaluate};
 use bench_net::Circuit;
 use fault_model::{Classes, Faults};
@@ -44,8 +45,8 @@ impl From<AllocError> for JobFault {
     }
 }
 
-/// A circuit, its faults and classes, and tests for it, with the fault-free words of every block
-/// and the classes of each fan-out-free region in a circle.
+/// A circuit, its faults and classes, and tests for it, with the fault-free words of every block,
+/// the stem of each class, and the classes of each fan-out-free region in a circle.
 #[derive(Drop)]
 pub struct Job {
     flat: FlatCircuit,
@@ -53,6 +54,7 @@ pub struct Job {
     classes: Classes,
     tests: Tests,
     rows: Vec<Vec<u64>>,
+    class_stems: Vec<u32>,
     next_in_region: Vec<u32>,
 }
 
@@ -76,12 +78,12 @@ impl Model for Job {
       classes = j.classes;
       tests = j.tests;
     })
-        (map (λ row. row.items) j.rows.items) j.next_in_region.items };
+        (map (λ row. row.items) j.rows.items) j.class_stems.items j.next_in_region.items };
 }
 
 impl Job {
     /// A job of parts that belong together: the faults and the classes are those of the circuit,
-    /// and the tests have its width. It takes a word for each signal and block, and a number for
+    /// and the tests have its width. It takes a word for each signal and block, and two numbers for
     /// each class.
     ///
     /// Refused as `TooManyPieces` exactly where classes times blocks are more than
@@ -120,13 +122,16 @@ impl Job {
         }
         let flat = FlatCircuit::new(alloc, circuit)?;
         let rows = fault_free_rows(alloc, &flat, &tests)?;
-        let next_in_region = next_in_region(alloc, &flat, &faults, &classes)?;
+        let class_stems = class_stems(alloc, &flat, &faults, &classes)?;
+        let signals = flat.circuit().signals();
+        let next_in_region = next_with_stem(alloc, class_stems.as_slice(), signals)?;
         Ok(Job {
             flat,
             faults,
             classes,
             tests,
             rows,
+            class_stems,
             next_in_region,
         })
     }
@@ -211,6 +216,18 @@ impl Job {
             line: self.faults.line_of(fault),
             at_one: self.faults.stuck_of(fault),
         }
+    }
+
+    /// The number of the signal that is the stem of a class, from 0: the stem of the fan-out-free
+    /// region of its representative. A signal is a stem unless its fan-out is one pin of one gate.
+    /// A fault on a gate's pin lies in the region of the gate's signal, any other in that of the
+    /// signal that its line carries (Lee and Ha, HOPE: An Efficient Parallel Fault Simulator).
+    pub fn stem_of_class(&self, class: u32) -> u32
+        requires { class < length self.now.classes.representative }
+        ensures stem { IsStemOfClass self.now.list.model self.now.circuit class result }
+        ensures within { result < length (names self.now.circuit) }
+    {
+        self.class_stems[class as usize]
     }
 
     /// The class after this one in the circle of its region.

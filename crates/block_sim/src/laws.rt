@@ -11,8 +11,9 @@ ghost use Rattle.fault_model.specs.Solution.{Test};
 ghost use Rattle.patterns.specs.declared.Outcome.{Outcome};
 ghost use Rattle.patterns.specs.Least.{Table};
 ghost use Rattle.block_sim.specs.First.{IsTrueOutcome, IsTrueTable, LeastIsFirst};
-ghost use Rattle.block_sim.specs.Regions.{FaultLaw, LanesLaw, ObserverLaw, OneStemLaw, PinLaw};
-ghost use Rattle.block_sim.specs.Regions.{RegionLaw, StemLaw, StepLaw};
+ghost use Rattle.block_sim.specs.Regions.{FaultLaw, LanesLaw, LeadLaw, ObserverLaw, OneClassStemLaw};
+ghost use Rattle.block_sim.specs.Regions.{OneStemLaw, PinLaw, RegionLaw, SomeClassStemLaw};
+ghost use Rattle.block_sim.specs.Regions.{SomeStemLaw, StemLaw, StepLaw};
 
 /// The first test that detects a fault is found by blocks: over a table with the true outcome of
 /// each class and block, the test of a class's first Hit is the first test that detects each fault
@@ -35,6 +36,12 @@ pub fn one_outcome()
         → IsTrueOutcome m c tests class block second → first ≡ second }
 {}
 
+/// Each class has one stem, in either model.
+pub fn class_stems()
+    ensures one { (m : Model) (c : List Statement) → OneClassStemLaw m c }
+    ensures some { (m : Model) (c : List Statement) → IsWellFormed c → SomeClassStemLaw m c }
+{}
+
 /// Faults share what lies behind the stem of a fan-out-free region: a signal that one gate alone
 /// reads is detected turned round exactly where the gate passes that on and is detected turned
 /// round itself, and a fault is detected exactly where it alters its first signal and that is detected
@@ -42,6 +49,8 @@ pub fn one_outcome()
 pub fn regions()
     ensures pin { (c : List Statement) → IsWellFormed c → PinLaw c }
     ensures one_stem { (c : List Statement) → OneStemLaw c }
+    ensures some_stem { (c : List Statement) → IsWellFormed c → SomeStemLaw c }
+    ensures lead { (c : List Statement) → IsWellFormed c → LeadLaw c }
     ensures step { (c : List Statement) → IsWellFormed c → StepLaw c }
     ensures region { (c : List Statement) → IsWellFormed c → RegionLaw c }
     ensures fault { (c : List Statement) → IsWellFormed c → FaultLaw c }

@@ -1,19 +1,19 @@
 //! The way of a fault through its fan-out-free region: from gate to gate, each of which alone reads
 //! the signal before it, to the stem; and the stem turned round for all that came to it.
 
-ghost use Rattle.std.specs.Prelude.{◌≡◌, ℕ, ◌+◌, ◌<◌, ◌≤◌, Contains, IfSome, List, None, true};
+ghost use Rattle.std.specs.Prelude.{◌≡◌, ℕ, ◌+◌, ◌<◌, ◌≤◌, Contains, List, None, true};
 ghost use Rattle.std.specs.Prelude.{length};
 ghost use Rattle.bench_net.specs.Scan.{names};
 ghost use Rattle.fault_model.specs.Fault.{Fault, faults};
 ghost use Rattle.fault_model.specs.Solution.{Test};
 ghost use Rattle.block_sim.specs.Changes.{HasRoomFor, IsAsLarge, IsClear};
-ghost use Rattle.block_sim.specs.Regions.{HasCome, IsReached, IsReadBy, TellsFirstFlips};
+ghost use Rattle.block_sim.specs.Regions.{HasCome, IsReached, IsReadBy};
+ghost use Rattle.block_sim.specs.Regions.{TellsFirstFlips};
 ghost use Rattle.block_sim.specs.Stuck.{stuck_fault};
 ghost use Rattle.block_sim.specs.Words.{lane, AreWords, HasWords};
 
 use crate::changes::Changes;
 use crate::effect::gate_change;
-use crate::flat::FlatCircuit;
 use crate::look_back::carried;
 use crate::spread::{Extent, Followed, spread};
 use crate::view::BlockView;
@@ -25,20 +25,6 @@ use fault_model::Line;
 pub struct Arrival {
     pub signal: u32,
     pub lanes: u64,
-}
-
-/// A gate that alone reads a signal, by one pin. None where several read it, or an observer.
-#[inline(always)]
-pub fn lone_reader(circuit: &FlatCircuit, signal: u32) -> Option<u32>
-    requires { signal < length (names circuit.now) }
-    ensures { IfSome result (λ gate. IsReadBy circuit.now gate signal) }
-{
-    let readers = circuit.readers_of(signal);
-    if readers.len() == 1 && !circuit.is_observed(signal) {
-        Some(readers[0].gate)
-    } else {
-        None
-    }
 }
 
 /// The lanes in which a fault comes over the gate that alone reads a signal, of those in which it
@@ -73,8 +59,8 @@ fn cross(view: BlockView<'_>, at: Arrival, gate: u32, changes: &mut Changes) -> 
     }
 }
 
-/// Follows a fault from a signal to which it has come, over gates that alone read what is before
-/// them, while it comes over in some lane.
+/// Follows a fault from a signal to which it has come to the stem of that, over gates that alone
+/// read what is before them.
 pub fn arrive(view: BlockView<'_>, from: Arrival, changes: &mut Changes) -> Arrival
     requires view { HasWords view.circuit.now view.good.now }
     requires room { HasRoomFor view.circuit.now changes.old }
@@ -91,7 +77,7 @@ pub fn arrive(view: BlockView<'_>, from: Arrival, changes: &mut Changes) -> Arri
 {
     let mut at = from;
     for _step in 0..changes.buckets.levels() {
-        match lone_reader(view.circuit, at.signal) {
+        match view.circuit.lone_reader(at.signal) {
             Some(gate) => {
                 let lanes = cross(view, at, gate, changes);
                 at = Arrival {

@@ -1,21 +1,21 @@
-//! The classes of each region without fan-out, in a circle.
+//! The fan-out-free region of each class: its stem, and the other classes of it.
 
-ghost use Rattle.std.specs.Prelude.{◌≡◌, ◌<◌, All, IfOk, IfSome, length};
+ghost use Rattle.std.specs.Prelude.{◌≡◌, ◌<◌, ◌^◌, ℕ, All, IfOk, IfSome, Some, length};
+ghost use Rattle.bench_net.specs.Statement.{Name};
 ghost use Rattle.bench_net.specs.Scan.{names};
 ghost use Rattle.bench_net.specs.Circuit.{IsCircuit};
 ghost use Rattle.fault_model.specs.Fault.{fault_list};
 ghost use Rattle.fault_model.specs.Collapse.{AreClassesOf};
-ghost use Rattle.block_sim.specs.Regions.{start_of};
+ghost use Rattle.fault_model.specs.Detection.{carried};
+ghost use Rattle.block_sim.specs.Regions.{HasStem, HaveStems, IsStemOf, lone_reader, way_from};
 
 use crate::flat::FlatCircuit;
-use crate::region::lone_reader;
+use crate::look_back::carried;
 use fault_model::{Classes, Faults, Line};
 use std::alloc::{AllocError, Global};
 
-/// For each class the next one of its region, and for the last the first: a class belongs to the
-/// region of the first signal that its representative can alter, and one on an observer's line to
-/// none. Which classes are said to share a region is a matter of speed alone.
-pub fn next_in_region(
+/// The stem of each class: that of the region in which its representative's line lies.
+pub fn class_stems(
     alloc: Global,
     circuit: &FlatCircuit,
     faults: &Faults,
@@ -24,105 +24,117 @@ pub fn next_in_region(
     requires circuit { IsCircuit circuit.now }
     requires list { faults.now ≡ fault_list faults.now.model circuit.now }
     requires classes { AreClassesOf faults.now.model circuit.now classes.now }
-    ensures count { IfOk result (λ next.
-        length next.items ≡ length classes.now.representative) }
-    ensures within { IfOk result (λ next.
-        All (λ class. class < length classes.now.representative) next.items) }
+    ensures count { IfOk result (λ stems.
+        length stems.items ≡ length classes.now.representative) }
+    ensures stems { IfOk result (λ stems.
+        HaveStems faults.now.model circuit.now stems.items) }
 {
     let stems = stems_of(alloc, circuit)?;
-    let mut last = vec![in alloc; None; stems.len()]?;
-    let mut next = Vec::with_capacity(alloc, classes.count() as usize)?;
+    let mut class_stems = Vec::with_capacity(alloc, classes.count() as usize)?;
     for class in 0..classes.count() {
-        next.push(class)?;
+        let line = faults.line_of(classes.representative(class));
+        let stem = stems[way_from(circuit, line) as usize];
+        class_stems.push(stem)?;
     }
-    join_regions(circuit, faults, classes, &stems, &mut last, &mut next);
+    Ok(class_stems)
+}
+
+/// For each class the next one with its stem, and for the last the first, where there are this
+/// many signals.
+pub fn next_with_stem(alloc: Global, stems: &[u32], signals: u32) -> Result<Vec<u32>, AllocError>
+    requires stems { All (λ stem. stem < signals) stems.now }
+    requires few { length stems.now < 2 ^ 32 }
+    ensures count { IfOk result (λ next. length next.items ≡ length stems.now) }
+    ensures within { IfOk result (λ next.
+        All (λ class. class < length stems.now) next.items) }
+{
+    let mut last = vec![in alloc; None; signals as usize]?;
+    let mut next = Vec::with_capacity(alloc, stems.len())?;
+    for class in 0..stems.len() {
+        next.push(class as u32)?;
+    }
+    join_circles(stems, &mut last, &mut next);
     Ok(next)
 }
 
 /// Puts each class behind the last one that has its stem, in the circle of that.
-fn join_regions(
-    circuit: &FlatCircuit,
-    faults: &Faults,
-    classes: &Classes,
-    stems: &[u32],
-    last: &mut [Option<u32>],
-    next: &mut [u32],
-)
-    requires circuit { IsCircuit circuit.now }
-    requires list { faults.now ≡ fault_list faults.now.model circuit.now }
-    requires classes { AreClassesOf faults.now.model circuit.now classes.now }
-    requires stems { (length stems.now ≡ length (names circuit.now))
-        × All (λ stem. stem < length (names circuit.now)) stems.now }
-    requires last { (length last.old ≡ length (names circuit.now))
-        × All (λ last. IfSome last (λ class. class < length classes.now.representative)) last.old }
-    requires next { (length next.old ≡ length classes.now.representative)
-        × All (λ class. class < length classes.now.representative) next.old }
-    ensures next { (length next.new ≡ length classes.now.representative)
-        × All (λ class. class < length classes.now.representative) next.new }
+fn join_circles(stems: &[u32], last: &mut [Option<u32>], next: &mut [u32])
+    requires few { length stems.now < 2 ^ 32 }
+    requires stems { All (λ stem. stem < length last.old) stems.now }
+    requires last { All (λ last. IfSome last (λ class. class < length stems.now)) last.old }
+    requires next { (length next.old ≡ length stems.now)
+        × All (λ class. class < length stems.now) next.old }
+    ensures next { (length next.new ≡ length stems.now)
+        × All (λ class. class < length stems.now) next.new }
 {
-    for class in 0..classes.count() {
-        let Some(signal) = first_signal(faults.line_of(classes.representative(class))) else {
-            continue;
-        };
-        let stem = stems[signal as usize] as usize;
+    for class in 0..stems.len() {
+        let stem = stems[class] as usize;
         let before = last[stem];
-        last[stem] = Some(class);
+        last[stem] = Some(class as u32);
         let Some(before) = before else {
             continue;
         };
-        next[class as usize] = next[before as usize];
-        next[before as usize] = class;
+        next[class] = next[before as usize];
+        next[before as usize] = class as u32;
     }
 }
 
-/// The first signal that a fault on a line can alter; none where the line is an observer's.
-fn first_signal(line: Line) -> Option<u32>
-    ensures { result ≡ start_of line }
+/// The signal at which a line's way to its stem begins: the gate's for a pin, and for any other
+/// line the one that it carries.
+fn way_from(circuit: &FlatCircuit, line: Line) -> u32
+    requires circuit { IsCircuit circuit.now }
+    requires named { (n : Name) × (carried circuit.now line ≡ Some n) }
+    ensures { way_from circuit.now line ≡ Some result }
 {
     match line {
-        Line::Stem(signal) => Some(signal),
-        Line::Pin { gate, pin: _ } => Some(gate),
-        Line::Data { .. } | Line::Out { .. } => None,
+        Line::Stem(signal) => signal,
+        Line::Pin { gate, pin: _ } => gate,
+        Line::Data { .. } | Line::Out { .. } => carried(circuit, line),
     }
 }
 
-/// For each signal the stem of its region: the signal itself, or the stem of the gate that alone
-/// reads it. Each round doubles how far a signal's number leads.
+/// For each signal the stem of its region.
 fn stems_of(alloc: Global, circuit: &FlatCircuit) -> Result<Vec<u32>, AllocError>
+    requires circuit { IsCircuit circuit.now }
     ensures count { IfOk result (λ stems. length stems.items ≡ length (names circuit.now)) }
-    ensures within { IfOk result (λ stems.
-        All (λ stem. stem < length (names circuit.now)) stems.items) }
+    ensures stems { IfOk result (λ stems. (signal : ℕ) → signal < length (names circuit.now)
+        → HasStem circuit.now stems.items signal) }
 {
-    let signals = circuit.circuit().signals();
-    let mut stems = Vec::with_capacity(alloc, signals as usize)?;
-    for signal in 0..signals {
-        let stem = match lone_reader(circuit, signal) {
-            Some(gate) => gate,
-            None => signal,
-        };
-        stems.push(stem)?;
-    }
-    for _round in 0..32 {
-        if !lead_on(&mut stems) {
-            break;
-        }
-    }
+    let signals = circuit.circuit().signals() as usize;
+    let mut stems = vec![in alloc; 0u32; signals]?;
+    find_stems(circuit, &mut stems);
     Ok(stems)
 }
 
-/// Lets each number lead to where the number there leads, and tells whether one changed.
-fn lead_on(stems: &mut [u32]) -> bool
-    requires within { All (λ stem. stem < length stems.old) stems.old }
-    ensures count { length stems.new ≡ length stems.old }
-    ensures within { All (λ stem. stem < length stems.old) stems.new }
+/// Finds the stem of each signal, from the last in level order on: a gate comes behind the signals
+/// that it reads.
+fn find_stems(circuit: &FlatCircuit, stems: &mut [u32])
+    requires circuit { IsCircuit circuit.now }
+    requires room { length stems.old ≡ length (names circuit.now) }
+    ensures { (signal : ℕ) → signal < length (names circuit.now)
+        → HasStem circuit.now stems.new signal }
 {
-    let mut changed = false;
-    for signal in 0..stems.len() {
-        let stem = stems[stems[signal] as usize];
-        if stem != stems[signal] {
-            changed = true;
-        }
-        stems[signal] = stem;
+    let order = circuit.circuit().in_level_order();
+    for place in (0..order.len()).rev() {
+        let signal = order[place];
+        let stem = next_stem(circuit, stems, signal);
+        stems[signal as usize] = stem;
     }
-    changed
+}
+
+/// The stem of a signal, where that of the gate that alone reads it is known: the signal itself,
+/// or the stem of that gate.
+fn next_stem(circuit: &FlatCircuit, stems: &[u32], signal: u32) -> u32
+    requires circuit { IsCircuit circuit.now }
+    requires room { length stems.now ≡ length (names circuit.now) }
+    requires signal { signal < length (names circuit.now) }
+    requires reader { (gate : ℕ) → lone_reader circuit.now signal ≡ Some gate
+        → HasStem circuit.now stems.now gate }
+    ensures stem { IsStemOf circuit.now result signal }
+    ensures within { result < length (names circuit.now) }
+{
+    match circuit.lone_reader(signal) {
+        Some(gate) => stems[gate as usize],
+        None => signal,
+    }
 }

@@ -18,6 +18,8 @@ invariant_of-self c =
       few = grind (arith, fit, too_many);
       count = c.in_ok-rows.ensures.count;
       fault_free = c.in_ok-rows.ensures.rows;
+      stem_count = c.self.invariant.stem_count;
+      stems = c.self.invariant.stems;
       nexts = c.self.invariant.nexts;
       next_within = c.self.invariant.next_within;
     }
