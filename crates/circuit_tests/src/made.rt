@@ -131,7 +131,7 @@ fn a_row_of_a_test(rt: HostRuntime) -> Result<(), Fail> {
 #[test]
 fn words_of_faults(rt: HostRuntime) -> Result<(), Fail> {
     let idle = format!(in rt.alloc(); "{}", WordsFault::IdleBits(4))?;
-    assert_eq!(rt; idle.as_str(), "source 4: a bit past the last test");
+    assert_eq!(rt; idle.as_str(), "source 4: a bit past the last of the tests");
     let count = format!(in rt.alloc(); "{}", WordsFault::BadCount)?;
     assert_eq!(rt; count.as_str(), "wrong number of words");
     let many = format!(in rt.alloc(); "{}", WordsFault::TooMany)?;
