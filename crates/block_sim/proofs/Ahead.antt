@@ -6,7 +6,7 @@ use Rattle.std.proofs.lemmas.List.Sums.{sum_by-cons, sum_by-set}
 use Rattle.std.proofs.lemmas.Bool.{cases_eq, false≢true, ltb-true, lt-ltb, le-ltb, eq-eqb, eqb-true, or_left, or_right, or_cases}
 use Rattle.bench_net.specs.Statement.{Statement}
 use Rattle.lists.proofs.Members.{Among, among}
-use Rattle.block_sim.specs.Events.{Reads, AreWoken}
+use Rattle.block_sim.specs.Events.{Reads, IsLive, AreWoken}
 use Rattle.block_sim.specs.Spreading.{is_ahead}
 
 abbrev weight : Bool → ℕ
@@ -86,10 +86,10 @@ ahead_woken c lv before after level s gates above woken = count_le (is_ahead lv 
     kept x e = go (ahead_cases lv after level x e) (woken.only x)
       where
         go : (level < lv x) ⊎ (slice_index_or after x 0 ≢ 0)
-            → (slice_index_or after x 0 ≡ slice_index_or before x 0) ⊎ (Reads c x s × (slice_index_or before x 0 ≡ 0) × (slice_index_or after x 0 ≡ lv x + 1)) → is_ahead lv before level x ≡ true
+            → (slice_index_or after x 0 ≡ slice_index_or before x 0) ⊎ ((Reads c x s × IsLive c x) × (slice_index_or before x 0 ≡ 0) × (slice_index_or after x 0 ≡ lv x + 1)) → is_ahead lv before level x ≡ true
         go (inl lt) w = ahead_above lv before level x lt
         go (inr ne) (inl same) = ahead_waits lv before level x (λ h. ne (same ∙ h))
-        go (inr ne) (inr w) = ahead_above lv before level x (above x w.0)
+        go (inr ne) (inr w) = ahead_above lv before level x (above x w.0.0)
 
 -- one level higher no more are ahead
 pub ahead_higher : (lv : ℕ → ℕ) (at : List ℕ) (level : ℕ) (gates : List ℕ) → count_by (is_ahead lv at (level + 1)) gates ≤ count_by (is_ahead lv at level) gates

@@ -20,11 +20,13 @@ use Rattle.block_sim.specs.Regions.{AreLanesFor}
 use Rattle.block_sim.proofs.Told.{told_of_lanes}
 use Rattle.block_sim.specs.Words.{lane, lane_bits, test_of, AreWords}
 use Rattle.block_sim.specs.Stirred.{IsStirredIn, IsStirredBy, HasStirredIn}
-use Rattle.block_sim.specs.Events.{bits_of, HasEquation, Reads, IsElsewhere}
-use Rattle.block_sim.specs.Spreading.{IsSpreading, IsBalanced, IsFirstChange, AreSeen, AreShown, IsApart, HasTouched}
+use Rattle.block_sim.specs.Events.{bits_of, HasEquation, Reads, IsElsewhere, observed}
+use Rattle.block_sim.specs.Spreading.{IsSpreading, IsBalanced, Counts, IsFirstChange, AreSeen, AreShown, IsApart, HasTouched}
 use Rattle.block_sim.proofs.Lanes.{lane_xor, lane_zero, unlike}
 use Rattle.block_sim.proofs.Bridge.{lane_same}
 use Rattle.block_sim.proofs.Balanced.{balanced_solves, fault_free_holds}
+use Rattle.block_sim.proofs.LiveSignals.{counts_closed}
+use Rattle.block_sim.proofs.RightByNow.{right_by_now}
 use Rattle.block_sim.proofs.Readers.{reader_within}
 use Rattle.block_sim.proofs.Placed.{index_of}
 
@@ -64,15 +66,15 @@ told_of_shown c tests block r good lanes seen well words decides settled h = tol
 -- ---- what was seen
 module _ (c : List Statement) (tests : List Test) (block : ℕ) (f : ℕ → Fault) (good : List ℕ) (lanes : ℕ) (lv : ℕ → ℕ) (start mask : ℕ) (delta at : List ℕ) (level : ℕ) (well : IsWellFormed c)
     (h : IsSpreading c tests block f good lanes lv start mask delta at level) where
-  pub shown_from : (settled : ℕ → Type 0) (seen : ℕ) → ((s : ℕ) → slice_index_or at s 0 ≡ 0)
+  pub shown_from : (settled : ℕ → Type 0) (seen : ℕ) → ((g s : ℕ) → Reads c g s → lv s < lv g) → ((s : ℕ) → slice_index_or at s 0 ≡ 0)
       → ((o : Sink × Name) (k : ℕ) → Contains (observers c) o → (f k).line ≢ branch o.0) → AreSeen c delta mask seen
       → ((k : ℕ) → k < 64 → lane lanes k ≡ true → lane mask k ≡ false → settled k)
       → AreShown c tests block f good lanes settled seen
-  shown_from settled seen idle off are out = record {
+  shown_from settled seen rises idle off are out = record {
     found = λ k lt e. let s = are.found k lt e in (h.inside s.0 k lt s.2, λ v solves. found k lt s.0 s.2 s.1.0 s.1.1 s.1.2 v solves);
     clear = λ k lt in_lanes none unsettled.
         let m = followed k lt in_lanes unsettled (lane mask k) refl in
-        (bits_of c good delta k, balanced_solves c tests block f good mask delta at k well idle h.balanced lt m, λ a. unseen k lt m none a.0 a.1 a.2);
+        let u = has_solutions c well (test_of tests block k) (Some (f k)) in (u.0, u.1, λ a. unseen k lt m none u.0 u.1 a.0 a.1 a.2);
   }
     where
       shown : (k : ℕ) (v : Name → Bool) (o : Sink × Name) → Contains (observers c) o → v o.1 ≡ bits_of c good delta k o.1
@@ -90,9 +92,17 @@ module _ (c : List Statement) (tests : List Test) (block : ℕ) (f : ℕ → Fau
       followed k lt in_lanes unsettled true e = e
       followed k lt in_lanes unsettled false e = absurd (unsettled (out k lt in_lanes e))
 
-      unseen : (k : ℕ) → k < 64 → lane mask k ≡ true → lane seen k ≡ false → (o : Sink × Name) → Contains (observers c) o → shows None (lane_bits c good k) o ≢ shows (Some (f k)) (bits_of c good delta k) o → ⊥
-      unseen k lt m none o there differ =
-          let here = alike (lane (slice_index_or good (signal c o.1) 0) k) (lane (slice_index_or delta (signal c o.1) 0) k) (λ e. differ (e ∙ sym (shown k (bits_of c good delta k) o there refl))) in
+      -- an observed signal counts, so its bit is that of every solution
+      settled_bit : (k : ℕ) → k < 64 → lane mask k ≡ true → (v : Name → Bool) → Solves c (test_of tests block k) (Some (f k)) v → (o : Sink × Name) → Contains (observers c) o → bits_of c good delta k o.1 ≡ v o.1
+      settled_bit k lt m v solves o there =
+          right_by_now c (Counts c lv start) (counts_closed c lv start rises) tests block f good mask delta at h.balanced lv (lv (signal c o.1)) well rises
+          (λ g waits. absurd (waits (idle g))) k lt m v solves o.1 (among (names c) o.1 (observes c o well there).named) (inl (observed (o, there, refl))) (omega arith) (idle (signal c o.1))
+
+      unseen : (k : ℕ) → k < 64 → lane mask k ≡ true → lane seen k ≡ false → (v : Name → Bool) → Solves c (test_of tests block k) (Some (f k)) v
+          → (o : Sink × Name) → Contains (observers c) o → shows None (lane_bits c good k) o ≢ shows (Some (f k)) v o → ⊥
+      unseen k lt m none v solves o there differ =
+          let same = sym (settled_bit k lt m v solves o there) in
+          let here = alike (lane (slice_index_or good (signal c o.1) 0) k) (lane (slice_index_or delta (signal c o.1) 0) k) (λ e. differ (e ∙ sym (shown k v o there same))) in
           false≢true (sym none ∙ are.shown (signal c o.1) k lt m (o, there, refl) here)
 
   -- a gate that reads a signal that differs is stirred
@@ -149,7 +159,7 @@ pub shown_unchanged : (c : List Statement) (tests : List Test) (block : ℕ) (f 
     → ((t : ℕ) → slice_index_or delta t 0 ≡ 0) → start < length delta → diff ≡ 0 → IsFirstChange c tests block f good lanes delta start diff → AreShown c tests block f good lanes settled 0
 shown_unchanged c tests block f good lanes delta start diff settled well clear within none first = record {
   found = λ k lt e. absurd (false≢true (sym (lane_zero k) ∙ e));
-  clear = λ k lt in_lanes unseen unsettled. (bits_of c good (set delta start diff) k, balanced_solves c tests block f good lanes (set delta start diff) [] k well (λ s. refl) balanced lt in_lanes, unapart k);
+  clear = λ k lt in_lanes unseen unsettled. (bits_of c good (set delta start diff) k, balanced_solves c (λ s. Unit {0}) tests block f good lanes (set delta start diff) [] k well (λ s. tt) (λ s. refl) balanced lt in_lanes, unapart k);
 }
   where
     still : (t : ℕ) → slice_index_or (set delta start diff) t 0 ≡ 0
@@ -159,12 +169,12 @@ shown_unchanged c tests block f good lanes delta start diff settled well clear w
         go (inl e) = ap (λ x. slice_index_or (set delta start diff) x 0) e ∙ (get_or-set_same delta start diff 0 within ∙ none)
         go (inr ne) = get_or-set_other delta start t diff 0 ne ∙ clear t
 
-    balanced : IsBalanced c tests block f good lanes (set delta start diff) []
-    balanced s k idle lt in_lanes = go (cases_eq s start)
+    balanced : IsBalanced c (λ s. Unit {0}) tests block f good lanes (set delta start diff) []
+    balanced s k all idle lt in_lanes = go (cases_eq s start)
       where
         go : (s ≡ start) ⊎ (s ≢ start) → HasEquation c (test_of tests block k) (Some (f k)) (bits_of c good (set delta start diff) k) s
         go (inl e) = subst (HasEquation c (test_of tests block k) (Some (f k)) (bits_of c good (set delta start diff) k)) (sym e) (first.first k lt in_lanes)
-        go (inr ne) = fault_free_holds c tests block f good lanes (set delta start diff) s k first.words still (first.elsewhere s k ne) lt
+        go (inr ne) = fault_free_holds c (λ s. Unit {0}) tests block f good lanes (set delta start diff) s k first.words still (first.elsewhere s k ne) lt
 
     unapart : (k : ℕ) → IsApart c (f k) good k (bits_of c good (set delta start diff) k) → ⊥
     unapart k a = a.2 (sym (under_other (f k) (branch a.0.0) (bits_of c good (set delta start diff) k a.0.1) (first.unobserved a.0 k a.1)

@@ -11,11 +11,12 @@ use Rattle.lists.proofs.Members.{among}
 use Rattle.fault_model.specs.Fault.{Fault}
 use Rattle.fault_model.specs.Solution.{Test}
 use Rattle.block_sim.specs.Words.{lane, test_of, AreWords}
-use Rattle.block_sim.specs.Events.{bits_of, HasEquation, Reads, IsElsewhere, AreWoken}
-use Rattle.block_sim.specs.Spreading.{IsSpreading, IsBalanced, IsRightIn, ahead, is_ahead}
+use Rattle.block_sim.specs.Events.{bits_of, HasEquation, Reads, IsElsewhere, IsLive, AreWoken}
+use Rattle.block_sim.specs.Spreading.{IsSpreading, IsBalanced, Counts, IsRightIn, ahead, is_ahead}
 use Rattle.block_sim.proofs.Lanes.{lane_zero}
 use Rattle.block_sim.proofs.Balanced.{balanced_first}
 use Rattle.block_sim.proofs.Ahead.{ahead_cases}
+use Rattle.block_sim.proofs.LiveSignals.{counts_closed, reader_live}
 use Rattle.block_sim.proofs.RightByNow.{right_by_now}
 
 abbrev weight : Bool → ℕ
@@ -35,10 +36,10 @@ count_apart p q (x ∷ xs) h =
 
 module _ (c : List Statement) (tests : List Test) (block : ℕ) (f : ℕ → Fault) (good : List ℕ) (lanes : ℕ) (lv : ℕ → ℕ) (start : ℕ) (well : IsWellFormed c) (rises : (g s : ℕ) → Reads c g s → lv s < lv g)
     (delta at after : List ℕ) (idle : (t : ℕ) → slice_index_or at t 0 ≡ 0) (woken : AreWoken c lv start at after) where
-  which : (r : ℕ) → slice_index_or after r 0 ≢ 0 → Reads c r start × (slice_index_or after r 0 ≡ lv r + 1)
+  which : (r : ℕ) → slice_index_or after r 0 ≢ 0 → (Reads c r start × IsLive c r) × (slice_index_or after r 0 ≡ lv r + 1)
   which r ne = go (woken.only r)
     where
-      go : (slice_index_or after r 0 ≡ slice_index_or at r 0) ⊎ (Reads c r start × (slice_index_or at r 0 ≡ 0) × (slice_index_or after r 0 ≡ lv r + 1)) → Reads c r start × (slice_index_or after r 0 ≡ lv r + 1)
+      go : (slice_index_or after r 0 ≡ slice_index_or at r 0) ⊎ ((Reads c r start × IsLive c r) × (slice_index_or at r 0 ≡ 0) × (slice_index_or after r 0 ≡ lv r + 1)) → (Reads c r start × IsLive c r) × (slice_index_or after r 0 ≡ lv r + 1)
       go (inl e) = absurd (ne (e ∙ idle r))
       go (inr h) = (h.0, h.2)
 
@@ -47,7 +48,7 @@ module _ (c : List Statement) (tests : List Test) (block : ℕ) (f : ℕ → Fau
     where
       go : (x : ℕ) → x ≡ start → (lv start < lv x) ⊎ (slice_index_or after x 0 ≢ 0) → ⊥
       go x e (inl lt) = let same : lv x ≡ lv start = ap lv e in omega (arith, lt, same)
-      go x e (inr ne) = let up = rises x start (which x ne).0 in let same : lv x ≡ lv start = ap lv e in omega (arith, up, same)
+      go x e (inr ne) = let up = rises x start (which x ne).0.0 in let same : lv x ≡ lv start = ap lv e in omega (arith, up, same)
 
   pub spreading_first : (diff : ℕ) → AreWords c tests block None good → ((t : ℕ) → slice_index_or delta t 0 ≡ 0) → ((t k : ℕ) → t ≢ start → IsElsewhere (f k) t)
       → ((k : ℕ) → k < 64 → lane lanes k ≡ true → HasEquation c (test_of tests block k) (Some (f k)) (bits_of c good (set delta start diff) k) start)
@@ -58,8 +59,9 @@ module _ (c : List Statement) (tests : List Test) (block : ℕ) (f : ℕ → Fau
     narrow = λ k lt e. e;
     at_level = λ g ne. (which g ne).1;
     not_below = not_below;
-    touched = λ g ne. (start, (which g ne).0, λ e. differs (sym new_at ∙ e));
-    waits_clear = λ g ne. kept g (λ e. let up = rises g start (which g ne).0 in let same : lv g ≡ lv start = ap lv e in omega (arith, up, same));
+    live = λ g ne. (which g ne).0.1;
+    touched = λ g ne. (start, (which g ne).0.0, λ e. differs (sym new_at ∙ e));
+    waits_clear = λ g ne. kept g (λ e. let up = rises g start (which g ne).0.0 in let same : lv g ≡ lv start = ap lv e in omega (arith, up, same));
     above_clear = λ g lt. kept g (λ e. let same : lv g ≡ lv start = ap lv e in omega (arith, lt, same));
     after_start = λ s ne. from s ne (cases_eq s start);
     inside = λ s k lt e. in_lanes k lt (at_start s k e (cases_eq s start)).1;
@@ -67,11 +69,11 @@ module _ (c : List Statement) (tests : List Test) (block : ℕ) (f : ℕ → Fau
     right = λ s k lt e. right s k lt (at_start s k e (cases_eq s start));
   }
     where
-      balanced_now : IsBalanced c tests block f good lanes (set delta start diff) after
-      balanced_now = balanced_first c tests block f good lanes lv delta at after start diff words clear off woken holds
+      balanced_now : IsBalanced c (Counts c lv start) tests block f good lanes (set delta start diff) after
+      balanced_now = balanced_first c (Counts c lv start) tests block f good lanes lv delta at after start diff words clear off (λ t is_counted reads. reader_live c lv start rises start t (omega arith) is_counted reads) woken holds
 
       not_below : (g : ℕ) → slice_index_or after g 0 ≢ 0 → lv start ≤ lv g
-      not_below g ne = let up = rises g start (which g ne).0 in omega (arith, up)
+      not_below g ne = let up = rises g start (which g ne).0.0 in omega (arith, up)
 
       new_at : slice_index_or (set delta start diff) start 0 ≡ diff
       new_at = get_or-set_same delta start diff 0 within
@@ -94,13 +96,13 @@ module _ (c : List Statement) (tests : List Test) (block : ℕ) (f : ℕ → Fau
       idle_here : slice_index_or after start 0 ≡ 0
       idle_here = go (woken.only start)
         where
-          go : (slice_index_or after start 0 ≡ slice_index_or at start 0) ⊎ (Reads c start start × (slice_index_or at start 0 ≡ 0) × (slice_index_or after start 0 ≡ lv start + 1)) → slice_index_or after start 0 ≡ 0
+          go : (slice_index_or after start 0 ≡ slice_index_or at start 0) ⊎ ((Reads c start start × IsLive c start) × (slice_index_or at start 0 ≡ 0) × (slice_index_or after start 0 ≡ lv start + 1)) → slice_index_or after start 0 ≡ 0
           go (inl e) = e ∙ idle start
-          go (inr r) = let up = rises start start r.0 in absurd (omega (arith, up))
+          go (inr r) = let up = rises start start r.0.0 in absurd (omega (arith, up))
 
       right : (s k : ℕ) → k < 64 → (s ≡ start) × (lane diff k ≡ true) → IsRightIn c tests block f good (set delta start diff) s k
       right s k lt e n v named number solves =
           let is : signal c n ≡ start = number ∙ e.0 in
           let low : lv (signal c n) ≡ lv start = ap lv is in
-          right_by_now c tests block f good lanes (set delta start diff) after balanced_now lv (lv start) well rises not_below k lt (in_lanes k lt e.1) v solves n (among (names c) n named)
-          (omega (arith, low)) (ap (λ x. slice_index_or after x 0) is ∙ idle_here)
+          right_by_now c (Counts c lv start) (counts_closed c lv start rises) tests block f good lanes (set delta start diff) after balanced_now lv (lv start) well rises not_below k lt (in_lanes k lt e.1) v solves n (among (names c) n named)
+          (inr (omega (arith, low))) (omega (arith, low)) (ap (λ x. slice_index_or after x 0) is ∙ idle_here)

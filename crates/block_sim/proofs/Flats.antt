@@ -14,7 +14,7 @@ use Rattle.lists.proofs.Members.{Among}
 use Rattle.lists.proofs.Places.{placed, place_within}
 use Rattle.block_sim.specs.declared.flat.Row.{Row}
 use Rattle.block_sim.specs.declared.flat.Reader.{Reader}
-use Rattle.block_sim.specs.Events.{Reads}
+use Rattle.block_sim.specs.Events.{Reads, IsLive}
 use Rattle.block_sim.specs.Flat.{AreReaders, IsRow, HasMore, AreRows, IsFlat}
 use Rattle.block_sim.proofs.Readers.{read_sink}
 use Rattle.block_sim.proofs.Rows.{pushed_get}
@@ -27,10 +27,10 @@ range_kept xs ys a b up within =
     ap (take (b - a)) (drop-append-le a xs ys (omega (arith, up, within))) ∙ take-append-le (b - a) (drop a xs) ys (omega (arith, long, within))
 
 -- ---- the readers of a signal
--- the gates among the first sinks stand in the list, each with its level
+-- the live gates among the first sinks stand in the list, each with its level
 pub record AreGathered (c : List Statement) (s : ℕ) (items : List Sink) (i : ℕ) (readers : List Reader) : Type 0 where
-  pub each : All (λ reader. Reads c reader.gate s × HasLevel c reader.gate reader.level) readers
-  pub all : (gate pin j : ℕ) → j < i → slice_get items j ≡ Some (sink.Pin gate pin) → Contains (map (λ reader. reader.gate) readers) gate
+  pub each : All (λ reader. (Reads c reader.gate s × IsLive c reader.gate) × HasLevel c reader.gate reader.level) readers
+  pub all : (gate pin j : ℕ) → j < i → slice_get items j ≡ Some (sink.Pin gate pin) → IsLive c gate → Contains (map (λ reader. reader.gate) readers) gate
 
 pub gathered_none : (c : List Statement) (s : ℕ) (items : List Sink) → AreGathered c s items 0 []
 gathered_none c s items = record { each = λ k d lt. absurd (omega (arith, lt)); all = λ gate pin j lt. absurd (omega (arith, lt)) }
@@ -41,24 +41,38 @@ module _ (c : List Statement) (well : IsWellFormed c) (s : ℕ) (n : Name) (name
   pub gathered_passed : (k d : Sink) → i < length items → slice_index_or items i d ≡ k → ((gate pin : ℕ) → k ≢ sink.Pin gate pin) → AreGathered c s items (i + 1) readers
   gathered_passed k d lt e isnt = record {
     each = h.each;
-    all = λ g p j below is. go g p j (at_end i j below) is;
+    all = λ g p j below is live. go g p j (at_end i j below) is live;
   }
     where
-      go : (g p j : ℕ) → (j < i) ⊎ (j ≡ i) → slice_get items j ≡ Some (sink.Pin g p) → Contains (map (λ reader. reader.gate) readers) g
-      go g p j (inl below) is = h.all g p j below is
-      go g p j (inr same) is = absurd (isnt g p (sym (same_gate c well s n named items are i j g p k d lt e same is)))
+      go : (g p j : ℕ) → (j < i) ⊎ (j ≡ i) → slice_get items j ≡ Some (sink.Pin g p) → IsLive c g → Contains (map (λ reader. reader.gate) readers) g
+      go g p j (inl below) is live = h.all g p j below is live
+      go g p j (inr same) is live = absurd (isnt g p (sym (same_gate c well s n named items are i j g p k d lt e same is)))
+
+  -- a gate that is not live
+  pub gathered_dead : (gate pin : ℕ) (d : Sink) → i < length items → slice_index_or items i d ≡ sink.Pin gate pin → ¬ IsLive c gate → AreGathered c s items (i + 1) readers
+  gathered_dead gate pin d lt e dead = record {
+    each = h.each;
+    all = λ g p j below is live. go g p j (at_end i j below) is live;
+  }
+    where
+      go : (g p j : ℕ) → (j < i) ⊎ (j ≡ i) → slice_get items j ≡ Some (sink.Pin g p) → IsLive c g → Contains (map (λ reader. reader.gate) readers) g
+      go g p j (inl below) is live = h.all g p j below is live
+      go g p j (inr same) is live =
+          let one : sink.Pin g p ≡ sink.Pin gate pin = same_gate c well s n named items are i j g p (sink.Pin gate pin) d lt e same is in
+          let here : g ≡ gate = cc in
+          absurd (dead (subst (IsLive c) here live))
 
   -- one gate more
   pub gathered_more : (gate pin : ℕ) (d : Sink) (reader : Reader) → i < length items → slice_index_or items i d ≡ sink.Pin gate pin → reader.gate ≡ gate
-      → Reads c reader.gate s → HasLevel c reader.gate reader.level → AreGathered c s items (i + 1) (readers ++ reader ∷ [])
-  gathered_more gate pin d reader lt e own reads level = record {
-    each = All-push (λ r. Reads c r.gate s × HasLevel c r.gate r.level) readers reader h.each (reads, level);
-    all = λ g p j below is. subst (λ gates. Contains gates g) (sym (map-append (λ r. r.gate) readers (reader ∷ []))) (go g p j (at_end i j below) is);
+      → Reads c reader.gate s → IsLive c reader.gate → HasLevel c reader.gate reader.level → AreGathered c s items (i + 1) (readers ++ reader ∷ [])
+  gathered_more gate pin d reader lt e own reads live level = record {
+    each = All-push (λ r. (Reads c r.gate s × IsLive c r.gate) × HasLevel c r.gate r.level) readers reader h.each ((reads, live), level);
+    all = λ g p j below is alive. subst (λ gates. Contains gates g) (sym (map-append (λ r. r.gate) readers (reader ∷ []))) (go g p j (at_end i j below) is alive);
   }
     where
-      go : (g p j : ℕ) → (j < i) ⊎ (j ≡ i) → slice_get items j ≡ Some (sink.Pin g p) → Contains (map (λ r. r.gate) readers ++ reader.gate ∷ []) g
-      go g p j (inl below) is = Contains-append_left (map (λ r. r.gate) readers) (reader.gate ∷ []) g (h.all g p j below is)
-      go g p j (inr same) is =
+      go : (g p j : ℕ) → (j < i) ⊎ (j ≡ i) → slice_get items j ≡ Some (sink.Pin g p) → IsLive c g → Contains (map (λ r. r.gate) readers ++ reader.gate ∷ []) g
+      go g p j (inl below) is alive = Contains-append_left (map (λ r. r.gate) readers) (reader.gate ∷ []) g (h.all g p j below is alive)
+      go g p j (inr same) is alive =
           let one : sink.Pin g p ≡ sink.Pin gate pin = same_gate c well s n named items are i j g p (sink.Pin gate pin) d lt e same is in
           let here : g ≡ gate = cc in
           subst (Contains (map (λ r. r.gate) readers ++ reader.gate ∷ [])) (own ∙ sym here) (Contains-push (map (λ r. r.gate) readers) reader.gate)
@@ -67,11 +81,11 @@ module _ (c : List Statement) (well : IsWellFormed c) (s : ℕ) (n : Name) (name
   pub gathered_all : length items ≤ i → AreReaders c s readers
   gathered_all le = record {
     each = h.each;
-    all = λ g reads.
+    all = λ g reads live.
         let p = read_sink c well s n named g reads in
         let there = placed items (sink.Pin g p.0) (subst (Among (sink.Pin g p.0)) (sym are) p.1) in
         let lt = place_within items there.0 (sink.Pin g p.0) there.1 in
-        h.all g p.0 there.0 (omega (arith, lt, le)) there.1;
+        h.all g p.0 there.0 (omega (arith, lt, le)) there.1 live;
   }
 
 -- ---- rows

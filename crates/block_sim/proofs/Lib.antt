@@ -4,6 +4,7 @@ mod LawOfTable
 mod GateLanes
 mod Equations
 mod LevelOrder
+mod LiveSignals
 mod Passed
 mod Rows
 mod Represented

@@ -16,7 +16,7 @@ use Rattle.block_sim.specs.Words.{lane, test_of}
 use Rattle.block_sim.specs.Events.{bits_of, HasEquation, Reads}
 use Rattle.block_sim.specs.Spreading.{IsBalanced}
 
-module _ (c : List Statement) (tests : List Test) (block : ℕ) (f : ℕ → Fault) (good : List ℕ) (mask : ℕ) (delta at : List ℕ) (balanced : IsBalanced c tests block f good mask delta at) where
+module _ (c : List Statement) (counts : ℕ → Type 0) (closed : (g s : ℕ) → Reads c g s → counts g → counts s) (tests : List Test) (block : ℕ) (f : ℕ → Fault) (good : List ℕ) (mask : ℕ) (delta at : List ℕ) (balanced : IsBalanced c counts tests block f good mask delta at) where
   module _ (lv : ℕ → ℕ) (level : ℕ) (well : IsWellFormed c) (rises : (g s : ℕ) → Reads c g s → lv s < lv g) (not_below : (g : ℕ) → slice_index_or at g 0 ≢ 0 → level ≤ lv g)
       (k : ℕ) (lt : k < 64) (in_mask : lane mask k ≡ true) (v : Name → Bool) (solves : Solves c (test_of tests block k) (Some (f k)) v) where
     idle_below : (s : ℕ) → lv s < level → slice_index_or at s 0 ≡ 0
@@ -27,12 +27,12 @@ module _ (c : List Statement) (tests : List Test) (block : ℕ) (f : ℕ → Fau
         go (inr ne) = let h = not_below s ne in absurd (omega (arith, h, low))
 
     -- a signal whose equation holds has its true bit, where those that it reads have theirs
-    right_here : (n : Name) → Among n (names c) → slice_index_or at (signal c n) 0 ≡ 0
+    right_here : (n : Name) → Among n (names c) → counts (signal c n) → slice_index_or at (signal c n) 0 ≡ 0
         → ((a : Name) → Reads c (signal c n) (signal c a) → Among a (names c) → bits_of c good delta k a ≡ v a) → bits_of c good delta k n ≡ v n
-    right_here n a idle below = go (driven c n a)
+    right_here n a is_counted idle below = go (driven c n a)
       where
         equation : HasEquation c (test_of tests block k) (Some (f k)) (bits_of c good delta k) (signal c n)
-        equation = balanced (signal c n) k idle lt in_mask
+        equation = balanced (signal c n) k is_counted idle lt in_mask
 
         by_source : Among n (sources c) → bits_of c good delta k n ≡ v n
         by_source x = let p = placed (sources c) n x in equation.source p.0 n refl p.1 ∙ sym (solves.source p.0 n p.1)
@@ -47,12 +47,12 @@ module _ (c : List Statement) (tests : List Test) (block : ℕ) (f : ℕ → Fau
             (λ m h. below m (record { name = n; kind = x.0; args = x.1; read = m; gate = gate; number = refl; reads = contained x.1 m h; of = refl }) (among (names c) m (read_named c (Gate n x.0 x.1) m well x.2 h))))
             ∙ sym (solves.gate n x.0 x.1 gate))
 
-    below_bound : (bound : ℕ) (n : Name) → Among n (names c) → lv (signal c n) < bound → lv (signal c n) < level → bits_of c good delta k n ≡ v n
-    below_bound zero n a low under_level = absurd (omega (arith, low))
-    below_bound (suc bound) n a low under_level = right_here n a (idle_below (signal c n) under_level)
-        (λ m r in_names. let up = rises (signal c n) (signal c m) r in below_bound bound m in_names (omega (arith, up, low)) (omega (arith, up, under_level)))
+    below_bound : (bound : ℕ) (n : Name) → Among n (names c) → counts (signal c n) → lv (signal c n) < bound → lv (signal c n) < level → bits_of c good delta k n ≡ v n
+    below_bound zero n a is_counted low under_level = absurd (omega (arith, low))
+    below_bound (suc bound) n a is_counted low under_level = right_here n a is_counted (idle_below (signal c n) under_level)
+        (λ m r in_names. let up = rises (signal c n) (signal c m) r in below_bound bound m in_names (closed (signal c n) (signal c m) r is_counted) (omega (arith, up, low)) (omega (arith, up, under_level)))
 
-    -- every signal of this level or a lower one that does not wait has its true bit
-    pub right_by_now : (n : Name) → Among n (names c) → lv (signal c n) ≤ level → slice_index_or at (signal c n) 0 ≡ 0 → bits_of c good delta k n ≡ v n
-    right_by_now n a low idle = right_here n a idle
-        (λ m r in_names. let up = rises (signal c n) (signal c m) r in below_bound level m in_names (omega (arith, up, low)) (omega (arith, up, low)))
+    -- every signal that counts, of this level or a lower one, and does not wait has its true bit
+    pub right_by_now : (n : Name) → Among n (names c) → counts (signal c n) → lv (signal c n) ≤ level → slice_index_or at (signal c n) 0 ≡ 0 → bits_of c good delta k n ≡ v n
+    right_by_now n a is_counted low idle = right_here n a is_counted idle
+        (λ m r in_names. let up = rises (signal c n) (signal c m) r in below_bound level m in_names (closed (signal c n) (signal c m) r is_counted) (omega (arith, up, low)) (omega (arith, up, low)))

@@ -1,5 +1,5 @@
 -- The invariant of a simulation by events, and that one evaluation keeps it.
-use Rattle.std.proofs.Common.{◌≡◌, ◌≢◌, ◌<◌, ◌≤◌, ℕ, ◌+◌, sym, ◌∙◌, ap, true, List, length, arith, set, inl, inr, ◌⊎◌}
+use Rattle.std.proofs.Common.{◌≡◌, ◌≢◌, ◌<◌, ◌≤◌, ℕ, ◌+◌, sym, ◌∙◌, ap, subst, true, List, length, arith, set, inl, inr, ◌⊎◌}
 use Rattle.std.specs.Prelude.{Some, None, slice_index_or, bit_xor}
 use Rattle.std.proofs.lemmas.List.{get_or-set_same, get_or-set_other}
 use Rattle.std.proofs.lemmas.Bool.{cases_eq}
@@ -11,10 +11,11 @@ use Rattle.lists.proofs.Members.{among}
 use Rattle.fault_model.specs.Fault.{Fault}
 use Rattle.fault_model.specs.Solution.{Test, value}
 use Rattle.block_sim.specs.Words.{lane, pin_bits}
-use Rattle.block_sim.specs.Events.{Reads, IsElsewhere, AreWoken}
-use Rattle.block_sim.specs.Spreading.{IsSpreading, IsBalanced, IsRightIn, HasTouched, ahead}
+use Rattle.block_sim.specs.Events.{Reads, IsElsewhere, IsLive, AreWoken}
+use Rattle.block_sim.specs.Spreading.{IsSpreading, IsBalanced, Counts, IsRightIn, HasTouched, ahead}
 use Rattle.block_sim.proofs.Balanced.{balanced_same, balanced_changed}
 use Rattle.block_sim.proofs.Equated.{word_other}
+use Rattle.block_sim.proofs.LiveSignals.{counts_closed, reader_live}
 use Rattle.block_sim.proofs.RightByNow.{right_by_now}
 use Rattle.block_sim.proofs.Ahead.{ahead_taken, ahead_woken}
 
@@ -28,6 +29,7 @@ module _ (c : List Statement) (tests : List Test) (block : ℕ) (f : ℕ → Fau
     not_below = λ g ne.
         let le = h.not_below g ne in let is = h.at_level g ne in
         let other : lv g ≢ level = λ e. none g (omega (arith, is, e)) in omega (arith, le, other);
+    live = h.live;
     touched = h.touched;
     waits_clear = h.waits_clear;
     above_clear = λ g lt. h.above_clear g (omega (arith, lt));
@@ -51,6 +53,9 @@ module _ (c : List Statement) (tests : List Test) (block : ℕ) (f : ℕ → Fau
     clear : slice_index_or delta g 0 ≡ 0
     clear = h.waits_clear g waits
 
+    from_start : lv start ≤ lv g
+    from_start = let by = h.touched g waits in let up = rises g by.0 by.1 in let from = h.after_start by.0 by.2 in omega (arith, up, from)
+
     not_start : g ≢ start
     not_start e =
         let by = h.touched g waits in let up = rises g by.0 by.1 in let from = h.after_start by.0 by.2 in
@@ -64,9 +69,10 @@ module _ (c : List Statement) (tests : List Test) (block : ℕ) (f : ℕ → Fau
 
     pub evaluated_same : ((k : ℕ) → k < 64 → lane mask k ≡ true → lane (slice_index_or good g 0) k ≡ lane word k) → IsSpreading c tests block f good lanes lv start mask delta (set at g 0) level
     evaluated_same same = record {
-      balanced = balanced_same c tests block f good mask lv well rises delta at g h.balanced (λ k. elsewhere g k not_start) kind pins is word valued clear same;
+      balanced = balanced_same c (Counts c lv start) tests block f good mask lv well rises delta at g h.balanced (λ k. elsewhere g k not_start) kind pins is word valued clear same;
       at_level = λ t ne. let w = still_waits t ne in get_or-set_other at g t 0 0 w.0 ∙ h.at_level t w.1;
       not_below = λ t ne. h.not_below t (still_waits t ne).1;
+      live = λ t ne. h.live t (still_waits t ne).1;
       touched = λ t ne. h.touched t (still_waits t ne).1;
       waits_clear = λ t ne. h.waits_clear t (still_waits t ne).1;
       above_clear = h.above_clear;
@@ -102,12 +108,12 @@ module _ (c : List Statement) (tests : List Test) (block : ℕ) (f : ℕ → Fau
 
       -- a gate that waits did so before, or reads the gate
       abbrev Waits : ℕ → Type 0
-      Waits t = ((t ≢ g) × (slice_index_or at t 0 ≢ 0) × (slice_index_or after t 0 ≡ slice_index_or at t 0)) ⊎ (Reads c t g × (slice_index_or after t 0 ≡ lv t + 1))
+      Waits t = ((t ≢ g) × (slice_index_or at t 0 ≢ 0) × (slice_index_or after t 0 ≡ slice_index_or at t 0)) ⊎ ((Reads c t g × IsLive c t) × (slice_index_or after t 0 ≡ lv t + 1))
 
       which : (t : ℕ) → slice_index_or after t 0 ≢ 0 → Waits t
       which t ne = go (woken.only t)
         where
-          go : (slice_index_or after t 0 ≡ slice_index_or (set at g 0) t 0) ⊎ (Reads c t g × (slice_index_or (set at g 0) t 0 ≡ 0) × (slice_index_or after t 0 ≡ lv t + 1)) → Waits t
+          go : (slice_index_or after t 0 ≡ slice_index_or (set at g 0) t 0) ⊎ ((Reads c t g × IsLive c t) × (slice_index_or (set at g 0) t 0 ≡ 0) × (slice_index_or after t 0 ≡ lv t + 1)) → Waits t
           go (inl e) = let w = still_waits t (λ z. ne (e ∙ z)) in inl (w.0, w.1, e ∙ get_or-set_other at g t 0 0 w.0)
           go (inr r) = inr (r.0, r.2)
 
@@ -117,6 +123,7 @@ module _ (c : List Statement) (tests : List Test) (block : ℕ) (f : ℕ → Fau
         narrow = h.narrow;
         at_level = at_level;
         not_below = not_below;
+        live = live;
         touched = touched;
         waits_clear = waits_clear;
         above_clear = λ t lt. kept_at t (λ e. let same : lv t ≡ lv g = ap lv e in let l = here in omega (arith, lt, same, l)) ∙ h.above_clear t lt;
@@ -126,8 +133,9 @@ module _ (c : List Statement) (tests : List Test) (block : ℕ) (f : ℕ → Fau
         right = λ s k lt e. right s k lt e (cases_eq s g);
       }
         where
-          balanced_now : IsBalanced c tests block f good mask (set delta g diff) after
-          balanced_now = balanced_changed c tests block f good mask lv well rises delta at g h.balanced (λ k. elsewhere g k not_start) kind pins is word valued diff after in_delta changed woken
+          balanced_now : IsBalanced c (Counts c lv start) tests block f good mask (set delta g diff) after
+          balanced_now = balanced_changed c (Counts c lv start) tests block f good mask lv well rises delta at g h.balanced (λ k. elsewhere g k not_start) kind pins is word valued diff after in_delta
+              (λ t is_counted reads. reader_live c lv start rises g t from_start is_counted reads) changed woken
 
           at_level : (t : ℕ) → slice_index_or after t 0 ≢ 0 → slice_index_or after t 0 ≡ lv t + 1
           at_level t ne = go (which t ne)
@@ -141,14 +149,21 @@ module _ (c : List Statement) (tests : List Test) (block : ℕ) (f : ℕ → Fau
             where
               go : Waits t → level ≤ lv t
               go (inl w) = h.not_below t w.1
-              go (inr r) = let up = rises t g r.0 in let l = here in omega (arith, up, l)
+              go (inr r) = let up = rises t g r.0.0 in let l = here in omega (arith, up, l)
+
+          live : (t : ℕ) → slice_index_or after t 0 ≢ 0 → IsLive c t
+          live t ne = go (which t ne)
+            where
+              go : Waits t → IsLive c t
+              go (inl w) = h.live t w.1
+              go (inr r) = r.0.1
 
           touched : (t : ℕ) → slice_index_or after t 0 ≢ 0 → (s : ℕ) × Reads c t s × (slice_index_or (set delta g diff) s 0 ≢ 0)
           touched t ne = go (which t ne)
             where
               go : Waits t → (s : ℕ) × Reads c t s × (slice_index_or (set delta g diff) s 0 ≢ 0)
               go (inl w) = let by = h.touched t w.1 in (by.0, by.1, grown by.0 by.2)
-              go (inr r) = (g, r.0, λ e. differs (sym new_at ∙ e))
+              go (inr r) = (g, r.0.0, λ e. differs (sym new_at ∙ e))
 
           waits_clear : (t : ℕ) → slice_index_or after t 0 ≢ 0 → slice_index_or (set delta g diff) t 0 ≡ 0
           waits_clear t ne = go (which t ne)
@@ -156,7 +171,7 @@ module _ (c : List Statement) (tests : List Test) (block : ℕ) (f : ℕ → Fau
               go : Waits t → slice_index_or (set delta g diff) t 0 ≡ 0
               go (inl w) = kept_at t w.0 ∙ h.waits_clear t w.1
               go (inr r) =
-                  let up = rises t g r.0 in let l = here in
+                  let up = rises t g r.0.0 in let l = here in
                   kept_at t (λ e. let same : lv t ≡ lv g = ap lv e in omega (arith, up, same)) ∙ h.above_clear t (omega (arith, up, l))
 
           after_start : (s : ℕ) → slice_index_or (set delta g diff) s 0 ≢ 0 → (s ≡ g) ⊎ (s ≢ g) → lv start ≤ lv s
@@ -179,17 +194,17 @@ module _ (c : List Statement) (tests : List Test) (block : ℕ) (f : ℕ → Fau
           idle_here : slice_index_or after g 0 ≡ 0
           idle_here = go (woken.only g)
             where
-              go : (slice_index_or after g 0 ≡ slice_index_or (set at g 0) g 0) ⊎ (Reads c g g × (slice_index_or (set at g 0) g 0 ≡ 0) × (slice_index_or after g 0 ≡ lv g + 1)) → slice_index_or after g 0 ≡ 0
+              go : (slice_index_or after g 0 ≡ slice_index_or (set at g 0) g 0) ⊎ ((Reads c g g × IsLive c g) × (slice_index_or (set at g 0) g 0 ≡ 0) × (slice_index_or after g 0 ≡ lv g + 1)) → slice_index_or after g 0 ≡ 0
               go (inl e) = e ∙ get_or-set_same at g 0 0 in_at
-              go (inr r) = let up = rises g g r.0 in absurd (omega (arith, up))
+              go (inr r) = let up = rises g g r.0.0 in absurd (omega (arith, up))
 
           right : (s k : ℕ) → k < 64 → lane (slice_index_or (set delta g diff) s 0) k ≡ true → (s ≡ g) ⊎ (s ≢ g) → IsRightIn c tests block f good (set delta g diff) s k
           right s k lt e (inl same) n v named number solves =
               let is : signal c n ≡ g = number ∙ same in
               let low : lv (signal c n) ≡ lv g = ap lv is in
               let at_level : lv (signal c n) ≤ level = (let l = here in omega (arith, low, l)) in
-              right_by_now c tests block f good mask (set delta g diff) after balanced_now lv level well rises not_below k lt (in_mask k lt (here_diff s k same e)) v solves n (among (names c) n named)
-              at_level (ap (λ x. slice_index_or after x 0) is ∙ idle_here)
+              right_by_now c (Counts c lv start) (counts_closed c lv start rises) tests block f good mask (set delta g diff) after balanced_now lv level well rises not_below k lt (in_mask k lt (here_diff s k same e)) v solves n (among (names c) n named)
+              (inl (subst (IsLive c) (sym is) (h.live g waits))) at_level (ap (λ x. slice_index_or after x 0) is ∙ idle_here)
           right s k lt e (inr other) n v named number solves =
               sym (word_other good delta g diff (signal c n) k (λ x. other (sym number ∙ x)))
               ∙ h.right s k lt (ap (λ d. lane d k) (sym (kept_at s other)) ∙ e) n v named number solves
@@ -198,10 +213,11 @@ module _ (c : List Statement) (tests : List Test) (block : ℕ) (f : ℕ → Fau
 pub spreading_narrower : (c : List Statement) (tests : List Test) (block : ℕ) (f : ℕ → Fault) (good : List ℕ) (lanes : ℕ) (lv : ℕ → ℕ) (start mask : ℕ) (delta at : List ℕ) (level narrow : ℕ)
     → ((k : ℕ) → k < 64 → lane narrow k ≡ true → lane mask k ≡ true) → IsSpreading c tests block f good lanes lv start mask delta at level → IsSpreading c tests block f good lanes lv start narrow delta at level
 spreading_narrower c tests block f good lanes lv start mask delta at level narrow within h = record {
-  balanced = λ s k idle lt e. h.balanced s k idle lt (within k lt e);
+  balanced = λ s k is_counted idle lt e. h.balanced s k is_counted idle lt (within k lt e);
   narrow = λ k lt e. h.narrow k lt (within k lt e);
   at_level = h.at_level;
   not_below = h.not_below;
+  live = h.live;
   touched = h.touched;
   waits_clear = h.waits_clear;
   above_clear = h.above_clear;
@@ -216,19 +232,20 @@ pub woken_above : (c : List Statement) (lv : ℕ → ℕ) (g : ℕ) (before afte
     → (r : ℕ) → (slice_index_or after r 0 ≡ slice_index_or before r 0) ⊎ ((lv g < lv r) × (slice_index_or after r 0 ≡ lv r + 1))
 woken_above c lv g before after rises woken r = go (woken.only r)
   where
-    go : (slice_index_or after r 0 ≡ slice_index_or before r 0) ⊎ (Reads c r g × (slice_index_or before r 0 ≡ 0) × (slice_index_or after r 0 ≡ lv r + 1))
+    go : (slice_index_or after r 0 ≡ slice_index_or before r 0) ⊎ ((Reads c r g × IsLive c r) × (slice_index_or before r 0 ≡ 0) × (slice_index_or after r 0 ≡ lv r + 1))
         → (slice_index_or after r 0 ≡ slice_index_or before r 0) ⊎ ((lv g < lv r) × (slice_index_or after r 0 ≡ lv r + 1))
     go (inl e) = inl e
-    go (inr w) = inr (rises r g w.0, w.2)
+    go (inr w) = inr (rises r g w.0.0, w.2)
 
 -- a gate that is taken where no lane is followed any more
 pub spreading_skipped : (c : List Statement) (tests : List Test) (block : ℕ) (f : ℕ → Fault) (good : List ℕ) (lanes : ℕ) (lv : ℕ → ℕ) (start mask : ℕ) (delta at : List ℕ) (level g : ℕ) → g < length at
     → ((k : ℕ) → lane mask k ≡ true → ⊥) → IsSpreading c tests block f good lanes lv start mask delta at level → IsSpreading c tests block f good lanes lv start mask delta (set at g 0) level
 spreading_skipped c tests block f good lanes lv start mask delta at level g in_at none h = record {
-  balanced = λ s k idle lt e. absurd (none k e);
+  balanced = λ s k is_counted idle lt e. absurd (none k e);
   narrow = h.narrow;
   at_level = λ t ne. let w = still_waits t ne in get_or-set_other at g t 0 0 w.0 ∙ h.at_level t w.1;
   not_below = λ t ne. h.not_below t (still_waits t ne).1;
+  live = λ t ne. h.live t (still_waits t ne).1;
   touched = λ t ne. h.touched t (still_waits t ne).1;
   waits_clear = λ t ne. h.waits_clear t (still_waits t ne).1;
   above_clear = h.above_clear;

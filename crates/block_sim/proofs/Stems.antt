@@ -128,7 +128,7 @@ StemsFrom c order stems place = (i : ℕ) → place ≤ i → i < length order �
 
 module _ (c : List Statement) (well : IsWellFormed c) (order : List ℕ) (is : IsLevelOrder c order) where
   -- a gate stands behind what it reads
-  behind : (p k g : ℕ) → p < length order → k < length order → slice_index_or order k 0 ≡ g → Reads c g (slice_index_or order p 0) → p < k
+  pub behind : (p k g : ℕ) → p < length order → k < length order → slice_index_or order k 0 ≡ g → Reads c g (slice_index_or order p 0) → p < k
   behind p k g within inside at r = go (cases_order p k)
     where
       go : (p ≡ k) ⊎ ((p < k) ⊎ (k < p)) → p < k

@@ -14,7 +14,7 @@ use Rattle.bench_net.proofs.Public.{name_of-signal, signal-name_of}
 use Rattle.lists.proofs.Places.{at_place, placed, place_within, within_place}
 use Rattle.fault_model.proofs.Public.{observes, data_reads, out_reads}
 use Rattle.block_sim.specs.declared.flat.Reader.{Reader}
-use Rattle.block_sim.specs.Events.{Reads, IsObserved, AreWoken, level_at}
+use Rattle.block_sim.specs.Events.{Reads, IsLive, IsObserved, AreWoken, level_at}
 use Rattle.block_sim.specs.Flat.{AreReaders}
 use Rattle.block_sim.proofs.Placed.{index_of}
 use Rattle.block_sim.proofs.Readers.{sink_reads}
@@ -36,7 +36,7 @@ cell_among (Gate m kind args ∷ c) q d (inr a) = cell_among c q d a
 pub record HasWoken (c : List Statement) (s : ℕ) (items : List Reader) (i : ℕ) (before at : List ℕ) : Type 0 where
   pub readers : (j : ℕ) (reader : Reader) → j < i → slice_get items j ≡ Some reader → slice_index_or at reader.gate 0 ≢ 0
   pub only : (level : Name → ℕ) → AreLevels c level → (r : ℕ) → (slice_index_or at r 0 ≡ slice_index_or before r 0)
-      ⊎ (Reads c r s × (slice_index_or before r 0 ≡ 0) × (slice_index_or at r 0 ≡ level_at c level r + 1))
+      ⊎ ((Reads c r s × IsLive c r) × (slice_index_or before r 0 ≡ 0) × (slice_index_or at r 0 ≡ level_at c level r + 1))
 
 -- whether some of the first sinks is an observer's
 pub record HasObserver (c : List Statement) (s : ℕ) (items : List Sink) (i : ℕ) (observed : Bool) : Type 0 where
@@ -76,8 +76,8 @@ module _ (c : List Statement) (well : IsWellFormed c) (s : ℕ) (items : List Re
             let here : own ≡ reader = sym is_own ∙ index_of items i reader d (ap (slice_get items) (sym same) ∙ is) in
             subst (λ (r : Reader). slice_index_or at r.gate 0 ≢ 0) here waits
 
-    has : Reads c own.gate s × HasLevel c own.gate own.level
-    has = subst (λ (r : Reader). Reads c r.gate s × HasLevel c r.gate r.level) is_own (are.each i d lt)
+    has : (Reads c own.gate s × IsLive c own.gate) × HasLevel c own.gate own.level
+    has = subst (λ (r : Reader). (Reads c r.gate s × IsLive c r.gate) × HasLevel c r.gate r.level) is_own (are.each i d lt)
 
     -- a gate that waits from now on
     pub woken_added : own.gate < length at → slice_index_or at own.gate 0 ≡ 0 → HasWoken c s items (i + 1) before (set at own.gate (own.level + 1))
@@ -102,15 +102,15 @@ module _ (c : List Statement) (well : IsWellFormed c) (s : ℕ) (items : List Re
             subst (λ (r : Reader). slice_index_or after r.gate 0 ≢ 0) one (λ z. omega (arith, z, here))
 
         only : (levels : Name → ℕ) → AreLevels c levels → (r : ℕ) → (r ≡ own.gate) ⊎ (r ≢ own.gate) → (slice_index_or after r 0 ≡ slice_index_or before r 0)
-            ⊎ (Reads c r s × (slice_index_or before r 0 ≡ 0) × (slice_index_or after r 0 ≡ level_at c levels r + 1))
+            ⊎ ((Reads c r s × IsLive c r) × (slice_index_or before r 0 ≡ 0) × (slice_index_or after r 0 ≡ level_at c levels r + 1))
         only levels are_levels r (inl same) =
-            let reads : Reads c r s = subst (λ x. Reads c x s) (sym same) has.0 in
+            let reads : Reads c r s × IsLive c r = subst (λ x. Reads c x s × IsLive c x) (sym same) has.0 in
             let old : slice_index_or at r 0 ≡ 0 = ap (λ x. slice_index_or at x 0) same ∙ idle in
             let now : slice_index_or after r 0 ≡ own.level + 1 = ap (λ x. slice_index_or after x 0) same ∙ here in
             let up : level_at c levels r ≡ own.level = ap (level_at c levels) same ∙ level_is c levels own.gate own.level well are_levels has.1 in
             inr (reads, was old (h.only levels are_levels r), now ∙ ap (λ x. x + 1) (sym up))
           where
-            was : slice_index_or at r 0 ≡ 0 → (slice_index_or at r 0 ≡ slice_index_or before r 0) ⊎ (Reads c r s × (slice_index_or before r 0 ≡ 0) × (slice_index_or at r 0 ≡ level_at c levels r + 1))
+            was : slice_index_or at r 0 ≡ 0 → (slice_index_or at r 0 ≡ slice_index_or before r 0) ⊎ ((Reads c r s × IsLive c r) × (slice_index_or before r 0 ≡ 0) × (slice_index_or at r 0 ≡ level_at c levels r + 1))
                 → slice_index_or before r 0 ≡ 0
             was old (inl e) = sym e ∙ old
             was old (inr w) = w.1
@@ -119,16 +119,16 @@ module _ (c : List Statement) (well : IsWellFormed c) (s : ℕ) (items : List Re
             kept : slice_index_or after r 0 ≡ slice_index_or at r 0
             kept = get_or-set_other at own.gate r (own.level + 1) 0 other
 
-            go : (slice_index_or at r 0 ≡ slice_index_or before r 0) ⊎ (Reads c r s × (slice_index_or before r 0 ≡ 0) × (slice_index_or at r 0 ≡ level_at c levels r + 1))
-                → (slice_index_or after r 0 ≡ slice_index_or before r 0) ⊎ (Reads c r s × (slice_index_or before r 0 ≡ 0) × (slice_index_or after r 0 ≡ level_at c levels r + 1))
+            go : (slice_index_or at r 0 ≡ slice_index_or before r 0) ⊎ ((Reads c r s × IsLive c r) × (slice_index_or before r 0 ≡ 0) × (slice_index_or at r 0 ≡ level_at c levels r + 1))
+                → (slice_index_or after r 0 ≡ slice_index_or before r 0) ⊎ ((Reads c r s × IsLive c r) × (slice_index_or before r 0 ≡ 0) × (slice_index_or after r 0 ≡ level_at c levels r + 1))
             go (inl e) = inl (kept ∙ e)
             go (inr w) = inr (w.0, w.1, kept ∙ w.2)
 
   -- all readers
   pub woken_all : (i : ℕ) (before at : List ℕ) (level : Name → ℕ) → length items ≤ i → AreLevels c level → HasWoken c s items i before at → AreWoken c (level_at c level) s before at
   woken_all i before later level le are_levels h = record {
-    readers = λ r reads.
-        let there = are.all r reads in
+    readers = λ r reads live.
+        let there = are.all r reads live in
         let within : there.0 < length items = omega (arith, there.1, length-map items (λ (reader : Reader). reader.gate)) in
         let at = within_place items there.0 within in
         let same : at.0.gate ≡ r = sym (gate_at items there.0 r at.0 at.1) ∙ there.2 in

@@ -35,6 +35,16 @@ pub record Reads (c : List Statement) (g s : ℕ) : Type 0 where
   pub reads : Contains args read
   pub of : signal c read ≡ s
 
+-- an observer observes the signal
+abbrev pub IsObserved : List Statement → ℕ → Type 0
+IsObserved c s = (o : Sink × Name) × Contains (observers c) o × (signal c o.1 ≡ s)
+
+-- From a live signal an observer is reached: one observes it, or a gate reads it whose signal is
+-- live. A fault on any other signal does nothing that a test could see.
+pub data IsLive (c : List Statement) : ℕ → Type 0 where
+  observed : {s : ℕ} → IsObserved c s → IsLive c s
+  through : {s g : ℕ} → Reads c g s → IsLive c g → IsLive c s
+
 -- the fault is on no line that the equation of the signal reads or drives
 pub record IsElsewhere (f : Fault) (s : ℕ) : Type 0 where
   pub stem : f.line ≢ line.Stem s
@@ -44,17 +54,14 @@ pub record IsElsewhere (f : Fault) (s : ℕ) : Type 0 where
 abbrev pub level_at : List Statement → (Name → ℕ) → ℕ → ℕ
 level_at c level s = option_map_or level (name_of c s) 0
 
--- The readers of a signal wait, each at its level, and no other gate waits that did not.
+-- The live readers of a signal wait, each at its level, and no other gate waits that did not.
 pub record AreWoken (c : List Statement) (lv : ℕ → ℕ) (s : ℕ) (before after : List ℕ) : Type 0 where
-  pub readers : (r : ℕ) → Reads c r s → slice_index_or after r 0 ≢ 0
+  pub readers : (r : ℕ) → Reads c r s → IsLive c r → slice_index_or after r 0 ≢ 0
   pub only : (r : ℕ) → (slice_index_or after r 0 ≡ slice_index_or before r 0)
-      ⊎ (Reads c r s × (slice_index_or before r 0 ≡ 0) × (slice_index_or after r 0 ≡ lv r + 1))
+      ⊎ ((Reads c r s × IsLive c r) × (slice_index_or before r 0 ≡ 0)
+      × (slice_index_or after r 0 ≡ lv r + 1))
 
 -- a gate waits as before, or lies above the signal and waits at its level
 abbrev pub IsWokenAbove : (ℕ → ℕ) → ℕ → List ℕ → List ℕ → Type 0
 IsWokenAbove lv s before after = (r : ℕ) → (slice_index_or after r 0 ≡ slice_index_or before r 0)
     ⊎ ((lv s < lv r) × (slice_index_or after r 0 ≡ lv r + 1))
-
--- an observer observes the signal
-abbrev pub IsObserved : List Statement → ℕ → Type 0
-IsObserved c s = (o : Sink × Name) × Contains (observers c) o × (signal c o.1 ≡ s)

@@ -1,7 +1,8 @@
 -- A circuit in flat lists: a row for each signal, with parts of the lists of all pins and of all
 -- readers.
-use Rattle.std.specs.Prelude.{◌≡◌, ◌↔◌, ◌++◌, ℕ, ◌≤◌, All, List, Contains, IfSome, IsTrue, Option}
-use Rattle.std.specs.Prelude.{Some, length, map, slice_get, slice_range}
+use Rattle.std.specs.Prelude.{◌≡◌, ◌↔◌, ◌++◌, ℕ, ◌<◌, ◌≤◌, All, Bool, false, List, Contains, IfSome}
+use Rattle.std.specs.Prelude.{IsTrue, Option, Some, length, map, slice_get, slice_index_or}
+use Rattle.std.specs.Prelude.{slice_range}
 use Rattle.std.specs.Option.{option_map}
 use Rattle.bench_net.specs.Statement.{Statement}
 use Rattle.bench_net.specs.Scan.{names, gate_of}
@@ -9,14 +10,23 @@ use Rattle.bench_net.specs.Level.{HasLevel}
 use Rattle.block_sim.specs.declared.flat.Driver.{Driver}
 use Rattle.block_sim.specs.declared.flat.Row.{Row}
 use Rattle.block_sim.specs.declared.flat.Reader.{Reader}
-use Rattle.block_sim.specs.Events.{Reads, IsObserved}
+use Rattle.block_sim.specs.Events.{Reads, IsObserved, IsLive}
 use Rattle.block_sim.specs.Forms.{IsFormOf}
 use Rattle.block_sim.specs.Regions.{lone_reader}
 
--- each reader is a gate that reads the signal, with its level, and each such gate is among them
+-- each reader is a live gate that reads the signal, with its level, and each such gate is among
+-- them
 pub record AreReaders (c : List Statement) (s : ℕ) (readers : List Reader) : Type 0 where
-  pub each : All (λ reader. Reads c reader.gate s × HasLevel c reader.gate reader.level) readers
-  pub all : (g : ℕ) → Reads c g s → Contains (map (λ reader. reader.gate) readers) g
+  pub each : All (λ reader. (Reads c reader.gate s × IsLive c reader.gate)
+      × HasLevel c reader.gate reader.level) readers
+  pub all : (g : ℕ) → Reads c g s → IsLive c g → Contains (map (λ reader. reader.gate) readers) g
+
+-- the list says of each signal whether it is live
+abbrev pub IsLiveAt : List Statement → List Bool → ℕ → Type 0
+IsLiveAt c live s = IsTrue (slice_index_or live s false) ↔ IsLive c s
+
+abbrev pub AreLive : List Statement → List Bool → Type 0
+AreLive c live = (s : ℕ) → s < length (names c) → IsLiveAt c live s
 
 -- a row says what drives a signal, what reads it and what alone does, its level, and whether an
 -- observer observes it

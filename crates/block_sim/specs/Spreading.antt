@@ -1,6 +1,6 @@
 -- What is true at each step of a simulation by events, and what it tells. Each lane has a fault of
 -- its own, so that a signal can be turned round in lanes in which it has either bit.
-use Rattle.std.specs.Prelude.{◌≡◌, ◌≢◌, ℕ, ◌+◌, ◌<◌, ◌≤◌, Bool, true, false, not}
+use Rattle.std.specs.Prelude.{◌≡◌, ◌≢◌, ◌⊎◌, ℕ, ◌+◌, ◌<◌, ◌≤◌, Bool, true, false, not}
 use Rattle.std.specs.Prelude.{◌||◌, ◌==◌, nat_lt, List, Contains, Some, None}
 use Rattle.std.specs.Prelude.{count_by, slice_index_or, slice_set}
 use Rattle.bench_net.specs.declared.Sink.{Sink}
@@ -12,14 +12,19 @@ use Rattle.block_sim.specs.declared.spread.Extent.{Extent}
 use Rattle.block_sim.specs.declared.spread.Extent.TheVariants.{WholeBlock, FirstHits}
 use Rattle.block_sim.specs.declared.spread.Followed.{Followed}
 use Rattle.block_sim.specs.Words.{lane, lane_bits, test_of, AreWords}
-use Rattle.block_sim.specs.Events.{bits_of, HasEquation, Reads, IsElsewhere, IsObserved}
+use Rattle.block_sim.specs.Events.{bits_of, HasEquation, Reads, IsElsewhere, IsLive, IsObserved}
 
--- the equation of each signal that does not wait holds in each lane of the mask
-abbrev pub IsBalanced : List Statement → List Test → ℕ → (ℕ → Fault) → List ℕ → ℕ → List ℕ
-    → List ℕ → Type 0
-IsBalanced c tests block f good mask delta at = (s k : ℕ) → slice_index_or at s 0 ≡ 0 → k < 64
-    → lane mask k ≡ true
+-- of the signals that count the equation of each that does not wait holds in each lane of the mask
+abbrev pub IsBalanced : List Statement → (ℕ → Type 0) → List Test → ℕ → (ℕ → Fault) → List ℕ → ℕ
+    → List ℕ → List ℕ → Type 0
+IsBalanced c counts tests block f good mask delta at = (s k : ℕ) → counts s
+    → slice_index_or at s 0 ≡ 0 → k < 64 → lane mask k ≡ true
     → HasEquation c (test_of tests block k) (Some (f k)) (bits_of c good delta k) s
+
+-- What counts in a simulation: live signals, and those up to the level of the start. The others
+-- keep the words that they have without a fault.
+abbrev pub Counts : List Statement → (ℕ → ℕ) → ℕ → ℕ → Type 0
+Counts c lv start s = IsLive c s ⊎ (lv s ≤ lv start)
 
 -- the gate waits, or lies above the level
 abbrev pub is_ahead : (ℕ → ℕ) → List ℕ → ℕ → ℕ → Bool
@@ -39,16 +44,17 @@ IsRightIn c tests block f good delta s k = (n : Name) (v : Name → Bool) → Co
     → signal c n ≡ s → Solves c (test_of tests block k) (Some (f k)) v
     → bits_of c good delta k n ≡ v n
 
--- Signals of the levels below are as they will be; gates of this level and above wait where a
+-- Signals of the levels below are as they will be; live gates of this level and above wait where a
 -- signal that they read differs. The mask has the lanes, of those that are asked for, that are
 -- still followed.
 pub record IsSpreading (c : List Statement) (tests : List Test) (block : ℕ) (f : ℕ → Fault)
     (good : List ℕ) (lanes : ℕ) (lv : ℕ → ℕ) (start mask : ℕ) (delta at : List ℕ) (level : ℕ) :
     Type 0 where
-  pub balanced : IsBalanced c tests block f good mask delta at
+  pub balanced : IsBalanced c (Counts c lv start) tests block f good mask delta at
   pub narrow : (k : ℕ) → k < 64 → lane mask k ≡ true → lane lanes k ≡ true
   pub at_level : (g : ℕ) → slice_index_or at g 0 ≢ 0 → slice_index_or at g 0 ≡ lv g + 1
   pub not_below : (g : ℕ) → slice_index_or at g 0 ≢ 0 → level ≤ lv g
+  pub live : (g : ℕ) → slice_index_or at g 0 ≢ 0 → IsLive c g
   pub touched : (g : ℕ) → slice_index_or at g 0 ≢ 0
       → (s : ℕ) × Reads c g s × (slice_index_or delta s 0 ≢ 0)
   pub waits_clear : (g : ℕ) → slice_index_or at g 0 ≢ 0 → slice_index_or delta g 0 ≡ 0

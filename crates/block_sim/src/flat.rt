@@ -9,11 +9,12 @@ ghost use Rattle.bench_net.specs.Circuit.{IsCircuit};
 ghost use Rattle.bench_net.specs.Level.{HasLevel};
 ghost use Rattle.fault_model.specs.Known.{only_gate};
 ghost use Rattle.block_sim.specs.Events.{IsObserved};
-ghost use Rattle.block_sim.specs.Flat.{AreReaders, HasMore, IsDriver, IsFlat, IsRow};
+ghost use Rattle.block_sim.specs.Flat.{AreLive, AreReaders, HasMore, IsDriver, IsFlat, IsRow};
 ghost use Rattle.block_sim.specs.Forms.{IsFormOf};
 ghost use Rattle.block_sim.specs.Regions.{lone_reader};
 
 use crate::form::Form;
+use crate::live::live_signals;
 use bench_net::{Circuit, Kind, Sink};
 use std::alloc::{AllocError, Global};
 use std::marker::Model;
@@ -120,7 +121,8 @@ impl FlatCircuit {
         }
     }
 
-    /// The gates that read a signal. One that reads it twice may stand there twice.
+    /// The live gates that read a signal: those from which an observer is reached. One that reads
+    /// it twice may stand there twice.
     #[inline(always)]
     pub fn readers_of(&self, signal: u32) -> &[Reader]
         requires { signal < length (names self.now) }
@@ -165,11 +167,12 @@ fn lists_of(alloc: Global, circuit: &Circuit) -> Result<Lists, AllocError>
         IsFlat circuit.now lists.pins.items lists.readers.items lists.rows.items) }
 {
     let signals = circuit.signals();
+    let live = live_signals(alloc, circuit)?;
     let mut rows = Vec::with_capacity(alloc, signals as usize)?;
     let mut pins = Vec::new(alloc);
     let mut readers = Vec::new(alloc);
     for signal in 0..signals {
-        let row = add_row(circuit, signal, &mut pins, &mut readers)?;
+        let row = add_row(circuit, live.as_slice(), signal, &mut pins, &mut readers)?;
         rows.push(row)?;
     }
     Ok(Lists {
@@ -182,11 +185,14 @@ fn lists_of(alloc: Global, circuit: &Circuit) -> Result<Lists, AllocError>
 /// The row of a signal, whose pins and readers are added behind the others.
 fn add_row(
     circuit: &Circuit,
+    live: &[bool],
     signal: u32,
     pins: &mut Vec<u32>,
     readers: &mut Vec<Reader>,
 ) -> Result<Row, AllocError>
     requires circuit { IsCircuit circuit.now }
+    requires room { length live.now ≡ length (names circuit.now) }
+    requires live { AreLive circuit.now live.now }
     requires signal { signal < length (names circuit.now) }
     ensures row { IfOk result (IsRow circuit.now pins.new.items readers.new.items signal) }
     ensures pins { IfOk result (λ _. HasMore pins.old.items pins.new.items) }
@@ -195,7 +201,7 @@ fn add_row(
     let pins_start = pins.len();
     let driver = add_pins(circuit, signal, pins)?;
     let readers_start = readers.len();
-    let observed = add_readers(circuit, signal, readers)?;
+    let observed = add_readers(circuit, live, signal, readers)?;
     Ok(Row {
         driver,
         lone_reader: only_gate(circuit.sinks_of(signal)),
@@ -239,13 +245,16 @@ fn only_gate(sinks: &[Sink]) -> Option<u32>
     }
 }
 
-/// Whether an observer observes a signal. The gates that read it are added behind the others.
+/// Whether an observer observes a signal. The live gates that read it are added behind the others.
 fn add_readers(
     circuit: &Circuit,
+    live: &[bool],
     signal: u32,
     readers: &mut Vec<Reader>,
 ) -> Result<bool, AllocError>
     requires circuit { IsCircuit circuit.now }
+    requires room { length live.now ≡ length (names circuit.now) }
+    requires live { AreLive circuit.now live.now }
     requires signal { signal < length (names circuit.now) }
     ensures readers { IfOk result (λ _. (more : List Reader)
         × (readers.new.items ≡ readers.old.items ++ more)
@@ -256,6 +265,9 @@ fn add_readers(
     for sink in circuit.sinks_of(signal) {
         match *sink {
             Sink::Pin { gate, pin: _ } => {
+                if !live[gate as usize] {
+                    continue;
+                }
                 let level = circuit.level_of(gate);
                 readers.push(Reader { gate, level })?;
             }

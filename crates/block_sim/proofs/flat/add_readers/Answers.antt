@@ -1,14 +1,16 @@
-use Rattle.std.proofs.Common.{◌≢◌, ℕ, ◌∙◌, [], ◌∷◌, ◌++◌, ap, refl, sym, subst, ◌+◌}
+use Rattle.std.proofs.Common.{◌≡◌, ◌≢◌, ◌<◌, ℕ, ◌∙◌, Bool, true, false, not, [], ◌∷◌, ◌++◌, length, ap, arith, refl, sym, subst, ◌+◌}
+use Rattle.std.specs.Prelude.{slice_index_or}
+use Rattle.std.proofs.lemmas.Bool.{false≢true}
 use Rattle.std.proofs.lemmas.List.{append_assoc, append-nil}
 use Rattle.bench_net.specs.declared.Sink.TheVariants as sink
 use Rattle.bench_net.specs.Scan.{names}
 use Rattle.lists.proofs.Places.{within_place}
 use Rattle.block_sim.specs.declared.flat.Reader.{Reader}
-use Rattle.block_sim.proofs.Flats.{gathered_none, gathered_passed, gathered_more, gathered_all}
+use Rattle.block_sim.proofs.Flats.{gathered_none, gathered_passed, gathered_dead, gathered_more, gathered_all}
 use Rattle.block_sim.proofs.Readers.{reader_within}
 use Rattle.block_sim.proofs.Woken.{HasObserver, observer_none, sink_gate, observer_passed, observer_found, observer_all}
 use Rattle.block_sim.proofs.flat.add_readers.Goals as goal
-use Rattle.block_sim.proofs.flat.add_readers.Goals.{in-Pin+in_ok-push-in-Pin, in-Data, in-Out}
+use Rattle.block_sim.proofs.flat.add_readers.Goals.{in-Pin+else-not-live-gate+in_ok-push-in-Pin, in-Data, in-Out}
 
 pub loop-sink-init : goal.loop-sink-init
 loop-sink-init c = record {
@@ -25,6 +27,33 @@ level_of-level-requires c =
     let reads = sink_gate circuit c.requires.circuit.well_formed c.args.signal n.0 n.1 c.sinks_of-sink-items.result.now (c.sinks_of-sink-items.ensures n.0 n.1) c.loop-sink.sink-index c.in-Pin.gate c.in-Pin.pin (sink.Pin 0 0) c.loop-sink-test.true c.in-Pin.is in
     reader_within circuit c.in-Pin.gate c.args.signal reads
 
+pub bounds-live-gate : goal.bounds-live-gate
+bounds-live-gate c =
+    let circuit = c.args.circuit.now in
+    let n = within_place (names circuit) c.args.signal c.requires.signal in
+    let reads = sink_gate circuit c.requires.circuit.well_formed c.args.signal n.0 n.1 c.sinks_of-sink-items.result.now (c.sinks_of-sink-items.ensures n.0 n.1) c.loop-sink.sink-index c.in-Pin.gate c.in-Pin.pin (sink.Pin 0 0) c.loop-sink-test.true c.in-Pin.is in
+    let lt = reader_within circuit c.in-Pin.gate c.args.signal reads in
+    omega (arith, lt, c.requires.room)
+
+pub loop-sink-preserved-then-not-live-gate : goal.loop-sink-preserved-then-not-live-gate
+loop-sink-preserved-then-not-live-gate c =
+    let circuit = c.args.circuit.now in
+    let well = c.requires.circuit.well_formed in
+    let s = c.args.signal in
+    let n = within_place (names circuit) s c.requires.signal in
+    let items = c.sinks_of-sink-items.result.now in
+    let are = c.sinks_of-sink-items.ensures n.0 n.1 in
+    let i = c.loop-sink.sink-index in
+    let gate = c.in-Pin.gate in
+    let reads = sink_gate circuit well s n.0 n.1 items are i gate c.in-Pin.pin (sink.Pin 0 0) c.loop-sink-test.true c.in-Pin.is in
+    record {
+      more = c.loop-sink.invariant.more;
+      is = c.loop-sink.invariant.is;
+      gathered = gathered_dead circuit well s n.0 n.1 items are i c.loop-sink.invariant.more c.loop-sink.invariant.gathered gate c.in-Pin.pin (sink.Pin 0 0) c.loop-sink-test.true c.in-Pin.is
+          (λ live. false≢true (sym c.if-not-live-gate.true ∙ (c.requires.live gate (reader_within circuit gate s reads)).1 live));
+      observer = observer_passed circuit well s n.0 n.1 items are i gate c.in-Pin.pin (sink.Pin 0 0) c.loop-sink.observed c.loop-sink-test.true c.in-Pin.is c.loop-sink.invariant.observer;
+    }
+
 pub loop-sink-preserved : goal.loop-sink-preserved
 loop-sink-preserved c =
     let circuit = c.args.circuit.now in
@@ -37,13 +66,14 @@ loop-sink-preserved c =
     let more = c.loop-sink.invariant.more in
     let before = c.loop-sink.invariant.gathered in
     elim c.match-sink.branch [
-      | in-Pin+in_ok-push-in-Pin w ↦
+      | in-Pin+else-not-live-gate+in_ok-push-in-Pin w ↦
           let reads = sink_gate circuit well s n.0 n.1 items are i w.in-Pin.gate w.in-Pin.pin (sink.Pin 0 0) c.loop-sink-test.true w.in-Pin.is in
           let reader : Reader = record { gate = w.in-Pin.gate; level = w.level_of-level.result } in
           record {
             more = more ++ reader ∷ [];
             is = ap (λ r. r.items) w.readers-is ∙ (w.in_ok-push-in-Pin.ensures.items ∙ (ap (λ l. l ++ reader ∷ []) c.loop-sink.invariant.is ∙ append_assoc c.args.readers.now.items more (reader ∷ [])));
-            gathered = gathered_more circuit well s n.0 n.1 items are i more before w.in-Pin.gate w.in-Pin.pin (sink.Pin 0 0) reader c.loop-sink-test.true w.in-Pin.is refl reads w.level_of-level.ensures;
+            gathered = gathered_more circuit well s n.0 n.1 items are i more before w.in-Pin.gate w.in-Pin.pin (sink.Pin 0 0) reader c.loop-sink-test.true w.in-Pin.is refl reads
+                ((c.requires.live w.in-Pin.gate (reader_within circuit w.in-Pin.gate s reads)).0 w.if-not-live-gate.false) w.level_of-level.ensures;
             observer = subst (HasObserver circuit s items (i + 1)) (sym w.observed-is)
                 (observer_passed circuit well s n.0 n.1 items are i w.in-Pin.gate w.in-Pin.pin (sink.Pin 0 0) c.loop-sink.observed c.loop-sink-test.true w.in-Pin.is c.loop-sink.invariant.observer);
           }

@@ -89,7 +89,7 @@ returns-clause-shown c = λ tests block f first.
       | then-loop-level-test+then-is_empty x ↦ λ s. index_zero now.buckets.at s (x.is_empty.ensures.0 x.if-is_empty.true)
     ] in
     shown_from circuit tests block f good lanes (level_at circuit levels.0) start c.loop-level.found.kept now.overlay now.buckets.at c.loop-level.level well
-    spreads (IsSettled c.args.extent c.loop-level.found.seen) c.loop-level.found.seen idle first.unobserved seen c.loop-level.invariant.settled
+    spreads (IsSettled c.args.extent c.loop-level.found.seen) c.loop-level.found.seen (reads_rise circuit levels.0 well levels.2) idle first.unobserved seen c.loop-level.invariant.settled
 
 pub returns-clause-counted : goal.returns-clause-counted
 returns-clause-counted c = λ tests block f gates first sized all.

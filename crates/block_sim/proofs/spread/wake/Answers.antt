@@ -20,7 +20,7 @@ waits-requires c =
     let none : Reader = record { gate = 0; level = 0 } in
     let reader = slice_index_or c.readers_of-reader-items.result.now c.loop-reader.reader-index none in
     let has = c.readers_of-reader-items.ensures.each c.loop-reader.reader-index none c.loop-reader-test.true in
-    let lt = reader_within c.args.circuit.now reader.gate c.args.signal has.0 in
+    let lt = reader_within c.args.circuit.now reader.gate c.args.signal has.0.0 in
     omega (arith, lt, c.requires.gates, c.loop-reader.invariant.gates)
 
 pub loop-reader-preserved-then-waits : goal.loop-reader-preserved-then-waits
@@ -40,7 +40,7 @@ add-requires-clause-gate c =
     let none : Reader = record { gate = 0; level = 0 } in
     let reader = slice_index_or c.readers_of-reader-items.result.now c.loop-reader.reader-index none in
     let has = c.readers_of-reader-items.ensures.each c.loop-reader.reader-index none c.loop-reader-test.true in
-    let lt = reader_within c.args.circuit.now reader.gate c.args.signal has.0 in
+    let lt = reader_within c.args.circuit.now reader.gate c.args.signal has.0.0 in
     omega (arith, lt, c.requires.gates, c.loop-reader.invariant.gates)
 
 pub add-requires-clause-level : goal.add-requires-clause-level
@@ -59,7 +59,7 @@ loop-reader-preserved c =
     let i = c.loop-reader.reader-index in
     let reader = slice_index_or items i none in
     let has = c.readers_of-reader-items.ensures.each i none c.loop-reader-test.true in
-    let lt = reader_within circuit reader.gate c.args.signal has.0 in
+    let lt = reader_within circuit reader.gate c.args.signal has.0.0 in
     let within : reader.gate < length c.loop-reader.buckets.at = omega (arith, lt, c.requires.gates, c.loop-reader.invariant.gates) in
     let idle : slice_index_or c.loop-reader.buckets.at reader.gate 0 ≡ 0 = idle_of c.loop-reader.buckets.at reader.gate (λ ne. false≢true (sym c.if-waits.false ∙ c.waits.ensures.1 ne)) in
     record {
