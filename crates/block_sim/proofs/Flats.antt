@@ -107,6 +107,7 @@ row_kept c pins more_pins readers more_readers s row pins_more readers_more h =
       lone = h.lone;
       level = h.level;
       observed = h.observed;
+      live = h.live;
     }
 
 pub rows_none : (c : List Statement) (pins : List ℕ) (readers : List Reader) → AreRows c pins readers []

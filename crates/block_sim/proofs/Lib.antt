@@ -38,6 +38,7 @@ mod OnePin
 mod Entered
 mod Flips
 mod Regions
+mod Arrivals
 mod Stems
 mod RegionLanes
 mod FlipLanes

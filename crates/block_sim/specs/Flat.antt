@@ -28,8 +28,8 @@ IsLiveAt c live s = IsTrue (slice_index_or live s false) ↔ IsLive c s
 abbrev pub AreLive : List Statement → List Bool → Type 0
 AreLive c live = (s : ℕ) → s < length (names c) → IsLiveAt c live s
 
--- a row says what drives a signal, what reads it and what alone does, its level, and whether an
--- observer observes it
+-- a row says what drives a signal, what reads it and what alone does, its level, whether an
+-- observer observes it, and whether one is reached from it
 pub record IsRow (c : List Statement) (pins : List ℕ) (readers : List Reader) (s : ℕ) (row : Row) :
     Type 0 where
   pub pins_in : (row.pins_start ≤ row.pins_end) × (row.pins_end ≤ length pins)
@@ -42,6 +42,7 @@ pub record IsRow (c : List Statement) (pins : List ℕ) (readers : List Reader) 
   pub lone : row.lone_reader ≡ lone_reader c s
   pub level : HasLevel c s row.level
   pub observed : IsTrue row.observed ↔ IsObserved c s
+  pub live : IsTrue row.live ↔ IsLive c s
 
 -- the second list goes on where the first ends
 abbrev pub HasMore : {X : Type 0} → List X → List X → Type 0

@@ -8,7 +8,7 @@ ghost use Rattle.bench_net.specs.Scan.{names, gate_of};
 ghost use Rattle.bench_net.specs.Circuit.{IsCircuit};
 ghost use Rattle.bench_net.specs.Level.{HasLevel};
 ghost use Rattle.fault_model.specs.Known.{only_gate};
-ghost use Rattle.block_sim.specs.Events.{IsObserved};
+ghost use Rattle.block_sim.specs.Events.{IsLive, IsObserved};
 ghost use Rattle.block_sim.specs.Flat.{AreLive, AreReaders, HasMore, IsDriver, IsFlat, IsRow};
 ghost use Rattle.block_sim.specs.Forms.{IsFormOf};
 ghost use Rattle.block_sim.specs.Regions.{lone_reader};
@@ -50,6 +50,7 @@ struct Row {
     /// The gate of the pin that is all that reads the signal; `None` for a stem.
     lone_reader: Option<u32>,
     observed: bool,
+    live: bool,
     level: u32,
     pins_start: usize,
     pins_end: usize,
@@ -151,6 +152,15 @@ impl FlatCircuit {
         self.lists.rows[signal as usize].observed
     }
 
+    /// Whether a signal is live: whether an observer is reached from it.
+    #[inline(always)]
+    pub fn is_live(&self, signal: u32) -> bool
+        requires { signal < length (names self.now) }
+        ensures { IsTrue result ↔ IsLive self.now signal }
+    {
+        self.lists.rows[signal as usize].live
+    }
+
     /// The level of a signal.
     #[inline(always)]
     pub fn level_of(&self, signal: u32) -> u32
@@ -206,6 +216,7 @@ fn add_row(
         driver,
         lone_reader: only_gate(circuit.sinks_of(signal)),
         observed,
+        live: live[signal as usize],
         level: circuit.level_of(signal),
         pins_start,
         pins_end: pins.len(),

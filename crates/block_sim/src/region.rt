@@ -1,13 +1,13 @@
 //! The way of a fault through its fan-out-free region: from gate to gate, each of which alone reads
 //! the signal before it, to the stem; and the stem turned round for all that came to it.
 
-ghost use Rattle.std.specs.Prelude.{◌≡◌, ℕ, ◌+◌, ◌<◌, ◌≤◌, Contains, List, None, true};
+ghost use Rattle.std.specs.Prelude.{◌≡◌, ◌≢◌, ℕ, ◌+◌, ◌<◌, ◌≤◌, Contains, List, None, true};
 ghost use Rattle.std.specs.Prelude.{length};
 ghost use Rattle.bench_net.specs.Scan.{names};
 ghost use Rattle.fault_model.specs.Fault.{Fault, faults};
 ghost use Rattle.fault_model.specs.Solution.{Test};
 ghost use Rattle.block_sim.specs.Changes.{HasRoomFor, IsAsLarge, IsClear};
-ghost use Rattle.block_sim.specs.Regions.{HasCome, IsReached, IsReadBy};
+ghost use Rattle.block_sim.specs.Regions.{HasCome, IsReached, IsReadBy, IsStemOf, IsStemOfLine};
 ghost use Rattle.block_sim.specs.Regions.{TellsFirstFlips};
 ghost use Rattle.block_sim.specs.Stuck.{stuck_fault};
 ghost use Rattle.block_sim.specs.Words.{lane, AreWords, HasWords};
@@ -28,12 +28,13 @@ pub struct Arrival {
 }
 
 /// The lanes in which a fault comes over the gate that alone reads a signal, of those in which it
-/// has come to the signal.
+/// has come to the signal. There is one at least.
 #[inline(always)]
 fn cross(view: BlockView<'_>, at: Arrival, gate: u32, changes: &mut Changes) -> u64
     requires view { HasWords view.circuit.now view.good.now }
     requires room { HasRoomFor view.circuit.now changes.old }
     requires clear { IsClear changes.old }
+    requires some { at.lanes ≢ 0 }
     requires read { IsReadBy view.circuit.now gate at.signal }
     ensures come { (tests : List Test) (block : ℕ) (f : Fault)
         → AreWords view.entry.circuit.now tests block None view.entry.good.now
@@ -44,9 +45,6 @@ fn cross(view: BlockView<'_>, at: Arrival, gate: u32, changes: &mut Changes) -> 
     ensures room { IsAsLarge changes.old changes.new }
     ensures clear { IsClear changes.new }
 {
-    if at.lanes == 0 {
-        return 0;
-    }
     match view.circuit.gate_of(gate) {
         Some(line) => {
             changes.overlay.change(at.signal, at.lanes);
@@ -60,7 +58,8 @@ fn cross(view: BlockView<'_>, at: Arrival, gate: u32, changes: &mut Changes) -> 
 }
 
 /// Follows a fault from a signal to which it has come to the stem of that, over gates that alone
-/// read what is before them.
+/// read what is before them. It stops early where the fault comes on in no lane, as it does from
+/// a signal that isn't live.
 pub fn arrive(view: BlockView<'_>, from: Arrival, changes: &mut Changes) -> Arrival
     requires view { HasWords view.circuit.now view.good.now }
     requires room { HasRoomFor view.circuit.now changes.old }
@@ -71,12 +70,23 @@ pub fn arrive(view: BlockView<'_>, from: Arrival, changes: &mut Changes) -> Arri
         → HasCome view.entry.circuit.now tests block f view.entry.lanes from.signal from.lanes
         → HasCome view.entry.circuit.now tests block f view.entry.lanes result.signal result.lanes }
     ensures signal { result.signal < length (names view.entry.circuit.now) }
+    ensures stem { result.lanes ≢ 0
+        → IsStemOf view.entry.circuit.now result.signal from.signal }
     ensures grown { changes.old.evaluations ≤ changes.new.evaluations }
     ensures room { IsAsLarge changes.old changes.new }
     ensures clear { IsClear changes.new }
 {
+    if !view.circuit.is_live(from.signal) {
+        return Arrival {
+            signal: from.signal,
+            lanes: 0,
+        };
+    }
     let mut at = from;
-    for _step in 0..changes.buckets.levels() {
+    for _step in 0..view.circuit.circuit().depth() {
+        if at.lanes == 0 {
+            break;
+        }
         match view.circuit.lone_reader(at.signal) {
             Some(gate) => {
                 let lanes = cross(view, at, gate, changes);
@@ -114,6 +124,8 @@ pub fn follow(view: BlockView<'_>, fault: Stuck, changes: &mut Changes) -> Reach
         → IsReached view.entry.circuit.now tests block (stuck_fault fault) view.entry.lanes result }
     ensures signal { (at : Arrival) → result ≡ Reach.Stem at
         → at.signal < length (names view.entry.circuit.now) }
+    ensures stem { (at : Arrival) → result ≡ Reach.Stem at → at.lanes ≢ 0
+        → IsStemOfLine view.entry.circuit.now at.signal fault.line }
     ensures grown { changes.old.evaluations ≤ changes.new.evaluations }
     ensures room { IsAsLarge changes.old changes.new }
     ensures clear { IsClear changes.new }

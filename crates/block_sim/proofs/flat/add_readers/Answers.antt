@@ -1,5 +1,4 @@
-use Rattle.std.proofs.Common.{◌≡◌, ◌≢◌, ◌<◌, ℕ, ◌∙◌, Bool, true, false, not, [], ◌∷◌, ◌++◌, length, ap, arith, refl, sym, subst, ◌+◌}
-use Rattle.std.specs.Prelude.{slice_index_or}
+use Rattle.std.proofs.Common.{◌≢◌, ℕ, ◌∙◌, [], ◌∷◌, ◌++◌, ap, arith, refl, sym, subst, ◌+◌}
 use Rattle.std.proofs.lemmas.Bool.{false≢true}
 use Rattle.std.proofs.lemmas.List.{append_assoc, append-nil}
 use Rattle.bench_net.specs.declared.Sink.TheVariants as sink

@@ -1,10 +1,9 @@
-use Rattle.std.proofs.Common.{◌≢◌, ◌<◌, length, refl, inl, inr, sym, ◌∙◌, ap, subst, arith}
-use Rattle.std.specs.Prelude.{slice_index_or, IsTrue}
+use Rattle.std.proofs.Common.{refl, inl, inr, sym, ◌∙◌, arith}
 use Rattle.std.proofs.lemmas.Bool.{false≢true}
 use Rattle.bench_net.specs.declared.Sink.TheVariants as sink
 use Rattle.bench_net.specs.Scan.{names}
 use Rattle.lists.proofs.Places.{within_place}
-use Rattle.block_sim.specs.Events.{IsLive, Reads}
+use Rattle.block_sim.specs.Events.{IsLive}
 use Rattle.block_sim.proofs.LiveSignals.{dead_all, dead_more, dead_none, live_by_gate, live_by_observer}
 use Rattle.block_sim.proofs.Readers.{reader_within}
 use Rattle.block_sim.proofs.Woken.{sink_gate}
@@ -63,7 +62,8 @@ loop-sink-preserved c =
 pub returns : goal.returns
 returns c =
     let circuit = c.args.circuit.now in
-    let n = within_place (names circuit) c.args.signal c.requires.signal in
-    (λ f. absurd (false≢true f),
-    λ live. absurd (dead_all circuit c.requires.circuit.well_formed c.args.signal n.0 n.1 c.sinks_of-sink-items.result.now (c.sinks_of-sink-items.ensures n.0 n.1) c.loop-sink.sink-index
-    c.loop-sink-test.false c.loop-sink.invariant live))
+    let n = within_place (names circuit) c.args.signal c.requires.signal in (
+      λ f. absurd (false≢true f),
+      λ live. absurd (dead_all circuit c.requires.circuit.well_formed c.args.signal n.0 n.1 c.sinks_of-sink-items.result.now (c.sinks_of-sink-items.ensures n.0 n.1) c.loop-sink.sink-index
+          c.loop-sink-test.false c.loop-sink.invariant live),
+    )

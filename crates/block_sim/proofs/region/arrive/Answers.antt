@@ -1,8 +1,33 @@
-use Rattle.std.proofs.Common.{arith, sym}
-use Rattle.block_sim.proofs.Moments.{large_enough, large_on}
+use Rattle.std.proofs.Common.{arith, sym, subst, ◌∙◌}
+use Rattle.std.proofs.lemmas.Bool.{false≢true}
+use Rattle.bench_net.specs.Level.{HasDepth}
+use Rattle.block_sim.specs.Regions.{here}
+use Rattle.block_sim.specs.Words.{test_of}
+use Rattle.block_sim.proofs.Arrivals.{dead_flip, deeper, leads_further, stem_at_depth}
+use Rattle.block_sim.proofs.Lanes.{lane_zero}
+use Rattle.block_sim.proofs.Moments.{large_enough, large_none, large_on}
 use Rattle.block_sim.proofs.OnePin.{pin_law}
 use Rattle.block_sim.proofs.Stems.{lone_within}
 use Rattle.block_sim.proofs.region.arrive.Goals as goal
+
+pub returns-then-not-is_live-clause-come : goal.returns-then-not-is_live-clause-come
+returns-then-not-is_live-clause-come c = λ tests block f words come k lt asked.
+    let circuit = c.args.view.circuit.now in (
+      λ d. absurd (dead_flip circuit c.requires.view.circuit.well_formed (test_of tests block k) c.args.from.signal
+          (λ live. false≢true (sym c.if-not-is_live.true ∙ c.is_live.ensures.1 live)) ((come k lt asked).0 d).1),
+      λ b. absurd (false≢true (sym (lane_zero k) ∙ b.0)),
+    )
+
+pub loop-step-init : goal.loop-step-init
+loop-step-init c = record {
+  room = large_none c.args.changes.now;
+  clear = c.requires.clear;
+  grown = omega arith;
+  within = c.requires.signal;
+  leads = here;
+  deep = λ k h. omega arith;
+  come = λ tests block f words come. come;
+}
 
 pub cross-lanes-requires-clause-room : goal.cross-lanes-requires-clause-room
 cross-lanes-requires-clause-room c = large_enough c.args.view.circuit.now c.args.changes.now c.loop-step.changes c.requires.room c.loop-step.invariant.room
@@ -12,12 +37,30 @@ cross-lanes-requires-clause-read c = pin_law c.args.view.circuit.now c.requires.
 
 pub loop-step-preserved : goal.loop-step-preserved
 loop-step-preserved c =
+    let circuit = c.args.view.circuit.now in
+    let well = c.requires.view.circuit.well_formed in
     let last = c.loop-step.invariant in
     let next = c.cross-lanes.ensures in
+    let alone = sym c.in-Some.ensures in
     record {
       room = large_on c.args.changes.now c.loop-step.changes c.cross-lanes.new.changes last.room next.room;
       clear = next.clear;
       grown = omega (arith, last.grown, next.grown);
-      within = lone_within c.args.view.circuit.now c.requires.view.circuit.well_formed c.loop-step.at.signal c.in-Some.gate (sym c.in-Some.ensures);
+      within = lone_within circuit well c.loop-step.at.signal c.in-Some.gate alone;
+      leads = leads_further circuit c.in-Some.gate last.leads alone;
+      deep = deeper circuit c.loop-step.at.signal c.in-Some.gate c.loop-step._step well last.within alone last.deep;
       come = λ tests block f words come. next.come tests block f words (last.come tests block f words come);
     }
+
+pub returns-in-None-clause-stem : goal.returns-in-None-clause-stem
+returns-in-None-clause-stem c = λ some. (c.loop-step.invariant.leads, sym c.in-None.ensures)
+
+-- the way is no longer than there are levels
+pub returns-after-loop-step-clause-stem : goal.returns-after-loop-step-clause-stem
+returns-after-loop-step-clause-stem c = λ some.
+    let circuit = c.args.view.circuit.now in
+    let last = c.loop-step.invariant in (
+      last.leads,
+      stem_at_depth circuit c.depth-step-end.result c.loop-step.at.signal c.loop-step._step c.requires.view.circuit.well_formed
+          (subst (λ x. HasDepth x c.depth-step-end.result) c.circuit.ensures c.depth-step-end.ensures) last.within c.loop-step-test.false last.deep,
+    )
