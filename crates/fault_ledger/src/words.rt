@@ -373,9 +373,9 @@ fn read_codes(
     ensures { IfOk result (λ codes. codes.items
         ≡ map (rule.field_in (slots_items closed.now.words)) (below pieces)) }
 {
-    let mut codes = Vec::with_capacity(alloc, pieces)?;
+    let mut codes = vec![in alloc; 0; pieces]?;
     for piece in 0..pieces {
-        codes.push(field_of(piece, closed.word(word_with(piece))) as u8)?;
+        codes[piece] = field_of(piece, closed.word(word_with(piece))) as u8;
     }
     Ok(codes)
 }

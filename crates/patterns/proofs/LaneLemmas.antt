@@ -1,7 +1,9 @@
 -- Lemmas on setting one lane of the words of a block.
-use Rattle.std.proofs.Common.{◌≡◌, ◌≢◌, ℕ, ◌+◌, ◌*◌, ◌^◌, ◌%◌, ◌<◌, ◌≤◌, Bool, true, false, bit_or, List, length, get_or, set, w64, sym, ap, ◌∙◌, ⊎_elim, subst, arith, get_or-set_same, get_or-set_other}
+use Rattle.std.proofs.Common.{◌≡◌, ◌≢◌, ℕ, ◌+◌, ◌*◌, ◌^◌, ◌%◌, ◌<◌, ◌≤◌, Bool, true, false, bit_or, List, length, get_or, set, w64, sym, ap, ◌∙◌, ⊎_elim, subst, arith, zero-mul, get_or-set_same, get_or-set_other}
 use Rattle.std.specs.Int.{bit_at}
-use Rattle.std.proofs.lemmas.Bool.{cases_eq}
+use Rattle.std.proofs.lemmas.Bool.{cases_eq, cases_Bool}
+use Rattle.std.specs.Int.Bits.{or_zero_r}
+use Rattle.std.proofs.lemmas.List.{set-get_or}
 use Rattle.std.proofs.lemmas.Nat.Bits.{bit_at_set_same, bit_at_set_other}
 use Rattle.patterns.specs.Tests.{as_number}
 
@@ -49,3 +51,17 @@ IsSetBelow-zero old words row lane i zero before =
       clear = λ source h. before.clear source (omega arith);
       others = before.others;
     }
+
+-- the bit is set by its number
+pub IsSetBelow-bit : (old words : List ℕ) (row : List Bool) (lane i n : ℕ) → (get_or row i false ≡ true → n ≡ 1) → (get_or row i false ≡ false → n ≡ 0)
+    → lane < 64 → i < length words → IsSetBelow old words row lane i
+    → IsSetBelow old (set words i (bit_or (get_or words i 0) (n * 2 ^ lane % 2 ^ 64))) row lane (i + 1)
+IsSetBelow-bit old words row lane i n one zero in_word within before =
+    let with : ℕ → List ℕ = λ m. set words i (bit_or (get_or words i 0) (m * 2 ^ lane % 2 ^ 64)) in
+    ⊎_elim
+    (λ (set_bit : get_or row i false ≡ true). subst (λ m. IsSetBelow old (with m) row lane (i + 1)) (sym (one set_bit)) (IsSetBelow-one old words row lane i in_word within set_bit before))
+    (λ (clear_bit : get_or row i false ≡ false).
+    let same : with 0 ≡ words = ap (λ m. set words i (bit_or (get_or words i 0) (m % 2 ^ 64))) (zero-mul (2 ^ lane)) ∙ ap (λ m. set words i m) (or_zero_r (get_or words i 0)) ∙ set-get_or words i 0 in
+    subst (λ m. IsSetBelow old (with m) row lane (i + 1)) (sym (zero clear_bit))
+    (subst (λ ws. IsSetBelow old ws row lane (i + 1)) (sym same) (IsSetBelow-zero old words row lane i clear_bit before)))
+    (cases_Bool (get_or row i false))

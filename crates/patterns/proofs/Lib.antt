@@ -10,4 +10,5 @@ mod AnswerLemmas
 mod TestLemmas
 mod MakingLemmas
 mod WrittenLemmas
+mod FirstLineLemmas
 pub mod Public

@@ -1,5 +1,5 @@
 -- Lemmas on the rows of a text.
-use Rattle.std.proofs.Common.{◌≡◌, ℕ, ◌+◌, ◌<◌, ◌⊎◌, Bool, not, ◌==◌, cond, List, [], ◌∷◌, map, filter, length, sym, refl, ap, ◌∙◌, inl, inr, ⊎_elim, arith, take_all}
+use Rattle.std.proofs.Common.{◌≡◌, ℕ, ◌+◌, ◌<◌, ◌⊎◌, Bool, not, ◌==◌, cond, List, [], ◌∷◌, map, filter, length, sym, ap, ◌∙◌, inl, inr, ⊎_elim, arith, take_all}
 use Rattle.std.specs.List.{slice_split, before_first, after_first, position_or_len, enumerate_from}
 use Rattle.std.specs.Str.Lines.{strip_carriage_return}
 use Rattle.std.proofs.lemmas.Bool.{cases_lt, cond-true, cond-false, eq-eqb, ne_eqb}

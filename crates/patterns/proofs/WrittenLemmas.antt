@@ -11,7 +11,7 @@ use Rattle.patterns.specs.Tests.{TestList, IsTestList, HasTests, max_tests, test
 use Rattle.patterns.specs.Making.{digit, test_text}
 use Rattle.patterns.proofs.RowLemmas.{rows_from_first}
 
-abbrev digits : List Bool → List ℕ
+abbrev pub digits : List Bool → List ℕ
 digits row = map digit row
 
 -- a byte that is no digit is in no row
@@ -32,10 +32,10 @@ row_end row rest =
     (λ k h. ap (λ b. b == 10) (get_or_append_left (digits row) (10 ∷ rest) 0 k h) ∙ no_digit (λ b. b == 10) refl refl row k (omega (arith, len)))
     (λ h. ap (λ b. b == 10) (get_or-append_seam (digits row) 10 rest 0))
 
-before_end : (row : List Bool) (rest : List ℕ) → digits row ≡ before_first (λ b. b == 10) (digits row ++ 10 ∷ rest)
+pub before_end : (row : List Bool) (rest : List ℕ) → digits row ≡ before_first (λ b. b == 10) (digits row ++ 10 ∷ rest)
 before_end row rest = sym (ap (λ n. take n (digits row ++ 10 ∷ rest)) (row_end row rest) ∙ take-append_seam (digits row) (10 ∷ rest))
 
-after_end : (row : List Bool) (rest : List ℕ) → rest ≡ after_first (λ b. b == 10) (digits row ++ 10 ∷ rest)
+pub after_end : (row : List Bool) (rest : List ℕ) → rest ≡ after_first (λ b. b == 10) (digits row ++ 10 ∷ rest)
 after_end row rest = sym (ap (λ n. drop (n + 1) (digits row ++ 10 ∷ rest)) (row_end row rest) ∙ drop-append-add (digits row) (10 ∷ rest) 1)
 
 -- a row holds all of itself
@@ -75,7 +75,7 @@ no_return : (row : List Bool) → 0 < length row → strip_carriage_return (digi
 no_return row some =
     cond-false _ _ _ (no_digit (λ b. b == 13) refl refl row (length (digits row) - 1) (omega (arith, length-map row digit)))
 
-row_content : (row : List Bool) → 0 < length row → digits row ≡ content (strip_carriage_return (digits row))
+pub row_content : (row : List Bool) → 0 < length row → digits row ≡ content (strip_carriage_return (digits row))
 row_content row some =
     sym (ap content (no_return row some) ∙ ap (λ bytes. without_back (without_front bytes)) (no_comment row) ∙ ap without_back (kept_front row) ∙ kept_back row)
 

@@ -25,7 +25,7 @@ pub fn read_order(alloc: Global, text: &[u8], workers: u32) -> Result<Vec<u32>, 
         (fault ≡ OrderFault.Memory) ⊎ IsOrderRefusal text.now workers fault) }
 {
     let mut moves = Vec::new(alloc);
-    for row in Rows::new(text) {
+    for row in Rows::new(text, 1) {
         let worker = worker_of(moves.len(), row, workers)?;
         moves.push(worker)?;
     }

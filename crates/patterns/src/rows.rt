@@ -1,6 +1,6 @@
 //! The rows of a test text or an order text.
-ghost use Rattle.std.specs.Prelude.{◌≡◌, ◌+◌, ◌^◌, ◌<◌, ◌==◌, length};
-ghost use Rattle.std.specs.List.{before_first, after_first};
+ghost use Rattle.std.specs.Prelude.{◌≡◌, ◌+◌, ◌^◌, ◌<◌, ◌==◌, ◌||◌, true, length, take, slice_index};
+ghost use Rattle.std.specs.List.{list_all, before_first, after_first};
 ghost use Rattle.std.specs.Str.Lines.{strip_carriage_return};
 ghost use Rattle.patterns.specs.Rows.{content, without_front, without_back};
 
@@ -20,6 +20,8 @@ pub(crate) struct Rows<'a> {
     text: &'a [u8],
     /// The number of that line, counted from 1.
     line: u64,
+    /// How many bytes a row is likely to have. It changes nothing but the time.
+    likely: usize,
     /// Each line has at least its end or a byte, so the numbers of all lines fit.
     ghost numbered: { line + length text.now < 2 ^ 64 },
 }
@@ -28,11 +30,15 @@ impl<'a> Rows<'a> {
     ghost use Rattle.patterns.specs.Rows.{rows};
     ghost use Rattle.patterns.specs.Reading.{rows_left};
 
-    /// The rows of a text.
-    pub(crate) fn new(text: &'a [u8]) -> Self
+    /// The rows of a text, of which most are likely to have so many bytes.
+    pub(crate) fn new(text: &'a [u8], likely: usize) -> Self
         ensures { rows_left result ≡ rows text.now }
     {
-        Rows { text, line: 1 }
+        Rows {
+            text,
+            line: 1,
+            likely,
+        }
     }
 }
 
@@ -49,16 +55,52 @@ impl<'a> Iterator for Rows<'a> {
     fn next(&mut self) -> Option<Row<'a>> {
         while !self.text.is_empty() {
             let line = self.line;
-            let (first, rest) = split_once(self.text, b'\n');
+            let (bytes, rest) = first_line(self.text, self.likely);
             self.text = rest;
             self.line += 1;
-            let bytes = content(first);
             if !bytes.is_empty() {
                 return Some(Row { line, bytes });
             }
         }
         None
     }
+}
+
+/// What the first line of a text holds, and the text behind that line. A line of just so many
+/// digits `0` and `1` as are likely is told by them, without a search for its end.
+fn first_line(text: &[u8], likely: usize) -> (&[u8], &[u8])
+    ensures held { result.0.now
+        ≡ content (strip_carriage_return (before_first (λ b. b == 10) text.now)) }
+    ensures rest { result.1.now ≡ after_first (λ b. b == 10) text.now }
+{
+    if begins_with_bits(text, likely) {
+        return (&text[..likely], &text[likely + 1..]);
+    }
+    let (first, rest) = split_once(text, b'\n');
+    (content(first), rest)
+}
+
+/// Whether a text begins with so many digits `0` and `1`, and then a line feed.
+fn begins_with_bits(text: &[u8], count: usize) -> bool
+    ensures { result ≡ true → (count < length text.now) × (slice_index text.now count ≡ 10)
+        × (list_all (λ b. b == 48 || b == 49) (take count text.now) ≡ true) }
+{
+    match text.get(count) {
+        Some(b'\n') => are_bits(&text[..count]),
+        _ => false,
+    }
+}
+
+/// Whether each byte is `0` or `1`. It looks at all of them, so that a processor may take many at
+/// a time.
+pub(crate) fn are_bits(bytes: &[u8]) -> bool
+    ensures { result ≡ list_all (λ b. b == 48 || b == 49) bytes.now }
+{
+    let mut all = true;
+    for byte in bytes {
+        all &= matches!(*byte, b'0' | b'1');
+    }
+    all
 }
 
 /// The bytes before the first `separator` and those after it; all of them and none where there is

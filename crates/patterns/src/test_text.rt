@@ -1,12 +1,11 @@
 //! Tests, laid out in words of 64, and their reader.
-ghost use Rattle.std.specs.Prelude.{◌≡◌, ◌≢◌, ℕ, ◌+◌, ◌<◌, ◌≤◌, ◌==◌, ◌||◌, ◌⊎◌, [], ◌++◌, false, map, length, slice_index, slice_index_or, IfOk, IfErr, OnOk, OnErr};
+ghost use Rattle.std.specs.Prelude.{◌≡◌, ◌≢◌, ℕ, ◌+◌, ◌<◌, ◌≤◌, ◌==◌, ◌⊎◌, [], ◌++◌, false, map, length, slice_index, slice_index_or, IfOk, IfErr, OnOk, OnErr};
 ghost use Rattle.std.specs.Int.{bit_at};
-ghost use Rattle.std.specs.List.{list_all};
 ghost use Rattle.patterns.specs.Making.{IsMadeOf, IsPushRefusal, IsWordsRefusal, digit, row_text, test_text, with_test};
 ghost use Rattle.patterns.specs.Tests.{HasTests, IsTestList, IsTestRefusal, IsWord, as_number, bit, blocks, max_tests, size_of, test_fault};
 ghost use Rattle.patterns.specs.Reading.{row_of};
 
-use crate::rows::{Row, Rows};
+use crate::rows::{Row, Rows, are_bits};
 use crate::word_rows::{check_idle_bits, make_room, rows_of};
 use crate::{BLOCK_SIZE, MAX_TESTS, PushFault, TestFault, WordsFault};
 use std::alloc::{AllocError, Global};
@@ -56,7 +55,7 @@ pub fn read_tests(alloc: Global, text: &[u8], width: u32) -> Result<Tests, TestF
 {
     let mut tests = Tests::new(alloc, width);
     let mut bits = vec![in alloc; false; width as usize]?;
-    for row in Rows::new(text) {
+    for row in Rows::new(text, width as usize) {
         check_row(tests.count(), row, width)?;
         read_bits(&mut bits, row.bytes);
         tests.add(alloc, &bits)?;
@@ -82,13 +81,6 @@ fn check_row(place: u32, row: Row<'_>, width: u32) -> Result<(), TestFault>
         return Err(TestFault::BadWidth(row.line));
     }
     Ok(())
-}
-
-/// Whether each byte is `0` or `1`.
-fn are_bits(bytes: &[u8]) -> bool
-    ensures { result ≡ list_all (λ b. b == 48 || b == 49) bytes.now }
-{
-    bytes.iter().all(|byte| matches!(byte, b'0' | b'1'))
 }
 
 /// Whether each byte is `1`, one after another.
@@ -282,9 +274,7 @@ fn set_lane(words: &mut [u64], row: &[bool], lane: u32)
         → bit_at (slice_index words.new source) k ≡ bit_at (slice_index words.old source) k }
 {
     for (source, bit) in row.iter().enumerate() {
-        if *bit {
-            words[source] |= 1 << lane;
-        }
+        words[source] |= u64::from(*bit) << lane;
     }
 }
 
