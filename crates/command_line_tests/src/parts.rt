@@ -9,7 +9,7 @@ use std::thread::Threads;
 
 /// The part text of the one part of a buffer. The sums are those of `sha256sum`.
 const BUFFER_PART: &str = "\
-    part 1 of 1 model stuck rule class \
+    part 1 of 1 model stuck rule region \
     bench dadfe99a35e42a5e6328afad078dcfd2990725814c7801000cc80af3843e0f15 \
     tests 4355a46b19d348dc2f57c046f8ef63d4538ebb936000f3c9ee954a27460dd865\n\
     stem a sa0 0\n\

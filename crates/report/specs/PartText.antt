@@ -80,7 +80,7 @@ model_name Transition = codes "transition"
 
 -- the name of the rule that `part_of` is
 abbrev pub rule_name : List ℕ
-rule_name = codes "class"
+rule_name = codes "region"
 
 -- the sum of a text: its SHA-256 in lower case hex digits
 abbrev pub sum_text : List ℕ → List ℕ

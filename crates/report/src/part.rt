@@ -26,8 +26,8 @@ use std::sync::Wait;
 use std::thread::Threads;
 use workers::{OpenGate, PartVerdict, run_part};
 
-/// The rule by which parts are made, as a part text names it: by the number of the class.
-const RULE: &str = "class";
+/// The rule by which parts are made, as a part text names it: by the stem of a class's region.
+const RULE: &str = "region";
 
 /// Reads a circuit and tests for it, runs one part of the fault classes, counted from 0, of so
 /// many, and writes its part text: which part of what it is, each fault of the list with the first

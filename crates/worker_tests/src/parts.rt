@@ -13,6 +13,14 @@ use std::test::Fail;
 use std::thread::Threads;
 use workers::{OpenGate, PartVerdict, RunFault, part_of, run_in_parts, run_part};
 
+/// The number of the stem of each fault of C17, that is of its class's region. The signals are G1,
+/// G2, G3, G6, G7, G10, G11, G16, G19, G22 and G23, from 0, of which G3, G11, G16, G22 and G23 are
+/// stems.
+const C17_STEMS: [u32; 34] = [
+    9, 9, 7, 7, 2, 2, 9, 9, 6, 6, 6, 6, 10, 10, 9, 9, 6, 6, 7, 7, 10, 10, 7, 7, 9, 9, 10, 10, 10,
+    10, 9, 9, 10, 10,
+];
+
 /// Checks C17 in several numbers of parts: all parts together, and each alone.
 fn check_parts<R: Threads + Wait + Abort>(rt: &R, alloc: Global, job: &Job) -> Result<(), Fail> {
     for parts in [1, 2, 3, 22, 23, 64] {
@@ -37,18 +45,34 @@ fn check_part<R: Threads + Wait + Abort>(
     requires { part < parts }
 {
     let verdicts = run_part(rt, alloc, job, part, parts, 2, &OpenGate)?;
-    let classes = job.classes();
-    for fault in 0..job.faults().count() {
-        let expected = if part_of(classes.class_of(fault), parts) == part {
-            C17_FIRSTS
-                .get(fault as usize)
-                .map(|first| PartVerdict::First(*first))
+    assert_eq!(rt; verdicts.len(), C17_FIRSTS.len());
+    for (fault, (stem, first)) in C17_STEMS.iter().zip(C17_FIRSTS.iter()).enumerate() {
+        let expected = if *stem % parts == part {
+            PartVerdict::First(*first)
         } else {
-            Some(PartVerdict::OtherPart)
+            PartVerdict::OtherPart
         };
-        assert_eq!(rt; verdicts.get(fault as usize).copied(), expected);
+        assert_eq!(rt; verdicts.get(fault), Some(&expected));
     }
     Ok(())
+}
+
+#[test]
+fn c17_is_cut_by_region(rt: HostRuntime) -> Result<(), Fail> {
+    let job = job_of(rt.alloc(), Model::StuckAt, C17, &[("11111", 1)])?;
+    check_stems(&rt, &job);
+    Ok(())
+}
+
+/// Checks the part of the class of each fault of C17.
+fn check_stems<R: Abort>(rt: &R, job: &Job) {
+    let classes = job.classes();
+    for fault in 0..job.faults().count() {
+        let class = classes.class_of(fault);
+        let stem = C17_STEMS.get(fault as usize).copied();
+        assert_eq!(rt; Some(part_of(job, class, 64)), stem);
+        assert_eq!(rt; Some(part_of(job, class, 3)), stem.map(|stem| stem % 3));
+    }
 }
 
 #[test]
@@ -61,8 +85,10 @@ fn c17_in_parts(rt: HostRuntime) -> Result<(), Fail> {
 fn check_refused<R: Threads + Wait + Abort>(rt: &R, alloc: Global, job: &Job) {
     let stopped = run_part(rt, alloc, job, 1, 3, 1, &Shut).err();
     assert_eq!(rt; stopped, Some(RunFault::Unfinished { class: 1, block: 0 }));
+    let stopped = run_part(rt, alloc, job, 0, 3, 1, &Shut).err();
+    assert_eq!(rt; stopped, Some(RunFault::Unfinished { class: 5, block: 0 }));
     let stopped = run_in_parts(rt, alloc, job, 3, 1, &Shut).err();
-    assert_eq!(rt; stopped, Some(RunFault::Unfinished { class: 0, block: 0 }));
+    assert_eq!(rt; stopped, Some(RunFault::Unfinished { class: 5, block: 0 }));
     let none = run_in_parts(rt, alloc, job, 3, 0, &OpenGate).err();
     assert_eq!(rt; none, Some(RunFault::NoWorkers));
 }

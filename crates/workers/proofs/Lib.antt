@@ -7,3 +7,4 @@ pub mod Reports
 pub mod Crew
 pub mod Finish
 pub mod Partition
+pub mod Ranking

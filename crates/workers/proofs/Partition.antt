@@ -1,105 +1,180 @@
 -- That parts are a partition, and what runs over them give.
-use Rattle.std.proofs.Common.{◌≡◌, ◌≢◌, ◌<◌, ◌≤◌, ◌+◌, ◌⊎◌, inl, inr, ℕ, zero, suc, Bool, true, false, cond, eqb, List, [], ◌∷◌, ◌++◌, map, set, length, get_or, All, Option, Some, None, refl, sym, ap, ◌∙◌, subst, arith, replicate, eq-eqb, ne_eqb, eqb-true, add-one, append-nil}
-use Rattle.std.specs.Prelude.{filter, slice_get}
+use Rattle.std.proofs.Common.{◌≡◌, ◌≢◌, ◌<◌, ◌≤◌, ◌+◌, ◌-◌, ◌%◌, ◌⊎◌, inl, inr, ℕ, zero, suc, List, [], ◌∷◌, ◌++◌, map, set, take, drop, length, get_or, All, Option, Some, None, refl, sym, ap, ◌∙◌, subst, arith, replicate, length-drop}
+use Rattle.std.specs.Prelude.{option_map, slice_get, slice_range}
 use Rattle.bench_net.specs.Statement.{Statement}
 use Rattle.fault_model.specs.declared.Model.{Model}
 use Rattle.fault_model.specs.Solution.{Test}
 use Rattle.block_sim.specs.First.{IsFirst}
+use Rattle.block_sim.specs.Regions.{IsStemOfClass}
+use Rattle.block_sim.proofs.Public.{class_has_stem, one_class_stem}
 use Rattle.std.proofs.Math.Nat.{mod-lt}
+use Rattle.std.proofs.Math.Seq.{take-add, take-length}
 use Rattle.std.proofs.lemmas.Bool.{cases_lt}
-use Rattle.std.proofs.lemmas.Option.{get_or_from_slice_get, slice_get-get_or, slice_get_within}
-use Rattle.std.proofs.lemmas.List.{get_or-set_same, get_or-set_other, length-map, length-set}
-use Rattle.std.proofs.lemmas.List.Elements.{All-append, All-filter, filter-append}
-use Rattle.lists.proofs.Places.{from_mapped}
-use Rattle.patterns.specs.Least.{below}
-use Rattle.patterns.proofs.Public.{get_or-below, length-below}
+use Rattle.std.proofs.lemmas.Option.{get_or_from_slice_get, slice_get-get_or, slice_get-map, slice_get_within}
+use Rattle.std.proofs.lemmas.List.{get_or-drop, get_or-take, get_or-set_same, get_or-set_other, length-map, length-set, length-take, length-take-le}
+use Rattle.lists.proofs.Places.{from_mapped, within_place}
 use Rattle.fault_model.specs.Fault.{Fault}
 use Rattle.fault_model.specs.Collapse.{IsClassOf}
 use Rattle.block_sim.specs.Parts.{Parts, BelongTogether}
 use Rattle.workers.specs.declared.parts.PartVerdict.{PartVerdict}
 use Rattle.workers.specs.declared.parts.PartVerdict.TheVariants.{First, OtherPart}
-use Rattle.workers.specs.Part.{AreClassVerdicts, ArePartVerdicts, IsClassVerdict, IsInOnePart, IsGathered, IsPartVerdict, classes_of, first_in, part_of}
+use Rattle.workers.specs.declared.ranks.Ranked.{Ranked}
+use Rattle.workers.specs.Part.{AreClassVerdicts, ArePartOf, ArePartVerdicts, IsClassVerdict, IsInOnePart, IsOfPart, IsPartVerdict, first_in}
+use Rattle.workers.specs.Rank.{AreRanked, IsCutOf, IsStart, RanksBefore}
 use Rattle.workers.specs.declared.RunFault.{RunFault}
 use Rattle.workers.specs.declared.RunFault.TheVariants as run_fault
 use Rattle.workers.specs.Chosen.{listed}
-use Rattle.workers.specs.Refused.{IsPartsFault, IsRunFaultOver}
+use Rattle.workers.specs.Refused.{IsPartFault, IsPartsFault, IsRunFaultOver}
 use Rattle.workers.specs.Work.{Stops}
 use Rattle.workers.specs.Settling.{shape_for}
 use Rattle.workers.specs.Verdict.{AreClassFirsts, AreFirsts}
-use Rattle.workers.proofs.Truth.{class_in}
-use Rattle.workers.proofs.Turns.{below_last, all_below}
+use Rattle.workers.proofs.Truth.{class_count, class_in}
 
--- what passes a test keeps a place
-filter_place : {X : Type 0} (p : X → Bool) (xs : List X) (i : ℕ) (x : X) → slice_get xs i ≡ Some x → p x ≡ true → (k : ℕ) × (slice_get (filter p xs) k ≡ Some x)
-filter_place p [] i x e t = let bad : None ≡ Some x = e in absurd (cc)
-filter_place p (y ∷ xs) zero x e t =
-    let same : y ≡ x = cc in
-    (0, ap (λ (l : List _). slice_get l 0) (ap (λ b. cond b (y ∷ filter p xs) (filter p xs)) (ap p same ∙ t)) ∙ ap Some same)
-filter_place p (y ∷ xs) (suc i) x e t = go (p y) refl (filter_place p xs i x e t)
-  where
-    go : (b : Bool) → p y ≡ b → (k : ℕ) × (slice_get (filter p xs) k ≡ Some x) → (k : ℕ) × (slice_get (filter p (y ∷ xs)) k ≡ Some x)
-    go true q r = (suc r.0, ap (λ (l : List _). slice_get l (suc r.0)) (ap (λ b. cond b (y ∷ filter p xs) (filter p xs)) q) ∙ r.1)
-    go false q r = (r.0, ap (λ (l : List _). slice_get l r.0) (ap (λ b. cond b (y ∷ filter p xs) (filter p xs)) q) ∙ r.1)
-
--- and what has a place among them passes it
-filter_passes : {X : Type 0} (p : X → Bool) (xs : List X) (k : ℕ) (x : X) → slice_get (filter p xs) k ≡ Some x → p x ≡ true
-filter_passes p [] k x e = let bad : None ≡ Some x = e in absurd (cc)
-filter_passes p (y ∷ xs) k x e = go (p y) refl k (filter_passes p xs) e
-  where
-    go : (b : Bool) → p y ≡ b → (k : ℕ) → ((k : ℕ) (x : _) → slice_get (filter p xs) k ≡ Some x → p x ≡ true) → slice_get (cond b (y ∷ filter p xs) (filter p xs)) k ≡ Some x → p x ≡ true
-    go true q zero i e = let same : y ≡ x = cc in ap p (sym same) ∙ q
-    go true q (suc k) i e = i k x e
-    go false q k i e = i k x e
-
--- a class of a part
-pub part_place : (count parts part class : ℕ) → class < count → part_of parts class ≡ part → (k : ℕ) × (slice_get (classes_of count parts part) k ≡ Some class)
-part_place count parts part class lt e =
-    let here : slice_get (below count) class ≡ Some class = slice_get-get_or (below count) class 0 (omega (arith, length-below count, lt)) ∙ ap Some (get_or-below count class 0 lt) in
-    filter_place (λ c. eqb (part_of parts c) part) (below count) class class here (eq-eqb (part_of parts class) part e)
-
-pub part_passes : (count parts part k class : ℕ) → slice_get (classes_of count parts part) k ≡ Some class → part_of parts class ≡ part
-part_passes count parts part k class e = eqb-true (part_of parts class) part (filter_passes (λ c. eqb (part_of parts c) part) (below count) k class e)
-
-pub part_within : (count parts part : ℕ) → All (λ class. class < count) (classes_of count parts part)
-part_within count parts part = All-filter (λ c. eqb (part_of parts c) part) (λ class. class < count) (below count) (all_below count)
-
-pub part_more : (n parts part : ℕ) → classes_of (n + 1) parts part ≡ classes_of n parts part ++ cond (eqb (part_of parts n) part) (n ∷ []) []
-part_more n parts part = ap (filter (λ c. eqb (part_of parts c) part)) (sym (below_last n)) ∙ filter-append (λ c. eqb (part_of parts c) part) (below n) (n ∷ [])
-
-pub part_yes : (n parts part : ℕ) → part_of parts n ≡ part → classes_of (n + 1) parts part ≡ classes_of n parts part ++ n ∷ []
-part_yes n parts part e = part_more n parts part ∙ ap (λ b. classes_of n parts part ++ cond b (n ∷ []) []) (eq-eqb (part_of parts n) part e)
-
-pub part_no : (n parts part : ℕ) → part_of parts n ≢ part → classes_of (n + 1) parts part ≡ classes_of n parts part
-part_no n parts part d =
-    part_more n parts part ∙ ap (λ b. classes_of n parts part ++ cond b (n ∷ []) []) (ne_eqb (part_of parts n) part d) ∙ append-nil (classes_of n parts part)
+-- the part of a class is that of its one stem
+pub part_of_stem : (job : Parts) (parts part class stem : ℕ) → IsStemOfClass job.list.model job.circuit class stem → IsOfPart job parts part class → part ≡ stem % parts
+part_of_stem job parts part class stem at of = of.2 ∙ ap (λ n. n % parts) (one_class_stem job.list.model job.circuit class of.0 stem of.1 at)
 
 -- each class is in one part
-pub one_part : (count parts class : ℕ) → 0 < parts → class < count → IsInOnePart count parts class
-one_part count parts class some lt =
-    let k = part_place count parts (part_of parts class) class lt refl in
-    let here = classes_of count parts (part_of parts class) in (
-      part_of parts class,
-      mod-lt class some,
-      (k.0, slice_get_within here k.0 class k.1, get_or_from_slice_get here k.0 class class k.1),
-      λ other c.
-          let there = classes_of count parts other in
-          sym (part_passes count parts other c.0 class (slice_get-get_or there c.0 class c.1 ∙ ap Some c.2)),
+pub one_part : (job : Parts) (parts class : ℕ) → BelongTogether job → 0 < parts → class < length job.classes.representative → IsInOnePart job parts class
+one_part job parts class b some lt =
+    let stem = class_has_stem job.list.model job.circuit b.circuit.well_formed class (omega (arith, lt, class_count job b)) in (
+      stem.0 % parts,
+      mod-lt stem.0 some,
+      (stem.0, stem.2, refl),
+      λ other of. part_of_stem job parts other class stem.0 stem.2 of,
     )
 
--- no part has more classes than there are
-pub part_few : (count parts part : ℕ) → length (classes_of count parts part) ≤ count
-part_few zero parts part = omega arith
-part_few (suc n) parts part =
-    let i = part_few n parts part in
-    let e = ap (λ (l : List ℕ). length l) (ap (λ k. classes_of k parts part) (add-one n)) in
-    let f = ap (λ (l : List ℕ). length l) (part_more n parts part) in
-    let g = length_more (classes_of n parts part) (eqb (part_of parts n) part) n in
-    omega (arith, i, e, f, g)
+-- what stands in a range of a list
+range_get : {X : Type 0} (xs : List X) (s e k : ℕ) (x : X) → s ≤ e → e ≤ length xs → slice_get (slice_range xs s e) k ≡ Some x → (s + k < e) × (slice_get xs (s + k) ≡ Some x)
+range_get {X} xs s e k x le within at =
+    let lt = slice_get_within (slice_range xs s e) k x at in
+    let long : length (slice_range xs s e) ≡ e - s = length-take-le (e - s) (drop s xs) (omega (arith, length-drop s xs)) in
+    let low : k < e - s = omega (arith, lt, long) in
+    let value : get_or xs (s + k) x ≡ x = sym (get_or-drop s xs k x) ∙ sym (get_or-take (e - s) (drop s xs) k x low) ∙ get_or_from_slice_get (slice_range xs s e) k x x at in
+    (omega (arith, low, le), slice_get-get_or xs (s + k) x (omega (arith, low, le, within)) ∙ ap Some value)
+
+-- and what of it stands there
+range_place : {X : Type 0} (xs : List X) (s e j : ℕ) (x : X) → s ≤ j → j < e → e ≤ length xs → slice_get xs j ≡ Some x → slice_get (slice_range xs s e) (j - s) ≡ Some x
+range_place {X} xs s e j x low lt within at =
+    let long : length (slice_range xs s e) ≡ e - s = length-take-le (e - s) (drop s xs) (omega (arith, length-drop s xs)) in
+    let same : s + (j - s) ≡ j = omega (arith, low) in
+    let value : get_or (slice_range xs s e) (j - s) x ≡ x =
+    get_or-take (e - s) (drop s xs) (j - s) x (omega (arith, low, lt)) ∙ get_or-drop s xs (j - s) x ∙ ap (λ k. get_or xs k x) same ∙ get_or_from_slice_get xs j x x at in
+    slice_get-get_or (slice_range xs s e) (j - s) x (omega (arith, long, low, lt)) ∙ ap Some value
+
+-- parts begin in their order
+pub start_le : (ranked : List Ranked) (part s e : ℕ) → IsStart ranked part s → IsStart ranked (part + 1) e → s ≤ e
+start_le ranked part s e from to = go (cases_lt e s)
   where
-    length_more : (xs : List ℕ) (b : Bool) (x : ℕ) → length (xs ++ cond b (x ∷ []) []) ≤ length xs + 1
-    length_more [] true x = omega arith
-    length_more [] false x = omega arith
-    length_more (y ∷ xs) b x = let i = length_more xs b x in omega (arith, i)
+    go : (e < s) ⊎ (s ≤ e) → s ≤ e
+    go (inl x) =
+        let at = within_place ranked e (omega (arith, x, from.within)) in
+        let low = from.before e at.0 x at.1 in
+        let high = to.behind e at.0 (omega arith) at.1 in
+        absurd (omega (arith, low, high))
+    go (inr x) = x
+
+-- all parts end where the classes do
+pub start_end : (job : Parts) (parts e : ℕ) (ranked : List Ranked) → 0 < parts → AreRanked job parts ranked → IsStart ranked parts e → e ≡ length ranked
+start_end job parts e ranked some are is = go (cases_lt e (length ranked))
+  where
+    go : (e < length ranked) ⊎ (length ranked ≤ e) → e ≡ length ranked
+    go (inl x) =
+        let at = within_place ranked e x in
+        let high = is.behind e at.0 (omega arith) at.1 in
+        let low = mod-lt at.0.stem some in
+        absurd (omega (arith, high, low, (are.each e at.0 at.1).part))
+    go (inr x) = omega (arith, x, is.within)
+
+-- the first part begins where the classes do
+pub start_first : (ranked : List Ranked) (s : ℕ) → IsStart ranked 0 s → s ≡ 0
+start_first ranked s is = go (cases_lt 0 s)
+  where
+    go : (0 < s) ⊎ (s ≤ 0) → s ≡ 0
+    go (inl x) = let at = within_place ranked 0 (omega (arith, x, is.within)) in absurd (omega (arith, is.before 0 at.0 x at.1))
+    go (inr x) = omega (arith, x)
+
+-- what stands from the start of a part up to that of the next are its classes
+pub part_list : (job : Parts) (parts part s e : ℕ) (ranked : List Ranked) (classes : List ℕ) → IsCutOf job parts ranked classes → IsStart ranked part s → IsStart ranked (part + 1) e
+    → ArePartOf job parts part (slice_range classes s e)
+part_list job parts part s e ranked classes cut from to = record {
+  each = λ k class at.
+      let x = found k class at in
+      let is = cut.ranked_are.each (s + k) x.0 x.1 in (
+        subst (λ c. c < length job.classes.representative) x.2 is.within,
+        (x.0.stem, subst (λ c. IsStemOfClass job.list.model job.circuit c x.0.stem) x.2 is.stem, sym (own k x.0 x.3 x.1) ∙ is.part),
+      );
+  all = λ class lt of.
+      let x = cut.ranked_are.all class lt in
+      let is = cut.ranked_are.each x.0 x.1 x.2 in
+      let stem : IsStemOfClass job.list.model job.circuit class x.1.stem = subst (λ c. IsStemOfClass job.list.model job.circuit c x.1.stem) x.3 is.stem in
+      let part_is : x.1.part ≡ part = is.part ∙ sym (part_of_stem job parts part class x.1.stem stem of) in
+      let low : s ≤ x.0 = behind_start x.0 x.1 x.2 part_is in
+      let high : x.0 < e = before_end x.0 x.1 x.2 part_is in
+      let at : slice_get classes x.0 ≡ Some class =
+      ap (λ (l : List ℕ). slice_get l x.0) cut.classes_are ∙ slice_get-map (λ (r : Ranked). r.class) ranked x.0 ∙ ap (option_map (λ (r : Ranked). r.class)) x.2 ∙ ap Some x.3 in
+      (x.0 - s, range_place classes s e x.0 class low high long at);
+  ordered = λ i k first second lt ea eb r q ra qb.
+      let x = found i first ea in
+      let y = found k second eb in
+      let left = cut.ranked_are.each (s + i) x.0 x.1 in
+      let right = cut.ranked_are.each (s + k) y.0 y.1 in
+      let rs : x.0.stem ≡ r = one_class_stem job.list.model job.circuit first x.0.stem r (subst (λ c. IsStemOfClass job.list.model job.circuit c x.0.stem) x.2 left.stem) ra in
+      let qs : y.0.stem ≡ q = one_class_stem job.list.model job.circuit second y.0.stem q (subst (λ c. IsStemOfClass job.list.model job.circuit c y.0.stem) y.2 right.stem) qb in
+      later x.0 y.0 first second r q x.2 y.2 rs qs (own i x.0 x.3 x.1) (own k y.0 y.3 y.1) (cut.ranked_are.ordered (s + i) (s + k) x.0 y.0 (omega (arith, lt)) x.1 y.1);
+}
+  where
+    le : s ≤ e
+    le = start_le ranked part s e from to
+
+    long : e ≤ length classes
+    long = let n = ap (λ (l : List ℕ). length l) cut.classes_are ∙ length-map ranked (λ (r : Ranked). r.class) in omega (arith, n, to.within)
+
+    found : (k class : ℕ) → slice_get (slice_range classes s e) k ≡ Some class → (at : Ranked) × (slice_get ranked (s + k) ≡ Some at) × (at.class ≡ class) × (s + k < e)
+    found k class at =
+        let x = range_get classes s e k class le long at in
+        let y = from_mapped (λ (r : Ranked). r.class) ranked (s + k) class (ap (λ (l : List ℕ). slice_get l (s + k)) (sym cut.classes_are) ∙ x.1) in
+        (y.0, y.1, y.2, x.0)
+
+    own : (k : ℕ) (at : Ranked) → s + k < e → slice_get ranked (s + k) ≡ Some at → at.part ≡ part
+    own k at lt is = let low = from.behind (s + k) at (omega arith) is in let high = to.before (s + k) at lt is in omega (arith, low, high)
+
+    behind_start : (k : ℕ) (at : Ranked) → slice_get ranked k ≡ Some at → at.part ≡ part → s ≤ k
+    behind_start k at is same = go (cases_lt k s)
+      where
+        go : (k < s) ⊎ (s ≤ k) → s ≤ k
+        go (inl x) = let bad = from.before k at x is in absurd (omega (arith, bad, same))
+        go (inr x) = x
+
+    before_end : (k : ℕ) (at : Ranked) → slice_get ranked k ≡ Some at → at.part ≡ part → k < e
+    before_end k at is same = go (cases_lt k e)
+      where
+        go : (k < e) ⊎ (e ≤ k) → k < e
+        go (inl x) = x
+        go (inr x) = let bad = to.behind k at x is in absurd (omega (arith, bad, same))
+
+    later : (a b : Ranked) (first second r q : ℕ) → a.class ≡ first → b.class ≡ second → a.stem ≡ r → b.stem ≡ q → a.part ≡ part → b.part ≡ part → RanksBefore a b → (r < q) ⊎ ((r ≡ q) × (first < second))
+    later a b first second r q ca cb sa sb pa pb (inl x) = absurd (omega (arith, x, pa, pb))
+    later a b first second r q ca cb sa sb pa pb (inr (_, inl x)) = inl (omega (arith, x, sa, sb))
+    later a b first second r q ca cb sa sb pa pb (inr (_, inr x)) = inr (omega (arith, x.0, sa, sb), omega (arith, x.1, ca, cb))
+
+-- a part has no more classes than there are
+pub part_few : (job : Parts) (parts s e : ℕ) (ranked : List Ranked) (classes : List ℕ) → IsCutOf job parts ranked classes → s ≤ e → e ≤ length ranked → length (slice_range classes s e) ≤ length job.classes.representative
+part_few job parts s e ranked classes cut le within =
+    let n = ap (λ (l : List ℕ). length l) cut.classes_are ∙ length-map ranked (λ (r : Ranked). r.class) in
+    let long = length-take (e - s) (drop s classes) in
+    omega (arith, n, long, within, cut.ranked_are.count)
+
+-- each is a class of the job
+pub part_within : (job : Parts) (parts part : ℕ) (classes : List ℕ) → ArePartOf job parts part classes → All (λ class. class < length job.classes.representative) classes
+part_within job parts part classes are k d lt = (are.each k (get_or classes k d) (slice_get-get_or classes k d lt)).0
+
+-- and so is each of all classes
+pub cut_within : (job : Parts) (parts : ℕ) (ranked : List Ranked) (classes : List ℕ) → IsCutOf job parts ranked classes → All (λ class. class < length job.classes.representative) classes
+cut_within job parts ranked classes cut k d lt =
+    let at = slice_get-get_or classes k d lt in
+    let y = from_mapped (λ (r : Ranked). r.class) ranked k (get_or classes k d) (ap (λ (l : List ℕ). slice_get l k) (sym cut.classes_are) ∙ at) in
+    subst (λ c. c < length job.classes.representative) y.2 (cut.ranked_are.each k y.0 y.1).within
 
 -- from a verdict on a class that was set at one more place
 pub verdict_more : (count : ℕ) (classes : List ℕ) (firsts : List (Option ℕ)) (n class : ℕ) (first : Option ℕ) (verdicts : List PartVerdict) → AreClassVerdicts count classes firsts n verdicts
@@ -160,11 +235,10 @@ verdict_none count classes firsts verdicts e =
     at (suc n) (suc class) lt = at n class (omega (arith, lt))
 
 -- the verdicts of a part's run
-pub part_verdicts : (job : Parts) (parts part : ℕ) (firsts : List (Option ℕ)) (table verdicts : List PartVerdict) → BelongTogether job
-    → (let classes : List ℕ = classes_of (length job.classes.representative) parts part in
-    AreClassFirsts job.list.model job.circuit job.tests.tests classes firsts → AreClassVerdicts (length job.classes.representative) classes firsts (length classes) table
-    → verdicts ≡ map (λ class. get_or table class OtherPart) job.classes.class_of → ArePartVerdicts job parts part verdicts)
-part_verdicts job parts part firsts table verdicts b found by is = record {
+pub part_verdicts : (job : Parts) (parts part : ℕ) (classes : List ℕ) (firsts : List (Option ℕ)) (table verdicts : List PartVerdict) → BelongTogether job → ArePartOf job parts part classes
+    → AreClassFirsts job.list.model job.circuit job.tests.tests classes firsts → AreClassVerdicts (length job.classes.representative) classes firsts (length classes) table
+    → verdicts ≡ map (λ class. get_or table class OtherPart) job.classes.class_of → ArePartVerdicts job parts part verdicts
+part_verdicts job parts part classes firsts table verdicts b own found by is = record {
   count = ap (λ (l : List PartVerdict). length l) is ∙ length-map job.classes.class_of g ∙ b.classes.count;
   each = λ i class f verdict at e v.
       let of : IsClassOf job.list.model job.circuit f class = b.classes.class i f class at e in
@@ -172,32 +246,23 @@ part_verdicts job parts part firsts table verdicts b found by is = record {
       let x = from_mapped g job.classes.class_of i verdict (ap (λ (l : List PartVerdict). slice_get l i) (sym is) ∙ v) in
       let same : class ≡ x.0 = let q = sym e ∙ x.1 in cc in
       let own : verdict ≡ get_or table class OtherPart = sym x.2 ∙ ap g (sym same) in
-      subst (IsPartVerdict job f (eqb (part_of parts class) part)) (sym own) (go f class of (by.each class lt));
+      subst (IsPartVerdict job parts part class f) (sym own) (go f class lt of (by.each class lt));
 }
   where
     count : ℕ
     count = length job.classes.representative
 
-    classes : List ℕ
-    classes = classes_of count parts part
-
     g : ℕ → PartVerdict
     g class = get_or table class OtherPart
 
-    go : (f : Fault) (class : ℕ) → IsClassOf job.list.model job.circuit f class → IsClassVerdict classes firsts (length classes) class (slice_get table class) → IsPartVerdict job f (eqb (part_of parts class) part) (get_or table class OtherPart)
-    go f class of (inl x) =
-        let first = found.first x.0 class f x.1 x.3 of x.4 in
-        subst (λ v. IsPartVerdict job f (eqb (part_of parts class) part) v) (sym (get_or_from_slice_get table class (First x.1) OtherPart x.5))
-        (subst (λ d. IsPartVerdict job f d (First x.1)) (sym (eq-eqb (part_of parts class) part (part_passes count parts part x.0 class x.3))) first)
-    go f class of (inr x) =
-        let apart : part_of parts class ≢ part = λ e.
-        (let k = part_place count parts part class (slice_within class x.1) e in
-        x.0 k.0 (slice_get_within classes k.0 class k.1) k.1) in
-        subst (λ v. IsPartVerdict job f (eqb (part_of parts class) part) v) (sym (get_or_from_slice_get table class OtherPart OtherPart x.1))
-        (subst (λ d. IsPartVerdict job f d OtherPart) (sym (ne_eqb (part_of parts class) part apart)) tt)
-      where
-        slice_within : (class : ℕ) → slice_get table class ≡ Some OtherPart → class < count
-        slice_within class e = omega (arith, slice_get_within table class OtherPart e, by.long)
+    go : (f : Fault) (class : ℕ) → class < count → IsClassOf job.list.model job.circuit f class → IsClassVerdict classes firsts (length classes) class (slice_get table class)
+        → IsPartVerdict job parts part class f (get_or table class OtherPart)
+    go f class lt of (inl x) =
+        subst (IsPartVerdict job parts part class f) (sym (get_or_from_slice_get table class (First x.1) OtherPart x.5))
+        ((own.each x.0 class x.3).1, found.first x.0 class f x.1 x.3 of x.4)
+    go f class lt of (inr x) =
+        subst (IsPartVerdict job parts part class f) (sym (get_or_from_slice_get table class OtherPart OtherPart x.1))
+        (λ here. let k = own.all class lt here in x.0 k.0 (slice_get_within classes k.0 class k.1) k.1)
 
 -- the first tests of two lists of classes are those of both together
 append_firsts : (m : Model) (c : List Statement) (tests : List Test) (xs ys : List ℕ) (f g : List (Option ℕ)) → AreClassFirsts m c tests xs f → AreClassFirsts m c tests ys g → AreClassFirsts m c tests (xs ++ ys) (f ++ g)
@@ -212,51 +277,54 @@ append_firsts m c tests (x ∷ xs) ys (y ∷ f) g a b =
     at rest zero class fault first e of v = a.first 0 class fault first e of v
     at rest (suc k) class fault first e of v = rest.first k class fault first e of v
 
-place_left : (xs ys : List ℕ) (k x : ℕ) → slice_get xs k ≡ Some x → slice_get (xs ++ ys) k ≡ Some x
-place_left [] ys k x e = let bad : None ≡ Some x = e in absurd (cc)
-place_left (y ∷ xs) ys zero x e = e
-place_left (y ∷ xs) ys (suc k) x e = place_left xs ys k x e
+-- the first tests up to the start of a part
+abbrev pub FirstsUpTo : Parts → List ℕ → ℕ → List (Option ℕ) → Type 0
+FirstsUpTo job classes start firsts = AreClassFirsts job.list.model job.circuit job.tests.tests (take start classes) firsts
 
-place_right : (xs ys : List ℕ) (k x : ℕ) → slice_get ys k ≡ Some x → (j : ℕ) × (slice_get (xs ++ ys) j ≡ Some x)
-place_right [] ys k x e = (k, e)
-place_right (y ∷ xs) ys k x e = let j = place_right xs ys k x e in (suc j.0, j.1)
-
--- before the first part
-pub gathered_none : (job : Parts) (parts : ℕ) → IsGathered job parts 0 [] []
-gathered_none job parts = record {
-  found = record { count = refl; first = λ k class f first e of at. let bad : None ≡ Some class = e in absurd (cc) };
-  within = λ k d lt. absurd (omega (arith, lt));
-  all = λ class lt low. absurd (omega (arith, low));
-}
+pub firsts_none : (job : Parts) (classes : List ℕ) → FirstsUpTo job classes 0 []
+firsts_none job classes = record { count = refl; first = λ k class f first e of at. let bad : None ≡ Some class = e in absurd (cc) }
 
 -- one part more
-pub gathered_more : (job : Parts) (parts n : ℕ) (classes : List ℕ) (firsts more : List (Option ℕ)) → IsGathered job parts n classes firsts
-    → AreClassFirsts job.list.model job.circuit job.tests.tests (classes_of (length job.classes.representative) parts n) more
-    → IsGathered job parts (n + 1) (classes ++ classes_of (length job.classes.representative) parts n) (firsts ++ more)
-gathered_more job parts n classes firsts more was found = record {
-  found = append_firsts job.list.model job.circuit job.tests.tests classes own firsts more was.found found;
-  within = All-append (λ class. class < count) classes own was.within (part_within count parts n);
-  all = λ class lt low. pick class lt low (cases_lt (part_of parts class) n);
-}
+pub firsts_more : (job : Parts) (classes : List ℕ) (s e : ℕ) (firsts more : List (Option ℕ)) → s ≤ e → FirstsUpTo job classes s firsts
+    → AreClassFirsts job.list.model job.circuit job.tests.tests (slice_range classes s e) more → FirstsUpTo job classes e (firsts ++ more)
+firsts_more job classes s e firsts more le was found =
+    subst (λ l. AreClassFirsts job.list.model job.circuit job.tests.tests l (firsts ++ more)) joined
+    (append_firsts job.list.model job.circuit job.tests.tests (take s classes) (slice_range classes s e) firsts more was found)
   where
-    count : ℕ
-    count = length job.classes.representative
+    joined : take s classes ++ slice_range classes s e ≡ take e classes
+    joined = sym (take-add s (e - s) classes) ∙ ap (λ n. take n classes) (omega (arith, le))
 
-    own : List ℕ
-    own = classes_of count parts n
+-- before the first part nothing begins
+pub start_none : (ranked : List Ranked) → IsStart ranked 0 0
+start_none ranked = record {
+  within = omega arith;
+  before = λ k at lt e. absurd (omega (arith, lt));
+  behind = λ k at le e. omega arith;
+}
 
-    pick : (class : ℕ) → class < count → part_of parts class < n + 1 → (part_of parts class < n) ⊎ (n ≤ part_of parts class) → (k : ℕ) × (slice_get (classes ++ own) k ≡ Some class)
-    pick class lt low (inl x) = let k = was.all class lt x in (k.0, place_left classes own k.0 class k.1)
-    pick class lt low (inr x) =
-        let e : part_of parts class ≡ n = omega (arith, low, x) in
-        let k = part_place count parts n class lt e in
-        place_right classes own k.0 class k.1
+-- behind the last part all classes have theirs
+pub firsts_all : (job : Parts) (parts part start : ℕ) (ranked : List Ranked) (classes : List ℕ) (firsts : List (Option ℕ)) → 0 < parts → IsCutOf job parts ranked classes → part ≡ parts → IsStart ranked part start
+    → FirstsUpTo job classes start firsts → AreClassFirsts job.list.model job.circuit job.tests.tests classes firsts
+firsts_all job parts part start ranked classes firsts some cut is begins found =
+    subst (λ l. AreClassFirsts job.list.model job.circuit job.tests.tests l firsts) (ap (λ n. take n classes) full ∙ take-length classes) found
+  where
+    full : start ≡ length classes
+    full =
+        start_end job parts start ranked some cut.ranked_are (subst (λ n. IsStart ranked n start) is begins)
+        ∙ sym (ap (λ (l : List ℕ). length l) cut.classes_are ∙ length-map ranked (λ (r : Ranked). r.class))
 
--- the first tests of all parts are those of all faults
-pub gathered_firsts : (job : Parts) (parts : ℕ) (classes : List ℕ) (firsts found : List (Option ℕ)) (table : List PartVerdict) → 0 < parts → BelongTogether job → IsGathered job parts parts classes firsts
+-- a place in the classes
+pub start_within : (job : Parts) (parts part start : ℕ) (ranked : List Ranked) (classes : List ℕ) → IsCutOf job parts ranked classes → IsStart ranked part start → start ≤ length classes
+start_within job parts part start ranked classes cut is =
+    let n = ap (λ (l : List ℕ). length l) cut.classes_are ∙ length-map ranked (λ (r : Ranked). r.class) in
+    omega (arith, n, is.within)
+
+-- the first tests of all classes are those of all faults
+pub cut_firsts : (job : Parts) (parts : ℕ) (ranked : List Ranked) (classes : List ℕ) (firsts found : List (Option ℕ)) (table : List PartVerdict) → BelongTogether job → IsCutOf job parts ranked classes
+    → AreClassFirsts job.list.model job.circuit job.tests.tests classes firsts
     → AreClassVerdicts (length job.classes.representative) classes firsts (length classes) table → found ≡ map (λ class. first_in (get_or table class OtherPart)) job.classes.class_of
     → AreFirsts job.list.model job.circuit job.tests.tests found
-gathered_firsts job parts classes firsts found table some b gathered by is = record {
+cut_firsts job parts ranked classes firsts found table b cut known by is = record {
   count = ap (λ (l : List (Option ℕ)). length l) is ∙ length-map job.classes.class_of g ∙ b.classes.count;
   first = λ i f first at v.
       let x = from_mapped g job.classes.class_of i first (ap (λ (l : List (Option ℕ)). slice_get l i) (sym is) ∙ v) in
@@ -274,14 +342,25 @@ gathered_firsts job parts classes firsts found table some b gathered by is = rec
     go : (f : Fault) (class : ℕ) → class < count → IsClassOf job.list.model job.circuit f class → IsClassVerdict classes firsts (length classes) class (slice_get table class) → IsFirst job.circuit job.tests.tests f (g class)
     go f class lt of (inl x) =
         subst (λ v. IsFirst job.circuit job.tests.tests f (first_in v)) (sym (get_or_from_slice_get table class (First x.1) OtherPart x.5))
-        (gathered.found.first x.0 class f x.1 x.3 of x.4)
+        (known.first x.0 class f x.1 x.3 of x.4)
     go f class lt of (inr x) =
-        let k = gathered.all class lt (mod-lt class some) in
-        absurd (x.0 k.0 (slice_get_within classes k.0 class k.1) k.1)
+        let y = cut.ranked_are.all class lt in
+        let at : slice_get classes y.0 ≡ Some class =
+        ap (λ (l : List ℕ). slice_get l y.0) cut.classes_are ∙ slice_get-map (λ (r : Ranked). r.class) ranked y.0 ∙ ap (option_map (λ (r : Ranked). r.class)) y.2 ∙ ap Some y.3 in
+        absurd (x.0 y.0 (slice_get_within classes y.0 class at) at)
 
--- the fault of a part's run is one of the run of all parts
-pub part_fault : (job : Parts) (parts part workers : ℕ) (P : Type 0) (S : Stops) (f : RunFault) → part < parts
-    → IsRunFaultOver job (listed (classes_of (length job.classes.representative) parts part)) workers P S f → IsPartsFault job parts workers P S f
+-- the fault of a run over the classes of a part is one of the part
+pub own_fault : (job : Parts) (parts part workers : ℕ) (P : Type 0) (S : Stops) (f : RunFault) (classes : List ℕ) → ArePartOf job parts part classes
+    → IsRunFaultOver job (listed classes) workers P S f → IsPartFault job parts part workers P S f
+own_fault job parts part workers P S run_fault.NoWorkers classes are r = r
+own_fault job parts part workers P S run_fault.TooManyWorkers classes are r = r
+own_fault job parts part workers P S (run_fault.NoSuchMove index) classes are r = r
+own_fault job parts part workers P S run_fault.Memory classes are r = r
+own_fault job parts part workers P S run_fault.Threads classes are r = r
+own_fault job parts part workers P S (run_fault.Unfinished class block) classes are r = (classes, are, r)
+
+-- the fault of a part is one of the run of all parts
+pub part_fault : (job : Parts) (parts part workers : ℕ) (P : Type 0) (S : Stops) (f : RunFault) → part < parts → IsPartFault job parts part workers P S f → IsPartsFault job parts workers P S f
 part_fault job parts part workers P S run_fault.NoWorkers lt r = r
 part_fault job parts part workers P S run_fault.TooManyWorkers lt r = r
 part_fault job parts part workers P S (run_fault.NoSuchMove index) lt r = r

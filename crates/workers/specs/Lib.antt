@@ -1,5 +1,6 @@
 pub mod Chosen
 pub mod Part
+pub mod Rank
 pub mod Verdict
 pub mod Settling
 pub mod Schedule

@@ -1,31 +1,41 @@
 -- The parts of the classes, and what a run over a part says of each fault.
-use Rattle.std.specs.Prelude.{◌≡◌, ◌≢◌, ◌⊎◌, ◌<◌, ℕ, ◌%◌, ◌==◌, Bool, true, false, List, length}
-use Rattle.std.specs.Prelude.{filter, All, Contains, slice_get, Option, Some, None}
+use Rattle.std.specs.Prelude.{◌≡◌, ◌≢◌, ◌⊎◌, ◌<◌, ℕ, ◌%◌, List, length, slice_get, Option, Some, None}
 use Rattle.fault_model.specs.Fault.{Fault, faults}
-use Rattle.patterns.specs.Least.{below}
 use Rattle.block_sim.specs.First.{IsFirst}
 use Rattle.block_sim.specs.Parts.{Parts}
-use Rattle.workers.specs.Verdict.{AreClassFirsts}
+use Rattle.block_sim.specs.Regions.{IsStemOfClass}
 use Rattle.workers.specs.declared.parts.PartVerdict.{PartVerdict}
 use Rattle.workers.specs.declared.parts.PartVerdict.TheVariants.{First, OtherPart}
 
--- the number by which classes are cut into parts: the class's own
-abbrev pub part_key : ℕ → ℕ
-part_key class = class
+-- the class is of this part, of so many parts: the number of its region's stem, divided by the
+-- number of parts, leaves the number of the part
+abbrev pub IsOfPart : Parts → ℕ → ℕ → ℕ → Type 0
+IsOfPart job parts part class = (stem : ℕ)
+    × IsStemOfClass job.list.model job.circuit class stem × (part ≡ stem % parts)
 
--- the part of a class, of so many parts
-abbrev pub part_of : ℕ → ℕ → ℕ
-part_of parts class = part_key class % parts
+-- each class is of exactly one part
+abbrev pub IsInOnePart : Parts → ℕ → ℕ → Type 0
+IsInOnePart job parts class = (part : ℕ) × (part < parts) × IsOfPart job parts part class
+    × ((other : ℕ) → IsOfPart job parts other class → other ≡ part)
 
--- the classes of a part, of so many classes in so many parts
-abbrev pub classes_of : ℕ → ℕ → ℕ → List ℕ
-classes_of count parts part = filter (λ class. part_of parts class == part) (below count)
+-- one class comes before another: by the numbers of the stems of their regions, and in a region by
+-- its own number
+abbrev pub ComesBefore : Parts → ℕ → ℕ → Type 0
+ComesBefore job first second = (r q : ℕ)
+    → IsStemOfClass job.list.model job.circuit first r
+    → IsStemOfClass job.list.model job.circuit second q
+    → (r < q) ⊎ ((r ≡ q) × (first < second))
 
--- each class is one of exactly one part
-abbrev pub IsInOnePart : ℕ → ℕ → ℕ → Type 0
-IsInOnePart count parts class = (part : ℕ) × (part < parts)
-    × Contains (classes_of count parts part) class
-    × ((other : ℕ) → Contains (classes_of count parts other) class → other ≡ part)
+-- The classes of a part, of so many parts, region by region: each is one of the part, each of the
+-- part is among them, and each comes before those behind it, so that it stands there once and those
+-- of one region stand next to each other.
+pub record ArePartOf (job : Parts) (parts part : ℕ) (classes : List ℕ) : Type 0 where
+  pub each : (k class : ℕ) → slice_get classes k ≡ Some class
+      → (class < length job.classes.representative) × IsOfPart job parts part class
+  pub all : (class : ℕ) → class < length job.classes.representative
+      → IsOfPart job parts part class → (k : ℕ) × (slice_get classes k ≡ Some class)
+  pub ordered : (i k first second : ℕ) → i < k → slice_get classes i ≡ Some first
+      → slice_get classes k ≡ Some second → ComesBefore job first second
 
 -- The verdict on a class by the first tests of the classes of a list, up to some place: that of the
 -- class, or of another part where the class is not in the list.
@@ -47,11 +57,11 @@ abbrev pub first_in : PartVerdict → Option ℕ
 first_in (First first) = first
 first_in OtherPart = None
 
--- the verdict on a fault whose class is of the part or not
-abbrev pub IsPartVerdict : Parts → Fault → Bool → PartVerdict → Type 0
-IsPartVerdict job f true (First first) = IsFirst job.circuit job.tests.tests f first
-IsPartVerdict job f false OtherPart = Unit {0}
-IsPartVerdict job f _ _ = ⊥
+-- the verdict on a fault of a class: its first test where the class is of the part
+abbrev pub IsPartVerdict : Parts → ℕ → ℕ → ℕ → Fault → PartVerdict → Type 0
+IsPartVerdict job parts part class f (First first) =
+    IsOfPart job parts part class × IsFirst job.circuit job.tests.tests f first
+IsPartVerdict job parts part class f OtherPart = ¬ IsOfPart job parts part class
 
 -- The verdicts on all faults, before collapsing, of a run over a part: for each fault of one of its
 -- classes the first test that detects it, or none where no test does, and for each other that it is
@@ -63,13 +73,4 @@ pub record ArePartVerdicts (job : Parts) (parts part : ℕ)
       → slice_get (faults job.list.model job.circuit) i ≡ Some f
       → slice_get job.classes.class_of i ≡ Some class
       → slice_get verdicts i ≡ Some verdict
-      → IsPartVerdict job f (part_of parts class == part) verdict
-
--- What runs over the first parts gave: the classes, and the first test of each; each class of these
--- parts is among them.
-pub record IsGathered (job : Parts) (parts n : ℕ) (classes : List ℕ)
-    (firsts : List (Option ℕ)) : Type 0 where
-  pub found : AreClassFirsts job.list.model job.circuit job.tests.tests classes firsts
-  pub within : All (λ class. class < length job.classes.representative) classes
-  pub all : (class : ℕ) → class < length job.classes.representative → part_of parts class < n
-      → (k : ℕ) × (slice_get classes k ≡ Some class)
+      → IsPartVerdict job parts part class f verdict

@@ -6,7 +6,7 @@ use Rattle.workers.specs.declared.RunFault.{RunFault}
 use Rattle.workers.specs.declared.RunFault.TheVariants.{NoWorkers, TooManyWorkers, NoSuchMove}
 use Rattle.workers.specs.declared.RunFault.TheVariants.{Memory, Threads, Unfinished}
 use Rattle.workers.specs.Chosen.{Chosen, every, listed}
-use Rattle.workers.specs.Part.{classes_of}
+use Rattle.workers.specs.Part.{ArePartOf}
 use Rattle.workers.specs.Work.{Stops, WaitsFor}
 
 -- when a number of workers is refused
@@ -36,14 +36,22 @@ IsRunFaultOver job chosen workers passing stops (Unfinished class block) =
     × (¬ passing) × WaitsFor job chosen workers stops class block
 IsRunFaultOver job chosen workers passing stops fault = IsWorkersFault workers fault
 
+-- the same where the classes are those of a part, of so many parts
+abbrev pub IsPartFault : Parts → ℕ → ℕ → ℕ → Type 0 → Stops → RunFault → Type 0
+IsPartFault job parts part workers passing stops Memory = (0 < workers) × (workers ≤ 64)
+IsPartFault job parts part workers passing stops Threads = (0 < workers) × (workers ≤ 64)
+IsPartFault job parts part workers passing stops (Unfinished class block) =
+    (classes : List ℕ) × ArePartOf job parts part classes
+    × IsRunFaultOver job (listed classes) workers passing stops (Unfinished class block)
+IsPartFault job parts part workers passing stops fault = IsWorkersFault workers fault
+
 -- the same where the classes are those of so many parts, one part after another
 abbrev pub IsPartsFault : Parts → ℕ → ℕ → Type 0 → Stops → RunFault → Type 0
 IsPartsFault job parts workers passing stops Memory = (0 < workers) × (workers ≤ 64)
 IsPartsFault job parts workers passing stops Threads = (0 < workers) × (workers ≤ 64)
 IsPartsFault job parts workers passing stops (Unfinished class block) =
     (part : ℕ) × (part < parts)
-    × IsRunFaultOver job (listed (classes_of (length job.classes.representative) parts part))
-    workers passing stops (Unfinished class block)
+    × IsPartFault job parts part workers passing stops (Unfinished class block)
 IsPartsFault job parts workers passing stops fault = IsWorkersFault workers fault
 
 -- the same where all classes are chosen

@@ -15,6 +15,7 @@ mod chosen;
 mod classes;
 mod pace;
 mod parts;
+mod ranks;
 mod schedule;
 mod simulator;
 mod threads;

@@ -2,13 +2,15 @@
 
 ghost use Rattle.std.specs.Prelude.{◌≡◌, ◌<◌, ◌≤◌, ◌^◌, ℕ, [], All, IfErr, IfOk, OnOk, length, map};
 ghost use Rattle.std.specs.Prelude.{Some, slice_get, slice_index_or};
-ghost use Rattle.workers.specs.Chosen.{listed};
-ghost use Rattle.workers.specs.Part.{AreClassVerdicts, ArePartVerdicts, IsGathered, first_in};
-ghost use Rattle.workers.specs.Part.{IsInOnePart, classes_of, part_key, part_of};
-ghost use Rattle.workers.specs.Refused.{IsPartsFault, IsRunFaultOver};
+ghost use Rattle.block_sim.specs.Parts.{BelongTogether, Parts};
+ghost use Rattle.workers.specs.Part.{AreClassVerdicts, ArePartOf, ArePartVerdicts, IsInOnePart};
+ghost use Rattle.workers.specs.Part.{IsOfPart, first_in};
+ghost use Rattle.workers.specs.Rank.{IsCutOf};
+ghost use Rattle.workers.specs.Refused.{IsPartFault, IsPartsFault};
 ghost use Rattle.workers.specs.Verdict.{AreClassFirsts, AreFirsts};
 
-use crate::classes::{Found, run_classes, run_listed};
+use crate::classes::{Found, run_listed};
+use crate::ranks::Cut;
 use crate::worker::Gate;
 use crate::{RunFault, Verdicts, check_workers};
 use block_sim::Job;
@@ -25,40 +27,23 @@ pub enum PartVerdict {
     OtherPart,
 }
 
-/// The number by which classes are cut into parts.
-fn part_key(class: u32) -> u32
-    ensures { result ≡ part_key class }
+/// The part of a class, counted from 0, of so many parts: what the number of its region's stem
+/// ([`Job::stem_of_class`]) leaves, divided by the number of parts. So classes of one region are of
+/// one part.
+pub fn part_of(job: &Job, class: u32, parts: u32) -> u32
+    requires class { class < length job.now.classes.representative }
+    requires parts { 0 < parts }
+    ensures part { IsOfPart job.now parts result class }
+    ensures within { result < parts }
 {
-    class
-}
-
-/// The part of a class, counted from 0, of so many parts.
-pub fn part_of(class: u32, parts: u32) -> u32
-    requires { 0 < parts }
-    ensures { result ≡ part_of parts class }
-{
-    part_key(class) % parts
+    job.stem_of_class(class) % parts
 }
 
 /// The law of the parts: each class is in exactly one.
 pub fn in_one_part()
-    ensures { (count parts class : ℕ) → 0 < parts → class < count
-        → IsInOnePart count parts class }
+    ensures { (job : Parts) (parts class : ℕ) → BelongTogether job → 0 < parts
+        → class < length job.classes.representative → IsInOnePart job parts class }
 {}
-
-/// The classes of a part, in the order of their numbers.
-fn classes_of_part(alloc: Global, count: u32, parts: u32, part: u32) -> Result<Vec<u32>, AllocError>
-    requires { 0 < parts }
-    ensures { IfOk result (λ classes. classes.items ≡ classes_of count parts part) }
-{
-    let mut classes = Vec::new(alloc);
-    for class in 0..count {
-        if part_of(class, parts) == part {
-            classes.push(class)?;
-        }
-    }
-    Ok(classes)
-}
 
 /// The verdict on each class, by its number, from the first tests of the classes of a list.
 fn by_class(
@@ -155,15 +140,17 @@ pub fn run_part<G: Gate + Sync, R: Threads + Wait>(
     ensures verdicts { IfOk result (λ verdicts.
         ArePartVerdicts job.now parts part verdicts.items) }
     ensures workers { OnOk result ((0 < workers) × (workers ≤ 64)) }
-    ensures refused { IfErr result (IsRunFaultOver job.now
-        (listed (classes_of (length job.now.classes.representative) parts part)) workers
+    ensures refused { IfErr result (IsPartFault job.now parts part workers
         (G.passing gate.now) (G.stops gate.now)) }
 {
     check_workers(workers)?;
+    let cut = Cut::new(alloc, job, parts)?;
+    let start = cut.start_of(part);
+    let end = cut.start_of(part + 1);
+    let own = cut.between(start, end);
+    let found = run_one(rt, alloc, job, own, part, parts, workers, gate)?;
     let count = job.classes().count();
-    let classes = classes_of_part(alloc, count, parts, part)?;
-    let firsts = run_classes(rt, alloc, job, classes.as_slice(), workers, gate)?;
-    let table = by_class(alloc, count, classes.as_slice(), firsts.as_slice())?;
+    let table = by_class(alloc, count, own, found.firsts.as_slice())?;
     let verdicts = of_faults(alloc, job, table.as_slice())?;
     Ok(verdicts)
 }
@@ -191,26 +178,13 @@ pub fn run_in_parts<G: Gate + Sync, R: Threads + Wait>(
         (G.stops gate.now)) }
 {
     check_workers(workers)?;
+    let cut = Cut::new(alloc, job, parts)?;
+    let gathered = gather(rt, alloc, job, &cut, parts, workers, gate)?;
+    let Found { firsts, skipped } = gathered;
     let count = job.classes().count();
-    let gathered = gather(rt, alloc, job, parts, workers, gate)?;
-    let Gathered {
-        classes,
-        firsts,
-        skipped,
-    } = gathered;
-    let table = by_class(alloc, count, classes.as_slice(), firsts.as_slice())?;
+    let table = by_class(alloc, count, cut.classes.as_slice(), firsts.as_slice())?;
     let found = firsts_of_faults(alloc, job, table.as_slice())?;
     Ok(Verdicts::of(found, skipped))
-}
-
-/// The classes of several parts, part by part.
-#[derive(Drop)]
-struct Gathered {
-    classes: Vec<u32>,
-    /// The first test of each, or none.
-    firsts: Vec<Option<u32>>,
-    /// The number of pieces that were dropped.
-    skipped: u32,
 }
 
 /// Runs each part.
@@ -218,64 +192,57 @@ fn gather<G: Gate + Sync, R: Threads + Wait>(
     rt: &R,
     alloc: Global,
     job: &Job,
+    cut: &Cut,
     parts: u32,
     workers: u32,
     gate: &G,
-) -> Result<Gathered, RunFault>
-    requires parts { 0 < parts }
+) -> Result<Found, RunFault>
+    requires cut { IsCutOf job.now parts cut.now.ranked.items cut.now.classes.items }
     requires workers { (0 < workers) × (workers ≤ 64) }
-    ensures gathered { IfOk result (λ g. IsGathered job.now parts parts g.classes.items
-        g.firsts.items) }
+    requires parts { 0 < parts }
+    ensures gathered { IfOk result (λ found. AreClassFirsts job.now.list.model job.now.circuit
+        job.now.tests.tests cut.now.classes.items found.firsts.items) }
     ensures refused { IfErr result (IsPartsFault job.now parts workers (G.passing gate.now)
         (G.stops gate.now)) }
 {
-    let mut classes = Vec::new(alloc);
     let mut firsts = Vec::new(alloc);
     let mut skipped = 0u32;
+    let mut start = 0;
     for part in 0..parts {
-        let one = run_one(rt, alloc, job, part, parts, workers, gate)?;
-        classes.extend_from_slice(one.classes.as_slice())?;
+        let end = cut.start_of(part + 1);
+        let own = cut.between(start, end);
+        let one = run_one(rt, alloc, job, own, part, parts, workers, gate)?;
         firsts.extend_from_slice(one.firsts.as_slice())?;
         skipped = skipped.saturating_add(one.skipped);
+        start = end;
     }
-    Ok(Gathered {
-        classes,
-        firsts,
-        skipped,
-    })
+    Ok(Found { firsts, skipped })
 }
 
-/// Runs one part.
+/// Runs the classes of one part.
 fn run_one<G: Gate + Sync, R: Threads + Wait>(
     rt: &R,
     alloc: Global,
     job: &Job,
+    own: &[u32],
     part: u32,
     parts: u32,
     workers: u32,
     gate: &G,
-) -> Result<Gathered, RunFault>
-    requires parts { part < parts }
+) -> Result<Found, RunFault>
+    requires part { part < parts }
+    requires own { ArePartOf job.now parts part own.now }
+    requires few { length own.now ≤ length job.now.classes.representative }
     requires workers { (0 < workers) × (workers ≤ 64) }
-    ensures classes { IfOk result (λ g. g.classes.items
-        ≡ classes_of (length job.now.classes.representative) parts part) }
-    ensures firsts { IfOk result (λ g. AreClassFirsts job.now.list.model job.now.circuit
-        job.now.tests.tests (classes_of (length job.now.classes.representative) parts part)
-        g.firsts.items) }
-    ensures refused { IfErr result (IsPartsFault job.now parts workers (G.passing gate.now)
+    ensures firsts { IfOk result (λ found. AreClassFirsts job.now.list.model job.now.circuit
+        job.now.tests.tests own.now found.firsts.items) }
+    ensures refused { IfErr result (IsPartFault job.now parts part workers (G.passing gate.now)
+        (G.stops gate.now)) }
+    ensures among { IfErr result (IsPartsFault job.now parts workers (G.passing gate.now)
         (G.stops gate.now)) }
 {
-    let count = job.classes().count();
-    let classes = classes_of_part(alloc, count, parts, part)?;
-    match run_listed(rt, alloc, job, classes.as_slice(), workers, gate) {
-        Ok(found) => {
-            let Found { firsts, skipped } = found;
-            Ok(Gathered {
-                classes,
-                firsts,
-                skipped,
-            })
-        }
+    match run_listed(rt, alloc, job, own, workers, gate) {
+        Ok(found) => Ok(found),
         Err(fault) => Err(fault),
     }
 }

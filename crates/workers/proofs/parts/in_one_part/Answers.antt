@@ -2,4 +2,4 @@ use Rattle.workers.proofs.Partition.{one_part}
 use Rattle.workers.proofs.parts.in_one_part.Goals as goal
 
 pub returns : goal.returns
-returns c = λ count parts class some lt. one_part count parts class some lt
+returns c = λ job parts class together some lt. one_part job parts class together some lt

@@ -1,17 +1,24 @@
-use Rattle.std.proofs.Common.{◌≡◌, ◌∙◌, List, ap, get_or, length, map, subst, sym}
+use Rattle.std.proofs.Common.{◌≡◌, ◌<◌, ◌∙◌, All, List, ap, get_or, length, map, subst, sym}
 use Rattle.fault_model.specs.Collapse.{Collapsed}
 use Rattle.workers.specs.declared.parts.PartVerdict.{PartVerdict}
 use Rattle.workers.specs.declared.parts.PartVerdict.TheVariants.{OtherPart}
 use Rattle.workers.specs.Part.{AreClassVerdicts, first_in}
 use Rattle.workers.specs.Verdict.{AreFirsts}
-use Rattle.workers.proofs.Partition.{gathered_firsts}
+use Rattle.workers.proofs.Partition.{cut_firsts, cut_within}
 use Rattle.workers.proofs.parts.run_in_parts.Goals as goal
+
+pub by_class-requires-clause-within : goal.by_class-requires-clause-within
+by_class-requires-clause-within g c =
+    let job = c.args.job.now in
+    let count = c.count-count.ensures ∙ ap (λ (x : Collapsed). length x.representative) c.classes.ensures.part in
+    subst (λ n. All (λ class. class < n) c.as_slice.result.now) (sym count)
+    (subst (All (λ class. class < length job.classes.representative)) (sym c.as_slice.ensures.value) (cut_within job c.args.parts c.in_ok-cut.cut.ranked.items c.in_ok-cut.cut.classes.items c.in_ok-cut.ensures))
 
 pub returns-clause-firsts : goal.returns-clause-firsts
 returns-clause-firsts g c =
     let job = c.args.job.now in
     let n = length job.classes.representative in
-    let classes = c.in_ok-gathered.gathered.classes.items in
+    let classes = c.in_ok-cut.cut.classes.items in
     let firsts = c.in_ok-gathered.gathered.firsts.items in
     let table = c.in_ok-table.table.items in
     let count = c.count-count.ensures ∙ ap (λ (x : Collapsed). length x.representative) c.classes.ensures.part in
@@ -22,4 +29,4 @@ returns-clause-firsts g c =
     let is : c.in_ok-found.found.items ≡ map (λ class. first_in (get_or table class OtherPart)) job.classes.class_of =
     c.in_ok-found.ensures.firsts ∙ ap (λ (l : List PartVerdict). map (λ class. first_in (get_or l class OtherPart)) job.classes.class_of) c.as_slice-3.ensures.value in
     subst (AreFirsts job.list.model job.circuit job.tests.tests) (sym c.of.ensures.firsts)
-    (gathered_firsts job c.args.parts classes firsts c.in_ok-found.found.items table c.requires c.classes.ensures.together c.in_ok-gathered.ensures.gathered by is)
+    (cut_firsts job c.args.parts c.in_ok-cut.cut.ranked.items classes firsts c.in_ok-found.found.items table c.classes.ensures.together c.in_ok-cut.ensures c.in_ok-gathered.ensures.gathered by is)
