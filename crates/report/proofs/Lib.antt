@@ -10,3 +10,5 @@ pub mod PartWords
 pub mod PartHeads
 pub mod PartLines
 pub mod PartReadings
+pub mod PartOnce
+pub mod PartRefusals

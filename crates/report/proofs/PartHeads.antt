@@ -1,7 +1,7 @@
 -- The first line of a part text.
-use Rattle.std.proofs.Common.{◌≡◌, ◌≢◌, ◌<◌, ◌≤◌, ◌^◌, ◌+◌, ℕ, List, [], ◌∷◌, ◌++◌, refl, sym, ap, ◌∙◌, append_assoc, arith, subst, lit<}
+use Rattle.std.proofs.Common.{◌≡◌, ◌≢◌, ◌<◌, ◌^◌, ◌+◌, ℕ, List, ◌∷◌, ◌++◌, refl, sym, ap, ◌∙◌, append_assoc, arith, lit<}
 use Rattle.std.specs.Prelude.{codes, decimal}
-use Rattle.std.proofs.lemmas.List.{append_cancel_left, append_cancel_right}
+use Rattle.std.proofs.lemmas.List.{append_cancel_right}
 use Rattle.std.proofs.lemmas.Fmt.{decimal_injective}
 use Rattle.report.specs.Cut.{Lacks}
 use Rattle.report.specs.PartText.{PartHead, head_line}
@@ -33,10 +33,11 @@ are_words h ok = record { model = ok.model; rule = ok.rule; bench = ok.bench; te
 pub body_of : (h : PartHead) (line : List ℕ) → line ++ codes "\n" ≡ head_line h → line ≡ head_body h
 body_of h line e = append_cancel_right line (head_body h) (codes "\n") (e ∙ sym (head_line_is h))
 
-small_part : (h : PartHead) → IsHead h → Lacks 32 (decimal (h.part + 1))
+-- its numbers have no space
+pub small_part : (h : PartHead) → IsHead h → Lacks 32 (decimal (h.part + 1))
 small_part h ok = lacks_decimal 32 (h.part + 1) (lit< tt) (omega (arith, ok.below, ok.few, lit< {m = 2 ^ 32} {n = 2 ^ 64} tt))
 
-small_parts : (h : PartHead) → IsHead h → Lacks 32 (decimal h.parts)
+pub small_parts : (h : PartHead) → IsHead h → Lacks 32 (decimal h.parts)
 small_parts h ok = lacks_decimal 32 h.parts (lit< tt) (omega (arith, ok.few, lit< {m = 2 ^ 32} {n = 2 ^ 64} tt))
 
 -- the fields of a first line that was given without its line feed

@@ -1,12 +1,12 @@
 -- A part text read line by line.
-use Rattle.std.proofs.Common.{◌≡◌, ◌≢◌, ◌<◌, ◌≤◌, ◌^◌, ◌+◌, ◌==◌, ℕ, zero, suc, true, false, List, [], ◌∷◌, ◌++◌, length, refl, sym, ap, ◌∙◌, append_assoc, append-nil, arith, subst, lit<, length-append}
+use Rattle.std.proofs.Common.{◌≡◌, ◌≢◌, ◌<◌, ◌≤◌, ◌+◌, ◌==◌, ℕ, zero, suc, true, false, List, [], ◌∷◌, ◌++◌, length, refl, sym, ap, ◌∙◌, append_assoc, append-nil, arith, subst, length-append}
 use Rattle.std.specs.Prelude.{codes, zip, flat_map}
 use Rattle.std.specs.List.{AllByRecursion}
 use Rattle.std.proofs.lemmas.Grind.{flat_map-append}
 use Rattle.workers.specs.declared.parts.PartVerdict.{PartVerdict}
 use Rattle.report.specs.Cut.{IsCutFirst, Lacks}
-use Rattle.report.specs.PartText.{PartHead, head_line, part_text, verdict_line}
-use Rattle.report.specs.PartReading.{AreLines, HasMore, IsBadHead, IsBadLine, IsBegun, IsCutLines, IsHead, IsLine, IsNoFaultLine, IsPart, end_of}
+use Rattle.report.specs.PartText.{PartHead, head_line, verdict_line}
+use Rattle.report.specs.PartReading.{HasMore, IsBadHead, IsBadLine, IsBegun, IsCutLines, IsHead, IsLine, IsNoFaultLine, IsPart, end_of}
 
 -- a list of pairs with one more pair
 pub zip_more : {X Y : Type 0} (xs : List X) (ys : List Y) (x : X) (y : Y) → length xs ≡ length ys

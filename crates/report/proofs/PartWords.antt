@@ -1,25 +1,27 @@
 -- The words of a part text's first line.
-use Rattle.std.proofs.Common.{◌≡◌, ◌≢◌, ◌<◌, ◌≤◌, ◌^◌, ◌+◌, ◌%◌, ℕ, true, false, List, [], ◌∷◌, ◌++◌, refl, sym, ap, ◌∙◌, append_assoc, arith, subst, lit<}
-use Rattle.std.specs.Prelude.{codes, decimal, Option, Some, None, Result, Ok, Err, MatchOption}
+use Rattle.std.proofs.Common.{◌≡◌, ◌≢◌, ◌<◌, ◌^◌, ◌+◌, ◌%◌, ℕ, true, false, List, ◌∷◌, ◌++◌, sym, ap, ◌∙◌, arith, subst, lit<}
+use Rattle.std.specs.Prelude.{codes, decimal, Option, Some, None, MatchOption}
 use Rattle.std.specs.Borrow.{Bor}
 use Rattle.std.proofs.Math.Dec.{eqb}
 use Rattle.std.proofs.lemmas.Bool.Decides.{Decides-eqb}
 use lib.Pointwise.{pointwise, pointwise_decides}
 use Rattle.std.specs.Str.{IsUtf8}
-use Rattle.std.specs.Str.Parse.{ParsesUnsigned}
-use Rattle.std.proofs.lemmas.Fmt.{decimal_by_steps, parse-decimal, IsAscii-decimal}
+use Rattle.std.proofs.lemmas.Fmt.{decimal_by_steps, IsAscii-decimal}
 use Rattle.std.proofs.lemmas.Str.{IsUtf8-from_ascii}
-use Rattle.std.proofs.lemmas.List.{append_cancel_left, append_cancel_right}
+use Rattle.std.proofs.lemmas.List.{append_cancel_left}
 use Rattle.report.specs.Cut.{IsCutFirst, Lacks}
-use Rattle.report.specs.PartReading.{AreWords, IsWord, WordTexts, words_text}
+use Rattle.report.specs.PartReading.{AreWords, WordTexts, words_text}
 use Rattle.report.proofs.Cuts.{cut_once, lacks_append, lacks_left, lacks_right, lacks_not}
 
 -- a number has digits alone
-pub lacks_decimal : (byte n : ℕ) → byte < 48 → n < 2 ^ 64 → Lacks byte (decimal n)
-lacks_decimal byte n low small = decimal_by_steps (λ m ds. Lacks byte ds)
-    (λ m h. ((λ e. omega (arith, e)), tt))
-    (λ m ds h before. lacks_append byte ds _ before ((λ e. omega (arith, e)), tt))
+pub lacks_byte : (byte n : ℕ) → ((d : ℕ) → d < 10 → 48 + d ≢ byte) → n < 2 ^ 64 → Lacks byte (decimal n)
+lacks_byte byte n other small = decimal_by_steps (λ m ds. Lacks byte ds)
+    (λ m h. (other m h, tt))
+    (λ m ds h before. lacks_append byte ds _ before (other (m % 10) (omega arith), tt))
     n small
+
+pub lacks_decimal : (byte n : ℕ) → byte < 48 → n < 2 ^ 64 → Lacks byte (decimal n)
+lacks_decimal byte n low small = lacks_byte byte n (λ d h e. omega (arith, e)) small
 
 pub not_utf8 : (word : List ℕ) (n : ℕ) → n < 2 ^ 32 → word ≡ decimal n → (IsUtf8 word → ⊥) → ⊥
 not_utf8 word n small e bad = bad (subst (λ w. IsUtf8 w) (sym e) (IsUtf8-from_ascii _ (IsAscii-decimal n (omega (arith, small, lit< {m = 2 ^ 32} {n = 2 ^ 64} tt)))))

@@ -1,6 +1,7 @@
 //! The reader of part texts.
 
-ghost use Rattle.std.specs.Prelude.{◌≡◌, ◌≢◌, ◌+◌, ◌<◌, ◌^◌, ◌∷◌, ◌++◌, ℕ, List, [], OnOk, true, false, IfErr, IfOk, MatchOption, codes, decimal};
+ghost use Rattle.std.specs.Prelude.{◌≡◌, ◌≢◌, ◌+◌, ◌<◌, ◌^◌, ◌∷◌, ◌++◌, ℕ, List, [], OnOk, true, false, IfErr, IfOk, MatchOption, MatchResult, codes, decimal};
+ghost use Rattle.workers.specs.declared.parts.PartVerdict.{PartVerdict};
 ghost use Rattle.report.specs.Cut.{Lacks};
 ghost use Rattle.report.specs.PartText.{PartHead, head_line, verdict_line, verdict_text};
 ghost use Rattle.report.specs.PartReading.{AreWords, IsHead, IsLine, IsPart, IsPartRefusal, IsNoFaultLine, IsVerdict, WordTexts, end_of, head_in, texts_in, words_in, words_text};
@@ -202,7 +203,8 @@ fn is_end(line: &[u8], header: &PartHeader<'_>, verdicts: &[PartVerdict]) -> boo
     is_joined(line, &pieces)
 }
 
-/// Reads a part text.
+/// Reads a part text. What is read is what the text spells, and a part text is refused for want of
+/// memory alone.
 ///
 /// # Errors
 ///
@@ -214,6 +216,10 @@ pub fn read_part(alloc: Global, text: &[u8]) -> Result<PartText<'_>, PartFault>
     ensures read { IfOk result (λ part. IsPart text.now (head_in part.header)
         (texts_in part.faults.items) part.verdicts.items) }
     ensures refused { IfErr result (IsPartRefusal text.now) }
+    ensures only { (h : PartHead) (faults : List (List ℕ)) (verdicts : List PartVerdict)
+        → IsPart text.now h faults verdicts → MatchResult result
+        (λ part. (head_in part.header ≡ h) × (texts_in part.faults.items ≡ faults)
+        × (part.verdicts.items ≡ verdicts)) (λ fault. fault ≡ PartFault.Memory) }
 {
     let Some((line, rest)) = cut_first(text, b'\n') else {
         return Err(PartFault::CutOff);

@@ -1,6 +1,5 @@
-use Rattle.std.proofs.Common.{◌≡◌, sym, ◌∙◌, arith}
+use Rattle.std.proofs.Common.{arith}
 use Rattle.std.specs.Prelude.{codes}
-use Rattle.report.specs.PartText.{PartHead}
 use Rattle.report.proofs.PartWords.{field_lacks}
 use Rattle.report.proofs.PartHeads.{are_words, first_field, head_read, no_first, no_second, second_field, words_in_head}
 use Rattle.report.proofs.part_reader.header_of.Goals as goal

@@ -1,4 +1,4 @@
-use Rattle.std.proofs.Common.{◌≡◌, ◌+◌, ap, ◌∙◌, rules}
+use Rattle.std.proofs.Common.{ap, ◌∙◌}
 use Rattle.std.specs.Prelude.{decimal}
 use Rattle.report.proofs.PartLines.{end_pieces, end_pieces_only}
 use Rattle.report.proofs.part_reader.is_end.Goals as goal

@@ -1,5 +1,5 @@
-use Rattle.std.proofs.Common.{◌≡◌, ◌<◌, ◌^◌, true, false, sym, ◌∙◌, arith, lit<, ap}
-use Rattle.std.specs.Prelude.{Result, Ok, Err, decimal}
+use Rattle.std.proofs.Common.{◌≡◌, ◌^◌, sym, ◌∙◌, arith, lit<, ap}
+use Rattle.std.specs.Prelude.{decimal}
 use Rattle.std.proofs.lemmas.Fmt.{parse-decimal}
 use Rattle.report.proofs.PartWords.{not_utf8, differs}
 use Rattle.report.proofs.part_reader.number_of.Goals as goal

@@ -1,5 +1,4 @@
-use Rattle.std.proofs.Common.{◌≡◌, ◌<◌, ◌+◌, ◌^◌, ◌∙◌, sym, arith, lit<}
-use Rattle.std.proofs.lemmas.Fmt.{decimal_injective}
+use Rattle.std.proofs.Common.{◌+◌, arith}
 use Rattle.report.proofs.PartHeads.{same_number}
 use Rattle.report.proofs.part_reader.place_of.Goals as goal
 

@@ -1,4 +1,4 @@
-use Rattle.std.proofs.Common.{◌≡◌, ◌+◌, ◌∙◌, ap, arith, inl, inr, length, refl, sym}
+use Rattle.std.proofs.Common.{◌∙◌, ap, arith, inl, inr, length, refl, sym}
 use Rattle.report.specs.PartReading.{end_of, head_in, texts_in}
 use Rattle.report.proofs.PartReadings.{bad_line, begun_end, has_more, reading_more, some_bytes}
 use Rattle.report.proofs.part_reader.read_lines.Goals as goal

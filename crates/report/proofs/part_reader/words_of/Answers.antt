@@ -4,7 +4,6 @@ use Rattle.std.proofs.lemmas.List.{append_cancel_left}
 use Rattle.report.specs.Cut.{Lacks}
 use Rattle.report.proofs.Cuts.{lacks_not}
 use Rattle.report.proofs.PartWords.{rule_on, bench_on, after_model, after_rule, after_bench, words_read}
-use Rattle.report.specs.PartReading.{WordTexts}
 use Rattle.report.proofs.part_reader.words_of.Goals as goal
 
 pub returns-in_err-model : goal.returns-in_err-model
