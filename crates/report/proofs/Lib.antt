@@ -5,3 +5,10 @@ pub mod Lines
 pub mod Accepted
 pub mod Runs
 pub mod PartTexts
+pub mod Cuts
+pub mod PartWords
+pub mod PartHeads
+pub mod PartLines
+pub mod PartReadings
+pub mod PartOnce
+pub mod PartRefusals

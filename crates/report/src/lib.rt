@@ -7,12 +7,17 @@
 //! to an [`Out`], and their contracts say which bytes.
 #![tactic(auto)]
 
+mod cut;
+mod laws;
 mod part;
+mod part_reader;
 mod report;
 mod text;
 
+pub use laws::{no_refusal_of_part_text, one_part_text};
 pub use output::{Formatted, Out, OutFailed, Plain};
 pub use part::part_text_in;
+pub use part_reader::{PartFault, PartHeader, PartText, read_part};
 pub use report::{ReportFault, write_listing, write_report};
 pub use text::{
     SimFault, faults_text, faults_text_in, job_of, listing_bytes, report_bytes, schedule_text,

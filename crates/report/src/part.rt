@@ -227,14 +227,14 @@ fn is_found(verdict: &PartVerdict) -> bool
 }
 
 /// How many faults of the part a test detects.
-fn count_found(verdicts: &[PartVerdict]) -> usize
+pub(crate) fn count_found(verdicts: &[PartVerdict]) -> usize
     ensures { result ≡ count_by is_found verdicts.now }
 {
     verdicts.iter().filter(|verdict| is_found(verdict)).count()
 }
 
 /// How many faults are of the part.
-fn count_own(verdicts: &[PartVerdict]) -> usize
+pub(crate) fn count_own(verdicts: &[PartVerdict]) -> usize
     ensures { result ≡ count_by is_own verdicts.now }
 {
     verdicts.iter().filter(|verdict| is_own(verdict)).count()

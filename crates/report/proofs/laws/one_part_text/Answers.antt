@@ -1,0 +1,5 @@
+use Rattle.report.proofs.PartOnce.{one_part}
+use Rattle.report.proofs.laws.one_part_text.Goals as goal
+
+pub returns : goal.returns
+returns c = one_part
