@@ -1,4 +1,4 @@
-use Rattle.std.proofs.Common.{◌≡◌, ◌<◌, ◌%◌, length, get_or, slice_index, sym, ap, ◌∙◌, arith}
+use Rattle.std.proofs.Common.{◌≡◌, ◌<◌, ◌%◌, length, slice_index, sym, ap, ◌∙◌, arith}
 use Rattle.std.proofs.Common.{below_more, get_or-set_same, get_or-set_other}
 use Rattle.std.specs.Mem.Slots.{slots_items}
 use Rattle.std.proofs.Math.ListN.{length-set}
