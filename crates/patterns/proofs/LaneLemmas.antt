@@ -53,15 +53,23 @@ IsSetBelow-zero old words row lane i zero before =
     }
 
 -- the bit is set by its number
-pub IsSetBelow-bit : (old words : List ℕ) (row : List Bool) (lane i n : ℕ) → (get_or row i false ≡ true → n ≡ 1) → (get_or row i false ≡ false → n ≡ 0)
+pub IsSetBelow-bit : (old words : List ℕ) (row : List Bool) (lane i n : ℕ)
+    → (get_or row i false ≡ true → n ≡ 1) → (get_or row i false ≡ false → n ≡ 0)
     → lane < 64 → i < length words → IsSetBelow old words row lane i
     → IsSetBelow old (set words i (bit_or (get_or words i 0) (n * 2 ^ lane % 2 ^ 64))) row lane (i + 1)
 IsSetBelow-bit old words row lane i n one zero in_word within before =
-    let with : ℕ → List ℕ = λ m. set words i (bit_or (get_or words i 0) (m * 2 ^ lane % 2 ^ 64)) in
+    let word = get_or words i 0 in
+    let with : ℕ → List ℕ = λ m. set words i (bit_or word (m * 2 ^ lane % 2 ^ 64)) in
+    let Is : List ℕ → Type 0 = λ ws. IsSetBelow old ws row lane (i + 1) in
     ⊎_elim
-    (λ (set_bit : get_or row i false ≡ true). subst (λ m. IsSetBelow old (with m) row lane (i + 1)) (sym (one set_bit)) (IsSetBelow-one old words row lane i in_word within set_bit before))
-    (λ (clear_bit : get_or row i false ≡ false).
-    let same : with 0 ≡ words = ap (λ m. set words i (bit_or (get_or words i 0) (m % 2 ^ 64))) (zero-mul (2 ^ lane)) ∙ ap (λ m. set words i m) (or_zero_r (get_or words i 0)) ∙ set-get_or words i 0 in
-    subst (λ m. IsSetBelow old (with m) row lane (i + 1)) (sym (zero clear_bit))
-    (subst (λ ws. IsSetBelow old ws row lane (i + 1)) (sym same) (IsSetBelow-zero old words row lane i clear_bit before)))
+    (λ (is_one : get_or row i false ≡ true). subst (λ m. Is (with m)) (sym (one is_one))
+    (IsSetBelow-one old words row lane i in_word within is_one before))
+    (λ (is_zero : get_or row i false ≡ false).
+    let same : with 0 ≡ words =
+    ap (λ m. set words i (bit_or word (m % 2 ^ 64))) (zero-mul (2 ^ lane))
+    ∙ ap (λ m. set words i m) (or_zero_r word)
+    ∙ set-get_or words i 0
+    in
+    subst (λ m. Is (with m)) (sym (zero is_zero))
+    (subst Is (sym same) (IsSetBelow-zero old words row lane i is_zero before)))
     (cases_Bool (get_or row i false))

@@ -1,4 +1,5 @@
-use Rattle.std.proofs.Common.{◌≡◌, ◌<◌, ◌%◌, length, get_or, slice_index, sym, ap, ◌∙◌, arith, below_more, get_or-set_same, get_or-set_other}
+use Rattle.std.proofs.Common.{◌≡◌, ◌<◌, ◌%◌, length, slice_index, sym, ap, ◌∙◌, arith}
+use Rattle.std.proofs.Common.{below_more, get_or-set_same, get_or-set_other}
 use Rattle.std.specs.Mem.Slots.{slots_items}
 use Rattle.std.proofs.Math.ListN.{length-set}
 use Rattle.std.proofs.lemmas.List.{same_lists}
@@ -16,11 +17,17 @@ loop-piece-preserved c =
     let count = c.loop-piece.invariant.count in
     let within : n < length codes = omega (arith, count, c.loop-piece-test.true) in
     let is : c.field_of.result ≡ field_in words n =
-    c.field_of.ensures ∙ ap (λ w. field w (n % 8)) (sym (index_at words c.word_with.result c.word.result c.word.ensures) ∙ ap (slice_index words) c.word_with.ensures) in
+    c.field_of.ensures
+    ∙ ap (λ w. field w (n % 8))
+    (sym (index_at words c.word_with.result c.word.result c.word.ensures)
+    ∙ ap (slice_index words) c.word_with.ensures)
+    in
     record {
       count = length-set codes n c.field_of.result ∙ count;
       read = below_more _ _
-          (λ k h. get_or-set_other codes n k c.field_of.result 0 (λ (e : k ≡ n). omega (arith, e, h)) ∙ c.loop-piece.invariant.read k h)
+          (λ k h.
+          get_or-set_other codes n k c.field_of.result 0 (λ (e : k ≡ n). omega (arith, e, h))
+          ∙ c.loop-piece.invariant.read k h)
           (get_or-set_same codes n c.field_of.result 0 within ∙ is);
     }
 

@@ -6,5 +6,6 @@ use Rattle.fault_ledger.proofs.words.read_codes.Given as goal
 abbrev pub invariant-loop-piece : goal.invariant-loop-piece
 invariant-loop-piece l = record {
   count : length l.codes.items ≡ l.pieces;
-  read : (k : ℕ) → k < l.piece → get_or l.codes.items k 0 ≡ rule.field_in (slots_items l.closed.words) k;
+  read : (k : ℕ) → k < l.piece
+      → get_or l.codes.items k 0 ≡ rule.field_in (slots_items l.closed.words) k;
 }
