@@ -1,12 +1,12 @@
 -- Part texts that are put together.
-use Rattle.std.specs.Prelude.{◌≡◌, ◌≢◌, ◌⊎◌, ◌<◌, ℕ, List, [], ◌∷◌, ◌++◌, length, slice_get, slice_index_or as get_or, Contains}
+use Rattle.std.specs.Prelude.{◌≡◌, ◌≢◌, ◌⊎◌, ◌<◌, ℕ, ◌+◌, List, [], ◌∷◌, ◌++◌, map, length, take, slice_get, slice_index_or as get_or, Contains, Some}
 use Rattle.workers.specs.declared.parts.PartVerdict.{PartVerdict}
 use Rattle.workers.specs.declared.parts.PartVerdict.TheVariants.{First, OtherPart}
 use Rattle.report.specs.declared.merge.Merge.{Merge}
 use Rattle.report.specs.declared.joining.MergeFault.{MergeFault}
 use Rattle.report.specs.declared.joining.MergeFault.TheVariants as fault
 use Rattle.report.specs.PartText.{PartHead}
-use Rattle.report.specs.PartReading.{IsPart, head_in, texts_in}
+use Rattle.report.specs.PartReading.{IsPart, IsPartRefusal, head_in, texts_in}
 
 -- parts of one run: of the same inputs under the same model, by the same rule and as many
 pub record AreOfOneRun (h k : PartHead) : Type 0 where
@@ -77,3 +77,22 @@ IsOtherRun h k fault.OtherRule = h.rule ≢ k.rule
 IsOtherRun h k fault.OtherInputs = (h.bench ≢ k.bench) ⊎ (h.tests ≢ k.tests)
 IsOtherRun h k fault.OtherCount = h.parts ≢ k.parts
 IsOtherRun h k _ = ⊥
+
+-- When one more text is refused: its fault stands in it, or in it and in what was put together.
+abbrev pub IsMergeRefusal : MergeState → List ℕ → MergeFault → Type 0
+IsMergeRefusal old text (fault.Part f) = IsPartRefusal text f
+IsMergeRefusal old text (fault.Again number) = (h : PartHead) × (faults : List (List ℕ))
+    × (verdicts : List PartVerdict) × IsPart text h faults verdicts × Contains old.seen h.part
+    × (number ≡ h.part + 1)
+IsMergeRefusal old text (fault.Differs line) = (h : PartHead) × (faults : List (List ℕ))
+    × (verdicts : List PartVerdict) × IsPart text h faults verdicts × (k : ℕ) × (line ≡ k + 2)
+    × (DifferAt old.faults faults k ⊎ HaveBoth old.verdicts verdicts k)
+IsMergeRefusal old text fault.Memory = Unit {0}
+IsMergeRefusal old text f = (h : PartHead) × (faults : List (List ℕ))
+    × (verdicts : List PartVerdict) × IsPart text h faults verdicts × IsOtherRun old.head h f
+
+-- when the first text is refused
+abbrev pub IsFirstRefusal : List ℕ → MergeFault → Type 0
+IsFirstRefusal text (fault.Part f) = IsPartRefusal text f
+IsFirstRefusal text fault.Memory = Unit {0}
+IsFirstRefusal text f = ⊥

@@ -18,12 +18,13 @@ pub struct Merge<'a> {
 }
 
 impl<'a> Merge<'a> {
-    ghost use Rattle.std.specs.Prelude.{IfOk};
-    ghost use Rattle.report.specs.Merging.{IsFirstMerged, IsMerged, state_of};
+    ghost use Rattle.std.specs.Prelude.{IfErr, IfOk};
+    ghost use Rattle.report.specs.Merging.{IsFirstMerged, IsFirstRefusal, IsMerged, IsMergeRefusal, state_of};
 
     /// What the text of one part says. The text is kept in use for the names of the faults.
     pub fn of(alloc: Global, text: &'a [u8]) -> Result<Merge<'a>, MergeFault>
         ensures merged { IfOk result (λ merge. IsFirstMerged text.now (state_of merge)) }
+        ensures refused { IfErr result (IsFirstRefusal text.now) }
     {
         let part = read_part(alloc, text)?;
         let PartText {
@@ -44,6 +45,7 @@ impl<'a> Merge<'a> {
     pub fn add(self, alloc: Global, text: &[u8]) -> Result<Merge<'a>, MergeFault>
         ensures merged { IfOk result (λ merge.
             IsMerged (state_of self.entry) text.now (state_of merge)) }
+        ensures refused { IfErr result (IsMergeRefusal (state_of self.entry) text.now) }
     {
         let Merge {
             header,

@@ -35,4 +35,5 @@ returns c =
             (omega (arith, c.args.self.verdicts.ok.0, c.in_ok-join.ensures.joined.count, ap (λ l. length l) c.deref_mut.ensures.value));
         seen = c.in_ok-add_part.ensures;
       };
+      refused = tt;
     }
