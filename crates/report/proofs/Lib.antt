@@ -12,3 +12,4 @@ pub mod PartLines
 pub mod PartReadings
 pub mod PartOnce
 pub mod PartRefusals
+pub mod Merges

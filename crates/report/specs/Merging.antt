@@ -1,0 +1,98 @@
+-- Part texts that are put together.
+use Rattle.std.specs.Prelude.{◌≡◌, ◌≢◌, ◌⊎◌, ◌<◌, ℕ, ◌+◌, List, [], ◌∷◌, ◌++◌, map, length, take, slice_get, slice_index_or as get_or, Contains, Some}
+use Rattle.workers.specs.declared.parts.PartVerdict.{PartVerdict}
+use Rattle.workers.specs.declared.parts.PartVerdict.TheVariants.{First, OtherPart}
+use Rattle.report.specs.declared.merge.Merge.{Merge}
+use Rattle.report.specs.declared.joining.MergeFault.{MergeFault}
+use Rattle.report.specs.declared.joining.MergeFault.TheVariants as fault
+use Rattle.report.specs.PartText.{PartHead}
+use Rattle.report.specs.PartReading.{IsPart, IsPartRefusal, head_in, texts_in}
+
+-- parts of one run: of the same inputs under the same model, by the same rule and as many
+pub record AreOfOneRun (h k : PartHead) : Type 0 where
+  pub model : h.model ≡ k.model
+  pub rule : h.rule ≡ k.rule
+  pub bench : h.bench ≡ k.bench
+  pub tests : h.tests ≡ k.tests
+  pub parts : h.parts ≡ k.parts
+
+-- the verdict on a fault from two parts, of which at most one has it
+abbrev pub IsJoined : PartVerdict → PartVerdict → PartVerdict → Type 0
+IsJoined OtherPart b both = both ≡ b
+IsJoined (First first) OtherPart both = both ≡ First first
+IsJoined (First first) (First other) both = ⊥
+
+-- the same of each fault
+pub record AreJoined (verdicts others both : List PartVerdict) : Type 0 where
+  pub count : length both ≡ length verdicts
+  pub each : (k : ℕ) (v : PartVerdict) → k < length both
+      → IsJoined (get_or verdicts k v) (get_or others k v) (get_or both k v)
+
+-- both parts have the fault at this place
+abbrev pub HaveBoth : List PartVerdict → List PartVerdict → ℕ → Type 0
+HaveBoth verdicts others k = (get_or verdicts k OtherPart ≢ OtherPart) × (get_or others k OtherPart ≢ OtherPart)
+
+-- lists of faults differ first at this place, where one of them may end
+pub record DifferAt (faults others : List (List ℕ)) (k : ℕ) : Type 0 where
+  pub same : (i : ℕ) (d : List ℕ) → i < k → get_or faults i d ≡ get_or others i d
+  pub differ : slice_get faults k ≢ slice_get others k
+
+-- what was put together so far: what all first lines say but for the part, the names of the faults,
+-- the verdict on each, and which parts
+pub record MergeState : Type 0 where
+  pub head : PartHead
+  pub faults : List (List ℕ)
+  pub verdicts : List PartVerdict
+  pub seen : List ℕ
+
+abbrev pub state_of : Merge → MergeState
+state_of m = record {
+  head = head_in m.header;
+  faults = texts_in m.faults.items;
+  verdicts = m.verdicts.items;
+  seen = m.seen.items;
+}
+
+-- the first text
+pub record IsFirstMerged (text : List ℕ) (new : MergeState) : Type 0 where
+  pub part : IsPart text new.head new.faults new.verdicts
+  pub seen : new.seen ≡ new.head.part ∷ []
+
+-- one more text
+pub record IsMerged (old : MergeState) (text : List ℕ) (new : MergeState) : Type 0 where
+  pub head : PartHead
+  pub verdicts : List PartVerdict
+  pub part : IsPart text head old.faults verdicts
+  pub run : AreOfOneRun old.head head
+  pub fresh : Contains old.seen head.part → ⊥
+  pub head_is : new.head ≡ old.head
+  pub faults_are : new.faults ≡ old.faults
+  pub joined : AreJoined old.verdicts verdicts new.verdicts
+  pub seen : new.seen ≡ old.seen ++ head.part ∷ []
+
+-- why the first line of a part is of another run
+abbrev pub IsOtherRun : PartHead → PartHead → MergeFault → Type 0
+IsOtherRun h k fault.OtherModel = h.model ≢ k.model
+IsOtherRun h k fault.OtherRule = h.rule ≢ k.rule
+IsOtherRun h k fault.OtherInputs = (h.bench ≢ k.bench) ⊎ (h.tests ≢ k.tests)
+IsOtherRun h k fault.OtherCount = h.parts ≢ k.parts
+IsOtherRun h k _ = ⊥
+
+-- When one more text is refused: its fault stands in it, or in it and in what was put together.
+abbrev pub IsMergeRefusal : MergeState → List ℕ → MergeFault → Type 0
+IsMergeRefusal old text (fault.Part f) = IsPartRefusal text f
+IsMergeRefusal old text (fault.Again number) = (h : PartHead) × (faults : List (List ℕ))
+    × (verdicts : List PartVerdict) × IsPart text h faults verdicts × Contains old.seen h.part
+    × (number ≡ h.part + 1)
+IsMergeRefusal old text (fault.Differs line) = (h : PartHead) × (faults : List (List ℕ))
+    × (verdicts : List PartVerdict) × IsPart text h faults verdicts × (k : ℕ) × (line ≡ k + 2)
+    × (DifferAt old.faults faults k ⊎ HaveBoth old.verdicts verdicts k)
+IsMergeRefusal old text fault.Memory = Unit {0}
+IsMergeRefusal old text f = (h : PartHead) × (faults : List (List ℕ))
+    × (verdicts : List PartVerdict) × IsPart text h faults verdicts × IsOtherRun old.head h f
+
+-- when the first text is refused
+abbrev pub IsFirstRefusal : List ℕ → MergeFault → Type 0
+IsFirstRefusal text (fault.Part f) = IsPartRefusal text f
+IsFirstRefusal text fault.Memory = Unit {0}
+IsFirstRefusal text f = ⊥

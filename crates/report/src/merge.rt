@@ -1,0 +1,71 @@
+//! The report of a whole run from the texts of its parts.
+
+ghost use Rattle.std.specs.Prelude.{◌≡◌, length};
+
+use crate::joining::{MergeFault, add_part, check_names, check_run, join};
+use crate::part_reader::{PartHeader, PartText, read_part};
+use std::alloc::Global;
+use workers::PartVerdict;
+
+/// What the texts of some parts of a run say together.
+#[derive(Drop)]
+pub struct Merge<'a> {
+    header: PartHeader<'a>,
+    faults: Vec<&'a [u8]>,
+    verdicts: Vec<PartVerdict>,
+    seen: Vec<u32>,
+    ghost same: { length verdicts.items ≡ length faults.items },
+}
+
+impl<'a> Merge<'a> {
+    ghost use Rattle.std.specs.Prelude.{IfErr, IfOk};
+    ghost use Rattle.report.specs.Merging.{IsFirstMerged, IsFirstRefusal, IsMerged, IsMergeRefusal, state_of};
+
+    /// What the text of one part says. The text is kept in use for the names of the faults.
+    pub fn of(alloc: Global, text: &'a [u8]) -> Result<Merge<'a>, MergeFault>
+        ensures merged { IfOk result (λ merge. IsFirstMerged text.now (state_of merge)) }
+        ensures refused { IfErr result (IsFirstRefusal text.now) }
+    {
+        let part = read_part(alloc, text)?;
+        let PartText {
+            header,
+            faults,
+            verdicts,
+        } = part;
+        let seen = vec![in alloc; header.part; 1]?;
+        Ok(Merge {
+            header,
+            faults,
+            verdicts,
+            seen,
+        })
+    }
+
+    /// Puts the text of one more part to what is there.
+    pub fn add(self, alloc: Global, text: &[u8]) -> Result<Merge<'a>, MergeFault>
+        ensures merged { IfOk result (λ merge.
+            IsMerged (state_of self.entry) text.now (state_of merge)) }
+        ensures refused { IfErr result (IsMergeRefusal (state_of self.entry) text.now) }
+    {
+        let Merge {
+            header,
+            faults,
+            mut verdicts,
+            mut seen,
+        } = self;
+        let part = read_part(alloc, text)?;
+        check_run(&header, &part.header)?;
+        if seen.contains(&part.header.part) {
+            return Err(MergeFault::Again(u64::from(part.header.part) + 1));
+        }
+        check_names(faults.as_slice(), part.faults.as_slice())?;
+        join(&mut verdicts, part.verdicts.as_slice())?;
+        add_part(&mut seen, part.header.part)?;
+        Ok(Merge {
+            header,
+            faults,
+            verdicts,
+            seen,
+        })
+    }
+}
