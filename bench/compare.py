@@ -1,7 +1,7 @@
 #!/usr/bin/env python3
 """Times `faultsim` against a C++ simulator of the same job, and checks that all write the same.
 
-    bench/compare.py [--hard] [--workers] [--counts] [--model M] [--rounds N] [--only WORD]
+    bench/compare.py [--hard] [--workers] [--counts] [--model M] [--rounds N] [--only WORD] [--built]
 
 It builds baseline.cpp with g++ and the program with `rt run`, makes circuits and tests with
 generate.py in a temporary folder, and runs in turn the program, the baseline by events, and the
@@ -19,7 +19,8 @@ are busy with something else.
 
 With --counts it prints how many gates the baseline evaluates by events and by regions, and what part of
 the first number the second is. These depend on no machine, and the program isn't built for them.
---only takes the name of any case, or a part of a title.
+--only takes the name of any case, or a part of a title. --built takes the program that stands in
+out/ already.
 """
 
 import argparse
@@ -102,9 +103,10 @@ def build_baseline(folder):
     return baseline
 
 
-def build(folder):
+def build(folder, built=False):
     baseline = build_baseline(folder)
-    subprocess.run(["rt", "run", "--", "--help"], cwd=CRATE, stdout=subprocess.DEVNULL, check=True)
+    if not built:
+        subprocess.run(["rt", "run", "--", "--help"], cwd=CRATE, stdout=subprocess.DEVNULL, check=True)
     return baseline
 
 
@@ -231,6 +233,7 @@ def main():
     parser.add_argument("--hard", action="store_true")
     parser.add_argument("--workers", action="store_true")
     parser.add_argument("--counts", action="store_true")
+    parser.add_argument("--built", action="store_true")
     options = parser.parse_args()
     cases = CASES + HARD_CASES
     if options.workers and not options.only:
@@ -241,7 +244,7 @@ def main():
         cases = [case for case in cases if case.tests]
     with tempfile.TemporaryDirectory() as name:
         folder = pathlib.Path(name)
-        baseline = build_baseline(folder) if options.counts else build(folder)
+        baseline = build_baseline(folder) if options.counts else build(folder, options.built)
         for case in chosen(cases, options.only):
             if options.counts:
                 count(folder, baseline, case, options)

@@ -1,10 +1,11 @@
 #!/usr/bin/env python3
 """Lets each allocation and each start of a thread be refused in turn: of the program, and of the library's calls.
 
-    bench/refusals.py [--program] [--calls]
+    bench/refusals.py [--program] [--calls] [--built]
 
 It builds refuse.c with gcc and runs with it, as LD_PRELOAD, the program that `rt run` builds and the test
-`once::each_call_that_was_refused_succeeds_again` that `rt test` builds in crates/memory_tests: with the first refused,
+`once::each_call_that_was_refused_succeeds_again` that `rt test` builds in crates/memory_tests (--built: that stand in
+out/ already): with the first refused,
 then with the second and so on, until nothing was refused. Each run of the program must end with status 3, `out of
 memory` or `thread refused`, and nothing on standard output, or do what it does with no refusal. Each run of the test must
 pass, but where it could not set up what its calls need. It ends with status 1 where a run did anything else.
@@ -75,8 +76,9 @@ def try_program(folder, library):
             print(f"faultsim {command} {words[-1] if command == 'run' else ''}: {what.lower()}: {dict(seen)}", flush=True)
 
 
-def try_calls(folder, library):
-    subprocess.run(["rt", "test"], cwd=CRATES / "memory_tests", stdout=subprocess.DEVNULL, check=True)
+def try_calls(folder, library, built):
+    if not built:
+        subprocess.run(["rt", "test"], cwd=CRATES / "memory_tests", stdout=subprocess.DEVNULL, check=True)
     words = [str(CRATES / "memory_tests" / "out" / "memory_tests_tests"), TEST]
 
     def judge(came):
@@ -93,16 +95,17 @@ def main():
     parser = argparse.ArgumentParser(description=__doc__, formatter_class=argparse.RawDescriptionHelpFormatter)
     parser.add_argument("--program", action="store_true")
     parser.add_argument("--calls", action="store_true")
+    parser.add_argument("--built", action="store_true")
     options = parser.parse_args()
     with tempfile.TemporaryDirectory() as name:
         folder = pathlib.Path(name)
         library = folder / "refuse.so"
         compare.run(["gcc", "-O1", "-shared", "-fPIC", str(HERE / "refuse.c"), "-o", str(library)])
         if options.program or not options.calls:
-            compare.build(folder)
+            compare.build(folder, options.built)
             try_program(folder, library)
         if options.calls or not options.program:
-            try_calls(folder, library)
+            try_calls(folder, library, options.built)
 
 
 if __name__ == "__main__":

@@ -1,10 +1,10 @@
 #!/usr/bin/env python3
 """Runs `faultsim` in many threads on many small random circuits, and compares what it writes.
 
-    bench/soak.py [--runs N] [--seed N]
+    bench/soak.py [--runs N] [--seed N] [--built]
 
-It builds baseline.cpp with g++ and the program with `rt run`, as compare.py does. Each run is of a circuit of
-generate.py's `tiny_circuit` or of 10 to 200 random gates, with 1 to 300 tests, of one of the fault models, and of
+It builds baseline.cpp with g++ and the program with `rt run`, as compare.py does; --built takes the program
+that stands in out/ already. Each run is of a circuit of generate.py's `tiny_circuit` or of 10 to 200 random gates, with 1 to 300 tests, of one of the fault models, and of
 2 to 64 workers. What the program writes with the list, and its status, must be the same byte for byte as with
 `--workers 1` and as the baseline's. It ends with status 1 at the first run that differs, and names its seed.
 """
@@ -38,11 +38,12 @@ def main():
     parser = argparse.ArgumentParser(description=__doc__, formatter_class=argparse.RawDescriptionHelpFormatter)
     parser.add_argument("--runs", type=int, default=1000)
     parser.add_argument("--seed", type=int, default=0)
+    parser.add_argument("--built", action="store_true")
     options = parser.parse_args()
     statuses, models, threads = collections.Counter(), collections.Counter(), collections.Counter()
     with tempfile.TemporaryDirectory() as name:
         folder = pathlib.Path(name)
-        baseline = compare.build(folder)
+        baseline = compare.build(folder, options.built)
         bench_file, tests_file = folder / "bench", folder / "tests"
         for seed in range(options.seed, options.seed + options.runs):
             bench, tests, model, workers = inputs_of(seed)
