@@ -32,7 +32,8 @@ fn kept_lanes(job: &Job, workspace: &mut Workspace, block: u32) -> u64
 
 /// The text of the tests of a block that are kept.
 fn kept_text(alloc: Global, tests: &Tests, block: u32, kept: u64) -> Result<Vec<u8>, AllocError>
-    requires { block < blocks (length tests.now.tests) }
+    requires list { IsTestList tests.now }
+    requires block { block < blocks (length tests.now.tests) }
 {
     let mut text = Vec::new(alloc);
     for lane in 0..tests.size_of(block) {
