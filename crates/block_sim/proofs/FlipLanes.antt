@@ -1,7 +1,7 @@
 -- The lanes in which a signal that is turned round is detected, out of one spread that turns it in
 -- lanes of both bits.
-use Rattle.std.proofs.Common.{◌≡◌, ◌<◌, ◌≤◌, ℕ, refl, sym, ◌∙◌, ap, subst, Bool, true, false, not, List, length, arith}
-use Rattle.std.specs.Prelude.{Some, None, slice_index_or}
+use Rattle.std.proofs.Common.{◌≡◌, ◌<◌, ◌≤◌, ◌+◌, ℕ, refl, sym, ◌∙◌, ap, subst, Bool, true, false, not, List, [], length, arith}
+use Rattle.std.specs.Prelude.{◌*◌, ◌-◌, Some, None, min, slice_index_or}
 use Rattle.std.proofs.lemmas.Bool.{false≢true}
 use Rattle.bench_net.specs.Statement.{Name, Statement}
 use Rattle.bench_net.specs.Scan.{names, signal, name_of}
@@ -16,9 +16,12 @@ use Rattle.fault_model.proofs.Public.{detection_is_of_any_solution, has_solution
 use Rattle.block_sim.specs.Regions.{DetectsFlip, TellsFirstFlips, flip, flips}
 use Rattle.block_sim.specs.declared.spread.Followed.{Followed}
 use Rattle.block_sim.specs.Spreading.{AreShown, IsFirstChange}
+use Rattle.block_sim.specs.Stirred.{HasStirredIn}
+use Rattle.block_sim.specs.Ways.{HasStirredByFlip}
 use Rattle.block_sim.specs.Words.{lane, lane_bits, test_of, AreWords}
 use Rattle.block_sim.proofs.Flips.{bit_is}
 use Rattle.block_sim.proofs.Lanes.{lane_xor, unlike}
+use Rattle.block_sim.proofs.Placed.{index_of}
 use Rattle.block_sim.proofs.Started.{first_on_stem}
 
 turned_bit : (a l : Bool) → l ≡ true → unlike a l ≡ not a
@@ -43,6 +46,23 @@ module _ (c : List Statement) (well : IsWellFormed c) (tests : List Test) (block
   number : signal c name.0 ≡ s
   number = signal-name_of c s name.0 well.once name.1 (contained (names c) name.0 here)
 
+  has_bit : (k : ℕ) → k < 64 → HasBit c (test_of tests block k) (line.Stem s) (lane (slice_index_or good s 0) k)
+  has_bit k lt = (
+    lane_bits c good k,
+    name.0,
+    words k lt,
+    name.1,
+    ap (λ x. lane (slice_index_or good x 0) k) number,
+  )
+
+  -- what the faults that turn it round stir is what it stirs turned round
+  pub flips_stir : (gates : List ℕ) → HasStirredByFlip c tests block s gates → HasStirredIn c tests block (flips good s) gates
+  flips_stir gates all gate h =
+      let low : h.0 < min 64 (length tests - 64 * block) = h.2 in
+      let is : test_of tests block h.0 ≡ h.1 = index_of tests (64 * block + h.0) h.1 [] h.3 in
+      let bit = lane (slice_index_or good s 0) h.0 in
+      all gate (h.0, h.1, bit, h.2, h.3, subst (λ t. HasBit c t (line.Stem s) bit) is (has_bit h.0 (omega (arith, low))), h.4)
+
   pub flip_told : (lanes seen : ℕ) (settled : ℕ → Type 0)
       → AreShown c tests block (flips good s) good lanes settled seen → (one : Followed)
       → ((k : ℕ) → lane one.lanes k ≡ true → lane lanes k ≡ true)
@@ -63,13 +83,7 @@ module _ (c : List Statement) (well : IsWellFormed c) (tests : List Test) (block
           (detection_is_of_any_solution c well (flips good s k) t (lane_bits c good k) u.0 (words k lt) u.1).1
           (f.1 u.0 u.1) in (
             lane (slice_index_or good s 0) k,
-            (
-              lane_bits c good k,
-              name.0,
-              words k lt,
-              name.1,
-              ap (λ x. lane (slice_index_or good x 0) k) number,
-            ),
+            has_bit k lt,
             is,
           )
 

@@ -45,3 +45,4 @@ mod FlipLanes
 mod FaultLanes
 mod Simulated
 pub mod Public
+mod Ways

@@ -1,10 +1,10 @@
 -- Outcomes that are kept, and classes that are followed to one stem.
-use Rattle.std.proofs.Common.{◌≡◌, ◌≢◌, ◌+◌, ◌<◌, ◌≤◌, ℕ, sym, ◌∙◌, ap, subst, List, [], ◌∷◌, ◌++◌, length, set}
+use Rattle.std.proofs.Common.{◌≡◌, ◌≢◌, ◌+◌, ◌<◌, ◌≤◌, ℕ, refl, sym, ◌∙◌, ap, subst, List, [], ◌∷◌, ◌++◌, length, set}
 use Rattle.std.proofs.Common.{inl, inr, ◌⊎◌, arith}
 use Rattle.std.specs.Prelude.{bit_and, slice_index_or}
 use Rattle.std.proofs.lemmas.Bool.{cases_eq}
 use Rattle.std.proofs.lemmas.List.{get_or-set_same, get_or-set_other, length-set}
-use Rattle.lists.proofs.Members.{Among, among, among_append, contained}
+use Rattle.lists.proofs.Members.{Among, among, among_append, among_left, among_right, contained}
 use Rattle.bench_net.specs.Scan.{names}
 use Rattle.bench_net.specs.Circuit.{IsWellFormed}
 use Rattle.patterns.specs.declared.Outcome.{Outcome}
@@ -15,10 +15,11 @@ use Rattle.block_sim.specs.declared.changes.Changes.{Changes}
 use Rattle.block_sim.specs.Changes.{HasRoomFor, IsAsLarge, IsAtRest, IsClear}
 use Rattle.block_sim.specs.Parts.{Parts}
 use Rattle.block_sim.specs.Regions.{TellsFirstFlips}
-use Rattle.block_sim.specs.Simulation.{AreFollowed, AreTrueMemos, HasArrived, IsOutcomeIn, IsTrueMemo}
-use Rattle.block_sim.specs.Words.{IsLeastLane}
+use Rattle.block_sim.specs.Simulation.{AreFollowed, AreTrueBut, AreTrueMemos, HasArrived, IsFollowed, IsOutcomeIn, IsTrueMemo}
+use Rattle.block_sim.specs.Stirred.{AreInBlock}
+use Rattle.block_sim.specs.Words.{lane, IsLeastLane}
 use Rattle.block_sim.proofs.Deep.{level_within}
-use Rattle.block_sim.proofs.RegionLanes.{lanes_law}
+use Rattle.block_sim.proofs.RegionLanes.{lanes_first, lanes_law}
 
 -- the outcome of a class that came to a stem in some lanes
 pub arrived_outcome : (job : Parts) (block stem class word seen : ℕ) (o : Outcome)
@@ -45,6 +46,46 @@ memo_kept job memos class memo before within is = record {
     go x (inl same) = subst (λ y. IsTrueMemo job y (slice_index_or (set memos class memo) y Nothing)) (sym same)
         (subst (IsTrueMemo job class) (sym (get_or-set_same memos class memo Nothing within)) is)
     go x (inr other) = subst (IsTrueMemo job x) (sym (get_or-set_other memos class x memo Nothing other)) (before.each x)
+
+-- one memo more, while classes are followed
+pub memo_kept_but : (job : Parts) (followed : List Followed) (memos : List Memo) (class : ℕ) (memo : Memo) → AreTrueBut job followed memos
+    → class < length memos → IsTrueMemo job class memo → AreTrueBut job followed (set memos class memo)
+memo_kept_but job followed memos class memo before within is = record {
+  count = length-set memos class memo ∙ before.count;
+  each = λ x. go x (cases_eq x class);
+}
+  where
+    go : (x : ℕ) → (x ≡ class) ⊎ (x ≢ class) → IsTrueMemo job x (slice_index_or (set memos class memo) x Nothing) ⊎ IsFollowed followed x
+    go x (inl same) = inl (subst (λ y. IsTrueMemo job y (slice_index_or (set memos class memo) y Nothing)) (sym same)
+        (subst (IsTrueMemo job class) (sym (get_or-set_same memos class memo Nothing within)) is))
+    go x (inr other) = subst (λ m. IsTrueMemo job x m ⊎ IsFollowed followed x) (sym (get_or-set_other memos class x memo Nothing other)) (before.each x)
+
+-- the memo of a class that is followed may be any
+pub memo_waits : (job : Parts) (followed : List Followed) (memos : List Memo) (one : Followed) (memo : Memo)
+    → length memos ≡ length job.classes.representative
+    → ((class : ℕ) → IsTrueMemo job class (slice_index_or memos class Nothing) ⊎ IsFollowed followed class)
+    → AreTrueBut job (followed ++ one ∷ []) (set memos one.class memo)
+memo_waits job followed memos one memo count each = record {
+  count = length-set memos one.class memo ∙ count;
+  each = λ x. go x (cases_eq x one.class);
+}
+  where
+    more : (x : ℕ) → IsTrueMemo job x (slice_index_or memos x Nothing) ⊎ IsFollowed followed x
+        → IsTrueMemo job x (slice_index_or memos x Nothing) ⊎ IsFollowed (followed ++ one ∷ []) x
+    more x (inl h) = inl h
+    more x (inr h) = inr (h.0, contained (followed ++ one ∷ []) h.0 (among_left followed (one ∷ []) h.0 (among followed h.0 h.1)), h.2)
+
+    go : (x : ℕ) → (x ≡ one.class) ⊎ (x ≢ one.class)
+        → IsTrueMemo job x (slice_index_or (set memos one.class memo) x Nothing) ⊎ IsFollowed (followed ++ one ∷ []) x
+    go x (inl same) = inr (one, contained (followed ++ one ∷ []) one (among_right followed (one ∷ []) one (inl refl)), sym same)
+    go x (inr other) = subst (λ m. IsTrueMemo job x m ⊎ IsFollowed (followed ++ one ∷ []) x)
+        (sym (get_or-set_other memos one.class x memo Nothing other)) (more x (each x))
+
+-- a class came to a stem in lanes of tests alone
+pub arrived_within : (job : Parts) (block stem class word : ℕ) → HasArrived job block stem class word
+    → AreInBlock job.tests.tests block word
+arrived_within job block stem class word a k lt own =
+    ((a.4 k lt).0 (lanes_first a.1 a.2 k (ap (λ w. lane w k) (sym a.6) ∙ own))).0
 
 -- one class more is followed
 pub followed_more : (job : Parts) (block stem : ℕ) (followed : List Followed) (one : Followed)

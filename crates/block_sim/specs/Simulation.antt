@@ -1,5 +1,5 @@
 -- What a simulation of a job keeps: outcomes that are true, and classes that came to a stem.
-use Rattle.std.specs.Prelude.{◌≡◌, ℕ, ◌<◌, ◌≤◌, List, Contains, Some, length}
+use Rattle.std.specs.Prelude.{◌≡◌, ◌⊎◌, ℕ, ◌<◌, ◌≤◌, List, Contains, Some, length}
 use Rattle.std.specs.Prelude.{slice_get, slice_index_or, bit_and}
 use Rattle.bench_net.specs.Scan.{names}
 use Rattle.fault_model.specs.Fault.{Fault}
@@ -9,7 +9,7 @@ use Rattle.patterns.specs.declared.Outcome.TheVariants as outcome
 use Rattle.block_sim.specs.declared.simulation.Approach.{Approach}
 use Rattle.block_sim.specs.declared.simulation.Approach.TheVariants.{Known, Stem}
 use Rattle.block_sim.specs.declared.simulation.Memo.{Memo}
-use Rattle.block_sim.specs.declared.simulation.Memo.TheVariants.{Nothing}
+use Rattle.block_sim.specs.declared.simulation.Memo.TheVariants.{Nothing, Pending}
 use Rattle.block_sim.specs.declared.simulation.Memo.TheVariants as memo
 use Rattle.block_sim.specs.declared.spread.Followed.{Followed}
 use Rattle.block_sim.specs.First.{IsTrueOutcome}
@@ -21,9 +21,10 @@ abbrev pub IsOutcomeIn : Parts → ℕ → ℕ → Outcome → Type 0
 IsOutcomeIn job class block outcome =
     IsTrueOutcome job.list.model job.circuit job.tests.tests class block outcome
 
--- what is known of a class is true
+-- what is known of a class is true; a class waits for its outcome within a call alone
 abbrev pub IsTrueMemo : Parts → ℕ → Memo → Type 0
 IsTrueMemo job class Nothing = Unit {0}
+IsTrueMemo job class (Pending block) = ⊥
 IsTrueMemo job class (memo.Clear block) = IsOutcomeIn job class block outcome.Clear
 IsTrueMemo job class (memo.Hit block test) = IsOutcomeIn job class block (outcome.Hit test)
 
@@ -31,6 +32,16 @@ IsTrueMemo job class (memo.Hit block test) = IsOutcomeIn job class block (outcom
 pub record AreTrueMemos (job : Parts) (memos : List Memo) : Type 0 where
   pub count : length memos ≡ length job.classes.representative
   pub each : (class : ℕ) → IsTrueMemo job class (slice_index_or memos class Nothing)
+
+-- the class is among those that are followed
+abbrev pub IsFollowed : List Followed → ℕ → Type 0
+IsFollowed followed class = (one : Followed) × Contains followed one × (one.class ≡ class)
+
+-- there is a memo for each class, and each is true but for those of classes that are followed
+pub record AreTrueBut (job : Parts) (followed : List Followed) (memos : List Memo) : Type 0 where
+  pub count : length memos ≡ length job.classes.representative
+  pub each : (class : ℕ)
+      → IsTrueMemo job class (slice_index_or memos class Nothing) ⊎ IsFollowed followed class
 
 -- In these lanes of a block a class came to a signal: they are those of the block's tests that look
 -- back as its representative asks and in which that came there.

@@ -9,7 +9,9 @@ ghost use Rattle.fault_model.specs.Solution.{Test};
 ghost use Rattle.block_sim.specs.Changes.{HasRoomFor, IsAsLarge, IsClear};
 ghost use Rattle.block_sim.specs.Regions.{HasCome, IsReached, IsReadBy, IsStemOf, IsStemOfLine};
 ghost use Rattle.block_sim.specs.Regions.{TellsFirstFlips};
+ghost use Rattle.block_sim.specs.Stirred.{AreInBlock};
 ghost use Rattle.block_sim.specs.Stuck.{stuck_fault};
+ghost use Rattle.block_sim.specs.Ways.{HasStirredByFlip, IsWay, IsWayOfLine};
 ghost use Rattle.block_sim.specs.Words.{lane, AreWords, HasWords};
 
 use crate::changes::Changes;
@@ -72,6 +74,8 @@ pub fn arrive(view: BlockView<'_>, from: Arrival, changes: &mut Changes) -> Arri
     ensures signal { result.signal < length (names view.entry.circuit.now) }
     ensures stem { result.lanes ≢ 0
         → IsStemOf view.entry.circuit.now result.signal from.signal }
+    ensures counted { (way : ℕ) → IsWay view.entry.circuit.now from.signal way
+        → changes.new.evaluations ≤ changes.old.evaluations + way }
     ensures grown { changes.old.evaluations ≤ changes.new.evaluations }
     ensures room { IsAsLarge changes.old changes.new }
     ensures clear { IsClear changes.new }
@@ -126,6 +130,8 @@ pub fn follow(view: BlockView<'_>, fault: Stuck, changes: &mut Changes) -> Reach
         → at.signal < length (names view.entry.circuit.now) }
     ensures stem { (at : Arrival) → result ≡ Reach.Stem at → at.lanes ≢ 0
         → IsStemOfLine view.entry.circuit.now at.signal fault.line }
+    ensures counted { (way : ℕ) → IsWayOfLine view.entry.circuit.now fault.line way
+        → changes.new.evaluations ≤ changes.old.evaluations + way }
     ensures grown { changes.old.evaluations ≤ changes.new.evaluations }
     ensures room { IsAsLarge changes.old changes.new }
     ensures clear { IsClear changes.new }
@@ -157,8 +163,10 @@ pub fn follow(view: BlockView<'_>, fault: Stuck, changes: &mut Changes) -> Reach
 
 /// The lanes in which some of the classes that are followed came to a signal.
 fn all_lanes(followed: &[Followed]) -> u64
-    ensures { (one : Followed) (k : ℕ) → Contains followed.now one → lane one.lanes k ≡ true
+    ensures all { (one : Followed) (k : ℕ) → Contains followed.now one → lane one.lanes k ≡ true
         → lane result k ≡ true }
+    ensures only { (k : ℕ) → lane result k ≡ true
+        → (one : Followed) × Contains followed.now one × (lane one.lanes k ≡ true) }
 {
     let mut lanes = 0;
     for one in followed {
@@ -180,6 +188,11 @@ pub fn flip(view: BlockView<'_>, followed: &[Followed], signal: u32, changes: &m
         → AreWords view.entry.circuit.now tests block None view.entry.good.now
         → (one : Followed) → Contains followed.now one
         → TellsFirstFlips view.entry.circuit.now tests block one.lanes signal result }
+    ensures counted { (tests : List Test) (block : ℕ) (gates : List ℕ)
+        → AreWords view.entry.circuit.now tests block None view.entry.good.now
+        → ((one : Followed) → Contains followed.now one → AreInBlock tests block one.lanes)
+        → HasStirredByFlip view.entry.circuit.now tests block signal gates
+        → changes.new.evaluations ≤ changes.old.evaluations + length gates }
     ensures grown { changes.old.evaluations ≤ changes.new.evaluations }
     ensures room { IsAsLarge changes.old changes.new }
     ensures clear { IsClear changes.new }

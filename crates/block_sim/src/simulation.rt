@@ -1,15 +1,17 @@
 //! The outcomes of a job's pieces, found out together for the classes of a fan-out-free region.
 
-ghost use Rattle.std.specs.Prelude.{◌≡◌, ◌<◌, ◌≤◌, ℕ, Contains, IfOk, IfSome};
-ghost use Rattle.std.specs.Prelude.{length, vec_capacity, vec_len};
+ghost use Rattle.std.specs.Prelude.{◌≡◌, ◌+◌, ◌<◌, ◌≤◌, ℕ, Contains, IfOk, IfSome, IsTrue, List};
+ghost use Rattle.std.specs.Prelude.{None, true, false, length, slice_index_or};
+ghost use Rattle.std.specs.Prelude.{vec_capacity, vec_len};
 ghost use Rattle.bench_net.specs.Scan.{names};
 ghost use Rattle.patterns.specs.Tests.{blocks};
 ghost use Rattle.block_sim.specs.Changes.{HasRoomFor, IsAsLarge, IsClear};
 ghost use Rattle.block_sim.specs.First.{IsTrueOutcome};
-ghost use Rattle.block_sim.specs.Regions.{TellsFirstFlips};
+ghost use Rattle.block_sim.specs.Regions.{IsStemOfClass, TellsFirstFlips};
 ghost use Rattle.block_sim.specs.Parts.{Parts};
-ghost use Rattle.block_sim.specs.Simulation.{AreFollowed, AreTrueMemos, HasArrived, IsApproach};
-ghost use Rattle.block_sim.specs.Simulation.{IsOutcomeIn, IsTrueMemo, Serves};
+ghost use Rattle.block_sim.specs.Simulation.{AreFollowed, AreTrueBut, AreTrueMemos, HasArrived};
+ghost use Rattle.block_sim.specs.Simulation.{IsApproach, IsOutcomeIn, IsTrueMemo, Serves};
+ghost use Rattle.block_sim.specs.Ways.{AreWays, HasStirredByFlip, IsWayOfClass, is_on, known_ways};
 
 use crate::block_lanes::{lanes_below, least_lane};
 use crate::changes::Changes;
@@ -27,6 +29,9 @@ use std::marker::Model;
 pub enum Memo {
     /// It was found out on no block.
     Nothing,
+    /// It is followed on this block, and gets its outcome when its region is found out. No class
+    /// waits from one call to the next.
+    Pending { block: u32 },
     /// No test of the block detects it.
     Clear { block: u32 },
     /// This test of the block, counted from 0, is the first that detects it.
@@ -36,8 +41,9 @@ pub enum Memo {
 impl Memo {
     /// The outcome on a block.
     fn of(block: u32, outcome: Outcome) -> Memo
-        ensures { (job : Parts) (class : ℕ) → IsOutcomeIn job class block outcome
+        ensures truth { (job : Parts) (class : ℕ) → IsOutcomeIn job class block outcome
             → IsTrueMemo job class result }
+        ensures known { is_on block result ≡ true }
     {
         match outcome {
             Outcome::Clear => Memo::Clear { block },
@@ -48,8 +54,10 @@ impl Memo {
     /// The outcome on a block, where that is the one that is known.
     #[inline(always)]
     fn on(self, block: u32) -> Option<Outcome>
-        ensures { IfSome result (λ outcome. (job : Parts) (class : ℕ)
+        ensures truth { IfSome result (λ outcome. (job : Parts) (class : ℕ)
             → IsTrueMemo job class self → IsOutcomeIn job class block outcome) }
+        ensures none { (job : Parts) (class : ℕ) → IsTrueMemo job class self
+            → result ≡ None → is_on block self ≡ false }
     {
         match self {
             Memo::Clear { block: last } if last == block => Some(Outcome::Clear),
@@ -124,6 +132,11 @@ impl Simulation {
 
     /// The outcome of a class on a block of the job, as [`crate::simulate`] gives it. It takes no
     /// memory.
+    ///
+    /// It follows classes of the region, this one among them, that are known on the block from then
+    /// on and were not before. At most it evaluates the gates on their ways to the stem, and once
+    /// each those that the stem stirs where it is turned round: gates with a pin that sees under
+    /// some test of the block another bit then.
     pub fn outcome(&mut self, job: &Job, class: u32, block: u32) -> Outcome
         requires serves { Serves self.old job.now }
         requires class { class < length job.now.classes.representative }
@@ -131,6 +144,11 @@ impl Simulation {
         ensures outcome { IsTrueOutcome job.now.list.model job.now.circuit
             job.now.tests.tests class block result }
         ensures serves { Serves self.new job.now }
+        ensures counted { (way : ℕ → ℕ) (stem : ℕ) (gates : List ℕ) → AreWays job.now way
+            → IsStemOfClass job.now.list.model job.now.circuit class stem
+            → HasStirredByFlip job.now.circuit job.now.tests.tests block stem gates
+            → self.new.evaluations + known_ways way block self.old.memos
+            ≤ self.old.evaluations + known_ways way block self.new.memos + length gates }
         ensures grown { self.old.evaluations ≤ self.new.evaluations }
     {
         let _circuit = job.flat();
@@ -175,15 +193,22 @@ fn find_out_region(
     requires stem { stem < length (names job.now.circuit) }
     requires class { own.class < length job.now.classes.representative }
     requires arrived { HasArrived job.now block stem own.class own.lanes }
+    requires region { IsStemOfClass job.now.list.model job.now.circuit own.class stem }
+    requires idle { is_on block (slice_index_or memos.old own.class Memo.Nothing) ≡ false }
     requires capacity { 0 < vec_capacity followed.old }
     ensures told { TellsFirstFlips job.now.circuit job.now.tests.tests block own.lanes stem result }
     ensures memos { AreTrueMemos job.now memos.new }
+    ensures counted { (way : ℕ → ℕ) (gates : List ℕ) → AreWays job.now way
+        → HasStirredByFlip job.now.circuit job.now.tests.tests block stem gates
+        → changes.new.evaluations + known_ways way block memos.old + way own.class
+        ≤ changes.old.evaluations + known_ways way block memos.new + length gates }
     ensures capacity { vec_capacity followed.new ≡ vec_capacity followed.old }
     ensures grown { changes.old.evaluations ≤ changes.new.evaluations }
     ensures room { IsAsLarge changes.old changes.new }
     ensures clear { IsClear changes.new }
 {
     followed.clear();
+    memos[own.class as usize] = Memo::Pending { block };
     followed.push_reserved(own);
     gather(job, block, stem, own.class, changes, memos, followed);
     let all = followed.as_slice();
@@ -199,6 +224,10 @@ fn follow_alone(job: &Job, class: u32, block: u32, changes: &mut Changes) -> App
     requires room { HasRoomFor job.now.circuit changes.old }
     requires clear { IsClear changes.old }
     ensures approach { IsApproach job.now class block result }
+    ensures stem { (at : Arrival) → result ≡ Approach.Stem at
+        → IsStemOfClass job.now.list.model job.now.circuit class at.signal }
+    ensures counted { (way : ℕ) → IsWayOfClass job.now class way
+        → changes.new.evaluations ≤ changes.old.evaluations + way }
     ensures grown { changes.old.evaluations ≤ changes.new.evaluations }
     ensures room { IsAsLarge changes.old changes.new }
     ensures clear { IsClear changes.new }
@@ -227,17 +256,19 @@ fn follow_alone(job: &Job, class: u32, block: u32, changes: &mut Changes) -> App
 
 /// Whether a class is likely to be asked for on a block: it was clear on the block before, or it
 /// is the first block and nothing is known of it. Any answer is right; it decides what is worth
-/// finding out beside the class that is asked for.
-fn is_likely(memo: Memo, block: u32) -> bool {
+/// finding out beside the class that is asked for. A class that is known on the block isn't likely.
+fn is_likely(memo: Memo, block: u32) -> bool
+    ensures idle { IsTrue result → is_on block memo ≡ false }
+{
     match memo {
         Memo::Nothing => block == 0,
         Memo::Clear { block: last } => last < block && last + 1 == block,
-        Memo::Hit { .. } => false,
+        Memo::Pending { .. } | Memo::Hit { .. } => false,
     }
 }
 
 /// Goes round the region of a class, and follows with it the others that are likely to be asked for
-/// on the block and come to the same stem. What is known of others at once is kept.
+/// on the block. What is known of others at once is kept.
 fn gather(
     job: &Job,
     block: u32,
@@ -251,9 +282,12 @@ fn gather(
     requires first { first < length job.now.classes.representative }
     requires room { HasRoomFor job.now.circuit changes.old }
     requires clear { IsClear changes.old }
-    requires memos { AreTrueMemos job.now memos.old }
+    requires memos { AreTrueBut job.now followed.old.items memos.old }
     requires followed { AreFollowed job.now block stem followed.old.items }
-    ensures memos { AreTrueMemos job.now memos.new }
+    ensures memos { AreTrueBut job.now followed.new.items memos.new }
+    ensures counted { (way : ℕ → ℕ) → AreWays job.now way
+        → changes.new.evaluations + known_ways way block memos.old
+        ≤ changes.old.evaluations + known_ways way block memos.new }
     ensures followed { AreFollowed job.now block stem followed.new.items }
     ensures kept { (one : Followed) → Contains followed.old.items one
         → Contains followed.new.items one }
@@ -268,14 +302,14 @@ fn gather(
         if class == first || followed.len() >= followed.capacity() {
             break;
         }
-        if !is_likely(memos[class as usize], block) {
+        if !is_likely(memos[class as usize], block) || job.stem_of_class(class) != stem {
             continue;
         }
         follow_too(job, block, stem, class, changes, memos, followed);
     }
 }
 
-/// Follows one more class, and keeps its outcome where that is known at once.
+/// Follows one more class of the region, and keeps its outcome where that is known at once.
 fn follow_too(
     job: &Job,
     block: u32,
@@ -287,12 +321,17 @@ fn follow_too(
 )
     requires block { block < blocks (length job.now.tests.tests) }
     requires class { class < length job.now.classes.representative }
+    requires region { IsStemOfClass job.now.list.model job.now.circuit class stem }
+    requires idle { is_on block (slice_index_or memos.old class Memo.Nothing) ≡ false }
     requires room { HasRoomFor job.now.circuit changes.old }
     requires clear { IsClear changes.old }
-    requires memos { AreTrueMemos job.now memos.old }
+    requires memos { AreTrueBut job.now followed.old.items memos.old }
     requires followed { AreFollowed job.now block stem followed.old.items }
     requires capacity { vec_len followed.old < vec_capacity followed.old }
-    ensures memos { AreTrueMemos job.now memos.new }
+    ensures memos { AreTrueBut job.now followed.new.items memos.new }
+    ensures counted { (way : ℕ → ℕ) → AreWays job.now way
+        → changes.new.evaluations + known_ways way block memos.old
+        ≤ changes.old.evaluations + known_ways way block memos.new }
     ensures followed { AreFollowed job.now block stem followed.new.items }
     ensures kept { (one : Followed) → Contains followed.old.items one
         → Contains followed.new.items one }
@@ -304,9 +343,7 @@ fn follow_too(
     match follow_alone(job, class, block, changes) {
         Approach::Known(outcome) => memos[class as usize] = Memo::of(block, outcome),
         Approach::Stem(at) => {
-            if at.signal != stem {
-                return;
-            }
+            memos[class as usize] = Memo::Pending { block };
             followed.push_reserved(Followed {
                 class,
                 lanes: at.lanes,
@@ -321,8 +358,12 @@ fn flip_stem(job: &Job, block: u32, stem: u32, followed: &[Followed], changes: &
     requires room { HasRoomFor job.now.circuit changes.old }
     requires clear { IsClear changes.old }
     requires stem { stem < length (names job.now.circuit) }
+    requires followed { AreFollowed job.now block stem followed.now }
     ensures told { (one : Followed) → Contains followed.now one
         → TellsFirstFlips job.now.circuit job.now.tests.tests block one.lanes stem result }
+    ensures counted { (gates : List ℕ)
+        → HasStirredByFlip job.now.circuit job.now.tests.tests block stem gates
+        → changes.new.evaluations ≤ changes.old.evaluations + length gates }
     ensures grown { changes.old.evaluations ≤ changes.new.evaluations }
     ensures room { IsAsLarge changes.old changes.new }
     ensures clear { IsClear changes.new }
@@ -338,11 +379,13 @@ fn flip_stem(job: &Job, block: u32, stem: u32, followed: &[Followed], changes: &
 /// Keeps the outcomes of all classes that were followed.
 fn conclude(job: &Job, block: u32, stem: u32, seen: u64, followed: &[Followed], memos: &mut [Memo])
     requires block { block < blocks (length job.now.tests.tests) }
-    requires memos { AreTrueMemos job.now memos.old }
+    requires memos { AreTrueBut job.now followed.now memos.old }
     requires followed { AreFollowed job.now block stem followed.now }
     requires told { (one : Followed) → Contains followed.now one
         → TellsFirstFlips job.now.circuit job.now.tests.tests block one.lanes stem seen }
     ensures memos { AreTrueMemos job.now memos.new }
+    ensures known { (way : ℕ → ℕ) → known_ways way block memos.old
+        ≤ known_ways way block memos.new }
 {
     for one in followed {
         let outcome = least_lane(one.lanes & seen);

@@ -8,6 +8,7 @@ use Rattle.block_sim.proofs.Lanes.{lane_zero}
 use Rattle.block_sim.proofs.Moments.{large_enough, large_none, large_on}
 use Rattle.block_sim.proofs.OnePin.{pin_law}
 use Rattle.block_sim.proofs.Stems.{lone_within}
+use Rattle.block_sim.proofs.Ways.{one_less}
 use Rattle.block_sim.proofs.region.arrive.Goals as goal
 
 pub returns-then-not-is_live-clause-come : goal.returns-then-not-is_live-clause-come
@@ -26,6 +27,7 @@ loop-step-init c = record {
   within = c.requires.signal;
   leads = here;
   deep = λ k h. omega arith;
+  left = λ r chain. (chain.0, omega arith);
   come = λ tests block f words come. come;
 }
 
@@ -49,6 +51,11 @@ loop-step-preserved c =
       within = lone_within circuit well c.loop-step.at.signal c.in-Some.gate alone;
       leads = leads_further circuit c.in-Some.gate last.leads alone;
       deep = deeper circuit c.loop-step.at.signal c.in-Some.gate c.loop-step._step well last.within alone last.deep;
+      left = λ r chain.
+          let before = last.left r chain in
+          let now = one_less circuit c.in-Some.gate chain.1 alone before.0 in
+          let one = next.counted in
+          (now.0, omega (arith, before.1, now.1, one));
       come = λ tests block f words come. next.come tests block f words (last.come tests block f words come);
     }
 
@@ -64,3 +71,12 @@ returns-after-loop-step-clause-stem c = λ some.
       stem_at_depth circuit c.depth-step-end.result c.loop-step.at.signal c.loop-step._step c.requires.view.circuit.well_formed
           (subst (λ x. HasDepth x c.depth-step-end.result) c.circuit.ensures c.depth-step-end.ensures) last.within c.loop-step-test.false last.deep,
     )
+
+pub returns-after-loop-step-clause-counted : goal.returns-after-loop-step-clause-counted
+returns-after-loop-step-clause-counted c = λ way w. let left = c.loop-step.invariant.left w.0 w.1 in omega (arith, left.1, w.2)
+
+pub returns-then-at-eq0-clause-counted : goal.returns-then-at-eq0-clause-counted
+returns-then-at-eq0-clause-counted c = λ way w. let left = c.loop-step.invariant.left w.0 w.1 in omega (arith, left.1, w.2)
+
+pub returns-in-None-clause-counted : goal.returns-in-None-clause-counted
+returns-in-None-clause-counted c = λ way w. let left = c.loop-step.invariant.left w.0 w.1 in omega (arith, left.1, w.2)

@@ -1,11 +1,12 @@
-use Rattle.std.proofs.Common.{ℕ, ◌<◌, ◌≤◌, List, length}
+use Rattle.std.proofs.Common.{ℕ, ◌+◌, ◌<◌, ◌≤◌, List, length}
 use Rattle.std.specs.Prelude.{None}
 use Rattle.bench_net.specs.Scan.{names}
 use Rattle.bench_net.specs.Level.{HasLevel}
 use Rattle.fault_model.specs.Fault.{Fault}
 use Rattle.fault_model.specs.Solution.{Test}
 use Rattle.block_sim.specs.Changes.{IsAsLarge, IsClear}
-use Rattle.block_sim.specs.Regions.{HasCome, LeadsTo}
+use Rattle.block_sim.specs.Regions.{HasCome, IsStemOf, LeadsTo}
+use Rattle.block_sim.specs.Ways.{steps}
 use Rattle.block_sim.specs.Words.{AreWords}
 use Rattle.block_sim.proofs.region.arrive.Given as goal
 
@@ -17,6 +18,8 @@ invariant-loop-step l = record {
   within : l.at.signal < length (names l.view.circuit.now);
   leads : LeadsTo l.view.circuit.now l.fn.from.signal l.at.signal;
   deep : (k : ℕ) → HasLevel l.view.circuit.now l.at.signal k → l._step ≤ k;
+  left : (r : ℕ) (chain : IsStemOf l.view.circuit.now r l.fn.from.signal) → (more : LeadsTo l.view.circuit.now l.at.signal r)
+      × (l.changes.evaluations + steps more ≤ l.fn.changes.evaluations + steps chain.0);
   come : (tests : List Test) (block : ℕ) (f : Fault) → AreWords l.view.circuit.now tests block None l.view.good.now
       → HasCome l.view.circuit.now tests block f l.view.lanes l.fn.from.signal l.fn.from.lanes → HasCome l.view.circuit.now tests block f l.view.lanes l.at.signal l.at.lanes;
 }

@@ -1,7 +1,7 @@
 use Rattle.std.proofs.Common.{◌<◌, length, arith}
 use Rattle.block_sim.specs.Regions.{flips}
 use Rattle.block_sim.specs.Spreading.{HaveHits}
-use Rattle.block_sim.proofs.FlipLanes.{flip_first, flip_told}
+use Rattle.block_sim.proofs.FlipLanes.{flip_first, flip_told, flips_stir}
 use Rattle.block_sim.proofs.region.flip.Goals as goal
 
 pub spread-requires-clause-first : goal.spread-requires-clause-first
@@ -31,5 +31,20 @@ returns-clause-told c = λ tests block words one there.
     let within : s < length delta = omega (arith, c.requires.signal, c.requires.room.overlay) in
     let first = flip_first circuit well tests block good words s c.requires.signal delta lanes within in
     flip_told circuit well tests block good words s c.requires.signal lanes seen (HaveHits followed seen)
-    (c.spread.ensures.shown tests block (flips good s) first) one (λ k own. c.all_lanes-lanes.ensures one k there own)
+    (c.spread.ensures.shown tests block (flips good s) first) one (λ k own. c.all_lanes-lanes.ensures.all one k there own)
     (λ k settled own. settled one there own)
+
+pub returns-clause-counted : goal.returns-clause-counted
+returns-clause-counted c = λ tests block gates words inside stirred.
+    let s = c.args.signal in
+    let good = c.args.view.good.now in
+    let circuit = c.args.view.circuit.now in
+    let well = c.requires.view.circuit.well_formed in
+    let delta = c.args.changes.now.overlay in
+    let lanes = c.all_lanes-lanes.result in
+    let within : s < length delta = omega (arith, c.requires.signal, c.requires.room.overlay) in
+    let first = flip_first circuit well tests block good words s c.requires.signal delta lanes within in
+    let le = c.spread.ensures.counted tests block (flips good s) gates first
+    (λ k lt own. (let one = c.all_lanes-lanes.ensures.only k own in inside one.0 one.1 k lt one.2))
+    (flips_stir circuit well tests block good words s c.requires.signal gates stirred) in
+    omega (arith, le)

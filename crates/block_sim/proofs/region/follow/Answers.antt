@@ -1,4 +1,4 @@
-use Rattle.std.proofs.Common.{◌≡◌, ◌<◌, sym, ◌∙◌, ap, length, map, arith, inl, inr}
+use Rattle.std.proofs.Common.{◌≡◌, ◌<◌, sym, ◌∙◌, ap, subst, length, map, arith, inl, inr}
 use Rattle.std.specs.Prelude.{Some, None, slice_index_or, bit_and, bit_xor}
 use Rattle.bench_net.specs.Scan.{names, signal, name_of, definition, gate_of, gate_line}
 use Rattle.bench_net.proofs.Public.{name_of-signal}
@@ -13,6 +13,7 @@ use Rattle.block_sim.proofs.Moments.{large_enough}
 use Rattle.block_sim.proofs.Started.{shown_none, turned_is}
 use Rattle.block_sim.proofs.Steps.{lane_of_zero}
 use Rattle.block_sim.specs.Regions.{start_of}
+use Rattle.block_sim.specs.Ways.{IsWayOfLine}
 use Rattle.block_sim.proofs.FaultLanes.{none_told, observer_told, pin_come, stem_come}
 use Rattle.block_sim.proofs.region.follow.Goals as goal
 
@@ -158,3 +159,13 @@ returns-in-Data-clause-reached c = λ tests block words k lt.
       | inl x ↦ told (ap start_of x.1)
       | inr x ↦ told (ap start_of x.1)
     ]
+
+pub returns-in-Stem-clause-counted : goal.returns-in-Stem-clause-counted
+returns-in-Stem-clause-counted c = λ way w.
+    c.arrive.ensures.counted way (subst (λ l. IsWayOfLine c.args.view.circuit.now l way) c.in-Stem.is w)
+
+pub returns-in-Pin-clause-counted : goal.returns-in-Pin-clause-counted
+returns-in-Pin-clause-counted c = λ way w.
+    let more = subst (λ l. IsWayOfLine c.args.view.circuit.now l way) c.in-Pin.is w in
+    let le = c.arrive-in-Pin.ensures.counted more.0 more.1 in
+    omega (arith, le, more.2, c.gate_change-lanes.ensures.counted)

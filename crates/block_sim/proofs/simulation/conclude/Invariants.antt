@@ -1,5 +1,16 @@
-use Rattle.block_sim.specs.Simulation.{AreTrueMemos}
+use Rattle.std.proofs.Common.{◌≡◌, ◌≤◌, ◌<◌, ◌⊎◌, ℕ, length}
+use Rattle.std.specs.Prelude.{slice_index_or}
+use Rattle.block_sim.specs.Simulation.{IsTrueMemo}
+use Rattle.block_sim.specs.Ways.{known_ways}
+use Rattle.block_sim.specs.declared.simulation.Memo.TheVariants.{Nothing}
 use Rattle.block_sim.proofs.simulation.conclude.Given as goal
 
+-- memos are true but for those of classes that are still to come
 abbrev pub invariant-loop-one : goal.invariant-loop-one
-invariant-loop-one l = AreTrueMemos l.job l.memos
+invariant-loop-one l = record {
+  count : length l.memos ≡ length l.job.classes.representative;
+  each : (class : ℕ) → IsTrueMemo l.job class (slice_index_or l.memos class Nothing)
+      ⊎ ((i : ℕ) × (l.one-index ≤ i) × (i < length l.followed)
+      × ((slice_index_or l.followed i (record { class = 0; lanes = 0 })).class ≡ class));
+  known : (way : ℕ → ℕ) → known_ways way l.block l.fn.memos ≤ known_ways way l.block l.memos;
+}

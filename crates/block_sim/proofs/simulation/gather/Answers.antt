@@ -13,6 +13,7 @@ loop-step-preserved c =
     record {
       within = c.next_in_region-class.ensures;
       memos = now.memos;
+      counted = λ way ways. let a = before.counted way ways in let b = now.counted way ways in omega (arith, a, b);
       followed = now.followed;
       kept = λ one there. now.kept one (before.kept one there);
       capacity = now.capacity ∙ before.capacity;

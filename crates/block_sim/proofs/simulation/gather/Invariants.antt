@@ -1,14 +1,17 @@
-use Rattle.std.proofs.Common.{◌≡◌, ◌<◌, ◌≤◌, Contains, length}
+use Rattle.std.proofs.Common.{◌≡◌, ◌+◌, ◌<◌, ◌≤◌, ℕ, Contains, length}
 use Rattle.std.specs.Prelude.{vec_capacity}
 use Rattle.block_sim.specs.declared.spread.Followed.{Followed}
 use Rattle.block_sim.specs.Changes.{IsAsLarge, IsClear}
-use Rattle.block_sim.specs.Simulation.{AreFollowed, AreTrueMemos}
+use Rattle.block_sim.specs.Simulation.{AreFollowed, AreTrueBut}
+use Rattle.block_sim.specs.Ways.{AreWays, known_ways}
 use Rattle.block_sim.proofs.simulation.gather.Given as goal
 
 abbrev pub invariant-loop-step : goal.invariant-loop-step
 invariant-loop-step l = record {
   within : l.class < length l.job.classes.representative;
-  memos : AreTrueMemos l.job l.memos;
+  memos : AreTrueBut l.job l.followed.items l.memos;
+  counted : (way : ℕ → ℕ) → AreWays l.job way
+      → l.changes.evaluations + known_ways way l.block l.fn.memos ≤ l.fn.changes.evaluations + known_ways way l.block l.memos;
   followed : AreFollowed l.job l.block l.stem l.followed.items;
   kept : (one : Followed) → Contains l.fn.followed.items one → Contains l.followed.items one;
   capacity : vec_capacity l.followed ≡ vec_capacity l.fn.followed;

@@ -1,11 +1,21 @@
-use Rattle.std.proofs.Common.{◌<◌, ◌≤◌, length, subst, sym, arith}
+use Rattle.std.proofs.Common.{◌≡◌, ◌<◌, ◌≤◌, ◌++◌, ℕ, List, length, refl, subst, sym, ◌∙◌, ap, false, arith, take, drop}
+use Rattle.std.specs.Prelude.{slice_index_or}
+use Rattle.std.proofs.Math.Seq.{take-append_seam}
 use Rattle.std.proofs.lemmas.List.{get_or_read}
 use Rattle.bench_net.specs.Scan.{names}
 use Rattle.block_sim.specs.Simulation.{IsTrueMemo, Serves}
+use Rattle.block_sim.specs.declared.simulation.Memo.{Memo}
 use Rattle.block_sim.specs.declared.simulation.Memo.TheVariants.{Nothing}
+use Rattle.block_sim.specs.Ways.{HasStirredByFlip, is_on, known_ways}
 use Rattle.block_sim.proofs.Moments.{large_enough}
 use Rattle.block_sim.proofs.Simulated.{arrived_outcome, memo_kept, room_at_rest}
+use Rattle.block_sim.proofs.Stems.{one_class_stem}
+use Rattle.block_sim.proofs.Ways.{known_more}
 use Rattle.block_sim.proofs.simulation.Simulation.outcome.Goals as goal
+
+-- a list that was written over whole
+written : (n : ℕ) (xs ys : List Memo) → length xs ≡ n → take n (xs ++ ys) ≡ xs
+written n xs ys e = ap (λ m. take m (xs ++ ys)) (sym e) ∙ take-append_seam xs ys
 
 pub returns-in-Some-clause-outcome : goal.returns-in-Some-clause-outcome
 returns-in-Some-clause-outcome c =
@@ -13,7 +23,7 @@ returns-in-Some-clause-outcome c =
     let memos = c.self.inside.memos.items in
     let low : c.args.class < length memos = (let count = served.outcomes.count in omega (arith, c.requires.class, count)) in
     let is = get_or_read memos _ _ low c.index.ensures Nothing in
-    c.in-Some.ensures c.args.job.now c.args.class (subst (IsTrueMemo c.args.job.now c.args.class) (sym is) (served.outcomes.each c.args.class))
+    c.in-Some.ensures.truth c.args.job.now c.args.class (subst (IsTrueMemo c.args.job.now c.args.class) (sym is) (served.outcomes.each c.args.class))
 
 pub follow_alone-requires-clause-room : goal.follow_alone-requires-clause-room
 follow_alone-requires-clause-room c =
@@ -39,6 +49,55 @@ returns-in-Known-clause-serves c =
     (let count = served.outcomes.count in omega (arith, c.requires.class, count)) in
     record {
       room = subst (λ n. length (names job.circuit) ≤ n) (sym c.follow_alone.ensures.room.overlay) served.room;
-      outcomes = memo_kept job c.self.inside.memos.items c.args.class c.of.result served.outcomes low (c.of.ensures job c.args.class c.in-Known.ensures.approach);
+      outcomes = memo_kept job c.self.inside.memos.items c.args.class c.of.result served.outcomes low (c.of.ensures.truth job c.args.class c.in-Known.ensures.approach);
       followed = served.followed;
     }
+
+pub find_out_region-seen-requires-clause-idle : goal.find_out_region-seen-requires-clause-idle
+find_out_region-seen-requires-clause-idle c =
+    let job = c.args.job.now in
+    let served = subst (λ v. Serves v job) (sym c.self.view_is) c.requires.serves in
+    let memos = c.self.inside.memos.items in
+    let low : c.args.class < length memos = (let count = served.outcomes.count in omega (arith, c.requires.class, count)) in
+    let is = get_or_read memos _ _ low c.index.ensures Nothing in
+    ap (λ l. is_on c.args.block (slice_index_or l c.args.class Nothing)) c.deref_mut.ensures.value
+    ∙ (ap (is_on c.args.block) (sym is)
+    ∙ c.on.ensures.none job c.args.class (subst (IsTrueMemo job c.args.class) (sym is) (served.outcomes.each c.args.class)) c.in_default.is)
+
+pub returns-in-Known-clause-counted : goal.returns-in-Known-clause-counted
+returns-in-Known-clause-counted c = λ way stem gates ways at stirred.
+    let job = c.args.job.now in
+    let block = c.args.block in
+    let class = c.args.class in
+    let served = subst (λ v. Serves v job) (sym c.self.view_is) c.requires.serves in
+    let memos = c.self.inside.memos.items in
+    let low : class < length memos = (let count = served.outcomes.count in omega (arith, c.requires.class, count)) in
+    let is = get_or_read memos _ _ low c.index.ensures Nothing in
+    let idle : is_on block (slice_index_or memos class Nothing) ≡ false = ap (is_on block) (sym is)
+    ∙ c.on.ensures.none job class (subst (IsTrueMemo job class) (sym is) (served.outcomes.each class)) c.in_default.is in
+    let own = c.follow_alone.ensures.counted (way class) (ways class c.requires.class) in
+    let more = known_more way block memos class c.of.result low c.of.ensures.known idle in
+    let before : known_ways way block memos ≡ known_ways way block c.args.self.now.memos = ap (λ v. known_ways way block v.memos) c.self.view_is in
+    let from : c.self.inside.changes.evaluations ≡ c.args.self.now.evaluations = ap (λ v. v.evaluations) c.self.view_is in
+    omega (arith, own, more, before, from)
+
+pub returns-in-Stem-clause-counted : goal.returns-in-Stem-clause-counted
+returns-in-Stem-clause-counted c = λ way stem gates ways at stirred.
+    let job = c.args.job.now in
+    let block = c.args.block in
+    let class = c.args.class in
+    let served = subst (λ v. Serves v job) (sym c.self.view_is) c.requires.serves in
+    let memos = c.self.inside.memos.items in
+    let found = c.find_out_region-seen.new.memos in
+    let same : c.in-Stem.at.signal ≡ stem =
+    one_class_stem job.list.model job.circuit class c.in-Stem.at.signal stem (c.in-Stem.ensures.stem c.in-Stem.at refl) at in
+    let own = c.follow_alone.ensures.counted (way class) (ways class c.requires.class) in
+    let all = c.find_out_region-seen.ensures.counted way gates ways
+    (subst (λ s. HasStirredByFlip job.circuit job.tests.tests block s gates) (sym same) stirred) in
+    let long : length found ≡ c.self.inside.memos.len =
+    (let a = c.find_out_region-seen.ensures.memos.count in let b = served.outcomes.count in omega (arith, a, b)) in
+    let after = ap (known_ways way block) (written c.self.inside.memos.len found (drop (length found) memos) long) in
+    let before : known_ways way block memos ≡ known_ways way block c.args.self.now.memos = ap (λ v. known_ways way block v.memos) c.self.view_is in
+    let from : c.self.inside.changes.evaluations ≡ c.args.self.now.evaluations = ap (λ v. v.evaluations) c.self.view_is in
+    let lent : known_ways way block c.deref_mut.result.now ≡ known_ways way block memos = ap (known_ways way block) c.deref_mut.ensures.value in
+    omega (arith, own, all, after, before, lent, from)

@@ -1,0 +1,73 @@
+-- The way to the stem of a region gets shorter gate by gate, and each class that gets known adds its
+-- own to the ways of those that are.
+use Rattle.std.proofs.Common.{◌≡◌, ◌+◌, ◌<◌, ◌≤◌, ℕ, zero, suc, refl, sym, ◌∙◌, ap, subst, true, false, Bool, List, [], ◌∷◌, length, set, arith}
+use Rattle.std.specs.Prelude.{Some, None, if◌then◌else◌, slice_index_or}
+use Rattle.std.specs.List.{enumerate_from, sum_by}
+use Rattle.std.proofs.lemmas.List.FromFn.{length-enumerate_from, get_or-enumerate_from}
+use Rattle.std.proofs.lemmas.List.Sums.{sum_by-set}
+use Rattle.bench_net.specs.Statement.{Statement}
+use Rattle.block_sim.specs.declared.simulation.Memo.{Memo}
+use Rattle.block_sim.specs.declared.simulation.Memo.TheVariants.{Nothing}
+use Rattle.block_sim.specs.Regions.{IsStem, LeadsTo, here, lone_reader, onward}
+use Rattle.block_sim.specs.Ways.{is_on, known_ways, steps}
+
+-- one gate further there is one gate less to go
+pub one_less : (c : List Statement) {s r : ℕ} (g : ℕ) → IsStem c r → lone_reader c s ≡ Some g → (more : LeadsTo c s r)
+    → (rest : LeadsTo c g r) × (steps rest + 1 ≡ steps more)
+one_less c g stem alone here = let bad : None ≡ Some g = sym stem ∙ alone in cc
+one_less c {r = r} g stem alone (onward {g = k} h more) =
+    let gates : Some k ≡ Some g = sym h ∙ alone in
+    let same : k ≡ g = cc in
+    go k same more
+  where
+    go : (k : ℕ) → k ≡ g → (more : LeadsTo c k r) → (rest : LeadsTo c g r) × (steps rest + 1 ≡ steps more + 1)
+    go k same = subst (λ z. (more : LeadsTo c z r) → (rest : LeadsTo c g r) × (steps rest + 1 ≡ steps more + 1)) (sym same) (λ more. (more, refl))
+
+-- ---- one memo more
+enumerate_set : (n : ℕ) (memos : List Memo) (i : ℕ) (memo : Memo) → enumerate_from n (set memos i memo) ≡ set (enumerate_from n memos) i (n + i, memo)
+enumerate_set n [] zero memo = refl
+enumerate_set n [] (suc i) memo = refl
+enumerate_set n (m ∷ memos) zero memo = let e : n ≡ n + 0 = omega arith in ap (λ x. (x, memo) ∷ enumerate_from (n + 1) memos) e
+enumerate_set n (m ∷ memos) (suc i) memo =
+    let e : n + 1 + i ≡ n + suc i = omega arith in
+    ap (λ l. (n, m) ∷ l) (enumerate_set (n + 1) memos i memo ∙ ap (λ x. set (enumerate_from (n + 1) memos) i (x, memo)) e)
+
+module _ (way : ℕ → ℕ) (block : ℕ) (memos : List Memo) (class : ℕ) (memo : Memo) (within : class < length memos) where
+  abbrev one : ℕ × Memo → ℕ
+  one at = if is_on block at.1 then way at.0 else 0
+
+  abbrev before : Memo
+  before = slice_index_or memos class Nothing
+
+  moved : known_ways way block (set memos class memo) + one (class, before) ≡ known_ways way block memos + one (class, memo)
+  moved =
+      let zero : 0 + class ≡ class = omega arith in
+      let long = length-enumerate_from 0 memos in
+      let list = set (enumerate_from 0 memos) class (class, memo) in
+      let sums : sum_by one list + one (slice_index_or (enumerate_from 0 memos) class (0, Nothing)) ≡ known_ways way block memos + one (class, memo) =
+      sum_by-set one (enumerate_from 0 memos) class (class, memo) (0, Nothing) (omega (arith, within, long)) in
+      let at : one (slice_index_or (enumerate_from 0 memos) class (0, Nothing)) ≡ one (class, before) =
+      ap one (get_or-enumerate_from 0 memos class (0, Nothing) within) ∙ ap (λ x. one (x, before)) zero in
+      let all : known_ways way block (set memos class memo) ≡ sum_by one list =
+      ap (sum_by one) (enumerate_set 0 memos class memo) ∙ ap (λ x. sum_by one (set (enumerate_from 0 memos) class (x, memo))) zero in
+      omega (arith, sums, at, all)
+
+  module _ (is : is_on block memo ≡ true) where
+    now : one (class, memo) ≡ way class
+    now = ap (λ b. if b then way class else 0) is
+
+    -- a class that was not known on the block is
+    pub known_more : is_on block before ≡ false → known_ways way block (set memos class memo) ≡ known_ways way block memos + way class
+    known_more idle =
+        let none : one (class, before) ≡ 0 = ap (λ b. if b then way class else 0) idle in
+        let all = moved in let own = now in omega (arith, all, none, own)
+
+    -- or may have been
+    pub known_still : known_ways way block memos ≤ known_ways way block (set memos class memo)
+    known_still = go (is_on block before) refl
+      where
+        go : (b : Bool) → is_on block before ≡ b → known_ways way block memos ≤ known_ways way block (set memos class memo)
+        go true e =
+            let same : one (class, before) ≡ way class = ap (λ b. if b then way class else 0) e in
+            let all = moved in let own = now in omega (arith, all, same, own)
+        go false e = let more = known_more e in omega (arith, more)

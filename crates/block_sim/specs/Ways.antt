@@ -1,0 +1,70 @@
+-- How many gates a call of a simulation evaluates at most: those on the way of each class that is
+-- followed to the stem of its region, and those that the stem stirs where it is turned round.
+use Rattle.std.specs.Prelude.{◌≡◌, ◌==◌, ℕ, ◌+◌, ◌*◌, ◌<◌, Bool, false, List, Contains}
+use Rattle.std.specs.Prelude.{Some, length, slice_get, if◌then◌else◌}
+use Rattle.std.specs.List.{enumerate_from, sum_by}
+use Rattle.bench_net.specs.Statement.{Statement}
+use Rattle.fault_model.specs.declared.Line.{Line}
+use Rattle.fault_model.specs.declared.Line.TheVariants as line
+use Rattle.fault_model.specs.Fault.{Fault}
+use Rattle.fault_model.specs.Solution.{Test}
+use Rattle.fault_model.specs.Collapse.{representatives}
+use Rattle.fault_model.specs.Detection.{HasBit}
+use Rattle.patterns.specs.Tests.{size_of}
+use Rattle.block_sim.specs.declared.simulation.Memo.{Memo}
+use Rattle.block_sim.specs.declared.simulation.Memo.TheVariants.{Nothing, Pending, Clear, Hit}
+use Rattle.block_sim.specs.Parts.{Parts}
+use Rattle.block_sim.specs.Regions.{Chain, IsStemOf, flip, here, onward}
+use Rattle.block_sim.specs.Stirred.{IsStirredBy}
+
+-- the number of steps of a chain
+abbrev pub steps : {step : ℕ → ℕ → Type 0} {s r : ℕ} → Chain step s r → ℕ
+steps here = 0
+steps (onward h more) = steps more + 1
+
+-- it takes so many gates to go from a signal to the stem of its region
+abbrev pub IsWay : List Statement → ℕ → ℕ → Type 0
+IsWay c s n = (r : ℕ) × (chain : IsStemOf c r s) × (steps chain.0 ≡ n)
+
+-- The same from a fault on a line. The gate of a pin is evaluated too. A fault on an observer's
+-- line takes no gate.
+abbrev pub IsWayOfLine : List Statement → Line → ℕ → Type 0
+IsWayOfLine c (line.Stem s) n = IsWay c s n
+IsWayOfLine c (line.Pin gate pin) n = (m : ℕ) × IsWay c gate m × (n ≡ m + 1)
+IsWayOfLine c (line.Data cell) n = n ≡ 0
+IsWayOfLine c (line.Out output) n = n ≡ 0
+
+-- the same of a class: that of its representative's line
+abbrev pub IsWayOfClass : Parts → ℕ → ℕ → Type 0
+IsWayOfClass job class n =
+    (f : Fault) × (slice_get (representatives job.list.model job.circuit) class ≡ Some f)
+    × IsWayOfLine job.circuit f.line n
+
+-- so many gates it takes for each class of a job
+abbrev pub AreWays : Parts → (ℕ → ℕ) → Type 0
+AreWays job way = (class : ℕ) → class < length job.classes.representative
+    → IsWayOfClass job class (way class)
+
+-- what is known of a class is known on this block
+abbrev pub is_on : ℕ → Memo → Bool
+is_on block Nothing = false
+is_on block (Pending at) = at == block
+is_on block (Clear at) = at == block
+is_on block (Hit at test) = at == block
+
+-- how many gates it takes for all classes together of which something is known on a block
+abbrev pub known_ways : (ℕ → ℕ) → ℕ → List Memo → ℕ
+known_ways way block memos =
+    sum_by (λ at. if is_on block at.1 then way at.0 else 0) (enumerate_from 0 memos)
+
+-- some test of the block stirs the gate, where the signal is turned round
+abbrev pub IsStirredByFlip : List Statement → List Test → ℕ → ℕ → ℕ → Type 0
+IsStirredByFlip c tests block s gate =
+    (k : ℕ) × (t : Test) × (bit : Bool) × (k < size_of (length tests) block)
+    × (slice_get tests (64 * block + k) ≡ Some t) × HasBit c t (line.Stem s) bit
+    × IsStirredBy c t (flip s bit) gate
+
+-- the list names each gate that a signal stirs on the block where it is turned round
+abbrev pub HasStirredByFlip : List Statement → List Test → ℕ → ℕ → List ℕ → Type 0
+HasStirredByFlip c tests block s gates = (gate : ℕ) → IsStirredByFlip c tests block s gate
+    → Contains gates gate
