@@ -10,8 +10,8 @@ use clap::error::ErrorKind;
 use clap::{ArgMatches, Error};
 use fault_model::Model;
 use report::{
-    Formatted, Out, faults_text_in, part_text_in, schedule_text_in, simulate_text_in,
-    simulate_text_in_parts,
+    Contents, Formatted, Lines, Out, faults_text_in, part_text_in, schedule_text_in,
+    simulate_text_in, simulate_text_in_parts,
 };
 use std::alloc::{AllocError, Global};
 use std::fmt::Write;
@@ -141,7 +141,17 @@ fn read_option<'a, S: Source>(
 struct Settings {
     model: Model,
     workers: u32,
-    list: bool,
+    contents: Contents,
+}
+
+/// Which faults the command line asks for.
+fn read_lines<'a>(matches: &ArgMatches<'a>) -> Result<Lines, Fault<'a>> {
+    match (matches.get_flag("list"), matches.get_flag("undetected")) {
+        (false, false) => Ok(Lines::Omitted),
+        (true, false) => Ok(Lines::All),
+        (false, true) => Ok(Lines::Undetected),
+        (true, true) => Err(Fault::Misused("--undetected")),
+    }
 }
 
 /// The settings that the command line names.
@@ -150,11 +160,14 @@ fn read_settings<'a>(matches: &ArgMatches<'a>) -> Result<Settings, Fault<'a>> {
     let Some(workers) = matches.get_one::<u32>("workers") else {
         return Err(Fault::Misused("--workers"));
     };
-    let list = matches.get_flag("list");
+    let contents = Contents {
+        lines: read_lines(matches)?,
+        classes: matches.get_flag("classes"),
+    };
     Ok(Settings {
         model,
         workers,
-        list,
+        contents,
     })
 }
 
@@ -209,15 +222,17 @@ fn do_run<'a, R: Threads + Wait, S: Source, W: Out>(
     let Settings {
         model,
         workers,
-        list,
+        contents,
     } = read_settings(matches)?;
     let split = read_split(matches)?;
     let bench = read_option(alloc, matches, "bench", files)?;
     let tests = read_option(alloc, matches, "tests", files)?;
     let done = match split {
-        Split::Whole => simulate_text_in(rt, alloc, model, &bench, &tests, workers, list, out),
+        Split::Whole => simulate_text_in(rt, alloc, model, &bench, &tests, workers, contents, out),
         Split::Parts(parts) => {
-            simulate_text_in_parts(rt, alloc, model, &bench, &tests, parts, workers, list, out)
+            simulate_text_in_parts(
+                rt, alloc, model, &bench, &tests, parts, workers, contents, out,
+            )
         }
         Split::Part { part, parts } => {
             part_text_in(rt, alloc, model, &bench, &tests, part, parts, workers, out)
@@ -239,12 +254,12 @@ fn do_schedule<'a, S: Source, W: Out>(
     let Settings {
         model,
         workers,
-        list,
+        contents,
     } = read_settings(matches)?;
     let bench = read_option(alloc, matches, "bench", files)?;
     let tests = read_option(alloc, matches, "tests", files)?;
     let order = read_option(alloc, matches, "order", files)?;
-    match schedule_text_in(alloc, model, &bench, &tests, &order, workers, list, out) {
+    match schedule_text_in(alloc, model, &bench, &tests, &order, workers, contents, out) {
         Ok(()) => Ok(()),
         Err(fault) => Err(Fault::Sim(fault)),
     }

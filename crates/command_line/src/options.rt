@@ -79,10 +79,12 @@ enum Choice {
     Parts,
     Part,
     List,
+    Undetected,
+    Classes,
 }
 
 /// The options of `run`.
-static RUN_CHOICES: [Choice; 7] = [
+static RUN_CHOICES: [Choice; 9] = [
     Choice::Bench,
     Choice::Tests,
     Choice::Model,
@@ -90,16 +92,20 @@ static RUN_CHOICES: [Choice; 7] = [
     Choice::Parts,
     Choice::Part,
     Choice::List,
+    Choice::Undetected,
+    Choice::Classes,
 ];
 
 /// The options of `schedule`.
-static SCHEDULE_CHOICES: [Choice; 6] = [
+static SCHEDULE_CHOICES: [Choice; 8] = [
     Choice::Bench,
     Choice::Tests,
     Choice::Order,
     Choice::Model,
     Choice::Workers,
     Choice::List,
+    Choice::Undetected,
+    Choice::Classes,
 ];
 
 /// The options of `faults`.
@@ -160,6 +166,9 @@ tells for each fault the first test that detects it, counted from 0, and then th
     stem z sa0 3
     stem z sa1 0
     6 of 6 (100.00%)
+
+--undetected tells the lines of the faults alone that no test detects, which end in none. --classes
+tells after the coverage how many of the fault classes are detected: 4 of 4 classes (100.00%).
 
 Each FILE is read whole. /dev/stdin serves as a file, too.";
 
@@ -260,9 +269,26 @@ fn list_flag<'a>(alloc: Global) -> Arg<'a> {
         .help("Tell the first test of each fault, too")
 }
 
+/// The flag `--undetected`.
+fn undetected_flag<'a>(alloc: Global) -> Result<Arg<'a>, AllocError> {
+    Arg::new(alloc, "undetected")
+        .long("undetected")
+        .action(ArgAction::SetTrue)
+        .help("Tell the faults that no test detects, too")
+        .conflicts_with("list")
+}
+
+/// The flag `--classes`.
+fn classes_flag<'a>(alloc: Global) -> Arg<'a> {
+    Arg::new(alloc, "classes")
+        .long("classes")
+        .action(ArgAction::SetTrue)
+        .help("Tell the coverage of the fault classes, too")
+}
+
 /// An option, with the help of `--workers N`.
-fn option<'a>(alloc: Global, choice: Choice, workers: &'a str) -> Arg<'a> {
-    match choice {
+fn option<'a>(alloc: Global, choice: Choice, workers: &'a str) -> Result<Arg<'a>, AllocError> {
+    let option = match choice {
         Choice::Bench => file_option(alloc, "bench", "The circuit, a bench text"),
         Choice::Tests => file_option(
             alloc,
@@ -279,7 +305,10 @@ fn option<'a>(alloc: Global, choice: Choice, workers: &'a str) -> Arg<'a> {
         Choice::Parts => parts_option(alloc),
         Choice::Part => part_option(alloc),
         Choice::List => list_flag(alloc),
-    }
+        Choice::Undetected => undetected_flag(alloc)?,
+        Choice::Classes => classes_flag(alloc),
+    };
+    Ok(option)
 }
 
 /// A command with options, with the help of `--workers N`.
@@ -290,7 +319,7 @@ fn with_options<'a>(
     workers: &'a str,
 ) -> Result<Command<'a>, AllocError> {
     for choice in choices {
-        command = command.arg(option(alloc, *choice, workers))?;
+        command = command.arg(option(alloc, *choice, workers)?)?;
     }
     Ok(command)
 }

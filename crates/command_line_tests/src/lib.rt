@@ -5,6 +5,7 @@
 mod cases;
 #[cfg(test)]
 mod commands;
+mod daily;
 #[cfg(test)]
 mod limits;
 #[cfg(test)]

@@ -3,7 +3,7 @@
 use crate::cases::C17;
 use crate::commands::C17_FILES;
 use crate::screen::{Answer, Screen, run_between, run_on};
-use report::{Plain, ReportFault, SimFault, simulate_text};
+use report::{Contents, Lines, Plain, ReportFault, SimFault, simulate_text};
 use std::alloc::{AllocError, Global};
 use std::io::{self, Write};
 use std::sync::Wait;
@@ -125,7 +125,8 @@ fn simulate_slowly<R: AllocGlobal + Threads + Wait>(
     rt: &R,
     out: &mut Plain<Slow>,
 ) -> Result<(), SimFault> {
-    simulate_text(rt, rt.alloc(), C17.as_bytes(), b"11111\n", 1, false, out)
+    let contents = Contents::of(Lines::Omitted);
+    simulate_text(rt, rt.alloc(), C17.as_bytes(), b"11111\n", 1, contents, out)
 }
 
 /// A slow writer with no bytes, as an output.

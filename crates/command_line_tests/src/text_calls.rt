@@ -9,8 +9,8 @@ use command_line::status_of;
 use fault_model::Model;
 use patterns::{OrderFault, TestFault};
 use report::{
-    Plain, ReportFault, RunFault, SimFault, faults_text, listing_bytes, report_bytes,
-    schedule_text, schedule_text_in, simulate_text,
+    Contents, Lines, Plain, ReportFault, RunFault, SimFault, faults_text, listing_bytes,
+    report_bytes, schedule_text, schedule_text_in, simulate_text,
 };
 use std::sync::Wait;
 use std::test::Fail;
@@ -23,18 +23,32 @@ fn bytes_of<R: AllocGlobal + Threads + Wait>(rt: &R, case: &Case) -> Result<Vec<
     } else {
         Model::StuckAt
     };
-    let list = case.line.contains("--list");
+    let lines = if case.line.contains("--list") {
+        Lines::All
+    } else {
+        Lines::Omitted
+    };
+    let contents = Contents::of(lines);
     let bench = case.bench.as_bytes();
     let tests = case.tests.as_bytes();
     if case.line.contains(" run ") {
-        return report_bytes(rt, rt.alloc(), model, bench, tests, 4, list);
+        return report_bytes(rt, rt.alloc(), model, bench, tests, 4, contents);
     }
     if case.line.contains(" faults ") {
         return listing_bytes(rt.alloc(), model, bench);
     }
     let order = case.order.as_bytes();
     let mut out = Plain::new(Vec::new(rt.alloc()));
-    schedule_text_in(rt.alloc(), model, bench, tests, order, 4, list, &mut out)?;
+    schedule_text_in(
+        rt.alloc(),
+        model,
+        bench,
+        tests,
+        order,
+        4,
+        contents,
+        &mut out,
+    )?;
     Ok(out.into_writer())
 }
 
@@ -122,7 +136,7 @@ fn number_of_workers_is_refused_after_the_order(rt: HostRuntime) -> Result<(), F
             b"11111\n",
             order.as_bytes(),
             workers,
-            false,
+            Contents::of(Lines::Omitted),
             &mut out,
         );
         let written = if wanted.is_ok() {
@@ -162,7 +176,7 @@ fn number_of_workers_is_refused_after_the_texts(rt: HostRuntime) -> Result<(), F
             C17.as_bytes(),
             tests,
             workers,
-            true,
+            Contents::of(Lines::All),
             &mut out,
         );
         assert!(rt; done == Err(fault) && out.text().is_empty(), "{fault}");

@@ -10,7 +10,7 @@ pub static MISSING: [&str; 5] = [
 ];
 
 /// Command lines that the program refuses, and what it says of each.
-pub static MISUSED: [(&str, &str); 28] = [
+pub static MISUSED: [(&str, &str); 30] = [
     ("faultsim", "Usage"),
     ("faultsim simulate", "simulate"),
     ("faultsim run --bench bench", "--tests <FILE>"),
@@ -29,6 +29,11 @@ pub static MISUSED: [(&str, &str); 28] = [
     ),
     ("faultsim faults", "--bench <FILE>"),
     ("faultsim faults --bench bench --list", "--list"),
+    (
+        "faultsim run --bench bench --tests tests --list --undetected",
+        "'--undetected'",
+    ),
+    ("faultsim faults --bench bench --classes", "--classes"),
     ("faultsim faults --bench bench --model delay", "delay"),
     (
         "faultsim run --bench bench --tests tests --model delay",
@@ -107,7 +112,7 @@ pub static MISUSED: [(&str, &str); 28] = [
 /// What help tells: the version, each option with the name of its value, the defaults, the range of
 /// the workers, a worked example and the status. The outputs of the examples are cases of their
 /// own.
-pub static HELP: [(&str, &str); 21] = [
+pub static HELP: [(&str, &str); 23] = [
     ("faultsim --version", "faultsim 0.2.0\n"),
     ("faultsim --help", "6 of 6 (100.00%)"),
     ("faultsim help run", "--bench <FILE>"),
@@ -123,6 +128,8 @@ pub static HELP: [(&str, &str); 21] = [
     ("faultsim run --help", "1 to 65536"),
     ("faultsim run --help", "--part <I/N>"),
     ("faultsim run --help", "--list"),
+    ("faultsim run --help", "--undetected"),
+    ("faultsim run --help", "4 of 4 classes (100.00%)"),
     ("faultsim run --help", "stem b sa0 3\n    stem b sa1 2\n"),
     ("faultsim run -h", "/dev/stdin"),
     ("faultsim schedule --help", "--order <FILE>"),

@@ -8,7 +8,7 @@ use bench_net::read_bench;
 use block_sim::{Job, Workspace, first_hit, simulate};
 use fault_model::{Model, collapse, list_faults};
 use patterns::{BLOCK_SIZE, Outcome, read_tests};
-use report::{SimFault, job_of, listing_bytes, report_bytes};
+use report::{Contents, Lines, SimFault, job_of, listing_bytes, report_bytes};
 use std::alloc::{AllocError, Global};
 use std::process::Abort;
 use std::sync::Wait;
@@ -152,7 +152,8 @@ fn evaluations_are_counted(rt: HostRuntime) -> Result<(), Fail> {
 fn texts_are_written(rt: HostRuntime) -> Result<(), Fail> {
     let bench = b"INPUT(a)\nOUTPUT(z)\nz = BUFF(a)\n";
     let tests = b"0\n1\n0\n";
-    let report = report_bytes(&rt, rt.alloc(), Model::Transition, bench, tests, 4, true)?;
+    let contents = Contents::of(Lines::All);
+    let report = report_bytes(&rt, rt.alloc(), Model::Transition, bench, tests, 4, contents)?;
     let wanted = "stem a str 1\nstem a stf 2\nstem z str 1\nstem z stf 2\n4 of 4 (100.00%)\n";
     assert!(rt; report.as_slice() == wanted.as_bytes());
     Ok(())

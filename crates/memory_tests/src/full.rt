@@ -11,7 +11,9 @@ use crate::texts::Screen;
 use block_sim::{Job, Workspace, first_hit, simulate};
 use fault_ledger::{Claim, Finish, Ledger, Seat, SharedLedger};
 use fault_model::Model;
-use report::{RunFault, listing_bytes, report_bytes, write_listing, write_report};
+use report::{
+    Contents, Lines, RunFault, listing_bytes, report_bytes, write_listing, write_report,
+};
 use std::alloc::{AllocError, Global};
 use std::process::Abort;
 use std::sync::Wait;
@@ -30,8 +32,9 @@ fn writes<R: Abort>(
     let verdicts = run_schedule(alloc, job, 2, &[])?;
     assert_eq!(rt; verdicts.total(), job.faults().count());
     let (mut first, mut second) = (Screen::new(), Screen::new());
+    let all = Contents::of(Lines::All);
     let ballast = Ballast::all(alloc)?;
-    let is_reported = write_report(job, &verdicts, true, &mut first).is_ok();
+    let is_reported = write_report(job, &verdicts, all, &mut first).is_ok();
     let is_listed = write_listing(job.circuit(), job.faults(), job.classes(), &mut second).is_ok();
     drop(ballast);
     assert!(rt; is_reported && first.text() == report);
@@ -52,7 +55,8 @@ fn writes_report<R: Threads + Wait + Abort>(
     job: &Job,
     tests: &[u8],
 ) -> Result<(), Fail> {
-    let report = report_bytes(rt, alloc, Model::StuckAt, C17, tests, 1, true)?;
+    let all = Contents::of(Lines::All);
+    let report = report_bytes(rt, alloc, Model::StuckAt, C17, tests, 1, all)?;
     writes_listing(rt, alloc, job, report.as_slice())
 }
 

@@ -7,7 +7,7 @@ use crate::sweep::once;
 use crate::texts::{TextCall, Written, text_of};
 use block_sim::Job;
 use fault_model::Model;
-use report::{listing_bytes, report_bytes};
+use report::{Contents, Lines, listing_bytes, report_bytes};
 use std::alloc::Global;
 use std::process::Abort;
 use std::sync::Wait;
@@ -68,7 +68,8 @@ fn write_with_listing<R: Threads + Wait + Abort>(
 
 /// Makes the text calls.
 fn write_all<R: Threads + Wait + Abort>(rt: &R, alloc: Global, tests: &[u8]) -> Result<(), Fail> {
-    let report = report_bytes(rt, alloc, Model::StuckAt, C17, tests, 1, true)?;
+    let all = Contents::of(Lines::All);
+    let report = report_bytes(rt, alloc, Model::StuckAt, C17, tests, 1, all)?;
     write_with_listing(rt, alloc, tests, report.as_slice())
 }
 

@@ -6,8 +6,8 @@ use crate::parts::{C17, ORDER, is_want, tests_of_c17};
 use crate::sweep::{Outcome, Trial, answered, refused, sweep};
 use fault_model::Model;
 use report::{
-    Out, OutFailed, RunFault, SimFault, faults_text, listing_bytes, report_bytes, schedule_text,
-    simulate_text, simulate_text_in_parts,
+    Contents, Lines, Out, OutFailed, RunFault, SimFault, faults_text, listing_bytes, report_bytes,
+    schedule_text, simulate_text, simulate_text_in_parts,
 };
 use std::alloc::Global;
 use std::process::Abort;
@@ -84,13 +84,14 @@ pub(crate) struct Written<'a, R> {
 
 impl<R: Threads + Wait> Written<'_, R> {
     fn write(&self, alloc: Global, screen: &mut Screen) -> Result<(), SimFault> {
+        let all = Contents::of(Lines::All);
         match self.call {
-            TextCall::Simulate => simulate_text(self.rt, alloc, C17, self.tests, 2, true, screen),
+            TextCall::Simulate => simulate_text(self.rt, alloc, C17, self.tests, 2, all, screen),
             TextCall::InParts => {
                 let model = Model::StuckAt;
-                simulate_text_in_parts(self.rt, alloc, model, C17, self.tests, 3, 2, true, screen)
+                simulate_text_in_parts(self.rt, alloc, model, C17, self.tests, 3, 2, all, screen)
             }
-            TextCall::Schedule => schedule_text(alloc, C17, self.tests, ORDER, 2, true, screen),
+            TextCall::Schedule => schedule_text(alloc, C17, self.tests, ORDER, 2, all, screen),
             TextCall::Faults => faults_text(alloc, C17, screen),
         }
     }
@@ -161,7 +162,7 @@ fn nothing_is_written_without_memory(rt: HostRuntime) -> Result<(), Fail> {
         C17,
         tests.as_slice(),
         1,
-        true,
+        Contents::of(Lines::All),
     )?;
     let listing = listing_bytes(rt.alloc(), Model::StuckAt, C17)?;
     sweep_texts(

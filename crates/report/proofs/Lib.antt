@@ -1,7 +1,7 @@
 pub mod Zips
 pub mod Cells
 pub mod Texts
-pub mod Lines
+pub mod KnownLines
 pub mod Accepted
 pub mod Runs
 pub mod PartTexts
@@ -13,3 +13,4 @@ pub mod PartReadings
 pub mod PartOnce
 pub mod PartRefusals
 pub mod Merges
+pub mod ClassFirsts

@@ -1,7 +1,8 @@
 -- From the report of a job to that of the texts that the job was read from.
-use Rattle.std.proofs.Common.{◌∙◌, ℕ, ap, subst, List, Bool}
+use Rattle.std.proofs.Common.{◌∙◌, ℕ, ap, subst, List}
 use Rattle.std.specs.Prelude.{Result, Ok, Err, IfErr}
 use Rattle.fault_model.specs.declared.Model.{Model}
+use Rattle.fault_model.specs.Collapse.{AreClassesOf}
 use Rattle.patterns.specs.Order.{HasMoves}
 use Rattle.block_sim.specs.Parts.{Parts}
 use Rattle.workers.specs.Verdict.{AreFirsts}
@@ -9,7 +10,8 @@ use Rattle.output.specs.Output.{Output}
 use Rattle.report.specs.declared.text.SimFault.{SimFault}
 use Rattle.report.specs.declared.text.SimFault.TheVariants as fault
 use Rattle.report.specs.EndToEnd.{WritesOneOf, IsJobOf, IsJobWithin, IsReportOf, IsReportOfJob, IsReportFault, IsRunReportFault, IsScheduleReportFault, IsScheduleTextFault}
-use Rattle.report.specs.Report.{report}
+use Rattle.report.specs.declared.contents.Contents.{Contents}
+use Rattle.report.specs.Report.{whole_report}
 use Rattle.report.proofs.Accepted.{schedule_fault}
 
 -- a text of one kind is one of another
@@ -31,12 +33,13 @@ refused_as A B (Ok u) into w = w
 refused_as A B (Err f) into w = into f w
 
 -- the report of a job of texts is that of the texts
-pub report_of : (m : Model) (bench text : List ℕ) (list : Bool) (job : Parts)
-    → IsJobOf m bench text job → (bytes : List ℕ) → IsReportOfJob job list bytes
-    → IsReportOf m bench text list bytes
-report_of m bench text list job is bytes of_job =
+pub report_of : (m : Model) (bench text : List ℕ) (contents : Contents) (job : Parts)
+    → IsJobOf m bench text job → (bytes : List ℕ) → IsReportOfJob job contents bytes
+    → IsReportOf m bench text contents bytes
+report_of m bench text contents job is bytes of_job =
     let are = subst (λ k. AreFirsts k job.circuit job.tests.tests of_job.0) is.3 of_job.1 in
-    (job.circuit, job.tests, of_job.0, is.0, is.1, are, of_job.2 ∙ ap (λ k. report k job.circuit of_job.0 list) is.3)
+    let classes = subst (λ k. AreClassesOf k job.circuit job.classes) is.3 is.2.classes in
+    (job.circuit, job.tests, job.classes, of_job.0, is.0, is.1, classes, are, of_job.2 ∙ ap (λ k. whole_report k job.circuit job.classes of_job.0 contents) is.3)
 
 pub run_fault : (m : Model) (bench text : List ℕ) (workers : ℕ) (job : Parts)
     → IsJobWithin m bench text job → (f : SimFault) → IsRunReportFault job workers f

@@ -7,8 +7,8 @@ use Rattle.bench_net.specs.Statement.{Statement}
 use Rattle.fault_model.specs.declared.Line.{Line}
 use Rattle.fault_model.specs.declared.Model.{Model}
 use Rattle.fault_model.specs.Fault.{Fault, faults}
-use Rattle.report.specs.Report.{line_text, defect_text, fault_text, coverage_line}
-use Rattle.report.proofs.Lines.{model_known}
+use Rattle.report.specs.Report.{line_text, defect_text, fault_text, coverage_of}
+use Rattle.report.proofs.KnownLines.{model_known}
 
 -- a fault of the list by its line, its bit and the model of the list
 pub fault_by_parts : (m : Model) (c : List Statement) (fs : List Fault) (i : ℕ) (f : Fault) (l : Line) (bit : Bool) (said : List ℕ)
@@ -20,12 +20,12 @@ fault_by_parts m c fs i f l bit said list at line_is bit_is said_is =
     let own_model : f.model ≡ m = model_known m c fs i f list at in
     rw (said_is, own_line, own_bit, ← own_model) refl
 
--- the coverage line from its numbers, given as texts
-pub coverage_text : (found total : ℕ) (a b whole tens ones : List ℕ) → a ≡ decimal found → b ≡ decimal total
+-- a coverage line from its numbers, given as texts
+pub coverage_text : (found total : ℕ) (counted a b whole tens ones : List ℕ) → a ≡ decimal found → b ≡ decimal total
     → whole ≡ decimal (10000 * found / total / 100) → tens ≡ decimal (10000 * found / total % 100 / 10) → ones ≡ decimal (10000 * found / total % 100 % 10)
-    → a ++ (codes " of " ++ (b ++ (codes " (" ++ (whole ++ (codes "." ++ (tens ++ (ones ++ (codes "%)\n" ++ []))))))))
-    ≡ coverage_line found total
-coverage_text found total a b whole tens ones e f g h i =
+    → a ++ (codes " of " ++ (b ++ (counted ++ (codes " (" ++ (whole ++ (codes "." ++ (tens ++ (ones ++ (codes "%)\n" ++ [])))))))))
+    ≡ coverage_of counted found total
+coverage_text found total counted a b whole tens ones e f g h i =
     let small : 10000 * found / total % 100 / 10 < 10 = omega arith in
     let last : 10000 * found / total % 100 % 10 < 10 = omega arith in
     rw (e, f, g, h, i, decimal_digit _ small, decimal_digit _ last) (simp append_assoc)

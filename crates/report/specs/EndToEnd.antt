@@ -1,5 +1,5 @@
 -- From the bytes read to the bytes written.
-use Rattle.std.specs.Prelude.{◌≡◌, ◌⊎◌, ⊤, ℕ, ◌<◌, ◌≤◌, Bool, List, length, Option, Result, Ok, Err}
+use Rattle.std.specs.Prelude.{◌≡◌, ◌⊎◌, ⊤, ℕ, ◌<◌, ◌≤◌, List, length, Option, Result, Ok, Err}
 use Rattle.bench_net.specs.declared.BenchFault.TheVariants as bench_fault
 use Rattle.bench_net.specs.Statement.{Statement}
 use Rattle.bench_net.specs.Scan.{sources}
@@ -19,15 +19,16 @@ use Rattle.workers.specs.Verdict.{AreFirsts}
 use Rattle.report.specs.declared.text.SimFault.{SimFault}
 use Rattle.report.specs.declared.text.SimFault.TheVariants as fault
 use Rattle.output.specs.Output.{Output, TakesAll, TakesFront}
-use Rattle.report.specs.Report.{report, listing}
+use Rattle.report.specs.declared.contents.Contents.{Contents}
+use Rattle.report.specs.Report.{whole_report, listing}
 
 -- the bytes are the report of a bench text and a test text under a model: each fault has the first
 -- test that detects it, or none
-abbrev pub IsReportOf : Model → List ℕ → List ℕ → Bool → List ℕ → Type 0
-IsReportOf m bench text list bytes = (c : List Statement) × (tests : TestList)
-    × (firsts : List (Option ℕ)) × IsAccepted bench c
-    × HasTests text (length (sources c)) tests × AreFirsts m c tests.tests firsts
-    × (bytes ≡ report m c firsts list)
+abbrev pub IsReportOf : Model → List ℕ → List ℕ → Contents → List ℕ → Type 0
+IsReportOf m bench text contents bytes = (c : List Statement) × (tests : TestList)
+    × (classes : Collapsed) × (firsts : List (Option ℕ)) × IsAccepted bench c
+    × HasTests text (length (sources c)) tests × AreClassesOf m c classes
+    × AreFirsts m c tests.tests firsts × (bytes ≡ whole_report m c classes firsts contents)
 
 -- the bytes are the listing of a bench text under a model
 abbrev pub IsListingOf : Model → List ℕ → List ℕ → Type 0
@@ -129,10 +130,10 @@ IsScheduleTextFault m bench text order workers (fault.Report f) =
 IsScheduleTextFault m bench text order workers f = IsInputFault bench text f
 
 -- the bytes are the report of a job
-abbrev pub IsReportOfJob : Parts → Bool → List ℕ → Type 0
-IsReportOfJob job list bytes = (firsts : List (Option ℕ))
+abbrev pub IsReportOfJob : Parts → Contents → List ℕ → Type 0
+IsReportOfJob job contents bytes = (firsts : List (Option ℕ))
     × AreFirsts job.list.model job.circuit job.tests.tests firsts
-    × (bytes ≡ report job.list.model job.circuit firsts list)
+    × (bytes ≡ whole_report job.list.model job.circuit job.classes firsts contents)
 
 -- When each fault of the report of a job that is run in threads comes: those of the run, then an
 -- output that takes nothing more.

@@ -1,5 +1,5 @@
 -- The texts of the report and of the listing.
-use Rattle.std.specs.Prelude.{⊤, ℕ, ◌<◌, ◌+◌, ◌*◌, ◌/◌, ◌%◌, Bool, true, false, List, [], ◌∷◌, ◌++◌, length, map, zip, flat_map, Option, Some, None, if◌then◌else◌, slice_get, unwrap_or, codes, decimal}
+use Rattle.std.specs.Prelude.{⊤, ℕ, ◌<◌, ◌+◌, ◌*◌, ◌/◌, ◌%◌, Bool, true, false, List, [], ◌∷◌, ◌++◌, length, map, zip, flat_map, Option, Some, None, if◌then◌else◌, is_none, slice_get, slice_index_or, unwrap_or, codes, decimal}
 use Rattle.bench_net.specs.Statement.{Statement}
 use Rattle.bench_net.specs.Scan.{names, name_of, cells}
 use Rattle.fault_model.specs.declared.Line.{Line}
@@ -7,7 +7,11 @@ use Rattle.fault_model.specs.declared.Line.TheVariants.{Stem, Pin, Data, Out}
 use Rattle.fault_model.specs.declared.Model.{Model}
 use Rattle.fault_model.specs.declared.Model.TheVariants.{StuckAt, Transition}
 use Rattle.fault_model.specs.Fault.{Fault, faults}
+use Rattle.fault_model.specs.Collapse.{Collapsed}
 use Rattle.workers.specs.Verdict.{detected}
+use Rattle.report.specs.declared.contents.Contents.{Contents}
+use Rattle.report.specs.declared.contents.Lines.{Lines}
+use Rattle.report.specs.declared.contents.Lines.TheVariants.{Omitted, All, Undetected}
 
 -- the name of a signal, and of the cell of this number
 abbrev pub signal_text : List Statement → ℕ → List ℕ
@@ -44,26 +48,65 @@ first_text (Some t) = decimal t
 abbrev pub two_digits : ℕ → List ℕ
 two_digits n = (48 + n / 10) ∷ (48 + n % 10) ∷ []
 
--- `D of T (P.PP%)`: with h = 10000 D div T, the whole part is h div 100 and the decimals are h mod
--- 100
+-- a part in a whole, `P.PP`: with h = 10000 part div whole, the digits before the point are h div
+-- 100 and those behind it are h mod 100
+abbrev pub percentage : ℕ → ℕ → List ℕ
+percentage part whole =
+    let h : ℕ = 10000 * part / whole in
+    decimal (h / 100) ++ codes "." ++ two_digits (h % 100)
+
+-- `D of T (P.PP%)`, with what is counted before the bracket
+abbrev pub coverage_of : List ℕ → ℕ → ℕ → List ℕ
+coverage_of counted found total =
+    decimal found ++ codes " of " ++ decimal total ++ counted ++ codes " ("
+    ++ percentage found total ++ codes "%)\n"
+
+-- the coverage line, `D of T (P.PP%)`
 abbrev pub coverage_line : ℕ → ℕ → List ℕ
-coverage_line found total =
-    let h : ℕ = 10000 * found / total in
-    decimal found ++ codes " of " ++ decimal total ++ codes " (" ++ decimal (h / 100) ++ codes "."
-    ++ two_digits (h % 100) ++ codes "%)\n"
+coverage_line found total = coverage_of [] found total
 
 -- a fault line: `FAULT FIRST`
 abbrev pub first_line : List Statement → Fault × Option ℕ → List ℕ
 first_line c at = fault_text c at.0 ++ (codes " " ++ first_text at.1 ++ codes "\n")
 
--- the fault lines: one for each fault of a model in order
-abbrev pub fault_lines : Model → List Statement → List (Option ℕ) → List ℕ
-fault_lines m c firsts = flat_map (first_line c) (zip (faults m c) firsts)
+-- whether a fault with this first test has a line: none has, all have, or those that no test
+-- detects
+abbrev pub has_line : Lines → Option ℕ → Bool
+has_line Omitted first = false
+has_line All first = true
+has_line Undetected first = is_none first
 
--- the report: the fault lines where they are asked for, and the coverage line
-abbrev pub report : Model → List Statement → List (Option ℕ) → Bool → List ℕ
-report m c firsts list = (if list then fault_lines m c firsts else [])
+-- the line of a fault that has one
+abbrev pub wanted_line : Lines → List Statement → Fault × Option ℕ → List ℕ
+wanted_line lines c at = if has_line lines at.1 then first_line c at else []
+
+-- the fault lines of a model, in the order of the faults
+abbrev pub fault_lines : Lines → Model → List Statement → List (Option ℕ) → List ℕ
+fault_lines lines m c firsts = flat_map (wanted_line lines c) (zip (faults m c) firsts)
+
+-- the report: the fault lines that are asked for, and the coverage line
+abbrev pub report : Model → List Statement → List (Option ℕ) → Lines → List ℕ
+report m c firsts lines = fault_lines lines m c firsts
     ++ coverage_line (detected firsts) (length firsts)
+
+-- the first test of the fault of a number
+abbrev pub first_at : List (Option ℕ) → ℕ → Option ℕ
+first_at firsts fault = slice_index_or firsts fault None
+
+-- the first test of each class: that of its representative, which all its faults share
+abbrev pub class_firsts : Collapsed → List (Option ℕ) → List (Option ℕ)
+class_firsts classes firsts = map (first_at firsts) classes.representative
+
+-- the coverage line of the classes, `D of C classes (P.PP%)`: D classes have a first test
+abbrev pub class_coverage_line : Collapsed → List (Option ℕ) → List ℕ
+class_coverage_line classes firsts =
+    coverage_of (codes " classes") (detected (class_firsts classes firsts))
+    (length classes.representative)
+
+-- the report with all that is asked for: that of the classes is the last line
+abbrev pub whole_report : Model → List Statement → Collapsed → List (Option ℕ) → Contents → List ℕ
+whole_report m c classes firsts contents = report m c firsts contents.lines
+    ++ (if contents.classes then class_coverage_line classes firsts else [])
 
 -- a line of the listing: `FAULT class N`
 abbrev pub class_line : List Statement → Fault × ℕ → List ℕ

@@ -1,7 +1,16 @@
-//! The laws of part texts.
+//! The laws of part texts, and of the coverage of classes.
 
-ghost use Rattle.std.specs.Prelude.{◌≡◌, ◌<◌, ◌^◌, ℕ, List, length};
+ghost use Rattle.std.specs.Prelude.{◌≡◌, ◌<◌, ◌^◌, ℕ, List, Option, Some, length, slice_get};
+ghost use Rattle.bench_net.specs.Statement.{Statement};
+ghost use Rattle.bench_net.specs.Circuit.{IsCircuit};
+ghost use Rattle.fault_model.specs.declared.Model.{Model};
+ghost use Rattle.fault_model.specs.Fault.{Fault};
+ghost use Rattle.fault_model.specs.Collapse.{AreClassesOf, Collapsed, IsClassOf};
+ghost use Rattle.fault_model.specs.Solution.{Test};
+ghost use Rattle.block_sim.specs.First.{IsFirst};
 ghost use Rattle.workers.specs.declared.parts.PartVerdict.{PartVerdict};
+ghost use Rattle.workers.specs.Verdict.{AreFirsts};
+ghost use Rattle.report.specs.Report.{class_firsts};
 ghost use Rattle.report.specs.PartText.{PartHead};
 ghost use Rattle.report.specs.declared.part_reader.PartFault.{PartFault};
 ghost use Rattle.report.specs.declared.part_reader.PartFault.TheVariants as fault;
@@ -19,4 +28,13 @@ pub fn no_refusal_of_part_text()
     ensures { (text : List ℕ) (h : PartHead) (faults : List (List ℕ))
         (verdicts : List PartVerdict) (refusal : PartFault) → length text < 2 ^ 64
         → IsPart text h faults verdicts → IsPartRefusal text refusal → refusal ≡ fault.Memory }
+{}
+
+/// The classes that a report counts: the first test of a class is that of each of its faults.
+pub fn class_firsts_are()
+    ensures { (m : Model) (c : List Statement) (tests : List Test) (classes : Collapsed)
+        (firsts : List (Option ℕ)) (f : Fault) (class : ℕ) (first : Option ℕ) → IsCircuit c
+        → AreClassesOf m c classes → AreFirsts m c tests firsts → IsClassOf m c f class
+        → slice_get (class_firsts classes firsts) class ≡ Some first
+        → IsFirst c tests f first }
 {}

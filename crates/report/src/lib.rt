@@ -7,6 +7,7 @@
 //! to an [`Out`], and their contracts say which bytes.
 #![tactic(auto)]
 
+mod contents;
 mod cut;
 mod joining;
 mod laws;
@@ -16,8 +17,9 @@ mod part_reader;
 mod report;
 mod text;
 
+pub use contents::{Contents, Lines};
 pub use joining::MergeFault;
-pub use laws::{no_refusal_of_part_text, one_part_text};
+pub use laws::{class_firsts_are, no_refusal_of_part_text, one_part_text};
 pub use merge::Merge;
 pub use output::{Formatted, Out, OutFailed, Plain};
 pub use part::part_text_in;

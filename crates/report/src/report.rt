@@ -1,15 +1,19 @@
 //! The texts that the program writes: the report of a run, and the listing of faults and classes.
 
-ghost use Rattle.std.specs.Prelude.{◌≡◌, ◌<◌, ◌++◌, codes, length, slice_get, Some, zip, decimal};
+ghost use Rattle.std.specs.Prelude.{◌≡◌, ◌<◌, ◌++◌, [], codes, length, slice_get, Some, is_some, zip, decimal, if◌then◌else◌};
 ghost use Rattle.std.specs.List.{flat_map};
 ghost use Rattle.bench_net.specs.Scan.{cells};
 ghost use Rattle.fault_model.specs.Fault.{Fault, faults};
 ghost use Rattle.fault_model.specs.Collapse.{AreClassesOf};
 ghost use Rattle.output.specs.Output.{Writes};
-ghost use Rattle.report.specs.Report.{IsLineOf, cell_text, first_line, class_line, line_text, defect_text, fault_text, fault_lines, coverage_line, report, listing};
+ghost use Rattle.workers.specs.Verdict.{detected};
+ghost use Rattle.report.specs.Report.{IsLineOf, cell_text, first_line, class_line, line_text, defect_text, fault_text, fault_lines, wanted_line, report, listing};
+ghost use Rattle.report.specs.Report.{class_coverage_line, class_firsts, coverage_of, first_at, whole_report};
 
+use crate::contents::{Contents, Lines};
 use bench_net::Circuit;
 use block_sim::Job;
+use fault_model::laws::stems;
 use fault_model::{Classes, Faults, Line, Model};
 use itoa::Buffer;
 use output::{Out, OutFailed, put_pieces};
@@ -106,10 +110,17 @@ fn put_fault<W: Out>(
     put_line(circuit, list.line_of(fault), said, out)
 }
 
-/// Writes the coverage line, `D of T (P.PP%)`: the percentage is cut off after two decimals.
-fn put_coverage<W: Out>(detected: u32, total: u32, out: &mut W) -> Result<(), OutFailed>
+/// Writes a coverage line, `D of T` and what is counted, ` (P.PP%)`: the percentage is cut off after
+/// two decimals.
+fn put_coverage<'a, W: Out>(
+    detected: u32,
+    total: u32,
+    counted: &'a str,
+    out: &mut W,
+) -> Result<(), OutFailed>
     requires { 0 < total }
-    ensures { Writes result (W.seen out.old) (W.seen out.new) (coverage_line detected total) }
+    ensures { Writes result (W.seen out.old) (W.seen out.new)
+        (coverage_of counted.now detected total) }
 {
     let hundredths = 10_000 * u64::from(detected) / u64::from(total);
     let decimals = hundredths % 100;
@@ -122,6 +133,7 @@ fn put_coverage<W: Out>(detected: u32, total: u32, out: &mut W) -> Result<(), Ou
         found.format(detected),
         " of ",
         all.format(total),
+        counted,
         " (",
         whole.format(hundredths / 100),
         ".",
@@ -191,22 +203,65 @@ fn put_class_line<W: Out>(
     put_fault_line(circuit, list, fault, " class ", number.format(class), out)
 }
 
-/// Writes each fault of the list with the first test that detects it, or `none`.
+/// Writes the line of a fault where it is asked for.
+fn put_wanted_line<W: Out>(
+    circuit: &Circuit,
+    list: &Faults,
+    fault: u32,
+    first: Option<u32>,
+    lines: Lines,
+    out: &mut W,
+) -> Result<(), OutFailed>
+    requires list { list.now.list ≡ faults list.now.model circuit.now }
+    requires in_range { fault < length list.now.list }
+    ensures { (f : Fault) → slice_get list.now.list fault ≡ Some f
+        → Writes result (W.seen out.old) (W.seen out.new)
+        (wanted_line lines circuit.now (f, first)) }
+{
+    if !lines.has(first) {
+        return Ok(());
+    }
+    put_first_line(circuit, list, fault, first, out)
+}
+
+/// Writes the faults of the list that are asked for, each with the first test that detects it, or
+/// `none`.
 fn put_firsts<W: Out>(
     circuit: &Circuit,
     list: &Faults,
     verdicts: &Verdicts,
+    lines: Lines,
     out: &mut W,
 ) -> Result<(), OutFailed>
     requires list { list.now.list ≡ faults list.now.model circuit.now }
     requires count { length verdicts.now.firsts ≡ length list.now.list }
     ensures { Writes result (W.seen out.old) (W.seen out.new)
-        (fault_lines list.now.model circuit.now verdicts.now.firsts) }
+        (fault_lines lines list.now.model circuit.now verdicts.now.firsts) }
 {
     for fault in 0..list.count() {
-        put_first_line(circuit, list, fault, verdicts.first(fault), out)?;
+        put_wanted_line(circuit, list, fault, verdicts.first(fault), lines, out)?;
     }
     Ok(())
+}
+
+/// Whether a test detects a fault of this number.
+fn is_detected(verdicts: &Verdicts, fault: u32) -> bool
+    ensures { result ≡ is_some (first_at verdicts.now.firsts fault) }
+{
+    fault < verdicts.total() && verdicts.first(fault).is_some()
+}
+
+/// The number of classes whose faults are detected.
+fn detected_classes(classes: &Classes, verdicts: &Verdicts) -> u32
+    ensures { result ≡ detected (class_firsts classes.now verdicts.now.firsts) }
+{
+    let mut found = 0;
+    for class in 0..classes.count() {
+        if is_detected(verdicts, classes.representative(class)) {
+            found += 1;
+        }
+    }
+    found
 }
 
 /// Writes each fault of the list with its class.
@@ -241,31 +296,65 @@ impl From<OutFailed> for ReportFault {
     }
 }
 
-/// Writes the report of a job and of the verdicts of its faults: with `listed` each fault of the
-/// list and the first test that detects it, then the coverage line. It takes no memory.
-///
-/// Where the output takes nothing more it is refused with [`ReportFault::Write`], and what went
-/// out is a beginning of the report.
-pub fn write_report<W: Out>(
+/// Writes the lines of the faults that are asked for, and then the coverage line.
+fn put_report<W: Out>(
     job: &Job,
     verdicts: &Verdicts,
-    listed: bool,
+    lines: Lines,
     out: &mut W,
-) -> Result<(), ReportFault>
+) -> Result<(), OutFailed>
     requires count { length verdicts.now.firsts ≡ length job.now.list.list }
     ensures { Writes result (W.seen out.old) (W.seen out.new)
-        (report job.now.list.model job.now.circuit verdicts.now.firsts listed) }
+        (report job.now.list.model job.now.circuit verdicts.now.firsts lines) }
 {
     let circuit = job.circuit();
     let signals = circuit.signals();
     prove!(signals > 0);
     let detected = verdicts.detected();
     let total = verdicts.total();
-    if !listed {
-        return Ok(put_coverage(detected, total, out)?);
+    put_firsts(circuit, job.faults(), verdicts, lines, out)?;
+    put_coverage(detected, total, "", out)
+}
+
+/// Writes how many of the classes are detected, where it is asked for.
+fn put_class_coverage<W: Out>(
+    job: &Job,
+    verdicts: &Verdicts,
+    wanted: bool,
+    out: &mut W,
+) -> Result<(), OutFailed>
+    ensures { Writes result (W.seen out.old) (W.seen out.new)
+        (if wanted then class_coverage_line job.now.classes verdicts.now.firsts else []) }
+{
+    if !wanted {
+        return Ok(());
     }
-    put_firsts(circuit, job.faults(), verdicts, out)?;
-    put_coverage(detected, total, out)?;
+    let classes = job.classes();
+    let total = classes.count();
+    stems();
+    prove!(total > 0);
+    put_coverage(detected_classes(classes, verdicts), total, " classes", out)
+}
+
+/// Writes the report of a job and of the verdicts of its faults: the faults of the list that are
+/// asked for, each with the first test that detects it, then the coverage line, and then, where it
+/// is asked for, the same of the classes. It takes no memory.
+///
+/// Where the output takes nothing more it is refused with [`ReportFault::Write`], and what went
+/// out is a beginning of the report.
+pub fn write_report<W: Out>(
+    job: &Job,
+    verdicts: &Verdicts,
+    contents: Contents,
+    out: &mut W,
+) -> Result<(), ReportFault>
+    requires count { length verdicts.now.firsts ≡ length job.now.list.list }
+    ensures { Writes result (W.seen out.old) (W.seen out.new)
+        (whole_report job.now.list.model job.now.circuit job.now.classes verdicts.now.firsts
+        contents) }
+{
+    put_report(job, verdicts, contents.lines, out)?;
+    put_class_coverage(job, verdicts, contents.classes, out)?;
     Ok(())
 }
 

@@ -11,6 +11,7 @@ ghost use Rattle.workers.specs.Verdict.{AreFirsts};
 ghost use Rattle.report.specs.Split.{HasParts};
 ghost use Rattle.report.specs.EndToEnd.{WritesOneOf, AreTestsFor, IsReportOf, IsReportFault, IsScheduleTextFault, HasSomeMoves, IsListingOf, IsListingFault, IsJobOf, IsJobFor, IsJobFault, IsInputFault, IsPiecesFault, IsReportOfJob, IsRunReportFault, IsScheduleReportFault};
 
+use crate::contents::Contents;
 use crate::report::{ReportFault, write_listing, write_report};
 use bench_net::{BenchFault, Circuit, read_bench};
 use block_sim::{Job, JobFault};
@@ -134,19 +135,20 @@ pub fn simulate_text<R: Threads + Wait, W: Out>(
     bench: &[u8],
     tests: &[u8],
     workers: u32,
-    list: bool,
+    contents: Contents,
     out: &mut W,
 ) -> Result<(), SimFault>
-    ensures written { WritesOneOf (IsReportOf model.StuckAt bench.now tests.now list) result
+    ensures written { WritesOneOf (IsReportOf model.StuckAt bench.now tests.now contents) result
         (W.seen out.old) (W.seen out.new) }
     ensures refused { IfErr result (IsReportFault model.StuckAt bench.now tests.now workers) }
     ensures workers { OnOk result ((0 < workers) × (workers ≤ 64)) }
 {
-    simulate_text_in(rt, alloc, Model::StuckAt, bench, tests, workers, list, out)
+    let model = Model::StuckAt;
+    simulate_text_in(rt, alloc, model, bench, tests, workers, contents, out)
 }
 
-/// Reads a circuit and tests for it, and writes the report of the faults of a model: with `list`
-/// the first test that detects each fault, and then the coverage. The work is done by workers in
+/// Reads a circuit and tests for it, and writes the report of the faults of a model: of the faults
+/// that are asked for the first test that detects each, and then the coverage. The work is done by workers in
 /// threads of their own, which are joined before this returns, and the report is the same whatever
 /// their number.
 ///
@@ -159,16 +161,18 @@ pub fn simulate_text_in<R: Threads + Wait, W: Out>(
     bench: &[u8],
     tests: &[u8],
     workers: u32,
-    list: bool,
+    contents: Contents,
     out: &mut W,
 ) -> Result<(), SimFault>
-    ensures written { WritesOneOf (IsReportOf model bench.now tests.now list) result
+    ensures written { WritesOneOf (IsReportOf model bench.now tests.now contents) result
         (W.seen out.old) (W.seen out.new) }
     ensures refused { IfErr result (IsReportFault model bench.now tests.now workers) }
     ensures workers { OnOk result ((0 < workers) × (workers ≤ 64)) }
 {
     let split = Split::Whole;
-    simulate_split(rt, alloc, model, bench, tests, split, workers, list, out)
+    simulate_split(
+        rt, alloc, model, bench, tests, split, workers, contents, out,
+    )
 }
 
 /// Reads a circuit and tests for it, and writes the report that [`simulate_text_in`] writes, with
@@ -182,17 +186,19 @@ pub fn simulate_text_in_parts<R: Threads + Wait, W: Out>(
     tests: &[u8],
     parts: u32,
     workers: u32,
-    list: bool,
+    contents: Contents,
     out: &mut W,
 ) -> Result<(), SimFault>
     requires { 0 < parts }
-    ensures written { WritesOneOf (IsReportOf model bench.now tests.now list) result
+    ensures written { WritesOneOf (IsReportOf model bench.now tests.now contents) result
         (W.seen out.old) (W.seen out.new) }
     ensures refused { IfErr result (IsReportFault model bench.now tests.now workers) }
     ensures workers { OnOk result ((0 < workers) × (workers ≤ 64)) }
 {
     let split = Split::Parts(parts);
-    simulate_split(rt, alloc, model, bench, tests, split, workers, list, out)
+    simulate_split(
+        rt, alloc, model, bench, tests, split, workers, contents, out,
+    )
 }
 
 /// How the classes of a run are shared out.
@@ -213,17 +219,17 @@ fn simulate_split<R: Threads + Wait, W: Out>(
     tests: &[u8],
     split: Split,
     workers: u32,
-    list: bool,
+    contents: Contents,
     out: &mut W,
 ) -> Result<(), SimFault>
     requires { HasParts split }
-    ensures written { WritesOneOf (IsReportOf model bench.now tests.now list) result
+    ensures written { WritesOneOf (IsReportOf model bench.now tests.now contents) result
         (W.seen out.old) (W.seen out.new) }
     ensures refused { IfErr result (IsReportFault model bench.now tests.now workers) }
     ensures workers { OnOk result ((0 < workers) × (workers ≤ 64)) }
 {
     let job = job_of(alloc, model, bench, tests)?;
-    report_run(rt, alloc, &job, split, workers, list, out)
+    report_run(rt, alloc, &job, split, workers, contents, out)
 }
 
 /// Runs a job by workers in threads of their own, and writes its report.
@@ -233,18 +239,18 @@ fn report_run<R: Threads + Wait, W: Out>(
     job: &Job,
     split: Split,
     workers: u32,
-    list: bool,
+    contents: Contents,
     out: &mut W,
 ) -> Result<(), SimFault>
     requires job { BelongTogether job.now }
     requires split { HasParts split }
-    ensures written { WritesOneOf (IsReportOfJob job.now list) result
+    ensures written { WritesOneOf (IsReportOfJob job.now contents) result
         (W.seen out.old) (W.seen out.new) }
     ensures refused { IfErr result (IsRunReportFault job.now workers) }
     ensures workers { OnOk result ((0 < workers) × (workers ≤ 64)) }
 {
     let verdicts = run_split(rt, alloc, job, split, workers)?;
-    write_report(job, &verdicts, list, out)?;
+    write_report(job, &verdicts, contents, out)?;
     Ok(())
 }
 
@@ -276,10 +282,10 @@ pub fn schedule_text<W: Out>(
     tests: &[u8],
     order: &[u8],
     workers: u32,
-    list: bool,
+    contents: Contents,
     out: &mut W,
 ) -> Result<(), SimFault>
-    ensures written { WritesOneOf (IsReportOf model.StuckAt bench.now tests.now list) result
+    ensures written { WritesOneOf (IsReportOf model.StuckAt bench.now tests.now contents) result
         (W.seen out.old) (W.seen out.new) }
     ensures refused { IfErr result
         (IsScheduleTextFault model.StuckAt bench.now tests.now order.now workers) }
@@ -293,7 +299,7 @@ pub fn schedule_text<W: Out>(
         tests,
         order,
         workers,
-        list,
+        contents,
         out,
     )
 }
@@ -313,10 +319,10 @@ pub fn schedule_text_in<W: Out>(
     tests: &[u8],
     order: &[u8],
     workers: u32,
-    list: bool,
+    contents: Contents,
     out: &mut W,
 ) -> Result<(), SimFault>
-    ensures written { WritesOneOf (IsReportOf model bench.now tests.now list) result
+    ensures written { WritesOneOf (IsReportOf model bench.now tests.now contents) result
         (W.seen out.old) (W.seen out.new) }
     ensures refused { IfErr result
         (IsScheduleTextFault model bench.now tests.now order.now workers) }
@@ -326,7 +332,7 @@ pub fn schedule_text_in<W: Out>(
     let (circuit, tests) = read_inputs(alloc, bench, tests)?;
     let moves = read_order(alloc, order, workers)?;
     let job = make_job(alloc, model, circuit, tests)?;
-    report_schedule(alloc, &job, &moves, workers, list, out)
+    report_schedule(alloc, &job, &moves, workers, contents, out)
 }
 
 /// Runs a job by moves of workers on one thread, and writes its report.
@@ -335,17 +341,17 @@ fn report_schedule<W: Out>(
     job: &Job,
     moves: &[u32],
     workers: u32,
-    list: bool,
+    contents: Contents,
     out: &mut W,
 ) -> Result<(), SimFault>
     requires { BelongTogether job.now }
-    ensures written { WritesOneOf (IsReportOfJob job.now list) result
+    ensures written { WritesOneOf (IsReportOfJob job.now contents) result
         (W.seen out.old) (W.seen out.new) }
     ensures refused { IfErr result (IsScheduleReportFault moves.now workers) }
     ensures workers { OnOk result ((0 < workers) × (workers ≤ 64)) }
 {
     let verdicts = run_schedule(alloc, job, workers, moves)?;
-    write_report(job, &verdicts, list, out)?;
+    write_report(job, &verdicts, contents, out)?;
     Ok(())
 }
 
@@ -357,15 +363,15 @@ pub fn report_bytes<R: Threads + Wait>(
     bench: &[u8],
     tests: &[u8],
     workers: u32,
-    list: bool,
+    contents: Contents,
 ) -> Result<Vec<u8>, SimFault>
-    ensures report { IfOk result (λ bytes. IsReportOf model bench.now tests.now list bytes.items) }
+    ensures report { IfOk result (λ bytes. IsReportOf model bench.now tests.now contents bytes.items) }
     ensures refused { IfErr result (IsReportFault model bench.now tests.now workers) }
     ensures unwritten { (fault : ReportFault) → result ≢ Err (SimFault.Report fault) }
     ensures workers { OnOk result ((0 < workers) × (workers ≤ 64)) }
 {
     let mut out = Plain::new(Vec::new(alloc));
-    match simulate_text_in(rt, alloc, model, bench, tests, workers, list, &mut out) {
+    match simulate_text_in(rt, alloc, model, bench, tests, workers, contents, &mut out) {
         Ok(()) => Ok(out.into_writer()),
         // A vector refuses bytes for want of memory alone.
         Err(SimFault::Report(ReportFault::Write)) => Err(SimFault::Memory),

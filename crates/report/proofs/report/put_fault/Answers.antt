@@ -1,5 +1,5 @@
 use Rattle.output.proofs.Public.{writes_same}
-use Rattle.report.proofs.Lines.{line_known}
+use Rattle.report.proofs.KnownLines.{line_known}
 use Rattle.report.proofs.Texts.{fault_by_parts}
 use Rattle.report.proofs.report.put_fault.Goals as goal
 

@@ -11,8 +11,8 @@ returns-clause-written g c =
     let job = c.in_ok-job.job in
     let made = job_of_texts c.args.model c.args.bench.now c.args.tests.now c.in_ok-circuit.circuit c.in_ok-circuit.tests job
     c.in_ok-circuit.ensures.circuit c.in_ok-circuit.ensures.tests c.in_ok-job.ensures.job in
-    written_as (IsReportOfJob job c.args.list) (IsReportOf c.args.model c.args.bench.now c.args.tests.now c.args.list)
-    c.report_schedule.result _ _ (report_of c.args.model c.args.bench.now c.args.tests.now c.args.list job made) c.report_schedule.ensures.written
+    written_as (IsReportOfJob job c.args.contents) (IsReportOf c.args.model c.args.bench.now c.args.tests.now c.args.contents)
+    c.report_schedule.result _ _ (report_of c.args.model c.args.bench.now c.args.tests.now c.args.contents job made) c.report_schedule.ensures.written
 
 pub returns-clause-refused : goal.returns-clause-refused
 returns-clause-refused g c =

@@ -8,8 +8,8 @@ report_run-requires-clause-job g c = c.in_ok-job.ensures.job.2
 pub returns-clause-written : goal.returns-clause-written
 returns-clause-written g c =
     let job = c.in_ok-job.job in
-    written_as (IsReportOfJob job c.args.list) (IsReportOf c.args.model c.args.bench.now c.args.tests.now c.args.list)
-    c.report_run.result _ _ (report_of c.args.model c.args.bench.now c.args.tests.now c.args.list job c.in_ok-job.ensures.job) c.report_run.ensures.written
+    written_as (IsReportOfJob job c.args.contents) (IsReportOf c.args.model c.args.bench.now c.args.tests.now c.args.contents)
+    c.report_run.result _ _ (report_of c.args.model c.args.bench.now c.args.tests.now c.args.contents job c.in_ok-job.ensures.job) c.report_run.ensures.written
 
 pub returns-clause-refused : goal.returns-clause-refused
 returns-clause-refused g c =

@@ -1,0 +1,8 @@
+use Rattle.std.proofs.Common.{◌≡◌, ◌≤◌, take}
+use Rattle.std.specs.Prelude.{count_by, is_some}
+use Rattle.report.specs.Report.{class_firsts}
+use Rattle.report.proofs.report.detected_classes.Given as goal
+
+-- the classes so far that are detected
+abbrev pub invariant-loop-class : goal.invariant-loop-class
+invariant-loop-class l = (l.found ≡ count_by is_some (take l.class (class_firsts l.classes l.verdicts.firsts))) × (l.found ≤ l.class)

@@ -1,0 +1,50 @@
+//! What a report tells.
+
+ghost use Rattle.std.specs.Prelude.{◌≡◌, false};
+ghost use Rattle.report.specs.Report.{has_line};
+
+/// Which faults have a line of their own in a report, before the coverage line.
+#[derive(Clone, Copy, Debug, PartialEq, Eq)]
+pub enum Lines {
+    /// None.
+    Omitted,
+    /// All faults of the list.
+    All,
+    /// The faults that no test detects.
+    Undetected,
+}
+
+impl Lines {
+    /// Whether a fault with this first test has a line.
+    pub(crate) fn has(self, first: Option<u32>) -> bool
+        ensures { result ≡ has_line self first }
+    {
+        match self {
+            Lines::Omitted => false,
+            Lines::All => true,
+            Lines::Undetected => first.is_none(),
+        }
+    }
+}
+
+/// What a report tells beside the coverage of the faults.
+#[derive(Clone, Copy, Debug, PartialEq, Eq)]
+pub struct Contents {
+    /// Which faults have a line.
+    pub lines: Lines,
+    /// Whether a last line tells how many of the classes are detected.
+    pub classes: bool,
+}
+
+impl Contents {
+    /// These lines, and the coverage of the faults alone.
+    pub fn of(lines: Lines) -> Contents
+        ensures lines { result.lines ≡ lines }
+        ensures classes { result.classes ≡ false }
+    {
+        Contents {
+            lines,
+            classes: false,
+        }
+    }
+}
