@@ -13,3 +13,4 @@ pub mod PartReadings
 pub mod PartOnce
 pub mod PartRefusals
 pub mod Merges
+pub mod Endings

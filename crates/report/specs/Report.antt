@@ -52,9 +52,13 @@ coverage_line found total =
     decimal found ++ codes " of " ++ decimal total ++ codes " (" ++ decimal (h / 100) ++ codes "."
     ++ two_digits (h % 100) ++ codes "%)\n"
 
--- a fault line: `FAULT FIRST`
+-- the line of a fault, given as text: `FAULT FIRST`
+abbrev pub name_line : List ℕ × Option ℕ → List ℕ
+name_line at = at.0 ++ (codes " " ++ first_text at.1 ++ codes "\n")
+
+-- the line of a fault of a circuit
 abbrev pub first_line : List Statement → Fault × Option ℕ → List ℕ
-first_line c at = fault_text c at.0 ++ (codes " " ++ first_text at.1 ++ codes "\n")
+first_line c at = name_line (fault_text c at.0, at.1)
 
 -- the fault lines: one for each fault of a model in order
 abbrev pub fault_lines : Model → List Statement → List (Option ℕ) → List ℕ
@@ -63,6 +67,11 @@ fault_lines m c firsts = flat_map (first_line c) (zip (faults m c) firsts)
 -- the report: the fault lines where they are asked for, and the coverage line
 abbrev pub report : Model → List Statement → List (Option ℕ) → Bool → List ℕ
 report m c firsts list = (if list then fault_lines m c firsts else [])
+    ++ coverage_line (detected firsts) (length firsts)
+
+-- the same of faults that are given as texts
+abbrev pub report_text : List (List ℕ) → List (Option ℕ) → Bool → List ℕ
+report_text names firsts list = (if list then flat_map name_line (zip names firsts) else [])
     ++ coverage_line (detected firsts) (length firsts)
 
 -- a line of the listing: `FAULT class N`

@@ -18,7 +18,7 @@ use workers::Verdicts;
 
 /// Writes a line of another kind than a pin, and what is said of it: the kind, its name or number,
 /// the rest.
-fn put_named<'a, W: Out>(
+pub(crate) fn put_named<'a, W: Out>(
     kind: &'a str,
     name: &'a str,
     said: &'a str,
@@ -107,7 +107,7 @@ fn put_fault<W: Out>(
 }
 
 /// Writes the coverage line, `D of T (P.PP%)`: the percentage is cut off after two decimals.
-fn put_coverage<W: Out>(detected: u32, total: u32, out: &mut W) -> Result<(), OutFailed>
+pub(crate) fn put_coverage<W: Out>(detected: u32, total: u32, out: &mut W) -> Result<(), OutFailed>
     requires { 0 < total }
     ensures { Writes result (W.seen out.old) (W.seen out.new) (coverage_line detected total) }
 {
