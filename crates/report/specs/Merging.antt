@@ -1,8 +1,9 @@
 -- Part texts that are put together.
-use Rattle.std.specs.Prelude.{◌≡◌, ◌≢◌, ◌⊎◌, ◌<◌, ℕ, ◌+◌, List, [], ◌∷◌, ◌++◌, length, slice_get, slice_index_or as get_or, Contains}
+use Rattle.std.specs.Prelude.{◌≡◌, ◌≢◌, ◌⊎◌, ◌<◌, ◌≤◌, ◌^◌, ℕ, ◌+◌, List, [], ◌∷◌, ◌++◌, map, length, slice_get, slice_index_or as get_or, Contains, Option}
 use Rattle.workers.specs.declared.parts.PartVerdict.{PartVerdict}
 use Rattle.workers.specs.declared.parts.PartVerdict.TheVariants.{First, OtherPart}
 use Rattle.report.specs.declared.merge.Merge.{Merge}
+use Rattle.report.specs.declared.merged.Merged.{Merged}
 use Rattle.report.specs.declared.joining.MergeFault.{MergeFault}
 use Rattle.report.specs.declared.joining.MergeFault.TheVariants as fault
 use Rattle.report.specs.PartText.{PartHead}
@@ -96,3 +97,43 @@ abbrev pub IsFirstRefusal : List ℕ → MergeFault → Type 0
 IsFirstRefusal text (fault.Part f) = IsPartRefusal text f
 IsFirstRefusal text fault.Memory = Unit {0}
 IsFirstRefusal text f = ⊥
+
+-- what was put together of all parts: the names of the faults, and the first test of each, or none
+pub record MergedRun : Type 0 where
+  pub faults : List (List ℕ)
+  pub firsts : List (Option ℕ)
+
+abbrev pub run_of : Merged → MergedRun
+run_of m = record {
+  faults = texts_in m.faults.items;
+  firsts = m.firsts.items;
+}
+
+-- so many parts are there, from part 0 on
+abbrev pub HasParts : List ℕ → ℕ → Type 0
+HasParts seen count = (part : ℕ) → part < count → Contains seen part
+
+-- all parts are there, and each fault is of one: each verdict is a first test
+pub record IsWholeRun (old : MergeState) (new : MergedRun) : Type 0 where
+  pub parts : HasParts old.seen old.head.parts
+  pub faults : new.faults ≡ old.faults
+  pub verdicts : old.verdicts ≡ map First new.firsts
+
+-- When first tests are refused to verdicts: for the first fault of no part, which the line of a part
+-- text names, or for want of memory.
+abbrev pub IsOpenRefusal : List PartVerdict → MergeFault → Type 0
+IsOpenRefusal verdicts (fault.NoPart line) = (firsts : List (Option ℕ)) × (rest : List PartVerdict)
+    × (verdicts ≡ map First firsts ++ OtherPart ∷ rest) × (line ≡ length firsts + 2)
+IsOpenRefusal verdicts fault.Memory = Unit {0}
+IsOpenRefusal verdicts _ = ⊥
+
+-- When what was put together is not that of a whole run: for the lowest part that isn't there, then
+-- for the first fault that is of no part, and then for a number of faults that is none of a circuit.
+-- Want of memory may come in place of any other but the first.
+abbrev pub IsEndRefusal : MergeState → MergeFault → Type 0
+IsEndRefusal s (fault.Missing number) = (part : ℕ) × (number ≡ part + 1) × (part < s.head.parts)
+    × HasParts s.seen part × (Contains s.seen part → ⊥)
+IsEndRefusal s fault.NoFault = HasParts s.seen s.head.parts × (s.verdicts ≡ [])
+IsEndRefusal s fault.TooManyFaults = HasParts s.seen s.head.parts × (firsts : List (Option ℕ))
+    × (s.verdicts ≡ map First firsts) × (2 ^ 32 ≤ length firsts)
+IsEndRefusal s f = HasParts s.seen s.head.parts × IsOpenRefusal s.verdicts f

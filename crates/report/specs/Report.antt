@@ -65,9 +65,13 @@ coverage_of counted found total =
 abbrev pub coverage_line : ℕ → ℕ → List ℕ
 coverage_line found total = coverage_of [] found total
 
--- a fault line: `FAULT FIRST`
+-- the line of a fault, given as text: `FAULT FIRST`
+abbrev pub name_line : List ℕ × Option ℕ → List ℕ
+name_line at = at.0 ++ (codes " " ++ first_text at.1 ++ codes "\n")
+
+-- the line of a fault of a circuit
 abbrev pub first_line : List Statement → Fault × Option ℕ → List ℕ
-first_line c at = fault_text c at.0 ++ (codes " " ++ first_text at.1 ++ codes "\n")
+first_line c at = name_line (fault_text c at.0, at.1)
 
 -- whether a fault with this first test has a line: none has, all have, or those that no test
 -- detects
@@ -107,6 +111,11 @@ class_coverage_line classes firsts =
 abbrev pub whole_report : Model → List Statement → Collapsed → List (Option ℕ) → Contents → List ℕ
 whole_report m c classes firsts contents = report m c firsts contents.lines
     ++ (if contents.classes then class_coverage_line classes firsts else [])
+
+-- the same of faults that are given as texts
+abbrev pub report_text : List (List ℕ) → List (Option ℕ) → Bool → List ℕ
+report_text names firsts list = (if list then flat_map name_line (zip names firsts) else [])
+    ++ coverage_line (detected firsts) (length firsts)
 
 -- a line of the listing: `FAULT class N`
 abbrev pub class_line : List Statement → Fault × ℕ → List ℕ

@@ -34,6 +34,18 @@ pub enum MergeFault {
     /// one of them has.
     #[error("line {0}: another fault")]
     Differs(u64),
+    /// This part, counted from 1, is not there.
+    #[error("part {0} is missing")]
+    Missing(u64),
+    /// The fault at this line of the texts, counted from 1, is of no part.
+    #[error("line {0}: a fault of no part")]
+    NoPart(u64),
+    /// The texts have no fault. Each circuit has one.
+    #[error("no fault")]
+    NoFault,
+    /// The texts have more faults than 32 bits count.
+    #[error("more than 4294967295 faults")]
+    TooManyFaults,
     /// Memory is refused.
     #[error("out of memory")]
     Memory,

@@ -9,18 +9,22 @@
 
 mod contents;
 mod cut;
+mod ending;
 mod joining;
 mod laws;
 mod merge;
+mod merged;
 mod part;
 mod part_reader;
 mod report;
 mod text;
 
 pub use contents::{Contents, Lines};
+pub use ending::write_merged;
 pub use joining::MergeFault;
 pub use laws::{class_firsts_are, no_refusal_of_part_text, one_part_text};
 pub use merge::Merge;
+pub use merged::Merged;
 pub use output::{Formatted, Out, OutFailed, Plain};
 pub use part::part_text_in;
 pub use part_reader::{PartFault, PartHeader, PartText, read_part};

@@ -2,7 +2,9 @@
 
 ghost use Rattle.std.specs.Prelude.{◌≡◌, length};
 
+use crate::ending::{firsts_of, missing_part};
 use crate::joining::{MergeFault, add_part, check_names, check_run, join};
+use crate::merged::Merged;
 use crate::part_reader::{PartHeader, PartText, read_part};
 use std::alloc::Global;
 use workers::PartVerdict;
@@ -19,7 +21,7 @@ pub struct Merge<'a> {
 
 impl<'a> Merge<'a> {
     ghost use Rattle.std.specs.Prelude.{IfErr, IfOk};
-    ghost use Rattle.report.specs.Merging.{IsFirstMerged, IsFirstRefusal, IsMerged, IsMergeRefusal, state_of};
+    ghost use Rattle.report.specs.Merging.{IsEndRefusal, IsFirstMerged, IsFirstRefusal, IsMerged, IsMergeRefusal, IsWholeRun, run_of, state_of};
 
     /// What the text of one part says. The text is kept in use for the names of the faults.
     pub fn of(alloc: Global, text: &'a [u8]) -> Result<Merge<'a>, MergeFault>
@@ -67,5 +69,32 @@ impl<'a> Merge<'a> {
             verdicts,
             seen,
         })
+    }
+
+    /// What the texts of all parts of a run say: each fault with its first test. The lowest part
+    /// that is not there is refused, then the first fault that is of no part, and then a number of
+    /// faults that is none of a circuit.
+    pub fn end(self, alloc: Global) -> Result<Merged<'a>, MergeFault>
+        ensures merged { IfOk result (λ merged.
+            IsWholeRun (state_of self.entry) (run_of merged)) }
+        ensures refused { IfErr result (IsEndRefusal (state_of self.entry)) }
+    {
+        let Merge {
+            header,
+            faults,
+            verdicts,
+            seen,
+        } = self;
+        if let Some(part) = missing_part(seen.as_slice(), header.parts) {
+            return Err(MergeFault::Missing(u64::from(part) + 1));
+        }
+        let firsts = firsts_of(alloc, verdicts.as_slice())?;
+        if firsts.is_empty() {
+            return Err(MergeFault::NoFault);
+        }
+        if firsts.len() > u32::MAX as usize {
+            return Err(MergeFault::TooManyFaults);
+        }
+        Ok(Merged::of(faults, firsts))
     }
 }

@@ -22,7 +22,7 @@ use workers::Verdicts;
 
 /// Writes a line of another kind than a pin, and what is said of it: the kind, its name or number,
 /// the rest.
-fn put_named<'a, W: Out>(
+pub(crate) fn put_named<'a, W: Out>(
     kind: &'a str,
     name: &'a str,
     said: &'a str,
@@ -112,7 +112,7 @@ fn put_fault<W: Out>(
 
 /// Writes a coverage line, `D of T` and what is counted, ` (P.PP%)`: the percentage is cut off after
 /// two decimals.
-fn put_coverage<'a, W: Out>(
+pub(crate) fn put_coverage<'a, W: Out>(
     detected: u32,
     total: u32,
     counted: &'a str,

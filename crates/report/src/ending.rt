@@ -1,0 +1,115 @@
+//! The end of a merge: which part is missing, which fault is of no part, and the report.
+
+ghost use Rattle.std.specs.Prelude.{◌≡◌, ◌<◌, ◌^◌, [], ◌∷◌, ◌++◌, Contains, IfErr, IfOk, MatchOption, OnOk, length, map, zip};
+ghost use Rattle.std.specs.List.{flat_map};
+ghost use Rattle.output.specs.Output.{Writes};
+ghost use Rattle.workers.specs.declared.parts.PartVerdict.TheVariants.{First};
+ghost use Rattle.workers.specs.Verdict.{detected};
+ghost use Rattle.report.specs.Merging.{HasParts, IsOpenRefusal, run_of};
+ghost use Rattle.report.specs.PartReading.{texts_in};
+ghost use Rattle.report.specs.Report.{name_line, report_text};
+
+use crate::joining::MergeFault;
+use crate::merged::Merged;
+use crate::report::{ReportFault, put_coverage, put_named};
+use itoa::Buffer;
+use output::{Out, OutFailed, put_all};
+use std::alloc::{AllocError, Global};
+use workers::PartVerdict;
+
+/// The lowest of so many parts, counted from 0, that is not among those that are there.
+pub(crate) fn missing_part(seen: &[u32], parts: u32) -> Option<u32>
+    ensures { MatchOption result (HasParts seen.now parts)
+        (λ part. (part < parts) × HasParts seen.now part × (Contains seen.now part → ⊥)) }
+{
+    for part in 0..parts {
+        if !seen.contains(&part) {
+            return Some(part);
+        }
+    }
+    None
+}
+
+/// The first tests in verdicts. The line of the first fault that is of no part is refused.
+pub(crate) fn firsts_of(
+    alloc: Global,
+    verdicts: &[PartVerdict],
+) -> Result<Vec<Option<u32>>, MergeFault>
+    ensures firsts { IfOk result (λ firsts. verdicts.now ≡ map First firsts.items) }
+    ensures refused { IfErr result (IsOpenRefusal verdicts.now) }
+{
+    let mut firsts = Vec::with_capacity(alloc, verdicts.len())?;
+    for place in 0..verdicts.len() {
+        match verdicts[place] {
+            PartVerdict::First(first) => add_first(&mut firsts, first)?,
+            PartVerdict::OtherPart => return Err(MergeFault::NoPart(place as u64 + 2)),
+        }
+    }
+    Ok(firsts)
+}
+
+/// Adds a first test to those that are there.
+fn add_first(firsts: &mut Vec<Option<u32>>, first: Option<u32>) -> Result<(), AllocError>
+    ensures { OnOk result (firsts.new.items ≡ firsts.old.items ++ first ∷ []) }
+{
+    Ok(firsts.push(first)?)
+}
+
+/// How many faults a test detects.
+fn count_detected(firsts: &[Option<u32>]) -> u32
+    requires { length firsts.now < 2 ^ 32 }
+    ensures { result ≡ detected firsts.now }
+{
+    firsts.iter().filter(|first| first.is_some()).count() as u32
+}
+
+/// Writes the line of the report for a fault, given by its name: the fault, and the first test that
+/// detects it or `none`.
+fn put_name_line<W: Out>(name: &[u8], first: Option<u32>, out: &mut W) -> Result<(), OutFailed>
+    ensures { Writes result (W.seen out.old) (W.seen out.new) (name_line (name.now, first)) }
+{
+    put_all(name, out)?;
+    match first {
+        Some(test) => {
+            let mut number = Buffer::new();
+            put_named(" ", number.format(test), "\n", out)
+        }
+        None => put_named(" ", "none", "\n", out),
+    }
+}
+
+/// Writes each fault with the first test that detects it, or `none`.
+fn put_names<W: Out>(faults: &[&[u8]], firsts: &[Option<u32>], out: &mut W) -> Result<(), OutFailed>
+    requires { length firsts.now ≡ length faults.now }
+    ensures { Writes result (W.seen out.old) (W.seen out.new)
+        (flat_map name_line (zip (texts_in faults.now) firsts.now)) }
+{
+    for place in 0..faults.len() {
+        put_name_line(faults[place], firsts[place], out)?;
+    }
+    Ok(())
+}
+
+/// Writes the report of a whole run, as a run without parts writes it: with `listed` each fault and
+/// the first test that detects it, then the coverage line. It takes no memory.
+///
+/// Where the output takes nothing more it is refused with [`ReportFault::Write`], and what went
+/// out is a beginning of the report.
+pub fn write_merged<W: Out>(
+    merged: &Merged<'_>,
+    listed: bool,
+    out: &mut W,
+) -> Result<(), ReportFault>
+    ensures { Writes result (W.seen out.old) (W.seen out.new)
+        (report_text (run_of merged.now).faults (run_of merged.now).firsts listed) }
+{
+    let firsts = merged.firsts();
+    let detected = count_detected(firsts);
+    let total = firsts.len() as u32;
+    if !listed {
+        return Ok(put_coverage(detected, total, "", out)?);
+    }
+    put_names(merged.faults(), firsts, out)?;
+    put_coverage(detected, total, "", out)?;
+    Ok(())
+}

@@ -1,0 +1,40 @@
+//! What the texts of all parts of a run say.
+
+ghost use Rattle.std.specs.Prelude.{◌≡◌, ◌<◌, ◌^◌, length};
+
+/// The faults of a whole run by their names, and the first test that detects each, or none.
+#[derive(Drop)]
+pub struct Merged<'a> {
+    faults: Vec<&'a [u8]>,
+    firsts: Vec<Option<u32>>,
+    ghost same: { length firsts.items ≡ length faults.items },
+    ghost some: { 0 < length firsts.items },
+    ghost few: { length firsts.items < 2 ^ 32 },
+}
+
+impl<'a> Merged<'a> {
+    /// Faults with their first tests.
+    pub(crate) fn of(faults: Vec<&'a [u8]>, firsts: Vec<Option<u32>>) -> Merged<'a>
+        requires same { length firsts.items ≡ length faults.items }
+        requires some { 0 < length firsts.items }
+        requires few { length firsts.items < 2 ^ 32 }
+        ensures faults { result.faults ≡ faults.entry }
+        ensures firsts { result.firsts ≡ firsts }
+    {
+        Merged { faults, firsts }
+    }
+
+    /// The names of the faults.
+    pub(crate) fn faults(&self) -> &[&'a [u8]]
+        ensures { result.now ≡ self.now.faults.items }
+    {
+        self.faults.as_slice()
+    }
+
+    /// The first tests.
+    pub(crate) fn firsts(&self) -> &[Option<u32>]
+        ensures { result.now ≡ self.now.firsts.items }
+    {
+        self.firsts.as_slice()
+    }
+}
