@@ -8,6 +8,7 @@
 #![tactic(auto)]
 
 mod cut;
+mod detected;
 mod joining;
 mod laws;
 mod merge;
@@ -16,6 +17,7 @@ mod part_reader;
 mod report;
 mod text;
 
+pub use detected::{detections_text_in, write_detections};
 pub use joining::MergeFault;
 pub use laws::{no_refusal_of_part_text, one_part_text};
 pub use merge::Merge;

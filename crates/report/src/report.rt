@@ -107,7 +107,7 @@ fn put_fault<W: Out>(
 }
 
 /// Writes the coverage line, `D of T (P.PP%)`: the percentage is cut off after two decimals.
-fn put_coverage<W: Out>(detected: u32, total: u32, out: &mut W) -> Result<(), OutFailed>
+pub(crate) fn put_coverage<W: Out>(detected: u32, total: u32, out: &mut W) -> Result<(), OutFailed>
     requires { 0 < total }
     ensures { Writes result (W.seen out.old) (W.seen out.new) (coverage_line detected total) }
 {
