@@ -1,5 +1,6 @@
 -- Every class has a true outcome on every block, and no second one.
 use Rattle.std.proofs.Common.{◌≡◌, ◌≢◌, ◌⊎◌, ◌<◌, ◌≤◌, ◌+◌, ◌*◌, inl, inr, ℕ, zero, suc, Bool, true, false, List, [], ◌∷◌, length, get_or, Option, Some, None, refl, sym, ap, ◌∙◌, subst, arith}
+use Rattle.std.specs.Bool.{Decides}
 use Rattle.std.specs.Prelude.{slice_get, Contains, unwrap_or, is_none}
 use Rattle.std.proofs.lemmas.Bool.{cases_lt}
 use Rattle.bench_net.specs.declared.Sink.{Sink}
@@ -142,6 +143,22 @@ module _ (c : List Statement) (tests : List Test) (well : IsWellFormed c) where
   class_true m class block r None at is = let bad : None ≡ Some r = sym at ∙ is in absurd (cc)
   class_true m class block r (Some f) at is =
       (f, at, (outcome_from m f block (size_of (length tests) block) 0 (class_listed m f class at) (omega arith) (λ lower lt d. absurd (omega (arith, lt)))).1)
+
+-- which tests detect the representative of a class
+pub which_detect : (m : Model) (c : List Statement) (tests : List Test) (class : ℕ) (r : Fault) → IsWellFormed c → slice_get (representatives m c) class ≡ Some r
+    → (detects : ℕ → Bool) × ((t : ℕ) → Decides (detects t) (DetectsAt c tests r t))
+which_detect m c tests class r well at = (λ t. told (or t), λ t. decided (or t))
+  where
+    or : (t : ℕ) → Or (DetectsAt c tests r t)
+    or t = at_or c tests well m r t (class_listed c tests well m r class at)
+
+    told : {P : Type 0} → Or P → Bool
+    told (inl p) = true
+    told (inr not) = false
+
+    decided : {P : Type 0} (d : Or P) → Decides (told d) P
+    decided (inl p) = (λ e. p, λ q. refl)
+    decided (inr not) = (λ e. absurd (cc), λ q. absurd (not q))
 
 pub true_table : (m : Model) (c : List Statement) (tests : List Test) → IsWellFormed c → (table : Table) × IsTrueTable m c tests table
 true_table m c tests well = (

@@ -9,6 +9,7 @@
 
 mod contents;
 mod cut;
+mod detected;
 mod ending;
 mod joining;
 mod laws;
@@ -20,6 +21,7 @@ mod report;
 mod text;
 
 pub use contents::{Contents, Lines};
+pub use detected::{detections_text_in, write_detections};
 pub use ending::write_merged;
 pub use joining::MergeFault;
 pub use laws::{class_firsts_are, no_refusal_of_part_text, one_part_text};

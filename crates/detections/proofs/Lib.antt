@@ -1,0 +1,4 @@
+mod Counting
+mod Classes
+mod Shares
+mod Pushed

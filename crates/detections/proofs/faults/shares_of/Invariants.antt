@@ -1,0 +1,11 @@
+use Rattle.std.proofs.Common.{◌≡◌, ℕ, vec_len}
+use Rattle.std.specs.Prelude.{Some, slice_get}
+use Rattle.detections.specs.declared.share.Share.{Share}
+use Rattle.detections.specs.Share.{IsShareFor}
+use Rattle.detections.proofs.faults.shares_of.Given as goal
+
+abbrev pub invariant-loop-first : goal.invariant-loop-first
+invariant-loop-first l = record {
+  count : vec_len l.shares ≡ l.first;
+  each : (i : ℕ) (share : Share) → slice_get l.shares.items i ≡ Some share → IsShareFor l.job i l.workers share;
+}

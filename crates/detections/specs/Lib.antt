@@ -1,0 +1,2 @@
+pub mod Detections
+pub mod Share

@@ -1,0 +1,95 @@
+//! How many tests detect each fault.
+
+ghost use Rattle.std.specs.Prelude.{◌≡◌, ◌<◌, ◌≤◌, ℕ, IfOk, Some, length, slice_get};
+ghost use Rattle.detections.specs.Detections.{AreCounts, IsClassCount};
+ghost use Rattle.detections.specs.Share.{AreShares, HasCounted, HaveCounted, IsShareFor};
+
+use crate::share::{Share, count_share};
+use block_sim::Job;
+use std::alloc::{AllocError, Global};
+use std::thread;
+use std::thread::Threads;
+
+/// For each fault of the job's list, before collapsing, the number of tests that detect it. No more
+/// than `most` are counted of a fault, so that a fault with `most` may be detected by more.
+///
+/// A transition fault is counted at the second test of each pair that detects it. The classes are
+/// shared out among as many workers, each in a thread of its own; the counts are the same for
+/// every number. It takes two numbers for each fault, and for each worker a workspace.
+pub fn detections<R: Threads + Sync>(
+    rt: &R,
+    alloc: Global,
+    job: &Job,
+    most: u32,
+    workers: u32,
+) -> Result<Vec<u32>, AllocError>
+    requires workers { 0 < workers }
+    ensures { IfOk result (λ counts. AreCounts job.now.list.model job.now.circuit
+        job.now.tests.tests most counts.items) }
+{
+    let mut shares = shares_of(alloc, job, workers)?;
+    count_shares(rt, job, most, workers, shares.as_mut_slice());
+    by_fault(alloc, job, most, workers, shares.as_slice())
+}
+
+/// A share for each worker.
+fn shares_of(alloc: Global, job: &Job, workers: u32) -> Result<Vec<Share>, AllocError>
+    requires { 0 < workers }
+    ensures { IfOk result (λ shares. AreShares job.now workers shares.items) }
+{
+    let mut shares = Vec::with_capacity(alloc, workers as usize)?;
+    for first in 0..workers {
+        shares.push(Share::new(alloc, job, first, workers)?)?;
+    }
+    Ok(shares)
+}
+
+/// Counts for the classes of all shares, each in a thread of its own.
+fn count_shares<R: Threads + Sync>(rt: &R, job: &Job, most: u32, workers: u32, shares: &mut [Share])
+    requires workers { 0 < workers }
+    requires shares { AreShares job.now workers shares.old }
+    ensures { HaveCounted job.now most workers shares.new }
+{
+    let count = |_place: usize, share: &mut Share|
+        requires { IsShareFor job.now share.old.first workers share.old }
+        ensures counted { HasCounted job.entry.now most share.old.first workers
+            share.new.counts.items }
+        ensures first { share.new.first ≡ share.old.first }
+    {
+        count_share(job, most, workers, share);
+    };
+    thread::for_each_mut(rt, shares, workers as usize, &count);
+}
+
+/// The count of each fault, which is that of its class.
+fn by_fault(
+    alloc: Global,
+    job: &Job,
+    most: u32,
+    workers: u32,
+    shares: &[Share],
+) -> Result<Vec<u32>, AllocError>
+    requires workers { 0 < workers }
+    requires counted { HaveCounted job.now most workers shares.now }
+    ensures { IfOk result (λ counts. AreCounts job.now.list.model job.now.circuit
+        job.now.tests.tests most counts.items) }
+{
+    let count = job.faults().count();
+    let mut counts = Vec::with_capacity(alloc, count as usize)?;
+    for fault in 0..count {
+        let class = job.classes().class_of(fault);
+        counts.push(count_in(job, most, workers, shares, class))?;
+    }
+    Ok(counts)
+}
+
+/// The count of a class.
+fn count_in(job: &Job, most: u32, workers: u32, shares: &[Share], class: u32) -> u32
+    requires workers { 0 < workers }
+    requires class { class < length job.now.classes.representative }
+    requires counted { HaveCounted job.now most workers shares.now }
+    ensures { IsClassCount job.now most class result }
+{
+    let share = &shares[(class % workers) as usize];
+    share.counts[(class / workers) as usize]
+}

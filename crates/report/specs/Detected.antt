@@ -1,0 +1,40 @@
+-- The text of how many tests detect each fault.
+use Rattle.std.specs.Prelude.{◌≡◌, ℕ, Bool, List, [], ◌++◌, count_by, codes, decimal, flat_map, if◌then◌else◌, length, nat_le, zip}
+use Rattle.bench_net.specs.Statement.{Statement}
+use Rattle.bench_net.specs.Refusal.{IsAccepted}
+use Rattle.bench_net.specs.Scan.{sources}
+use Rattle.fault_model.specs.declared.Model.{Model}
+use Rattle.fault_model.specs.Fault.{Fault, faults}
+use Rattle.patterns.specs.Tests.{TestList, HasTests}
+use Rattle.block_sim.specs.Parts.{Parts}
+use Rattle.detections.specs.Detections.{AreCounts}
+use Rattle.report.specs.Report.{coverage_line, fault_text}
+
+-- a line: `FAULT COUNT`
+abbrev pub count_line : List Statement → Fault × ℕ → List ℕ
+count_line c at = fault_text c at.0 ++ (codes " " ++ decimal at.1 ++ codes "\n")
+
+-- the number of faults that at least so many tests detect
+abbrev pub reached : ℕ → List ℕ → ℕ
+reached most counts = count_by (nat_le most) counts
+
+-- the report: the line of each fault where they are asked for, and the coverage line of the faults
+-- that at least so many tests detect
+abbrev pub detection_report : Model → List Statement → ℕ → List ℕ → Bool → List ℕ
+detection_report m c most counts list =
+    (if list then flat_map (count_line c) (zip (faults m c) counts) else [])
+    ++ coverage_line (reached most counts) (length counts)
+
+-- the bytes are this report of a bench text and a test text under a model: each fault has the number
+-- of tests that detect it, of which so many are counted at most
+abbrev pub IsDetectionReportOf : Model → List ℕ → List ℕ → ℕ → Bool → List ℕ → Type 0
+IsDetectionReportOf m bench text most list bytes = (c : List Statement) × (tests : TestList)
+    × (counts : List ℕ) × IsAccepted bench c
+    × HasTests text (length (sources c)) tests × AreCounts m c tests.tests most counts
+    × (bytes ≡ detection_report m c most counts list)
+
+-- the same of a job
+abbrev pub IsDetectionReportOfJob : Parts → ℕ → Bool → List ℕ → Type 0
+IsDetectionReportOfJob job most list bytes = (counts : List ℕ)
+    × AreCounts job.list.model job.circuit job.tests.tests most counts
+    × (bytes ≡ detection_report job.list.model job.circuit most counts list)

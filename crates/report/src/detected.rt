@@ -1,0 +1,169 @@
+//! How many tests detect each fault, from the bytes of texts to the bytes of a report.
+
+ghost use Rattle.std.specs.Prelude.{◌≡◌, ◌<◌, ◌≤◌, ◌^◌, ◌++◌, ⊤, IfErr, IfOk, OnOk, Some, codes, decimal, length};
+ghost use Rattle.std.specs.Prelude.{slice_get, zip};
+ghost use Rattle.std.specs.List.{flat_map};
+ghost use Rattle.fault_model.specs.Fault.{Fault, faults};
+ghost use Rattle.block_sim.specs.Parts.{BelongTogether};
+ghost use Rattle.detections.specs.Detections.{AreCounts};
+ghost use Rattle.output.specs.Output.{Writes};
+ghost use Rattle.report.specs.Detected.{IsDetectionReportOf, IsDetectionReportOfJob, count_line, detection_report, reached};
+ghost use Rattle.report.specs.EndToEnd.{IsReportFault, IsRunReportFault, WritesOneOf};
+ghost use Rattle.workers.specs.Refused.{IsRunFault};
+
+use crate::report::{ReportFault, put_coverage, put_fault_line};
+use crate::text::{SimFault, job_of};
+use bench_net::Circuit;
+use block_sim::Job;
+use detections::detections;
+use fault_model::{Faults, Model};
+use itoa::Buffer;
+use output::{Out, OutFailed};
+use std::alloc::Global;
+use std::thread::Threads;
+use workers::{MAX_WORKERS, RunFault};
+
+/// Reads a circuit and tests for it, and writes how many tests detect each fault of a model: with
+/// `list` a line for each fault, and then how many faults at least `most` tests detect. No more
+/// than `most` are counted of a fault.
+///
+/// It is refused as [`crate::simulate_text_in`] is, in the same order.
+pub fn detections_text_in<R: Threads + Sync, W: Out>(
+    rt: &R,
+    alloc: Global,
+    model: Model,
+    bench: &[u8],
+    tests: &[u8],
+    most: u32,
+    workers: u32,
+    list: bool,
+    out: &mut W,
+) -> Result<(), SimFault>
+    ensures written { WritesOneOf (IsDetectionReportOf model bench.now tests.now most list) result
+        (W.seen out.old) (W.seen out.new) }
+    ensures refused { IfErr result (IsReportFault model bench.now tests.now workers) }
+    ensures workers { OnOk result ((0 < workers) × (workers ≤ 64)) }
+{
+    let job = job_of(alloc, model, bench, tests)?;
+    report_counts(rt, alloc, &job, most, workers, list, out)
+}
+
+/// Counts for a job, and writes the report.
+fn report_counts<R: Threads + Sync, W: Out>(
+    rt: &R,
+    alloc: Global,
+    job: &Job,
+    most: u32,
+    workers: u32,
+    list: bool,
+    out: &mut W,
+) -> Result<(), SimFault>
+    requires job { BelongTogether job.now }
+    ensures written { WritesOneOf (IsDetectionReportOfJob job.now most list) result
+        (W.seen out.old) (W.seen out.new) }
+    ensures refused { IfErr result (IsRunReportFault job.now workers) }
+    ensures workers { OnOk result ((0 < workers) × (workers ≤ 64)) }
+{
+    let counts = counts_of(rt, alloc, job, most, workers)?;
+    write_detections(job, counts.as_slice(), most, list, out)?;
+    Ok(())
+}
+
+/// Counts for a job, where the number of workers is one of a run.
+fn counts_of<R: Threads + Sync>(
+    rt: &R,
+    alloc: Global,
+    job: &Job,
+    most: u32,
+    workers: u32,
+) -> Result<Vec<u32>, RunFault>
+    ensures counts { IfOk result (λ counts. AreCounts job.now.list.model job.now.circuit
+        job.now.tests.tests most counts.items) }
+    ensures refused { IfErr result (IsRunFault job.now workers ⊤ (λ _ _ _. ⊥)) }
+    ensures workers { OnOk result ((0 < workers) × (workers ≤ 64)) }
+{
+    match workers {
+        0 => Err(RunFault::NoWorkers),
+        1..=MAX_WORKERS => Ok(detections(rt, alloc, job, most, workers)?),
+        _ => Err(RunFault::TooManyWorkers),
+    }
+}
+
+/// Writes the report of how many tests detect each fault of a job: with `listed` a line for each,
+/// and then how many faults at least `most` tests detect. It takes no memory.
+pub fn write_detections<W: Out>(
+    job: &Job,
+    counts: &[u32],
+    most: u32,
+    listed: bool,
+    out: &mut W,
+) -> Result<(), ReportFault>
+    requires count { length counts.now ≡ length job.now.list.list }
+    ensures { Writes result (W.seen out.old) (W.seen out.new)
+        (detection_report job.now.list.model job.now.circuit most counts.now listed) }
+{
+    let circuit = job.circuit();
+    let signals = circuit.signals();
+    prove!(signals > 0);
+    let list = job.faults();
+    let found = count_reached(list, counts, most);
+    if !listed {
+        return Ok(put_coverage(found, list.count(), "", out)?);
+    }
+    put_lines(circuit, list, counts, out)?;
+    put_coverage(found, list.count(), "", out)?;
+    Ok(())
+}
+
+/// How many faults of a list at least so many tests detect.
+fn count_reached(list: &Faults, counts: &[u32], most: u32) -> u32
+    requires count { length counts.now ≡ length list.now.list }
+    ensures { result ≡ reached most counts.now }
+{
+    let _all = list.count();
+    counts.iter().filter(|count| most <= **count).count() as u32
+}
+
+/// Writes a line for each fault: the fault, and how many tests detect it.
+fn put_lines<W: Out>(
+    circuit: &Circuit,
+    list: &Faults,
+    counts: &[u32],
+    out: &mut W,
+) -> Result<(), OutFailed>
+    requires list { list.now.list ≡ faults list.now.model circuit.now }
+    requires count { length counts.now ≡ length list.now.list }
+    ensures { Writes result (W.seen out.old) (W.seen out.new)
+        (flat_map (count_line circuit.now)
+        (zip (faults list.now.model circuit.now) counts.now)) }
+{
+    for fault in 0..list.count() {
+        put_count_line(circuit, list, fault, count_at(counts, fault), out)?;
+    }
+    Ok(())
+}
+
+/// The count of a fault.
+fn count_at(counts: &[u32], fault: u32) -> u32
+    requires { fault < length counts.now }
+    ensures { slice_get counts.now fault ≡ Some result }
+{
+    counts[fault as usize]
+}
+
+/// Writes the line of a fault.
+fn put_count_line<W: Out>(
+    circuit: &Circuit,
+    list: &Faults,
+    fault: u32,
+    count: u32,
+    out: &mut W,
+) -> Result<(), OutFailed>
+    requires list { list.now.list ≡ faults list.now.model circuit.now }
+    requires in_range { fault < length list.now.list }
+    ensures { (f : Fault) → slice_get list.now.list fault ≡ Some f
+        → Writes result (W.seen out.old) (W.seen out.new) (count_line circuit.now (f, count)) }
+{
+    let mut number = Buffer::new();
+    put_fault_line(circuit, list, fault, " ", number.format(count), out)
+}
