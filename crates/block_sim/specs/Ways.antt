@@ -6,6 +6,7 @@ use Rattle.std.specs.List.{enumerate_from, sum_by}
 use Rattle.bench_net.specs.Statement.{Statement}
 use Rattle.fault_model.specs.declared.Line.{Line}
 use Rattle.fault_model.specs.declared.Line.TheVariants as line
+use Rattle.fault_model.specs.declared.Model.{Model}
 use Rattle.fault_model.specs.Fault.{Fault}
 use Rattle.fault_model.specs.Solution.{Test}
 use Rattle.fault_model.specs.Collapse.{representatives}
@@ -35,15 +36,22 @@ IsWayOfLine c (line.Data cell) n = n ≡ 0
 IsWayOfLine c (line.Out output) n = n ≡ 0
 
 -- the same of a class: that of its representative's line
-abbrev pub IsWayOfClass : Parts → ℕ → ℕ → Type 0
-IsWayOfClass job class n =
-    (f : Fault) × (slice_get (representatives job.list.model job.circuit) class ≡ Some f)
-    × IsWayOfLine job.circuit f.line n
+abbrev pub IsWayOfClass : Model → List Statement → ℕ → ℕ → Type 0
+IsWayOfClass m c class n =
+    (f : Fault) × (slice_get (representatives m c) class ≡ Some f) × IsWayOfLine c f.line n
+
+-- each class has such a number, and has one alone
+abbrev pub SomeWayLaw : Model → List Statement → Type 0
+SomeWayLaw m c = (class : ℕ) → class < length (representatives m c)
+    → (n : ℕ) × IsWayOfClass m c class n
+
+abbrev pub OneWayLaw : Model → List Statement → Type 0
+OneWayLaw m c = (class n k : ℕ) → IsWayOfClass m c class n → IsWayOfClass m c class k → n ≡ k
 
 -- so many gates it takes for each class of a job
 abbrev pub AreWays : Parts → (ℕ → ℕ) → Type 0
 AreWays job way = (class : ℕ) → class < length job.classes.representative
-    → IsWayOfClass job class (way class)
+    → IsWayOfClass job.list.model job.circuit class (way class)
 
 -- what is known of a class is known on this block
 abbrev pub is_on : ℕ → Memo → Bool

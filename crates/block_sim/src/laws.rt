@@ -14,6 +14,7 @@ ghost use Rattle.block_sim.specs.First.{IsTrueOutcome, IsTrueTable, LeastIsFirst
 ghost use Rattle.block_sim.specs.Regions.{FaultLaw, LanesLaw, LeadLaw, ObserverLaw, OneClassStemLaw};
 ghost use Rattle.block_sim.specs.Regions.{OneStemLaw, PinLaw, RegionLaw, SomeClassStemLaw};
 ghost use Rattle.block_sim.specs.Regions.{SomeStemLaw, StemLaw, StepLaw};
+ghost use Rattle.block_sim.specs.Ways.{OneWayLaw, SomeWayLaw};
 
 /// The first test that detects a fault is found by blocks: over a table with the true outcome of
 /// each class and block, the test of a class's first Hit is the first test that detects each fault
@@ -40,6 +41,12 @@ pub fn one_outcome()
 pub fn class_stems()
     ensures one { (m : Model) (c : List Statement) → OneClassStemLaw m c }
     ensures some { (m : Model) (c : List Statement) → IsWellFormed c → SomeClassStemLaw m c }
+{}
+
+/// It takes some number of gates to follow a class to its stem, in either model, and no other.
+pub fn class_ways()
+    ensures one { (m : Model) (c : List Statement) → OneWayLaw m c }
+    ensures some { (m : Model) (c : List Statement) → IsWellFormed c → SomeWayLaw m c }
 {}
 
 /// Faults share what lies behind the stem of a fan-out-free region: a signal that one gate alone

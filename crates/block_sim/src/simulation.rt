@@ -136,7 +136,8 @@ impl Simulation {
     /// It follows classes of the region, this one among them, that are known on the block from then
     /// on and were not before. At most it evaluates the gates on their ways to the stem, and once
     /// each those that the stem stirs where it is turned round: gates with a pin that sees under
-    /// some test of the block another bit then.
+    /// some test of the block another bit then. Where the class is known on the block it evaluates
+    /// none.
     pub fn outcome(&mut self, job: &Job, class: u32, block: u32) -> Outcome
         requires serves { Serves self.old job.now }
         requires class { class < length job.now.classes.representative }
@@ -149,6 +150,8 @@ impl Simulation {
             → HasStirredByFlip job.now.circuit job.now.tests.tests block stem gates
             → self.new.evaluations + known_ways way block self.old.memos
             ≤ self.old.evaluations + known_ways way block self.new.memos + length gates }
+        ensures again { is_on block (slice_index_or self.old.memos class Memo.Nothing) ≡ true
+            → self.new.evaluations ≡ self.old.evaluations }
         ensures grown { self.old.evaluations ≤ self.new.evaluations }
     {
         let _circuit = job.flat();
@@ -226,7 +229,8 @@ fn follow_alone(job: &Job, class: u32, block: u32, changes: &mut Changes) -> App
     ensures approach { IsApproach job.now class block result }
     ensures stem { (at : Arrival) → result ≡ Approach.Stem at
         → IsStemOfClass job.now.list.model job.now.circuit class at.signal }
-    ensures counted { (way : ℕ) → IsWayOfClass job.now class way
+    ensures counted { (way : ℕ)
+        → IsWayOfClass job.now.list.model job.now.circuit class way
         → changes.new.evaluations ≤ changes.old.evaluations + way }
     ensures grown { changes.old.evaluations ≤ changes.new.evaluations }
     ensures room { IsAsLarge changes.old changes.new }

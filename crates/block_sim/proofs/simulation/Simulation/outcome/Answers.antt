@@ -1,5 +1,6 @@
-use Rattle.std.proofs.Common.{◌≡◌, ◌<◌, ◌≤◌, ◌++◌, ℕ, List, length, refl, subst, sym, ◌∙◌, ap, false, arith, take, drop}
+use Rattle.std.proofs.Common.{◌≡◌, ◌<◌, ◌≤◌, ◌++◌, ℕ, List, length, refl, subst, sym, ◌∙◌, ap, true, false, arith, take, drop}
 use Rattle.std.specs.Prelude.{slice_index_or}
+use Rattle.std.proofs.lemmas.Bool.{false≢true}
 use Rattle.std.proofs.Math.Seq.{take-append_seam}
 use Rattle.std.proofs.lemmas.List.{get_or_read}
 use Rattle.bench_net.specs.Scan.{names}
@@ -101,3 +102,31 @@ returns-in-Stem-clause-counted c = λ way stem gates ways at stirred.
     let from : c.self.inside.changes.evaluations ≡ c.args.self.now.evaluations = ap (λ v. v.evaluations) c.self.view_is in
     let lent : known_ways way block c.deref_mut.result.now ≡ known_ways way block memos = ap (known_ways way block) c.deref_mut.ensures.value in
     omega (arith, own, all, after, before, lent, from)
+
+pub returns-in-Known-clause-again : goal.returns-in-Known-clause-again
+returns-in-Known-clause-again c = λ known.
+    let job = c.args.job.now in
+    let block = c.args.block in
+    let class = c.args.class in
+    let served = subst (λ v. Serves v job) (sym c.self.view_is) c.requires.serves in
+    let memos = c.self.inside.memos.items in
+    let low : class < length memos = (let count = served.outcomes.count in omega (arith, c.requires.class, count)) in
+    let is = get_or_read memos _ _ low c.index.ensures Nothing in
+    let idle : is_on block (slice_index_or memos class Nothing) ≡ false = ap (is_on block) (sym is)
+    ∙ c.on.ensures.none job class (subst (IsTrueMemo job class) (sym is) (served.outcomes.each class)) c.in_default.is in
+    let now : is_on block (slice_index_or memos class Nothing) ≡ true = ap (λ v. is_on block (slice_index_or v.memos class Nothing)) c.self.view_is ∙ known in
+    absurd (false≢true (sym idle ∙ now))
+
+pub returns-in-Stem-clause-again : goal.returns-in-Stem-clause-again
+returns-in-Stem-clause-again c = λ known.
+    let job = c.args.job.now in
+    let block = c.args.block in
+    let class = c.args.class in
+    let served = subst (λ v. Serves v job) (sym c.self.view_is) c.requires.serves in
+    let memos = c.self.inside.memos.items in
+    let low : class < length memos = (let count = served.outcomes.count in omega (arith, c.requires.class, count)) in
+    let is = get_or_read memos _ _ low c.index.ensures Nothing in
+    let idle : is_on block (slice_index_or memos class Nothing) ≡ false = ap (is_on block) (sym is)
+    ∙ c.on.ensures.none job class (subst (IsTrueMemo job class) (sym is) (served.outcomes.each class)) c.in_default.is in
+    let now : is_on block (slice_index_or memos class Nothing) ≡ true = ap (λ v. is_on block (slice_index_or v.memos class Nothing)) c.self.view_is ∙ known in
+    absurd (false≢true (sym idle ∙ now))
