@@ -8,6 +8,8 @@ mod commands;
 #[cfg(test)]
 mod limits;
 #[cfg(test)]
+mod merges;
+#[cfg(test)]
 mod outputs;
 #[cfg(test)]
 mod parts;

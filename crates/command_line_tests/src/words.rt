@@ -10,7 +10,7 @@ pub static MISSING: [&str; 5] = [
 ];
 
 /// Command lines that the program refuses, and what it says of each.
-pub static MISUSED: [(&str, &str); 28] = [
+pub static MISUSED: [(&str, &str); 30] = [
     ("faultsim", "Usage"),
     ("faultsim simulate", "simulate"),
     ("faultsim run --bench bench", "--tests <FILE>"),
@@ -28,6 +28,8 @@ pub static MISUSED: [(&str, &str); 28] = [
         "--order",
     ),
     ("faultsim faults", "--bench <FILE>"),
+    ("faultsim merge --list", "<FILE>..."),
+    ("faultsim merge first --parts 2", "--parts"),
     ("faultsim faults --bench bench --list", "--list"),
     ("faultsim faults --bench bench --model delay", "delay"),
     (
@@ -107,7 +109,7 @@ pub static MISUSED: [(&str, &str); 28] = [
 /// What help tells: the version, each option with the name of its value, the defaults, the range of
 /// the workers, a worked example and the status. The outputs of the examples are cases of their
 /// own.
-pub static HELP: [(&str, &str); 21] = [
+pub static HELP: [(&str, &str); 24] = [
     ("faultsim --version", "faultsim 0.2.0\n"),
     ("faultsim --help", "6 of 6 (100.00%)"),
     ("faultsim help run", "--bench <FILE>"),
@@ -129,4 +131,7 @@ pub static HELP: [(&str, &str); 21] = [
     ("faultsim schedule --help", "[default: 4]"),
     ("faultsim faults --help", "4 faults in 2 classes"),
     ("faultsim faults --help", "/dev/stdin"),
+    ("faultsim merge --help", "<FILE>..."),
+    ("faultsim merge --help", "--list"),
+    ("faultsim merge --help", "6 of 6 (100.00%)"),
 ];
