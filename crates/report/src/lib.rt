@@ -20,7 +20,7 @@ mod text;
 
 pub use ending::write_merged;
 pub use joining::MergeFault;
-pub use laws::{no_refusal_of_part_text, one_part_text};
+pub use laws::{no_refusal_of_part_text, one_part_text, one_report};
 pub use merge::Merge;
 pub use merged::Merged;
 pub use output::{Formatted, Out, OutFailed, Plain};
