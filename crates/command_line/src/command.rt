@@ -5,13 +5,15 @@ ghost use Rattle.command_line.specs.Split.{HasParts};
 
 use crate::options::{MAX_PARTS, Task, command_line, model_named, workers_help};
 use crate::source::{Source, SourceFault};
-use crate::status::{DONE, Fault, MISUSED, NO_MEMORY, UNWRITTEN, answer_fault};
+use crate::status::{
+    DONE, Fault, MISUSED, NO_MEMORY, UNWRITTEN, answer_fault, merge_fault, part_fault,
+};
 use clap::error::ErrorKind;
 use clap::{ArgMatches, Error};
 use fault_model::Model;
 use report::{
-    Contents, Formatted, Lines, Out, faults_text_in, part_text_in, schedule_text_in,
-    simulate_text_in, simulate_text_in_parts,
+    Contents, Formatted, Lines, Merge, Merged, Out, ReportFault, faults_text_in, part_text_in,
+    schedule_text_in, simulate_text_in, simulate_text_in_parts, write_merged,
 };
 use std::alloc::{AllocError, Global};
 use std::fmt::Write;
@@ -107,6 +109,7 @@ fn do_task<'a, R: Threads + Wait, S: Source, W: Out>(
         Some(Task::Run) => do_run(rt, alloc, options, files, out),
         Some(Task::Schedule) => do_schedule(alloc, options, files, out),
         Some(Task::Faults) => do_faults(alloc, options, files, out),
+        Some(Task::Merge) => do_merge(alloc, options, files, out),
         None => Err(Fault::Misused(name)),
     }
 }
@@ -126,9 +129,18 @@ fn read_option<'a, S: Source>(
     option: &'a str,
     files: &mut S,
 ) -> Result<Vec<u8>, Fault<'a>> {
-    let Some(path) = matches.get_str(option) else {
-        return Err(Fault::Misused(option));
-    };
+    match matches.get_str(option) {
+        Some(path) => read_file(alloc, path, files),
+        None => Err(Fault::Misused(option)),
+    }
+}
+
+/// Reads the file at a path.
+fn read_file<'a, S: Source>(
+    alloc: Global,
+    path: &'a str,
+    files: &mut S,
+) -> Result<Vec<u8>, Fault<'a>> {
     match files.read(alloc, path) {
         Ok(text) => Ok(text),
         Err(SourceFault::Unreadable) => Err(Fault::Unreadable(path)),
@@ -278,4 +290,48 @@ fn do_faults<'a, S: Source, W: Out>(
         Ok(()) => Ok(()),
         Err(fault) => Err(Fault::Sim(fault)),
     }
+}
+
+/// `merge`: one file is read after another. The names of the faults stay in the first text, and each
+/// other text is let go once its verdicts are taken over. All is known before anything is written.
+fn do_merge<'a, S: Source, W: Out>(
+    alloc: Global,
+    matches: &ArgMatches<'a>,
+    files: &mut S,
+    out: &mut W,
+) -> Result<(), Fault<'a>> {
+    let Some(paths) = matches.get_strs("part texts") else {
+        return Err(Fault::Misused("FILE"));
+    };
+    let Some((first, others)) = paths.split_first() else {
+        return Err(Fault::Misused("FILE"));
+    };
+    let text = read_file(alloc, first, files)?;
+    let merged = merge_files(alloc, first, &text, others, files)?;
+    match write_merged(&merged, read_lines(matches)?, out) {
+        Ok(()) => Ok(()),
+        Err(ReportFault::Write) => Err(UNWRITTEN),
+    }
+}
+
+/// What the part text of the first file and those of the other files say together.
+fn merge_files<'a, 't, S: Source>(
+    alloc: Global,
+    first: &'a str,
+    text: &'t [u8],
+    others: &[&'a str],
+    files: &mut S,
+) -> Result<Merged<'t>, Fault<'a>> {
+    let mut merge = match Merge::of(alloc, text) {
+        Ok(merge) => merge,
+        Err(fault) => return Err(part_fault(first, fault)),
+    };
+    for path in others {
+        let more = read_file(alloc, path, files)?;
+        merge = match merge.add(alloc, &more) {
+            Ok(sum) => sum,
+            Err(fault) => return Err(part_fault(path, fault)),
+        };
+    }
+    merge.end(alloc).map_err(merge_fault)
 }

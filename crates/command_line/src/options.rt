@@ -17,10 +17,11 @@ pub(crate) enum Task {
     Run,
     Schedule,
     Faults,
+    Merge,
 }
 
 /// All that it can be asked to do.
-static TASKS: [Task; 3] = [Task::Run, Task::Schedule, Task::Faults];
+static TASKS: [Task; 4] = [Task::Run, Task::Schedule, Task::Faults, Task::Merge];
 
 // The texts live as long as is asked for, since a command has one lifetime for all its texts.
 impl Task {
@@ -30,6 +31,7 @@ impl Task {
             Task::Run => "run",
             Task::Schedule => "schedule",
             Task::Faults => "faults",
+            Task::Merge => "merge",
         }
     }
 
@@ -41,6 +43,7 @@ impl Task {
                 "Does what run does by one thread, with the workers' moves in a given order"
             }
             Task::Faults => "Lists all faults of a model with their classes",
+            Task::Merge => "Tells what a run tells from the texts of all its parts",
         }
     }
 
@@ -50,6 +53,7 @@ impl Task {
             Task::Run => ABOUT_RUN,
             Task::Schedule => ABOUT_SCHEDULE,
             Task::Faults => ABOUT_FAULTS,
+            Task::Merge => ABOUT_MERGE,
         }
     }
 
@@ -59,6 +63,7 @@ impl Task {
             Task::Run => &RUN_CHOICES,
             Task::Schedule => &SCHEDULE_CHOICES,
             Task::Faults => &FAULTS_CHOICES,
+            Task::Merge => &MERGE_CHOICES,
         }
     }
 
@@ -81,6 +86,7 @@ enum Choice {
     List,
     Undetected,
     Classes,
+    PartTexts,
 }
 
 /// The options of `run`.
@@ -110,6 +116,9 @@ static SCHEDULE_CHOICES: [Choice; 8] = [
 
 /// The options of `faults`.
 static FAULTS_CHOICES: [Choice; 2] = [Choice::Bench, Choice::Model];
+
+/// The options of `merge`.
+static MERGE_CHOICES: [Choice; 3] = [Choice::List, Choice::Undetected, Choice::PartTexts];
 
 /// The fault models by their names on the command line.
 static MODELS: [&str; 2] = ["stuck", "transition"];
@@ -210,6 +219,28 @@ tells the class of each fault, counted from 0; faults of one class are detected 
 
 Each FILE is read whole. /dev/stdin serves as a file, too.";
 
+/// What is said after the long help of `merge`.
+const ABOUT_MERGE: &str = "\
+Example, a circuit and tests for it, one a line:
+
+    a.bench          a.tests
+    INPUT(a)         00
+    INPUT(b)         01
+    OUTPUT(z)        10
+    z = AND(a, b)    11
+
+    faultsim run --bench a.bench --tests a.tests --part 1/2 > part.1
+    faultsim run --bench a.bench --tests a.tests --part 2/2 > part.2
+    faultsim merge part.1 part.2
+
+tells what the run tells that is not cut into parts:
+
+    6 of 6 (100.00%)
+
+The order of the files doesn't matter. All parts of one run must be there, each once.
+
+Each FILE is read whole. /dev/stdin serves as a file, too.";
+
 /// The option `--NAME FILE`.
 fn file_option<'a>(alloc: Global, name: &'a str, help: &'a str) -> Arg<'a> {
     Arg::new(alloc, name)
@@ -286,6 +317,16 @@ fn classes_flag<'a>(alloc: Global) -> Arg<'a> {
         .help("Tell the coverage of the fault classes, too")
 }
 
+/// The files `FILE..` of `merge`.
+fn part_texts<'a>(alloc: Global) -> Arg<'a> {
+    Arg::new(alloc, "part texts")
+        .value_name("FILE")
+        .action(ArgAction::Append)
+        .num_args(1..)
+        .required(true)
+        .help("The part texts of one run, in any order")
+}
+
 /// An option, with the help of `--workers N`.
 fn option<'a>(alloc: Global, choice: Choice, workers: &'a str) -> Result<Arg<'a>, AllocError> {
     let option = match choice {
@@ -307,6 +348,7 @@ fn option<'a>(alloc: Global, choice: Choice, workers: &'a str) -> Result<Arg<'a>
         Choice::List => list_flag(alloc),
         Choice::Undetected => undetected_flag(alloc)?,
         Choice::Classes => classes_flag(alloc),
+        Choice::PartTexts => part_texts(alloc),
     };
     Ok(option)
 }

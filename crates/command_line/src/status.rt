@@ -5,7 +5,7 @@ ghost use Rattle.std.specs.Prelude.{◌<◌, ◌≤◌};
 use bench_net::BenchFault;
 use block_sim::JobFault;
 use patterns::{OrderFault, TestFault};
-use report::{Formatted, Out, ReportFault, RunFault, SimFault};
+use report::{Formatted, MergeFault, Out, PartFault, ReportFault, RunFault, SimFault};
 use std::fmt::Write;
 
 /// The status of a command that was done.
@@ -31,6 +31,10 @@ pub(crate) enum Fault<'a> {
     Unreadable(&'a str),
     /// A text is refused, or the work on it, or the output.
     Sim(SimFault),
+    /// The part text in the file at a path is refused.
+    Part(&'a str, MergeFault),
+    /// Part texts together are refused.
+    Merge(MergeFault),
 }
 
 /// The output takes nothing more.
@@ -38,6 +42,22 @@ pub(crate) const UNWRITTEN: Fault<'static> = Fault::Sim(SimFault::Report(ReportF
 
 /// Memory is refused.
 pub(crate) const NO_MEMORY: Fault<'static> = Fault::Sim(SimFault::Memory);
+
+/// The fault of the part text at a path. Want of memory is no fault of the text.
+pub(crate) fn part_fault(path: &str, fault: MergeFault) -> Fault<'_> {
+    match fault {
+        MergeFault::Memory | MergeFault::Part(PartFault::Memory) => NO_MEMORY,
+        _ => Fault::Part(path, fault),
+    }
+}
+
+/// The fault of part texts together. Want of memory is no fault of the texts.
+pub(crate) fn merge_fault(fault: MergeFault) -> Fault<'static> {
+    match fault {
+        MergeFault::Memory | MergeFault::Part(PartFault::Memory) => NO_MEMORY,
+        _ => Fault::Merge(fault),
+    }
+}
 
 /// Tells a fault in one line, and answers its status, which is no other where the line can't be
 /// told.
@@ -51,11 +71,14 @@ pub(crate) fn answer_fault<E: Out>(fault: &Fault<'_>, err: &mut E) -> u8
         Fault::Misused(option) => writeln!(text, "faultsim: cannot use {option}"),
         Fault::Unreadable(path) => writeln!(text, "faultsim: cannot read {path}"),
         Fault::Sim(fault) => writeln!(text, "faultsim: {fault}"),
+        Fault::Part(path, fault) => writeln!(text, "faultsim: {path}: {fault}"),
+        Fault::Merge(fault) => writeln!(text, "faultsim: {fault}"),
     };
     match fault {
         Fault::NoText | Fault::Misused(_) => MISUSED,
         Fault::Unreadable(_) => FAILED,
         Fault::Sim(fault) => status_of(fault),
+        Fault::Part(..) | Fault::Merge(_) => REFUSED,
     }
 }
 

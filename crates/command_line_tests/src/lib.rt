@@ -9,6 +9,8 @@ mod daily;
 #[cfg(test)]
 mod limits;
 #[cfg(test)]
+mod merges;
+#[cfg(test)]
 mod outputs;
 #[cfg(test)]
 mod parts;

@@ -90,20 +90,20 @@ pub struct Answer {
 }
 
 /// Runs the words of a command line on files, with this standard output.
-pub fn run_on<R: AllocGlobal + Threads + Wait>(
+pub fn run_on<R: AllocGlobal + Threads + Wait, S: Source + Drop>(
     rt: &R,
     line: &str,
-    files: Texts<'_>,
+    files: S,
     out: Screen,
 ) -> Result<Answer, AllocError> {
     run_between(rt, line, files, out, Screen::new(rt.alloc()))
 }
 
 /// Runs the words of a command line on files, with these outputs.
-pub fn run_between<R: AllocGlobal + Threads + Wait>(
+pub fn run_between<R: AllocGlobal + Threads + Wait, S: Source + Drop>(
     rt: &R,
     line: &str,
-    files: Texts<'_>,
+    files: S,
     mut out: Screen,
     mut err: Screen,
 ) -> Result<Answer, AllocError> {
@@ -122,10 +122,10 @@ pub struct Wanted {
 }
 
 /// Whether the program answers a command line on files as is wanted.
-pub fn answers<R: AllocGlobal + Threads + Wait>(
+pub fn answers<R: AllocGlobal + Threads + Wait, S: Source + Drop>(
     rt: &R,
     line: &str,
-    files: Texts<'_>,
+    files: S,
     wanted: Wanted,
 ) -> Result<bool, AllocError> {
     let told = run_on(rt, line, files, Screen::new(rt.alloc()))?;

@@ -28,6 +28,8 @@ pub static MISUSED: [(&str, &str); 30] = [
         "--order",
     ),
     ("faultsim faults", "--bench <FILE>"),
+    ("faultsim merge --list", "<FILE>..."),
+    ("faultsim merge first --parts 2", "--parts"),
     ("faultsim faults --bench bench --list", "--list"),
     (
         "faultsim run --bench bench --tests tests --list --undetected",
@@ -112,7 +114,7 @@ pub static MISUSED: [(&str, &str); 30] = [
 /// What help tells: the version, each option with the name of its value, the defaults, the range of
 /// the workers, a worked example and the status. The outputs of the examples are cases of their
 /// own.
-pub static HELP: [(&str, &str); 23] = [
+pub static HELP: [(&str, &str); 25] = [
     ("faultsim --version", "faultsim 0.2.0\n"),
     ("faultsim --help", "6 of 6 (100.00%)"),
     ("faultsim help run", "--bench <FILE>"),
@@ -136,4 +138,7 @@ pub static HELP: [(&str, &str); 23] = [
     ("faultsim schedule --help", "[default: 4]"),
     ("faultsim faults --help", "4 faults in 2 classes"),
     ("faultsim faults --help", "/dev/stdin"),
+    ("faultsim merge --help", "<FILE>..."),
+    ("faultsim merge --help", "--list"),
+    ("faultsim merge --help", "6 of 6 (100.00%)"),
 ];

@@ -1,12 +1,13 @@
 -- The pieces of a part text make the text.
 use Rattle.std.proofs.Common.{◌≡◌, ◌+◌, ◌∙◌, ℕ, List, [], ◌∷◌, ◌++◌, append_assoc, map, refl, ap}
-use Rattle.std.specs.Prelude.{codes, decimal, zip}
+use Rattle.std.specs.Prelude.{Option, codes, decimal, zip}
 use Rattle.std.specs.List.{flat_map}
 use Rattle.bench_net.specs.Statement.{Statement}
 use Rattle.fault_model.specs.declared.Model.{Model}
 use Rattle.fault_model.specs.Fault.{Fault, faults}
 use Rattle.workers.specs.declared.parts.PartVerdict.{PartVerdict}
-use Rattle.report.specs.Report.{fault_text}
+use Rattle.report.specs.declared.contents.Lines.{Lines}
+use Rattle.report.specs.Report.{fault_text, report, report_text, wanted_line, wanted_name}
 use Rattle.report.specs.PartText.{PartHead, head_line, part_line, verdict_line}
 
 -- the first line from its words, given as texts
@@ -28,3 +29,15 @@ pub lines_of_model : (m : Model) (c : List Statement) (fs : List Fault) (verdict
     → flat_map (part_line c) (zip fs verdicts) ≡ flat_map verdict_line (zip (map (fault_text c) (faults m c)) verdicts)
 lines_of_model m c fs verdicts list =
     lines_of_texts c fs verdicts ∙ ap (λ l. flat_map verdict_line (zip (map (fault_text c) l) verdicts)) list
+
+-- the same of the lines of a report
+names_of_texts : (c : List Statement) (lines : Lines) (fs : List Fault) (firsts : List (Option ℕ))
+    → flat_map (wanted_name lines) (zip (map (fault_text c) fs) firsts) ≡ flat_map (wanted_line lines c) (zip fs firsts)
+names_of_texts c lines [] firsts = refl
+names_of_texts c lines (f ∷ fs) [] = refl
+names_of_texts c lines (f ∷ fs) (first ∷ firsts) = ap (λ l. wanted_line lines c (f, first) ++ l) (names_of_texts c lines fs firsts)
+
+-- the report of the names of a circuit's faults is that of the circuit
+pub report_of_texts : (m : Model) (c : List Statement) (firsts : List (Option ℕ)) (lines : Lines)
+    → report_text (map (fault_text c) (faults m c)) firsts lines ≡ report m c firsts lines
+report_of_texts m c firsts lines = rw (names_of_texts c lines (faults m c) firsts) refl

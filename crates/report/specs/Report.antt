@@ -80,9 +80,13 @@ has_line Omitted first = false
 has_line All first = true
 has_line Undetected first = is_none first
 
--- the line of a fault that has one
+-- the line of a fault, given as text, where it has one
+abbrev pub wanted_name : Lines → List ℕ × Option ℕ → List ℕ
+wanted_name lines at = if has_line lines at.1 then name_line at else []
+
+-- the same of a fault of a circuit
 abbrev pub wanted_line : Lines → List Statement → Fault × Option ℕ → List ℕ
-wanted_line lines c at = if has_line lines at.1 then first_line c at else []
+wanted_line lines c at = wanted_name lines (fault_text c at.0, at.1)
 
 -- the fault lines of a model, in the order of the faults
 abbrev pub fault_lines : Lines → Model → List Statement → List (Option ℕ) → List ℕ
@@ -113,8 +117,8 @@ whole_report m c classes firsts contents = report m c firsts contents.lines
     ++ (if contents.classes then class_coverage_line classes firsts else [])
 
 -- the same of faults that are given as texts
-abbrev pub report_text : List (List ℕ) → List (Option ℕ) → Bool → List ℕ
-report_text names firsts list = (if list then flat_map name_line (zip names firsts) else [])
+abbrev pub report_text : List (List ℕ) → List (Option ℕ) → Lines → List ℕ
+report_text names firsts lines = flat_map (wanted_name lines) (zip names firsts)
     ++ coverage_line (detected firsts) (length firsts)
 
 -- a line of the listing: `FAULT class N`

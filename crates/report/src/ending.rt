@@ -7,8 +7,9 @@ ghost use Rattle.workers.specs.declared.parts.PartVerdict.TheVariants.{First};
 ghost use Rattle.workers.specs.Verdict.{detected};
 ghost use Rattle.report.specs.Merging.{HasParts, IsOpenRefusal, run_of};
 ghost use Rattle.report.specs.PartReading.{texts_in};
-ghost use Rattle.report.specs.Report.{name_line, report_text};
+ghost use Rattle.report.specs.Report.{name_line, report_text, wanted_name};
 
+use crate::contents::Lines;
 use crate::joining::MergeFault;
 use crate::merged::Merged;
 use crate::report::{ReportFault, put_coverage, put_named};
@@ -78,38 +79,56 @@ fn put_name_line<W: Out>(name: &[u8], first: Option<u32>, out: &mut W) -> Result
     }
 }
 
-/// Writes each fault with the first test that detects it, or `none`.
-fn put_names<W: Out>(faults: &[&[u8]], firsts: &[Option<u32>], out: &mut W) -> Result<(), OutFailed>
+/// Writes the line of a fault, given by its name, where it is asked for.
+fn put_wanted_name<W: Out>(
+    name: &[u8],
+    first: Option<u32>,
+    lines: Lines,
+    out: &mut W,
+) -> Result<(), OutFailed>
+    ensures { Writes result (W.seen out.old) (W.seen out.new)
+        (wanted_name lines (name.now, first)) }
+{
+    if !lines.has(first) {
+        return Ok(());
+    }
+    put_name_line(name, first, out)
+}
+
+/// Writes the faults that are asked for, each with the first test that detects it, or `none`.
+fn put_names<W: Out>(
+    faults: &[&[u8]],
+    firsts: &[Option<u32>],
+    lines: Lines,
+    out: &mut W,
+) -> Result<(), OutFailed>
     requires { length firsts.now ≡ length faults.now }
     ensures { Writes result (W.seen out.old) (W.seen out.new)
-        (flat_map name_line (zip (texts_in faults.now) firsts.now)) }
+        (flat_map (wanted_name lines) (zip (texts_in faults.now) firsts.now)) }
 {
     for place in 0..faults.len() {
-        put_name_line(faults[place], firsts[place], out)?;
+        put_wanted_name(faults[place], firsts[place], lines, out)?;
     }
     Ok(())
 }
 
-/// Writes the report of a whole run, as a run without parts writes it: with `listed` each fault and
-/// the first test that detects it, then the coverage line. It takes no memory.
+/// Writes the report of a whole run, as a run without parts writes it: the faults that are asked for,
+/// each with the first test that detects it, then the coverage line. It takes no memory.
 ///
 /// Where the output takes nothing more it is refused with [`ReportFault::Write`], and what went
 /// out is a beginning of the report.
 pub fn write_merged<W: Out>(
     merged: &Merged<'_>,
-    listed: bool,
+    lines: Lines,
     out: &mut W,
 ) -> Result<(), ReportFault>
     ensures { Writes result (W.seen out.old) (W.seen out.new)
-        (report_text (run_of merged.now).faults (run_of merged.now).firsts listed) }
+        (report_text (run_of merged.now).faults (run_of merged.now).firsts lines) }
 {
     let firsts = merged.firsts();
     let detected = count_detected(firsts);
     let total = firsts.len() as u32;
-    if !listed {
-        return Ok(put_coverage(detected, total, "", out)?);
-    }
-    put_names(merged.faults(), firsts, out)?;
+    put_names(merged.faults(), firsts, lines, out)?;
     put_coverage(detected, total, "", out)?;
     Ok(())
 }

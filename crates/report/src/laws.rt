@@ -1,20 +1,21 @@
-//! The laws of part texts, and of the coverage of classes.
+//! The laws of part texts, of their report, and of the coverage of classes.
 
-ghost use Rattle.std.specs.Prelude.{◌≡◌, ◌<◌, ◌^◌, ℕ, List, Option, Some, length, slice_get};
+ghost use Rattle.std.specs.Prelude.{◌≡◌, ◌<◌, ◌^◌, ℕ, List, Option, Some, length, map, slice_get};
 ghost use Rattle.bench_net.specs.Statement.{Statement};
 ghost use Rattle.bench_net.specs.Circuit.{IsCircuit};
 ghost use Rattle.fault_model.specs.declared.Model.{Model};
-ghost use Rattle.fault_model.specs.Fault.{Fault};
+ghost use Rattle.fault_model.specs.Fault.{Fault, faults};
 ghost use Rattle.fault_model.specs.Collapse.{AreClassesOf, Collapsed, IsClassOf};
 ghost use Rattle.fault_model.specs.Solution.{Test};
 ghost use Rattle.block_sim.specs.First.{IsFirst};
 ghost use Rattle.workers.specs.declared.parts.PartVerdict.{PartVerdict};
 ghost use Rattle.workers.specs.Verdict.{AreFirsts};
-ghost use Rattle.report.specs.Report.{class_firsts};
 ghost use Rattle.report.specs.PartText.{PartHead};
 ghost use Rattle.report.specs.declared.part_reader.PartFault.{PartFault};
 ghost use Rattle.report.specs.declared.part_reader.PartFault.TheVariants as fault;
 ghost use Rattle.report.specs.PartReading.{IsPart, IsPartRefusal};
+ghost use Rattle.report.specs.Report.{class_firsts, fault_text, report, report_text};
+ghost use Rattle.report.specs.declared.contents.Lines.{Lines};
 
 /// A text is the part text of one first line, of one list of faults and of one list of verdicts.
 pub fn one_part_text()
@@ -37,4 +38,10 @@ pub fn class_firsts_are()
         → AreClassesOf m c classes → AreFirsts m c tests firsts → IsClassOf m c f class
         → slice_get (class_firsts classes firsts) class ≡ Some first
         → IsFirst c tests f first }
+{}
+
+/// The report of the names of a circuit's faults is that of the circuit.
+pub fn one_report()
+    ensures { (m : Model) (c : List Statement) (firsts : List (Option ℕ)) (lines : Lines)
+        → report_text (map (fault_text c) (faults m c)) firsts lines ≡ report m c firsts lines }
 {}

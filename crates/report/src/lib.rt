@@ -24,7 +24,7 @@ pub use contents::{Contents, Lines};
 pub use detected::{detections_text_in, write_detections};
 pub use ending::write_merged;
 pub use joining::MergeFault;
-pub use laws::{class_firsts_are, no_refusal_of_part_text, one_part_text};
+pub use laws::{class_firsts_are, no_refusal_of_part_text, one_part_text, one_report};
 pub use merge::Merge;
 pub use merged::Merged;
 pub use output::{Formatted, Out, OutFailed, Plain};

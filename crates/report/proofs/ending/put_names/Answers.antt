@@ -2,25 +2,25 @@ use Rattle.std.proofs.Common.{ap, ◌≤◌, length, arith, ◌∙◌, sym}
 use Rattle.std.specs.Prelude.{zip}
 use Rattle.std.proofs.lemmas.Result.{err_from_is_err_and}
 use Rattle.report.specs.PartReading.{texts_in}
-use Rattle.report.specs.Report.{name_line}
+use Rattle.report.specs.Report.{wanted_name}
 use Rattle.output.proofs.Public.{takes_more, stopped, flat_map_cut, flat_map_taken}
 use Rattle.report.proofs.Endings.{name_at}
 use Rattle.report.proofs.Merges.{texts_count}
 use Rattle.report.proofs.Zips.{all_zipped}
 use Rattle.report.proofs.ending.put_names.Goals as goal
 
-pub returns-in_err-put_name_line : goal.returns-in_err-put_name_line
-returns-in_err-put_name_line g c =
+pub returns-in_err-put_wanted_name : goal.returns-in_err-put_wanted_name
+returns-in_err-put_wanted_name g c =
     let p = err_from_is_err_and c.from_residual.result c.from_residual.ensures.1 in
     let zipped = name_at c.args.faults.now c.args.firsts.now c.loop-place.place _ _ (omega arith) (omega (arith, c.requires)) in
-    rw (p.1) (stopped _ _ _ _ _ _ _ c.loop-place.invariant c.in_err-put_name_line.ensures
-    (flat_map_cut name_line (zip (texts_in c.args.faults.now) c.args.firsts.now) c.loop-place.place _ _ zipped.0 (ap name_line zipped.1)))
+    rw (p.1) (stopped _ _ _ _ _ _ _ c.loop-place.invariant c.in_err-put_wanted_name.ensures
+    (flat_map_cut (wanted_name c.args.lines) (zip (texts_in c.args.faults.now) c.args.firsts.now) c.loop-place.place _ _ zipped.0 (ap (wanted_name c.args.lines) zipped.1)))
 
 pub loop-place-preserved : goal.loop-place-preserved
 loop-place-preserved g c =
     let zipped = name_at c.args.faults.now c.args.firsts.now c.loop-place.place _ _ (omega arith) (omega (arith, c.requires)) in
-    rw (flat_map_taken name_line (zip (texts_in c.args.faults.now) c.args.firsts.now) c.loop-place.place _ _ zipped.0 (ap name_line zipped.1))
-    (takes_more _ _ _ _ _ c.loop-place.invariant c.in_ok-put_name_line.ensures)
+    rw (flat_map_taken (wanted_name c.args.lines) (zip (texts_in c.args.faults.now) c.args.firsts.now) c.loop-place.place _ _ zipped.0 (ap (wanted_name c.args.lines) zipped.1))
+    (takes_more _ _ _ _ _ c.loop-place.invariant c.in_ok-put_wanted_name.ensures)
 
 pub returns : goal.returns
 returns g c =

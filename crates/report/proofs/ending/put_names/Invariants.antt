@@ -3,9 +3,9 @@ use Rattle.std.specs.Prelude.{zip}
 use Rattle.std.specs.List.{flat_map}
 use Rattle.output.specs.Output.{TakesAll}
 use Rattle.report.specs.PartReading.{texts_in}
-use Rattle.report.specs.Report.{name_line}
+use Rattle.report.specs.Report.{wanted_name}
 use Rattle.report.proofs.ending.put_names.Given as goal
 
 -- the lines of the faults so far were taken whole
 abbrev pub invariant-loop-place : goal.invariant-loop-place
-invariant-loop-place g l = TakesAll (g.W.Out.seen l.initial.out) (g.W.Out.seen l.out) (flat_map name_line (take l.place (zip (texts_in l.faults) l.firsts)))
+invariant-loop-place g l = TakesAll (g.W.Out.seen l.initial.out) (g.W.Out.seen l.out) (flat_map (wanted_name l.lines) (take l.place (zip (texts_in l.faults) l.firsts)))

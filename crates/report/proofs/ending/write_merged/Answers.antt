@@ -1,4 +1,4 @@
-use Rattle.std.proofs.Common.{◌≡◌, true, length}
+use Rattle.std.proofs.Common.{length}
 use Rattle.std.proofs.lemmas.Result.{err_from_is_err_and}
 use Rattle.workers.specs.Verdict.{detected}
 use Rattle.output.proofs.Public.{takes_more, stopped_before, stopped_after}
@@ -8,22 +8,19 @@ use Rattle.report.proofs.ending.write_merged.Goals as goal
 pub returns-in_err-put_names : goal.returns-in_err-put_names
 returns-in_err-put_names g c =
     let p = err_from_is_err_and c.from_residual-in_err-put_names.result c.from_residual-in_err-put_names.ensures.1 in
-    let listed : c.args.listed ≡ true = c.if-not-listed.false in
     let wrote = rw (c.faults.ensures, c.firsts-firsts.ensures) at c.in_err-put_names.ensures in
-    rw (p.1, listed)
+    rw (p.1)
     (stopped_before _ (coverage_line (detected c.args.merged.now.firsts.items) (length c.args.merged.now.firsts.items)) _ _ wrote)
 
-pub returns-in_err-put_coverage-2 : goal.returns-in_err-put_coverage-2
-returns-in_err-put_coverage-2 g c =
-    let p = err_from_is_err_and c.from_residual-in_err-put_coverage-2.result c.from_residual-in_err-put_coverage-2.ensures.1 in
-    let listed : c.args.listed ≡ true = c.if-not-listed.false in
+pub returns-in_err-put_coverage : goal.returns-in_err-put_coverage
+returns-in_err-put_coverage g c =
+    let p = err_from_is_err_and c.from_residual-in_err-put_coverage.result c.from_residual-in_err-put_coverage.ensures.1 in
     let wrote = rw (c.faults.ensures, c.firsts-firsts.ensures) at c.in_ok-put_names.ensures in
-    let covered = rw (c.count_detected-detected.ensures, c.firsts-firsts.ensures) at c.in_err-put_coverage-2.ensures in
-    rw (p.1, listed) (stopped_after _ _ _ _ _ wrote covered)
+    let covered = rw (c.count_detected-detected.ensures, c.firsts-firsts.ensures) at c.in_err-put_coverage.ensures in
+    rw (p.1) (stopped_after _ _ _ _ _ wrote covered)
 
 pub returns : goal.returns
 returns g c =
-    let listed : c.args.listed ≡ true = c.if-not-listed.false in
     let wrote = rw (c.faults.ensures, c.firsts-firsts.ensures) at c.in_ok-put_names.ensures in
-    let covered = rw (c.count_detected-detected.ensures, c.firsts-firsts.ensures) at c.in_ok-put_coverage-2.ensures in
-    rw (listed) (takes_more _ _ _ _ _ wrote covered)
+    let covered = rw (c.count_detected-detected.ensures, c.firsts-firsts.ensures) at c.in_ok-put_coverage.ensures in
+    takes_more _ _ _ _ _ wrote covered

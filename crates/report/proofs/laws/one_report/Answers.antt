@@ -1,0 +1,5 @@
+use Rattle.report.proofs.PartTexts.{report_of_texts}
+use Rattle.report.proofs.laws.one_report.Goals as goal
+
+pub returns : goal.returns
+returns c = report_of_texts
