@@ -7,7 +7,7 @@ use Rattle.report.proofs.ending.write_merged.Goals as goal
 
 pub returns-in_err-put_names : goal.returns-in_err-put_names
 returns-in_err-put_names g c =
-    let p = err_from_is_err_and c.from_residual-in_err-put_names.result c.from_residual-in_err-put_names.ensures.1 in
+    let p = err_from_is_err_and c.from_residual.result c.from_residual.ensures.1 in
     let wrote = rw (c.faults.ensures, c.firsts-firsts.ensures) at c.in_err-put_names.ensures in
     rw (p.1)
     (stopped_before _ (coverage_line (detected c.args.merged.now.firsts.items) (length c.args.merged.now.firsts.items)) _ _ wrote)
