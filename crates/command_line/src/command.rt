@@ -3,6 +3,7 @@
 ghost use Rattle.std.specs.Prelude.{◌≤◌, IfOk, IfSome};
 ghost use Rattle.command_line.specs.Split.{HasParts};
 
+use crate::curve::do_curve;
 use crate::options::{MAX_PARTS, Task, command_line, model_named, workers_help};
 use crate::source::{Source, SourceFault};
 use crate::status::{DONE, Fault, MISUSED, NO_MEMORY, UNWRITTEN, answer_fault};
@@ -105,6 +106,7 @@ fn do_task<'a, R: Threads + Wait, S: Source, W: Out>(
     };
     match Task::named(name) {
         Some(Task::Run) => do_run(rt, alloc, options, files, out),
+        Some(Task::Curve) => do_curve(rt, alloc, options, files, out),
         Some(Task::Schedule) => do_schedule(alloc, options, files, out),
         Some(Task::Faults) => do_faults(alloc, options, files, out),
         None => Err(Fault::Misused(name)),
@@ -112,7 +114,7 @@ fn do_task<'a, R: Threads + Wait, S: Source, W: Out>(
 }
 
 /// The model that the command line names.
-fn read_model<'a>(matches: &ArgMatches<'a>) -> Result<Model, Fault<'a>> {
+pub(crate) fn read_model<'a>(matches: &ArgMatches<'a>) -> Result<Model, Fault<'a>> {
     match matches.get_str("model").and_then(model_named) {
         Some(model) => Ok(model),
         None => Err(Fault::Misused("--model")),
@@ -120,7 +122,7 @@ fn read_model<'a>(matches: &ArgMatches<'a>) -> Result<Model, Fault<'a>> {
 }
 
 /// Reads the file that an option names.
-fn read_option<'a, S: Source>(
+pub(crate) fn read_option<'a, S: Source>(
     alloc: Global,
     matches: &ArgMatches<'a>,
     option: &'a str,
@@ -154,12 +156,18 @@ fn read_lines<'a>(matches: &ArgMatches<'a>) -> Result<Lines, Fault<'a>> {
     }
 }
 
+/// The number of workers that the command line names.
+pub(crate) fn read_workers<'a>(matches: &ArgMatches<'a>) -> Result<u32, Fault<'a>> {
+    match matches.get_one::<u32>("workers") {
+        Some(workers) => Ok(workers),
+        None => Err(Fault::Misused("--workers")),
+    }
+}
+
 /// The settings that the command line names.
 fn read_settings<'a>(matches: &ArgMatches<'a>) -> Result<Settings, Fault<'a>> {
     let model = read_model(matches)?;
-    let Some(workers) = matches.get_one::<u32>("workers") else {
-        return Err(Fault::Misused("--workers"));
-    };
+    let workers = read_workers(matches)?;
     let contents = Contents {
         lines: read_lines(matches)?,
         classes: matches.get_flag("classes"),

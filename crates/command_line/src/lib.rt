@@ -6,6 +6,7 @@
 
 mod arguments;
 mod command;
+mod curve;
 mod options;
 mod source;
 mod status;

@@ -15,12 +15,13 @@ const VERSION: &str = "0.2.0";
 #[derive(Clone, Copy)]
 pub(crate) enum Task {
     Run,
-    Schedule,
+    Curve,
     Faults,
+    Schedule,
 }
 
 /// All that it can be asked to do.
-static TASKS: [Task; 3] = [Task::Run, Task::Schedule, Task::Faults];
+static TASKS: [Task; 4] = [Task::Run, Task::Curve, Task::Faults, Task::Schedule];
 
 // The texts live as long as is asked for, since a command has one lifetime for all its texts.
 impl Task {
@@ -28,6 +29,7 @@ impl Task {
     fn name<'a>(self) -> &'a str {
         match self {
             Task::Run => "run",
+            Task::Curve => "curve",
             Task::Schedule => "schedule",
             Task::Faults => "faults",
         }
@@ -37,6 +39,7 @@ impl Task {
     fn about<'a>(self) -> &'a str {
         match self {
             Task::Run => "Simulates all faults of a model and tells the fault coverage",
+            Task::Curve => "Tells for each test that finds new faults how many are found up to it",
             Task::Schedule => {
                 "Does what run does by one thread, with the workers' moves in a given order"
             }
@@ -48,6 +51,7 @@ impl Task {
     fn example<'a>(self) -> &'a str {
         match self {
             Task::Run => ABOUT_RUN,
+            Task::Curve => ABOUT_CURVE,
             Task::Schedule => ABOUT_SCHEDULE,
             Task::Faults => ABOUT_FAULTS,
         }
@@ -57,6 +61,7 @@ impl Task {
     fn choices(self) -> &'static [Choice] {
         match self {
             Task::Run => &RUN_CHOICES,
+            Task::Curve => &CURVE_CHOICES,
             Task::Schedule => &SCHEDULE_CHOICES,
             Task::Faults => &FAULTS_CHOICES,
         }
@@ -95,6 +100,9 @@ static RUN_CHOICES: [Choice; 9] = [
     Choice::Undetected,
     Choice::Classes,
 ];
+
+/// The options of `curve`.
+static CURVE_CHOICES: [Choice; 4] = [Choice::Bench, Choice::Tests, Choice::Model, Choice::Workers];
 
 /// The options of `schedule`.
 static SCHEDULE_CHOICES: [Choice; 8] = [
@@ -169,6 +177,28 @@ tells for each fault the first test that detects it, counted from 0, and then th
 
 --undetected tells the lines of the faults alone that no test detects, which end in none. --classes
 tells after the coverage how many of the fault classes are detected: 4 of 4 classes (100.00%).
+
+Each FILE is read whole. /dev/stdin serves as a file, too.";
+
+/// What is said after the long help of `curve`.
+const ABOUT_CURVE: &str = "\
+Example, a circuit and tests for it, one a line:
+
+    a.bench          a.tests
+    INPUT(a)         00
+    INPUT(b)         01
+    OUTPUT(z)        01
+    z = AND(a, b)    11
+
+    faultsim curve --bench a.bench --tests a.tests
+
+tells for each test that is the first to detect some fault, counted from 0, how many faults are
+detected up to it and how much of all that is, and then the coverage. Test 2 finds nothing new:
+
+    0 1 16.66
+    1 2 33.33
+    3 5 83.33
+    5 of 6 (83.33%)
 
 Each FILE is read whole. /dev/stdin serves as a file, too.";
 

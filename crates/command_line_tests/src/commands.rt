@@ -1,7 +1,7 @@
 //! Command lines: cases with all that they answer, words that are refused, and help.
 
 use crate::cases::{C17, CASES, Case, MORE_CASES, REFUSED_CASES, TRANSITION_CASES};
-use crate::daily::CONTENTS_CASES;
+use crate::daily::{CONTENTS_CASES, CURVE_CASES};
 use crate::screen::{Answer, Screen, Texts, Wanted, answers, run_on};
 use crate::words::{HELP, MISSING, MISUSED};
 use std::alloc::AllocError;
@@ -96,6 +96,11 @@ fn transition_cases_come_out(rt: HostRuntime) -> Result<(), Fail> {
 #[test]
 fn cases_of_contents_come_out(rt: HostRuntime) -> Result<(), Fail> {
     Ok(check_cases(&rt, &CONTENTS_CASES)?)
+}
+
+#[test]
+fn curves_come_out(rt: HostRuntime) -> Result<(), Fail> {
+    Ok(check_cases(&rt, &CURVE_CASES)?)
 }
 
 #[test]

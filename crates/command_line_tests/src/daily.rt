@@ -53,3 +53,47 @@ pub static CONTENTS_CASES: [Case; 4] = [
         status: 0,
     },
 ];
+
+/// Curves.
+pub static CURVE_CASES: [Case; 4] = [
+    Case {
+        name: "curve_of_and",
+        line: "faultsim curve --bench bench --tests tests",
+        bench: AND,
+        tests: "00\n01\n01\n11\n",
+        order: "",
+        stdout: "0 1 16.66\n1 2 33.33\n3 5 83.33\n5 of 6 (83.33%)\n",
+        stderr: "",
+        status: 0,
+    },
+    Case {
+        name: "curve_of_transitions",
+        line: "faultsim curve --bench bench --tests tests --model transition --workers 2",
+        bench: BUFFER,
+        tests: "0\n1\n0\n",
+        order: "",
+        stdout: "1 2 50.00\n2 4 100.00\n4 of 4 (100.00%)\n",
+        stderr: "",
+        status: 0,
+    },
+    Case {
+        name: "curve_without_tests",
+        line: "faultsim curve --bench bench --tests tests",
+        bench: BUFFER,
+        tests: "",
+        order: "",
+        stdout: "0 of 4 (0.00%)\n",
+        stderr: "",
+        status: 0,
+    },
+    Case {
+        name: "curve_of_a_refused_text",
+        line: "faultsim curve --bench bench --tests tests",
+        bench: BUFFER,
+        tests: "00\n",
+        order: "",
+        stdout: "",
+        stderr: "faultsim: tests line 1: wrong width\n",
+        status: 1,
+    },
+];

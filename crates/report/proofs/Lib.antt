@@ -14,3 +14,4 @@ pub mod PartOnce
 pub mod PartRefusals
 pub mod Merges
 pub mod ClassFirsts
+pub mod Curves

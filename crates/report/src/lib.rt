@@ -8,6 +8,7 @@
 #![tactic(auto)]
 
 mod contents;
+mod curve;
 mod cut;
 mod joining;
 mod laws;
@@ -18,6 +19,7 @@ mod report;
 mod text;
 
 pub use contents::{Contents, Lines};
+pub use curve::{CurvePoint, curve_of, curve_text_in, write_curve};
 pub use joining::MergeFault;
 pub use laws::{class_firsts_are, no_refusal_of_part_text, one_part_text};
 pub use merge::Merge;
