@@ -6,6 +6,8 @@
 
 mod arguments;
 mod command;
+mod curve;
+mod detected;
 mod options;
 mod source;
 mod status;

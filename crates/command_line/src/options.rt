@@ -8,6 +8,9 @@ use std::alloc::{AllocError, Global};
 /// The greatest number of parts of a run.
 pub(crate) const MAX_PARTS: u32 = 65_536;
 
+/// The greatest number of tests that are counted of a fault.
+const MAX_DETECTIONS: u32 = 65_536;
+
 /// What `--version` tells.
 const VERSION: &str = "0.2.0";
 
@@ -15,13 +18,20 @@ const VERSION: &str = "0.2.0";
 #[derive(Clone, Copy)]
 pub(crate) enum Task {
     Run,
-    Schedule,
+    Curve,
     Faults,
     Merge,
+    Schedule,
 }
 
-/// All that it can be asked to do.
-static TASKS: [Task; 4] = [Task::Run, Task::Schedule, Task::Faults, Task::Merge];
+/// All that it can be asked to do, in the order of the help.
+static TASKS: [Task; 5] = [
+    Task::Run,
+    Task::Curve,
+    Task::Faults,
+    Task::Merge,
+    Task::Schedule,
+];
 
 // The texts live as long as is asked for, since a command has one lifetime for all its texts.
 impl Task {
@@ -29,6 +39,7 @@ impl Task {
     fn name<'a>(self) -> &'a str {
         match self {
             Task::Run => "run",
+            Task::Curve => "curve",
             Task::Schedule => "schedule",
             Task::Faults => "faults",
             Task::Merge => "merge",
@@ -39,6 +50,7 @@ impl Task {
     fn about<'a>(self) -> &'a str {
         match self {
             Task::Run => "Simulates all faults of a model and tells the fault coverage",
+            Task::Curve => "Tells for each test that finds new faults how many are found up to it",
             Task::Schedule => {
                 "Does what run does by one thread, with the workers' moves in a given order"
             }
@@ -51,6 +63,7 @@ impl Task {
     fn example<'a>(self) -> &'a str {
         match self {
             Task::Run => ABOUT_RUN,
+            Task::Curve => ABOUT_CURVE,
             Task::Schedule => ABOUT_SCHEDULE,
             Task::Faults => ABOUT_FAULTS,
             Task::Merge => ABOUT_MERGE,
@@ -61,6 +74,7 @@ impl Task {
     fn choices(self) -> &'static [Choice] {
         match self {
             Task::Run => &RUN_CHOICES,
+            Task::Curve => &CURVE_CHOICES,
             Task::Schedule => &SCHEDULE_CHOICES,
             Task::Faults => &FAULTS_CHOICES,
             Task::Merge => &MERGE_CHOICES,
@@ -83,6 +97,7 @@ enum Choice {
     Workers,
     Parts,
     Part,
+    Detections,
     List,
     Undetected,
     Classes,
@@ -90,17 +105,21 @@ enum Choice {
 }
 
 /// The options of `run`.
-static RUN_CHOICES: [Choice; 9] = [
+static RUN_CHOICES: [Choice; 10] = [
     Choice::Bench,
     Choice::Tests,
     Choice::Model,
     Choice::Workers,
     Choice::Parts,
     Choice::Part,
+    Choice::Detections,
     Choice::List,
     Choice::Undetected,
     Choice::Classes,
 ];
+
+/// The options of `curve`.
+static CURVE_CHOICES: [Choice; 4] = [Choice::Bench, Choice::Tests, Choice::Model, Choice::Workers];
 
 /// The options of `schedule`.
 static SCHEDULE_CHOICES: [Choice; 8] = [
@@ -178,6 +197,28 @@ tells for each fault the first test that detects it, counted from 0, and then th
 
 --undetected tells the lines of the faults alone that no test detects, which end in none. --classes
 tells after the coverage how many of the fault classes are detected: 4 of 4 classes (100.00%).
+
+Each FILE is read whole. /dev/stdin serves as a file, too.";
+
+/// What is said after the long help of `curve`.
+const ABOUT_CURVE: &str = "\
+Example, a circuit and tests for it, one a line:
+
+    a.bench          a.tests
+    INPUT(a)         00
+    INPUT(b)         01
+    OUTPUT(z)        01
+    z = AND(a, b)    11
+
+    faultsim curve --bench a.bench --tests a.tests
+
+tells for each test that is the first to detect some fault, counted from 0, how many faults are
+detected up to it and how much of all that is, and then the coverage. Test 2 finds nothing new:
+
+    0 1 16.66
+    1 2 33.33
+    3 5 83.33
+    5 of 6 (83.33%)
 
 Each FILE is read whole. /dev/stdin serves as a file, too.";
 
@@ -287,6 +328,19 @@ fn part_option<'a>(alloc: Global) -> Arg<'a> {
         .help("Run part I of N alone, from 1, and write its part text")
 }
 
+/// The option `--detections N`.
+fn detections_option<'a>(alloc: Global) -> Result<Arg<'a>, AllocError> {
+    Arg::new(alloc, "detections")
+        .long("detections")
+        .value_name("N")
+        .value_parser(value_parser!(u32).range(1..=i64::from(MAX_DETECTIONS)))
+        .help("Count up to N tests that detect each fault, 1 to 65536")
+        .conflicts_with("parts")?
+        .conflicts_with("part")?
+        .conflicts_with("undetected")?
+        .conflicts_with("classes")
+}
+
 /// What is said of the option `--workers N`.
 pub(crate) fn workers_help(alloc: Global) -> Result<String, AllocError> {
     format!(in alloc; "How many workers share the run, 1 to {MAX_WORKERS}")
@@ -345,6 +399,7 @@ fn option<'a>(alloc: Global, choice: Choice, workers: &'a str) -> Result<Arg<'a>
         Choice::Workers => workers_option(alloc, workers),
         Choice::Parts => parts_option(alloc),
         Choice::Part => part_option(alloc),
+        Choice::Detections => detections_option(alloc)?,
         Choice::List => list_flag(alloc),
         Choice::Undetected => undetected_flag(alloc)?,
         Choice::Classes => classes_flag(alloc),

@@ -1,4 +1,4 @@
-//! Cases of `--undetected`, `--classes` and `curve`.
+//! Cases of `--undetected`, `--classes`, `--detections` and `curve`.
 
 use crate::cases::{BUFFER, Case};
 
@@ -51,5 +51,91 @@ pub static CONTENTS_CASES: [Case; 4] = [
         stdout: "stem b sa1 none\n5 of 6 (83.33%)\n3 of 4 classes (75.00%)\n",
         stderr: "",
         status: 0,
+    },
+];
+
+/// How many tests detect each fault.
+pub static DETECTION_CASES: [Case; 3] = [
+    Case {
+        name: "detections_of_and",
+        line: "faultsim run --bench bench --tests tests --detections 3 --list --workers 1",
+        bench: AND,
+        tests: "00\n01\n10\n11\n",
+        order: "",
+        stdout: "\
+            stem a sa0 1\n\
+            stem a sa1 1\n\
+            stem b sa0 1\n\
+            stem b sa1 1\n\
+            stem z sa0 1\n\
+            stem z sa1 3\n\
+            1 of 6 (16.66%)\n\
+            ",
+        stderr: "",
+        status: 0,
+    },
+    Case {
+        name: "one_detection_is_the_coverage",
+        line: "faultsim run --bench bench --tests tests --detections 1 --model transition",
+        bench: BUFFER,
+        tests: "0\n1\n",
+        order: "",
+        stdout: "2 of 4 (50.00%)\n",
+        stderr: "",
+        status: 0,
+    },
+    Case {
+        name: "detections_of_a_refused_text",
+        line: "faultsim run --bench bench --tests tests --detections 2",
+        bench: AND,
+        tests: "0\n",
+        order: "",
+        stdout: "",
+        stderr: "faultsim: tests line 1: wrong width\n",
+        status: 1,
+    },
+];
+
+/// Curves.
+pub static CURVE_CASES: [Case; 4] = [
+    Case {
+        name: "curve_of_and",
+        line: "faultsim curve --bench bench --tests tests",
+        bench: AND,
+        tests: "00\n01\n01\n11\n",
+        order: "",
+        stdout: "0 1 16.66\n1 2 33.33\n3 5 83.33\n5 of 6 (83.33%)\n",
+        stderr: "",
+        status: 0,
+    },
+    Case {
+        name: "curve_of_transitions",
+        line: "faultsim curve --bench bench --tests tests --model transition --workers 2",
+        bench: BUFFER,
+        tests: "0\n1\n0\n",
+        order: "",
+        stdout: "1 2 50.00\n2 4 100.00\n4 of 4 (100.00%)\n",
+        stderr: "",
+        status: 0,
+    },
+    Case {
+        name: "curve_without_tests",
+        line: "faultsim curve --bench bench --tests tests",
+        bench: BUFFER,
+        tests: "",
+        order: "",
+        stdout: "0 of 4 (0.00%)\n",
+        stderr: "",
+        status: 0,
+    },
+    Case {
+        name: "curve_of_a_refused_text",
+        line: "faultsim curve --bench bench --tests tests",
+        bench: BUFFER,
+        tests: "00\n",
+        order: "",
+        stdout: "",
+        stderr: "faultsim: tests line 1: wrong width\n",
+        status: 1,
     },
 ];

@@ -5,6 +5,7 @@
 mod cases;
 #[cfg(test)]
 mod commands;
+#[cfg(test)]
 mod daily;
 #[cfg(test)]
 mod limits;

@@ -1,16 +1,17 @@
 //! Command lines that are refused or ask for help.
 
 /// Command lines of which the file `none` is the first that is missing.
-pub static MISSING: [&str; 5] = [
+pub static MISSING: [&str; 6] = [
     "faultsim faults --bench none",
     "faultsim run --bench none --tests other",
     "faultsim run --bench bench --tests none",
+    "faultsim curve --bench bench --tests none",
     "faultsim schedule --bench bench --tests none --order other",
     "faultsim schedule --bench bench --tests tests --order none",
 ];
 
 /// Command lines that the program refuses, and what it says of each.
-pub static MISUSED: [(&str, &str); 30] = [
+pub static MISUSED: [(&str, &str); 35] = [
     ("faultsim", "Usage"),
     ("faultsim simulate", "simulate"),
     ("faultsim run --bench bench", "--tests <FILE>"),
@@ -32,10 +33,22 @@ pub static MISUSED: [(&str, &str); 30] = [
     ("faultsim merge first --parts 2", "--parts"),
     ("faultsim faults --bench bench --list", "--list"),
     (
+        "faultsim run --bench bench --tests tests --detections 0",
+        "--detections",
+    ),
+    (
+        "faultsim run --bench bench --tests tests --detections 2 --parts 2",
+        "--detections",
+    ),
+    (
         "faultsim run --bench bench --tests tests --list --undetected",
         "'--undetected'",
     ),
     ("faultsim faults --bench bench --classes", "--classes"),
+    (
+        "faultsim curve --bench bench --tests tests --list",
+        "--list",
+    ),
     ("faultsim faults --bench bench --model delay", "delay"),
     (
         "faultsim run --bench bench --tests tests --model delay",
@@ -114,10 +127,11 @@ pub static MISUSED: [(&str, &str); 30] = [
 /// What help tells: the version, each option with the name of its value, the defaults, the range of
 /// the workers, a worked example and the status. The outputs of the examples are cases of their
 /// own.
-pub static HELP: [(&str, &str); 25] = [
+pub static HELP: [(&str, &str); 28] = [
     ("faultsim --version", "faultsim 0.2.0\n"),
     ("faultsim --help", "6 of 6 (100.00%)"),
     ("faultsim help run", "--bench <FILE>"),
+    ("faultsim help run", "--detections <N>"),
     ("faultsim run --help", "--bench <FILE>"),
     ("faultsim run --help", "--tests <FILE>"),
     ("faultsim run --help", "--model <MODEL>"),
@@ -133,6 +147,7 @@ pub static HELP: [(&str, &str); 25] = [
     ("faultsim run --help", "--undetected"),
     ("faultsim run --help", "4 of 4 classes (100.00%)"),
     ("faultsim run --help", "stem b sa0 3\n    stem b sa1 2\n"),
+    ("faultsim curve --help", "3 5 83.33\n"),
     ("faultsim run -h", "/dev/stdin"),
     ("faultsim schedule --help", "--order <FILE>"),
     ("faultsim schedule --help", "[default: 4]"),

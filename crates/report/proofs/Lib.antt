@@ -15,3 +15,4 @@ pub mod PartRefusals
 pub mod Merges
 pub mod ClassFirsts
 pub mod Endings
+pub mod Curves

@@ -8,6 +8,8 @@ use Rattle.fault_model.specs.declared.Line.{Line}
 use Rattle.fault_model.specs.declared.Model.{Model}
 use Rattle.fault_model.specs.Fault.{Fault, faults}
 use Rattle.report.specs.Report.{line_text, defect_text, fault_text, coverage_of}
+use Rattle.report.specs.declared.curve.CurvePoint.{CurvePoint}
+use Rattle.report.specs.Curve.{point_line}
 use Rattle.report.proofs.KnownLines.{model_known}
 
 -- a fault of the list by its line, its bit and the model of the list
@@ -28,6 +30,16 @@ pub coverage_text : (found total : ℕ) (counted a b whole tens ones : List ℕ)
 coverage_text found total counted a b whole tens ones e f g h i =
     let small : 10000 * found / total % 100 / 10 < 10 = omega arith in
     let last : 10000 * found / total % 100 % 10 < 10 = omega arith in
+    rw (e, f, g, h, i, decimal_digit _ small, decimal_digit _ last) (simp append_assoc)
+
+-- the line of a point from its numbers, given as texts
+pub point_text : (total : ℕ) (point : CurvePoint) (a b whole tens ones : List ℕ) → a ≡ decimal point.test → b ≡ decimal point.detected
+    → whole ≡ decimal (10000 * point.detected / total / 100) → tens ≡ decimal (10000 * point.detected / total % 100 / 10) → ones ≡ decimal (10000 * point.detected / total % 100 % 10)
+    → a ++ (codes " " ++ (b ++ (codes " " ++ (whole ++ (codes "." ++ (tens ++ (ones ++ (codes "\n" ++ []))))))))
+    ≡ point_line total point
+point_text total point a b whole tens ones e f g h i =
+    let small : 10000 * point.detected / total % 100 / 10 < 10 = omega arith in
+    let last : 10000 * point.detected / total % 100 % 10 < 10 = omega arith in
     rw (e, f, g, h, i, decimal_digit _ small, decimal_digit _ last) (simp append_assoc)
 
 -- the last line of the listing from its numbers, given as texts

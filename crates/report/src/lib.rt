@@ -8,6 +8,7 @@
 #![tactic(auto)]
 
 mod contents;
+mod curve;
 mod cut;
 mod detected;
 mod ending;
@@ -21,6 +22,7 @@ mod report;
 mod text;
 
 pub use contents::{Contents, Lines};
+pub use curve::{CurvePoint, curve_of, curve_text_in, write_curve};
 pub use detected::{detections_text_in, write_detections};
 pub use ending::write_merged;
 pub use joining::MergeFault;

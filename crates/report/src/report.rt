@@ -1,6 +1,6 @@
 //! The texts that the program writes: the report of a run, and the listing of faults and classes.
 
-ghost use Rattle.std.specs.Prelude.{◌≡◌, ◌<◌, ◌++◌, [], codes, length, slice_get, Some, is_some, zip, decimal, if◌then◌else◌};
+ghost use Rattle.std.specs.Prelude.{◌≡◌, ◌<◌, ◌*◌, ◌/◌, ◌++◌, [], codes, length, slice_get, Some, is_some, zip, decimal, if◌then◌else◌};
 ghost use Rattle.std.specs.List.{flat_map};
 ghost use Rattle.bench_net.specs.Scan.{cells};
 ghost use Rattle.fault_model.specs.Fault.{Fault, faults};
@@ -110,6 +110,14 @@ fn put_fault<W: Out>(
     put_line(circuit, list.line_of(fault), said, out)
 }
 
+/// How many hundredths of a percent a part is of a whole, cut off.
+pub(crate) fn hundredths(part: u32, whole: u32) -> u64
+    requires { 0 < whole }
+    ensures { result ≡ 10000 * part / whole }
+{
+    10_000 * u64::from(part) / u64::from(whole)
+}
+
 /// Writes a coverage line, `D of T` and what is counted, ` (P.PP%)`: the percentage is cut off after
 /// two decimals.
 pub(crate) fn put_coverage<'a, W: Out>(
@@ -122,7 +130,7 @@ pub(crate) fn put_coverage<'a, W: Out>(
     ensures { Writes result (W.seen out.old) (W.seen out.new)
         (coverage_of counted.now detected total) }
 {
-    let hundredths = 10_000 * u64::from(detected) / u64::from(total);
+    let hundredths = hundredths(detected, total);
     let decimals = hundredths % 100;
     let mut found = Buffer::new();
     let mut all = Buffer::new();

@@ -7,3 +7,4 @@ pub mod Texts
 pub mod Ledgers
 pub mod Transition
 pub mod Listings
+pub mod Coverage

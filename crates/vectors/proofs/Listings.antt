@@ -14,7 +14,7 @@ use Rattle.report.specs.Report.{listing, report}
 use Rattle.vectors.proofs.Circuits.{c17, and_of_two, inverter_loop, eleven_inputs, buffer, nor_of_two, output_and_inverter, xor_of_one, scan_cell, cell_of_itself}
 
 -- lines as one text
-abbrev text : List (List ℕ) → List ℕ
+abbrev pub text : List (List ℕ) → List ℕ
 text ls = flat_map (λ l. l ++ 10 ∷ []) ls
 
 -- the listing of a circuit by the plain program
@@ -22,7 +22,7 @@ abbrev the_listing : Model → List Statement → List ℕ
 the_listing m c = listing m c (map (class_of c) (faults m c)) (length (representatives m c))
 
 -- the tests of rows of digits
-abbrev tests : List (List ℕ) → List Test
+abbrev pub tests : List (List ℕ) → List Test
 tests ls = map (map (λ b. b == 49)) ls
 
 -- the report of a circuit by the plain program, gates followed back four deep

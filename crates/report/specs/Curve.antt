@@ -1,0 +1,77 @@
+-- The curve of a run: how many faults are detected up to each test.
+use Rattle.std.specs.Prelude.{◌≡◌, ⊤, ℕ, ◌==◌, nat_le, Bool, false, List, ◌++◌, map, filter, flat_map, length, Option, Some, None, count_by, codes, decimal, if◌then◌else◌}
+use Rattle.std.specs.List.{list_any}
+use Rattle.bench_net.specs.Statement.{Statement}
+use Rattle.bench_net.specs.Scan.{sources}
+use Rattle.bench_net.specs.Refusal.{IsAccepted}
+use Rattle.fault_model.specs.declared.Model.{Model}
+use Rattle.patterns.specs.Least.{below}
+use Rattle.patterns.specs.Tests.{TestList, HasTests}
+use Rattle.block_sim.specs.Parts.{Parts}
+use Rattle.workers.specs.Verdict.{AreFirsts, detected}
+use Rattle.report.specs.declared.curve.CurvePoint.{CurvePoint}
+use Rattle.report.specs.declared.text.SimFault.{SimFault}
+use Rattle.report.specs.declared.text.SimFault.TheVariants as fault
+use Rattle.report.specs.EndToEnd.{IsRunReportFault}
+use Rattle.report.specs.Report.{coverage_line, percentage}
+
+-- whether a fault's first test is this one, and whether it is this one or one before it
+abbrev pub is_first : ℕ → Option ℕ → Bool
+is_first t None = false
+is_first t (Some first) = first == t
+
+abbrev pub is_found_by : ℕ → Option ℕ → Bool
+is_found_by t None = false
+is_found_by t (Some first) = nat_le first t
+
+-- what a fault of this first test counts at a test
+abbrev pub counts_at : ℕ → Option ℕ → ℕ
+counts_at t first = if is_first t first then 1 else 0
+
+-- how many faults have this first test, and how many have a first test up to it
+abbrev pub news_at : List (Option ℕ) → ℕ → ℕ
+news_at firsts t = count_by (is_first t) firsts
+
+abbrev pub found_by : List (Option ℕ) → ℕ → ℕ
+found_by firsts t = count_by (is_found_by t) firsts
+
+-- whether a test is the first of some fault
+abbrev pub finds : List (Option ℕ) → ℕ → Bool
+finds firsts t = list_any (is_first t) firsts
+
+-- the point of a test
+abbrev pub point_at : List (Option ℕ) → ℕ → CurvePoint
+point_at firsts t = record { test = t; detected = found_by firsts t }
+
+-- the points of the tests that detect a fault first, in order, of so many tests
+abbrev pub curve : ℕ → List (Option ℕ) → List CurvePoint
+curve count firsts = map (point_at firsts) (filter (finds firsts) (below count))
+
+-- a line of the curve, `TEST DETECTED P.PP`, where there are so many faults
+abbrev pub point_line : ℕ → CurvePoint → List ℕ
+point_line total point = decimal point.test ++ codes " " ++ decimal point.detected ++ codes " "
+    ++ percentage point.detected total ++ codes "\n"
+
+-- the text of points: a line each, and the coverage line
+abbrev pub curve_text : List CurvePoint → List (Option ℕ) → List ℕ
+curve_text points firsts = flat_map (point_line (length firsts)) points
+    ++ coverage_line (detected firsts) (length firsts)
+
+-- the bytes are the curve of a bench text and a test text under a model
+abbrev pub IsCurveOf : Model → List ℕ → List ℕ → List ℕ → Type 0
+IsCurveOf m bench text bytes = (c : List Statement) × (tests : TestList)
+    × (firsts : List (Option ℕ)) × IsAccepted bench c
+    × HasTests text (length (sources c)) tests × AreFirsts m c tests.tests firsts
+    × (bytes ≡ curve_text (curve (length tests.tests) firsts) firsts)
+
+-- the bytes are the curve of a job
+abbrev pub IsCurveOfJob : Parts → List ℕ → Type 0
+IsCurveOfJob job bytes = (firsts : List (Option ℕ))
+    × AreFirsts job.list.model job.circuit job.tests.tests firsts
+    × (bytes ≡ curve_text (curve (length job.tests.tests) firsts) firsts)
+
+-- When each fault of the curve of a job comes: those of a report that is run in threads, and want
+-- of memory.
+abbrev pub IsCurveFault : Parts → ℕ → SimFault → Type 0
+IsCurveFault job workers fault.Memory = ⊤
+IsCurveFault job workers f = IsRunReportFault job workers f

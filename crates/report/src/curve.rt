@@ -1,0 +1,205 @@
+//! The curve of a run: how many faults are detected up to each test.
+
+ghost use Rattle.std.specs.Prelude.{◌≡◌, ◌+◌, ◌-◌, ◌<◌, ◌≤◌, ◌^◌, ℕ, get_or, length, IfErr, IfOk, OnOk};
+ghost use Rattle.std.specs.List.{flat_map};
+ghost use Rattle.block_sim.specs.Parts.{BelongTogether};
+ghost use Rattle.output.specs.Output.{Writes};
+ghost use Rattle.report.specs.Curve.{IsCurveFault, IsCurveOf, IsCurveOfJob, curve, curve_text};
+ghost use Rattle.report.specs.Curve.{counts_at, news_at, point_line};
+ghost use Rattle.report.specs.EndToEnd.{IsReportFault, WritesOneOf};
+
+use crate::report::{ReportFault, hundredths, put_coverage};
+use crate::text::{SimFault, job_of};
+use block_sim::Job;
+use fault_model::Model;
+use fault_model::laws::stems;
+use itoa::Buffer;
+use output::{Out, OutFailed, put_pieces};
+use std::alloc::{AllocError, Global};
+use std::sync::Wait;
+use std::thread::Threads;
+use workers::{OpenGate, Verdicts, run};
+
+/// A test that is the first to detect some fault, and how many faults are detected by it or by a
+/// test before it. Tests count from 0.
+#[derive(Clone, Copy, Debug, PartialEq, Eq)]
+pub struct CurvePoint {
+    /// The number of the test.
+    pub test: u32,
+    /// How many faults have a first test up to it, before collapsing.
+    pub detected: u32,
+}
+
+/// Reads a circuit and tests for it, and writes the curve of the faults of a model: a line `TEST
+/// DETECTED P.PP` for each test that is the first to detect some fault, in order, and then the
+/// coverage line. The work is done as in [`crate::simulate_text_in`].
+///
+/// It is refused as [`crate::simulate_text_in`] is, in the same order.
+pub fn curve_text_in<R: Threads + Wait, W: Out>(
+    rt: &R,
+    alloc: Global,
+    model: Model,
+    bench: &[u8],
+    tests: &[u8],
+    workers: u32,
+    out: &mut W,
+) -> Result<(), SimFault>
+    ensures written { WritesOneOf (IsCurveOf model bench.now tests.now) result (W.seen out.old)
+        (W.seen out.new) }
+    ensures refused { IfErr result (IsReportFault model bench.now tests.now workers) }
+    ensures workers { OnOk result ((0 < workers) × (workers ≤ 64)) }
+{
+    let job = job_of(alloc, model, bench, tests)?;
+    report_curve(rt, alloc, &job, workers, out)
+}
+
+/// Runs a job by workers in threads of their own, and writes its curve.
+fn report_curve<R: Threads + Wait, W: Out>(
+    rt: &R,
+    alloc: Global,
+    job: &Job,
+    workers: u32,
+    out: &mut W,
+) -> Result<(), SimFault>
+    requires { BelongTogether job.now }
+    ensures written { WritesOneOf (IsCurveOfJob job.now) result (W.seen out.old) (W.seen out.new) }
+    ensures refused { IfErr result (IsCurveFault job.now workers) }
+    ensures workers { OnOk result ((0 < workers) × (workers ≤ 64)) }
+{
+    let verdicts = run(rt, alloc, job, workers, &OpenGate)?;
+    let points = curve_of(alloc, &verdicts, job.tests().count())?;
+    write_curve(job, &verdicts, &points, out)?;
+    Ok(())
+}
+
+/// The points of the curve of a run over so many tests, in the order of the tests. Tests that
+/// detect no fault first have none.
+///
+/// It takes 4 bytes for each test, and 8 for each point.
+pub fn curve_of(
+    alloc: Global,
+    verdicts: &Verdicts,
+    tests: u32,
+) -> Result<Vec<CurvePoint>, AllocError>
+    ensures { IfOk result (λ points. points.items ≡ curve tests verdicts.now.firsts) }
+{
+    let news = news_of(alloc, verdicts, tests)?;
+    points_of(alloc, verdicts, &news)
+}
+
+/// How many faults each of so many tests is the first to detect.
+fn news_of(alloc: Global, verdicts: &Verdicts, tests: u32) -> Result<Vec<u32>, AllocError>
+    ensures few { length verdicts.now.firsts < 2 ^ 32 }
+    ensures count { IfOk result (λ news. length news.items ≡ tests) }
+    ensures each { IfOk result (λ news. (t : ℕ) → t < tests
+        → get_or news.items t 0 ≡ news_at verdicts.now.firsts t) }
+{
+    let faults = verdicts.total();
+    let mut news = vec![in alloc; 0u32; tests as usize]?;
+    for fault in 0..faults {
+        count_first(&mut news, verdicts.first(fault));
+    }
+    Ok(news)
+}
+
+/// Counts a fault at its first test, where it is one of these tests.
+fn count_first(news: &mut [u32], first: Option<u32>)
+    requires { (t : ℕ) → t < length news.old → get_or news.old t 0 < 2 ^ 32 - 1 }
+    ensures count { length news.new ≡ length news.old }
+    ensures each { (t : ℕ) → t < length news.old
+        → get_or news.new t 0 ≡ get_or news.old t 0 + counts_at t first }
+{
+    let Some(test) = first else {
+        return;
+    };
+    let place = test as usize;
+    if place < news.len() {
+        news[place] += 1;
+    }
+}
+
+/// The points of tests of which it is known how many faults each is the first to detect.
+fn points_of(
+    alloc: Global,
+    verdicts: &Verdicts,
+    news: &[u32],
+) -> Result<Vec<CurvePoint>, AllocError>
+    requires tests { length news.now < 2 ^ 32 }
+    requires faults { length verdicts.now.firsts < 2 ^ 32 }
+    requires news { (t : ℕ) → t < length news.now
+        → get_or news.now t 0 ≡ news_at verdicts.now.firsts t }
+    ensures { IfOk result (λ points. points.items ≡ curve (length news.now) verdicts.now.firsts) }
+{
+    let mut points = Vec::new(alloc);
+    let mut detected = 0;
+    for test in 0..news.len() as u32 {
+        let more = news[test as usize];
+        if more > 0 {
+            detected += more;
+            points.push(CurvePoint { test, detected })?;
+        }
+    }
+    Ok(points)
+}
+
+/// Writes the points of a curve of the verdicts on a job, a line each, and then the coverage line.
+/// It takes no memory.
+///
+/// Where the output takes nothing more it is refused with [`ReportFault::Write`], and what went
+/// out is a beginning of the text.
+pub fn write_curve<W: Out>(
+    job: &Job,
+    verdicts: &Verdicts,
+    points: &[CurvePoint],
+    out: &mut W,
+) -> Result<(), ReportFault>
+    requires { length verdicts.now.firsts ≡ length job.now.list.list }
+    ensures { Writes result (W.seen out.old) (W.seen out.new)
+        (curve_text points.now verdicts.now.firsts) }
+{
+    let _circuit = job.circuit();
+    let total = verdicts.total();
+    stems();
+    prove!(total > 0);
+    put_points(points, total, out)?;
+    put_coverage(verdicts.detected(), total, "", out)?;
+    Ok(())
+}
+
+/// Writes a line for each point, where there are so many faults.
+fn put_points<W: Out>(points: &[CurvePoint], total: u32, out: &mut W) -> Result<(), OutFailed>
+    requires { 0 < total }
+    ensures { Writes result (W.seen out.old) (W.seen out.new)
+        (flat_map (point_line total) points.now) }
+{
+    for point in points {
+        put_point(*point, total, out)?;
+    }
+    Ok(())
+}
+
+/// Writes the line of a point, where there are so many faults.
+fn put_point<W: Out>(point: CurvePoint, total: u32, out: &mut W) -> Result<(), OutFailed>
+    requires { 0 < total }
+    ensures { Writes result (W.seen out.old) (W.seen out.new) (point_line total point) }
+{
+    let hundredths = hundredths(point.detected, total);
+    let decimals = hundredths % 100;
+    let mut test = Buffer::new();
+    let mut found = Buffer::new();
+    let mut whole = Buffer::new();
+    let mut tens = Buffer::new();
+    let mut ones = Buffer::new();
+    let pieces = [
+        test.format(point.test),
+        " ",
+        found.format(point.detected),
+        " ",
+        whole.format(hundredths / 100),
+        ".",
+        tens.format(decimals / 10),
+        ones.format(decimals % 10),
+        "\n",
+    ];
+    put_pieces(&pieces, out)
+}
