@@ -152,8 +152,8 @@ fn evaluations_are_counted(rt: HostRuntime) -> Result<(), Fail> {
 fn texts_are_written(rt: HostRuntime) -> Result<(), Fail> {
     let bench = b"INPUT(a)\nOUTPUT(z)\nz = BUFF(a)\n";
     let tests = b"0\n1\n0\n";
-    let contents = Contents::of(Lines::All);
-    let report = report_bytes(&rt, rt.alloc(), Model::Transition, bench, tests, 4, contents)?;
+    let all = Contents::of(Lines::All);
+    let report = report_bytes(&rt, rt.alloc(), Model::Transition, bench, tests, 4, all)?;
     let wanted = "stem a str 1\nstem a stf 2\nstem z str 1\nstem z stf 2\n4 of 4 (100.00%)\n";
     assert!(rt; report.as_slice() == wanted.as_bytes());
     Ok(())

@@ -11,9 +11,7 @@ use crate::texts::Screen;
 use block_sim::{Job, Workspace, first_hit, simulate};
 use fault_ledger::{Claim, Finish, Ledger, Seat, SharedLedger};
 use fault_model::Model;
-use report::{
-    Contents, Lines, RunFault, listing_bytes, report_bytes, write_listing, write_report,
-};
+use report::{Contents, Lines, RunFault, listing_bytes, report_bytes, write_listing, write_report};
 use std::alloc::{AllocError, Global};
 use std::process::Abort;
 use std::sync::Wait;

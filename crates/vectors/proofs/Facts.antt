@@ -1,15 +1,14 @@
 -- The relations at the worked circuits: texts that are accepted, lists that are well-formed or stuck, solutions, detected faults.
 use Rattle.std.proofs.Common.{lit≤, arith}
-use Rattle.std.specs.Prelude.{◌≡◌, ◌<◌, ℕ, zero, suc, true, false, List, [], ◌∷◌, ◌++◌, map, codes, refl, Some, None, bytes_eq}
+use Rattle.std.specs.Prelude.{◌≡◌, ◌<◌, ℕ, zero, suc, true, false, List, [], ◌∷◌, map, codes, refl, Some, None, bytes_eq}
 use Rattle.std.specs.List.{position_or_len}
-use Rattle.bench_net.specs.declared.Kind.TheVariants.{Buff}
 use Rattle.bench_net.specs.declared.Sink.TheVariants as sink
 use Rattle.bench_net.specs.declared.BenchFault.TheVariants.{Syntax}
-use Rattle.bench_net.specs.Statement.{Name, Input, Output, Gate}
+use Rattle.bench_net.specs.Statement.{Name}
 use Rattle.bench_net.specs.Text.{Spells, Open, Word}
-use Rattle.bench_net.specs.Scan.{signal, sinks}
+use Rattle.bench_net.specs.Scan.{sinks}
 use Rattle.bench_net.specs.Circuit.{IsWellFormed, IsStuck}
-use Rattle.bench_net.specs.Refusal.{IsAccepted, IsRefused, IsSyntaxFault}
+use Rattle.bench_net.specs.Refusal.{IsRefused, IsSyntaxFault}
 use Rattle.bench_net.proofs.Public.{complete_states, is_in, stuck}
 use Rattle.fault_model.specs.declared.Model.TheVariants.{StuckAt}
 use Rattle.fault_model.specs.declared.Line.TheVariants as line

@@ -1,5 +1,5 @@
 -- The listings and reports of the worked circuits under both fault models, by the plain programs.
-use Rattle.std.specs.Prelude.{◌≡◌, ◌==◌, ℕ, Bool, true, false, List, [], ◌∷◌, ◌++◌, map, length, codes, refl, flat_map, replicate}
+use Rattle.std.specs.Prelude.{◌≡◌, ◌==◌, ℕ, true, false, List, [], ◌∷◌, ◌++◌, map, length, codes, refl, flat_map, replicate}
 use Rattle.std.specs.Fmt.{digits}
 use Rattle.fault_model.specs.declared.Model.{Model}
 use Rattle.fault_model.specs.declared.Model.TheVariants.{StuckAt, Transition}
@@ -9,7 +9,7 @@ use Rattle.fault_model.specs.Collapse.{representatives}
 use Rattle.fault_model.proofs.Public.{class_of, first_within}
 use Rattle.bench_net.specs.Statement.{Statement}
 use Rattle.report.specs.declared.contents.Lines.{Lines}
-use Rattle.report.specs.declared.contents.Lines.TheVariants.{All, Omitted, Undetected}
+use Rattle.report.specs.declared.contents.Lines.TheVariants.{All, Omitted}
 use Rattle.report.specs.Report.{listing, report}
 use Rattle.vectors.proofs.Circuits.{c17, and_of_two, inverter_loop, eleven_inputs, buffer, nor_of_two, output_and_inverter, xor_of_one, scan_cell, cell_of_itself}
 
