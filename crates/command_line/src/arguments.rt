@@ -15,11 +15,11 @@ use std::thread::Threads;
 
 /// Does what the arguments of the process ask for, as [`run_words`] does, on the files of the
 /// system, and answers the status. The output has a buffer, which is flushed at the end.
-pub fn run_arguments<R: Env + HasFiles + AllocGlobal + Threads + Wait + Sync, W: Write + Drop, E: Out>(
-    rt: &R,
-    out: W,
-    err: &mut E,
-) -> u8
+pub fn run_arguments<
+    R: Env + HasFiles + AllocGlobal + Threads + Wait + Sync,
+    W: Write + Drop,
+    E: Out,
+>(rt: &R, out: W, err: &mut E) -> u8
     ensures { result ≤ 3 }
 {
     match read_arguments(rt) {

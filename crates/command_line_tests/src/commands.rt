@@ -57,7 +57,10 @@ static SAME: [&str; 6] = [
 ];
 
 /// Whether a case comes out, a run also with other numbers of workers, and in parts.
-fn comes_out<R: AllocGlobal + Threads + Wait + Sync>(rt: &R, case: &Case) -> Result<bool, AllocError> {
+fn comes_out<R: AllocGlobal + Threads + Wait + Sync>(
+    rt: &R,
+    case: &Case,
+) -> Result<bool, AllocError> {
     let mut right = is_right(rt, case.line, case)?;
     if case.line.contains(" run ") {
         for options in &SAME {

@@ -122,7 +122,10 @@ fn spelled(alloc: Global, long: &Long) -> Result<String, AllocError> {
 }
 
 /// Whether the program refuses files past a limit.
-fn refuses<R: AllocGlobal + Threads + Wait + Sync>(rt: &R, past: &Past) -> Result<bool, AllocError> {
+fn refuses<R: AllocGlobal + Threads + Wait + Sync>(
+    rt: &R,
+    past: &Past,
+) -> Result<bool, AllocError> {
     let bench = spelled(rt.alloc(), &past.bench)?;
     let tests = spelled(rt.alloc(), &past.tests)?;
     let order = spelled(rt.alloc(), &past.order)?;

@@ -17,7 +17,10 @@ use std::test::Fail;
 use std::thread::Threads;
 
 /// What the text call of a case's command writes, for 4 workers.
-fn bytes_of<R: AllocGlobal + Threads + Wait + Sync>(rt: &R, case: &Case) -> Result<Vec<u8>, SimFault> {
+fn bytes_of<R: AllocGlobal + Threads + Wait + Sync>(
+    rt: &R,
+    case: &Case,
+) -> Result<Vec<u8>, SimFault> {
     let model = if case.line.contains("transition") {
         Model::Transition
     } else {
