@@ -4,7 +4,6 @@ ghost use Rattle.std.specs.Prelude.{◌≤◌, IfOk, IfSome};
 ghost use Rattle.command_line.specs.Split.{HasParts};
 
 use crate::curve::do_curve;
-use crate::detected::do_detections;
 use crate::options::{MAX_PARTS, Task, command_line, model_named, workers_help};
 use crate::source::{Source, SourceFault};
 use crate::status::{
@@ -25,7 +24,7 @@ use std::thread::Threads;
 /// Does what the words ask for and answers the status: 0 done or helped, 1 a text is refused, 2 the
 /// command line is refused, 3 a file, the output, memory or a thread is refused. `words[0]` is the
 /// program's name. It joins the threads that it starts.
-pub fn run_words<'a, R: Threads + Wait + Sync, S: Source, W: Out, E: Out>(
+pub fn run_words<'a, R: Threads + Wait, S: Source, W: Out, E: Out>(
     rt: &R,
     alloc: Global,
     words: &'a [&'a str],
@@ -42,7 +41,7 @@ pub fn run_words<'a, R: Threads + Wait + Sync, S: Source, W: Out, E: Out>(
 }
 
 /// The same with the help of `--workers N`.
-fn run_with_help<'a, R: Threads + Wait + Sync, S: Source, W: Out, E: Out>(
+fn run_with_help<'a, R: Threads + Wait, S: Source, W: Out, E: Out>(
     rt: &R,
     alloc: Global,
     workers: &'a str,
@@ -63,7 +62,7 @@ fn run_with_help<'a, R: Threads + Wait + Sync, S: Source, W: Out, E: Out>(
 }
 
 /// Does what a command line asks for.
-fn run_matched<'a, R: Threads + Wait + Sync, S: Source, W: Out, E: Out>(
+fn run_matched<'a, R: Threads + Wait, S: Source, W: Out, E: Out>(
     rt: &R,
     alloc: Global,
     matches: &ArgMatches<'a>,
@@ -97,7 +96,7 @@ fn answer_error<W: Out, E: Out>(error: &Error, out: &mut W, err: &mut E) -> u8
 }
 
 /// Does what the subcommand names.
-fn do_task<'a, R: Threads + Wait + Sync, S: Source, W: Out>(
+fn do_task<'a, R: Threads + Wait, S: Source, W: Out>(
     rt: &R,
     alloc: Global,
     matches: &ArgMatches<'a>,
@@ -108,7 +107,7 @@ fn do_task<'a, R: Threads + Wait + Sync, S: Source, W: Out>(
         return Err(Fault::Misused("no command"));
     };
     match Task::named(name) {
-        Some(Task::Run) => do_run_or_detections(rt, alloc, options, files, out),
+        Some(Task::Run) => do_run(rt, alloc, options, files, out),
         Some(Task::Curve) => do_curve(rt, alloc, options, files, out),
         Some(Task::Schedule) => do_schedule(alloc, options, files, out),
         Some(Task::Faults) => do_faults(alloc, options, files, out),
@@ -232,22 +231,8 @@ fn read_part(text: &str) -> Option<Split>
     })
 }
 
-/// `run`, or what it is with `--detections`.
-fn do_run_or_detections<'a, R: Threads + Wait + Sync, S: Source, W: Out>(
-    rt: &R,
-    alloc: Global,
-    matches: &ArgMatches<'a>,
-    files: &mut S,
-    out: &mut W,
-) -> Result<(), Fault<'a>> {
-    match matches.get_one::<u32>("detections") {
-        Some(most) => do_detections(rt, alloc, matches, most, files, out),
-        None => do_run(rt, alloc, matches, files, out),
-    }
-}
-
 /// `run`: both files are read before either text is looked at.
-fn do_run<'a, R: Threads + Wait + Sync, S: Source, W: Out>(
+fn do_run<'a, R: Threads + Wait, S: Source, W: Out>(
     rt: &R,
     alloc: Global,
     matches: &ArgMatches<'a>,

@@ -7,7 +7,6 @@
 mod arguments;
 mod command;
 mod curve;
-mod detected;
 mod options;
 mod source;
 mod status;

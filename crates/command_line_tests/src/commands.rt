@@ -1,7 +1,7 @@
 //! Command lines: cases with all that they answer, words that are refused, and help.
 
 use crate::cases::{C17, CASES, Case, MORE_CASES, REFUSED_CASES, TRANSITION_CASES};
-use crate::daily::{CONTENTS_CASES, CURVE_CASES, DETECTION_CASES};
+use crate::daily::{CONTENTS_CASES, CURVE_CASES};
 use crate::screen::{Answer, Screen, Texts, Wanted, answers, run_on};
 use crate::words::{HELP, MISSING, MISUSED};
 use std::alloc::AllocError;
@@ -18,7 +18,7 @@ pub const C17_FILES: Texts<'static> = Texts {
 };
 
 /// Whether the program answers a command line as a case wants.
-fn is_right<R: AllocGlobal + Threads + Wait + Sync>(
+fn is_right<R: AllocGlobal + Threads + Wait>(
     rt: &R,
     line: &str,
     case: &Case,
@@ -37,7 +37,7 @@ fn is_right<R: AllocGlobal + Threads + Wait + Sync>(
 }
 
 /// Whether a case comes out with options more.
-fn comes_out_by<R: AllocGlobal + Threads + Wait + Sync>(
+fn comes_out_by<R: AllocGlobal + Threads + Wait>(
     rt: &R,
     case: &Case,
     options: &str,
@@ -57,10 +57,7 @@ static SAME: [&str; 6] = [
 ];
 
 /// Whether a case comes out, a run also with other numbers of workers, and in parts.
-fn comes_out<R: AllocGlobal + Threads + Wait + Sync>(
-    rt: &R,
-    case: &Case,
-) -> Result<bool, AllocError> {
+fn comes_out<R: AllocGlobal + Threads + Wait>(rt: &R, case: &Case) -> Result<bool, AllocError> {
     let mut right = is_right(rt, case.line, case)?;
     if case.line.contains(" run ") {
         for options in &SAME {
@@ -71,7 +68,7 @@ fn comes_out<R: AllocGlobal + Threads + Wait + Sync>(
 }
 
 /// Checks that all cases come out.
-fn check_cases<R: AllocGlobal + Threads + Wait + Sync + Abort>(
+fn check_cases<R: AllocGlobal + Threads + Wait + Abort>(
     rt: &R,
     cases: &[Case],
 ) -> Result<(), AllocError> {
@@ -163,20 +160,4 @@ fn help_tells_options_and_defaults(rt: HostRuntime) -> Result<(), Fail> {
         assert!(rt; is_help(&told, part), "{line}: {part}");
     }
     Ok(())
-}
-
-/// Checks that cases come out, as they stand.
-fn check_as_they_stand<R: AllocGlobal + Threads + Wait + Sync + Abort>(
-    rt: &R,
-    cases: &[Case],
-) -> Result<(), AllocError> {
-    for case in cases {
-        assert!(rt; is_right(rt, case.line, case)?, "{}", case.name);
-    }
-    Ok(())
-}
-
-#[test]
-fn cases_of_detections_come_out(rt: HostRuntime) -> Result<(), Fail> {
-    Ok(check_as_they_stand(&rt, &DETECTION_CASES)?)
 }

@@ -122,10 +122,7 @@ fn spelled(alloc: Global, long: &Long) -> Result<String, AllocError> {
 }
 
 /// Whether the program refuses files past a limit.
-fn refuses<R: AllocGlobal + Threads + Wait + Sync>(
-    rt: &R,
-    past: &Past,
-) -> Result<bool, AllocError> {
+fn refuses<R: AllocGlobal + Threads + Wait>(rt: &R, past: &Past) -> Result<bool, AllocError> {
     let bench = spelled(rt.alloc(), &past.bench)?;
     let tests = spelled(rt.alloc(), &past.tests)?;
     let order = spelled(rt.alloc(), &past.order)?;
@@ -143,7 +140,7 @@ fn refuses<R: AllocGlobal + Threads + Wait + Sync>(
 }
 
 /// Checks that all files past a limit are refused.
-fn check_refused<R: AllocGlobal + Threads + Wait + Sync + Abort>(
+fn check_refused<R: AllocGlobal + Threads + Wait + Abort>(
     rt: &R,
     all: &[Past],
 ) -> Result<(), AllocError> {
@@ -199,7 +196,7 @@ const MORE_THAN_65536_ROWS: Wanted = Wanted {
 };
 
 /// Whether a listed run of the buffer answers as is wanted where these rows stand last.
-fn answers_long<R: AllocGlobal + Threads + Wait + Sync>(
+fn answers_long<R: AllocGlobal + Threads + Wait>(
     rt: &R,
     rows: &'static str,
     wanted: Wanted,

@@ -18,7 +18,7 @@ const COVERAGE: &str = "14 of 34 (41.17%)\n";
 const CANNOT_WRITE: &str = "faultsim: cannot write\n";
 
 /// Runs one test of C17 on an output that is cut.
-fn run_cut<R: AllocGlobal + Threads + Wait + Sync>(
+fn run_cut<R: AllocGlobal + Threads + Wait>(
     rt: &R,
     limit: usize,
     step: usize,
@@ -68,7 +68,7 @@ static REFUSED: [(&str, u8); 3] = [
 
 /// Whether a refused command line has this status where standard error takes so many bytes, and
 /// those are the first of what it tells otherwise.
-fn is_refused<R: AllocGlobal + Threads + Wait + Sync>(
+fn is_refused<R: AllocGlobal + Threads + Wait>(
     rt: &R,
     line: &str,
     status: u8,
@@ -121,7 +121,7 @@ impl Write for Slow {
 }
 
 /// Writes the report of one test of C17 to a slow writer.
-fn simulate_slowly<R: AllocGlobal + Threads + Wait + Sync>(
+fn simulate_slowly<R: AllocGlobal + Threads + Wait>(
     rt: &R,
     out: &mut Plain<Slow>,
 ) -> Result<(), SimFault> {

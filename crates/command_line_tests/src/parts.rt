@@ -44,10 +44,7 @@ const C17_TESTS: Texts<'static> = Texts {
 };
 
 /// The lines that the program writes for a command line on C17.
-pub fn text_of<R: AllocGlobal + Threads + Wait + Sync>(
-    rt: &R,
-    line: &str,
-) -> Result<String, AllocError> {
+pub fn text_of<R: AllocGlobal + Threads + Wait>(rt: &R, line: &str) -> Result<String, AllocError> {
     let told = run_on(rt, line, C17_TESTS, Screen::new(rt.alloc()))?;
     let text = str::from_utf8(told.out.text()).unwrap_or_default();
     String::from_str(rt.alloc(), text)

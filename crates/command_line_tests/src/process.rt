@@ -192,7 +192,7 @@ static CASES: [Case; 5] = [
 ];
 
 /// Whether a process ends as a case wants.
-fn ends_right<R: AllocGlobal + Files + Threads + Wait + Sync>(rt: &R, case: &Case) -> bool {
+fn ends_right<R: AllocGlobal + Files + Threads + Wait>(rt: &R, case: &Case) -> bool {
     let process = Process {
         rt,
         line: case.line,

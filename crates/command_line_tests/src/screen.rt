@@ -90,7 +90,7 @@ pub struct Answer {
 }
 
 /// Runs the words of a command line on files, with this standard output.
-pub fn run_on<R: AllocGlobal + Threads + Wait + Sync, S: Source + Drop>(
+pub fn run_on<R: AllocGlobal + Threads + Wait, S: Source + Drop>(
     rt: &R,
     line: &str,
     files: S,
@@ -100,7 +100,7 @@ pub fn run_on<R: AllocGlobal + Threads + Wait + Sync, S: Source + Drop>(
 }
 
 /// Runs the words of a command line on files, with these outputs.
-pub fn run_between<R: AllocGlobal + Threads + Wait + Sync, S: Source + Drop>(
+pub fn run_between<R: AllocGlobal + Threads + Wait, S: Source + Drop>(
     rt: &R,
     line: &str,
     files: S,
@@ -122,7 +122,7 @@ pub struct Wanted {
 }
 
 /// Whether the program answers a command line on files as is wanted.
-pub fn answers<R: AllocGlobal + Threads + Wait + Sync, S: Source + Drop>(
+pub fn answers<R: AllocGlobal + Threads + Wait, S: Source + Drop>(
     rt: &R,
     line: &str,
     files: S,

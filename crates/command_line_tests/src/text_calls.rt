@@ -17,10 +17,7 @@ use std::test::Fail;
 use std::thread::Threads;
 
 /// What the text call of a case's command writes, for 4 workers.
-fn bytes_of<R: AllocGlobal + Threads + Wait + Sync>(
-    rt: &R,
-    case: &Case,
-) -> Result<Vec<u8>, SimFault> {
+fn bytes_of<R: AllocGlobal + Threads + Wait>(rt: &R, case: &Case) -> Result<Vec<u8>, SimFault> {
     let model = if case.line.contains("transition") {
         Model::Transition
     } else {
@@ -109,7 +106,7 @@ static TEXT_CASES: [Case; 4] = [
 ];
 
 /// Whether the text call of a case's command gives what the case wants.
-fn comes_as_bytes<R: AllocGlobal + Threads + Wait + Sync>(rt: &R, case: &Case) -> bool {
+fn comes_as_bytes<R: AllocGlobal + Threads + Wait>(rt: &R, case: &Case) -> bool {
     match bytes_of(rt, case) {
         Ok(bytes) => bytes.as_slice() == case.stdout.as_bytes() && case.status == 0,
         Err(_) => case.status == 1,

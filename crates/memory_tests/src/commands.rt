@@ -37,7 +37,7 @@ struct Commanded<'a, R> {
     refusal: &'a str,
 }
 
-impl<R: Threads + Wait + Sync> Trial for Commanded<'_, R> {
+impl<R: Threads + Wait> Trial for Commanded<'_, R> {
     fn name(&self) -> &str {
         "run_words"
     }
@@ -54,7 +54,7 @@ impl<R: Threads + Wait + Sync> Trial for Commanded<'_, R> {
 }
 
 /// Tries the listing of C17 with no memory and then with more and more.
-fn sweep_listing<R: Threads + Wait + Sync + Abort>(
+fn sweep_listing<R: Threads + Wait + Abort>(
     rt: &R,
     alloc: Global,
     listing: &[u8],
