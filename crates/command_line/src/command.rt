@@ -300,8 +300,9 @@ fn do_faults<'a, S: Source, W: Out>(
     }
 }
 
-/// `merge`: one file is read after another. The names of the faults stay in the first text, and each
-/// other text is let go once its verdicts are taken over. All is known before anything is written.
+/// `merge`: one file is read after another. The names of the faults stay in the first text, and
+/// each other text is let go once its verdicts are taken over. All is known before anything is
+/// written.
 fn do_merge<'a, S: Source, W: Out>(
     alloc: Global,
     matches: &ArgMatches<'a>,

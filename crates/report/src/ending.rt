@@ -112,8 +112,8 @@ fn put_names<W: Out>(
     Ok(())
 }
 
-/// Writes the report of a whole run, as a run without parts writes it: the faults that are asked for,
-/// each with the first test that detects it, then the coverage line. It takes no memory.
+/// Writes the report of a whole run, as a run without parts writes it: the faults that are asked
+/// for, each with the first test that detects it, then the coverage line. It takes no memory.
 ///
 /// Where the output takes nothing more it is refused with [`ReportFault::Write`], and what went
 /// out is a beginning of the report.

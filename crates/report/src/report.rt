@@ -118,8 +118,8 @@ pub(crate) fn hundredths(part: u32, whole: u32) -> u64
     10_000 * u64::from(part) / u64::from(whole)
 }
 
-/// Writes a coverage line, `D of T` and what is counted, ` (P.PP%)`: the percentage is cut off after
-/// two decimals.
+/// Writes a coverage line, `D of T` and what is counted, ` (P.PP%)`: the percentage is cut off
+/// after two decimals.
 pub(crate) fn put_coverage<'a, W: Out>(
     detected: u32,
     total: u32,

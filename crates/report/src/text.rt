@@ -148,9 +148,9 @@ pub fn simulate_text<R: Threads + Wait, W: Out>(
 }
 
 /// Reads a circuit and tests for it, and writes the report of the faults of a model: of the faults
-/// that are asked for the first test that detects each, and then the coverage. The work is done by workers in
-/// threads of their own, which are joined before this returns, and the report is the same whatever
-/// their number.
+/// that are asked for the first test that detects each, and then the coverage. The work is done by
+/// workers in threads of their own, which are joined before this returns, and the report is the same
+/// whatever their number.
 ///
 /// The bench text is read before the tests, then the number of pieces is looked at, and then the
 /// number of workers; nothing is written before the verdicts are there.
@@ -365,7 +365,8 @@ pub fn report_bytes<R: Threads + Wait>(
     workers: u32,
     contents: Contents,
 ) -> Result<Vec<u8>, SimFault>
-    ensures report { IfOk result (λ bytes. IsReportOf model bench.now tests.now contents bytes.items) }
+    ensures report { IfOk result (λ bytes.
+        IsReportOf model bench.now tests.now contents bytes.items) }
     ensures refused { IfErr result (IsReportFault model bench.now tests.now workers) }
     ensures unwritten { (fault : ReportFault) → result ≢ Err (SimFault.Report fault) }
     ensures workers { OnOk result ((0 < workers) × (workers ≤ 64)) }
