@@ -195,7 +195,7 @@ fn read_settings<'a>(matches: &ArgMatches<'a>) -> Result<Settings, Fault<'a>> {
 #[derive(Clone, Copy)]
 enum Split {
     Whole,
-    /// In so many parts, one after another.
+    /// In so many parts.
     Parts(u32),
     /// One part alone, counted from 0.
     Part { part: u32, parts: u32 },

@@ -312,7 +312,7 @@ fn parts_option<'a>(alloc: Global) -> Arg<'a> {
         .long("parts")
         .value_name("N")
         .value_parser(value_parser!(u32).range(1..=i64::from(MAX_PARTS)))
-        .help("Run the fault classes in parts, one after another, 1 to 65536")
+        .help("Run the fault classes in parts, 1 to 65536")
 }
 
 /// The option `--part I/N`.

@@ -176,8 +176,8 @@ pub fn simulate_text_in<R: Threads + Wait, W: Out>(
 }
 
 /// Reads a circuit and tests for it, and writes the report that [`simulate_text_in`] writes, with
-/// the same bytes and the same refusals. The classes of the faults are run in so many parts, one
-/// after another ([`workers::run_in_parts`]), so that a ledger takes the memory of one part alone.
+/// the same bytes and the same refusals. The classes of the faults are run in so many parts, each by
+/// one worker alone ([`workers::run_in_parts`]).
 pub fn simulate_text_in_parts<R: Threads + Wait, W: Out>(
     rt: &R,
     alloc: Global,
@@ -206,7 +206,7 @@ pub fn simulate_text_in_parts<R: Threads + Wait, W: Out>(
 enum Split {
     /// All in one ledger.
     Whole,
-    /// In so many parts, at least one, each with a ledger of its own.
+    /// In so many parts, at least one, each by one worker alone.
     Parts(u32),
 }
 

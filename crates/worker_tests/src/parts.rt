@@ -96,7 +96,7 @@ fn check_refused<R: Threads + Wait + Abort>(rt: &R, alloc: Global, job: &Job) {
     let stopped = run_part(rt, alloc, job, 0, 3, 1, &Shut).err();
     assert_eq!(rt; stopped, Some(RunFault::Unfinished { class: 5, block: 0 }));
     let stopped = run_in_parts(rt, alloc, job, 3, 1, &Shut).err();
-    assert_eq!(rt; stopped, Some(RunFault::Unfinished { class: 5, block: 0 }));
+    assert_eq!(rt; stopped, Some(RunFault::Unfinished { class: 0, block: 0 }));
     let none = run_in_parts(rt, alloc, job, 3, 0, &OpenGate).err();
     assert_eq!(rt; none, Some(RunFault::NoWorkers));
 }

@@ -8,3 +8,7 @@ pub mod Crew
 pub mod Finish
 pub mod Partition
 pub mod Ranking
+pub mod Solo
+pub mod Taking
+pub mod Joined
+pub mod Collected

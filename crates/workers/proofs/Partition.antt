@@ -1,5 +1,5 @@
 -- That parts are a partition, and what runs over them give.
-use Rattle.std.proofs.Common.{◌≡◌, ◌≢◌, ◌<◌, ◌≤◌, ◌+◌, ◌-◌, ◌%◌, ◌⊎◌, inl, inr, ℕ, zero, suc, List, [], ◌∷◌, ◌++◌, map, set, take, drop, length, get_or, All, Option, Some, None, refl, sym, ap, ◌∙◌, subst, arith, replicate, length-drop}
+use Rattle.std.proofs.Common.{◌≡◌, ◌≢◌, ◌<◌, ◌≤◌, ◌+◌, ◌-◌, ◌*◌, ◌%◌, ◌⊎◌, inl, inr, ℕ, zero, suc, List, [], ◌∷◌, ◌++◌, map, set, take, drop, length, get_or, All, Option, Some, None, refl, sym, ap, ◌∙◌, subst, arith, replicate, length-drop}
 use Rattle.std.specs.Prelude.{option_map, slice_get, slice_range}
 use Rattle.bench_net.specs.Statement.{Statement}
 use Rattle.fault_model.specs.declared.Model.{Model}
@@ -7,11 +7,13 @@ use Rattle.fault_model.specs.Solution.{Test}
 use Rattle.block_sim.specs.First.{IsFirst}
 use Rattle.block_sim.specs.Regions.{IsStemOfClass}
 use Rattle.block_sim.proofs.Public.{class_has_stem, one_class_stem}
-use Rattle.std.proofs.Math.Nat.{mod-lt}
+use Rattle.std.proofs.Math.Nat.{mod-lt, suc-mul}
+use Rattle.patterns.specs.Tests.{blocks}
 use Rattle.std.proofs.Math.Seq.{take-add, take-length}
 use Rattle.std.proofs.lemmas.Bool.{cases_lt}
 use Rattle.std.proofs.lemmas.Option.{get_or_from_slice_get, slice_get-get_or, slice_get-map, slice_get_within}
 use Rattle.std.proofs.lemmas.List.{get_or-drop, get_or-take, get_or-set_same, get_or-set_other, length-map, length-set, length-take, length-take-le}
+use Rattle.std.proofs.lemmas.List.Sums.{sum_by-cons}
 use Rattle.lists.proofs.Places.{from_mapped, within_place}
 use Rattle.fault_model.specs.Fault.{Fault}
 use Rattle.fault_model.specs.Collapse.{IsClassOf}
@@ -24,10 +26,10 @@ use Rattle.workers.specs.Rank.{AreRanked, IsCutOf, IsStart, RanksBefore}
 use Rattle.workers.specs.declared.RunFault.{RunFault}
 use Rattle.workers.specs.declared.RunFault.TheVariants as run_fault
 use Rattle.workers.specs.Chosen.{listed}
-use Rattle.workers.specs.Refused.{IsPartFault, IsPartsFault, IsRunFaultOver}
+use Rattle.workers.specs.Refused.{IsPartFault, IsRunFaultOver}
 use Rattle.workers.specs.Work.{Stops}
 use Rattle.workers.specs.Settling.{shape_for}
-use Rattle.workers.specs.Verdict.{AreClassFirsts, AreFirsts}
+use Rattle.workers.specs.Verdict.{AreBehindHits, AreClassFirsts, AreFirsts, behind, pieces_behind}
 use Rattle.workers.proofs.Truth.{class_count, class_in}
 
 -- the part of a class is that of its one stem
@@ -319,6 +321,23 @@ start_within job parts part start ranked classes cut is =
     let n = ap (λ (l : List ℕ). length l) cut.classes_are ∙ length-map ranked (λ (r : Ranked). r.class) in
     omega (arith, n, is.within)
 
+-- the first test in the verdict on a class is that of its faults
+pub class_first : (job : Parts) (parts : ℕ) (ranked : List Ranked) (classes : List ℕ) (firsts : List (Option ℕ)) (table : List PartVerdict) → IsCutOf job parts ranked classes
+    → AreClassFirsts job.list.model job.circuit job.tests.tests classes firsts → AreClassVerdicts (length job.classes.representative) classes firsts (length classes) table
+    → (f : Fault) (class : ℕ) → class < length job.classes.representative → IsClassOf job.list.model job.circuit f class
+    → IsFirst job.circuit job.tests.tests f (first_in (get_or table class OtherPart))
+class_first job parts ranked classes firsts table cut known by f class lt of = go (by.each class lt)
+  where
+    go : IsClassVerdict classes firsts (length classes) class (slice_get table class) → IsFirst job.circuit job.tests.tests f (first_in (get_or table class OtherPart))
+    go (inl x) =
+        subst (λ v. IsFirst job.circuit job.tests.tests f (first_in v)) (sym (get_or_from_slice_get table class (First x.1) OtherPart x.5))
+        (known.first x.0 class f x.1 x.3 of x.4)
+    go (inr x) =
+        let y = cut.ranked_are.all class lt in
+        let at : slice_get classes y.0 ≡ Some class =
+        ap (λ (l : List ℕ). slice_get l y.0) cut.classes_are ∙ slice_get-map (λ (r : Ranked). r.class) ranked y.0 ∙ ap (option_map (λ (r : Ranked). r.class)) y.2 ∙ ap Some y.3 in
+        absurd (x.0 y.0 (slice_get_within classes y.0 class at) at)
+
 -- the first tests of all classes are those of all faults
 pub cut_firsts : (job : Parts) (parts : ℕ) (ranked : List Ranked) (classes : List ℕ) (firsts found : List (Option ℕ)) (table : List PartVerdict) → BelongTogether job → IsCutOf job parts ranked classes
     → AreClassFirsts job.list.model job.circuit job.tests.tests classes firsts
@@ -329,25 +348,44 @@ cut_firsts job parts ranked classes firsts found table b cut known by is = recor
   first = λ i f first at v.
       let x = from_mapped g job.classes.class_of i first (ap (λ (l : List (Option ℕ)). slice_get l i) (sym is) ∙ v) in
       let of : IsClassOf job.list.model job.circuit f x.0 = b.classes.class i f x.0 at x.1 in
-      let lt : x.0 < count = class_in job (shape_for job 1) i x.0 b (record { classes = refl; tests = refl }) x.1 in
-      subst (IsFirst job.circuit job.tests.tests f) x.2 (go f x.0 lt of (by.each x.0 lt));
+      let lt : x.0 < length job.classes.representative = class_in job (shape_for job 1) i x.0 b (record { classes = refl; tests = refl }) x.1 in
+      subst (IsFirst job.circuit job.tests.tests f) x.2 (class_first job parts ranked classes firsts table cut known by f x.0 lt of);
 }
   where
-    count : ℕ
-    count = length job.classes.representative
-
     g : ℕ → Option ℕ
     g class = first_in (get_or table class OtherPart)
 
-    go : (f : Fault) (class : ℕ) → class < count → IsClassOf job.list.model job.circuit f class → IsClassVerdict classes firsts (length classes) class (slice_get table class) → IsFirst job.circuit job.tests.tests f (g class)
-    go f class lt of (inl x) =
-        subst (λ v. IsFirst job.circuit job.tests.tests f (first_in v)) (sym (get_or_from_slice_get table class (First x.1) OtherPart x.5))
-        (known.first x.0 class f x.1 x.3 of x.4)
-    go f class lt of (inr x) =
-        let y = cut.ranked_are.all class lt in
-        let at : slice_get classes y.0 ≡ Some class =
-        ap (λ (l : List ℕ). slice_get l y.0) cut.classes_are ∙ slice_get-map (λ (r : Ranked). r.class) ranked y.0 ∙ ap (option_map (λ (r : Ranked). r.class)) y.2 ∙ ap Some y.3 in
-        absurd (x.0 y.0 (slice_get_within classes y.0 class at) at)
+-- and the pieces behind them are behind the hits of all classes
+pub cut_hits : (job : Parts) (parts : ℕ) (ranked : List Ranked) (classes : List ℕ) (firsts : List (Option ℕ)) (table : List PartVerdict) (n skipped : ℕ) → IsCutOf job parts ranked classes
+    → AreClassFirsts job.list.model job.circuit job.tests.tests classes firsts → AreClassVerdicts (length job.classes.representative) classes firsts (length classes) table
+    → n ≡ blocks (length job.tests.tests) → skipped ≡ pieces_behind n (map first_in table) → AreBehindHits job skipped
+cut_hits job parts ranked classes firsts table n skipped cut known by all is = record {
+  firsts = map first_in table;
+  count = length-map table first_in ∙ by.long;
+  first = λ class f first of at.
+      let x = from_mapped first_in table class first at in
+      let lt : class < length job.classes.representative = omega (arith, slice_get_within table class x.0 x.1, by.long) in
+      let same : first_in (get_or table class OtherPart) ≡ first = ap first_in (get_or_from_slice_get table class x.0 OtherPart x.1) ∙ x.2 in
+      subst (IsFirst job.circuit job.tests.tests f) same (class_first job parts ranked classes firsts table cut known by f class lt of);
+  number = is ∙ ap (λ k. pieces_behind k (map first_in table)) all;
+}
+
+-- the pieces of a class
+behind_le : (n : ℕ) (first : Option ℕ) → behind n first ≤ n
+behind_le n None = omega arith
+behind_le n (Some test) = omega arith
+
+pub behind_within : (n r : ℕ) (first : Option ℕ) → r ≡ behind n first → r ≤ n
+behind_within n r first is = omega (arith, is, behind_le n first)
+
+-- those of the classes before one leave room for its own
+pub behind_room : (n : ℕ) (table : List PartVerdict) (i : ℕ) → i < length table → pieces_behind n (map first_in (take i table)) + n ≤ length table * n
+behind_room n [] i lt = absurd (omega (arith, lt))
+behind_room n (x ∷ xs) zero lt = omega (arith, suc-mul (length xs) n)
+behind_room n (x ∷ xs) (suc i) lt =
+    let rest = behind_room n xs i (omega (arith, lt)) in
+    let one : pieces_behind n (map first_in (take (suc i) (x ∷ xs))) ≡ behind n (first_in x) + pieces_behind n (map first_in (take i xs)) = sum_by-cons (behind n) (first_in x) (map first_in (take i xs)) in
+    omega (arith, suc-mul (length xs) n, rest, one, behind_le n (first_in x))
 
 -- the fault of a run over the classes of a part is one of the part
 pub own_fault : (job : Parts) (parts part workers : ℕ) (P : Type 0) (S : Stops) (f : RunFault) (classes : List ℕ) → ArePartOf job parts part classes
@@ -358,12 +396,3 @@ own_fault job parts part workers P S (run_fault.NoSuchMove index) classes are r 
 own_fault job parts part workers P S run_fault.Memory classes are r = r
 own_fault job parts part workers P S run_fault.Threads classes are r = r
 own_fault job parts part workers P S (run_fault.Unfinished class block) classes are r = (classes, are, r)
-
--- the fault of a part is one of the run of all parts
-pub part_fault : (job : Parts) (parts part workers : ℕ) (P : Type 0) (S : Stops) (f : RunFault) → part < parts → IsPartFault job parts part workers P S f → IsPartsFault job parts workers P S f
-part_fault job parts part workers P S run_fault.NoWorkers lt r = r
-part_fault job parts part workers P S run_fault.TooManyWorkers lt r = r
-part_fault job parts part workers P S (run_fault.NoSuchMove index) lt r = r
-part_fault job parts part workers P S run_fault.Memory lt r = r
-part_fault job parts part workers P S run_fault.Threads lt r = r
-part_fault job parts part workers P S (run_fault.Unfinished class block) lt r = (part, lt, r)

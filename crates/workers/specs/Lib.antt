@@ -4,5 +4,6 @@ pub mod Rank
 pub mod Verdict
 pub mod Settling
 pub mod Schedule
-pub mod Refused
 pub mod Work
+pub mod Alone
+pub mod Refused

@@ -5,6 +5,7 @@ use Rattle.block_sim.specs.Parts.{Parts}
 use Rattle.workers.specs.declared.RunFault.{RunFault}
 use Rattle.workers.specs.declared.RunFault.TheVariants.{NoWorkers, TooManyWorkers, NoSuchMove}
 use Rattle.workers.specs.declared.RunFault.TheVariants.{Memory, Threads, Unfinished}
+use Rattle.workers.specs.Alone.{PartsWaitFor}
 use Rattle.workers.specs.Chosen.{Chosen, every, listed}
 use Rattle.workers.specs.Part.{ArePartOf}
 use Rattle.workers.specs.Work.{Stops, WaitsFor}
@@ -45,13 +46,15 @@ IsPartFault job parts part workers passing stops (Unfinished class block) =
     × IsRunFaultOver job (listed classes) workers passing stops (Unfinished class block)
 IsPartFault job parts part workers passing stops fault = IsWorkersFault workers fault
 
--- the same where the classes are those of so many parts, one part after another
+-- the same where the classes are run in so many parts, each by one worker alone: the class is the
+-- lowest of all classes that aren't settled
 abbrev pub IsPartsFault : Parts → ℕ → ℕ → Type 0 → Stops → RunFault → Type 0
 IsPartsFault job parts workers passing stops Memory = (0 < workers) × (workers ≤ 64)
 IsPartsFault job parts workers passing stops Threads = (0 < workers) × (workers ≤ 64)
 IsPartsFault job parts workers passing stops (Unfinished class block) =
-    (part : ℕ) × (part < parts)
-    × IsPartFault job parts part workers passing stops (Unfinished class block)
+    (0 < workers) × (workers ≤ 64)
+    × (class < length job.classes.representative) × (block < blocks (length job.tests.tests))
+    × (¬ passing) × PartsWaitFor job parts workers stops class block
 IsPartsFault job parts workers passing stops fault = IsWorkersFault workers fault
 
 -- the same where all classes are chosen

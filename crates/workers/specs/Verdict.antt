@@ -1,12 +1,15 @@
 -- The verdicts of a run.
-use Rattle.std.specs.Prelude.{◌≡◌, ℕ, List, map, length, is_some, count_by, Option, Some, None}
-use Rattle.std.specs.Prelude.{slice_get}
+use Rattle.std.specs.Prelude.{◌≡◌, ◌+◌, ◌-◌, ◌/◌, ℕ, List, map, length, is_some, count_by}
+use Rattle.std.specs.Prelude.{slice_get, Option, Some, None}
+use Rattle.std.specs.List.{sum_by}
 use Rattle.bench_net.specs.Statement.{Statement}
 use Rattle.fault_model.specs.declared.Model.{Model}
 use Rattle.fault_model.specs.Fault.{Fault, faults}
 use Rattle.fault_model.specs.Collapse.{IsClassOf}
 use Rattle.fault_model.specs.Solution.{Test}
+use Rattle.patterns.specs.Tests.{blocks}
 use Rattle.block_sim.specs.First.{IsFirst}
+use Rattle.block_sim.specs.Parts.{Parts}
 use Rattle.fault_ledger.specs.declared.Shape.{Shape}
 use Rattle.fault_ledger.specs.declared.Status.{Status}
 use Rattle.fault_ledger.specs.declared.Status.TheVariants.{Settled, Waiting}
@@ -46,3 +49,22 @@ pub record AreFirsts (m : Model) (c : List Statement) (tests : List Test)
   pub count : length firsts ≡ length (faults m c)
   pub first : (i : ℕ) (f : Fault) (first : Option ℕ) → slice_get (faults m c) i ≡ Some f
       → slice_get firsts i ≡ Some first → IsFirst c tests f first
+
+-- of so many blocks those behind the block of a first test, none where there is no test
+abbrev pub behind : ℕ → Option ℕ → ℕ
+behind n None = 0
+behind n (Some test) = n - (test / 64 + 1)
+
+-- the number of such pieces of all classes
+abbrev pub pieces_behind : ℕ → List (Option ℕ) → ℕ
+pieces_behind n firsts = sum_by (behind n) firsts
+
+-- So many pieces of a job stand behind the first hits of their classes. With the first test of each
+-- class, by its number, or none where no test detects.
+pub record AreBehindHits (job : Parts) (skipped : ℕ) : Type 0 where
+  pub firsts : List (Option ℕ)
+  pub count : length firsts ≡ length job.classes.representative
+  pub first : (class : ℕ) (f : Fault) (first : Option ℕ)
+      → IsClassOf job.list.model job.circuit f class → slice_get firsts class ≡ Some first
+      → IsFirst job.circuit job.tests.tests f first
+  pub number : skipped ≡ pieces_behind (blocks (length job.tests.tests)) firsts

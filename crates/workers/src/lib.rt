@@ -9,8 +9,11 @@
 //! [`run_schedule`] is a run of one thread, which makes the moves of all workers in an order that
 //! its caller gives. [`run`] lets each worker work in a thread of its own, and [`work`] is the
 //! work of one.
+//! [`run_in_parts`] cuts the classes into parts, each of which one worker runs alone, without a
+//! ledger.
 #![tactic(auto)]
 
+mod alone;
 mod chosen;
 mod classes;
 mod pace;
@@ -18,6 +21,7 @@ mod parts;
 mod ranks;
 mod schedule;
 mod simulator;
+mod taken;
 mod threads;
 mod verdicts;
 mod worker;

@@ -1,16 +1,21 @@
 //! Runs over a part of the classes, and over all parts.
 
-ghost use Rattle.std.specs.Prelude.{◌≡◌, ◌<◌, ◌≤◌, ◌^◌, ℕ, [], All, IfErr, IfOk, OnOk, length, map};
-ghost use Rattle.std.specs.Prelude.{Some, slice_get, slice_index_or};
+ghost use Rattle.std.specs.Prelude.{◌≡◌, ◌⊎◌, ◌<◌, ◌≤◌, ◌+◌, ◌*◌, ◌^◌, ℕ, [], All, IfErr, IfOk};
+ghost use Rattle.std.specs.Prelude.{OnOk, Some, length, map, slice_get, slice_index_or, vec_len};
 ghost use Rattle.block_sim.specs.Parts.{BelongTogether, Parts};
+ghost use Rattle.block_sim.specs.Simulation.{Serves};
+ghost use Rattle.workers.specs.Alone.{AreFoundByPart, AreGivenBack, ArePut, IsDone};
 ghost use Rattle.workers.specs.Part.{AreClassVerdicts, ArePartOf, ArePartVerdicts, IsInOnePart};
 ghost use Rattle.workers.specs.Part.{IsOfPart, first_in};
 ghost use Rattle.workers.specs.Rank.{IsCutOf};
 ghost use Rattle.workers.specs.Refused.{IsPartFault, IsPartsFault};
-ghost use Rattle.workers.specs.Verdict.{AreClassFirsts, AreFirsts};
+ghost use Rattle.workers.specs.Verdict.{AreBehindHits, AreClassFirsts, AreFirsts};
+ghost use Rattle.workers.specs.Verdict.{behind, pieces_behind};
 
+use crate::alone::{Waiting, lower_of};
 use crate::classes::{Found, run_listed};
 use crate::ranks::Cut;
+use crate::taken::{Done, Member, crew_of, empty_table, run_alone, take_parts};
 use crate::worker::Gate;
 use crate::{RunFault, Verdicts, check_workers};
 use block_sim::Job;
@@ -155,13 +160,18 @@ pub fn run_part<G: Gate + Sync, R: Threads + Wait>(
     Ok(verdicts)
 }
 
-/// Runs all classes of a job in parts, one part after another, each by workers in threads of their
-/// own that share a ledger of the part. So a ledger takes memory for one part alone. The verdicts
-/// are the first tests, for every number of parts and of workers, whatever the workers do in
-/// whatever order.
+/// Runs all classes of a job in parts, by workers in threads of their own, numbered from 0. A
+/// worker takes a part that none has taken, runs it alone, and goes on to the next. It simulates
+/// the part's classes block after block, and leaves out a class that an earlier block detects. So
+/// workers share no ledger, and none is made. The verdicts are the first tests, for every number of
+/// parts and of workers, whatever the workers do in whatever order. The skipped pieces are those
+/// behind the first hits.
 ///
-/// It is refused as [`crate::run_classes`] is for the classes of one of the parts, the first at
-/// which a run is refused.
+/// It is refused, in this order, with [`RunFault::NoWorkers`], with [`RunFault::TooManyWorkers`]
+/// above 64 workers, and with [`RunFault::Memory`] or [`RunFault::Threads`] where memory or the
+/// start of a thread was refused; the threads that were started are joined first. Where the gate
+/// stopped workers and not all classes are settled it is [`RunFault::Unfinished`]: it names the
+/// lowest class, by the job's number, of all that aren't settled, and the block that it waits for.
 pub fn run_in_parts<G: Gate + Sync, R: Threads + Wait>(
     rt: &R,
     alloc: Global,
@@ -173,6 +183,7 @@ pub fn run_in_parts<G: Gate + Sync, R: Threads + Wait>(
     requires { 0 < parts }
     ensures firsts { IfOk result (λ v.
         AreFirsts job.now.list.model job.now.circuit job.now.tests.tests v.firsts) }
+    ensures skipped { IfOk result (λ v. AreBehindHits job.now v.skipped) }
     ensures workers { OnOk result ((0 < workers) × (workers ≤ 64)) }
     ensures refused { IfErr result (IsPartsFault job.now parts workers (G.passing gate.now)
         (G.stops gate.now)) }
@@ -180,14 +191,131 @@ pub fn run_in_parts<G: Gate + Sync, R: Threads + Wait>(
     check_workers(workers)?;
     let cut = Cut::new(alloc, job, parts)?;
     let gathered = gather(rt, alloc, job, &cut, parts, workers, gate)?;
-    let Found { firsts, skipped } = gathered;
     let count = job.classes().count();
-    let table = by_class(alloc, count, cut.classes.as_slice(), firsts.as_slice())?;
+    let table = by_class(alloc, count, cut.classes.as_slice(), gathered.as_slice())?;
+    let blocks = job.tests().blocks();
+    let skipped = skipped_behind(table.as_slice(), blocks);
     let found = firsts_of_faults(alloc, job, table.as_slice())?;
     Ok(Verdicts::of(found, skipped))
 }
 
-/// Runs each part.
+/// The number of pieces behind the first hits of all classes.
+fn skipped_behind(by_class: &[PartVerdict], blocks: u32) -> u32
+    requires { length by_class.now * blocks < 2 ^ 32 }
+    ensures { result ≡ pieces_behind blocks (map first_in by_class.now) }
+{
+    let mut skipped = 0;
+    for verdict in by_class {
+        skipped += behind(*verdict, blocks);
+    }
+    skipped
+}
+
+/// The number of blocks behind that of a first hit, none where no test detects.
+fn behind(verdict: PartVerdict, blocks: u32) -> u32
+    ensures { result ≡ behind blocks (first_in verdict) }
+{
+    match verdict {
+        PartVerdict::First(Some(test)) => blocks.saturating_sub(test / 64 + 1),
+        PartVerdict::First(None) | PartVerdict::OtherPart => 0,
+    }
+}
+
+/// Puts what a worker gives back at the places of its parts.
+fn put_by_part(table: Vec<Option<Done>>, dones: Vec<Done>) -> Vec<Option<Done>>
+    ensures { ArePut table.items dones.items result.items }
+{
+    let mut table = table;
+    for done in dones {
+        let part = done.part as usize;
+        if part < table.len() {
+            table[part] = Some(done);
+        }
+    }
+    table
+}
+
+/// What all workers give back, by part.
+fn table_of(
+    alloc: Global,
+    parts: u32,
+    back: Vec<Result<Vec<Done>, AllocError>>,
+) -> Result<Vec<Option<Done>>, AllocError>
+    ensures { IfOk result (λ table. AreGivenBack parts back.items table.items) }
+{
+    let mut table = empty_table(alloc, parts)?;
+    for dones in back {
+        table = put_by_part(table, dones?);
+    }
+    Ok(table)
+}
+
+/// What was found in a part: what stands at its place in the table. Where no worker took it, as
+/// the gate stopped them all, it is run by one more.
+fn found_in<G: Gate>(
+    alloc: Global,
+    job: &Job,
+    cut: &Cut,
+    part: u32,
+    place: Option<Done>,
+    member: &mut Member,
+    gate: &G,
+) -> Result<Done, AllocError>
+    requires cut { (parts : ℕ) × (part < parts)
+        × IsCutOf job.now parts cut.now.ranked.items cut.now.classes.items }
+    requires part { part + 1 < 2 ^ 32 }
+    requires serves { Serves member.old.simulation job.now }
+    ensures done { IfOk result (λ done. (place ≡ Some done) ⊎ ((done.part ≡ part)
+        × IsDone job.now cut.now.ranked.items cut.now.classes.items member.old.number
+        (G.passing gate.now) (G.stops gate.now) done)) }
+    ensures member { member.new.number ≡ member.old.number }
+    ensures serves { Serves member.new.simulation job.now }
+{
+    match place {
+        Some(done) => Ok(done),
+        None => run_alone(alloc, job, cut, part, member, gate),
+    }
+}
+
+/// Puts together what was found in all parts.
+fn join_parts<G: Gate>(
+    alloc: Global,
+    job: &Job,
+    cut: &Cut,
+    parts: u32,
+    workers: u32,
+    gate: &G,
+    table: Vec<Option<Done>>,
+) -> Result<Vec<Option<u32>>, RunFault>
+    requires cut { IsCutOf job.now parts cut.now.ranked.items cut.now.classes.items }
+    requires workers { (0 < workers) × (workers ≤ 64) }
+    requires parts { 0 < parts }
+    requires count { vec_len table ≡ parts }
+    requires found { AreFoundByPart job.now cut.now.ranked.items cut.now.classes.items workers
+        (G.passing gate.now) (G.stops gate.now) table.items }
+    ensures gathered { IfOk result (λ found. AreClassFirsts job.now.list.model job.now.circuit
+        job.now.tests.tests cut.now.classes.items found.items) }
+    ensures refused { IfErr result (IsPartsFault job.now parts workers (G.passing gate.now)
+        (G.stops gate.now)) }
+{
+    let _tests = job.tests();
+    let mut member = Member::new(alloc, job, 0)?;
+    let mut firsts = Vec::with_capacity(alloc, cut.classes.len())?;
+    let mut lowest = None;
+    let mut part = 0;
+    for place in table {
+        let done = found_in(alloc, job, cut, part, place, &mut member, gate)?;
+        firsts.extend_from_slice(done.firsts.as_slice())?;
+        lowest = lower_of(lowest, done.waiting);
+        part += 1;
+    }
+    match lowest {
+        Some(Waiting { class, block }) => Err(RunFault::Unfinished { class, block }),
+        None => Ok(firsts),
+    }
+}
+
+/// Runs all parts, each by one worker alone.
 fn gather<G: Gate + Sync, R: Threads + Wait>(
     rt: &R,
     alloc: Global,
@@ -196,27 +324,19 @@ fn gather<G: Gate + Sync, R: Threads + Wait>(
     parts: u32,
     workers: u32,
     gate: &G,
-) -> Result<Found, RunFault>
+) -> Result<Vec<Option<u32>>, RunFault>
     requires cut { IsCutOf job.now parts cut.now.ranked.items cut.now.classes.items }
     requires workers { (0 < workers) × (workers ≤ 64) }
     requires parts { 0 < parts }
     ensures gathered { IfOk result (λ found. AreClassFirsts job.now.list.model job.now.circuit
-        job.now.tests.tests cut.now.classes.items found.firsts.items) }
+        job.now.tests.tests cut.now.classes.items found.items) }
     ensures refused { IfErr result (IsPartsFault job.now parts workers (G.passing gate.now)
         (G.stops gate.now)) }
 {
-    let mut firsts = Vec::new(alloc);
-    let mut skipped = 0u32;
-    let mut start = 0;
-    for part in 0..parts {
-        let end = cut.start_of(part + 1);
-        let own = cut.between(start, end);
-        let one = run_one(rt, alloc, job, own, part, parts, workers, gate)?;
-        firsts.extend_from_slice(one.firsts.as_slice())?;
-        skipped = skipped.saturating_add(one.skipped);
-        start = end;
-    }
-    Ok(Found { firsts, skipped })
+    let crew = crew_of(alloc, job, workers)?;
+    let back = take_parts(rt, alloc, job, cut, parts, gate, crew)?;
+    let table = table_of(alloc, parts, back)?;
+    join_parts(alloc, job, cut, parts, workers, gate, table)
 }
 
 /// Runs the classes of one part.
@@ -237,8 +357,6 @@ fn run_one<G: Gate + Sync, R: Threads + Wait>(
     ensures firsts { IfOk result (λ found. AreClassFirsts job.now.list.model job.now.circuit
         job.now.tests.tests own.now found.firsts.items) }
     ensures refused { IfErr result (IsPartFault job.now parts part workers (G.passing gate.now)
-        (G.stops gate.now)) }
-    ensures among { IfErr result (IsPartsFault job.now parts workers (G.passing gate.now)
         (G.stops gate.now)) }
 {
     match run_listed(rt, alloc, job, own, workers, gate) {

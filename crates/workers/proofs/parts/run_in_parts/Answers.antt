@@ -1,10 +1,11 @@
 use Rattle.std.proofs.Common.{◌≡◌, ◌<◌, ◌∙◌, All, List, ap, get_or, length, map, subst, sym}
 use Rattle.fault_model.specs.Collapse.{Collapsed}
+use Rattle.patterns.specs.Tests.{TestList, blocks}
 use Rattle.workers.specs.declared.parts.PartVerdict.{PartVerdict}
 use Rattle.workers.specs.declared.parts.PartVerdict.TheVariants.{OtherPart}
 use Rattle.workers.specs.Part.{AreClassVerdicts, first_in}
-use Rattle.workers.specs.Verdict.{AreFirsts}
-use Rattle.workers.proofs.Partition.{cut_firsts, cut_within}
+use Rattle.workers.specs.Verdict.{AreBehindHits, AreFirsts, pieces_behind}
+use Rattle.workers.proofs.Partition.{cut_firsts, cut_hits, cut_within}
 use Rattle.workers.proofs.parts.run_in_parts.Goals as goal
 
 pub by_class-requires-clause-within : goal.by_class-requires-clause-within
@@ -19,7 +20,7 @@ returns-clause-firsts g c =
     let job = c.args.job.now in
     let n = length job.classes.representative in
     let classes = c.in_ok-cut.cut.classes.items in
-    let firsts = c.in_ok-gathered.gathered.firsts.items in
+    let firsts = c.in_ok-gathered.gathered.items in
     let table = c.in_ok-table.table.items in
     let count = c.count-count.ensures ∙ ap (λ (x : Collapsed). length x.representative) c.classes.ensures.part in
     let by : AreClassVerdicts n classes firsts (length classes) table =
@@ -27,6 +28,24 @@ returns-clause-firsts g c =
     (subst (λ l. AreClassVerdicts c.count-count.result l firsts (length l) table) c.as_slice.ensures.value
     (subst (λ l. AreClassVerdicts c.count-count.result c.as_slice.result.now l (length c.as_slice.result.now) table) c.as_slice-2.ensures.value c.in_ok-table.ensures)) in
     let is : c.in_ok-found.found.items ≡ map (λ class. first_in (get_or table class OtherPart)) job.classes.class_of =
-    c.in_ok-found.ensures.firsts ∙ ap (λ (l : List PartVerdict). map (λ class. first_in (get_or l class OtherPart)) job.classes.class_of) c.as_slice-3.ensures.value in
+    c.in_ok-found.ensures.firsts ∙ ap (λ (l : List PartVerdict). map (λ class. first_in (get_or l class OtherPart)) job.classes.class_of) c.as_slice-4.ensures.value in
     subst (AreFirsts job.list.model job.circuit job.tests.tests) (sym c.of.ensures.firsts)
     (cut_firsts job c.args.parts c.in_ok-cut.cut.ranked.items classes firsts c.in_ok-found.found.items table c.classes.ensures.together c.in_ok-cut.ensures c.in_ok-gathered.ensures.gathered by is)
+
+pub returns-clause-skipped : goal.returns-clause-skipped
+returns-clause-skipped g c =
+    let job = c.args.job.now in
+    let n = length job.classes.representative in
+    let classes = c.in_ok-cut.cut.classes.items in
+    let firsts = c.in_ok-gathered.gathered.items in
+    let table = c.in_ok-table.table.items in
+    let count = c.count-count.ensures ∙ ap (λ (x : Collapsed). length x.representative) c.classes.ensures.part in
+    let by : AreClassVerdicts n classes firsts (length classes) table =
+    subst (λ k. AreClassVerdicts k classes firsts (length classes) table) count
+    (subst (λ l. AreClassVerdicts c.count-count.result l firsts (length l) table) c.as_slice.ensures.value
+    (subst (λ l. AreClassVerdicts c.count-count.result c.as_slice.result.now l (length c.as_slice.result.now) table) c.as_slice-2.ensures.value c.in_ok-table.ensures)) in
+    let all : c.blocks-blocks.result ≡ blocks (length job.tests.tests) = c.blocks-blocks.ensures ∙ ap (λ (t : TestList). blocks (length t.tests)) c.tests.ensures.part in
+    let is : c.skipped_behind-skipped.result ≡ pieces_behind c.blocks-blocks.result (map first_in table) =
+    c.skipped_behind-skipped.ensures ∙ ap (λ (l : List PartVerdict). pieces_behind c.blocks-blocks.result (map first_in l)) c.as_slice-3.ensures.value in
+    subst (AreBehindHits job) (sym c.of.ensures.skipped)
+    (cut_hits job c.args.parts c.in_ok-cut.cut.ranked.items classes firsts table c.blocks-blocks.result c.skipped_behind-skipped.result c.in_ok-cut.ensures c.in_ok-gathered.ensures.gathered by all is)

@@ -1,0 +1,15 @@
+use Rattle.std.proofs.Common.{◌≡◌, ◌+◌, ◌++◌, length}
+use Rattle.std.specs.Vec.Iter.{into_iter_items, into_iter_len}
+use Rattle.block_sim.specs.Simulation.{Serves}
+use Rattle.workers.proofs.Joined.{IsGathered}
+use Rattle.workers.proofs.parts.join_parts.Given as goal
+
+abbrev pub invariant-loop-place : goal.invariant-loop-place
+invariant-loop-place g l = record {
+  order : l.yielded ++ into_iter_items l.place-iterator ≡ l.fn.table.items;
+  count : length l.yielded ≡ l.part;
+  left : l.part + into_iter_len l.place-iterator ≡ l.fn.parts;
+  number : l.member.number ≡ 0;
+  serves : Serves l.member.simulation l.job;
+  gathered : IsGathered l.job l.cut.ranked.items l.cut.classes.items l.fn.parts l.fn.workers (g.G.Gate.passing l.gate) (g.G.Gate.stops l.gate) l.part l.firsts.items l.lowest;
+}

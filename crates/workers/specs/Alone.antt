@@ -1,0 +1,154 @@
+-- The run of one worker alone over a list of classes: block after block, and on each block in the
+-- order of the list. A class that an earlier block detects is left out.
+use Rattle.std.specs.Prelude.{◌≡◌, ◌⊎◌, ◌<◌, ◌≤◌, ◌+◌, ℕ, nat_lt, if◌then◌else◌, List, length}
+use Rattle.std.specs.Prelude.{slice_get, slice_range, All, Option, Some, None, Result, Ok}
+use Rattle.std.specs.declared.vec.Vec.{Vec}
+use Rattle.patterns.specs.Least.{Table, least}
+use Rattle.patterns.specs.Tests.{blocks}
+use Rattle.block_sim.specs.Parts.{Parts}
+use Rattle.workers.specs.declared.alone.Stop.{Stop}
+use Rattle.workers.specs.declared.alone.Waiting.{Waiting}
+use Rattle.workers.specs.Schedule.{IsTableOf}
+use Rattle.workers.specs.Work.{Stops}
+use Rattle.workers.specs.Part.{ArePartOf}
+use Rattle.workers.specs.Rank.{IsStart}
+use Rattle.workers.specs.declared.ranks.Ranked.{Ranked}
+use Rattle.workers.specs.declared.taken.Done.{Done}
+
+-- so many first blocks of the class at place k are done before the piece of this place and block
+abbrev pub done_before : ℕ → ℕ → ℕ → ℕ
+done_before place block k = if nat_lt k place then block + 1 else block
+
+-- the first tests of the classes of a list over the blocks that are done before a piece
+pub record AreFoundUpTo (job : Parts) (classes : List ℕ) (place block : ℕ)
+    (firsts : List (Option ℕ)) : Type 0 where
+  pub count : length firsts ≡ length classes
+  pub each : (table : Table) → IsTableOf job table → (k class : ℕ) (first : Option ℕ)
+      → slice_get classes k ≡ Some class → slice_get firsts k ≡ Some first
+      → first ≡ least table (done_before place block k) class
+
+-- no test of the first so many blocks detects the class
+abbrev pub IsUndetected : Parts → ℕ → ℕ → Type 0
+IsUndetected job class n = (table : Table) → IsTableOf job table → least table n class ≡ None
+
+-- the gate may stop the worker at a class of the list that no earlier block detects
+pub record IsStopAt (job : Parts) (classes : List ℕ) (worker : ℕ) (stops : Stops)
+    (stop : Stop) : Type 0 where
+  pub class : ℕ
+  pub at : slice_get classes stop.place ≡ Some class
+  pub within : stop.block < blocks (length job.tests.tests)
+  pub stopped : stops worker class stop.block
+  pub undetected : IsUndetected job class stop.block
+
+-- how a worker's run over a list ends: at a piece where the gate stopped it, or behind the last
+-- block
+abbrev pub HasEnded : Parts → List ℕ → ℕ → Stops → Option Stop → List (Option ℕ) → Type 0
+HasEnded job classes worker stops None firsts =
+    AreFoundUpTo job classes 0 (blocks (length job.tests.tests)) firsts
+HasEnded job classes worker stops (Some stop) firsts =
+    IsStopAt job classes worker stops stop × AreFoundUpTo job classes stop.place stop.block firsts
+
+-- a class among the first n of a list isn't settled where the worker was stopped, and waits for
+-- this block
+pub record IsOpenBelow (job : Parts) (classes : List ℕ) (stop : Stop)
+    (n class block : ℕ) : Type 0 where
+  pub place : ℕ
+  pub low : place < n
+  pub at : slice_get classes place ≡ Some class
+  pub block_is : block ≡ done_before stop.place stop.block place
+  pub within : block < blocks (length job.tests.tests)
+  pub undetected : IsUndetected job class block
+
+-- the same among all of the list; a worker that wasn't stopped leaves none
+abbrev pub IsOpenIn : Parts → List ℕ → Option Stop → ℕ → ℕ → Type 0
+IsOpenIn job classes None class block = ⊥
+IsOpenIn job classes (Some stop) class block =
+    IsOpenBelow job classes stop (length classes) class block
+
+-- the lowest class of those for which this holds with the block that it waits for
+abbrev pub IsLowest : (ℕ → ℕ → Type 0) → Option Waiting → Type 0
+IsLowest Waits None = (class block : ℕ) → ¬ Waits class block
+IsLowest Waits (Some lowest) = Waits lowest.class lowest.block
+    × ((class block : ℕ) → Waits class block → lowest.class ≤ class)
+
+-- the one of the lower class
+abbrev pub lower_of : Option Waiting → Option Waiting → Option Waiting
+lower_of None second = second
+lower_of (Some one) None = Some one
+lower_of (Some one) (Some other) =
+    if nat_lt other.class one.class then Some other else Some one
+
+-- What a worker found in a part: in the classes that stand from the part's start up to that of the
+-- next its run ended so, it names the lowest class that isn't settled, and where the gate lets all
+-- pass it wasn't stopped.
+pub record IsDone (job : Parts) (ranked : List Ranked) (classes : List ℕ) (worker : ℕ)
+    (passing : Type 0) (stops : Stops) (done : Done) : Type 0 where
+  pub start : ℕ
+  pub end : ℕ
+  pub begins : IsStart ranked done.part start
+  pub ends : IsStart ranked (done.part + 1) end
+  pub stop : Option Stop
+  pub ended : HasEnded job (slice_range classes start end) worker stops stop done.firsts.items
+  pub lowest : IsLowest (IsOpenIn job (slice_range classes start end) stop) done.waiting
+  pub passed : passing → stop ≡ None
+
+-- the same of each of several parts
+abbrev pub AreDone : Parts → List Ranked → List ℕ → ℕ → Type 0 → Stops → List Done → Type 0
+AreDone job ranked classes worker passing stops all =
+    All (λ done. IsDone job ranked classes worker passing stops done) all
+
+-- What a worker gives back was put into a table of parts: what stands in a place of it stood there,
+-- or is among what was given back, and of the part of this number.
+pub record ArePut (was : List (Option Done)) (given : List Done)
+    (table : List (Option Done)) : Type 0 where
+  pub count : length table ≡ length was
+  pub each : (part : ℕ) (done : Done) → slice_get table part ≡ Some (Some done)
+      → (slice_get was part ≡ Some (Some done))
+      ⊎ ((done.part ≡ part) × (k : ℕ) × (slice_get given k ≡ Some done))
+
+-- A table of so many parts of what threads gave back: what stands in a place of it is of the part
+-- of this number, and among what one of the threads gave back.
+pub record AreGivenBack {Z E : Type 0} (parts : ℕ) (back : List (Result (Vec Done Z) E))
+    (table : List (Option Done)) : Type 0 where
+  pub count : length table ≡ parts
+  pub each : (part : ℕ) (done : Done) → slice_get table part ≡ Some (Some done)
+      → (done.part ≡ part) × (thread : ℕ) × (given : Vec Done Z)
+      × (slice_get back thread ≡ Some (Ok given))
+      × (k : ℕ) × (slice_get given.items k ≡ Some done)
+
+-- what stands in a place of a table of parts is what one of so many workers found in the part of
+-- this number
+pub record AreFoundByPart (job : Parts) (ranked : List Ranked) (classes : List ℕ) (workers : ℕ)
+    (passing : Type 0) (stops : Stops) (table : List (Option Done)) : Type 0 where
+  pub each : (part : ℕ) (done : Done) → slice_get table part ≡ Some (Some done)
+      → (done.part ≡ part) × (worker : ℕ) × (worker < workers)
+      × IsDone job ranked classes worker passing stops done
+
+-- the run of one part: its classes, the worker that ran it, and where the gate stopped that
+pub record PartRun : Type 0 where
+  pub classes : List ℕ
+  pub worker : ℕ
+  pub stop : Option Stop
+
+-- the runs of the first n parts, each by one of the workers, and stopped only where the gate may
+-- stop it
+pub record AreRunsOf (job : Parts) (parts workers : ℕ) (stops : Stops) (n : ℕ)
+    (runs : List PartRun) : Type 0 where
+  pub count : length runs ≡ n
+  pub each : (part : ℕ) (run : PartRun) → slice_get runs part ≡ Some run
+      → ArePartOf job parts part run.classes × (run.worker < workers)
+      × ((stop : Stop) → run.stop ≡ Some stop
+      → IsStopAt job run.classes run.worker stops stop)
+
+-- a class of one of the runs isn't settled, and waits for this block
+abbrev pub WaitsIn : Parts → List PartRun → ℕ → ℕ → Type 0
+WaitsIn job runs class block = (part : ℕ) × (run : PartRun) × (slice_get runs part ≡ Some run)
+    × IsOpenIn job run.classes run.stop class block
+
+-- A run of parts that its gate stopped waits for this class and block: of all classes of all parts
+-- that aren't settled the class is the lowest.
+pub record PartsWaitFor (job : Parts) (parts workers : ℕ) (stops : Stops)
+    (class block : ℕ) : Type 0 where
+  pub runs : List PartRun
+  pub are : AreRunsOf job parts workers stops parts runs
+  pub lowest : IsLowest (WaitsIn job runs) (Some (record { class = class; block = block }))
