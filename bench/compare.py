@@ -229,7 +229,7 @@ def main():
     parser = argparse.ArgumentParser(description=__doc__, formatter_class=argparse.RawDescriptionHelpFormatter)
     parser.add_argument("--rounds", type=int, default=5)
     parser.add_argument("--only", default="")
-    parser.add_argument("--model", choices=("stuck", "transition"), default="stuck")
+    parser.add_argument("--model", choices=("stuck", "transition", "transition-pairs"), default="stuck")
     parser.add_argument("--hard", action="store_true")
     parser.add_argument("--workers", action="store_true")
     parser.add_argument("--counts", action="store_true")

@@ -32,7 +32,7 @@ def inputs_of(seed):
     bench = net.text()
     tests = generate.tests(generate.width_of(bench), rng.choice((1, 2, 63, 64, 65, rng.randint(66, 300))), seed,
                            weighted=rng.random() < 0.5)
-    return bench, tests, rng.choice(("stuck", "transition")), rng.randint(2, 64)
+    return bench, tests, rng.choice(("stuck", "transition", "transition-pairs")), rng.randint(2, 64)
 
 
 def main():

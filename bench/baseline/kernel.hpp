@@ -186,7 +186,8 @@ class Kernel {
 
   private:
     // The lanes in which the class may be detected at all: those of the tests, and for a transition fault
-    // those where the test before gives the line the bit that it is slow to leave.
+    // those where the test before gives the line the bit that it is slow to leave, in a list of pairs those
+    // of odd number alone.
     Word fitting(const Origin& o) const {
         if (!j_.transition) return inside_;
         Word earlier = val_[o.signal] << 1;
@@ -198,6 +199,8 @@ class Kernel {
         }
         Word lanes = inside_ & ~(earlier ^ all_lanes<Word>(o.stuck));
         if (unit_ == 0) part(lanes, 0) &= ~u64(1);  // the first test has none before it
+        if (j_.pairs)
+            for (u32 i = 0; i < BLOCKS; ++i) part(lanes, i) &= 0xAAAAAAAAAAAAAAAA;
         return lanes;
     }
 

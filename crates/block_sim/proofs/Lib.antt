@@ -12,6 +12,7 @@ mod DataPins
 mod Placed
 mod Before
 mod LookedBack
+mod Pairs
 mod Equated
 mod Balanced
 mod Ahead

@@ -9,9 +9,8 @@ use Rattle.bench_net.specs.Statement.{Name, Statement}
 use Rattle.bench_net.specs.Scan.{names, signal}
 use Rattle.bench_net.specs.Circuit.{IsWellFormed}
 use Rattle.fault_model.specs.declared.Line.{Line}
-use Rattle.fault_model.specs.declared.Model.TheVariants.{Transition}
 use Rattle.fault_model.specs.Solution.{Test}
-use Rattle.fault_model.specs.Detection.{carried, HasBit, LooksBack}
+use Rattle.fault_model.specs.Detection.{carried, HasBit, IsInitialized}
 use Rattle.fault_model.proofs.Public.{agree}
 use Rattle.bench_net.proofs.Public.{signal-name_of}
 use Rattle.lists.proofs.Members.{contained}
@@ -57,13 +56,13 @@ later_ones j lt = ap (λ x. x == 1) (bit_at-suc 18446744073709551614 j) ∙ lane
 
 -- the test before the one of a number, where there is one
 pub looks_at : (c : List Statement) (tests : List Test) (l : Line) (bit : Bool) (t j : ℕ) → suc t ≡ j → t < length tests
-    → HasBit c (slice_index_or tests t []) l bit ↔ LooksBack c tests Transition l bit j
-looks_at c tests l bit t j e lt = subst (λ i. HasBit c (slice_index_or tests t []) l bit ↔ LooksBack c tests Transition l bit i) e (there, back)
+    → HasBit c (slice_index_or tests t []) l bit ↔ IsInitialized c tests l bit j
+looks_at c tests l bit t j e lt = subst (λ i. HasBit c (slice_index_or tests t []) l bit ↔ IsInitialized c tests l bit i) e (there, back)
   where
-    there : HasBit c (slice_index_or tests t []) l bit → LooksBack c tests Transition l bit (suc t)
+    there : HasBit c (slice_index_or tests t []) l bit → IsInitialized c tests l bit (suc t)
     there h = let at = within_place tests t lt in (at.0, at.1, subst (λ x. HasBit c x l bit) (index_of tests t at.0 [] at.1) h)
 
-    back : LooksBack c tests Transition l bit (suc t) → HasBit c (slice_index_or tests t []) l bit
+    back : IsInitialized c tests l bit (suc t) → HasBit c (slice_index_or tests t []) l bit
     back h = subst (λ x. HasBit c x l bit) (sym (index_of tests t h.0 [] h.1)) h.2
 
 -- the word of a signal one test earlier tells the bits of a line that carries it: lane k + 1 by lane k of the
@@ -104,10 +103,10 @@ module _ (c : List Statement) (tests : List Test) (block k before fits : ℕ) (l
     (told : (t : ℕ) → suc t ≡ 64 * block + k → (lane before k ≡ bit) ↔ HasBit c (slice_index_or tests t []) l bit)
     (fit : (lane fits k ≡ true) ↔ (lane before k ≡ bit)) where
   -- where there is a test before
-  fits_look_back : 0 < 64 * block + k → Decides (lane fits k) (LooksBack c tests Transition l bit (64 * block + k))
+  fits_look_back : 0 < 64 * block + k → Decides (lane fits k) (IsInitialized c tests l bit (64 * block + k))
   fits_look_back some = go (64 * block + k) refl some
     where
-      go : (j : ℕ) → 64 * block + k ≡ j → 0 < j → Decides (lane fits k) (LooksBack c tests Transition l bit (64 * block + k))
+      go : (j : ℕ) → 64 * block + k ≡ j → 0 < j → Decides (lane fits k) (IsInitialized c tests l bit (64 * block + k))
       go zero e lt = absurd (omega (arith, lt))
       go (suc t) e lt =
           let few : k < min 64 (length tests - 64 * block) = in_block in
@@ -116,28 +115,28 @@ module _ (c : List Statement) (tests : List Test) (block k before fits : ℕ) (l
           (λ h. looks.0 (bits.0 (fit.0 h)), λ h. fit.1 (bits.1 (looks.1 h)))
 
   -- in the first block lane 0 has none
-  fits_look_back_first : block ≡ 0 → Decides (lane (bit_and fits 18446744073709551614) k) (LooksBack c tests Transition l bit (64 * block + k))
+  fits_look_back_first : block ≡ 0 → Decides (lane (bit_and fits 18446744073709551614) k) (IsInitialized c tests l bit (64 * block + k))
   fits_look_back_first none = go k refl
     where
       masked : (b : Bool) → lane 18446744073709551614 k ≡ b → lane (bit_and fits 18446744073709551614) k ≡ (lane fits k && b)
       masked b e = lane_and fits 18446744073709551614 k ∙ ap (λ x. lane fits k && x) e
 
-      go : (i : ℕ) → k ≡ i → Decides (lane (bit_and fits 18446744073709551614) k) (LooksBack c tests Transition l bit (64 * block + k))
+      go : (i : ℕ) → k ≡ i → Decides (lane (bit_and fits 18446744073709551614) k) (IsInitialized c tests l bit (64 * block + k))
       go zero e =
           let first : 64 * block + k ≡ 0 = omega (arith, none, e) in
           let clear : lane (bit_and fits 18446744073709551614) k ≡ false = masked false (ap (lane 18446744073709551614) e) ∙ and_false (lane fits k) in
-          (λ h. absurd (false≢true (sym clear ∙ h)), λ h. absurd (subst (LooksBack c tests Transition l bit) first h))
+          (λ h. absurd (false≢true (sym clear ∙ h)), λ h. absurd (subst (IsInitialized c tests l bit) first h))
       go (suc j) e =
           let few : k < min 64 (length tests - 64 * block) = in_block in
           let same : lane (bit_and fits 18446744073709551614) k ≡ lane fits k = masked true (ap (lane 18446744073709551614) e ∙ later_ones j (omega (arith, few, e))) ∙ and_true (lane fits k) in
-          subst (λ b. Decides b (LooksBack c tests Transition l bit (64 * block + k))) (sym same) (fits_look_back (omega (arith, e)))
+          subst (λ b. Decides b (IsInitialized c tests l bit (64 * block + k))) (sym same) (fits_look_back (omega (arith, e)))
 
   -- and the mask leaves out just this one
   pub masked_look_back : (mask : ℕ) → ((block ≡ 0) × (mask ≡ 18446744073709551614)) ⊎ ((0 < block) × (mask ≡ 18446744073709551615))
-      → Decides (lane (bit_and fits mask) k) (LooksBack c tests Transition l bit (64 * block + k))
-  masked_look_back mask (inl h) = subst (λ x. Decides (lane (bit_and fits x) k) (LooksBack c tests Transition l bit (64 * block + k))) (sym h.1) (fits_look_back_first h.0)
+      → Decides (lane (bit_and fits mask) k) (IsInitialized c tests l bit (64 * block + k))
+  masked_look_back mask (inl h) = subst (λ x. Decides (lane (bit_and fits x) k) (IsInitialized c tests l bit (64 * block + k))) (sym h.1) (fits_look_back_first h.0)
   masked_look_back mask (inr h) =
       let few : k < min 64 (length tests - 64 * block) = in_block in
       let same : lane (bit_and fits mask) k ≡ lane fits k =
       lane_and fits mask k ∙ (ap (λ x. lane fits k && lane x k) h.1 ∙ (ap (λ x. lane fits k && x) (lane_ones 64 k (omega (arith, few))) ∙ and_true (lane fits k))) in
-      subst (λ b. Decides b (LooksBack c tests Transition l bit (64 * block + k))) (sym same) (fits_look_back (omega (arith, h.0)))
+      subst (λ b. Decides b (IsInitialized c tests l bit (64 * block + k))) (sym same) (fits_look_back (omega (arith, h.0)))

@@ -11,17 +11,18 @@ use Rattle.lists.proofs.Members.{contained, filtered_from}
 use Rattle.lists.proofs.Places.{at_place, within_place}
 use Rattle.fault_model.specs.declared.Line.{Line}
 use Rattle.fault_model.specs.declared.Model.{Model}
-use Rattle.fault_model.specs.declared.Model.TheVariants.{StuckAt, Transition}
+use Rattle.fault_model.specs.declared.Model.TheVariants.{StuckAt, Transition, TransitionPairs}
 use Rattle.fault_model.specs.Fault.{Fault, faults}
 use Rattle.fault_model.specs.Solution.{Test, Solves, Detects, shows}
 use Rattle.fault_model.specs.Collapse.{next, representatives}
-use Rattle.fault_model.specs.Detection.{carried, HasBit, LooksBack, DetectsAt}
+use Rattle.fault_model.specs.Detection.{carried, HasBit, IsInitialized, IsSecondOfPair, LooksBack, DetectsAt}
 use Rattle.fault_model.proofs.Public.{carries, has_solutions, detection_is_of_any_solution, agree}
 use Rattle.patterns.specs.declared.Outcome.{Outcome}
 use Rattle.patterns.specs.declared.Outcome.TheVariants.{Clear, Hit}
 use Rattle.patterns.specs.Tests.{size_of}
 use Rattle.patterns.specs.Least.{Table}
 use Rattle.block_sim.specs.First.{IsOutcome, IsTrueOutcome, IsTrueTable}
+use Rattle.block_sim.proofs.Pairs.{second_or}
 
 abbrev Or : Type 0 → Type 0
 Or P = P ⊎ (P → ⊥)
@@ -83,18 +84,27 @@ module _ (c : List Statement) (tests : List Test) (well : IsWellFormed c) where
           let same : h.1 ≡ n = ap (λ o. unwrap_or o n) (sym h.3 ∙ at) in
           not (agree c t None v.0 h.0 well v.1 h.2 n named ∙ subst (λ x. h.0 x ≡ b) same h.4))
 
-  looks_or : (m : Model) (l : Line) (n : Name) (b : Bool) (t : ℕ) → carried c l ≡ Some n → Contains (names c) n → Or (LooksBack c tests m l b t)
-  looks_or StuckAt l n b t at named = inl tt
-  looks_or Transition l n b zero at named = inr (λ no. no)
-  looks_or Transition l n b (suc t) at named = go (slice_get tests t) refl
+  initialized_or : (l : Line) (n : Name) (b : Bool) (t : ℕ) → carried c l ≡ Some n → Contains (names c) n → Or (IsInitialized c tests l b t)
+  initialized_or l n b zero at named = inr (λ no. no)
+  initialized_or l n b (suc t) at named = go (slice_get tests t) refl
     where
-      go : (o : Option Test) → slice_get tests t ≡ o → Or (LooksBack c tests Transition l b (suc t))
+      go : (o : Option Test) → slice_get tests t ≡ o → Or (IsInitialized c tests l b (suc t))
       go None e = inr (λ h. let bad : None ≡ Some h.0 = sym e ∙ h.1 in absurd (cc))
       go (Some before) e = pick (bit_or before l n b at named)
         where
-          pick : Or (HasBit c before l b) → Or (LooksBack c tests Transition l b (suc t))
+          pick : Or (HasBit c before l b) → Or (IsInitialized c tests l b (suc t))
           pick (inl h) = inl (before, e, h)
           pick (inr not) = inr (λ h. let same : h.0 ≡ before = ap (λ o. unwrap_or o before) (sym h.1 ∙ e) in not (subst (λ x. HasBit c x l b) same h.2))
+
+  looks_or : (m : Model) (l : Line) (n : Name) (b : Bool) (t : ℕ) → carried c l ≡ Some n → Contains (names c) n → Or (LooksBack c tests m l b t)
+  looks_or StuckAt l n b t at named = inl tt
+  looks_or Transition l n b t at named = initialized_or l n b t at named
+  looks_or TransitionPairs l n b t at named = pick (second_or t) (initialized_or l n b t at named)
+    where
+      pick : Or (IsSecondOfPair t) → Or (IsInitialized c tests l b t) → Or (LooksBack c tests TransitionPairs l b t)
+      pick (inl second) (inl before) = inl (second, before)
+      pick (inl second) (inr none) = inr (λ h. none h.1)
+      pick (inr none) before = inr (λ h. none h.0)
 
   at_or : (m : Model) (f : Fault) (t : ℕ) → Contains (faults m c) f → Or (DetectsAt c tests f t)
   at_or m f t listed = go (slice_get tests t) refl

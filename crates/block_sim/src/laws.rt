@@ -24,7 +24,7 @@ pub fn least_is_first()
         → HaveArities c → IsTrueTable m c tests table → LeastIsFirst m c tests table }
 {}
 
-/// There is a table with the true outcome of each class and block, under either model.
+/// There is a table with the true outcome of each class and block, under each model.
 pub fn true_table()
     ensures { (m : Model) (c : List Statement) (tests : List Test) → IsWellFormed c
         → (table : Table) × IsTrueTable m c tests table }
@@ -37,13 +37,13 @@ pub fn one_outcome()
         → IsTrueOutcome m c tests class block second → first ≡ second }
 {}
 
-/// Each class has one stem, in either model.
+/// Each class has one stem, in each model.
 pub fn class_stems()
     ensures one { (m : Model) (c : List Statement) → OneClassStemLaw m c }
     ensures some { (m : Model) (c : List Statement) → IsWellFormed c → SomeClassStemLaw m c }
 {}
 
-/// It takes some number of gates to follow a class to its stem, in either model, and no other.
+/// It takes some number of gates to follow a class to its stem, in each model, and no other.
 pub fn class_ways()
     ensures one { (m : Model) (c : List Statement) → OneWayLaw m c }
     ensures some { (m : Model) (c : List Statement) → IsWellFormed c → SomeWayLaw m c }

@@ -1,7 +1,7 @@
 //! What a fault wants of the test before the one that detects it: nothing of a stuck-at fault, and
 //! of a transition fault that it gives the line the bit that the line is slow to leave (transition
 //! faults by pairs of patterns: Waicukauski, Lindbloom, Rosen and Iyengar, Transition Fault
-//! Simulation).
+//! Simulation). In a list of pairs it has to be the first of the pair, too.
 
 ghost use Rattle.std.specs.Prelude.{◌≡◌, ◌↔◌, ◌+◌, ◌*◌, ◌<◌, Bool, Contains, ℕ, suc, Some, []};
 ghost use Rattle.std.specs.Prelude.{length, slice_get, slice_index_or, map};
@@ -11,7 +11,8 @@ ghost use Rattle.bench_net.specs.Scan.{names, signal, definition};
 ghost use Rattle.bench_net.specs.Circuit.{IsCircuit, IsWellFormed};
 ghost use Rattle.fault_model.specs.declared.Line.{Line};
 ghost use Rattle.fault_model.specs.Fault.{faults};
-ghost use Rattle.fault_model.specs.Detection.{HasBit, LooksBack, argument, carried};
+ghost use Rattle.fault_model.specs.Detection.{HasBit, IsInitialized, IsSecondOfPair, LooksBack};
+ghost use Rattle.fault_model.specs.Detection.{argument, carried};
 ghost use Rattle.patterns.specs.Tests.{blocks, size_of};
 ghost use Rattle.block_sim.specs.Stuck.{stuck_fault};
 ghost use Rattle.block_sim.specs.Words.{lane};
@@ -23,7 +24,7 @@ use fault_model::Line;
 
 /// The lanes of a block whose test before lets the fault be detected: for a stuck-at fault all
 /// lanes, for a transition fault those in which that test gives its line the bit that the line is
-/// slow to leave. The first test of all has none before it.
+/// slow to leave, and in a list of pairs of these the second tests of the pairs.
 pub fn lanes_that_fit(job: &Job, block: u32, fault: Stuck) -> u64
     requires block { block < blocks (length job.now.tests.tests) }
     requires listed { Contains (faults fault.model job.now.circuit) (stuck_fault fault) }
@@ -33,13 +34,36 @@ pub fn lanes_that_fit(job: &Job, block: u32, fault: Stuck) -> u64
 {
     match fault.model {
         fault_model::Model::StuckAt => !0,
-        fault_model::Model::Transition => {
-            let before = word_before(job, block, carried(job.flat(), fault.line));
-            let fits = if fault.at_one { before } else { !before };
-            let earlier = if block == 0 { !1 } else { !0 };
-            fits & earlier
+        fault_model::Model::Transition => initialized_lanes(job, block, fault),
+        fault_model::Model::TransitionPairs => {
+            second_lanes() & initialized_lanes(job, block, fault)
         }
     }
+}
+
+/// The lanes of the second tests of pairs. A block has an even number of lanes, so each pair lies
+/// in one block, and its second test has an odd lane.
+#[inline(always)]
+fn second_lanes() -> u64
+    ensures { (block k : ℕ) → k < 64
+        → Decides (lane result k) (IsSecondOfPair (64 * block + k)) }
+{
+    0xAAAA_AAAA_AAAA_AAAA
+}
+
+/// The lanes of a block whose test before gives the line of a fault the fault's bit. The first test
+/// of all has none before it.
+fn initialized_lanes(job: &Job, block: u32, fault: Stuck) -> u64
+    requires block { block < blocks (length job.now.tests.tests) }
+    requires listed { Contains (faults fault.model job.now.circuit) (stuck_fault fault) }
+    ensures { (k : ℕ) → k < size_of (length job.now.tests.tests) block
+        → Decides (lane result k) (IsInitialized job.now.circuit job.now.tests.tests fault.line
+        fault.at_one (64 * block + k)) }
+{
+    let before = word_before(job, block, carried(job.flat(), fault.line));
+    let fits = if fault.at_one { before } else { !before };
+    let earlier = if block == 0 { !1 } else { !0 };
+    fits & earlier
 }
 
 /// The word of the signal of this number without a fault, one test earlier: lane `k` has its bit

@@ -21,7 +21,7 @@ use bench_net::Circuit;
 use fault_model::Line;
 use patterns::Tests;
 
-/// The stuck-at fault that is propagated for a fault of either model: its line is held at 0 or at
+/// The stuck-at fault that is propagated for a fault of any model: its line is held at 0 or at
 /// 1 for all that read it. A transition fault is detected where this one is and the test before
 /// fits.
 #[derive(Clone, Copy)]

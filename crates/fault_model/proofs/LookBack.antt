@@ -15,11 +15,11 @@ use Rattle.fault_model.proofs.SignalsDefined.{definition-signal}
 use Rattle.lists.proofs.Places.{among_numbered}
 use Rattle.fault_model.specs.declared.Line.TheVariants as line
 use Rattle.fault_model.specs.declared.Model.{Model}
-use Rattle.fault_model.specs.declared.Model.TheVariants.{StuckAt, Transition}
+use Rattle.fault_model.specs.declared.Model.TheVariants.{StuckAt, Transition, TransitionPairs}
 use Rattle.fault_model.specs.Fault.{Fault, faults}
 use Rattle.fault_model.specs.Solution.{Test, Solves, value, sees, pins_see}
 use Rattle.fault_model.specs.Collapse.{next_stuck, Reaches, here, onward, IsClassOf}
-use Rattle.fault_model.specs.Detection.{carried, argument, HasBit, LooksBack, ClassesDetectedSame, DetectedAsRepresentative}
+use Rattle.fault_model.specs.Detection.{carried, argument, HasBit, IsInitialized, LooksBack, ClassesDetectedSame, DetectedAsRepresentative}
 use Rattle.fault_model.proofs.Listed.{Step, step_of, next_listed}
 use Rattle.fault_model.proofs.Chains.{read_defined, gate_defined}
 use Rattle.fault_model.proofs.Shown.{only_one, length_pins}
@@ -49,6 +49,17 @@ passed Not a b x args bits e arity len h =
     let same : not a ≡ b = ap (λ o. unwrap_or o b) e in
     (λ i. one ∙ (ap not i ∙ same), λ i. not_apart x a (sym one ∙ (i ∙ sym same)))
 
+-- transition faults have the same rows, in a list of pairs or not
+same_rows : (kind : Kind) (a : Bool) → next_stuck TransitionPairs kind a ≡ next_stuck Transition kind a
+same_rows And a = refl
+same_rows Nand a = refl
+same_rows Or a = refl
+same_rows Nor a = refl
+same_rows Xor a = refl
+same_rows Xnor a = refl
+same_rows Not a = refl
+same_rows Buff a = refl
+
 module _ (c : List Statement) (f g : Fault) (well : IsWellFormed c) (arities : HaveArities c) (s : Step c f g) where
   from_carried : carried c f.line ≡ Some s.read
   from_carried = go s.on
@@ -70,20 +81,19 @@ module _ (c : List Statement) (f g : Fault) (well : IsWellFormed c) (arities : H
   to_model = sym (ap (λ x. x.model) s.gives)
 
   -- without a fault the pin's name has the fault's bit exactly where the gate's name has that of the next fault
-  bit_passes : (t : Test) (v : Name → Bool) → f.model ≡ Transition → Solves c t None v → (v s.read ≡ f.stuck) ↔ (v s.name ≡ g.stuck)
-  bit_passes t v is p =
+  bit_passes : (t : Test) (v : Name → Bool) → next_stuck Transition s.kind f.stuck ≡ Some s.bit → Solves c t None v → (v s.read ≡ f.stuck) ↔ (v s.name ≡ g.stuck)
+  bit_passes t v fixes p =
       let stands : Contains c (Gate s.name s.kind s.args) = contained c (Gate s.name s.kind s.args) s.stands in
       let bits : List Bool = pins_see None v (signal c s.name) s.args in
       let seen : Among (v s.read) bits = among_map (λ at. sees None v (line.Pin (signal c s.name) at.0) at.1) (enumerate_from 0 s.args) (s.pin, s.read) (among_numbered s.args s.pin s.read s.reads) in
-      let fixes : next_stuck Transition s.kind f.stuck ≡ Some s.bit = subst (λ m. next_stuck m s.kind f.stuck ≡ Some s.bit) is s.fixes in
       let both = passed s.kind f.stuck s.bit (v s.read) s.args bits fixes (arities s.name s.kind s.args stands) (length_pins None v (signal c s.name) 0 s.args) seen in
       let gate : v s.name ≡ value s.kind bits = p.gate s.name s.kind s.args stands in
       (λ i. gate ∙ (both.0 i ∙ sym to_bit), λ i. both.1 (sym gate ∙ (i ∙ to_bit)))
 
-  pub bit_step : (t : Test) → f.model ≡ Transition → HasBit c t f.line f.stuck ↔ HasBit c t g.line g.stuck
-  bit_step t is = (
-    λ h. (h.0, s.name, h.2, to_carried, (bit_passes t h.0 is h.2).0 (on_read h.0 h.1 h.3 h.4)),
-    λ h. (h.0, s.read, h.2, from_carried, (bit_passes t h.0 is h.2).1 (on_name h.0 h.1 h.3 h.4)),
+  bit_step : (t : Test) → next_stuck Transition s.kind f.stuck ≡ Some s.bit → HasBit c t f.line f.stuck ↔ HasBit c t g.line g.stuck
+  bit_step t fixes = (
+    λ h. (h.0, s.name, h.2, to_carried, (bit_passes t h.0 fixes h.2).0 (on_read h.0 h.1 h.3 h.4)),
+    λ h. (h.0, s.read, h.2, from_carried, (bit_passes t h.0 fixes h.2).1 (on_name h.0 h.1 h.3 h.4)),
   )
     where
       on_read : (v : Name → Bool) (n : Name) → carried c f.line ≡ Some n → v n ≡ f.stuck → v s.read ≡ f.stuck
@@ -92,10 +102,20 @@ module _ (c : List Statement) (f g : Fault) (well : IsWellFormed c) (arities : H
       on_name : (v : Name → Bool) (n : Name) → carried c g.line ≡ Some n → v n ≡ g.stuck → v s.name ≡ g.stuck
       on_name v n at e = subst (λ x. v x ≡ g.stuck) (ap (λ o. unwrap_or o n) (sym at ∙ to_carried)) e
 
+  fixes_in : (m : Model) → f.model ≡ m → next_stuck m s.kind f.stuck ≡ Some s.bit
+  fixes_in m is = subst (λ x. next_stuck x s.kind f.stuck ≡ Some s.bit) is s.fixes
+
+  initialized_step : (tests : List Test) (t : ℕ) → next_stuck Transition s.kind f.stuck ≡ Some s.bit
+      → IsInitialized c tests f.line f.stuck t ↔ IsInitialized c tests g.line g.stuck t
+  initialized_step tests zero fixes = (λ h. h, λ h. h)
+  initialized_step tests (suc t) fixes = (λ h. (h.0, h.1, (bit_step h.0 fixes).0 h.2), λ h. (h.0, h.1, (bit_step h.0 fixes).1 h.2))
+
   looks_back_in : (tests : List Test) (m : Model) (t : ℕ) → f.model ≡ m → LooksBack c tests m f.line f.stuck t ↔ LooksBack c tests m g.line g.stuck t
   looks_back_in tests StuckAt t is = (λ h. h, λ h. h)
-  looks_back_in tests Transition zero is = (λ h. h, λ h. h)
-  looks_back_in tests Transition (suc t) is = (λ h. (h.0, h.1, (bit_step h.0 is).0 h.2), λ h. (h.0, h.1, (bit_step h.0 is).1 h.2))
+  looks_back_in tests Transition t is = initialized_step tests t (fixes_in Transition is)
+  looks_back_in tests TransitionPairs t is =
+      let step = initialized_step tests t (sym (same_rows s.kind f.stuck) ∙ fixes_in TransitionPairs is) in
+      (λ h. (h.0, step.0 h.1), λ h. (h.0, step.1 h.1))
 
   -- a fault and its next fault look back alike
   pub step_looks_back : (tests : List Test) (t : ℕ) → LooksBack c tests f.model f.line f.stuck t ↔ LooksBack c tests g.model g.line g.stuck t

@@ -1,7 +1,7 @@
 -- Lemmas on circuits and faults: what defines and reads a name, lists, classes, solutions and what shows a fault.
 -- Proofs of the crates above cite these alone.
 pub use Rattle.fault_model.proofs.Carries.{carries}
-pub use Rattle.fault_model.proofs.Checked.{detects, is_solved, same_bit, slow_at, solves}
+pub use Rattle.fault_model.proofs.Checked.{detects, is_solved, same_bit, slow_at, slow_in_pairs_at, solves}
 pub use Rattle.fault_model.proofs.ClassLaw.{detection_is_of_any_solution, has_solutions, own_class}
 pub use Rattle.fault_model.proofs.Existence.{solution, solution_solves}
 pub use Rattle.fault_model.proofs.Levels.{below_fold, below_greatest}

@@ -17,7 +17,7 @@ use Rattle.fault_model.proofs.SignalsSinks.{pin_among, out_among, data_among}
 use Rattle.lists.proofs.Places.{placed, at_place, among_numbered, numbered_at}
 use Rattle.fault_model.specs.declared.Line.TheVariants as line
 use Rattle.fault_model.specs.declared.Model.{Model}
-use Rattle.fault_model.specs.declared.Model.TheVariants.{StuckAt, Transition}
+use Rattle.fault_model.specs.declared.Model.TheVariants.{StuckAt, Transition, TransitionPairs}
 use Rattle.fault_model.specs.Fault.{Fault, faults, branch}
 use Rattle.fault_model.specs.Solution.{Test, Solves, value, sees, pins_see, shows, ShowSame}
 use Rattle.fault_model.specs.Collapse.{next, next_stuck}
@@ -63,6 +63,10 @@ fixed Transition And a b args bits e arity len h = let bad : None ≡ Some b = e
 fixed Transition Nand a b args bits e arity len h = let bad : None ≡ Some b = e in cc
 fixed Transition Or a b args bits e arity len h = let bad : None ≡ Some b = e in cc
 fixed Transition Nor a b args bits e arity len h = let bad : None ≡ Some b = e in cc
+fixed TransitionPairs And a b args bits e arity len h = let bad : None ≡ Some b = e in cc
+fixed TransitionPairs Nand a b args bits e arity len h = let bad : None ≡ Some b = e in cc
+fixed TransitionPairs Or a b args bits e arity len h = let bad : None ≡ Some b = e in cc
+fixed TransitionPairs Nor a b args bits e arity len h = let bad : None ≡ Some b = e in cc
 fixed m Xor a b args bits e arity len h = let bad : None ≡ Some b = e in cc
 fixed m Xnor a b args bits e arity len h = let bad : None ≡ Some b = e in cc
 fixed m Not a b args bits e arity len h = ap not (only_one bits a (len ∙ arity) h) ∙ ap (λ o. unwrap_or o b) e

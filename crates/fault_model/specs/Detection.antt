@@ -1,11 +1,11 @@
--- Which tests of a list detect a fault of either model.
-use Rattle.std.specs.Prelude.{◌≡◌, ◌↔◌, ⊤, ℕ, zero, suc, Bool, List, Option, Some, None, option_map, slice_get}
+-- Which tests of a list detect a fault of a model.
+use Rattle.std.specs.Prelude.{◌≡◌, ◌↔◌, ◌+◌, ◌*◌, ⊤, ℕ, zero, suc, Bool, List, Option, Some, None, option_map, slice_get}
 use Rattle.bench_net.specs.Statement.{Name, Statement, Gate}
 use Rattle.bench_net.specs.Scan.{name_of, definition, cells, outputs}
 use Rattle.fault_model.specs.declared.Line.{Line}
 use Rattle.fault_model.specs.declared.Line.TheVariants as line
 use Rattle.fault_model.specs.declared.Model.{Model}
-use Rattle.fault_model.specs.declared.Model.TheVariants.{StuckAt, Transition}
+use Rattle.fault_model.specs.declared.Model.TheVariants.{StuckAt, Transition, TransitionPairs}
 use Rattle.fault_model.specs.Fault.{Fault}
 use Rattle.fault_model.specs.Solution.{Test, Solves, Detects}
 use Rattle.fault_model.specs.Collapse.{AreEquivalent, IsClassOf, representatives}
@@ -27,14 +27,25 @@ abbrev pub HasBit : List Statement → Test → Line → Bool → Type 0
 HasBit c t l b = (v : Name → Bool) × (n : Name) × Solves c t None v × (carried c l ≡ Some n)
     × (v n ≡ b)
 
--- what the test before has to be for a test of this number: nothing of a stuck-at fault; of a
--- transition fault one that gives the line the bit that it is slow to leave, and the first test has
--- none before it
+-- The test before the one of this number initializes the line at the bit: without a fault it gives
+-- the line this bit. The first test has none before it.
+abbrev pub IsInitialized : List Statement → List Test → Line → Bool → ℕ → Type 0
+IsInitialized c tests l b zero = ⊥
+IsInitialized c tests l b (suc t) = (before : Test) × (slice_get tests t ≡ Some before)
+    × HasBit c before l b
+
+-- the test of this number is the second of its pair, where tests 0 and 1 are a pair, 2 and 3, and
+-- so on
+abbrev pub IsSecondOfPair : ℕ → Type 0
+IsSecondOfPair t = (pair : ℕ) × (t ≡ 2 * pair + 1)
+
+-- What the test before has to be for a test of this number: nothing of a stuck-at fault; of a
+-- transition fault one that gives the line the bit that it is slow to leave; and where the list is
+-- one of pairs, the test before has to be the first of the pair, too.
 abbrev pub LooksBack : List Statement → List Test → Model → Line → Bool → ℕ → Type 0
 LooksBack c tests StuckAt l b t = ⊤
-LooksBack c tests Transition l b zero = ⊥
-LooksBack c tests Transition l b (suc t) = (before : Test) × (slice_get tests t ≡ Some before)
-    × HasBit c before l b
+LooksBack c tests Transition l b t = IsInitialized c tests l b t
+LooksBack c tests TransitionPairs l b t = IsSecondOfPair t × IsInitialized c tests l b t
 
 -- The test of this number detects the fault. A transition fault is detected where the line has its
 -- bit under the test before and this test detects the line stuck at that bit.
