@@ -9,7 +9,7 @@ use Rattle.std.proofs.lemmas.Bool.Decides.{nat_tests}
 use Rattle.bench_net.specs.declared.Limit.TheVariants.{Bytes, Signals, Sinks}
 use Rattle.bench_net.specs.declared.BenchFault.{BenchFault}
 use Rattle.bench_net.specs.declared.BenchFault.TheVariants.{TooLarge, Syntax, Redefined, Undefined, Cycle, Empty, Memory}
-use Rattle.bench_net.specs.Text.{lines}
+use Rattle.text_lines.specs.Lines.{lines}
 use Rattle.bench_net.specs.Statement.{Name, Statement, Gate, defined, read}
 use Rattle.bench_net.specs.Scan.{names}
 use Rattle.bench_net.specs.Reading.{States, LinesState, statements}

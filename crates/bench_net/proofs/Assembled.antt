@@ -30,7 +30,7 @@ use Rattle.bench_net.specs.declared.Limit.{Limit}
 use Rattle.bench_net.specs.declared.Limit.TheVariants.{Bytes, Signals, Sinks}
 use Rattle.bench_net.specs.declared.BenchFault.{BenchFault}
 use Rattle.bench_net.specs.declared.BenchFault.TheVariants.{TooLarge, Redefined, Undefined}
-use Rattle.bench_net.specs.Text.{lines}
+use Rattle.text_lines.specs.Lines.{lines}
 use Rattle.bench_net.specs.Scan.{names}
 use Rattle.bench_net.specs.Circuit.{sink_count}
 use Rattle.lists.proofs.Distinct.{Distinct, distinct_from_pairs}

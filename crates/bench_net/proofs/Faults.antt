@@ -10,7 +10,8 @@ use Rattle.std.proofs.lemmas.Str.{IsUtf8-from_ascii}
 use Rattle.std.proofs.lemmas.Str.Ascii.{IsAscii-from_all}
 use Rattle.std.proofs.lemmas.List.Concat.{flat_map-append}
 use Rattle.std.proofs.lemmas.List.Elements.{filter_map-append, Contains-get_or}
-use Rattle.bench_net.specs.Text.{is_word_byte, lines}
+use Rattle.text_lines.specs.Lines.{lines}
+use Rattle.bench_net.specs.Text.{is_word_byte}
 use Rattle.bench_net.specs.Statement.{Name, Statement, Gate, defined, read}
 use Rattle.bench_net.specs.Reading.{HasArity, States, LinesState, statements}
 use Rattle.bench_net.specs.Scan.{names}

@@ -1,5 +1,3 @@
-mod RowLemmas
-mod OrderLemmas
 mod LaneLemmas
 mod BelowLemmas
 mod WordLemmas
@@ -7,8 +5,6 @@ mod PushLemmas
 mod LeastLemmas
 mod FaultLemmas
 mod AnswerLemmas
-mod TestLemmas
 mod MakingLemmas
 mod WrittenLemmas
-mod FirstLineLemmas
 pub mod Public

@@ -1,8 +1,8 @@
 use Rattle.std.proofs.Common.{◌≡◌, ◌++◌, ◌==◌, map, length}
 use Rattle.std.specs.List.{filter_map, enumerate_from}
-use Rattle.patterns.specs.Rows.{rows}
+use Rattle.text_lines.specs.Rows.{rows}
 use Rattle.patterns.specs.Tests.{test_fault, test_faults}
-use Rattle.patterns.specs.Reading.{rows_left}
+use Rattle.text_lines.specs.Reading.{rows_left}
 use Rattle.patterns.proofs.test_text.read_tests.Given as goal
 
 abbrev pub invariant-loop-row : goal.invariant-loop-row
