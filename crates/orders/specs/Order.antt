@@ -1,5 +1,6 @@
 -- Order texts: the worker numbers of a text, or the refusal of its first row at fault.
-use Rattle.std.specs.Prelude.{◌≡◌, ℕ, ◌+◌, ◌*◌, ◌-◌, Bool, not, ◌&&◌, nat_lt, nat_le, List, [], ◌∷◌, map, fold, filter_map, length, Option, Some, None, if◌then◌else◌}
+use Rattle.std.specs.Prelude.{◌≡◌, ℕ, ◌+◌, ◌*◌, ◌-◌, Bool, not, ◌&&◌, nat_lt, nat_le, List, [], ◌∷◌}
+use Rattle.std.specs.Prelude.{map, fold, filter_map, length, Option, Some, None, if◌then◌else◌}
 use Rattle.std.specs.List.{list_all, enumerate_from}
 use Rattle.std.specs.Char.{is_ascii_digit}
 use Rattle.text_lines.specs.Rows.{Row, rows}

@@ -1,10 +1,10 @@
-mod LaneLemmas
-mod BelowLemmas
-mod WordLemmas
-mod PushLemmas
-mod LeastLemmas
-mod FaultLemmas
-mod AnswerLemmas
-mod MakingLemmas
-mod WrittenLemmas
+mod Lanes
+mod NumbersBelow
+mod TestWords
+mod AddedTest
+mod LeastTest
+mod RowFaults
+mod OneAnswer
+mod MadeTests
+mod WrittenTests
 pub mod Public

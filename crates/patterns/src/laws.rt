@@ -1,7 +1,8 @@
 //! Laws of the definitions that the contracts cite, each a function that does nothing and whose
 //! contract is the law.
 ghost use Rattle.std.specs.Prelude.{◌≡◌, ◌↔◌, ◌⊎◌, ℕ, ◌<◌, Bool, true, List};
-ghost use Rattle.patterns.specs.Least.{Table, least, AreClear, IsLeastHit, IsFirstOfBlock, IsFirstTest};
+ghost use Rattle.patterns.specs.Least.{Table, least, AreClear, IsLeastHit, IsFirstOfBlock};
+ghost use Rattle.patterns.specs.Least.{IsFirstTest};
 ghost use Rattle.patterns.specs.Tests.{TestList, IsTestList, HasTests, IsTestRefusal, blocks};
 ghost use Rattle.patterns.specs.declared.TestFault.{TestFault};
 

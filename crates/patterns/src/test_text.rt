@@ -1,8 +1,11 @@
 //! Tests, laid out in words of 64, and their reader.
-ghost use Rattle.std.specs.Prelude.{◌≡◌, ◌≢◌, ℕ, ◌+◌, ◌<◌, ◌≤◌, ◌==◌, ◌⊎◌, [], ◌++◌, false, map, length, slice_index, slice_index_or, IfOk, IfErr, OnOk, OnErr};
+ghost use Rattle.std.specs.Prelude.{◌≡◌, ◌≢◌, ℕ, ◌+◌, ◌<◌, ◌≤◌, ◌==◌, ◌⊎◌, [], ◌++◌, false, map};
+ghost use Rattle.std.specs.Prelude.{length, slice_index, slice_index_or, IfOk, IfErr, OnOk, OnErr};
 ghost use Rattle.std.specs.Int.{bit_at};
-ghost use Rattle.patterns.specs.Making.{IsMadeOf, IsPushRefusal, IsWordsRefusal, digit, row_text, test_text, with_test};
-ghost use Rattle.patterns.specs.Tests.{HasTests, IsTestList, IsTestRefusal, IsWord, as_number, bit, blocks, max_tests, size_of, test_fault};
+ghost use Rattle.patterns.specs.Making.{IsMadeOf, IsPushRefusal, IsWordsRefusal, digit, row_text};
+ghost use Rattle.patterns.specs.Making.{test_text, with_test};
+ghost use Rattle.patterns.specs.Tests.{HasTests, IsTestList, IsTestRefusal, IsWord, as_number, bit};
+ghost use Rattle.patterns.specs.Tests.{blocks, max_tests, size_of, test_fault};
 ghost use Rattle.text_lines.specs.Reading.{row_of};
 
 use crate::word_rows::{check_idle_bits, make_room, rows_of};

@@ -1,5 +1,6 @@
 -- The rows of a text: what each of its lines holds.
-use Rattle.std.specs.Prelude.{ℕ, not, ◌==◌, ◌||◌, Bool, List, [], ◌∷◌, map, reverse, filter, length, if◌then◌else◌}
+use Rattle.std.specs.Prelude.{ℕ, not, ◌==◌, ◌||◌, Bool, List, [], ◌∷◌, map, reverse, filter, length}
+use Rattle.std.specs.Prelude.{if◌then◌else◌}
 use Rattle.std.specs.List.{before_first, enumerate_from}
 use Rattle.text_lines.specs.Lines.{lines, is_blank, begins_comment}
 

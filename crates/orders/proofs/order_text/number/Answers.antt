@@ -13,9 +13,11 @@ pub overflow_add-number : goal.overflow_add-number
 overflow_add-number c = omega (arith, IsRead-bound _ _ _ (omega arith) c.loop-byte.invariant)
 
 pub loop-byte-preserved : goal.loop-byte-preserved
-loop-byte-preserved c = rw c.from.ensures (IsRead-more _ _ _ c.loop-byte-test.true c.loop-byte.invariant (search rules))
+loop-byte-preserved c =
+    rw c.from.ensures (IsRead-more _ _ _ c.loop-byte-test.true c.loop-byte.invariant (search rules))
 
 pub returns : goal.returns
 returns c =
-    let all = is_number_all _ _ _ c.loop-byte-test.false c.if-bytes-gt-MAX_DIGITS.false c.loop-byte.invariant in
+    let all = is_number_all _ _ _ c.loop-byte-test.false c.if-bytes-gt-MAX_DIGITS.false
+    c.loop-byte.invariant in
     ap Some all.1 ∙ sym (cond-true _ _ _ all.0)

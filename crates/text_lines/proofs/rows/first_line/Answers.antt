@@ -11,4 +11,5 @@ returns-then-begins_with_bits-clause-held c =
 pub returns-then-begins_with_bits-clause-rest : goal.returns-then-begins_with_bits-clause-rest
 returns-then-begins_with_bits-clause-rest c =
     let begins = c.begins_with_bits.ensures c.if-begins_with_bits.true in
-    take_rest c.args.text.now (c.args.likely + 1) ∙ after_held c.args.text.now c.args.likely begins.0 begins.1 begins.2
+    take_rest c.args.text.now (c.args.likely + 1)
+    ∙ after_held c.args.text.now c.args.likely begins.0 begins.1 begins.2
