@@ -8,8 +8,7 @@
 
 ghost use Rattle.std.specs.Prelude.{◌≡◌, ◌≤◌, length, map, string_bytes};
 ghost use Rattle.std.specs.Prelude.{IfOk, IfErr, IfSome, IfNone};
-ghost use Rattle.std.specs.Str.Lines.{strip_carriage_return};
-ghost use Rattle.bench_net.specs.Text.{lines};
+ghost use Rattle.text_lines.specs.Lines.{lines};
 ghost use Rattle.bench_net.specs.Circuit.{max_bytes};
 ghost use Rattle.bench_net.specs.reader.Entries.{entries_of, names_in, reads_in, AreStated};
 ghost use Rattle.bench_net.specs.reader.Entries.{MayBe, AreFew, ArePast};
@@ -24,6 +23,7 @@ use crate::number::{
 use crate::statement::{Stated, read_line};
 use crate::{BenchFault, Limit};
 use std::alloc::Global;
+use text_lines::without_carriage_return;
 
 /// The greatest number of bytes of a text.
 const MAX_BYTES: usize = 16_777_216;
@@ -43,13 +43,6 @@ pub struct Lines {
     pub at: Vec<u64>,
 }
 
-/// The line without the carriage return that may end it.
-fn without_return<'a>(line: &'a [u8]) -> &'a [u8]
-    ensures { result.now ≡ strip_carriage_return line.now }
-{
-    line.strip_suffix(b"\r").unwrap_or(line)
-}
-
 /// The statements of a text, each with the number of its line.
 fn read_statements<'a>(alloc: Global, text: &'a [u8]) -> Result<Vec<StatedLine<'a>>, BenchFault>
     requires { length text.now ≤ max_bytes }
@@ -61,7 +54,7 @@ fn read_statements<'a>(alloc: Global, text: &'a [u8]) -> Result<Vec<StatedLine<'
     for line in text.split(|byte| *byte == b'\n') {
         number += 1;
         let refusal = BenchFault::Syntax(number);
-        if let Some(statement) = read_line(alloc, without_return(line), refusal)? {
+        if let Some(statement) = read_line(alloc, without_carriage_return(line), refusal)? {
             stated.push(StatedLine { number, statement })?;
         }
     }

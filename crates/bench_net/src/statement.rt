@@ -6,7 +6,7 @@ ghost use Rattle.bench_net.specs.Text.{Word, Equals};
 ghost use Rattle.bench_net.specs.Statement.{Name};
 ghost use Rattle.bench_net.specs.reader.Parsed.{tokens_of, kind_of, has_arity, port, driven_by, read_tokens, stated_of, names_of, stands_for, args_in, IsReadAs};
 
-use crate::scan::{Front, next_token};
+use crate::tokens::{Front, next_token};
 use crate::{BenchFault, Kind};
 use smallvec::SmallVec;
 use std::alloc::Global;

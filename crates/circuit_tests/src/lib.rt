@@ -10,7 +10,7 @@ mod faults;
 #[cfg(test)]
 mod made;
 #[cfg(test)]
-mod orders;
+mod moves;
 #[cfg(test)]
 mod refusals;
 #[cfg(test)]

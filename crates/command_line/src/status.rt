@@ -4,7 +4,8 @@ ghost use Rattle.std.specs.Prelude.{◌<◌, ◌≤◌};
 
 use bench_net::BenchFault;
 use block_sim::JobFault;
-use patterns::{OrderFault, TestFault};
+use orders::OrderFault;
+use patterns::TestFault;
 use report::{Formatted, MergeFault, Out, PartFault, ReportFault, RunFault, SimFault};
 use std::fmt::Write;
 

@@ -7,7 +7,8 @@ use bench_net::BenchFault;
 use block_sim::JobFault;
 use command_line::status_of;
 use fault_model::Model;
-use patterns::{OrderFault, TestFault};
+use orders::OrderFault;
+use patterns::TestFault;
 use report::{
     Contents, Lines, Plain, ReportFault, RunFault, SimFault, faults_text, listing_bytes,
     report_bytes, schedule_text, schedule_text_in, simulate_text,

@@ -1,14 +1,10 @@
-mod RowLemmas
-mod OrderLemmas
-mod LaneLemmas
-mod BelowLemmas
-mod WordLemmas
-mod PushLemmas
-mod LeastLemmas
-mod FaultLemmas
-mod AnswerLemmas
-mod TestLemmas
-mod MakingLemmas
-mod WrittenLemmas
-mod FirstLineLemmas
+mod Lanes
+mod NumbersBelow
+mod TestWords
+mod AddedTest
+mod LeastTest
+mod RowFaults
+mod OneAnswer
+mod MadeTests
+mod WrittenTests
 pub mod Public

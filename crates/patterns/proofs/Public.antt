@@ -1,4 +1,4 @@
--- Lemmas on tests and orders: blocks, words and the least test.
+-- Lemmas on numbers below a bound, as those of tests and blocks.
 -- Proofs of the crates above cite these alone.
-pub use Rattle.patterns.proofs.AnswerLemmas.{All-has_moves}
-pub use Rattle.patterns.proofs.BelowLemmas.{get_or-below, get_or-map-below, length-below, length-map-below, map-below_same}
+pub use Rattle.patterns.proofs.NumbersBelow.{get_or-below, get_or-map-below, length-below}
+pub use Rattle.patterns.proofs.NumbersBelow.{length-map-below, map-below_same}

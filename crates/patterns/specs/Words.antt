@@ -1,6 +1,7 @@
 -- How the words of a list of tests lie: for each block of 64 tests a word for each source, in which
 -- bit k is that of the block's test k.
-use Rattle.std.specs.Prelude.{◌≡◌, ℕ, ◌+◌, ◌*◌, ◌/◌, ◌%◌, ◌<◌, ◌≤◌, All, Bool, ◌==◌, List, [], map, length, slice_index, slice_index_or}
+use Rattle.std.specs.Prelude.{◌≡◌, ℕ, ◌+◌, ◌*◌, ◌/◌, ◌%◌, ◌<◌, ◌≤◌, All, Bool, ◌==◌, List, [], map}
+use Rattle.std.specs.Prelude.{length, slice_index, slice_index_or}
 use Rattle.std.specs.Int.{bit_at}
 use Rattle.patterns.specs.Tests.{max_tests, blocks}
 use Rattle.patterns.specs.Least.{below}

@@ -1,11 +1,10 @@
 //! Laws of the definitions that the contracts cite, each a function that does nothing and whose
 //! contract is the law.
-ghost use Rattle.std.specs.Prelude.{◌≡◌, ◌↔◌, ◌⊎◌, ℕ, ◌<◌, ◌≤◌, Bool, true, List, length, All};
-ghost use Rattle.patterns.specs.Least.{Table, least, AreClear, IsLeastHit, IsFirstOfBlock, IsFirstTest};
+ghost use Rattle.std.specs.Prelude.{◌≡◌, ◌↔◌, ◌⊎◌, ℕ, ◌<◌, Bool, true, List};
+ghost use Rattle.patterns.specs.Least.{Table, least, AreClear, IsLeastHit, IsFirstOfBlock};
+ghost use Rattle.patterns.specs.Least.{IsFirstTest};
 ghost use Rattle.patterns.specs.Tests.{TestList, IsTestList, HasTests, IsTestRefusal, blocks};
-ghost use Rattle.patterns.specs.Order.{HasMoves, IsOrderRefusal, max_moves};
 ghost use Rattle.patterns.specs.declared.TestFault.{TestFault};
-ghost use Rattle.patterns.specs.declared.OrderFault.{OrderFault};
 
 /// Over no blocks no class is hit.
 pub fn least_of_none()
@@ -43,26 +42,8 @@ pub fn one_answer_of_tests()
         → IsTestRefusal text width f → IsTestRefusal text width g → f ≡ g }
 {}
 
-/// An order text has its moves or is refused, never both, and has one list of moves or one fault.
-pub fn one_answer_of_order()
-    ensures some { (text : List ℕ) (workers : ℕ)
-        → ((moves : List ℕ) × HasMoves text workers moves)
-        ⊎ ((fault : OrderFault) × IsOrderRefusal text workers fault) }
-    ensures not_both { (text : List ℕ) (workers : ℕ) (moves : List ℕ) (fault : OrderFault)
-        → HasMoves text workers moves → ¬ IsOrderRefusal text workers fault }
-    ensures one_list { (text : List ℕ) (workers : ℕ) (m n : List ℕ)
-        → HasMoves text workers m → HasMoves text workers n → m ≡ n }
-    ensures one_fault { (text : List ℕ) (workers : ℕ) (f g : OrderFault)
-        → IsOrderRefusal text workers f → IsOrderRefusal text workers g → f ≡ g }
-{}
-
-/// The tests of a text have their width and are within the limit, and the moves of an order name
-/// workers and are within the limit.
+/// The tests of a text have their width and are within the limit.
 pub fn accepted_in_range()
-    ensures tests { (text : List ℕ) (width : ℕ) (t : TestList)
+    ensures { (text : List ℕ) (width : ℕ) (t : TestList)
         → HasTests text width t → IsTestList t }
-    ensures workers { (text : List ℕ) (workers : ℕ) (moves : List ℕ)
-        → HasMoves text workers moves → All (λ worker. worker < workers) moves }
-    ensures moves { (text : List ℕ) (workers : ℕ) (moves : List ℕ)
-        → HasMoves text workers moves → length moves ≤ max_moves }
 {}

@@ -1,15 +1,18 @@
 //! Tests, laid out in words of 64, and their reader.
-ghost use Rattle.std.specs.Prelude.{◌≡◌, ◌≢◌, ℕ, ◌+◌, ◌<◌, ◌≤◌, ◌==◌, ◌⊎◌, [], ◌++◌, false, map, length, slice_index, slice_index_or, IfOk, IfErr, OnOk, OnErr};
+ghost use Rattle.std.specs.Prelude.{◌≡◌, ◌≢◌, ℕ, ◌+◌, ◌<◌, ◌≤◌, ◌==◌, ◌⊎◌, [], ◌++◌, false, map};
+ghost use Rattle.std.specs.Prelude.{length, slice_index, slice_index_or, IfOk, IfErr, OnOk, OnErr};
 ghost use Rattle.std.specs.Int.{bit_at};
-ghost use Rattle.patterns.specs.Making.{IsMadeOf, IsPushRefusal, IsWordsRefusal, digit, row_text, test_text, with_test};
-ghost use Rattle.patterns.specs.Tests.{HasTests, IsTestList, IsTestRefusal, IsWord, as_number, bit, blocks, max_tests, size_of, test_fault};
-ghost use Rattle.patterns.specs.Reading.{row_of};
+ghost use Rattle.patterns.specs.Making.{IsMadeOf, IsPushRefusal, IsWordsRefusal, digit, row_text};
+ghost use Rattle.patterns.specs.Making.{test_text, with_test};
+ghost use Rattle.patterns.specs.Tests.{HasTests, IsTestList, IsTestRefusal, IsWord, as_number, bit};
+ghost use Rattle.patterns.specs.Tests.{blocks, max_tests, size_of, test_fault};
+ghost use Rattle.text_lines.specs.Reading.{row_of};
 
-use crate::rows::{Row, Rows, are_bits};
 use crate::word_rows::{check_idle_bits, make_room, rows_of};
 use crate::{BLOCK_SIZE, MAX_TESTS, PushFault, TestFault, WordsFault};
 use std::alloc::{AllocError, Global};
 use std::marker::Model;
+use text_lines::{Row, Rows, are_bits};
 
 /// The tests of a text. Tests, sources and blocks are numbered from 0; block b has the tests
 /// `64 * b` to `64 * b + 63`, and the last block may be short.

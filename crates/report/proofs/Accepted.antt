@@ -11,8 +11,8 @@ use Rattle.fault_model.specs.declared.Model.{Model}
 use Rattle.fault_model.specs.Fault.{FaultList, fault_list}
 use Rattle.fault_model.specs.Collapse.{Collapsed, AreClassesOf}
 use Rattle.patterns.specs.Tests.{TestList, HasTests}
-use Rattle.patterns.specs.Order.{HasMoves}
-use Rattle.patterns.proofs.Public.{All-has_moves}
+use Rattle.orders.specs.Order.{HasMoves}
+use Rattle.orders.proofs.Public.{All-has_moves}
 use Rattle.block_sim.specs.declared.job.JobFault.{JobFault}
 use Rattle.block_sim.specs.declared.job.JobFault.TheVariants as job_fault
 use Rattle.block_sim.specs.Parts.{Parts, BelongTogether}

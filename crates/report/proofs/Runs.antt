@@ -3,7 +3,7 @@ use Rattle.std.proofs.Common.{◌∙◌, ℕ, ap, subst, List}
 use Rattle.std.specs.Prelude.{Result, Ok, Err, IfErr}
 use Rattle.fault_model.specs.declared.Model.{Model}
 use Rattle.fault_model.specs.Collapse.{AreClassesOf}
-use Rattle.patterns.specs.Order.{HasMoves}
+use Rattle.orders.specs.Order.{HasMoves}
 use Rattle.block_sim.specs.Parts.{Parts}
 use Rattle.workers.specs.Verdict.{AreFirsts}
 use Rattle.output.specs.Output.{Output}

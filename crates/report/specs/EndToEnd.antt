@@ -7,9 +7,9 @@ use Rattle.bench_net.specs.Circuit.{IsCircuit}
 use Rattle.bench_net.specs.Refusal.{IsAccepted, IsRefused}
 use Rattle.fault_model.specs.declared.Model.{Model}
 use Rattle.fault_model.specs.Collapse.{Collapsed, AreClassesOf}
-use Rattle.patterns.specs.declared.OrderFault.TheVariants as order_fault
+use Rattle.orders.specs.declared.OrderFault.TheVariants as order_fault
 use Rattle.patterns.specs.declared.TestFault.TheVariants as test_fault
-use Rattle.patterns.specs.Order.{HasMoves, IsOrderRefusal}
+use Rattle.orders.specs.Order.{HasMoves, IsOrderRefusal}
 use Rattle.patterns.specs.Tests.{TestList, HasTests, IsTestList, IsTestRefusal, max_pieces}
 use Rattle.block_sim.specs.declared.job.JobFault.TheVariants as job_fault
 use Rattle.block_sim.specs.Parts.{Parts, BelongTogether, piece_count}

@@ -1,9 +1,9 @@
 -- Test texts and order texts of the worked circuits.
 use Rattle.std.specs.Prelude.{◌≡◌, ℕ, true, false, List, [], ◌∷◌, ◌++◌, map, flat_map, replicate, codes, refl}
 use Rattle.patterns.specs.Tests.{test_faults, HasTests, IsTestRefusal}
-use Rattle.patterns.specs.Order.{order_faults, HasMoves}
+use Rattle.orders.specs.Order.{order_faults, HasMoves}
 use Rattle.patterns.specs.declared.TestFault.TheVariants as fault
-use Rattle.patterns.specs.declared.OrderFault.TheVariants as order
+use Rattle.orders.specs.declared.OrderFault.TheVariants as order
 
 abbrev text : List (List ℕ) → List ℕ
 text ls = flat_map (λ l. l ++ 10 ∷ []) ls

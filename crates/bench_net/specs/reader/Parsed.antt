@@ -8,11 +8,12 @@ use Rattle.bench_net.specs.declared.Kind.{Kind}
 use Rattle.bench_net.specs.declared.Kind.TheVariants.{And, Nand, Or, Nor, Xor, Xnor, Not, Buff}
 use Rattle.bench_net.specs.declared.BenchFault.{BenchFault}
 use Rattle.bench_net.specs.declared.BenchFault.TheVariants.{Memory}
-use Rattle.bench_net.specs.declared.scan.Front.{Front}
-use Rattle.bench_net.specs.declared.scan.Front.TheVariants as front
+use Rattle.bench_net.specs.declared.tokens.Front.{Front}
+use Rattle.bench_net.specs.declared.tokens.Front.TheVariants as front
 use Rattle.bench_net.specs.declared.statement.Stated.{Stated}
 use Rattle.bench_net.specs.declared.statement.Stated.TheVariants as stated
-use Rattle.bench_net.specs.Text.{Token, Open, Close, Comma, Equals, Word, is_blank, is_mark, is_word_byte}
+use Rattle.text_lines.specs.Lines.{is_blank, begins_comment}
+use Rattle.bench_net.specs.Text.{Token, Open, Close, Comma, Equals, Word, is_mark, is_word_byte}
 use Rattle.bench_net.specs.Statement.{Name, Statement, Input, Output, Gate, Dff}
 use Rattle.bench_net.specs.Reading.{names_kind}
 
@@ -27,7 +28,7 @@ behind_word (b ∷ w) tokens = option_map (λ ts. Word (b ∷ w) ∷ ts) tokens
 -- the tokens from a byte that is no word byte on, by those behind it
 abbrev pub from_byte : ℕ → Option (List Token) → Option (List Token)
 from_byte b tokens =
-    if b == 35 then Some []
+    if begins_comment b then Some []
     else if is_blank b then tokens
     else if is_mark b then option_map (λ ts. mark_of b ∷ ts) tokens
     else None

@@ -13,13 +13,13 @@ use Rattle.bench_net.proofs.read.read_statements.Goals as goal
 
 pub loop-line-preserved : goal.loop-line-preserved
 loop-line-preserved c =
-    let read = rw (c.without_return.ensures, c.in_default.is) at c.in_ok-statement.ensures in
+    let read = rw (c.without_carriage_return.ensures, c.in_default.is) at c.in_ok-statement.ensures in
     let more = given_more c.loop-line.yielded c.in-Some.line c.loop-line.invariant.1 read in
     (grind (arith, common_steps), rw append-nil at more)
 
 pub loop-line-preserved-in-Continue-branch-3 : goal.loop-line-preserved-in-Continue-branch-3
 loop-line-preserved-in-Continue-branch-3 c =
-    let read = rw (c.without_return.ensures, c.in-Some-2.is) at c.in_ok-statement.ensures in
+    let read = rw (c.without_carriage_return.ensures, c.in-Some-2.is) at c.in_ok-statement.ensures in
     let more = given_more c.loop-line.yielded c.in-Some.line c.loop-line.invariant.1 read in
     let items = c.in_ok-push.ensures.items in
     (grind (arith, common_steps), rw (items, c.loop-line.invariant.0, map_push entry_of) more)
@@ -38,7 +38,7 @@ returns-in_err-statement-clause-refused c =
       c.requires,
       rw (c.loop-line.invariant.0, add-one)
           (refused_line c.loop-line.yielded c.in-Some.line c.args.text.now front turn.0 turn.1
-          c.loop-line.invariant.1 (rw c.without_return.ensures at none)),
+          c.loop-line.invariant.1 (rw c.without_carriage_return.ensures at none)),
     )))
 
 pub returns-clause-ok : goal.returns-clause-ok

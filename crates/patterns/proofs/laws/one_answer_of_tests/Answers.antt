@@ -1,4 +1,4 @@
-use Rattle.patterns.proofs.AnswerLemmas.{tests_cases, tests_not_refused, tests_same, test_refusal_same}
+use Rattle.patterns.proofs.OneAnswer.{tests_cases, tests_not_refused, tests_same, test_refusal_same}
 use Rattle.patterns.proofs.laws.one_answer_of_tests.Goals as goal
 
 pub returns-clause-some : goal.returns-clause-some

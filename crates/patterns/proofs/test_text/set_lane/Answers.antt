@@ -1,5 +1,5 @@
 use Rattle.std.proofs.Common.{arith}
-use Rattle.patterns.proofs.LaneLemmas.{IsSetBelow-bit}
+use Rattle.patterns.proofs.Lanes.{IsSetBelow-bit}
 use Rattle.patterns.proofs.test_text.set_lane.Goals as goal
 
 pub loop-source-preserved : goal.loop-source-preserved

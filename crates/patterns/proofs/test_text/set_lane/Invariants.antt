@@ -1,4 +1,4 @@
-use Rattle.patterns.proofs.LaneLemmas.{IsSetBelow}
+use Rattle.patterns.proofs.Lanes.{IsSetBelow}
 use Rattle.patterns.proofs.test_text.set_lane.Given as goal
 
 abbrev pub invariant-loop-source : goal.invariant-loop-source

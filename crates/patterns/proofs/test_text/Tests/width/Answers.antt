@@ -1,4 +1,4 @@
-use Rattle.patterns.proofs.WordLemmas.{IsTestList-from_words}
+use Rattle.patterns.proofs.TestWords.{IsTestList-from_words}
 use Rattle.patterns.proofs.test_text.Tests.width.Goals as goal
 
 pub returns-clause-tests : goal.returns-clause-tests

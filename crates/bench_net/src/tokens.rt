@@ -1,0 +1,89 @@
+//! The tokens of a line, one after another from its front.
+
+ghost use Rattle.std.specs.Prelude.{◌≡◌, ◌<◌, ◌≤◌, length, take, drop};
+ghost use Rattle.std.specs.List.{prefix_len};
+ghost use Rattle.std.specs.Str.{IsUtf8};
+ghost use Rattle.text_lines.specs.Lines.{is_blank};
+ghost use Rattle.bench_net.specs.Text.{is_word_byte};
+ghost use Rattle.bench_net.specs.reader.Parsed.{IsFront};
+
+use std::str;
+use text_lines::is_blank;
+
+/// What stands at the front of a line, behind its blanks: a mark or a word, which borrows the line,
+/// or none of them.
+#[derive(Clone, Copy)]
+pub enum Front<'a> {
+    Open,
+    Close,
+    Comma,
+    Equals,
+    Word(&'a str),
+    /// No more token: the line ends here, or a comment begins.
+    End,
+    /// A byte that may stand in a comment only.
+    Bad,
+}
+
+/// Whether the byte may stand in a word: the visible ASCII bytes but the marks and `#`.
+fn is_word_byte(byte: u8) -> bool
+    ensures { result ≡ is_word_byte byte }
+{
+    matches!(byte, 0x21..=0x7e) && !matches!(byte, b'(' | b')' | b',' | b'=' | b'#')
+}
+
+/// How many blanks the bytes begin with.
+fn blank_len(bytes: &[u8]) -> usize
+    ensures counted { result ≡ prefix_len is_blank bytes.now }
+    ensures within { result ≤ length bytes.now }
+{
+    bytes.iter().take_while(|byte| is_blank(**byte)).count()
+}
+
+/// How many word bytes the bytes begin with.
+fn word_len(bytes: &[u8]) -> usize
+    ensures counted { result ≡ prefix_len is_word_byte bytes.now }
+    ensures within { result ≤ length bytes.now }
+{
+    bytes.iter().take_while(|byte| is_word_byte(**byte)).count()
+}
+
+/// What bytes without a blank in front begin with, and the bytes behind it.
+fn token_at<'a>(bytes: &'a [u8]) -> (Front<'a>, &'a [u8])
+    requires { prefix_len is_blank bytes.now ≡ 0 }
+    ensures { IsFront bytes.now result }
+{
+    match bytes {
+        [] | [b'#', ..] => (Front::End, bytes),
+        [b'(', rest @ ..] => (Front::Open, rest),
+        [b')', rest @ ..] => (Front::Close, rest),
+        [b',', rest @ ..] => (Front::Comma, rest),
+        [b'=', rest @ ..] => (Front::Equals, rest),
+        _ => {
+            let len = word_len(bytes);
+            if len == 0 {
+                return (Front::Bad, bytes);
+            }
+            let (word, rest) = bytes.split_at(len);
+            (Front::Word(word_text(word)), rest)
+        }
+    }
+}
+
+/// A word as a text.
+fn word_text<'a>(word: &'a [u8]) -> &'a str
+    requires { IsUtf8 word.now }
+    ensures { result.now ≡ word.now }
+{
+    match str::from_utf8(word) {
+        Ok(text) => text,
+        Err(_) => unreachable!(),
+    }
+}
+
+/// What stands at the front of a line, and the bytes behind it.
+pub fn next_token<'a>(line: &'a [u8]) -> (Front<'a>, &'a [u8])
+    ensures { IsFront line.now result }
+{
+    token_at(&line[blank_len(line)..])
+}

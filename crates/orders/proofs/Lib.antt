@@ -1,0 +1,4 @@
+mod Numbers
+mod MoveFaults
+mod OneAnswer
+pub mod Public

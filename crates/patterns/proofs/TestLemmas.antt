@@ -1,1 +1,0 @@
--- Lemmas on the bits of tests and of words, for callers that hold a test itself.

@@ -1,0 +1,4 @@
+mod FirstRow
+mod BitRow
+mod RowFaults
+pub mod Public
