@@ -4,22 +4,7 @@ use bench_net::{Circuit, ScanCell, Sink, read_bench};
 use std::alloc::{AllocError, Global};
 use std::process::Abort;
 use std::test::Fail;
-
-/// C17 of the ISCAS-85 benchmarks.
-pub(crate) const C17: &[u8] = b"\
-    INPUT(G1)\n\
-    INPUT(G2)\n\
-    INPUT(G3)\n\
-    INPUT(G6)\n\
-    INPUT(G7)\n\
-    OUTPUT(G22)\n\
-    OUTPUT(G23)\n\
-    G10 = NAND(G1, G3)\n\
-    G11 = NAND(G3, G6)\n\
-    G16 = NAND(G2, G11)\n\
-    G19 = NAND(G11, G7)\n\
-    G22 = NAND(G10, G16)\n\
-    G23 = NAND(G16, G19)\n";
+use worked_circuits::C17;
 
 /// A bench text, and what the calls of its circuit answer: the signals of the INPUT lines, the
 /// cells as `q=d`, the signals of the OUTPUT lines and the signals by level; then the number of

@@ -3,12 +3,13 @@
 ghost use Rattle.std.specs.Prelude.{◌≡◌};
 ghost use Rattle.fault_model.specs.Fault.{faults};
 
-use crate::circuits::{C17, push_inverters};
+use crate::circuits::push_inverters;
 use bench_net::{Circuit, read_bench};
 use fault_model::{Faults, Line, Model, collapse, list_faults, list_faults_in};
 use std::alloc::{AllocError, Global};
 use std::process::Abort;
 use std::test::Fail;
+use worked_circuits::C17;
 
 /// The class of each fault, by the number of the fault, and the fault that stands for each class.
 struct Classes {

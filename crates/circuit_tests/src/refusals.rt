@@ -1,9 +1,9 @@
 //! Bench texts that are refused, each with its fault.
 
-use crate::circuits::C17;
 use bench_net::{BenchFault, Limit, read_bench};
 use std::alloc::{AllocError, Global};
 use std::test::Fail;
+use worked_circuits::C17;
 
 /// Texts whose fault is at this line, counted from 1, and is that the line is no statement.
 static NO_STATEMENTS: [(&[u8], u64); 23] = [

@@ -1,21 +1,6 @@
 //! Command lines and texts that the program is run on, and what must come.
 
-/// C17 of the ISCAS-85 benchmarks.
-pub const C17: &str = "\
-    INPUT(G1)\n\
-    INPUT(G2)\n\
-    INPUT(G3)\n\
-    INPUT(G6)\n\
-    INPUT(G7)\n\
-    OUTPUT(G22)\n\
-    OUTPUT(G23)\n\
-    G10 = NAND(G1, G3)\n\
-    G11 = NAND(G3, G6)\n\
-    G16 = NAND(G2, G11)\n\
-    G19 = NAND(G11, G7)\n\
-    G22 = NAND(G10, G16)\n\
-    G23 = NAND(G16, G19)\n\
-    ";
+use worked_circuits::C17_TEXT as C17;
 
 /// A buffer.
 pub const BUFFER: &str = "INPUT(a)\nOUTPUT(z)\nz = BUFF(a)\n";

@@ -1,6 +1,6 @@
 //! Command lines: cases with all that they answer, words that are refused, and help.
 
-use crate::cases::{C17, CASES, Case, MORE_CASES, REFUSED_CASES, TRANSITION_CASES};
+use crate::cases::{CASES, Case, MORE_CASES, REFUSED_CASES, TRANSITION_CASES};
 use crate::daily::{CONTENTS_CASES, CURVE_CASES};
 use crate::screen::{Answer, Screen, Texts, Wanted, answers, run_on};
 use crate::words::{HELP, MISSING, MISUSED};
@@ -9,6 +9,7 @@ use std::process::Abort;
 use std::sync::Wait;
 use std::test::Fail;
 use std::thread::Threads;
+use worked_circuits::C17_TEXT as C17;
 
 /// A circuit and one test for it.
 pub const C17_FILES: Texts<'static> = Texts {

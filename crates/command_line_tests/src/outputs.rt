@@ -1,6 +1,5 @@
 //! Outputs that fail, or take few bytes a call.
 
-use crate::cases::C17;
 use crate::commands::C17_FILES;
 use crate::screen::{Answer, Screen, run_between, run_on};
 use report::{Contents, Lines, Plain, ReportFault, SimFault, simulate_text};
@@ -9,6 +8,7 @@ use std::io::{self, Write};
 use std::sync::Wait;
 use std::test::Fail;
 use std::thread::Threads;
+use worked_circuits::C17_TEXT as C17;
 
 const RUN: &str = "faultsim run --bench bench --tests tests";
 

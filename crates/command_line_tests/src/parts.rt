@@ -1,11 +1,12 @@
 //! Runs of one part: the part text, and how the parts share the faults out.
 
-use crate::cases::{BUFFER, C17};
+use crate::cases::BUFFER;
 use crate::screen::{Screen, Texts, Wanted, answers, run_on};
 use std::alloc::AllocError;
 use std::sync::Wait;
 use std::test::Fail;
 use std::thread::Threads;
+use worked_circuits::C17_TEXT as C17;
 
 /// The part text of the one part of a buffer. The sums are those of `sha256sum`.
 const BUFFER_PART: &str = "\

@@ -1,7 +1,7 @@
 //! The text calls: the bytes that they give, the order in which they refuse, and the words and
 //! statuses of their faults.
 
-use crate::cases::{BUFFER, C17, Case};
+use crate::cases::{BUFFER, Case};
 use crate::screen::Screen;
 use bench_net::BenchFault;
 use block_sim::JobFault;
@@ -16,6 +16,7 @@ use report::{
 use std::sync::Wait;
 use std::test::Fail;
 use std::thread::Threads;
+use worked_circuits::C17_TEXT as C17;
 
 /// What the text call of a case's command writes, for 4 workers.
 fn bytes_of<R: AllocGlobal + Threads + Wait>(rt: &R, case: &Case) -> Result<Vec<u8>, SimFault> {

@@ -5,7 +5,6 @@ ghost use Rattle.bench_net.specs.Scan.{names, sources};
 ghost use Rattle.block_sim.specs.Parts.{HasRoom};
 ghost use Rattle.patterns.specs.Tests.{IsTestList, blocks};
 
-use crate::generator::C17;
 use block_sim::{Job, Workspace, detecting};
 use fault_model::Model;
 use patterns::{BLOCK_SIZE, PushFault, Tests, write_tests};
@@ -13,6 +12,7 @@ use report::{SimFault, job_of};
 use std::alloc::{AllocError, Global};
 use std::process::Abort;
 use std::test::Fail;
+use worked_circuits::C17;
 
 /// The lanes of a block whose tests are kept: of each class that no kept test detects, the first
 /// test that does.

@@ -14,23 +14,8 @@ use std::process::Abort;
 use std::sync::Wait;
 use std::test::Fail;
 use std::thread::Threads;
+use worked_circuits::C17;
 use workers::{OpenGate, RunFault, Verdicts, run};
-
-/// C17 of the ISCAS-85 benchmarks.
-pub(crate) const C17: &[u8] = b"\
-    INPUT(G1)\n\
-    INPUT(G2)\n\
-    INPUT(G3)\n\
-    INPUT(G6)\n\
-    INPUT(G7)\n\
-    OUTPUT(G22)\n\
-    OUTPUT(G23)\n\
-    G10 = NAND(G1, G3)\n\
-    G11 = NAND(G3, G6)\n\
-    G16 = NAND(G2, G11)\n\
-    G19 = NAND(G11, G7)\n\
-    G22 = NAND(G10, G16)\n\
-    G23 = NAND(G16, G19)\n";
 
 /// The job of a bench text and a test text: circuit, stuck-at faults, their classes and the tests.
 fn read_job(alloc: Global, bench: &[u8], tests: &[u8]) -> Result<Job, SimFault> {

@@ -1,19 +1,22 @@
 -- Whether all classes are settled, read from their statuses.
-use Rattle.std.proofs.Common.{◌≡◌, ℕ, zero, suc, ◌+◌, ◌-◌, ◌<◌, ◌≤◌, List, ◌∷◌, map, Option, None, ap, ◌∙◌, arith}
+use Rattle.std.proofs.Common.{◌≡◌, ℕ, zero, suc, ◌+◌, ◌-◌, ◌<◌, ◌≤◌, List, ◌∷◌, map, Option, None}
+use Rattle.std.proofs.Common.{ap, ◌∙◌, arith}
 use Rattle.patterns.specs.Least.{from_up, below}
 use Rattle.fault_ledger.specs.declared.Shape.{Shape}
 use Rattle.fault_ledger.specs.declared.PieceState.{PieceState}
 use Rattle.fault_ledger.specs.declared.Status.{Status}
 use Rattle.fault_ledger.specs.declared.Status.TheVariants as status_is
 use Rattle.fault_ledger.specs.declared.Finish.TheVariants as finish_is
-use Rattle.fault_ledger.specs.History.{History, entry, states_of, block_count, piece_count, piece_at}
+use Rattle.fault_ledger.specs.History.{History, entry, states_of, block_count, piece_count}
+use Rattle.fault_ledger.specs.History.{piece_at}
 use Rattle.fault_ledger.specs.Settled.{status, finish, finish_from}
 use Rattle.fault_ledger.specs.Answer.{IsLegal}
-use Rattle.fault_ledger.proofs.Pieces.{no_block}
-use Rattle.fault_ledger.proofs.Statuses.{status-none}
+use Rattle.fault_ledger.proofs.PieceNumbers.{no_block}
+use Rattle.fault_ledger.proofs.ClassStatus.{status-none}
 
 -- past classes that are settled
-finish-past : (g : ℕ → Status) (a m n all b : ℕ) → m + n ≡ all → a + m ≡ b → ((k : ℕ) → a ≤ k → k < b → (at : Option ℕ) × (g k ≡ status_is.Settled at))
+finish-past : (g : ℕ → Status) (a m n all b : ℕ) → m + n ≡ all → a + m ≡ b
+    → ((k : ℕ) → a ≤ k → k < b → (at : Option ℕ) × (g k ≡ status_is.Settled at))
     → finish_from a (map g (from_up a all)) ≡ finish_from b (map g (from_up b n))
 finish-past g a zero n all b p q settled =
     let x : all ≡ n = omega arith in
@@ -21,21 +24,27 @@ finish-past g a zero n all b p q settled =
     λ i. finish_from (y i) (map g (from_up (y i) (x i)))
 finish-past g a (suc m) n zero b p q settled = absurd (omega arith)
 finish-past g a (suc m) n (suc all) b p q settled =
-    ap (λ x. finish_from a (x ∷ map g (from_up (a + 1) all))) (settled a (omega arith) (omega arith)).1
-    ∙ finish-past g (a + 1) m n all b (omega arith) (omega arith) (λ k l o. settled k (omega arith) o)
+    ap (λ x. finish_from a (x ∷ map g (from_up (a + 1) all)))
+    (settled a (omega arith) (omega arith)).1
+    ∙ finish-past g (a + 1) m n all b (omega arith) (omega arith)
+    (λ k l o. settled k (omega arith) o)
 
 -- at the first class that waits, and where all are settled
-pub finish-waits : (g : ℕ → Status) (n c b : ℕ) → c < n → ((k : ℕ) → k < c → (at : Option ℕ) × (g k ≡ status_is.Settled at)) → g c ≡ status_is.Waiting b → finish_from 0 (map g (below n)) ≡ finish_is.Waiting c b
+pub finish-waits : (g : ℕ → Status) (n c b : ℕ) → c < n
+    → ((k : ℕ) → k < c → (at : Option ℕ) × (g k ≡ status_is.Settled at)) → g c ≡ status_is.Waiting b
+    → finish_from 0 (map g (below n)) ≡ finish_is.Waiting c b
 finish-waits g n c b l settled e =
     finish-past g 0 c (suc (n - c - 1)) n c (omega arith) (omega arith) (λ k _ o. settled k o)
     ∙ ap (λ x. finish_from c (x ∷ map g (from_up (c + 1) (n - c - 1)))) e
 
-pub finish-all : (g : ℕ → Status) (n : ℕ) → ((k : ℕ) → k < n → (at : Option ℕ) × (g k ≡ status_is.Settled at)) → finish_from 0 (map g (below n)) ≡ finish_is.Finished
+pub finish-all : (g : ℕ → Status) (n : ℕ) → ((k : ℕ) → k < n → (at : Option ℕ)
+    × (g k ≡ status_is.Settled at)) → finish_from 0 (map g (below n)) ≡ finish_is.Finished
 finish-all g n settled = finish-past g 0 n 0 n n (omega arith) (omega arith) (λ k _ o. settled k o)
 
 -- each class below n is settled, in every legal history with these states
 abbrev pub SettledBelow : Shape → List PieceState → ℕ → Type 0
-SettledBelow s states n = (h : History) → IsLegal s h → states ≡ states_of s h → (k : ℕ) → k < n → (at : Option ℕ) × (status s h k ≡ status_is.Settled at)
+SettledBelow s states n = (h : History) → IsLegal s h → states ≡ states_of s h → (k : ℕ) → k < n
+    → (at : Option ℕ) × (status s h k ≡ status_is.Settled at)
 
 -- where there is no piece all classes are settled
 pub finish-none : (s : Shape) (h : History) → piece_count s ≡ 0 → finish s h ≡ finish_is.Finished

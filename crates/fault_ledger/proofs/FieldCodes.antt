@@ -1,5 +1,6 @@
 -- What a field says of its piece is what was written.
-use Rattle.std.proofs.Common.{◌≡◌, ℕ, zero, suc, ◌+◌, ◌%◌, ◌<◌, false, if◌then◌else◌, eqb, List, [], ◌∷◌, map, length, get_or, refl, sym, ap, ◌∙◌, arith, ne_eqb}
+use Rattle.std.proofs.Common.{◌≡◌, ℕ, zero, suc, ◌+◌, ◌%◌, ◌<◌, false, if◌then◌else◌, eqb, List, []}
+use Rattle.std.proofs.Common.{◌∷◌, map, length, get_or, refl, sym, ap, ◌∙◌, arith, ne_eqb}
 use Rattle.std.proofs.lemmas.List.{get_or-map}
 use Rattle.fault_ledger.specs.declared.PieceState.{PieceState}
 use Rattle.fault_ledger.specs.declared.PieceState.TheVariants as state
@@ -17,17 +18,21 @@ decoded (state.Hit k) f =
     let b : eqb (128 + k) 1 ≡ false = ne_eqb (128 + k) 1 (λ e. absurd (omega arith)) in
     let c : eqb (128 + k) 2 ≡ false = ne_eqb (128 + k) 2 (λ e. absurd (omega arith)) in
     let m : (128 + k) % 64 ≡ k = omega arith in
-    ap (λ x. if x then state.Open else if eqb (128 + k) 1 then state.Clear else if eqb (128 + k) 2 then state.Skipped else state.Hit ((128 + k) % 64)) a
-    ∙ ap (λ x. if x then state.Clear else if eqb (128 + k) 2 then state.Skipped else state.Hit ((128 + k) % 64)) b
+    ap (λ x. if x then state.Open else if eqb (128 + k) 1 then state.Clear else if eqb (128 + k) 2
+    then state.Skipped else state.Hit ((128 + k) % 64)) a
+    ∙ ap (λ x. if x then state.Clear else if eqb (128 + k) 2 then state.Skipped
+    else state.Hit ((128 + k) % 64)) b
     ∙ ap (λ x. if x then state.Skipped else state.Hit ((128 + k) % 64)) c
     ∙ ap state.Hit m
 
 -- the states of codes that a function gives
-pub states_of_codes : {X : Type 0} (f : X → ℕ) (xs : List X) → map state_at (map f xs) ≡ map (λ x. state_at (f x)) xs
+pub states_of_codes : {X : Type 0} (f : X → ℕ) (xs : List X)
+    → map state_at (map f xs) ≡ map (λ x. state_at (f x)) xs
 states_of_codes f [] = refl
 states_of_codes f (x ∷ xs) = ap (λ ys. state_at (f x) ∷ ys) (states_of_codes f xs)
 
-pub state_of_code : (codes : List ℕ) (i n : ℕ) → i < length codes → n ≡ get_or codes i 0 → state_at n ≡ get_or (map state_at codes) i state.Open
+pub state_of_code : (codes : List ℕ) (i n : ℕ) → i < length codes → n ≡ get_or codes i 0
+    → state_at n ≡ get_or (map state_at codes) i state.Open
 state_of_code codes i n l e = ap state_at e ∙ sym (get_or-map state_at codes i 0 state.Open l)
 
 -- a code is that of a skipped piece exactly where it is 2
@@ -40,8 +45,10 @@ skipped_code (suc (suc (suc n))) =
     let a : eqb m 0 ≡ false = ne_eqb m 0 (λ e. absurd (omega arith)) in
     let b : eqb m 1 ≡ false = ne_eqb m 1 (λ e. absurd (omega arith)) in
     let c : eqb m 2 ≡ false = ne_eqb m 2 (λ e. absurd (omega arith)) in
-    ap (λ x. is_skipped (if x then state.Open else if eqb m 1 then state.Clear else if eqb m 2 then state.Skipped else state.Hit (m % 64))) a
-    ∙ ap (λ x. is_skipped (if x then state.Clear else if eqb m 2 then state.Skipped else state.Hit (m % 64))) b
+    ap (λ x. is_skipped (if x then state.Open else if eqb m 1 then state.Clear else if eqb m 2
+    then state.Skipped else state.Hit (m % 64))) a
+    ∙ ap (λ x. is_skipped
+    (if x then state.Clear else if eqb m 2 then state.Skipped else state.Hit (m % 64))) b
     ∙ ap (λ x. is_skipped (if x then state.Skipped else state.Hit (m % 64))) c
     ∙ sym c
 

@@ -1,5 +1,6 @@
 -- A class is settled exactly at the test of its first hit.
-use Rattle.std.proofs.Common.{◌≡◌, ℕ, zero, suc, ◌+◌, ◌-◌, ◌*◌, ◌<◌, ◌≤◌, List, ◌∷◌, map, Option, Some, None, refl, sym, ap, ◌∙◌, subst, arith}
+use Rattle.std.proofs.Common.{◌≡◌, ℕ, zero, suc, ◌+◌, ◌-◌, ◌*◌, ◌<◌, ◌≤◌, List, ◌∷◌, map, Option}
+use Rattle.std.proofs.Common.{Some, None, refl, sym, ap, ◌∙◌, subst, arith}
 use Rattle.std.proofs.Math.Logic.{◌↔◌}
 use Rattle.patterns.specs.Least.{from_up}
 use Rattle.fault_ledger.specs.declared.Shape.{Shape}
@@ -8,7 +9,7 @@ use Rattle.fault_ledger.specs.declared.PieceState.TheVariants as state
 use Rattle.fault_ledger.specs.declared.Status.TheVariants as status_is
 use Rattle.fault_ledger.specs.History.{History, entry, block_count, piece_at}
 use Rattle.fault_ledger.specs.Settled.{status_from, IsSettledAt, IsFirstHit}
-use Rattle.fault_ledger.proofs.Statuses.{status-hit, status-none}
+use Rattle.fault_ledger.proofs.ClassStatus.{status-hit, status-none}
 
 -- the blocks from this one to before that one are clear
 abbrev Clears : (ℕ → PieceState) → ℕ → ℕ → Type 0
@@ -71,7 +72,8 @@ to_first s h class (Some test) e =
 
 from_first : (s : Shape) (h : History) (class : ℕ) (at : Option ℕ) → IsFirstHit s h class at
     → IsSettledAt s h class at
-from_first s h class None clear = status-none (λ b. entry (piece_at s class b) h) (block_count s) clear
+from_first s h class None clear =
+    status-none (λ b. entry (piece_at s class b) h) (block_count s) clear
 from_first s h class (Some test) (block, k, l, before, hit, is) =
     status-hit (λ b. entry (piece_at s class b) h) (block_count s) block k l before hit
     ∙ ap (λ t. status_is.Settled (Some t)) (sym is)

@@ -1,5 +1,8 @@
 -- The rule of the shared words at the start, and where a token is parted in two or two are joined.
-use Rattle.std.proofs.Common.{◌≡◌, ℕ, zero, suc, ◌+◌, ◌*◌, ◌%◌, ◌^◌, ◌<◌, ◌≤◌, ⊎_elim, min, Bool, true, false, true≢false, if◌then◌else◌, eqb, List, [], ◌∷◌, ◌++◌, set, length, slice_index, None, refl, sym, ap, ◌∙◌, subst, arith, ne_eqb, length-append}
+use Rattle.std.proofs.Common.{◌≡◌, ℕ, zero, suc, ◌+◌, ◌*◌, ◌%◌, ◌^◌, ◌<◌, ◌≤◌, ⊎_elim, min, Bool}
+use Rattle.std.proofs.Common.{true, false, true≢false, if◌then◌else◌, eqb, List, [], ◌∷◌, ◌++◌, set}
+use Rattle.std.proofs.Common.{length, slice_index, None, refl, sym, ap, ◌∙◌, subst, arith, ne_eqb}
+use Rattle.std.proofs.Common.{length-append}
 use Rattle.std.proofs.Math.Nat.{min-eq_left, zero-div}
 use mathlib.Core.Option.{some, some-injective, some-ne-none}
 use mathlib.Core.Logic.{dite}
@@ -12,8 +15,10 @@ use Rattle.fault_ledger.specs.declared.words.Post.{Post}
 use Rattle.fault_ledger.specs.declared.words.View.{View}
 use Rattle.fault_ledger.specs.History.{piece_count}
 use Rattle.fault_ledger.specs.Face.{shape_fault}
-use Rattle.fault_ledger.specs.Words.{field, word_with, word_count, total, times, told_of, ForEach, Knows, IsKept, newcomer_posts, everybody, front, others, front_of, others_of, both_of, nobody}
-use Rattle.fault_ledger.proofs.Totals.{total-set, for_append, set_known}
+use Rattle.fault_ledger.specs.Words.{field, word_with, word_count, total, times, told_of, ForEach}
+use Rattle.fault_ledger.specs.Words.{Knows, IsKept, newcomer_posts, everybody, front, others}
+use Rattle.fault_ledger.specs.Words.{front_of, others_of, both_of, nobody}
+use Rattle.fault_ledger.proofs.SumsOverViews.{total-set, for_append, set_known}
 
 off : false ≡ true → ⊥
 off e = true≢false (sym e)
@@ -38,22 +43,34 @@ times-newcomers x w zero = omega arith
 times-newcomers x w (suc n) =
     dite (ℕ_discrete w x)
     (λ e. let i = times-before x (suc w) n (omega arith) in at_most (eqb w x) (omega arith))
-    (λ n'. let e : eqb w x ≡ false = ne_eqb w x n' in let i = times-newcomers x (suc w) n in rw e (omega arith))
+    (λ n'. let e : eqb w x ≡ false = ne_eqb w x n' in let i = times-newcomers x (suc w) n in
+    rw e (omega arith))
   where
-    at_most : (b : Bool) → times x (newcomer_posts (suc w) n) ≤ 0 → (if b then 1 else 0) + times x (newcomer_posts (suc w) n) ≤ 1
+    at_most : (b : Bool) → times x (newcomer_posts (suc w) n) ≤ 0
+        → (if b then 1 else 0) + times x (newcomer_posts (suc w) n) ≤ 1
     at_most true l = omega arith
     at_most false l = omega arith
 
-knows-newcomers : (s : Shape) (w n : ℕ) → w + n ≤ s.workers → ForEach (Knows s [] s) (newcomer_posts w n)
+knows-newcomers : (s : Shape) (w n : ℕ) → w + n ≤ s.workers
+    → ForEach (Knows s [] s) (newcomer_posts w n)
 knows-newcomers s w zero l = tt
-knows-newcomers s w (suc n) l = (record { same = refl; among = (omega arith); newer = ([], refl, tt); done = λ e. absurd (off e) }, knows-newcomers s (suc w) n (omega arith))
+knows-newcomers s w (suc n) l = (
+  record {
+    same = refl;
+    among = (omega arith);
+    newer = ([], refl, tt);
+    done = λ e. absurd (off e);
+  },
+  knows-newcomers s (suc w) n (omega arith),
+)
 
 -- each field of 0 is 0
 zero_field : (j : ℕ) → field 0 j ≡ 0
 zero_field j = ap (λ n. n % 2 ^ 8) (zero-div (2 ^ (8 * j)))
 
 -- the rule holds at the start
-pub opens : (s : Shape) (ws : List ℕ) → shape_fault s ≡ None → length ws ≡ word_count s → ((i : ℕ) → slice_index ws i ≡ 0) → IsKept s (opening {S = ℕ} ws [] (everybody s))
+pub opens : (s : Shape) (ws : List ℕ) → shape_fault s ≡ None → length ws ≡ word_count s
+    → ((i : ℕ) → slice_index ws i ≡ 0) → IsKept s (opening {S = ℕ} ws [] (everybody s))
 opens s ws limits len zeros = (
   [],
   record {
@@ -69,8 +86,10 @@ opens s ws limits len zeros = (
   },
 )
   where
-    first : (id : ℕ) (v : View) → get_elem? (everybody s ∷ []) id ≡ some v → ForEach (Knows s [] v.shape) v.posts
-    first zero v e = subst (λ (x : View). ForEach (Knows s [] x.shape) x.posts) (some-injective _ _ e) (knows-newcomers s 0 s.workers (omega arith))
+    first : (id : ℕ) (v : View) → get_elem? (everybody s ∷ []) id ≡ some v
+        → ForEach (Knows s [] v.shape) v.posts
+    first zero v e = subst (λ (x : View). ForEach (Knows s [] x.shape) x.posts)
+        (some-injective _ _ e) (knows-newcomers s 0 s.workers (omega arith))
     first (suc id) v e = absurd (some-ne-none v (sym e))
 
 total-snoc : (f : View → ℕ) (vs : List View) (v : View) → total f (vs ++ v ∷ []) ≡ total f vs + f v
@@ -78,8 +97,10 @@ total-snoc f [] v = omega arith
 total-snoc f (x ∷ xs) v = let i = total-snoc f xs v in omega arith
 
 -- a sum over views stays where a view is parted in two
-part_total : (f : View → ℕ) (vs : List View) (id : ℕ) (v l r : View) → get_elem? vs id ≡ some v → f l + f r ≡ f v → total f (set vs id l ++ r ∷ []) ≡ total f vs
-part_total f vs id v l r at e = let a = total-set f vs id v l at in let b = total-snoc f (set vs id l) r in omega arith
+part_total : (f : View → ℕ) (vs : List View) (id : ℕ) (v l r : View) → get_elem? vs id ≡ some v
+    → f l + f r ≡ f v → total f (set vs id l ++ r ∷ []) ≡ total f vs
+part_total f vs id v l r at e = let a = total-set f vs id v l at in
+    let b = total-snoc f (set vs id l) r in omega arith
 
 part_length : (ps : List Post) → length (front ps) + length (others ps) ≡ length ps
 part_length [] = refl
@@ -94,7 +115,8 @@ part_times x [] = refl
 part_times x (p ∷ ps) = omega arith
 
 -- the rule stays where the first worker of a view is parted from the others
-pub splits : {S : Type 0} (s : Shape) (id : ℕ) (v : View) → Splits (IsKept {S = S} s) id v (front_of v) (others_of v)
+pub splits : {S : Type 0} (s : Shape) (id : ℕ) (v : View)
+    → Splits (IsKept {S = S} s) id v (front_of v) (others_of v)
 splits s id v t kept at =
     let h = kept.0 in
     let k = kept.1 in
@@ -106,12 +128,17 @@ splits s id v t kept at =
         sized = k.sized;
         marked = k.marked;
         counted = k.counted;
-        bounded = (let b = k.bounded in let e = part_total (λ v. told_of v.posts) t.views id v (front_of v) (others_of v) at (part_told v.posts) in omega arith);
-        staffed = (let b = k.staffed in let e = part_total (λ v. length v.posts) t.views id v (front_of v) (others_of v) at (part_length v.posts) in omega arith);
-        apart = (λ x. let b = k.apart x in let e = part_total (λ v. times x v.posts) t.views id v (front_of v) (others_of v) at (part_times x v.posts) in omega arith);
+        bounded = (let b = k.bounded in let e = part_total (λ v. told_of v.posts) t.views id v
+            (front_of v) (others_of v) at (part_told v.posts) in omega arith);
+        staffed = (let b = k.staffed in let e = part_total (λ v. length v.posts) t.views id v
+            (front_of v) (others_of v) at (part_length v.posts) in omega arith);
+        apart = (λ x. let b = k.apart x in let e = part_total (λ v. times x v.posts) t.views id v
+            (front_of v) (others_of v) at (part_times x v.posts) in omega arith);
         known = (λ j u e. ⊎_elim
-            (λ was. set_known s h t.views id (front_of v) (λ j u n there. k.known j u there) (in_front (Knows s h v.shape) v.posts mine) j u was)
-            (λ (same : others_of v ≡ u). subst (λ (x : View). ForEach (Knows s h x.shape) x.posts) same (in_others (Knows s h v.shape) v.posts mine))
+            (λ was. set_known s h t.views id (front_of v) (λ j u n there. k.known j u there)
+            (in_front (Knows s h v.shape) v.posts mine) j u was)
+            (λ (same : others_of v ≡ u). subst (λ (x : View). ForEach
+            (Knows s h x.shape) x.posts) same (in_others (Knows s h v.shape) v.posts mine))
             (at_snoc (set t.views id (front_of v)) (others_of v) u j e));
       },
     )
@@ -133,11 +160,15 @@ times-append x [] qs = omega arith
 times-append x (p ∷ ps) qs = let i = times-append x ps qs in omega arith
 
 -- a sum over views stays where two views become one
-join_total : (f : View → ℕ) (vs : List View) (id other : ℕ) (v w b n : View) → get_elem? vs id ≡ some v → get_elem? (set vs id b) other ≡ some w → f b ≡ f w + f v → f n ≡ 0 → total f (set (set vs id b) other n) ≡ total f vs
-join_total f vs id other v w b n at there e z = let x = total-set f vs id v b at in let y = total-set f (set vs id b) other w n there in omega arith
+join_total : (f : View → ℕ) (vs : List View) (id other : ℕ) (v w b n : View)
+    → get_elem? vs id ≡ some v → get_elem? (set vs id b) other ≡ some w → f b ≡ f w + f v → f n ≡ 0
+    → total f (set (set vs id b) other n) ≡ total f vs
+join_total f vs id other v w b n at there e z = let x = total-set f vs id v b at in
+    let y = total-set f (set vs id b) other w n there in omega arith
 
 -- the rule stays where two views of one ledger are joined
-pub joins : {S : Type 0} (s : Shape) (id other : ℕ) (v w : View) → v.shape ≡ w.shape → Joins (IsKept {S = S} s) id v other w (both_of v w) nobody
+pub joins : {S : Type 0} (s : Shape) (id other : ℕ) (v w : View) → v.shape ≡ w.shape
+    → Joins (IsKept {S = S} s) id v other w (both_of v w) nobody
 joins s id other v w same t kept at apart there =
     let h = kept.0 in
     let k = kept.1 in
@@ -152,11 +183,15 @@ joins s id other v w same t kept at apart there =
         sized = k.sized;
         marked = k.marked;
         counted = k.counted;
-        bounded = (let q = k.bounded in let e = join_total (λ v. told_of v.posts) t.views id other v w b nobody at there (told-append w.posts v.posts) refl in omega arith);
-        staffed = (let q = k.staffed in let e = join_total (λ v. length v.posts) t.views id other v w b nobody at there (length-append w.posts v.posts) refl in omega arith);
-        apart = (λ x. let q = k.apart x in let e = join_total (λ v. times x v.posts) t.views id other v w b nobody at there (times-append x w.posts v.posts) refl in omega arith);
+        bounded = (let q = k.bounded in let e = join_total (λ v. told_of v.posts) t.views id other v
+            w b nobody at there (told-append w.posts v.posts) refl in omega arith);
+        staffed = (let q = k.staffed in let e = join_total (λ v. length v.posts) t.views id other v
+            w b nobody at there (length-append w.posts v.posts) refl in omega arith);
+        apart = (λ x. let q = k.apart x in let e = join_total (λ v. times x v.posts) t.views id
+            other v w b nobody at there (times-append x w.posts v.posts) refl in omega arith);
         known = set_known s h (set t.views id b) other nobody
-            (λ j u n e. set_known s h t.views id b (λ i y m f. k.known i y f) (for_append (Knows s h v.shape) w.posts v.posts theirs mine) j u e)
+            (λ j u n e. set_known s h t.views id b (λ i y m f. k.known i y f)
+            (for_append (Knows s h v.shape) w.posts v.posts theirs mine) j u e)
             tt;
       },
     )

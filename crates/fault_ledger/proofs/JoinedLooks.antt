@@ -7,13 +7,17 @@ use Rattle.fault_ledger.specs.declared.Shape.{Shape}
 use Rattle.fault_ledger.specs.declared.words.View.{View}
 use Rattle.fault_ledger.specs.Seats.{Sitter}
 use Rattle.fault_ledger.specs.Words.{post_of, both_of, IsKept, Looks}
-use Rattle.fault_ledger.proofs.Looks.{looks_allowed}
-use Rattle.fault_ledger.proofs.Takes.{Taken}
+use Rattle.fault_ledger.proofs.LoadsKeepRule.{looks_allowed}
+use Rattle.fault_ledger.proofs.TokenAsSeat.{Taken}
 
 -- a load by the table seat of both workers
-pub both_allowed : (s : Shape) (u : TableId) (a b : Sitter) (t v : TableId) (me other now : Me ℕ View) → Taken s u a t me → Taken s u b v other → now ≡ (both_of other.0 me.0, other.1)
+pub both_allowed : (s : Shape) (u : TableId) (a b : Sitter) (t v : TableId)
+    (me other now : Me ℕ View) → Taken s u a t me → Taken s u b v other
+    → now ≡ (both_of other.0 me.0, other.1)
     → (slots id : ℕ) → Allows (IsKept s) slots id now 0 (λ n. n) (Looks (step slots 0 0 0 none) now)
 both_allowed s u a b t v me other now first second is slots id =
-    let both : now ≡ (record { shape = s; posts = post_of a ∷ post_of b ∷ [] }, []) = is ∙ (λ k. (both_of (second.me_is k).0 (first.me_is k).0, (second.me_is k).1)) in
-    subst (λ (m : Me ℕ View). Allows (IsKept s) slots id m 0 (λ n. n) (Looks (step slots 0 0 0 none) m)) (sym both)
+    let both : now ≡ (record { shape = s; posts = post_of a ∷ post_of b ∷ [] }, []) = is
+    ∙ (λ k. (both_of (second.me_is k).0 (first.me_is k).0, (second.me_is k).1)) in
+    subst (λ (m : Me ℕ View).
+    Allows (IsKept s) slots id m 0 (λ n. n) (Looks (step slots 0 0 0 none) m)) (sym both)
     (looks_allowed s slots id 0 s (post_of a) (post_of b ∷ []) [])

@@ -1,5 +1,9 @@
--- Eight fields of eight bits in a word: what is added to one that is 0 is set in it, and the others stay.
-use Rattle.std.proofs.Common.{◌≡◌, ◌≢◌, ℕ, ◌+◌, ◌-◌, ◌*◌, ◌/◌, ◌%◌, ◌^◌, ◌<◌, ◌≤◌, bit_or, bit_and, sym, ap, ◌∙◌, subst, arith, mod-eq_of_lt, mul_assoc, mul-div_cancel, pow-add, pow_pos, pow_mono, lt_of_lt_of_le, mul-lt-mul_of_pos_right, List, set, length, slice_index, get_or-set_same, get_or-set_other}
+-- Eight fields of eight bits in a word: what is added to one that is 0 is set in it, and the others
+-- stay.
+use Rattle.std.proofs.Common.{◌≡◌, ◌≢◌, ℕ, ◌+◌, ◌-◌, ◌*◌, ◌/◌, ◌%◌, ◌^◌, ◌<◌, ◌≤◌, bit_or, bit_and}
+use Rattle.std.proofs.Common.{sym, ap, ◌∙◌, subst, arith, mod-eq_of_lt, mul_assoc, mul-div_cancel}
+use Rattle.std.proofs.Common.{pow-add, pow_pos, pow_mono, lt_of_lt_of_le, mul-lt-mul_of_pos_right}
+use Rattle.std.proofs.Common.{List, set, length, slice_index, get_or-set_same, get_or-set_other}
 use Rattle.std.proofs.Math.Nat.{div-add-mod, div-eq_of_lt, mul-mod_left}
 use Rattle.std.proofs.lemmas.Nat.{and_le_r, and_mod, and_shr, or_disjoint, or_lt, or_mod, or_shr}
 use Rattle.std.specs.Int.Bits.{and_zero_l, and_zero_r, or_zero_l, or_zero_r}
@@ -66,7 +70,8 @@ apart_at n c i l free =
     let above : both / 2 ^ k ≡ bit_and (n / 2 ^ k) c =
     and_shr n (c * 2 ^ k) k ∙ ap (bit_and (n / 2 ^ k)) (mul-div_cancel c (pow_pos k)) in
     let low : both % 2 ^ k ≡ 0 =
-    and_mod n (c * 2 ^ k) k ∙ ap (bit_and (n % 2 ^ k)) (mul-mod_left c (2 ^ k)) ∙ and_zero_r (n % 2 ^ k) in
+    and_mod n (c * 2 ^ k) k ∙ ap (bit_and (n % 2 ^ k)) (mul-mod_left c (2 ^ k))
+    ∙ and_zero_r (n % 2 ^ k) in
     let under8 : bit_and (n / 2 ^ k) c % 2 ^ 8 ≡ 0 =
     and_mod (n / 2 ^ k) c 8 ∙ ap (λ x. bit_and x (c % 2 ^ 8)) free ∙ and_zero_l (c % 2 ^ 8) in
     let small : bit_and (n / 2 ^ k) c ≤ c = and_le_r (n / 2 ^ k) c in
@@ -123,7 +128,8 @@ marked_else words p q c long small apart = dite (ℕ_discrete (p / 8) (q / 8)) s
         let at : slice_index now (word_with q) ≡ new =
         subst (λ x. slice_index now (x + 1) ≡ new) e set_now in
         ap (λ x. field x (q % 8)) at
-        ∙ or_else (slice_index words (word_with p)) c (p % 8) (q % 8) small (λ r. apart (omega arith))
+        ∙ or_else (slice_index words (word_with p)) c (p % 8) (q % 8) small
+        (λ r. apart (omega arith))
         ∙ ap (λ x. field (slice_index words (x + 1)) (q % 8)) e
 
     other_word : p / 8 ≢ q / 8 → field_in now q ≡ field_in words q

@@ -1,5 +1,6 @@
 -- A group's place, the words of a new table, and what those of a closed table say of the pieces.
-use Rattle.std.proofs.Common.{◌≡◌, ℕ, zero, suc, ◌<◌, ◌∷◌, [], List, map, length, slice_index, replicate, refl, sym, ap, ◌∙◌, subst, arith}
+use Rattle.std.proofs.Common.{◌≡◌, ℕ, zero, suc, ◌<◌, ◌∷◌, [], List, map, length, slice_index}
+use Rattle.std.proofs.Common.{replicate, refl, sym, ap, ◌∙◌, subst, arith}
 use mathlib.Core.Option.{some, some-injective, some-ne-none}
 use lib.ListN.{get_elem?}
 use Rattle.patterns.specs.Least.{below}
@@ -9,17 +10,20 @@ use Rattle.atomic_table.specs.Table.{Final, Seen}
 use Rattle.fault_ledger.specs.declared.Shape.{Shape}
 use Rattle.fault_ledger.specs.declared.PieceState.{PieceState}
 use Rattle.fault_ledger.specs.declared.words.View.{View}
-use Rattle.fault_ledger.specs.History.{History, ContinuesWithout, piece_count, block_of, entry, states_of}
+use Rattle.fault_ledger.specs.History.{History, ContinuesWithout, piece_count, block_of, entry}
+use Rattle.fault_ledger.specs.History.{states_of}
 use Rattle.fault_ledger.specs.Answer.{IsLegal}
 use Rattle.fault_ledger.specs.Seats.{Place}
-use Rattle.fault_ledger.specs.Words.{Crowd, crowd, place_of, IsKept, Knows, ForEach, field_in, state_at}
+use Rattle.fault_ledger.specs.Words.{Crowd, crowd, place_of, IsKept, Knows, ForEach, field_in}
+use Rattle.fault_ledger.specs.Words.{state_at}
 use Rattle.patterns.proofs.Public.{map-below_same}
-use Rattle.fault_ledger.proofs.Totals.{for_all}
-use Rattle.fault_ledger.proofs.Legal.{legal_hit}
-use Rattle.fault_ledger.proofs.Codes.{decoded}
+use Rattle.fault_ledger.proofs.SumsOverViews.{for_all}
+use Rattle.fault_ledger.proofs.LegalHistories.{legal_hit}
+use Rattle.fault_ledger.proofs.FieldCodes.{decoded}
 
 -- a group of the ledger stands at the ledger's table, and its view has the ledger's shape
-pub group_place : (t u : TableId) (s : Shape) (v : View) (g : Crowd) (p : Place) → crowd t v ≡ g → g.place ≡ p → place_of u s ≡ p → (t ≡ u) × (v.shape ≡ s)
+pub group_place : (t u : TableId) (s : Shape) (v : View) (g : Crowd) (p : Place) → crowd t v ≡ g
+    → g.place ≡ p → place_of u s ≡ p → (t ≡ u) × (v.shape ≡ s)
 group_place t u s v g p is here place =
     let q : place_of t v.shape ≡ place_of u s = ap (λ (x : Crowd). x.place) is ∙ here ∙ sym place in
     (ap (λ (x : Place). x.table) q, ap (λ (x : Place). x.shape) q)
@@ -40,19 +44,27 @@ index_at [] i a e = absurd (some-ne-none a (sym e))
 index_at (x ∷ xs) zero a e = some-injective x a e
 index_at (x ∷ xs) (suc i) a e = index_at xs i a e
 
--- what the last state of the table says of the states that its words stand for, and of the posts of the last group
-pub closes : (s : Shape) (id : ℕ) (v : View) (g : Crowd) (words slots : List ℕ) (states : List PieceState)
+-- what the last state of the table says of the states that its words stand for, and of the posts of
+-- the last group
+pub closes : (s : Shape) (id : ℕ) (v : View) (g : Crowd) (words slots : List ℕ)
+    (states : List PieceState)
     → Final (Seen (IsKept {S = ℕ} s) id v) words slots → v.posts ≡ g.posts
     → states ≡ map (λ piece. state_at (field_in words piece)) (below (piece_count s))
-    → (h : History) × IsLegal s h × ForEach (λ p. ContinuesWithout p.worker h p.seen) g.posts × (states ≡ states_of s h)
+    → (h : History) × IsLegal s h × ForEach (λ p. ContinuesWithout p.worker h p.seen) g.posts
+    × (states ≡ states_of s h)
 closes s id v g words slots states f same is =
     let h = f.1.0.0 in
     let kept = f.1.0.1 in (
       h,
       kept.legal,
-      subst (ForEach (λ p. ContinuesWithout p.worker h p.seen)) same (for_all (Knows s h v.shape) (λ p. ContinuesWithout p.worker h p.seen) v.posts (λ p k. k.newer) (kept.known id v f.1.1)),
-      is ∙ map-below_same (λ piece. state_at (field_in words piece)) (λ piece. entry piece h) (piece_count s)
-          (λ p l. ap (λ ws. state_at (field_in ws p)) (sym f.2) ∙ ap state_at (kept.marked p l) ∙ decoded (entry p h) (λ k e. below_64 k s.tests (block_of s p) (legal_hit s p k h kept.legal e))),
+      subst (ForEach (λ p. ContinuesWithout p.worker h p.seen)) same
+          (for_all (Knows s h v.shape) (λ p. ContinuesWithout p.worker h p.seen) v.posts
+          (λ p k. k.newer) (kept.known id v f.1.1)),
+      is ∙ map-below_same (λ piece. state_at (field_in words piece)) (λ piece. entry piece h)
+          (piece_count s)
+          (λ p l. ap (λ ws. state_at (field_in ws p)) (sym f.2)
+          ∙ ap state_at (kept.marked p l) ∙ decoded (entry p h)
+          (λ k e. below_64 k s.tests (block_of s p) (legal_hit s p k h kept.legal e))),
     )
   where
     below_64 : (k tests block : ℕ) → k < size_of tests block → k < 64

@@ -122,7 +122,7 @@ impl SharedLedger {
     /// [`LedgerFault::TooManyWorkers`] above 64 workers, with [`LedgerFault::TooManyPieces`] above
     /// 16,777,216 pieces, and with [`LedgerFault::Memory`]. It takes a byte a piece, twice for a
     /// moment, and for each seat 8 bytes a class that has a piece, for the first 65,536 classes.
-    #[tactic(auto, using(crate::proofs::Deals::newcomers_placed))]
+    #[tactic(auto, using(crate::proofs::AllSeats::newcomers_placed))]
     pub fn new(
         alloc: Global,
         classes: u32,
@@ -153,6 +153,10 @@ impl SharedLedger {
     /// The next piece for a seat that holds none, or [`Claim::Exhausted`] where all are claimed. It
     /// is one atomic step, but for a seat that was told so before and is told so again without a
     /// step.
+    ///
+    /// Each piece moves two cache lines between cores, that of the cursor and that of its word,
+    /// which takes 80 to 120 nanoseconds. A claim gives one piece all the same, since that fixes
+    /// the order of pieces.
     ///
     /// It is refused with [`Refusal::Holding`], without a step.
     pub fn claim(&self, seat: &mut Seat) -> Result<Claim, Refusal>

@@ -2,8 +2,27 @@
 //!
 //! Word 0 is the cursor, which counts the claims that were tried. Behind it stand the pieces, eight
 //! to a word: piece p, counted from 0, has the field of eight bits from bit 8 * (p % 8) on of word
-//! p / 8 + 1. Each step is one atomic operation on one word. Views and events are facts of the
-//! proof: no value of [`View`] or [`Post`] is made.
+//! p / 8 + 1.
+//!
+//! ```text
+//! bit      63    56    48    40    32    24    16     8     0
+//!          +-----+-----+-----+-----+-----+-----+-----+-----+
+//! word 0   |            claims that were tried             |
+//!          +-----+-----+-----+-----+-----+-----+-----+-----+
+//! word 1   |  7  |  6  |  5  |  4  |  3  |  2  |  1  |  0  |   the piece of each field
+//!          +-----+-----+-----+-----+-----+-----+-----+-----+
+//! word 2   | 15  | 14  | 13  | 12  | 11  | 10  |  9  |  8  |
+//!          +-----+-----+-----+-----+-----+-----+-----+-----+
+//!
+//! field    0 open   1 clear   2 skipped   128 + k a hit at test k of the block, k from 0 to 63
+//! ```
+//!
+//! Each step is one atomic operation on one word. A field goes from 0 to one code, once, and only
+//! the worker that holds the piece changes it. So the code is added, as no carry leaves the field,
+//! and no step is ever tried again, as one by compare and swap would be where a neighbour's field
+//! has changed. There are 67 codes, so a field is wider than it has to be, but eight fill a word.
+//!
+//! Views and events are facts of the proof: no value of [`View`] or [`Post`] is made.
 
 ghost use Rattle.std.specs.Prelude.{◌≡◌, ◌<◌, ◌≤◌, ◌+◌, ◌*◌, ◌/◌, ◌%◌, true, false, [], ◌∷◌, map};
 ghost use Rattle.std.specs.Prelude.{IfOk, Some, None};
@@ -259,6 +278,8 @@ impl Words {
             → Sees token.old true token.new × (claims token.new.seen ≡ piece_count self.now.shape) }
     {
         let mut seat = take_seat(&mut token.badge);
+        // The cursor also counts claims that find no piece: whoever looked first, and added only
+        // where a piece is left, would make two steps, and another claim could come between them.
         let piece = self.table.shared.fetch_add::<Claiming>(&mut seat, 0, 1);
         token.badge = seat.into_badge();
         piece
@@ -275,6 +296,7 @@ impl Words {
         ensures { Makes token.old (Event.Report token.old.worker outcome) Done token.new }
     {
         let mut seat = take_seat(&mut token.badge);
+        // No load before it: the field is known to be 0, since the worker holds the piece.
         self.table.shared.fetch_add::<Reporting>(
             &mut seat,
             word_with(piece as usize),

@@ -1,7 +1,6 @@
 //! Command lines for which memory or a thread is refused: they say so, and write nothing else.
 
 use crate::ballast::Ballast;
-use crate::parts::C17;
 use crate::sweep::{Outcome, Trial, answered, refused, sweep};
 use crate::texts::Screen;
 use command_line::{Source, SourceFault, run_words};
@@ -12,6 +11,7 @@ use std::process::Abort;
 use std::sync::Wait;
 use std::test::Fail;
 use std::thread::Threads;
+use worked_circuits::C17;
 
 /// The files `bench`, which is C17, and `tests`, which has one test, each read into new memory.
 #[derive(Clone, Copy)]

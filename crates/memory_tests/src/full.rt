@@ -5,7 +5,7 @@ ghost use Rattle.block_sim.specs.Parts.{HasRoom};
 ghost use Rattle.workers.specs.Settling.{IsShapeOf};
 
 use crate::ballast::Ballast;
-use crate::parts::{C17, c17_job, c17_under, tests_of_c17};
+use crate::parts::{c17_job, c17_under, tests_of_c17};
 use crate::runs::is_right;
 use crate::texts::Screen;
 use block_sim::{Job, Workspace, first_hit, simulate};
@@ -17,6 +17,7 @@ use std::process::Abort;
 use std::sync::Wait;
 use std::test::Fail;
 use std::thread::Threads;
+use worked_circuits::C17;
 use workers::{End, OpenGate, run, run_schedule, work};
 
 /// Writes a report and a listing with no memory left, and compares them with these.

@@ -1,7 +1,7 @@
 //! Each call once. The test passes with ample memory, and also where one allocation of its process,
 //! or the start of one thread, is refused: `bench/refusals.py` runs it so, with one after another.
 
-use crate::parts::{C17, MEANS, Making, PARTS, Setting, c17_under, tests_of_c17};
+use crate::parts::{MEANS, Making, PARTS, Setting, c17_under, tests_of_c17};
 use crate::runs::{Scheduled, Threaded};
 use crate::sweep::once;
 use crate::texts::{TextCall, Written, text_of};
@@ -13,6 +13,7 @@ use std::process::Abort;
 use std::sync::Wait;
 use std::test::Fail;
 use std::thread::Threads;
+use worked_circuits::C17;
 
 /// The parts of a job.
 fn make_parts<R: Abort>(rt: &R, alloc: Global, job: &Job, tests: &[u8]) {

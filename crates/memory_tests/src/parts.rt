@@ -11,10 +11,7 @@ use report::{RunFault, SimFault, job_of};
 use std::alloc::{AllocError, Global};
 use std::process::Abort;
 use std::test::Fail;
-
-/// The smallest circuit of the ISCAS 85 benchmarks: 34 stuck-at faults in 22 classes.
-pub(crate) const C17: &[u8] =
-    b"INPUT(G1)\nINPUT(G2)\nINPUT(G3)\nINPUT(G6)\nINPUT(G7)\nOUTPUT(G22)\nOUTPUT(G23)\nG10 = NAND(G1, G3)\nG11 = NAND(G3, G6)\nG16 = NAND(G2, G11)\nG19 = NAND(G11, G7)\nG22 = NAND(G10, G16)\nG23 = NAND(G16, G19)\n";
+use worked_circuits::C17;
 
 /// Moves of two workers.
 pub(crate) const ORDER: &[u8] = b"1\n1\n0\n";

@@ -2,7 +2,7 @@
 
 ghost use Rattle.std.specs.Prelude.{◌≤◌};
 
-use crate::parts::{C17, ORDER, is_want, tests_of_c17};
+use crate::parts::{ORDER, is_want, tests_of_c17};
 use crate::sweep::{Outcome, Trial, answered, refused, sweep};
 use fault_model::Model;
 use report::{
@@ -14,6 +14,7 @@ use std::process::Abort;
 use std::sync::Wait;
 use std::test::Fail;
 use std::thread::Threads;
+use worked_circuits::C17;
 
 /// An output of 2,048 bytes that takes no memory.
 #[derive(Drop)]

@@ -13,9 +13,7 @@ use report::job_of;
 use std::alloc::{AllocError, Global};
 use std::process::Abort;
 use std::test::Fail;
-
-const C17: &[u8] =
-    b"INPUT(G1)\nINPUT(G2)\nINPUT(G3)\nINPUT(G6)\nINPUT(G7)\nOUTPUT(G22)\nOUTPUT(G23)\nG10 = NAND(G1, G3)\nG11 = NAND(G3, G6)\nG16 = NAND(G2, G11)\nG19 = NAND(G11, G7)\nG22 = NAND(G10, G16)\nG23 = NAND(G16, G19)\n";
+use worked_circuits::C17;
 
 /// For each class of C17 the gates that it stirs under the test `11111`.
 const C17_STIRRED: [u64; 22] = [

@@ -7,10 +7,6 @@ use std::process::Abort;
 use std::test::Fail;
 use workers::Verdicts;
 
-/// The smallest circuit of the ISCAS 85 benchmarks.
-pub(crate) const C17: &str =
-    "INPUT(G1)\nINPUT(G2)\nINPUT(G3)\nINPUT(G6)\nINPUT(G7)\nOUTPUT(G22)\nOUTPUT(G23)\nG10 = NAND(G1, G3)\nG11 = NAND(G3, G6)\nG16 = NAND(G2, G11)\nG19 = NAND(G11, G7)\nG22 = NAND(G10, G16)\nG23 = NAND(G16, G19)\n";
-
 /// The first tests of C17 where the one test is all ones.
 pub(crate) const C17_FIRSTS: [Option<u32>; 34] = [
     Some(0),

@@ -2,7 +2,7 @@
 
 ghost use Rattle.std.specs.Prelude.{◌<◌};
 
-use crate::fixtures::{C17, C17_FIRSTS, check, job_of};
+use crate::fixtures::{C17_FIRSTS, check, job_of};
 use crate::gates::Shut;
 use block_sim::Job;
 use fault_model::Model;
@@ -11,6 +11,7 @@ use std::process::Abort;
 use std::sync::Wait;
 use std::test::Fail;
 use std::thread::Threads;
+use worked_circuits::C17_TEXT as C17;
 use workers::{OpenGate, PartVerdict, RunFault, part_of, run_in_parts, run_part};
 
 /// The number of the stem of each fault of C17, that is of its class's region. The signals are G1,

@@ -1,11 +1,12 @@
 //! Runs of one thread.
 
-use crate::fixtures::{BUFFER, C17, C17_FIRSTS, WIRE, check, job_of};
+use crate::fixtures::{BUFFER, C17_FIRSTS, WIRE, check, job_of};
 use block_sim::Job;
 use fault_model::Model;
 use std::alloc::Global;
 use std::process::Abort;
 use std::test::Fail;
+use worked_circuits::C17_TEXT as C17;
 use workers::{RunFault, run_schedule};
 
 /// Runs a job by moves, and checks the verdicts. Gives the number of pieces that were skipped.

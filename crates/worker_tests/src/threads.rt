@@ -3,7 +3,7 @@
 ghost use Rattle.std.specs.Prelude.{◌≡◌, ◌<◌, All, IfOk, length};
 ghost use Rattle.workers.specs.Settling.{IsShapeOf};
 
-use crate::fixtures::{BUFFER, C17, C17_FIRSTS, WIRE, check, job_of};
+use crate::fixtures::{BUFFER, C17_FIRSTS, WIRE, check, job_of};
 use crate::gates::{Counter, Meeting, Roll, Shut, ShutFor, ShutForTwo, TwoByTwo};
 use block_sim::{Job, Workspace};
 use fault_ledger::{Finish, Seat, SharedLedger};
@@ -15,6 +15,7 @@ use std::test::Fail;
 use std::thread;
 use std::thread::Threads;
 use std::time::Clock;
+use worked_circuits::C17_TEXT as C17;
 use workers::{Gate, OpenGate, RunFault, run, work};
 
 /// Runs a job by workers in threads, and checks the verdicts.

@@ -1,4 +1,4 @@
-use Rattle.fault_ledger.proofs.Settles.{settles_at_least}
+use Rattle.fault_ledger.proofs.LeastTests.{settles_at_least}
 use Rattle.fault_ledger.proofs.laws.settles_at_the_least_test.Goals as goal
 
 pub returns : goal.returns

@@ -1,4 +1,4 @@
-use Rattle.fault_ledger.proofs.Legal.{never_first}
+use Rattle.fault_ledger.proofs.LegalHistories.{never_first}
 use Rattle.fault_ledger.proofs.laws.skipped_is_never_first.Goals as goal
 
 pub returns : goal.returns

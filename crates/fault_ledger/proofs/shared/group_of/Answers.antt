@@ -1,6 +1,6 @@
 use Rattle.std.proofs.Common.{[], ◌∷◌, ◌++◌, ap, ◌∙◌, append_assoc}
 use Rattle.fault_ledger.specs.Seats.{Sitter}
-use Rattle.fault_ledger.proofs.Deals.{seat_place}
+use Rattle.fault_ledger.proofs.AllSeats.{seat_place}
 use Rattle.fault_ledger.proofs.shared.group_of.Goals as goal
 
 pub join-group-requires : goal.join-group-requires
@@ -8,5 +8,9 @@ join-group-requires c =
     let i = c.loop-seat.invariant in
     let left = c.pop-in-loop-seat.new.self.items in
     let a = c.in-Some-pop.seat in
-    let e = i.1 ∙ ap (λ xs. xs ++ i.0) c.in-Some-pop.ensures.items ∙ append_assoc left (a ∷ []) i.0 in
-    (i.2, ap (λ (x : Sitter). x.place) c.token_of-in-Some-pop.ensures ∙ seat_place c.args.words.now c.args.seats.items left i.0 a c.requires.places e)
+    let e = i.1 ∙ ap (λ xs. xs ++ i.0) c.in-Some-pop.ensures.items
+    ∙ append_assoc left (a ∷ []) i.0 in (
+      i.2,
+      ap (λ (x : Sitter). x.place) c.token_of-in-Some-pop.ensures
+          ∙ seat_place c.args.words.now c.args.seats.items left i.0 a c.requires.places e,
+    )

@@ -5,7 +5,8 @@ use Rattle.fault_ledger.proofs.shared.group_of.Given as goal
 
 abbrev pub invariant-loop-seat : goal.invariant-loop-seat
 invariant-loop-seat l =
-    (joined : List Sitter) × (l.fn.seats.items ≡ l.seats.items ++ joined) × (l.group.place ≡ l.words) × (l.group.posts ≡ map post_of joined)
+    (joined : List Sitter) × (l.fn.seats.items ≡ l.seats.items ++ joined)
+    × (l.group.place ≡ l.words) × (l.group.posts ≡ map post_of joined)
 
 abbrev pub decreases-loop-seat : goal.decreases-loop-seat
 decreases-loop-seat l = length l.seats.items

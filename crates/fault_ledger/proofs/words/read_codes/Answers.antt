@@ -6,7 +6,7 @@ use Rattle.std.proofs.lemmas.List.{same_lists}
 use Rattle.std.proofs.lemmas.Grind.{get_or_default_zero}
 use Rattle.patterns.proofs.Public.{get_or-map-below, length-map-below}
 use Rattle.fault_ledger.specs.Words.{field, field_in}
-use Rattle.fault_ledger.proofs.Groups.{index_at}
+use Rattle.fault_ledger.proofs.WordGroups.{index_at}
 use Rattle.fault_ledger.proofs.words.read_codes.Goals as goal
 
 pub loop-piece-preserved : goal.loop-piece-preserved

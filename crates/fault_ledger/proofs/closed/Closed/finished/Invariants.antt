@@ -1,4 +1,4 @@
-use Rattle.fault_ledger.proofs.Finishes.{SettledBelow}
+use Rattle.fault_ledger.proofs.AllSettled.{SettledBelow}
 use Rattle.fault_ledger.proofs.closed.Closed.finished.Given as goal
 
 abbrev pub invariant-loop-class : goal.invariant-loop-class

@@ -1,4 +1,5 @@
-use Rattle.std.proofs.Common.{◌≡◌, ◌<◌, ◌≤◌, ◌+◌, length, map, sym, ap, ◌∙◌, arith, eqb, eq-eqb, ne_eqb, get_or}
+use Rattle.std.proofs.Common.{◌≡◌, ◌<◌, ◌≤◌, ◌+◌, length, map, sym, ap, ◌∙◌, arith, eqb, eq-eqb}
+use Rattle.std.proofs.Common.{ne_eqb, get_or}
 use Rattle.std.proofs.lemmas.Grind.{get_or_default_zero}
 use Rattle.std.proofs.lemmas.List.{take_all}
 use Rattle.std.proofs.lemmas.List.Sums.{count_by_more_yes, count_by_more_no}
@@ -10,10 +11,12 @@ use Rattle.fault_ledger.specs.History.{entry, piece_count}
 use Rattle.fault_ledger.specs.Settled.{is_skipped}
 use Rattle.fault_ledger.specs.Seats.{ClosedFace}
 use Rattle.fault_ledger.specs.Words.{state_at}
-use Rattle.fault_ledger.proofs.Codes.{codes_long, state_of_code, skipped_code}
-use Rattle.fault_ledger.proofs.Limits.{few_pieces}
+use Rattle.fault_ledger.proofs.FieldCodes.{codes_long, state_of_code, skipped_code}
+use Rattle.fault_ledger.proofs.ShapeLimits.{few_pieces}
 use Rattle.fault_ledger.proofs.closed.Closed.skipped.Goals as goal
-use Rattle.fault_ledger.proofs.closed.Closed.skipped.Goals.{After-self, After-index, then-from-eq-SKIPPED, else-from-eq-SKIPPED}
+use Rattle.fault_ledger.proofs.closed.Closed.skipped.Goals.{After-self, After-index}
+use Rattle.fault_ledger.proofs.closed.Closed.skipped.Goals.{then-from-eq-SKIPPED}
+use Rattle.fault_ledger.proofs.closed.Closed.skipped.Goals.{else-from-eq-SKIPPED}
 
 -- there are no more codes than pieces
 few : (c : After-self) → length c.self.inside.codes.items ≤ max_pieces
@@ -21,12 +24,14 @@ few c =
     let i = c.self.inside in
     let are = c.self.invariant.1 in
     let a = few_pieces i.shape c.self.invariant.0 in
-    let b : length (map state_at i.codes.items) ≡ piece_count i.shape = ap (λ xs. length xs) are.2 ∙ length-map-below (λ p. entry p are.0) (piece_count i.shape) in
+    let b : length (map state_at i.codes.items) ≡ piece_count i.shape = ap (λ xs. length xs) are.2
+    ∙ length-map-below (λ p. entry p are.0) (piece_count i.shape) in
     let d = codes_long i.codes.items in
     omega (arith, a, b, d)
 
 -- whether the piece is skipped
-here : (c : After-index) → is_skipped (get_or c.args.self.now.states c.loop-piece.piece state.Open) ≡ eqb c.index.result.now 2
+here : (c : After-index) → is_skipped (get_or c.args.self.now.states c.loop-piece.piece state.Open)
+    ≡ eqb c.index.result.now 2
 here c =
     let i = c.self.inside in
     let n = c.index.result.now in
@@ -35,12 +40,15 @@ here c =
     let m = c.len-piece-end.ensures in
     let o = i.codes.ok in
     let within : p < length i.codes.items = omega (arith, l, m, o) in
-    let is = state_of_code i.codes.items p n within (c.index.ensures ∙ get_or_default_zero i.codes.items p n within) in
-    ap is_skipped (ap (λ (f : ClosedFace). get_or f.states p state.Open) (sym c.self.view_is) ∙ sym is) ∙ skipped_code n
+    let is = state_of_code i.codes.items p n within (c.index.ensures
+    ∙ get_or_default_zero i.codes.items p n within) in
+    ap is_skipped (ap (λ (f : ClosedFace). get_or f.states p state.Open) (sym c.self.view_is)
+    ∙ sym is) ∙ skipped_code n
 
 -- the states are as many
 long : (c : After-self) → length c.args.self.now.states ≡ length c.self.inside.codes.items
-long c = ap (λ (f : ClosedFace). length f.states) (sym c.self.view_is) ∙ codes_long c.self.inside.codes.items
+long c = ap (λ (f : ClosedFace). length f.states) (sym c.self.view_is)
+    ∙ codes_long c.self.inside.codes.items
 
 pub overflow_add-skipped : goal.overflow_add-skipped
 overflow_add-skipped c =
@@ -66,12 +74,15 @@ loop-piece-preserved c =
       | then-from-eq-SKIPPED b ↦ record {
         few = (let e = b.skipped-is in let f = was.few in omega (arith, e, f));
         count = b.skipped-is ∙ ap (λ n. n + 1) was.count
-            ∙ sym (count_by_more_yes is_skipped states p state.Open within (here at.After-index ∙ eq-eqb c.index.result.now 2 (sym c.from.ensures ∙ b.if-from-eq-SKIPPED.true)));
+            ∙ sym (count_by_more_yes is_skipped states p state.Open within (here at.After-index
+            ∙ eq-eqb c.index.result.now 2 (sym c.from.ensures ∙ b.if-from-eq-SKIPPED.true)));
       }
       | else-from-eq-SKIPPED b ↦ record {
         few = (let e = b.skipped-is in let f = was.few in omega (arith, e, f));
         count = b.skipped-is ∙ was.count
-            ∙ sym (count_by_more_no is_skipped states p state.Open within (here at.After-index ∙ ne_eqb c.index.result.now 2 (λ e. b.if-from-eq-SKIPPED.false (c.from.ensures ∙ e))));
+            ∙ sym (count_by_more_no is_skipped states p state.Open within (here at.After-index
+            ∙ ne_eqb c.index.result.now 2
+            (λ e. b.if-from-eq-SKIPPED.false (c.from.ensures ∙ e))));
       }
     ]
 
@@ -82,4 +93,5 @@ returns c =
     let m = c.len-piece-end.ensures in
     let o = c.self.inside.codes.ok in
     let long = long at.After-self in
-    c.loop-piece.invariant.count ∙ ap (count_by is_skipped) (take_all c.loop-piece.piece c.args.self.now.states (omega (arith, l, m, o, long)))
+    c.loop-piece.invariant.count ∙ ap (count_by is_skipped)
+    (take_all c.loop-piece.piece c.args.self.now.states (omega (arith, l, m, o, long)))

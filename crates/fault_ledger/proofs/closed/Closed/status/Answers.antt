@@ -1,4 +1,5 @@
-use Rattle.std.proofs.Common.{◌≡◌, ◌+◌, ◌*◌, ◌<◌, ◌≤◌, List, map, slice_index, Some, None, sym, ap, ◌∙◌, subst, arith}
+use Rattle.std.proofs.Common.{◌≡◌, ◌+◌, ◌*◌, ◌<◌, ◌≤◌, List, map, slice_index, Some, None, sym, ap}
+use Rattle.std.proofs.Common.{◌∙◌, subst, arith}
 use Rattle.patterns.specs.Tests.{max_pieces}
 use Rattle.fault_ledger.specs.declared.PieceState.{PieceState}
 use Rattle.fault_ledger.specs.declared.Status.{Status}
@@ -9,24 +10,30 @@ use Rattle.fault_ledger.specs.Settled.{status}
 use Rattle.fault_ledger.specs.Heads.{state_in, IsHead}
 use Rattle.fault_ledger.specs.Seats.{ClosedFace, closed_face}
 use Rattle.fault_ledger.specs.Words.{state_at}
-use Rattle.fault_ledger.proofs.Limits.{few_blocks}
-use Rattle.fault_ledger.proofs.Statuses.{shown-hit, shown-skipped, shown-status, status-hit, status-open, status-none}
+use Rattle.fault_ledger.proofs.ShapeLimits.{few_blocks}
+use Rattle.fault_ledger.proofs.ClassStatus.{shown-hit, shown-skipped, shown-status, status-hit}
+use Rattle.fault_ledger.proofs.ClassStatus.{status-open, status-none}
 use Rattle.fault_ledger.proofs.closed.Closed.status.Goals as goal
-use Rattle.fault_ledger.proofs.closed.Closed.status.Goals.{After-clear_of-clear, After-deref-2, After-state_of}
+use Rattle.fault_ledger.proofs.closed.Closed.status.Goals.{After-clear_of-clear, After-deref-2}
+use Rattle.fault_ledger.proofs.closed.Closed.status.Goals.{After-state_of}
 
 -- the states that the codes stand for
 abbrev states : (c : After-clear_of-clear) → List PieceState
 states c = map state_at c.self.inside.codes.items
 
 within : (c : After-clear_of-clear) → c.args.class < c.self.inside.shape.classes
-within c = subst (λ (f : ClosedFace). c.args.class < f.shape.classes) (sym c.self.view_is) c.requires
+within c =
+    subst (λ (f : ClosedFace). c.args.class < f.shape.classes) (sym c.self.view_is) c.requires
 
 -- where the clear blocks of the class end
-head : (c : After-clear_of-clear) → IsHead c.self.inside.shape (states c) c.args.class c.clear_of-clear.result
+head : (c : After-clear_of-clear)
+    → IsHead c.self.inside.shape (states c) c.args.class c.clear_of-clear.result
 head c =
     let i = c.self.inside in
-    let is = c.clear_of-clear.ensures ∙ ap (λ heads. slice_index heads c.args.class) c.deref.ensures.value in
-    subst (IsHead i.shape (states c) c.args.class) (sym is) (c.self.invariant.2.each c.args.class (within c))
+    let is = c.clear_of-clear.ensures
+    ∙ ap (λ heads. slice_index heads c.args.class) c.deref.ensures.value in
+    subst (IsHead i.shape (states c) c.args.class) (sym is)
+    (c.self.invariant.2.each c.args.class (within c))
 
 -- a block of the class is next
 next : (c : After-deref-2) → c.clear_of-clear.result < block_count c.self.inside.shape
@@ -37,52 +44,68 @@ next c =
     omega (arith, most, count, other)
 
 -- what is found there
-found : (c : After-state_of) → c.state_of.result ≡ state_in c.self.inside.shape (map state_at c.self.inside.codes.items) c.args.class c.clear_of-clear.result
-found c = c.state_of.ensures ∙ ap (λ codes. state_in c.self.inside.shape (map state_at codes) c.args.class c.clear_of-clear.result) c.deref-2.ensures.value
+found : (c : After-state_of) → c.state_of.result ≡ state_in c.self.inside.shape
+    (map state_at c.self.inside.codes.items) c.args.class c.clear_of-clear.result
+found c = c.state_of.ensures ∙ ap (λ codes. state_in c.self.inside.shape
+    (map state_at codes) c.args.class c.clear_of-clear.result) c.deref-2.ensures.value
 
 -- the status that the states show, as the clause says it
 shows : (c : After-clear_of-clear) (x : Status)
-    → ((h : History) → IsLegal c.self.inside.shape h → states c ≡ states_of c.self.inside.shape h → x ≡ status c.self.inside.shape h c.args.class)
-    → (h : History) → IsLegal c.args.self.now.shape h → c.args.self.now ≡ closed_face c.args.self.now.shape h → x ≡ status c.args.self.now.shape h c.args.class
+    → ((h : History) → IsLegal c.self.inside.shape h → states c ≡ states_of c.self.inside.shape h
+    → x ≡ status c.self.inside.shape h c.args.class)
+    → (h : History) → IsLegal c.args.self.now.shape h → c.args.self.now
+    ≡ closed_face c.args.self.now.shape h → x ≡ status c.args.self.now.shape h c.args.class
 shows c x is =
-    subst (λ (f : ClosedFace). (h : History) → IsLegal f.shape h → f ≡ closed_face f.shape h → x ≡ status f.shape h c.args.class) c.self.view_is
+    subst (λ (f : ClosedFace). (h : History) → IsLegal f.shape h → f ≡ closed_face f.shape h
+    → x ≡ status f.shape h c.args.class) c.self.view_is
     (λ h legal e. is h legal (ap (λ (f : ClosedFace). f.states) e))
 
 pub returns-then-clear-blocks-clause-status : goal.returns-then-clear-blocks-clause-status
 returns-then-clear-blocks-clause-status c =
     let at = (goal.at.returns-then-clear-blocks-clause-status c).After-clear_of-clear in
     let s = c.self.inside.shape in
-    let end : block_count s ≤ c.clear_of-clear.result = (let a = c.if-clear-blocks.true in let b = c.blocks-2.ensures in omega arith) in
-    shows at (Settled None) (λ h legal e. shown-status s (states at) h c.args.class (Settled None) (within at) e
-    (status-none (state_in s (states at) c.args.class) (block_count s) (λ k l. (head at).clear k (omega arith))))
+    let end : block_count s ≤ c.clear_of-clear.result =
+    (let a = c.if-clear-blocks.true in let b = c.blocks-2.ensures in omega arith) in
+    shows at (Settled None)
+    (λ h legal e. shown-status s (states at) h c.args.class (Settled None) (within at) e
+    (status-none (state_in s (states at) c.args.class) (block_count s)
+    (λ k l. (head at).clear k (omega arith))))
 
 pub state_of-requires-clause-range : goal.state_of-requires-clause-range
-state_of-requires-clause-range c = (within (goal.at.state_of-requires-clause-range c).After-clear_of-clear, next c)
+state_of-requires-clause-range c =
+    (within (goal.at.state_of-requires-clause-range c).After-clear_of-clear, next c)
 
 pub overflow_mul-result : goal.overflow_mul-result
 overflow_mul-result c =
     let at = goal.at.overflow_mul-result c in
     let l = next at.After-deref-2 in
-    let few : block_count c.self.inside.shape ≤ max_pieces = few_blocks c.self.inside.shape c.args.class c.self.invariant.0 (within at.After-clear_of-clear) in
+    let few : block_count c.self.inside.shape ≤ max_pieces = few_blocks c.self.inside.shape
+    c.args.class c.self.invariant.0 (within at.After-clear_of-clear) in
     omega (arith, l, few)
 
 pub overflow_add-result : goal.overflow_add-result
 overflow_add-result c =
     let at = goal.at.overflow_add-result c in
     let l = next at.After-deref-2 in
-    let few : block_count c.self.inside.shape ≤ max_pieces = few_blocks c.self.inside.shape c.args.class c.self.invariant.0 (within at.After-clear_of-clear) in
-    let small = shown-hit c.self.inside.shape (states at.After-clear_of-clear) c.args.class c.clear_of-clear.result c.in-Hit.test c.self.invariant.1 (within at.After-clear_of-clear) l (sym (found at.After-state_of) ∙ c.in-Hit.is) in
+    let few : block_count c.self.inside.shape ≤ max_pieces = few_blocks c.self.inside.shape
+    c.args.class c.self.invariant.0 (within at.After-clear_of-clear) in
+    let small = shown-hit c.self.inside.shape (states at.After-clear_of-clear) c.args.class
+    c.clear_of-clear.result c.in-Hit.test c.self.invariant.1 (within at.After-clear_of-clear) l
+    (sym (found at.After-state_of) ∙ c.in-Hit.is) in
     omega (arith, l, few, small)
 
 pub unreachable-requires : goal.unreachable-requires
 unreachable-requires c =
     let at = goal.at.unreachable-requires c in
-    (head at.After-clear_of-clear).next (next at.After-deref-2) (sym (found at.After-state_of) ∙ c.in-Clear.is)
+    (head at.After-clear_of-clear).next (next at.After-deref-2) (sym (found at.After-state_of)
+    ∙ c.in-Clear.is)
 
 pub unreachable-requires-in-Skipped : goal.unreachable-requires-in-Skipped
 unreachable-requires-in-Skipped c =
     let at = goal.at.unreachable-requires-in-Skipped c in
-    shown-skipped c.self.inside.shape (states at.After-clear_of-clear) c.args.class c.clear_of-clear.result c.self.invariant.1 (within at.After-clear_of-clear) (next at.After-deref-2)
+    shown-skipped c.self.inside.shape
+    (states at.After-clear_of-clear) c.args.class c.clear_of-clear.result c.self.invariant.1
+    (within at.After-clear_of-clear) (next at.After-deref-2)
     (head at.After-clear_of-clear).clear (sym (found at.After-state_of) ∙ c.in-Skipped.is)
 
 pub returns-in-Hit-clause-status : goal.returns-in-Hit-clause-status
@@ -92,7 +115,9 @@ returns-in-Hit-clause-status c =
     let own = at.After-clear_of-clear in
     let x = Settled (Some (64 * c.clear_of-clear.result + c.in-Hit.test)) in
     shows own x (λ h legal e. shown-status s (states own) h c.args.class x (within own) e
-    (status-hit (state_in s (states own) c.args.class) (block_count s) c.clear_of-clear.result c.in-Hit.test (next at.After-deref-2) (head own).clear (sym (found at.After-state_of) ∙ c.in-Hit.is)))
+    (status-hit (state_in s (states own) c.args.class)
+    (block_count s) c.clear_of-clear.result c.in-Hit.test (next at.After-deref-2)
+    (head own).clear (sym (found at.After-state_of) ∙ c.in-Hit.is)))
 
 pub returns-in-Open-clause-status : goal.returns-in-Open-clause-status
 returns-in-Open-clause-status c =
@@ -101,4 +126,5 @@ returns-in-Open-clause-status c =
     let own = at.After-clear_of-clear in
     let x = Waiting c.clear_of-clear.result in
     shows own x (λ h legal e. shown-status s (states own) h c.args.class x (within own) e
-    (status-open (state_in s (states own) c.args.class) (block_count s) c.clear_of-clear.result (next at.After-deref-2) (head own).clear (sym (found at.After-state_of) ∙ c.in-Open.is)))
+    (status-open (state_in s (states own) c.args.class) (block_count s) c.clear_of-clear.result
+    (next at.After-deref-2) (head own).clear (sym (found at.After-state_of) ∙ c.in-Open.is)))

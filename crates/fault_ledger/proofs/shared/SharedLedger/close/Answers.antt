@@ -5,7 +5,7 @@ use Rattle.fault_ledger.specs.History.{ContinuesWithout, states_of}
 use Rattle.fault_ledger.specs.Answer.{IsLegal}
 use Rattle.fault_ledger.specs.Seats.{Place, closed_of}
 use Rattle.fault_ledger.specs.Words.{ForEach, state_at}
-use Rattle.fault_ledger.proofs.Deals.{of_each}
+use Rattle.fault_ledger.proofs.AllSeats.{of_each}
 use Rattle.fault_ledger.proofs.shared.SharedLedger.close.Goals as goal
 
 pub returns-clause-closed : goal.returns-clause-closed
@@ -18,5 +18,7 @@ returns-clause-closed c =
       h,
       subst (λ (x : Shape). IsLegal x h) same e.1,
       of_each P c.args.seats.items (subst (ForEach P) c.group_of-group.ensures.1 e.2),
-      c.in_ok-closed.ensures ∙ ap (λ (x : Shape). closed_of x (map state_at c.in_ok-codes.codes.items)) (sym c.self.invariant ∙ same) ∙ ap (closed_of s) (e.3 ∙ ap (λ (x : Shape). states_of x h) same),
+      c.in_ok-closed.ensures ∙ ap (λ (x : Shape).
+          closed_of x (map state_at c.in_ok-codes.codes.items)) (sym c.self.invariant ∙ same)
+          ∙ ap (closed_of s) (e.3 ∙ ap (λ (x : Shape). states_of x h) same),
     )

@@ -8,5 +8,6 @@ abbrev pub invariant-loop-block : goal.invariant-loop-block
 invariant-loop-block l = record {
   sees : Sees l.fn.token l.fn.token.told l.token;
   unmoved : l.end ≡ 0 → l.token ≡ l.fn.token;
-  missed : (k : ℕ) → k < l.block → l.from ≤ k → is_hit (entry (piece_at l.self.shape l.class k) l.fn.token.seen) ≡ false;
+  missed : (k : ℕ) → k < l.block → l.from ≤ k
+      → is_hit (entry (piece_at l.self.shape l.class k) l.fn.token.seen) ≡ false;
 }

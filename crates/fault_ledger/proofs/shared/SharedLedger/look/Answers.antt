@@ -1,7 +1,8 @@
-use Rattle.fault_ledger.proofs.Sits.{seated_sees}
+use Rattle.fault_ledger.proofs.SeatSteps.{seated_sees}
 use Rattle.fault_ledger.proofs.shared.SharedLedger.look.Goals as goal
 
 pub invariant_of-seat : goal.invariant_of-seat
 invariant_of-seat c =
     let i = c.seat.inside in
-    seated_sees i.token c.look.new.token i.worker i.told i.row i.piece i.remembered.items c.seat.invariant c.look.ensures.seen
+    seated_sees i.token c.look.new.token i.worker i.told i.row i.piece i.remembered.items
+    c.seat.invariant c.look.ensures.seen

@@ -7,8 +7,8 @@ use Rattle.fault_ledger.specs.History.{History, ContinuesWithout, piece_count, s
 use Rattle.fault_ledger.specs.Answer.{IsLegal}
 use Rattle.fault_ledger.specs.Seats.{Place}
 use Rattle.fault_ledger.specs.Words.{Crowd, ForEach, field_in, state_at}
-use Rattle.fault_ledger.proofs.Codes.{states_of_codes}
-use Rattle.fault_ledger.proofs.Groups.{closes}
+use Rattle.fault_ledger.proofs.FieldCodes.{states_of_codes}
+use Rattle.fault_ledger.proofs.WordGroups.{closes}
 use Rattle.fault_ledger.proofs.words.Words.close.Goals as goal
 
 pub returns : goal.returns
@@ -20,7 +20,11 @@ returns c =
     let posts = ap (λ (g : Crowd). g.posts) c.group.view_is in
     IfOk-weaker c.read_codes-codes.result _ _
     (λ codes is.
-    let states = ap (map state_at) is ∙ states_of_codes (field_in words) (below c.args.pieces) ∙ ap (λ n. map (λ piece. state_at (field_in words piece)) (below n)) count in
-    subst (λ (x : Shape). (h : History) × IsLegal x h × ForEach (λ p. ContinuesWithout p.worker h p.seen) c.args.group.posts × (map state_at codes.items ≡ states_of x h)) same
-    (closes s _ _ c.args.group words _ (map state_at codes.items) c.close_with-closed.ensures.values.2 posts states))
+    let states = ap (map state_at) is ∙ states_of_codes (field_in words) (below c.args.pieces)
+    ∙ ap (λ n. map (λ piece. state_at (field_in words piece)) (below n)) count in
+    subst (λ (x : Shape). (h : History) × IsLegal x h
+    × ForEach (λ p. ContinuesWithout p.worker h p.seen) c.args.group.posts
+    × (map state_at codes.items ≡ states_of x h)) same
+    (closes s _ _ c.args.group words _
+    (map state_at codes.items) c.close_with-closed.ensures.values.2 posts states))
     c.read_codes-codes.ensures

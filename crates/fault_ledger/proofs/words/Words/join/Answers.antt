@@ -1,9 +1,9 @@
 use Rattle.std.proofs.Common.{sym, ap, ◌∙◌, ℕ, arith}
 use Rattle.atomic_table.specs.Table.{Me}
 use Rattle.fault_ledger.specs.declared.words.View.{View}
-use Rattle.fault_ledger.proofs.Meets.{joins}
-use Rattle.fault_ledger.proofs.Groups.{group_place}
-use Rattle.fault_ledger.proofs.Takes.{taken}
+use Rattle.fault_ledger.proofs.JoinAndPart.{joins}
+use Rattle.fault_ledger.proofs.WordGroups.{group_place}
+use Rattle.fault_ledger.proofs.TokenAsSeat.{taken}
 use Rattle.fault_ledger.proofs.words.Words.join.Goals as goal
 
 pub join_seat-requires : goal.join_seat-requires
@@ -11,7 +11,8 @@ join_seat-requires c =
     let w = c.self.inside.table.shared in
     let seat = c.into_seat.result in
     let at = group_place _ _ _ _ _ _ c.group.view_is c.requires.0 c.self.view_is in
-    let t = taken seat.me c.token.view_is c.token.invariant c.requires.1 c.self.view_is c.into_seat.ensures.0 (c.into_seat.ensures.2, c.into_seat.ensures.3) in (
+    let t = taken seat.me c.token.view_is c.token.invariant c.requires.1 c.self.view_is
+    c.into_seat.ensures.0 (c.into_seat.ensures.2, c.into_seat.ensures.3) in (
       at.0,
       t.table_is,
       c.into_seat.ensures.3,
