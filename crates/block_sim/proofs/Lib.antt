@@ -44,5 +44,6 @@ mod RegionLanes
 mod FlipLanes
 mod FaultLanes
 mod Simulated
+mod ResponseRows
 pub mod Public
 mod Ways
