@@ -45,5 +45,6 @@ mod RegionLanes
 mod FlipLanes
 mod FaultLanes
 mod Simulated
+mod ResponseRows
 pub mod Public
 mod Ways

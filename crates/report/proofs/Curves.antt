@@ -20,7 +20,8 @@ use Rattle.report.specs.declared.text.SimFault.TheVariants as fault
 use Rattle.report.specs.EndToEnd.{IsJobOf, IsJobWithin, IsReportFault}
 use Rattle.report.specs.Curve.{IsCurveFault, IsCurveOf, IsCurveOfJob}
 use Rattle.patterns.specs.Least.{below, from_up}
-use Rattle.report.specs.Curve.{counts_at, curve, finds, found_by, is_first, is_found_by, news_at, point_at}
+use Rattle.compaction.specs.Compaction.{finds, is_first}
+use Rattle.report.specs.Curve.{counts_at, curve, found_by, is_found_by, news_at, point_at}
 
 -- how many faults have a first test below a number
 abbrev pub is_below : ℕ → Option ℕ → Bool

@@ -16,3 +16,4 @@ pub mod Merges
 pub mod ClassFirsts
 pub mod Endings
 pub mod Curves
+pub mod Compactions

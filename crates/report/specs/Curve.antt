@@ -1,6 +1,5 @@
 -- The curve of a run: how many faults are detected up to each test.
-use Rattle.std.specs.Prelude.{◌≡◌, ⊤, ℕ, ◌==◌, nat_le, Bool, false, List, ◌++◌, map, filter, flat_map, length, Option, Some, None, count_by, codes, decimal, if◌then◌else◌}
-use Rattle.std.specs.List.{list_any}
+use Rattle.std.specs.Prelude.{◌≡◌, ⊤, ℕ, nat_le, Bool, false, List, ◌++◌, map, filter, flat_map, length, Option, Some, None, count_by, codes, decimal, if◌then◌else◌}
 use Rattle.bench_net.specs.Statement.{Statement}
 use Rattle.bench_net.specs.Scan.{sources}
 use Rattle.bench_net.specs.Refusal.{IsAccepted}
@@ -9,17 +8,14 @@ use Rattle.patterns.specs.Least.{below}
 use Rattle.patterns.specs.Tests.{TestList, HasTests}
 use Rattle.block_sim.specs.Parts.{Parts}
 use Rattle.workers.specs.Verdict.{AreFirsts, detected}
+use Rattle.compaction.specs.Compaction.{finds, is_first}
 use Rattle.report.specs.declared.curve.CurvePoint.{CurvePoint}
 use Rattle.report.specs.declared.text.SimFault.{SimFault}
 use Rattle.report.specs.declared.text.SimFault.TheVariants as fault
 use Rattle.report.specs.EndToEnd.{IsRunReportFault}
 use Rattle.report.specs.Report.{coverage_line, percentage}
 
--- whether a fault's first test is this one, and whether it is this one or one before it
-abbrev pub is_first : ℕ → Option ℕ → Bool
-is_first t None = false
-is_first t (Some first) = first == t
-
+-- whether a fault's first test is this one or one before it
 abbrev pub is_found_by : ℕ → Option ℕ → Bool
 is_found_by t None = false
 is_found_by t (Some first) = nat_le first t
@@ -34,10 +30,6 @@ news_at firsts t = count_by (is_first t) firsts
 
 abbrev pub found_by : List (Option ℕ) → ℕ → ℕ
 found_by firsts t = count_by (is_found_by t) firsts
-
--- whether a test is the first of some fault
-abbrev pub finds : List (Option ℕ) → ℕ → Bool
-finds firsts t = list_any (is_first t) firsts
 
 -- the point of a test
 abbrev pub point_at : List (Option ℕ) → ℕ → CurvePoint

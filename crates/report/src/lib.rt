@@ -7,6 +7,7 @@
 //! to an [`Out`], and their contracts say which bytes.
 #![tactic(auto)]
 
+mod compacted;
 mod contents;
 mod curve;
 mod cut;
@@ -20,7 +21,9 @@ mod part;
 mod part_reader;
 mod report;
 mod text;
+mod whole;
 
+pub use compacted::compact_text_in;
 pub use contents::{Contents, Lines};
 pub use curve::{CurvePoint, curve_of, curve_text_in, write_curve};
 pub use detected::{detections_text_in, write_detections};

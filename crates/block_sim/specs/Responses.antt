@@ -1,0 +1,19 @@
+-- The responses of a circuit to tests.
+use Rattle.std.specs.Prelude.{◌≡◌, ℕ, Bool, List, map, length, Some, None, slice_get, slice_index_or}
+use Rattle.bench_net.specs.Statement.{Name, Statement}
+use Rattle.bench_net.specs.Scan.{observers}
+use Rattle.fault_model.specs.Solution.{Test, Solves, shows}
+use Rattle.patterns.specs.Tests.{TestList}
+use Rattle.block_sim.specs.Words.{lane}
+
+-- The rows are the responses to tests: for each test one row, and that has for each observer, the
+-- outputs and then the cells' data pins, what it shows in the solution without a fault.
+pub record AreResponses (c : List Statement) (tests : List Test) (rows : TestList) : Type 0 where
+  pub width : rows.width ≡ length (observers c)
+  pub count : length rows.tests ≡ length tests
+  pub each : (t : ℕ) (test : Test) (v : Name → Bool) → slice_get tests t ≡ Some test
+      → Solves c test None v → slice_get rows.tests t ≡ Some (map (shows None v) (observers c))
+
+-- the bits of signals, given by their numbers, in one lane of a block's words
+abbrev pub lane_row : List ℕ → List ℕ → ℕ → List Bool
+lane_row observed words k = map (λ s. lane (slice_index_or words s 0) k) observed

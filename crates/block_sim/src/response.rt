@@ -1,0 +1,151 @@
+//! What a circuit without a fault answers to tests.
+
+ghost use Rattle.std.specs.Prelude.{◌≡◌, ◌+◌, ◌<◌, ◌≤◌, ◌^◌, ◌++◌, [], All, IfOk, OnOk, length, map};
+ghost use Rattle.bench_net.specs.Circuit.{IsCircuit};
+ghost use Rattle.bench_net.specs.Scan.{names, observers, signal, sources};
+ghost use Rattle.patterns.specs.Least.{below};
+ghost use Rattle.patterns.specs.Making.{with_test};
+ghost use Rattle.patterns.specs.Tests.{IsTestList, max_tests};
+ghost use Rattle.block_sim.specs.Responses.{AreResponses, lane_row};
+
+use crate::flat::FlatCircuit;
+use crate::words::evaluate;
+use bench_net::Circuit;
+use patterns::{PushFault, Tests};
+use std::alloc::{AllocError, Global};
+
+/// The responses of a circuit without a fault: for each test one row of bits, those of the OUTPUT
+/// lines in order, and then what each flip-flop captures at its data pin, in the order of the DFF
+/// lines. The rows come as a list of tests; with the same inputs before them, the captured bits are
+/// the second vectors of launch on capture (Bushnell and Agrawal, Essentials of Electronic Testing,
+/// chapter 12, on delay test).
+///
+/// Each gate is evaluated once for 64 tests. It takes a bit for each observer and test, and some
+/// memory for each signal and pin.
+pub fn responses(alloc: Global, circuit: Circuit, tests: &Tests) -> Result<Tests, AllocError>
+    requires { tests.now.width ≡ length (sources circuit) }
+    ensures responses { IfOk result (λ rows. AreResponses circuit tests.now.tests rows) }
+    ensures list { IfOk result (λ rows. IsTestList rows) }
+{
+    let flat = FlatCircuit::new(alloc, circuit)?;
+    response_rows(alloc, &flat, tests)
+}
+
+/// The responses of a circuit in flat rows.
+fn response_rows(alloc: Global, circuit: &FlatCircuit, tests: &Tests) -> Result<Tests, AllocError>
+    requires { tests.now.width ≡ length (sources circuit.now) }
+    ensures responses { IfOk result (λ rows. AreResponses circuit.now tests.now.tests rows) }
+    ensures list { IfOk result (λ rows. IsTestList rows) }
+{
+    let observed = observed_signals(alloc, circuit.circuit())?;
+    let signals = circuit.circuit().signals() as usize;
+    let same = vec![in alloc; 0u64; signals]?;
+    let mut words = vec![in alloc; 0u64; signals]?;
+    let mut row = vec![in alloc; false; observed.len()]?;
+    let mut rows = Tests::new(alloc, observed.len() as u32);
+    add_blocks(
+        alloc, circuit, tests, &observed, &same, &mut words, &mut row, &mut rows,
+    )?;
+    let _width = rows.width();
+    Ok(rows)
+}
+
+/// The signals of the observers, in order.
+fn observed_signals(alloc: Global, circuit: &Circuit) -> Result<Vec<u32>, AllocError>
+    ensures signals { IfOk result (λ observed. observed.items
+        ≡ map (λ o. signal circuit.now o.1) (observers circuit.now)) }
+    ensures within { IfOk result (λ observed.
+        All (λ s. s < length (names circuit.now)) observed.items) }
+    ensures few { IfOk result (λ observed. length observed.items < 2 ^ 32) }
+{
+    let mut observed = Vec::new(alloc);
+    observed.extend_from_slice(circuit.outputs())?;
+    for cell in circuit.scan_cells() {
+        observed.push(cell.d)?;
+    }
+    let _signals = circuit.signals();
+    Ok(observed)
+}
+
+/// Adds the responses to the tests of all blocks to rows that were empty.
+fn add_blocks(
+    alloc: Global,
+    circuit: &FlatCircuit,
+    tests: &Tests,
+    observed: &[u32],
+    same: &[u64],
+    words: &mut [u64],
+    row: &mut [bool],
+    rows: &mut Tests,
+) -> Result<(), AllocError>
+    requires circuit { IsCircuit circuit.now }
+    requires tests { tests.now.width ≡ length (sources circuit.now) }
+    requires observed { observed.now ≡ map (λ o. signal circuit.now o.1) (observers circuit.now) }
+    requires within { All (λ s. s < length (names circuit.now)) observed.now }
+    requires same { All (λ word. word ≡ 0) same.now }
+    requires room { length same.now ≡ length (names circuit.now) }
+    requires words { length words.old ≡ length (names circuit.now) }
+    requires row { length row.old ≡ length observed.now }
+    requires width { rows.old.width ≡ length observed.now }
+    requires empty { rows.old.tests ≡ [] }
+    ensures { OnOk result (AreResponses circuit.now tests.now.tests rows.new) }
+{
+    let _width = tests.width();
+    let mut evaluations = 0;
+    for block in 0..tests.blocks() {
+        evaluate(circuit, tests, block, words, same, &mut evaluations);
+        add_lanes(alloc, observed, words, tests.size_of(block), row, rows)?;
+    }
+    Ok(())
+}
+
+/// Adds the rows of the first lanes of a block's words.
+fn add_lanes(
+    alloc: Global,
+    observed: &[u32],
+    words: &[u64],
+    size: u32,
+    row: &mut [bool],
+    rows: &mut Tests,
+) -> Result<(), AllocError>
+    requires size { size ≤ 64 }
+    requires within { All (λ s. s < length words.now) observed.now }
+    requires row { length row.old ≡ length observed.now }
+    requires width { rows.old.width ≡ length observed.now }
+    requires room { length rows.old.tests + size ≤ max_tests }
+    ensures rows { OnOk result (rows.new.tests
+        ≡ rows.old.tests ++ map (lane_row observed.now words.now) (below size)) }
+    ensures width { rows.new.width ≡ rows.old.width }
+{
+    for lane in 0..size {
+        read_lane(observed, words, lane, row);
+        add_row(alloc, row, rows)?;
+    }
+    Ok(())
+}
+
+/// Reads the bit of one lane of each observed signal.
+fn read_lane(observed: &[u32], words: &[u64], lane: u32, row: &mut [bool])
+    requires lane { lane < 64 }
+    requires within { All (λ s. s < length words.now) observed.now }
+    requires row { length row.old ≡ length observed.now }
+    ensures { row.new ≡ lane_row observed.now words.now lane }
+{
+    for (place, signal) in observed.iter().enumerate() {
+        row[place] = (words[*signal as usize] >> lane) & 1 == 1;
+    }
+}
+
+/// Adds a row of the right width where there is room for one.
+fn add_row(alloc: Global, row: &[bool], rows: &mut Tests) -> Result<(), AllocError>
+    requires room { length rows.old.tests < max_tests }
+    requires width { length row.now ≡ rows.old.width }
+    ensures added { OnOk result (rows.new ≡ with_test rows.old row.now) }
+    ensures width { rows.new.width ≡ rows.old.width }
+{
+    match rows.push(alloc, row) {
+        Ok(()) => Ok(()),
+        Err(PushFault::Memory) => Err(AllocError),
+        Err(PushFault::TooMany | PushFault::BadWidth) => unreachable!(),
+    }
+}

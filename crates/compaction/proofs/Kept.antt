@@ -1,0 +1,260 @@
+-- What the tests that are kept detect, and why each is.
+use Rattle.std.proofs.Common.{◌≡◌, ◌<◌, ◌≤◌, ◌+◌, ◌-◌, ◌*◌, ◌∙◌, ℕ, zero, suc, Bool, true, false, List, ◌∷◌, [], length, ap, refl, sym, subst, arith, add-one, inl, inr, ◌⊎◌, get_or, take, ◌++◌}
+use Rattle.std.specs.Prelude.{◌||◌, ◌==◌, ⊤, Contains, IfOk, Option, Some, None, Result, Ok, Err, slice_get}
+use Rattle.std.specs.List.{ReversedBelow, list_any}
+use Rattle.std.proofs.lemmas.Bool.{cases_lt, eqb-true, eq-eqb}
+use Rattle.std.proofs.lemmas.List.{get_or_past}
+use Rattle.std.proofs.lemmas.Nat.{mul-le}
+use Rattle.std.proofs.lemmas.List.Folds.{list_any_more}
+use Rattle.std.proofs.Math.Seq.{take-append_seam}
+use Rattle.std.proofs.lemmas.Option.{get_or_from_slice_get, slice_get-get_or, slice_get_within}
+use Rattle.bench_net.specs.Statement.{Statement}
+use Rattle.lists.proofs.Members.{Among, among, contained, some_passes}
+use Rattle.lists.proofs.Places.{at_place, place_within, placed, within_place}
+use Rattle.fault_model.specs.declared.Model.{Model}
+use Rattle.fault_model.specs.declared.Model.TheVariants.{StuckAt, Transition}
+use Rattle.fault_model.specs.Fault.{Fault, faults}
+use Rattle.fault_model.specs.Solution.{Test, Detects}
+use Rattle.fault_model.specs.Detection.{DetectsAt, HasBit, LooksBack}
+use Rattle.fault_model.proofs.Public.{listed_model}
+use Rattle.patterns.specs.Tests.{TestList, blocks}
+use Rattle.block_sim.specs.First.{IsFirst}
+use Rattle.block_sim.specs.Parts.{Parts, with_tests}
+use Rattle.workers.specs.declared.RunFault.{RunFault}
+use Rattle.workers.specs.declared.RunFault.TheVariants as run_fault
+use Rattle.workers.specs.Refused.{IsRunFault}
+use Rattle.workers.specs.Verdict.{AreFirsts}
+use Rattle.compaction.specs.Compaction.{Covers, IsCompaction, IsFirstForSome, IsLastForSome, IsNeeded, IsSublist, finds, is_first, marked}
+use Rattle.compaction.specs.Marks.{AreFinding, AreLast}
+use Rattle.compaction.proofs.Marked.{ComesFrom, comes_from, earlier_place, marked_at, ones, ones_next, sublist_twice}
+use Rattle.compaction.proofs.Turned.{turned_back, turned_to}
+
+-- ---- marks by first tests
+
+some_found : (firsts : List (Option ℕ)) (t : ℕ) (x : Option ℕ) → Among x firsts → is_first t x ≡ true → finds firsts t ≡ true
+some_found [] t x a e = absurd a
+some_found (y ∷ firsts) t x (inl same) e = let first : is_first t y ≡ true = ap (is_first t) same ∙ e in rw (first) refl
+some_found (y ∷ firsts) t x (inr a) e = or_true (is_first t y) (finds firsts t) (some_found firsts t x a e)
+  where
+    or_true : (b d : Bool) → d ≡ true → (b || d) ≡ true
+    or_true true d h = refl
+    or_true false d h = h
+
+own_first : (t : ℕ) (x : Option ℕ) → is_first t x ≡ true → x ≡ Some t
+own_first t None e = let bad : false ≡ true = e in cc
+own_first t (Some s) e = ap Some (eqb-true s t e)
+
+first_own : (t : ℕ) → is_first t (Some t) ≡ true
+first_own t = eq-eqb t t refl
+
+-- one fault more
+pub finds_more : (firsts : List (Option ℕ)) (t i : ℕ) (first : Option ℕ) → slice_get firsts i ≡ Some first → finds (take (i + 1) firsts) t ≡ (finds (take i firsts) t || is_first t first)
+finds_more firsts t i first at =
+    list_any_more (is_first t) firsts i first (place_within firsts i first at)
+    ∙ ap (λ x. finds (take i firsts) t || is_first t x) (get_or_from_slice_get firsts i first first at)
+
+-- what is left of a vector whose slice was written over
+pub written_over : {X : Type 0} (n : ℕ) (new old : List X) → n ≡ length new → take n (new ++ old) ≡ new
+written_over n new old e = ap (λ k. take k (new ++ old)) e ∙ take-append_seam new old
+
+pub are_finding : (m : Model) (c : List Statement) (tests : List Test) (marks : List Bool) (firsts : List (Option ℕ)) → AreFirsts m c tests firsts → length marks ≡ length tests
+    → ((t : ℕ) → t < length tests → get_or marks t false ≡ finds firsts t) → AreFinding m c tests marks
+are_finding m c tests marks firsts are count each = record { count = count; first = first; found = found }
+  where
+    first : (t : ℕ) → slice_get marks t ≡ Some true → IsFirstForSome m c tests t
+    first t e =
+        let lt : t < length tests = (let h = slice_get_within marks t true e in omega (arith, h, count)) in
+        let on : finds firsts t ≡ true = sym (each t lt) ∙ get_or_from_slice_get marks t true false e in
+        let some = some_passes (is_first t) firsts on in
+        let at = placed firsts some.0 (among firsts some.0 some.1) in
+        let there : slice_get firsts at.0 ≡ Some (Some t) = at.1 ∙ ap Some (own_first t some.0 some.2) in
+        let fault = within_place (faults m c) at.0 (let h = place_within firsts at.0 some.0 at.1 in omega (arith, h, are.count)) in
+        (fault.0, contained (faults m c) fault.0 (at_place (faults m c) at.0 fault.0 fault.1), are.first at.0 fault.0 (Some t) fault.1 there)
+
+    found : (f : Fault) (t : ℕ) → Contains (faults m c) f → DetectsAt c tests f t → (s : ℕ) × IsFirst c tests f (Some s) × (slice_get marks s ≡ Some true)
+    found f t listed detects =
+        let at = placed (faults m c) f (among (faults m c) f listed) in
+        let verdict = within_place firsts at.0 (let h = place_within (faults m c) at.0 f at.1 in omega (arith, h, are.count)) in
+        go verdict.0 (are.first at.0 f verdict.0 at.1 verdict.1) (at_place firsts at.0 verdict.0 verdict.1)
+      where
+        go : (x : Option ℕ) → IsFirst c tests f x → Among x firsts → (s : ℕ) × IsFirst c tests f (Some s) × (slice_get marks s ≡ Some true)
+        go None is a = absurd (is t detects)
+        go (Some s) is a =
+            let lt : s < length tests = place_within tests s is.0.0 is.0.1 in
+            let on : get_or marks s false ≡ true = each s lt ∙ some_found firsts s (Some s) a (first_own s) in
+            (s, is, slice_get-get_or marks s false (omega (arith, lt, count)) ∙ ap Some on)
+
+-- ---- stuck-at faults: a row detects by itself
+
+pub stuck_at : (c : List Statement) (rows : List Test) (f : Fault) (k : ℕ) (test : Test) → Contains (faults StuckAt c) f → slice_get rows k ≡ Some test → Detects c test f → DetectsAt c rows f k
+stuck_at c rows f k test listed at detects =
+    let model : f.model ≡ StuckAt = listed_model StuckAt c f listed in
+    (test, at, detects, subst (λ m. LooksBack c rows m f.line f.stuck k) (sym model) tt)
+
+pub covers_stuck : (c : List Statement) (tests : List Test) (marks : List Bool) → AreFinding StuckAt c tests marks → Covers StuckAt c tests (marked marks tests)
+covers_stuck c tests marks are f t listed detects =
+    let s = are.found f t listed detects in
+    let own = s.1.0 in
+    (ones (take s.0 marks), stuck_at c (marked marks tests) f (ones (take s.0 marks)) own.0 listed (marked_at marks tests s.0 own.0 s.2 own.1) own.2)
+
+-- the second pass: turned round, the list has the first of some faults where it has the last of them
+pub are_last : (c : List Statement) (tests turned : List Test) (found marks : List Bool) → length turned ≡ length tests → ReversedBelow tests turned (length tests) → AreFinding StuckAt c turned found
+    → length marks ≡ length tests → ReversedBelow found marks (length tests) → AreLast c tests (marked marks tests)
+are_last c tests turned found marks count round are marked_all back = record { rows = (marks, marked_all, refl); covers = covers; last = last }
+  where
+    all_found : length found ≡ length tests
+    all_found = are.count ∙ count
+
+    covers : Covers StuckAt c tests (marked marks tests)
+    covers f t listed detects =
+        let there = stuck_at c turned f (length tests - 1 - t) detects.0 listed (turned_to tests turned (length tests) t detects.0 refl count round detects.1) detects.2 in
+        let s = are.found f (length tests - 1 - t) listed there in
+        let own = s.1.0 in
+        let place = length tests - 1 - s.0 in
+        let at : slice_get tests place ≡ Some own.0 = turned_back tests turned (length tests) s.0 own.0 refl count round own.1 in
+        let mark : slice_get marks place ≡ Some true = turned_to found marks (length tests) s.0 true all_found marked_all back s.2 in
+        (ones (take place marks), stuck_at c (marked marks tests) f (ones (take place marks)) own.0 listed (marked_at marks tests place own.0 mark at) own.2)
+
+    last : (k : ℕ) (row : Test) → slice_get (marked marks tests) k ≡ Some row → IsLastForSome StuckAt c (marked marks tests) k
+    last k row e = (f, listed, stuck_at c (marked marks tests) f k row listed e (subst (λ test. Detects c test f) same is.0.2), later)
+      where
+        from : ComesFrom marks tests k row
+        from = comes_from marks tests k row e
+
+        first : IsFirstForSome StuckAt c turned (length tests - 1 - from.place)
+        first = are.first (length tests - 1 - from.place) (turned_back found marks (length tests) from.place true all_found marked_all back from.mark)
+
+        f : Fault
+        f = first.0
+
+        listed : Contains (faults StuckAt c) f
+        listed = first.1
+
+        is : IsFirst c turned f (Some (length tests - 1 - from.place))
+        is = first.2
+
+        same : is.0.0 ≡ row
+        same =
+            let own : Some is.0.0 ≡ Some row = sym is.0.1 ∙ turned_to tests turned (length tests) from.place row refl count round from.at in cc
+
+        later : (after : ℕ) → k < after → ¬ DetectsAt c (marked marks tests) f after
+        later after lt detects =
+            let other = comes_from marks tests after detects.0 detects.1 in
+            let behind : from.place < other.place = earlier_place marks from.place other.place k after from.before other.before lt in
+            let within : other.place < length tests = place_within tests other.place detects.0 other.at in
+            let place = length tests - 1 - other.place in
+            is.1 place (omega (arith, behind, within))
+            (stuck_at c turned f place detects.0 listed (turned_to tests turned (length tests) other.place detects.0 refl count round other.at) detects.2)
+
+pub compacted_stuck : (c : List Statement) (tests kept : List Test) (marks : List Bool) → AreFinding StuckAt c tests marks → AreLast c (marked marks tests) kept → IsCompaction StuckAt c tests kept
+compacted_stuck c tests kept marks are last_are = record { rows = sublist_twice kept (marked marks tests) tests last_are.rows (marks, are.count, refl); covers = covers; needed = needed }
+  where
+    covers : Covers StuckAt c tests kept
+    covers f t listed detects = let h = covers_stuck c tests marks are f t listed detects in last_are.covers f h.0 listed h.1
+
+    needed : (k : ℕ) (row : Test) → slice_get kept k ≡ Some row → (t : ℕ) × (slice_get tests t ≡ Some row) × IsNeeded StuckAt c tests kept t k
+    needed k row e =
+        let inner = comes_from last_are.rows.0 (marked marks tests) k row (subst (λ rows. slice_get rows k ≡ Some row) last_are.rows.2 e) in
+        let from = comes_from marks tests inner.place row inner.at in
+        (from.place, from.at, (are.first from.place from.mark, last_are.last k row e))
+
+-- ---- transition faults: with each test the one before it
+
+or_cases : (a b : Bool) → (a || b) ≡ true → (a ≡ true) ⊎ (b ≡ true)
+or_cases true b e = inl refl
+or_cases false b e = inr e
+
+or_left : (a b : Bool) → a ≡ true → (a || b) ≡ true
+or_left a b e = rw (e) refl
+
+or_right : (a b : Bool) → b ≡ true → (a || b) ≡ true
+or_right true b e = refl
+or_right false b e = e
+
+pub compacted_transition : (c : List Statement) (tests : List Test) (found marks : List Bool) → AreFinding Transition c tests found → length marks ≡ length found
+    → ((t : ℕ) → t < length found → get_or marks t false ≡ (get_or found t false || get_or found (t + 1) false)) → IsCompaction Transition c tests (marked marks tests)
+compacted_transition c tests found marks are count each = record { rows = (marks, count ∙ are.count, refl); covers = covers; needed = needed }
+  where
+    on : (t : ℕ) → t < length found → (get_or found t false || get_or found (t + 1) false) ≡ true → slice_get marks t ≡ Some true
+    on t lt e = slice_get-get_or marks t false (omega (arith, lt, count)) ∙ ap Some (each t lt ∙ e)
+
+    itself : (t : ℕ) → slice_get found t ≡ Some true → slice_get marks t ≡ Some true
+    itself t e = on t (slice_get_within found t true e) (or_left (get_or found t false) (get_or found (t + 1) false) (get_or_from_slice_get found t true false e))
+
+    the_one_before : (t : ℕ) → slice_get found (suc t) ≡ Some true → slice_get marks t ≡ Some true
+    the_one_before t e =
+        let lt = slice_get_within found (suc t) true e in
+        on t (omega (arith, lt)) (or_right (get_or found t false) (get_or found (t + 1) false) (ap (λ i. get_or found i false) (add-one t) ∙ get_or_from_slice_get found (suc t) true false e))
+
+    -- what looks back to a test of the list looks back to the same row
+    kept_pair : (s : ℕ) (f : Fault) → Contains (faults Transition c) f → slice_get found s ≡ Some true → DetectsAt c tests f s → (k : ℕ) × DetectsAt c (marked marks tests) f k
+    kept_pair s f listed mark detects = go s mark detects.1 (subst (λ m. LooksBack c tests m f.line f.stuck s) model detects.3)
+      where
+        model : f.model ≡ Transition
+        model = listed_model Transition c f listed
+
+        go : (i : ℕ) → slice_get found i ≡ Some true → slice_get tests i ≡ Some detects.0 → LooksBack c tests Transition f.line f.stuck i → (k : ℕ) × DetectsAt c (marked marks tests) f k
+        go zero m at looks = absurd looks
+        go (suc i) m at looks =
+            let k = ones (take i marks) in
+            let before : slice_get (marked marks tests) k ≡ Some looks.0 = marked_at marks tests i looks.0 (the_one_before i m) looks.1 in
+            let next : ones (take (suc i) marks) ≡ suc k = ones_next marks i (the_one_before i m) in
+            let own : slice_get (marked marks tests) (suc k) ≡ Some detects.0 = subst (λ j. slice_get (marked marks tests) j ≡ Some detects.0) next (marked_at marks tests (suc i) detects.0 (itself (suc i) m) at) in
+            let back : LooksBack c (marked marks tests) Transition f.line f.stuck (suc k) = (looks.0, before, looks.2) in
+            (suc k, (detects.0, own, detects.2, subst (λ m. LooksBack c (marked marks tests) m f.line f.stuck (suc k)) (sym model) back))
+
+    covers : Covers Transition c tests (marked marks tests)
+    covers f t listed detects = let s = are.found f t listed detects in kept_pair s.0 f listed s.2 s.1.0
+
+    needed : (k : ℕ) (row : Test) → slice_get (marked marks tests) k ≡ Some row → (t : ℕ) × (slice_get tests t ≡ Some row) × IsNeeded Transition c tests (marked marks tests) t k
+    needed k row e = (from.place, from.at, go (or_cases (get_or found from.place false) (get_or found (from.place + 1) false) (sym (each from.place lt) ∙ get_or_from_slice_get marks from.place true false from.mark)))
+      where
+        from : ComesFrom marks tests k row
+        from = comes_from marks tests k row e
+
+        lt : from.place < length found
+        lt = let h = slice_get_within marks from.place true from.mark in omega (arith, h, count)
+
+        marked_at_place : (t : ℕ) → get_or found t false ≡ true → slice_get found t ≡ Some true
+        marked_at_place t h = go (cases_lt t (length found))
+          where
+            go : (t < length found) ⊎ (length found ≤ t) → slice_get found t ≡ Some true
+            go (inl low) = slice_get-get_or found t false low ∙ ap Some h
+            go (inr past) = let bad : false ≡ true = sym (get_or_past found t false past) ∙ h in cc
+
+        go : (get_or found from.place false ≡ true) ⊎ (get_or found (from.place + 1) false ≡ true) → IsNeeded Transition c tests (marked marks tests) from.place k
+        go (inl h) = inl (are.first from.place (marked_at_place from.place h))
+        go (inr h) = inr (are.first (from.place + 1) (marked_at_place (from.place + 1) h))
+
+-- ---- by the model of the job
+
+pub stuck_compacted : (m : Model) (c : List Statement) (tests rows kept : List Test) (marks : List Bool) → m ≡ StuckAt → AreFinding m c tests marks → rows ≡ marked marks tests → AreLast c rows kept → IsCompaction m c tests kept
+stuck_compacted m c tests rows kept marks model are is last =
+    subst (λ x. IsCompaction x c tests kept) (sym model)
+    (compacted_stuck c tests kept marks (subst (λ x. AreFinding x c tests marks) model are) (subst (λ xs. AreLast c xs kept) is last))
+
+pub transition_compacted : (m : Model) (c : List Statement) (tests kept : List Test) (found marks : List Bool) → m ≡ Transition → AreFinding m c tests found → length marks ≡ length found
+    → ((t : ℕ) → t < length found → get_or marks t false ≡ (get_or found t false || get_or found (t + 1) false)) → kept ≡ marked marks tests → IsCompaction m c tests kept
+transition_compacted m c tests kept found marks model are count each is =
+    subst (λ x. IsCompaction x c tests kept) (sym model)
+    (subst (λ xs. IsCompaction Transition c tests xs) (sym is) (compacted_transition c tests found marks (subst (λ x. AreFinding x c tests found) model are) count each))
+
+-- an answer of one kind is one of another
+pub ok_as : {T E : Type 0} (A B : T → Type 0) (r : Result T E) → ((x : T) → A x → B x) → IfOk r A → IfOk r B
+ok_as A B (Ok x) into h = into x h
+ok_as A B (Err e) into h = h
+
+-- ---- refusals
+
+-- fewer tests don't make more pieces
+pub fewer_pieces : (classes few many : ℕ) → few ≤ many → classes * blocks few ≤ classes * blocks many
+fewer_pieces classes few many le = mul-le classes (blocks few) classes (blocks many) (omega arith) (omega (arith, le))
+
+-- a run under other tests is refused as one under the job's own
+pub refused_alike : (job : Parts) (tests : TestList) (workers : ℕ) (f : RunFault) → IsRunFault (with_tests job tests) workers ⊤ (λ _ _ _. ⊥) f → IsRunFault job workers ⊤ (λ _ _ _. ⊥) f
+refused_alike job tests workers run_fault.NoWorkers h = h
+refused_alike job tests workers run_fault.TooManyWorkers h = h
+refused_alike job tests workers (run_fault.NoSuchMove index) h = h
+refused_alike job tests workers run_fault.Memory h = h
+refused_alike job tests workers run_fault.Threads h = h
+refused_alike job tests workers (run_fault.Unfinished class block) h = absurd (h.4 tt)

@@ -1,0 +1,59 @@
+-- When rows are a compaction of a list of tests.
+use Rattle.std.specs.Prelude.{◌≡◌, ◌⊎◌, ℕ, ◌+◌, ◌<◌, ◌==◌, Bool, true, false, List, [], ◌∷◌, length, Contains, Option, Some, None, slice_get}
+use Rattle.std.specs.List.{list_any}
+use Rattle.bench_net.specs.Statement.{Statement}
+use Rattle.fault_model.specs.declared.Model.{Model}
+use Rattle.fault_model.specs.declared.Model.TheVariants.{StuckAt, Transition}
+use Rattle.fault_model.specs.Fault.{Fault, faults}
+use Rattle.fault_model.specs.Solution.{Test}
+use Rattle.fault_model.specs.Detection.{DetectsAt}
+use Rattle.block_sim.specs.First.{IsFirst}
+
+-- the elements at the places that are marked, in order
+abbrev pub marked : {X : Type 0} → List Bool → List X → List X
+marked [] xs = []
+marked (mark ∷ marks) [] = []
+marked (true ∷ marks) (x ∷ xs) = x ∷ marked marks xs
+marked (false ∷ marks) (x ∷ xs) = marked marks xs
+
+-- the elements are some of a list, in its order
+abbrev pub IsSublist : {X : Type 0} → List X → List X → Type 0
+IsSublist some xs = (marks : List Bool) × (length marks ≡ length xs) × (some ≡ marked marks xs)
+
+-- whether a test is the first of a fault, and whether it is the first of one of many
+abbrev pub is_first : ℕ → Option ℕ → Bool
+is_first t None = false
+is_first t (Some first) = first == t
+
+abbrev pub finds : List (Option ℕ) → ℕ → Bool
+finds firsts t = list_any (is_first t) firsts
+
+-- the test of this number is the first of the list that detects some fault
+abbrev pub IsFirstForSome : Model → List Statement → List Test → ℕ → Type 0
+IsFirstForSome m c tests t = (f : Fault) × Contains (faults m c) f × IsFirst c tests f (Some t)
+
+-- it is the last of the list that detects some fault
+abbrev pub IsLastForSome : Model → List Statement → List Test → ℕ → Type 0
+IsLastForSome m c tests t = (f : Fault) × Contains (faults m c) f × DetectsAt c tests f t
+    × ((later : ℕ) → t < later → ¬ DetectsAt c tests f later)
+
+-- Why test t of the list is kept as row k: under stuck-at faults it is the first of the list and
+-- the last of the rows for some faults; under transition faults it or the next is the first.
+abbrev pub IsNeeded : Model → List Statement → List Test → List Test → ℕ → ℕ → Type 0
+IsNeeded StuckAt c tests kept t k =
+    IsFirstForSome StuckAt c tests t × IsLastForSome StuckAt c kept k
+IsNeeded Transition c tests kept t k =
+    IsFirstForSome Transition c tests t ⊎ IsFirstForSome Transition c tests (t + 1)
+
+-- the second list detects each fault of the model that the first one detects
+abbrev pub Covers : Model → List Statement → List Test → List Test → Type 0
+Covers m c tests kept = (f : Fault) (t : ℕ) → Contains (faults m c) f → DetectsAt c tests f t
+    → (k : ℕ) × DetectsAt c kept f k
+
+-- the rows are some of the tests, in order; they detect each fault that the tests detect; and each
+-- is needed
+pub record IsCompaction (m : Model) (c : List Statement) (tests kept : List Test) : Type 0 where
+  pub rows : IsSublist kept tests
+  pub covers : Covers m c tests kept
+  pub needed : (k : ℕ) (row : Test) → slice_get kept k ≡ Some row
+      → (t : ℕ) × (slice_get tests t ≡ Some row) × IsNeeded m c tests kept t k

@@ -1,0 +1,82 @@
+//! Lists of tests that are made of the tests of a list.
+
+ghost use Rattle.std.specs.Prelude.{◌≡◌, ◌+◌, ◌<◌, ◌≤◌, ◌++◌, ◌∷◌, [], IfOk, OnOk, length, slice_index_or};
+ghost use Rattle.std.specs.List.{ReversedBelow};
+ghost use Rattle.compaction.specs.Compaction.{marked};
+ghost use Rattle.patterns.specs.Tests.{IsTestList, max_tests};
+
+use patterns::{PushFault, Tests};
+use std::alloc::{AllocError, Global};
+
+/// The tests of a list that are marked, in order.
+pub fn marked_tests(alloc: Global, tests: &Tests, marks: &[bool]) -> Result<Tests, AllocError>
+    requires { length marks.now ≡ length tests.now.tests }
+    ensures rows { IfOk result (λ kept. kept.tests ≡ marked marks.now tests.now.tests) }
+    ensures list { IfOk result (λ kept. IsTestList kept) }
+    ensures width { IfOk result (λ kept. kept.width ≡ tests.now.width) }
+{
+    let mut kept = Tests::new(alloc, tests.width());
+    for test in 0..tests.count() {
+        if marks[test as usize] {
+            push_test(alloc, tests, test, &mut kept)?;
+        }
+    }
+    Ok(kept)
+}
+
+/// The tests of a list from the last to the first.
+pub fn reversed_tests(alloc: Global, tests: &Tests) -> Result<Tests, AllocError>
+    ensures count { IfOk result (λ turned. length turned.tests ≡ length tests.now.tests) }
+    ensures rows { IfOk result (λ turned.
+        ReversedBelow tests.now.tests turned.tests (length tests.now.tests)) }
+    ensures list { IfOk result (λ turned. IsTestList turned) }
+    ensures width { IfOk result (λ turned. turned.width ≡ tests.now.width) }
+{
+    let mut turned = Tests::new(alloc, tests.width());
+    let count = tests.count();
+    for place in 0..count {
+        push_test(alloc, tests, count - 1 - place, &mut turned)?;
+    }
+    Ok(turned)
+}
+
+/// Adds a test of a list to another list of the same width, where there is room for it.
+fn push_test(alloc: Global, tests: &Tests, test: u32, list: &mut Tests) -> Result<(), AllocError>
+    requires test { test < length tests.now.tests }
+    requires width { list.old.width ≡ tests.now.width }
+    requires room { length list.old.tests < max_tests }
+    ensures rows { OnOk result (list.new.tests
+        ≡ list.old.tests ++ slice_index_or tests.now.tests test [] ∷ []) }
+    ensures width { list.new.width ≡ list.old.width }
+    ensures list { OnOk result (IsTestList list.new) }
+{
+    let mut row = vec![in alloc; false; tests.width() as usize]?;
+    read_test(tests, test, &mut row);
+    push_row(alloc, &row, list)
+}
+
+/// Adds a row of the right width, where there is room for one.
+fn push_row(alloc: Global, row: &[bool], list: &mut Tests) -> Result<(), AllocError>
+    requires room { length list.old.tests < max_tests }
+    requires width { length row.now ≡ list.old.width }
+    ensures rows { OnOk result (list.new.tests ≡ list.old.tests ++ row.now ∷ []) }
+    ensures width { list.new.width ≡ list.old.width }
+    ensures list { OnOk result (IsTestList list.new) }
+{
+    match list.push(alloc, row) {
+        Ok(()) => Ok(()),
+        Err(PushFault::Memory) => Err(AllocError),
+        Err(PushFault::TooMany | PushFault::BadWidth) => unreachable!(),
+    }
+}
+
+/// Reads the bits of a test.
+fn read_test(tests: &Tests, test: u32, row: &mut [bool])
+    requires test { test < length tests.now.tests }
+    requires row { length row.old ≡ tests.now.width }
+    ensures { row.new ≡ slice_index_or tests.now.tests test [] }
+{
+    for source in 0..tests.width() {
+        row[source as usize] = tests.bit(test, source);
+    }
+}

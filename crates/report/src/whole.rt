@@ -1,0 +1,13 @@
+//! A text that is written whole.
+
+ghost use Rattle.output.specs.Output.{Writes};
+
+use crate::report::ReportFault;
+use output::{Out, put_all};
+
+/// Writes a text.
+pub fn put_text<W: Out>(text: &[u8], out: &mut W) -> Result<(), ReportFault>
+    ensures { Writes result (W.seen out.old) (W.seen out.new) text.now }
+{
+    Ok(put_all(text, out)?)
+}
