@@ -1,8 +1,8 @@
 -- How many numbers of a list are 0.
-use Rattle.std.proofs.Common.{◌≡◌, ◌≢◌, ◌<◌, ◌≤◌, ℕ, zero, suc, ◌+◌, ◌-◌, refl, sym, ◌∙◌, ap, subst, List, [], ◌∷◌, length, arith, set, replicate}
-use Rattle.std.specs.Prelude.{All, sum_by, slice_index_or}
+use Rattle.std.proofs.Common.{◌≡◌, ◌≢◌, ◌<◌, ◌≤◌, ℕ, zero, suc, ◌+◌, refl, ap}
+use Rattle.std.proofs.Common.{List, [], ◌∷◌, length, arith, set}
+use Rattle.std.specs.Prelude.{All, slice_index_or}
 use Rattle.event_queue.specs.Zeros.{zero_weight, zeros}
-use Rattle.std.proofs.lemmas.List.{length-set, get_or-replicate}
 use Rattle.std.proofs.lemmas.List.Sums.{sum_by-set, sum_by-cons, get_or-le-sum_by}
 
 weight_no : (x : ℕ) → x ≢ 0 → zero_weight x ≡ 0
@@ -23,14 +23,16 @@ zero_counted xs i lt e =
     let w = weight_yes (slice_index_or xs i 0) e in
     omega (arith, h, w)
 
-pub one_less : (xs : List ℕ) (i y : ℕ) → i < length xs → slice_index_or xs i 0 ≡ 0 → y ≢ 0 → zeros (set xs i y) + 1 ≡ zeros xs
+pub one_less : (xs : List ℕ) (i y : ℕ) → i < length xs → slice_index_or xs i 0 ≡ 0 → y ≢ 0
+    → zeros (set xs i y) + 1 ≡ zeros xs
 one_less xs i y lt e ne =
     let h = sum_by-set zero_weight xs i y 0 lt in
     let w = weight_yes (slice_index_or xs i 0) e in
     let v = weight_no y ne in
     omega (arith, h, w, v)
 
-pub one_more : (xs : List ℕ) (i : ℕ) → i < length xs → slice_index_or xs i 0 ≢ 0 → zeros (set xs i 0) ≡ zeros xs + 1
+pub one_more : (xs : List ℕ) (i : ℕ) → i < length xs → slice_index_or xs i 0 ≢ 0
+    → zeros (set xs i 0) ≡ zeros xs + 1
 one_more xs i lt ne =
     let h = sum_by-set zero_weight xs i 0 0 lt in
     let w = weight_no (slice_index_or xs i 0) ne in

@@ -1,12 +1,22 @@
 //! The gates that wait to be evaluated, in one bucket a level.
 
-ghost use Rattle.std.specs.Prelude.{◌≡◌, ◌≢◌, ◌↔◌, ℕ, ◌+◌, ◌<◌, All, IfOk, IfSome, IfNone, IsTrue, length, slice_index_or, slice_set};
+ghost use Rattle.std.specs.Prelude.{◌≡◌, ◌≢◌, ◌↔◌, ℕ, ◌+◌, ◌<◌, All, IfOk, IfSome, IfNone, IsTrue};
+ghost use Rattle.std.specs.Prelude.{length, slice_index_or, slice_set};
 
 use std::alloc::{AllocError, Global};
 use std::marker::Model;
 
 /// The gates that wait. A bucket is a chain of gates: its head and each gate's next are a gate's
 /// number and 1, or 0 at the end.
+///
+/// ```text
+/// heads   level 0: 0   level 1: 4   level 2: 0     the chain of level 1 begins with gate 3,
+/// next    gate 1: 0    gate 3: 2                   goes on with gate 1 and ends there
+/// at      gate 1: 2    gate 3: 2                   both wait at level 1
+/// ```
+///
+/// A gate waits at most once, so it has one place in `next`, and no bucket needs room of its own:
+/// nothing is allocated while gates come and go.
 #[derive(Drop)]
 pub struct Buckets {
     /// For each gate 0, or the level at which it waits and 1.

@@ -1,8 +1,8 @@
-use Rattle.std.proofs.Common.{◌≡◌, ◌≢◌, ◌<◌, ◌≤◌, ◌+◌, ◌⊎◌, ℕ, ap, arith, inl, inr, length, sym, ◌∙◌, subst, set, refl}
+use Rattle.std.proofs.Common.{arith}
+use Rattle.std.proofs.Common.{◌∙◌, refl}
 use Rattle.std.specs.Prelude.{slice_index_or}
-use Rattle.std.proofs.lemmas.Bool.{cases_eq}
-use Rattle.std.proofs.lemmas.List.{length-set, get_or-set_same, get_or-set_other, get_or_default}
-use Rattle.event_queue.proofs.Listed.{rest_less, none_left}
+use Rattle.std.proofs.lemmas.List.{length-set}
+use Rattle.event_queue.proofs.ChangedWords.{rest_less, none_left}
 use Rattle.event_queue.proofs.overlay.erase.Goals as goal
 
 pub loop-signal-init : goal.loop-signal-init
@@ -13,9 +13,13 @@ loop-signal-init c = record {
 
 pub loop-signal-preserved : goal.loop-signal-preserved
 loop-signal-preserved c = record {
-  room = length-set c.loop-signal.words (slice_index_or c.args.listed.now c.loop-signal.signal-index 0) 0 ∙ c.loop-signal.invariant.room;
-  rest = rest_less c.loop-signal.words c.args.listed.now c.loop-signal.signal-index c.loop-signal.invariant.rest;
+  room = length-set c.loop-signal.words
+      (slice_index_or c.args.listed.now c.loop-signal.signal-index 0) 0
+      ∙ c.loop-signal.invariant.room;
+  rest = rest_less c.loop-signal.words c.args.listed.now c.loop-signal.signal-index
+      c.loop-signal.invariant.rest;
 }
 
 pub returns-clause-clear : goal.returns-clause-clear
-returns-clause-clear c = none_left c.loop-signal.words c.args.listed.now c.loop-signal.signal-index c.loop-signal-test.false c.loop-signal.invariant.rest
+returns-clause-clear c = none_left c.loop-signal.words c.args.listed.now c.loop-signal.signal-index
+    c.loop-signal-test.false c.loop-signal.invariant.rest

@@ -5,5 +5,6 @@ use Rattle.event_queue.proofs.overlay.erase.Given as goal
 abbrev pub invariant-loop-signal : goal.invariant-loop-signal
 invariant-loop-signal l = record {
   room : length l.words ≡ length l.fn.words;
-  rest : (s : ℕ) → slice_index_or l.words s 0 ≢ 0 → (j : ℕ) × (l.signal-index ≤ j) × (j < length l.listed) × (slice_index_or l.listed j 0 ≡ s);
+  rest : (s : ℕ) → slice_index_or l.words s 0 ≢ 0
+      → (j : ℕ) × (l.signal-index ≤ j) × (j < length l.listed) × (slice_index_or l.listed j 0 ≡ s);
 }

@@ -2,54 +2,97 @@ use Rattle.std.proofs.Common.{◌≡◌, ◌≢◌, ◌<◌, ◌-◌, ◌+◌, r
 use Rattle.std.specs.Prelude.{slice_index_or, slice_set}
 use Rattle.std.proofs.lemmas.List.{get_or_read}
 use Rattle.event_queue.specs.Buckets.{AreBuckets}
-use Rattle.event_queue.proofs.Chains.{first_within, first_waits, some_wait, buckets_less, none_waits}
+use Rattle.event_queue.proofs.Chains.{first_within, first_waits, some_wait, buckets_less}
+use Rattle.event_queue.proofs.Chains.{none_waits}
 use Rattle.event_queue.proofs.buckets.Buckets.take.Goals as goal
 
 pub returns-then-head-eq0-clause-none : goal.returns-then-head-eq0-clause-none
 returns-then-head-eq0-clause-none c =
-    let low : c.args.level < length c.self.inside.heads.items = subst (λ w. c.args.level < w.levels) (sym c.self.view_is) c.requires in
-    let empty : slice_index_or c.self.inside.heads.items c.args.level 0 ≡ 0 = (let e = get_or_read c.self.inside.heads.items c.args.level c.index-head.result.now low c.index-head.ensures 0 in omega (arith, e, c.if-head-eq0.true)) in (
+    let low : c.args.level < length c.self.inside.heads.items =
+    subst (λ w. c.args.level < w.levels) (sym c.self.view_is) c.requires in
+    let empty : slice_index_or c.self.inside.heads.items c.args.level 0 ≡ 0 =
+    (let e = get_or_read c.self.inside.heads.items c.args.level c.index-head.result.now low
+    c.index-head.ensures 0 in omega (arith, e, c.if-head-eq0.true)) in (
       refl,
       λ gate. subst (λ w. slice_index_or w.at gate 0 ≡ c.args.level + 1 → ⊥) c.self.view_is
-          (none_waits c.self.inside.at.items c.self.inside.next.items c.self.inside.heads.items c.self.inside.waiting c.args.level c.self.invariant low empty gate),
+          (none_waits c.self.inside.at.items c.self.inside.next.items c.self.inside.heads.items
+          c.self.inside.waiting c.args.level c.self.invariant low empty gate),
     )
 
 pub index-next-requires : goal.index-next-requires
 index-next-requires c =
-    let low : c.args.level < length c.self.inside.heads.items = subst (λ w. c.args.level < w.levels) (sym c.self.view_is) c.requires in
-    let head : slice_index_or c.self.inside.heads.items c.args.level 0 ≡ (c.index-head.result.now - 1) + 1 = (let e = get_or_read c.self.inside.heads.items c.args.level c.index-head.result.now low c.index-head.ensures 0 in omega (arith, e, c.if-head-eq0.false)) in
-    let lt = first_within c.self.inside.at.items c.self.inside.next.items c.self.inside.heads.items c.self.inside.waiting (c.index-head.result.now - 1) c.args.level c.self.invariant low head in
+    let low : c.args.level < length c.self.inside.heads.items =
+    subst (λ w. c.args.level < w.levels) (sym c.self.view_is) c.requires in
+    let head : slice_index_or c.self.inside.heads.items c.args.level 0
+    ≡ (c.index-head.result.now - 1) + 1 =
+    (let e = get_or_read c.self.inside.heads.items c.args.level c.index-head.result.now low
+    c.index-head.ensures 0 in omega (arith, e, c.if-head-eq0.false)) in
+    let lt = first_within c.self.inside.at.items c.self.inside.next.items
+    c.self.inside.heads.items c.self.inside.waiting
+    (c.index-head.result.now - 1) c.args.level c.self.invariant low head in
     omega (arith, lt, c.self.invariant.room)
 
 pub index_mut-requires-2 : goal.index_mut-requires-2
 index_mut-requires-2 c =
-    let low : c.args.level < length c.self.inside.heads.items = subst (λ w. c.args.level < w.levels) (sym c.self.view_is) c.requires in
-    let head : slice_index_or c.self.inside.heads.items c.args.level 0 ≡ (c.index-head.result.now - 1) + 1 = (let e = get_or_read c.self.inside.heads.items c.args.level c.index-head.result.now low c.index-head.ensures 0 in omega (arith, e, c.if-head-eq0.false)) in
-    let lt = first_within c.self.inside.at.items c.self.inside.next.items c.self.inside.heads.items c.self.inside.waiting (c.index-head.result.now - 1) c.args.level c.self.invariant low head in
+    let low : c.args.level < length c.self.inside.heads.items =
+    subst (λ w. c.args.level < w.levels) (sym c.self.view_is) c.requires in
+    let head : slice_index_or c.self.inside.heads.items c.args.level 0
+    ≡ (c.index-head.result.now - 1) + 1 =
+    (let e = get_or_read c.self.inside.heads.items c.args.level c.index-head.result.now low
+    c.index-head.ensures 0 in omega (arith, e, c.if-head-eq0.false)) in
+    let lt = first_within c.self.inside.at.items c.self.inside.next.items
+    c.self.inside.heads.items c.self.inside.waiting
+    (c.index-head.result.now - 1) c.args.level c.self.invariant low head in
     omega (arith, lt)
 
 pub overflow_sub-self : goal.overflow_sub-self
 overflow_sub-self c =
-    let low : c.args.level < length c.self.inside.heads.items = subst (λ w. c.args.level < w.levels) (sym c.self.view_is) c.requires in
-    let head : slice_index_or c.self.inside.heads.items c.args.level 0 ≡ (c.index-head.result.now - 1) + 1 = (let e = get_or_read c.self.inside.heads.items c.args.level c.index-head.result.now low c.index-head.ensures 0 in omega (arith, e, c.if-head-eq0.false)) in
-    let some = some_wait c.self.inside.at.items c.self.inside.next.items c.self.inside.heads.items c.self.inside.waiting (c.index-head.result.now - 1) c.args.level c.self.invariant low head in
+    let low : c.args.level < length c.self.inside.heads.items =
+    subst (λ w. c.args.level < w.levels) (sym c.self.view_is) c.requires in
+    let head : slice_index_or c.self.inside.heads.items c.args.level 0
+    ≡ (c.index-head.result.now - 1) + 1 =
+    (let e = get_or_read c.self.inside.heads.items c.args.level c.index-head.result.now low
+    c.index-head.ensures 0 in omega (arith, e, c.if-head-eq0.false)) in
+    let some = some_wait c.self.inside.at.items c.self.inside.next.items
+    c.self.inside.heads.items c.self.inside.waiting
+    (c.index-head.result.now - 1) c.args.level c.self.invariant low head in
     omega (arith, some)
 
 pub invariant_of-self : goal.invariant_of-self
 invariant_of-self c =
-    let low : c.args.level < length c.self.inside.heads.items = subst (λ w. c.args.level < w.levels) (sym c.self.view_is) c.requires in
-    let head : slice_index_or c.self.inside.heads.items c.args.level 0 ≡ (c.index-head.result.now - 1) + 1 = (let e = get_or_read c.self.inside.heads.items c.args.level c.index-head.result.now low c.index-head.ensures 0 in omega (arith, e, c.if-head-eq0.false)) in
-    subst (λ h. AreBuckets (slice_set c.self.inside.at.items (c.index-head.result.now - 1) 0) c.self.inside.next.items (slice_set c.self.inside.heads.items c.args.level h) (c.self.inside.waiting - 1))
-    (sym (get_or_read c.self.inside.next.items (c.index-head.result.now - 1) c.index-next.result.now (let lt = first_within c.self.inside.at.items c.self.inside.next.items c.self.inside.heads.items c.self.inside.waiting (c.index-head.result.now - 1) c.args.level c.self.invariant low head in omega (arith, lt, c.self.invariant.room)) c.index-next.ensures 0))
-    (buckets_less c.self.inside.at.items c.self.inside.next.items c.self.inside.heads.items c.self.inside.waiting (c.index-head.result.now - 1) c.args.level c.self.invariant low head)
+    let low : c.args.level < length c.self.inside.heads.items =
+    subst (λ w. c.args.level < w.levels) (sym c.self.view_is) c.requires in
+    let head : slice_index_or c.self.inside.heads.items c.args.level 0
+    ≡ (c.index-head.result.now - 1) + 1 =
+    (let e = get_or_read c.self.inside.heads.items c.args.level c.index-head.result.now low
+    c.index-head.ensures 0 in omega (arith, e, c.if-head-eq0.false)) in
+    subst (λ h. AreBuckets
+    (slice_set c.self.inside.at.items (c.index-head.result.now - 1) 0) c.self.inside.next.items
+    (slice_set c.self.inside.heads.items c.args.level h) (c.self.inside.waiting - 1))
+    (sym (get_or_read c.self.inside.next.items (c.index-head.result.now - 1) c.index-next.result.now
+    (let lt = first_within c.self.inside.at.items c.self.inside.next.items
+    c.self.inside.heads.items c.self.inside.waiting
+    (c.index-head.result.now - 1) c.args.level c.self.invariant low head in
+    omega (arith, lt, c.self.invariant.room)) c.index-next.ensures 0))
+    (buckets_less c.self.inside.at.items c.self.inside.next.items c.self.inside.heads.items
+    c.self.inside.waiting (c.index-head.result.now - 1) c.args.level c.self.invariant low head)
 
 pub returns-clause-some : goal.returns-clause-some
 returns-clause-some c =
-    let low : c.args.level < length c.self.inside.heads.items = subst (λ w. c.args.level < w.levels) (sym c.self.view_is) c.requires in
-    let head : slice_index_or c.self.inside.heads.items c.args.level 0 ≡ (c.index-head.result.now - 1) + 1 = (let e = get_or_read c.self.inside.heads.items c.args.level c.index-head.result.now low c.index-head.ensures 0 in omega (arith, e, c.if-head-eq0.false)) in
-    let lt = first_within c.self.inside.at.items c.self.inside.next.items c.self.inside.heads.items c.self.inside.waiting (c.index-head.result.now - 1) c.args.level c.self.invariant low head in
-    let here = first_waits c.self.inside.at.items c.self.inside.next.items c.self.inside.heads.items c.self.inside.waiting (c.index-head.result.now - 1) c.args.level c.self.invariant low head in (
+    let low : c.args.level < length c.self.inside.heads.items =
+    subst (λ w. c.args.level < w.levels) (sym c.self.view_is) c.requires in
+    let head : slice_index_or c.self.inside.heads.items c.args.level 0
+    ≡ (c.index-head.result.now - 1) + 1 =
+    (let e = get_or_read c.self.inside.heads.items c.args.level c.index-head.result.now low
+    c.index-head.ensures 0 in omega (arith, e, c.if-head-eq0.false)) in
+    let lt = first_within c.self.inside.at.items c.self.inside.next.items
+    c.self.inside.heads.items c.self.inside.waiting
+    (c.index-head.result.now - 1) c.args.level c.self.invariant low head in
+    let here = first_waits c.self.inside.at.items c.self.inside.next.items
+    c.self.inside.heads.items c.self.inside.waiting
+    (c.index-head.result.now - 1) c.args.level c.self.invariant low head in (
       subst (λ w. c.index-head.result.now - 1 < length w.at) c.self.view_is lt,
-      subst (λ w. slice_index_or w.at (c.index-head.result.now - 1) 0 ≡ c.args.level + 1) c.self.view_is here,
+      subst (λ w. slice_index_or w.at (c.index-head.result.now - 1) 0
+          ≡ c.args.level + 1) c.self.view_is here,
       ap (λ w. slice_set w.at (c.index-head.result.now - 1) 0) c.self.view_is,
     )
