@@ -1,28 +1,41 @@
 -- Numbered statements with levels are a circuit with its tables, and without are refused.
-use Rattle.std.proofs.Common.{◌≡◌, ◌<◌, ◌≤◌, ◌+◌, ◌^◌, ℕ, ap, List, [], ◌∷◌, ◌++◌, map, length, filter, refl, arith, inl, inr, ◌⊎◌, length-append, ◌≢◌, ◌==◌, zero, suc, sym, ◌∙◌, subst, true, drop}
-use Rattle.std.specs.Prelude.{slice_index, flat_map, IsPermutation, Some, slice_get, Contains, AllPairs, bytes_eq, Option, None, slice_index_or}
+use Rattle.std.proofs.Common.{◌≡◌, ◌<◌, ◌≤◌, ◌+◌, ◌^◌, ℕ, ap, List, [], ◌∷◌, ◌++◌, map, length}
+use Rattle.std.proofs.Common.{filter, refl, arith, inl, inr, ◌⊎◌, length-append, ◌≢◌, ◌==◌, zero}
+use Rattle.std.proofs.Common.{suc, sym, ◌∙◌, subst, true, drop}
+use Rattle.std.specs.Prelude.{slice_index, flat_map, IsPermutation, Some, slice_get, Contains}
+use Rattle.std.specs.Prelude.{AllPairs, bytes_eq, Option, None, slice_index_or}
 use Rattle.std.proofs.lemmas.Grind.{common_steps}
 use Rattle.std.proofs.lemmas.Bool.Decides.{nat_tests}
 use Rattle.std.proofs.lemmas.List.Folds.{length-flat_map-take}
-use Rattle.std.proofs.lemmas.List.Sorted.{IsPermutation-refl, IsPermutation-trans, IsPermutation-middle, IsPermutation-append_right, length_permutation, All-permutation, IsPermutation-sym}
+use Rattle.std.proofs.lemmas.List.Sorted.{IsPermutation-refl, IsPermutation-trans}
+use Rattle.std.proofs.lemmas.List.Sorted.{IsPermutation-middle, IsPermutation-append_right}
+use Rattle.std.proofs.lemmas.List.Sorted.{length_permutation, All-permutation, IsPermutation-sym}
 use Rattle.std.specs.List.{enumerate_from, filter_map, position_or_len}
 use Rattle.std.proofs.lemmas.List.{length-map, map-append, append_assoc, get_or-map}
 use Rattle.bench_net.specs.declared.line.Line.{Line}
 use Rattle.bench_net.specs.declared.Sink.{Sink}
 use Rattle.bench_net.specs.declared.Sink.TheVariants.{Pin, Out}
 use Rattle.bench_net.specs.Statement.{Name, Statement, Dff, Output, defines, Gate}
-use Rattle.bench_net.specs.Scan.{names, inputs, cells, sources, signal, gate_line, cell, outputs, pins_of, sinks, name_of, definition}
-use Rattle.bench_net.specs.Stored.{statements_of, read_numbers, numbers, name_at, statement_of, AreStatements, AreRefused, IsFirstStuck}
-use Rattle.bench_net.specs.Tables.{defines_number, output_number, signal_read, pin_readers, output_readers, line_readers, all_readers, PinsFit, input_number, cell_numbers, source_signals, sinks_at, line_gate}
-use Rattle.lists.proofs.Members.{Among, contained, among_left, among_right, among, mapped_from, filtered_from, among_joined}
+use Rattle.bench_net.specs.Scan.{names, inputs, cells, sources, signal, gate_line, cell, outputs}
+use Rattle.bench_net.specs.Scan.{pins_of, sinks, name_of, definition}
+use Rattle.bench_net.specs.Stored.{statements_of, read_numbers, numbers, name_at, statement_of}
+use Rattle.bench_net.specs.Stored.{AreStatements, AreRefused, IsFirstStuck}
+use Rattle.bench_net.specs.Tables.{defines_number, output_number, signal_read, pin_readers}
+use Rattle.bench_net.specs.Tables.{output_readers, line_readers, all_readers, PinsFit, input_number}
+use Rattle.bench_net.specs.Tables.{cell_numbers, source_signals, sinks_at, line_gate}
+use Rattle.lists.proofs.Members.{Among, contained, among_left, among_right, among, mapped_from}
+use Rattle.lists.proofs.Members.{filtered_from, among_joined}
 use Rattle.std.proofs.lemmas.List.Elements.{Contains-get_or, filter-append, All-contains}
 use Rattle.std.proofs.lemmas.Option.{get_or_from_slice_get, slice_get-get_or, slice_get_within}
 use Rattle.bench_net.specs.declared.sinks.Reader.{Reader}
 use Rattle.lists.proofs.Distinct.{Distinct, distinct_from_pairs}
-use Rattle.bench_net.proofs.Names.{same_bytes, bytes_refl, signal-name_of, name_of-signal, definition_defines}
-use Rattle.bench_net.proofs.Gates.{named, named_number, of_cell, pins, source_statement, signal_below, not_stuck, stuck_name, numbering, has_level, has_depth, level_order}
+use Rattle.bench_net.proofs.Names.{same_bytes, bytes_refl, signal-name_of, name_of-signal}
+use Rattle.bench_net.proofs.Names.{definition_defines}
+use Rattle.bench_net.proofs.GateLevels.{named, named_number, of_cell, pins, source_statement}
+use Rattle.bench_net.proofs.GateLevels.{signal_below, not_stuck, stuck_name, numbering, has_level}
+use Rattle.bench_net.proofs.GateLevels.{has_depth, level_order}
 use mathlib.Core.Path.{fun_ext}
-use Rattle.bench_net.proofs.Marking.{greatest-at}
+use Rattle.bench_net.proofs.LevelSearch.{greatest-at}
 use Rattle.bench_net.specs.declared.tables.Tables.{Tables}
 use Rattle.bench_net.specs.declared.BenchFault.{BenchFault}
 use Rattle.bench_net.specs.declared.BenchFault.TheVariants.{Memory, Cycle}
@@ -30,8 +43,8 @@ use Rattle.bench_net.specs.Circuit.{IsCircuit, sink_count}
 use Rattle.bench_net.specs.Marks.{pins_in, gate_pins, AreLevelsOf, IsLowestStuck, IsLevelFault}
 use Rattle.bench_net.specs.Inside.{signals_in, AreTableLines, AreTables, IsInside, IsPlace}
 use Rattle.lists.proofs.Places.{at_place}
-use Rattle.bench_net.proofs.Listed.{definition_count}
-use Rattle.bench_net.proofs.Assembled.{reads_numbers, reads_held, known}
+use Rattle.bench_net.proofs.LineTables.{definition_count}
+use Rattle.bench_net.proofs.NumberedLines.{reads_numbers, reads_held, known}
 use Rattle.bench_net.specs.declared.line.Line.TheVariants as line
 
 -- ---- sources

@@ -1,5 +1,6 @@
 -- Lines of a text: which words make their names, and which places and which names make them faulty.
-use Rattle.std.proofs.Common.{◌≡◌, ◌<◌, ℕ, zero, suc, sym, refl, ◌∙◌, ap, true, not, List, [], ◌∷◌, ◌++◌, take, drop, arith, inl, inr, length-take}
+use Rattle.std.proofs.Common.{◌≡◌, ◌<◌, ℕ, zero, suc, sym, refl, ◌∙◌, ap, true, not, List, [], ◌∷◌}
+use Rattle.std.proofs.Common.{◌++◌, take, drop, arith, inl, inr, length-take}
 use Rattle.std.specs.Prelude.{Contains, IsSomeAnd, ◌↔◌, Option, Some, None, slice_get, flat_map}
 use Rattle.std.specs.List.{list_all}
 use Rattle.std.specs.Str.{IsUtf8}
@@ -16,8 +17,10 @@ use Rattle.bench_net.specs.Statement.{Name, Statement, Gate, defined, read}
 use Rattle.bench_net.specs.Reading.{HasArity, States, LinesState, statements}
 use Rattle.bench_net.specs.Scan.{names}
 use Rattle.bench_net.specs.Circuit.{HaveArities, IsStuck}
-use Rattle.bench_net.specs.Refusal.{at_line, IsLowest, NoLine, IsRedefinition, IsUndefined, IsCyclic}
-use Rattle.lists.proofs.Members.{Among, among, contained, among_left, among_right, among_joined, joined_from, each_passes}
+use Rattle.bench_net.specs.Refusal.{at_line, IsLowest, NoLine, IsRedefinition, IsUndefined}
+use Rattle.bench_net.specs.Refusal.{IsCyclic}
+use Rattle.lists.proofs.Members.{Among, among, contained, among_left, among_right, among_joined}
+use Rattle.lists.proofs.Members.{joined_from, each_passes}
 use Rattle.bench_net.specs.declared.Kind.{Kind}
 use Rattle.lists.proofs.Distinct.{Distinct, distinct_append}
 use Rattle.bench_net.proofs.Names.{defined_few}

@@ -1,5 +1,6 @@
 -- Levels, and the marks of a search for them.
-use Rattle.std.proofs.Common.{◌≡◌, ◌≢◌, ◌<◌, ◌≤◌, ◌+◌, ℕ, max, ◌∙◌, refl, cond, List, [], ◌∷◌, ◌++◌, map, length, take, get_or, set, arith, inl, inr, ◌⊎◌}
+use Rattle.std.proofs.Common.{◌≡◌, ◌≢◌, ◌<◌, ◌≤◌, ◌+◌, ℕ, max, ◌∙◌, refl, cond, List, [], ◌∷◌, ◌++◌}
+use Rattle.std.proofs.Common.{map, length, take, get_or, set, arith, inl, inr, ◌⊎◌}
 use Rattle.std.specs.Prelude.{Some, None, slice_get, slice_index, count_by, fold, ◌^◌}
 use Rattle.std.proofs.lemmas.List.{length-map, length-set, get_or-map, take_all, take_more}
 use Rattle.std.proofs.lemmas.List.Sums.{sum_by-set, sum_by-cons, count_by-le-length}
@@ -9,10 +10,12 @@ use Rattle.bench_net.specs.declared.levels.Mark.{Mark}
 use Rattle.bench_net.specs.declared.levels.Mark.TheVariants.{Unknown, Open, Level}
 use Rattle.bench_net.specs.Level.{greatest}
 use Rattle.bench_net.specs.declared.levels.OpenGate.{OpenGate}
-use Rattle.bench_net.specs.Marks.{AreLevelsOf, HaveLevels, no_signal, one_more, IsLowestStuck, HaveLevelsBelow, is_unknown, waiting, steps, pins_left, signals_of, IsMark, IsOpen, IsPath, IsSearch, level_in}
+use Rattle.bench_net.specs.Marks.{AreLevelsOf, HaveLevels, no_signal, one_more, IsLowestStuck}
+use Rattle.bench_net.specs.Marks.{HaveLevelsBelow, is_unknown, waiting, steps, pins_left}
+use Rattle.bench_net.specs.Marks.{signals_of, IsMark, IsOpen, IsPath, IsSearch, level_in}
 use Rattle.lists.proofs.Members.{Among, among, mapped_from}
 use Rattle.lists.proofs.Places.{at_place, within_place}
-use Rattle.bench_net.proofs.Listed.{written}
+use Rattle.bench_net.proofs.LineTables.{written}
 
 -- ---- the greatest of some numbers
 

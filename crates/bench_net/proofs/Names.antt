@@ -1,6 +1,8 @@
 -- What computed tests say of names in a list, and the numbers of names.
-use Rattle.std.proofs.Common.{◌≡◌, refl, sym, subst, Bool, true, false, List, [], ◌∷◌, arith, inl, inr, ◌⊎◌, ℕ, zero, suc, ap}
-use Rattle.std.specs.Prelude.{Contains, ◌≢◌, bytes_eq, AllPairs, Some, None, slice_get, unwrap_or, flat_map}
+use Rattle.std.proofs.Common.{◌≡◌, refl, sym, subst, Bool, true, false, List, [], ◌∷◌, arith, inl}
+use Rattle.std.proofs.Common.{inr, ◌⊎◌, ℕ, zero, suc, ap}
+use Rattle.std.specs.Prelude.{Contains, ◌≢◌, bytes_eq, AllPairs, Some, None, slice_get, unwrap_or}
+use Rattle.std.specs.Prelude.{flat_map}
 use Rattle.std.specs.List.{list_all, list_any, position_or_len}
 use Rattle.std.proofs.lemmas.Bool.{cases_Bool}
 use Rattle.std.proofs.lemmas.List.Folds.{list_any_at}

@@ -1,6 +1,9 @@
 -- The entries of lines, how lines are numbered, and what the passes over them say of the text.
-use Rattle.std.proofs.Common.{◌≡◌, ◌<◌, ◌+◌, ◌==◌, ℕ, zero, suc, refl, sym, ap, List, [], ◌∷◌, ◌++◌, length, take, map, arith, get_or, ◌≤◌, ◌∙◌, append-nil, subst, ◌≢◌, false, filter, inl, inr}
-use Rattle.std.specs.Prelude.{Option, Some, None, slice_get, flat_map, bytes_eq, ◌||◌, Contains, AllPairs, option_map}
+use Rattle.std.proofs.Common.{◌≡◌, ◌<◌, ◌+◌, ◌==◌, ℕ, zero, suc, refl, sym, ap, List, [], ◌∷◌, ◌++◌}
+use Rattle.std.proofs.Common.{length, take, map, arith, get_or, ◌≤◌, ◌∙◌, append-nil, subst, ◌≢◌}
+use Rattle.std.proofs.Common.{false, filter, inl, inr}
+use Rattle.std.specs.Prelude.{Option, Some, None, slice_get, flat_map, bytes_eq, ◌||◌, Contains}
+use Rattle.std.specs.Prelude.{AllPairs, option_map}
 use Rattle.std.specs.List.{slice_split, list_any, All, list_all}
 use Rattle.std.specs.Borrow.{Bor}
 use Rattle.std.specs.Str.Lines.{strip_carriage_return}
@@ -12,17 +15,22 @@ use Rattle.bench_net.specs.Statement.{Statement, Name, read, Output, Gate, defin
 use Rattle.bench_net.specs.Reading.{States, statements}
 use Rattle.bench_net.specs.Refusal.{IsLowest, IsSyntaxFault, IsRefused}
 use Rattle.bench_net.specs.reader.Parsed.{stated_of, names_of, stands_for, FailsBy}
-use Rattle.bench_net.specs.reader.Entries.{Entry, numbered_from, AreStated, is_in, names_in, defined_of, IsNextFor, IsNumberedLine, AreNumberedLines, entry_of, entries_of, statements_in, reads_in, read_of, AreWithin, AreFew, ArePast, MayBe}
+use Rattle.bench_net.specs.reader.Entries.{Entry, numbered_from, AreStated, is_in, names_in}
+use Rattle.bench_net.specs.reader.Entries.{defined_of, IsNextFor, IsNumberedLine, AreNumberedLines}
+use Rattle.bench_net.specs.reader.Entries.{entry_of, entries_of, statements_in, reads_in, read_of}
+use Rattle.bench_net.specs.reader.Entries.{AreWithin, AreFew, ArePast, MayBe}
 use Rattle.bench_net.proofs.Reader.{sound_states}
-use Rattle.bench_net.proofs.Answered.{unread_lowest}
-use Rattle.lists.proofs.Members.{Among, contained, mapped_from, joined_from, among_joined, among_right, among}
+use Rattle.bench_net.proofs.OneAnswer.{unread_lowest}
+use Rattle.lists.proofs.Members.{Among, contained, mapped_from, joined_from, among_joined}
+use Rattle.lists.proofs.Members.{among_right, among}
 use Rattle.std.proofs.lemmas.Grind.{common_steps}
 use Rattle.std.proofs.lemmas.List.Concat.{flat_map-append, get_or-flat_map}
 use Rattle.std.proofs.lemmas.List.Folds.{length-flat_map-take, flat_map-map}
 use Rattle.std.proofs.lemmas.List.Elements.{All-append, All-map, All-contains, Contains-get_or}
 use Rattle.bench_net.specs.declared.line.Line.{Line}
 use Rattle.bench_net.specs.declared.number.StatedLine.{StatedLine}
-use Rattle.bench_net.specs.Stored.{name_at, statement_of, statements_of, defined_numbers, read_numbers, numbers, AreStatements, AreRefused, AreLinesOf}
+use Rattle.bench_net.specs.Stored.{name_at, statement_of, statements_of, defined_numbers}
+use Rattle.bench_net.specs.Stored.{read_numbers, numbers, AreStatements, AreRefused, AreLinesOf}
 use Rattle.bench_net.proofs.Names.{defined_few, among_in, some_not}
 use Rattle.std.proofs.lemmas.Bool.{both_ways}
 use Rattle.std.proofs.lemmas.Simd.{map-map}
@@ -34,7 +42,8 @@ use Rattle.text_lines.specs.Lines.{lines}
 use Rattle.bench_net.specs.Scan.{names}
 use Rattle.bench_net.specs.Circuit.{sink_count}
 use Rattle.lists.proofs.Distinct.{Distinct, distinct_from_pairs}
-use Rattle.bench_net.proofs.Faults.{arities_of_text, redefined_lowest, undefined_lowest, cyclic_lowest, no_redefinition, no_undefined}
+use Rattle.bench_net.proofs.FaultyLines.{arities_of_text, redefined_lowest, undefined_lowest}
+use Rattle.bench_net.proofs.FaultyLines.{cyclic_lowest, no_redefinition, no_undefined}
 use Rattle.bench_net.specs.declared.line.Line.TheVariants as line
 use Rattle.bench_net.specs.declared.BenchFault.TheVariants as fault
 

@@ -1,28 +1,34 @@
 -- Each text is accepted or refused, in one way, and a plain program says which.
-use Rattle.std.proofs.Common.{◌≡◌, ◌<◌, ◌≤◌, ℕ, zero, suc, refl, sym, ◌∙◌, subst, Bool, true, false, not, List, [], ◌∷◌, length, take, arith, inl, inr, ◌⊎◌}
-use Rattle.std.specs.Prelude.{◌≢◌, ◌↔◌, option_map, if◌then◌else◌, ◌==◌, nat_lt, Option, Some, None, Result, Ok, Err, slice_get, filter_map, is_none}
+use Rattle.std.proofs.Common.{◌≡◌, ◌<◌, ◌≤◌, ℕ, zero, suc, refl, sym, ◌∙◌, subst, Bool, true, false}
+use Rattle.std.proofs.Common.{not, List, [], ◌∷◌, length, take, arith, inl, inr, ◌⊎◌}
+use Rattle.std.specs.Prelude.{◌≢◌, ◌↔◌, option_map, if◌then◌else◌, ◌==◌, nat_lt, Option, Some, None}
+use Rattle.std.specs.Prelude.{Result, Ok, Err, slice_get, filter_map, is_none}
 use Rattle.std.specs.List.{AllZip, list_any}
 use Rattle.std.proofs.lemmas.List.{nil_from_length}
-use Rattle.std.proofs.lemmas.Bool.{eqb-true, both_ways, cond_both, ltb-true, ltb-false, le-ltb, not-true, true_from_ne_false}
+use Rattle.std.proofs.lemmas.Bool.{eqb-true, both_ways, cond_both, ltb-true, ltb-false, le-ltb}
+use Rattle.std.proofs.lemmas.Bool.{not-true, true_from_ne_false}
 use Rattle.std.proofs.lemmas.Option.{none-some}
 use Rattle.std.proofs.lemmas.Bool.Decides.{nat_tests}
 use Rattle.bench_net.specs.declared.Limit.TheVariants.{Bytes, Signals, Sinks}
 use Rattle.bench_net.specs.declared.BenchFault.{BenchFault}
-use Rattle.bench_net.specs.declared.BenchFault.TheVariants.{TooLarge, Syntax, Redefined, Undefined, Cycle, Empty, Memory}
+use Rattle.bench_net.specs.declared.BenchFault.TheVariants.{TooLarge, Syntax, Redefined, Undefined}
+use Rattle.bench_net.specs.declared.BenchFault.TheVariants.{Cycle, Empty, Memory}
 use Rattle.text_lines.specs.Lines.{lines}
 use Rattle.bench_net.specs.Statement.{Name, Statement, Gate, defined, read}
 use Rattle.bench_net.specs.Scan.{names}
 use Rattle.bench_net.specs.Reading.{States, LinesState, statements}
 use Rattle.bench_net.specs.Circuit.{IsWellFormed, max_bytes, max_signals, max_sinks, sink_count}
-use Rattle.bench_net.specs.Refusal.{at_line, IsLowest, NoLine, IsWithin, IsSyntaxFault, IsRedefinition, IsUndefined, IsCyclic, IsAccepted, IsRefused}
+use Rattle.bench_net.specs.Refusal.{at_line, IsLowest, NoLine, IsWithin, IsSyntaxFault}
+use Rattle.bench_net.specs.Refusal.{IsRedefinition, IsUndefined, IsCyclic, IsAccepted, IsRefused}
 use Rattle.bench_net.specs.reader.Parsed.{stated_of}
 use Rattle.bench_net.specs.reader.Entries.{is_in}
 use Rattle.bench_net.proofs.Reader.{sound_states, complete_states, unstated}
 use Rattle.lists.proofs.Members.{among, contained, some_passes, joined_from}
 use Rattle.lists.proofs.Distinct.{distinct_from_pairs}
 use Rattle.bench_net.proofs.Names.{any_true, in_contained, among_in, pairs_distinct}
-use Rattle.bench_net.proofs.Faults.{Stated, names_of, stated_at, line_among, earlier, no_redefinition, no_undefined, once_each}
-use Rattle.bench_net.proofs.Settled.{stuck_names, stuck_set, stuck_left, none_stuck, numbering}
+use Rattle.bench_net.proofs.FaultyLines.{Stated, names_of, stated_at, line_among, earlier}
+use Rattle.bench_net.proofs.FaultyLines.{no_redefinition, no_undefined, once_each}
+use Rattle.bench_net.proofs.StuckSets.{stuck_names, stuck_set, stuck_left, none_stuck, numbering}
 
 -- ---- the program
 

@@ -1,6 +1,7 @@
 -- Stuck sets: a numbering of names exists exactly where none but the empty one does, and so a
 -- circuit has a source.
-use Rattle.std.proofs.Common.{◌≡◌, ◌<◌, ◌≤◌, ◌+◌, ℕ, zero, suc, ap, refl, cond, Bool, true, false, ◌&&◌, List, [], ◌∷◌, length, filter, arith, inl, inr}
+use Rattle.std.proofs.Common.{◌≡◌, ◌<◌, ◌≤◌, ◌+◌, ℕ, zero, suc, ap, refl, cond, Bool, true, false}
+use Rattle.std.proofs.Common.{◌&&◌, List, [], ◌∷◌, length, filter, arith, inl, inr}
 use Rattle.std.specs.Prelude.{IsTrue, Contains, flat_map, bytes_eq, if◌then◌else◌}
 use Rattle.std.specs.List.{list_all, list_any}
 use Rattle.std.proofs.lemmas.Bool.{false_from_ne_true, and_parts, and_from, cond_both}
@@ -11,10 +12,13 @@ use Rattle.std.proofs.lemmas.Grind.{common_steps}
 use Rattle.bench_net.specs.declared.Kind.{Kind}
 use Rattle.bench_net.specs.Statement.{Name, Statement, Output, Gate, defined, read}
 use Rattle.bench_net.specs.Scan.{names, sources}
-use Rattle.bench_net.specs.Circuit.{HasArgument, IsNumbering, IsStuckSet, IsStuck, IsWellFormed, IsCircuit}
+use Rattle.bench_net.specs.Circuit.{HasArgument, IsNumbering, IsStuckSet, IsStuck, IsWellFormed}
+use Rattle.bench_net.specs.Circuit.{IsCircuit}
 use Rattle.bench_net.specs.reader.Entries.{is_in}
-use Rattle.lists.proofs.Members.{Among, among, contained, among_joined, among_filter, each_passes, some_passes}
-use Rattle.bench_net.proofs.Names.{bytes_refl, same_bytes, any_true, among_in, in_contained, read_named}
+use Rattle.lists.proofs.Members.{Among, among, contained, among_joined, among_filter, each_passes}
+use Rattle.lists.proofs.Members.{some_passes}
+use Rattle.bench_net.proofs.Names.{bytes_refl, same_bytes, any_true, among_in, in_contained}
+use Rattle.bench_net.proofs.Names.{read_named}
 use Rattle.bench_net.proofs.Reader.{some_args}
 
 -- ---- from a numbering to no stuck set

@@ -1,14 +1,19 @@
 -- What a circuit holds: a statement list with tables that answer as its calls do.
-use Rattle.std.specs.Prelude.{◌≡◌, ◌≢◌, ℕ, ◌+◌, ◌<◌, ◌^◌, List, length, map, filter, All, Contains, Option, Some, None, IfSome, IfNone, slice_get, slice_index, slice_index_or}
+use Rattle.std.specs.Prelude.{◌≡◌, ◌≢◌, ℕ, ◌+◌, ◌<◌, ◌^◌, List, length, map, filter, All, Contains}
+use Rattle.std.specs.Prelude.{Option, Some, None, IfSome, IfNone, slice_get, slice_index}
+use Rattle.std.specs.Prelude.{slice_index_or}
 use Rattle.std.specs.List.{filter_map}
 use Rattle.bench_net.specs.declared.line.Line.{Line}
 use Rattle.bench_net.specs.declared.tables.Tables.{Tables}
 use Rattle.bench_net.specs.Statement.{Name, Statement}
-use Rattle.bench_net.specs.Scan.{names, signal, name_of, gate_of, inputs, outputs, cells, sources, sinks}
+use Rattle.bench_net.specs.Scan.{names, signal, name_of, gate_of, inputs, outputs, cells, sources}
+use Rattle.bench_net.specs.Scan.{sinks}
 use Rattle.bench_net.specs.Circuit.{IsCircuit}
 use Rattle.bench_net.specs.Level.{greatest, HasLevel, HasDepth, IsLevelOrder}
 use Rattle.bench_net.specs.Rows.{AreRows}
-use Rattle.bench_net.specs.Tables.{PinsFit, signal_read, input_number, cell_numbers, output_number, source_signals, ArePlaces, definition_places, defines_number, line_gate, gate_pins, all_readers, AreSinkRows, HasRow, row_of}
+use Rattle.bench_net.specs.Tables.{PinsFit, signal_read, input_number, cell_numbers, output_number}
+use Rattle.bench_net.specs.Tables.{source_signals, ArePlaces, definition_places, defines_number}
+use Rattle.bench_net.specs.Tables.{line_gate, gate_pins, all_readers, AreSinkRows, HasRow, row_of}
 use Rattle.bench_net.specs.Marks.{IsGraph, AreLevelsOf}
 
 -- how many signals lines define

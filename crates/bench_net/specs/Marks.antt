@@ -1,5 +1,7 @@
 -- Levels of gates by the numbers of their signals, and a search for them.
-use Rattle.std.specs.Prelude.{◌≡◌, ℕ, ◌+◌, ◌-◌, ◌*◌, ◌<◌, ◌≤◌, ◌^◌, List, [], ◌∷◌, map, take, length, max, count_by, sum_by, Some, slice_get, slice_index, Bool, true, false}
+use Rattle.std.specs.Prelude.{◌≡◌, ℕ, ◌+◌, ◌-◌, ◌*◌, ◌<◌, ◌≤◌, ◌^◌, List, [], ◌∷◌, map, take}
+use Rattle.std.specs.Prelude.{length, max, count_by, sum_by, Some, slice_get, slice_index, Bool}
+use Rattle.std.specs.Prelude.{true, false}
 use Rattle.lists.proofs.Members.{Among}
 use Rattle.bench_net.specs.declared.line.Line.{Line}
 use Rattle.bench_net.specs.declared.levels.Mark.{Mark}

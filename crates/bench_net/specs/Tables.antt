@@ -1,5 +1,7 @@
 -- Tables of stored lines, by the numbers that the lines hold.
-use Rattle.std.specs.Prelude.{◌≡◌, ◌≢◌, ℕ, ◌+◌, ◌<◌, ◌≤◌, ◌^◌, ◌==◌, Bool, List, [], ◌∷◌, ◌++◌, map, filter, length, Option, Some, None, true, false, if◌then◌else◌, slice_get, slice_index, slice_index_or, slice_range}
+use Rattle.std.specs.Prelude.{◌≡◌, ◌≢◌, ℕ, ◌+◌, ◌<◌, ◌≤◌, ◌^◌, ◌==◌, Bool, List, [], ◌∷◌, ◌++◌, map}
+use Rattle.std.specs.Prelude.{filter, length, Option, Some, None, true, false, if◌then◌else◌}
+use Rattle.std.specs.Prelude.{slice_get, slice_index, slice_index_or, slice_range}
 use Rattle.std.specs.List.{enumerate_from, filter_map}
 use Rattle.bench_net.specs.declared.Kind.{Kind}
 use Rattle.bench_net.specs.declared.line.Line.{Line}

@@ -1,8 +1,10 @@
 //! A circuit: the statement list of a bench text, with its tables.
 
-ghost use Rattle.std.specs.Prelude.{◌≡◌, ◌≢◌, ◌<◌, ◌≤◌, ℕ, List, length, map, option_map, slice_get, string_bytes, IfOk, IfErr, IfSome, IfNone, ◌⊎◌};
+ghost use Rattle.std.specs.Prelude.{◌≡◌, ◌≢◌, ◌<◌, ◌≤◌, ℕ, List, length, map, option_map};
+ghost use Rattle.std.specs.Prelude.{slice_get, string_bytes, IfOk, IfErr, IfSome, IfNone, ◌⊎◌};
 ghost use Rattle.bench_net.specs.declared.Kind.{Kind};
-ghost use Rattle.bench_net.specs.Scan.{names, signal, name_of, gate_of, inputs, outputs, cells, sources, sinks};
+ghost use Rattle.bench_net.specs.Scan.{names, signal, name_of, gate_of, inputs, outputs, cells};
+ghost use Rattle.bench_net.specs.Scan.{sources, sinks};
 ghost use Rattle.bench_net.specs.Circuit.{IsCircuit};
 ghost use Rattle.bench_net.specs.Level.{HasLevel, HasDepth, IsLevelOrder};
 ghost use Rattle.bench_net.specs.Stored.{statements_of, AreStatements, AreRefused};

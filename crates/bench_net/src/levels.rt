@@ -1,10 +1,15 @@
 //! The levels of signals, or a gate that has none: on a cycle of gates or fed by one.
+//!
+//! They are found along a path of open gates, without recursion, since a circuit may be as deep as
+//! it has gates.
 
-ghost use Rattle.std.specs.Prelude.{◌≡◌, ◌+◌, ◌<◌, ◌≤◌, ℕ, List, length, map, reverse, slice_get, slice_index, [], ◌∷◌, Some, IfOk, IfErr, OnOk};
+ghost use Rattle.std.specs.Prelude.{◌≡◌, ◌+◌, ◌<◌, ◌≤◌, ℕ, List, length, map, reverse, slice_get};
+ghost use Rattle.std.specs.Prelude.{slice_index, [], ◌∷◌, Some, IfOk, IfErr, OnOk};
 ghost use Rattle.bench_net.specs.Level.{greatest};
 ghost use Rattle.bench_net.specs.Rows.{AreRows};
 ghost use Rattle.bench_net.specs.Tables.{line_gate};
-ghost use Rattle.bench_net.specs.Marks.{pins_in, gate_pins, IsGraph, AreLevelsOf, IsLevelFault, HaveLevelsBelow, IsSearch, steps, level_in};
+ghost use Rattle.bench_net.specs.Marks.{pins_in, gate_pins, IsGraph, AreLevelsOf, IsLevelFault};
+ghost use Rattle.bench_net.specs.Marks.{HaveLevelsBelow, IsSearch, steps, level_in};
 
 use crate::BenchFault;
 use crate::line::{Line, line_of};

@@ -4,7 +4,9 @@ ghost use Rattle.std.specs.Prelude.{◌≡◌, List, ◌∷◌, length, option_m
 ghost use Rattle.std.specs.Str.{str_eq_ignore_ascii_case};
 ghost use Rattle.bench_net.specs.Text.{Word, Equals};
 ghost use Rattle.bench_net.specs.Statement.{Name};
-ghost use Rattle.bench_net.specs.reader.Parsed.{tokens_of, kind_of, has_arity, port, driven_by, read_tokens, stated_of, names_of, stands_for, args_in, IsReadAs};
+ghost use Rattle.bench_net.specs.reader.Parsed.{tokens_of, kind_of, has_arity, port, driven_by};
+ghost use Rattle.bench_net.specs.reader.Parsed.{read_tokens, stated_of, names_of, stands_for};
+ghost use Rattle.bench_net.specs.reader.Parsed.{args_in, IsReadAs};
 
 use crate::tokens::{Front, next_token};
 use crate::{BenchFault, Kind};

@@ -2,7 +2,8 @@
 
 ghost use Rattle.std.specs.Prelude.{◌≡◌, ◌^◌, ◌++◌, ◌<◌, map, length, All, IfOk, IfErr};
 ghost use Rattle.std.specs.List.{filter_map};
-ghost use Rattle.bench_net.specs.Tables.{input_number, output_number, cell_numbers, defines_number, definition_places, gate_pins, ArePlaces};
+ghost use Rattle.bench_net.specs.Tables.{input_number, output_number, cell_numbers, defines_number};
+ghost use Rattle.bench_net.specs.Tables.{definition_places, gate_pins, ArePlaces};
 ghost use Rattle.bench_net.specs.Marks.{IsLevelFault};
 ghost use Rattle.bench_net.specs.Inside.{signals_in, AreTableLines, AreTables};
 

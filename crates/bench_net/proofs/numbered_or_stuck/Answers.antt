@@ -1,4 +1,4 @@
-use Rattle.bench_net.proofs.Settled.{none_stuck, numbering}
+use Rattle.bench_net.proofs.StuckSets.{none_stuck, numbering}
 use Rattle.bench_net.proofs.numbered_or_stuck.Goals as goal
 
 pub returns : goal.returns

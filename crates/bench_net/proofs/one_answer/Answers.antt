@@ -1,6 +1,6 @@
 use Rattle.std.proofs.Common.{◌≡◌}
 use Rattle.std.specs.Prelude.{Ok, Err}
-use Rattle.bench_net.proofs.Answered.{some_answer, one_answer}
+use Rattle.bench_net.proofs.OneAnswer.{some_answer, one_answer}
 use Rattle.bench_net.proofs.one_answer.Goals as goal
 
 pub returns-clause-some : goal.returns-clause-some

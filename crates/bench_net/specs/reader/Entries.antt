@@ -1,6 +1,7 @@
 -- The statements of a text, each with the number of its line, and the stored lines that stand for
 -- them.
-use Rattle.std.specs.Prelude.{◌≡◌, ◌⊎◌, ◌<◌, ◌≤◌, ℕ, suc, Bool, length, List, [], ◌∷◌, map, flat_map}
+use Rattle.std.specs.Prelude.{◌≡◌, ◌⊎◌, ◌<◌, ◌≤◌, ℕ, suc, Bool, length, List, [], ◌∷◌, map}
+use Rattle.std.specs.Prelude.{flat_map}
 use Rattle.std.specs.Prelude.{Option, Some, None, bytes_eq}
 use Rattle.std.specs.List.{All, AllZip, list_any}
 use Rattle.bench_net.specs.declared.BenchFault.{BenchFault}

@@ -1,10 +1,11 @@
 use Rattle.std.proofs.lemmas.Result.{err_from_is_err_and}
-use Rattle.std.proofs.Common.{◌∙◌, sym, ◌≡◌, ◌∙◌, List, arith, ap, refl, [], length, map, string_bytes}
+use Rattle.std.proofs.Common.{◌∙◌, sym, ◌≡◌, ◌∙◌, List, arith, ap, refl, [], length, map}
+use Rattle.std.proofs.Common.{string_bytes}
 use Rattle.std.specs.Prelude.{false, ◌==◌, vec_len}
 use Rattle.std.proofs.lemmas.Bool.{false≢true, eq-eqb}
 use Rattle.bench_net.specs.declared.read.Lines.{Lines}
 use Rattle.bench_net.specs.Statement.{Name}
-use Rattle.bench_net.proofs.Accepted.{table_lines, count, circuit, inside, refused}
+use Rattle.bench_net.proofs.CircuitTables.{table_lines, count, circuit, inside, refused}
 use Rattle.bench_net.proofs.circuit.circuit_of.Goals as goal
 
 abbrev ns_of : Lines → List Name

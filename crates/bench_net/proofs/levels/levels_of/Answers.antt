@@ -1,7 +1,7 @@
 use Rattle.std.proofs.Common.{◌≡◌, arith, rules}
 use Rattle.std.proofs.lemmas.List.{get_or_default}
 use Rattle.bench_net.specs.Level.{greatest}
-use Rattle.bench_net.proofs.Marking.{greatest-at}
+use Rattle.bench_net.proofs.LevelSearch.{greatest-at}
 use Rattle.bench_net.proofs.levels.levels_of.Goals as goal
 
 pub rows_of-requires-clause-below : goal.rows_of-requires-clause-below

@@ -1,6 +1,6 @@
 use Rattle.std.proofs.Common.{◌≡◌, arith, length, map, rules}
 use Rattle.bench_net.specs.Marks.{level_in}
-use Rattle.bench_net.proofs.Marking.{settled}
+use Rattle.bench_net.proofs.LevelSearch.{settled}
 use Rattle.bench_net.proofs.levels.signal_levels.Goals as goal
 
 pub returns-clause-levels : goal.returns-clause-levels

@@ -1,6 +1,6 @@
 use Rattle.std.proofs.Common.{◌∙◌, arith, refl, sym}
 use Rattle.std.proofs.lemmas.Option.{slice_get_read}
-use Rattle.bench_net.proofs.Listed.{line_at}
+use Rattle.bench_net.proofs.LineTables.{line_at}
 use Rattle.bench_net.proofs.line.line_of.Goals as goal
 
 pub offset_bounds-lines-place : goal.offset_bounds-lines-place

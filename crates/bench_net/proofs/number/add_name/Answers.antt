@@ -1,5 +1,5 @@
 use Rattle.std.proofs.Common.{◌∙◌, ap, not}
-use Rattle.bench_net.proofs.Assembled.{key_in}
+use Rattle.bench_net.proofs.NumberedLines.{key_in}
 use Rattle.bench_net.proofs.number.add_name.Goals as goal
 
 pub returns-clause-added : goal.returns-clause-added

@@ -4,7 +4,8 @@ use Rattle.std.proofs.lemmas.Result.{err_from_is_err_and}
 use Rattle.bench_net.specs.declared.BenchFault.TheVariants.{Undefined}
 use Rattle.bench_net.specs.reader.Parsed.{names_of}
 use Rattle.bench_net.specs.reader.Entries.{defined_of}
-use Rattle.bench_net.proofs.Assembled.{may_be, undefined, next_for, numbered_more, names_fit, names_more}
+use Rattle.bench_net.proofs.NumberedLines.{may_be, undefined, next_for, numbered_more, names_fit}
+use Rattle.bench_net.proofs.NumberedLines.{names_more}
 use Rattle.bench_net.proofs.number.number_lines.Goals as goal
 
 pub number_line-requires-clause-own : goal.number_line-requires-clause-own

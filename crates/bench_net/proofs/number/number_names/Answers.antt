@@ -1,4 +1,5 @@
-use Rattle.std.proofs.Common.{◌≡◌, ◌≢◌, ◌∙◌, ◌∷◌, [], ap, subst, sym, inl, inr, refl, arith, option_map}
+use Rattle.std.proofs.Common.{◌≡◌, ◌≢◌, ◌∙◌, ◌∷◌, [], ap, subst, sym, inl, inr, refl, arith}
+use Rattle.std.proofs.Common.{option_map}
 use Rattle.std.specs.Prelude.{AllPairs}
 use Rattle.std.specs.Option.{option_to_list}
 use Rattle.std.proofs.lemmas.List.{take_all}
@@ -7,7 +8,7 @@ use Rattle.lists.proofs.Members.{among}
 use Rattle.lists.proofs.Distinct.{distinct_append}
 use Rattle.bench_net.specs.reader.Parsed.{names_of}
 use Rattle.bench_net.specs.reader.Entries.{names_in, defined_of}
-use Rattle.bench_net.proofs.Assembled.{redefined, names_more}
+use Rattle.bench_net.proofs.NumberedLines.{redefined, names_more}
 use Rattle.bench_net.proofs.Names.{in_contained, among_in, pairs_distinct}
 use Rattle.bench_net.proofs.number.number_names.Goals as goal
 

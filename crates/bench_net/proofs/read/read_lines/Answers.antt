@@ -2,7 +2,7 @@ use Rattle.std.proofs.Common.{inr, arith}
 use Rattle.std.proofs.lemmas.Result.{err_from_is_err_and}
 use Rattle.bench_net.specs.reader.Parsed.{names_of}
 use Rattle.bench_net.specs.reader.Entries.{AreWithin}
-use Rattle.bench_net.proofs.Assembled.{past, within, assembled}
+use Rattle.bench_net.proofs.NumberedLines.{past, within, assembled}
 use Rattle.bench_net.proofs.read.read_lines.Goals as goal
 use Rattle.bench_net.proofs.read.read_lines.Goals.{After-number_names}
 

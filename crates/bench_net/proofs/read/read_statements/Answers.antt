@@ -7,19 +7,21 @@ use Rattle.std.proofs.lemmas.Result.{err_from_is_err_and}
 use Rattle.std.specs.Str.Lines.{strip_carriage_return}
 use borrow.Author.Tests.{tests}
 use Rattle.bench_net.specs.reader.Entries.{entry_of}
-use Rattle.bench_net.proofs.Assembled.{given_more, refused_line, may_be}
+use Rattle.bench_net.proofs.NumberedLines.{given_more, refused_line, may_be}
 use Rattle.bench_net.specs.declared.BenchFault.TheVariants.{Syntax}
 use Rattle.bench_net.proofs.read.read_statements.Goals as goal
 
 pub loop-line-preserved : goal.loop-line-preserved
 loop-line-preserved c =
-    let read = rw (c.without_carriage_return.ensures, c.in_default.is) at c.in_ok-statement.ensures in
+    let read =
+    rw (c.without_carriage_return.ensures, c.in_default.is) at c.in_ok-statement.ensures in
     let more = given_more c.loop-line.yielded c.in-Some.line c.loop-line.invariant.1 read in
     (grind (arith, common_steps), rw append-nil at more)
 
 pub loop-line-preserved-in-Continue-branch-3 : goal.loop-line-preserved-in-Continue-branch-3
 loop-line-preserved-in-Continue-branch-3 c =
-    let read = rw (c.without_carriage_return.ensures, c.in-Some-2.is) at c.in_ok-statement.ensures in
+    let read =
+    rw (c.without_carriage_return.ensures, c.in-Some-2.is) at c.in_ok-statement.ensures in
     let more = given_more c.loop-line.yielded c.in-Some.line c.loop-line.invariant.1 read in
     let items = c.in_ok-push.ensures.items in
     (grind (arith, common_steps), rw (items, c.loop-line.invariant.0, map_push entry_of) more)

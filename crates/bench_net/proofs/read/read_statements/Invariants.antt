@@ -1,6 +1,6 @@
 use Rattle.std.proofs.Common.{◌≡◌, length}
 use Rattle.bench_net.specs.reader.Entries.{entries_of, AreStated}
-use Rattle.bench_net.proofs.Assembled.{given}
+use Rattle.bench_net.proofs.NumberedLines.{given}
 use Rattle.bench_net.proofs.read.read_statements.Given as goal
 
 abbrev pub invariant-loop-line : goal.invariant-loop-line

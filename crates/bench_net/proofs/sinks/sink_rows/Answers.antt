@@ -1,6 +1,6 @@
 use Rattle.std.proofs.Common.{arith, length}
 use Rattle.std.proofs.lemmas.List.{length-map}
-use Rattle.bench_net.proofs.Grouped.{sink_rows_are, places_below}
+use Rattle.bench_net.proofs.KeyRows.{sink_rows_are, places_below}
 use Rattle.bench_net.proofs.sinks.sink_rows.Goals as goal
 
 pub rows_of-requires-clause-below : goal.rows_of-requires-clause-below

@@ -1,6 +1,6 @@
 use Rattle.std.proofs.Common.{◌≡◌, length}
 use Rattle.std.proofs.Common.{arith}
-use Rattle.bench_net.proofs.Listed.{places_more}
+use Rattle.bench_net.proofs.LineTables.{places_more}
 use Rattle.bench_net.proofs.tables.source_places.Goals as goal
 
 pub loop-place-preserved : goal.loop-place-preserved

@@ -1,6 +1,6 @@
 use Rattle.std.proofs.Common.{◌<◌, arith}
 use Rattle.bench_net.specs.Text.{is_word_byte}
-use Rattle.bench_net.proofs.Faults.{word_utf8}
+use Rattle.bench_net.proofs.FaultyLines.{word_utf8}
 use Rattle.bench_net.proofs.Reader.{parted, word_leads}
 use Rattle.bench_net.proofs.tokens.token_at.Goals as goal
 

@@ -1,7 +1,7 @@
 use Rattle.std.proofs.Common.{arith, ap, length}
 use Rattle.bench_net.specs.Scan.{names, sources}
-use Rattle.bench_net.proofs.Accepted.{few_sources}
-use Rattle.bench_net.proofs.Settled.{some_source}
+use Rattle.bench_net.proofs.CircuitTables.{few_sources}
+use Rattle.bench_net.proofs.StuckSets.{some_source}
 use Rattle.bench_net.proofs.circuit.Circuit.sources.Goals as goal
 
 pub overflow_cast-result : goal.overflow_cast-result

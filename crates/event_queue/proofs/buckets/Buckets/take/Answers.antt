@@ -1,10 +1,11 @@
-use Rattle.std.proofs.Common.{◌≡◌, ◌≢◌, ◌<◌, ◌-◌, ◌+◌, refl, ap, arith, length, sym, subst, ◌∙◌}
+use Rattle.std.proofs.Common.{◌≡◌, ◌<◌, ◌-◌, ◌+◌, refl, ap, arith, length, sym, subst}
 use Rattle.std.specs.Prelude.{slice_index_or, slice_set}
 use Rattle.std.proofs.lemmas.List.{get_or_read}
 use Rattle.event_queue.specs.Buckets.{AreBuckets}
 use Rattle.event_queue.proofs.Chains.{first_within, first_waits, some_wait, buckets_less}
 use Rattle.event_queue.proofs.Chains.{none_waits}
 use Rattle.event_queue.proofs.buckets.Buckets.take.Goals as goal
+use Rattle.event_queue.proofs.buckets.Buckets.take.Goals.{Else-head-eq0}
 
 pub returns-then-head-eq0-clause-none : goal.returns-then-head-eq0-clause-none
 returns-then-head-eq0-clause-none c =
@@ -19,14 +20,23 @@ returns-then-head-eq0-clause-none c =
           c.self.inside.waiting c.args.level c.self.invariant low empty gate),
     )
 
+-- the level is one of those that there are
+low_level : (c : Else-head-eq0) → c.args.level < length c.self.inside.heads.items
+low_level c = subst (λ w. c.args.level < w.levels) (sym c.self.view_is) c.requires
+
+-- the chain of the level begins with the gate that is taken
+first_gate : (c : Else-head-eq0)
+    → slice_index_or c.self.inside.heads.items c.args.level 0 ≡ (c.index-head.result.now - 1) + 1
+first_gate c =
+    let e = get_or_read c.self.inside.heads.items c.args.level c.index-head.result.now (low_level c)
+    c.index-head.ensures 0 in
+    omega (arith, e, c.if-head-eq0.false)
+
 pub index-next-requires : goal.index-next-requires
 index-next-requires c =
-    let low : c.args.level < length c.self.inside.heads.items =
-    subst (λ w. c.args.level < w.levels) (sym c.self.view_is) c.requires in
-    let head : slice_index_or c.self.inside.heads.items c.args.level 0
-    ≡ (c.index-head.result.now - 1) + 1 =
-    (let e = get_or_read c.self.inside.heads.items c.args.level c.index-head.result.now low
-    c.index-head.ensures 0 in omega (arith, e, c.if-head-eq0.false)) in
+    let at = (goal.at.index-next-requires c).Else-head-eq0 in
+    let low = low_level at in
+    let head = first_gate at in
     let lt = first_within c.self.inside.at.items c.self.inside.next.items
     c.self.inside.heads.items c.self.inside.waiting
     (c.index-head.result.now - 1) c.args.level c.self.invariant low head in
@@ -34,12 +44,9 @@ index-next-requires c =
 
 pub index_mut-requires-2 : goal.index_mut-requires-2
 index_mut-requires-2 c =
-    let low : c.args.level < length c.self.inside.heads.items =
-    subst (λ w. c.args.level < w.levels) (sym c.self.view_is) c.requires in
-    let head : slice_index_or c.self.inside.heads.items c.args.level 0
-    ≡ (c.index-head.result.now - 1) + 1 =
-    (let e = get_or_read c.self.inside.heads.items c.args.level c.index-head.result.now low
-    c.index-head.ensures 0 in omega (arith, e, c.if-head-eq0.false)) in
+    let at = (goal.at.index_mut-requires-2 c).Else-head-eq0 in
+    let low = low_level at in
+    let head = first_gate at in
     let lt = first_within c.self.inside.at.items c.self.inside.next.items
     c.self.inside.heads.items c.self.inside.waiting
     (c.index-head.result.now - 1) c.args.level c.self.invariant low head in
@@ -47,12 +54,9 @@ index_mut-requires-2 c =
 
 pub overflow_sub-self : goal.overflow_sub-self
 overflow_sub-self c =
-    let low : c.args.level < length c.self.inside.heads.items =
-    subst (λ w. c.args.level < w.levels) (sym c.self.view_is) c.requires in
-    let head : slice_index_or c.self.inside.heads.items c.args.level 0
-    ≡ (c.index-head.result.now - 1) + 1 =
-    (let e = get_or_read c.self.inside.heads.items c.args.level c.index-head.result.now low
-    c.index-head.ensures 0 in omega (arith, e, c.if-head-eq0.false)) in
+    let at = (goal.at.overflow_sub-self c).Else-head-eq0 in
+    let low = low_level at in
+    let head = first_gate at in
     let some = some_wait c.self.inside.at.items c.self.inside.next.items
     c.self.inside.heads.items c.self.inside.waiting
     (c.index-head.result.now - 1) c.args.level c.self.invariant low head in
@@ -60,12 +64,9 @@ overflow_sub-self c =
 
 pub invariant_of-self : goal.invariant_of-self
 invariant_of-self c =
-    let low : c.args.level < length c.self.inside.heads.items =
-    subst (λ w. c.args.level < w.levels) (sym c.self.view_is) c.requires in
-    let head : slice_index_or c.self.inside.heads.items c.args.level 0
-    ≡ (c.index-head.result.now - 1) + 1 =
-    (let e = get_or_read c.self.inside.heads.items c.args.level c.index-head.result.now low
-    c.index-head.ensures 0 in omega (arith, e, c.if-head-eq0.false)) in
+    let at = (goal.at.invariant_of-self c).Else-head-eq0 in
+    let low = low_level at in
+    let head = first_gate at in
     subst (λ h. AreBuckets
     (slice_set c.self.inside.at.items (c.index-head.result.now - 1) 0) c.self.inside.next.items
     (slice_set c.self.inside.heads.items c.args.level h) (c.self.inside.waiting - 1))
@@ -79,12 +80,9 @@ invariant_of-self c =
 
 pub returns-clause-some : goal.returns-clause-some
 returns-clause-some c =
-    let low : c.args.level < length c.self.inside.heads.items =
-    subst (λ w. c.args.level < w.levels) (sym c.self.view_is) c.requires in
-    let head : slice_index_or c.self.inside.heads.items c.args.level 0
-    ≡ (c.index-head.result.now - 1) + 1 =
-    (let e = get_or_read c.self.inside.heads.items c.args.level c.index-head.result.now low
-    c.index-head.ensures 0 in omega (arith, e, c.if-head-eq0.false)) in
+    let at = (goal.at.returns-clause-some c).Else-head-eq0 in
+    let low = low_level at in
+    let head = first_gate at in
     let lt = first_within c.self.inside.at.items c.self.inside.next.items
     c.self.inside.heads.items c.self.inside.waiting
     (c.index-head.result.now - 1) c.args.level c.self.invariant low head in
