@@ -1,4 +1,4 @@
-//! Fault lists and classes of circuits, under both models.
+//! Fault lists and classes of circuits, under all models.
 
 ghost use Rattle.std.specs.Prelude.{◌≡◌};
 ghost use Rattle.fault_model.specs.Fault.{faults};
@@ -306,18 +306,13 @@ fn check_model(
     check_classes(rt, alloc, circuit, &faults, want, case.name)
 }
 
-/// The faults of the case under both models are in its classes.
+/// The faults of the case under all models are in its classes.
 fn check_case(rt: &impl Abort, alloc: Global, case: &Case) -> Result<(), Fail> {
     let circuit = read_bench(alloc, case.text)?;
     check_model(rt, alloc, &circuit, case, Model::StuckAt, &case.stuck_at)?;
-    check_model(
-        rt,
-        alloc,
-        &circuit,
-        case,
-        Model::Transition,
-        &case.transition,
-    )?;
+    for model in [Model::Transition, Model::TransitionPairs] {
+        check_model(rt, alloc, &circuit, case, model, &case.transition)?;
+    }
     Ok(())
 }
 

@@ -135,16 +135,28 @@ static FAULTS_CHOICES: [Choice; 2] = [Choice::Bench, Choice::Model];
 static MERGE_CHOICES: [Choice; 3] = [Choice::List, Choice::Undetected, Choice::PartTexts];
 
 /// The fault models by their names on the command line.
-static MODELS: [&str; 2] = ["stuck", "transition"];
+static MODELS: [&str; 3] = ["stuck", "transition", "transition-pairs"];
 
 /// The model of a name among [`MODELS`].
 pub(crate) fn model_named(name: &str) -> Option<Model> {
     match name {
         "stuck" => Some(Model::StuckAt),
         "transition" => Some(Model::Transition),
+        "transition-pairs" => Some(Model::TransitionPairs),
         _ => None,
     }
 }
+
+/// What is said of the models in the long help.
+const ABOUT_MODELS: &str = "\
+Which faults, and which tests look for them:
+stuck             a line is stuck at 0 or at 1; each test detects by itself
+transition        a line is slow to rise or slow to fall; each test but the first is the second
+                  of a pair with the test before it
+transition-pairs  the same faults under a list of launch and capture pairs: tests 0 and 1 are a
+                  pair, 2 and 3, and so on, and only the second of a pair detects
+A list of launch and capture pairs wants transition-pairs: with transition the coverage comes out
+too high, since tests 1 and 2 count as a pair, too.";
 
 /// What is said of the files after the options.
 const FILES: &str = "Each FILE is read whole. /dev/stdin serves as a file, too.";
@@ -294,6 +306,7 @@ fn model_option<'a>(alloc: Global) -> Arg<'a> {
         .value_parser(MODELS.as_slice())
         .default_value("stuck")
         .help("Which faults: stuck-at, or slow to rise and slow to fall")
+        .long_help(ABOUT_MODELS)
 }
 
 /// The option `--workers N`, with its help.

@@ -2,6 +2,7 @@
 
 use crate::cases::{CASES, Case, MORE_CASES, REFUSED_CASES, TRANSITION_CASES};
 use crate::daily::{CONTENTS_CASES, CURVE_CASES};
+use crate::pairs::PAIR_CASES;
 use crate::screen::{Answer, Screen, Texts, Wanted, answers, run_on};
 use crate::words::{HELP, MISSING, MISUSED};
 use std::alloc::AllocError;
@@ -92,6 +93,11 @@ fn more_cases_come_out(rt: HostRuntime) -> Result<(), Fail> {
 #[test]
 fn transition_cases_come_out(rt: HostRuntime) -> Result<(), Fail> {
     Ok(check_cases(&rt, &TRANSITION_CASES)?)
+}
+
+#[test]
+fn pair_cases_come_out(rt: HostRuntime) -> Result<(), Fail> {
+    Ok(check_cases(&rt, &PAIR_CASES)?)
 }
 
 #[test]

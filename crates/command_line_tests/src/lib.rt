@@ -14,6 +14,8 @@ mod merges;
 #[cfg(test)]
 mod outputs;
 #[cfg(test)]
+mod pairs;
+#[cfg(test)]
 mod parts;
 #[cfg(test)]
 mod process;

@@ -24,8 +24,8 @@ impl Source for Named<'_> {
 }
 
 /// Part texts of two faults. Both parts of one run are `first` and `second`; each other is of part
-/// 2, but for `cut`, `empty` and `bad`, and its name tells what is wrong with it.
-static FILES: [(&str, &str); 12] = [
+/// 2, but for `cut`, `row`, `empty` and `bad`, and its name tells what is wrong with it.
+static FILES: [(&str, &str); 14] = [
     (
         "first",
         "\
@@ -52,6 +52,14 @@ static FILES: [(&str, &str); 12] = [
     (
         "model",
         "part 2 of 2 model transition rule region bench b tests t\npart 2 of 2: 0 of 0\n",
+    ),
+    (
+        "row",
+        "part 1 of 2 model transition rule region bench b tests t\npart 1 of 2: 0 of 0\n",
+    ),
+    (
+        "pairs",
+        "part 2 of 2 model transition-pairs rule region bench b tests t\npart 2 of 2: 0 of 0\n",
     ),
     (
         "rule",
@@ -99,10 +107,11 @@ static FILES: [(&str, &str); 12] = [
 ];
 
 /// Merges that are refused: the files after `first` or in place of it, the words and the status.
-static REFUSED: [(&str, &str, u8); 14] = [
+static REFUSED: [(&str, &str, u8); 15] = [
     ("first bad", "faultsim: bad: line 1: not a part text\n", 1),
     ("cut second", "faultsim: cut: cut off\n", 1),
     ("first model", "faultsim: model: of another model\n", 1),
+    ("row pairs", "faultsim: pairs: of another model\n", 1),
     ("first rule", "faultsim: rule: of another rule\n", 1),
     ("first inputs", "faultsim: inputs: of other inputs\n", 1),
     (

@@ -37,6 +37,35 @@ fn text_of_one_part_comes(rt: HostRuntime) -> Result<(), Fail> {
     Ok(())
 }
 
+/// The part text of the one part of a buffer under a pair. The sums are those of `sha256sum`.
+const PAIR_PART: &str = "\
+    part 1 of 1 model transition-pairs rule region \
+    bench dadfe99a35e42a5e6328afad078dcfd2990725814c7801000cc80af3843e0f15 \
+    tests 82c1315e6c757f33c4a77ca58b2a184f5a88614470c05ec77f3d28918db6b8ae\n\
+    stem a str 1\n\
+    stem a stf none\n\
+    stem z str 1\n\
+    stem z stf none\n\
+    part 1 of 1: 2 of 4\n\
+    ";
+
+#[test]
+fn text_of_a_part_under_pairs_comes(rt: HostRuntime) -> Result<(), Fail> {
+    let files = Texts {
+        bench: BUFFER,
+        tests: "0\n1\n",
+        order: "",
+    };
+    let wanted = Wanted {
+        stdout: PAIR_PART,
+        stderr: "",
+        status: 0,
+    };
+    let line = "faultsim run --bench bench --tests tests --model transition-pairs --part 1/1";
+    assert!(rt; answers(&rt, line, files, wanted)?);
+    Ok(())
+}
+
 /// Tests of C17, of which none detects all faults.
 const C17_TESTS: Texts<'static> = Texts {
     bench: C17,

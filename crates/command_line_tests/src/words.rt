@@ -44,7 +44,7 @@ pub static MISUSED: [(&str, &str); 33] = [
     ("faultsim faults --bench bench --model delay", "delay"),
     (
         "faultsim run --bench bench --tests tests --model delay",
-        "stuck, transition",
+        "stuck, transition, transition-pairs",
     ),
     (
         "faultsim schedule --bench bench --tests tests --order order --model delay",
@@ -119,7 +119,7 @@ pub static MISUSED: [(&str, &str); 33] = [
 /// What help tells: the version, each option with the name of its value, the defaults, the range of
 /// the workers, a worked example and the status. The outputs of the examples are cases of their
 /// own.
-pub static HELP: [(&str, &str); 27] = [
+pub static HELP: [(&str, &str); 28] = [
     ("faultsim --version", "faultsim 0.2.0\n"),
     ("faultsim --help", "6 of 6 (100.00%)"),
     ("faultsim help run", "--bench <FILE>"),
@@ -127,7 +127,8 @@ pub static HELP: [(&str, &str); 27] = [
     ("faultsim run --help", "--tests <FILE>"),
     ("faultsim run --help", "--model <MODEL>"),
     ("faultsim run --help", "[default: stuck]"),
-    ("faultsim run --help", "stuck, transition"),
+    ("faultsim run --help", "stuck, transition, transition-pairs"),
+    ("faultsim run --help", "pairs wants transition-pairs"),
     ("faultsim run --help", "--workers <N>"),
     ("faultsim run --help", "1 to 64"),
     ("faultsim run --help", "[default: 4]"),

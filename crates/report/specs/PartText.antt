@@ -2,7 +2,7 @@
 use Rattle.std.specs.Prelude.{◌≡◌, ℕ, ◌+◌, Bool, true, false, List, ◌++◌, map, zip, flat_map, count_by, is_some, codes, decimal}
 use Rattle.bench_net.specs.Statement.{Statement}
 use Rattle.fault_model.specs.declared.Model.{Model}
-use Rattle.fault_model.specs.declared.Model.TheVariants.{StuckAt, Transition}
+use Rattle.fault_model.specs.declared.Model.TheVariants.{StuckAt, Transition, TransitionPairs}
 use Rattle.fault_model.specs.Fault.{Fault, faults}
 use Rattle.block_sim.specs.Parts.{Parts}
 use Rattle.workers.specs.declared.parts.PartVerdict.{PartVerdict}
@@ -77,6 +77,7 @@ said_by h = record {
 abbrev pub model_name : Model → List ℕ
 model_name StuckAt = codes "stuck"
 model_name Transition = codes "transition"
+model_name TransitionPairs = codes "transition-pairs"
 
 -- the name of the rule that `part_of` is
 abbrev pub rule_name : List ℕ

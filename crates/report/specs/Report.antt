@@ -5,7 +5,7 @@ use Rattle.bench_net.specs.Scan.{names, name_of, cells}
 use Rattle.fault_model.specs.declared.Line.{Line}
 use Rattle.fault_model.specs.declared.Line.TheVariants.{Stem, Pin, Data, Out}
 use Rattle.fault_model.specs.declared.Model.{Model}
-use Rattle.fault_model.specs.declared.Model.TheVariants.{StuckAt, Transition}
+use Rattle.fault_model.specs.declared.Model.TheVariants.{StuckAt, Transition, TransitionPairs}
 use Rattle.fault_model.specs.Fault.{Fault, faults}
 use Rattle.fault_model.specs.Collapse.{Collapsed}
 use Rattle.workers.specs.Verdict.{detected}
@@ -34,6 +34,8 @@ defect_text StuckAt false = codes " sa0"
 defect_text StuckAt true = codes " sa1"
 defect_text Transition false = codes " str"
 defect_text Transition true = codes " stf"
+defect_text TransitionPairs false = codes " str"
+defect_text TransitionPairs true = codes " stf"
 
 -- a fault: its line, and what is wrong with it
 abbrev pub fault_text : List Statement → Fault → List ℕ

@@ -84,6 +84,7 @@ fn name_of(model: Model) -> &'static str
     match model {
         Model::StuckAt => "stuck",
         Model::Transition => "transition",
+        Model::TransitionPairs => "transition-pairs",
     }
 }
 

@@ -62,8 +62,8 @@ fn defect(model: Model, bit: bool) -> &'static str
     match (model, bit) {
         (Model::StuckAt, false) => " sa0",
         (Model::StuckAt, true) => " sa1",
-        (Model::Transition, false) => " str",
-        (Model::Transition, true) => " stf",
+        (Model::Transition | Model::TransitionPairs, false) => " str",
+        (Model::Transition | Model::TransitionPairs, true) => " stf",
     }
 }
 

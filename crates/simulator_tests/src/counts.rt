@@ -51,6 +51,17 @@ fn the_second_test_of_a_pair_is_counted(rt: HostRuntime) -> Result<(), Fail> {
     check_counts(&rt, rt.alloc(), &job, 9, &[2, 1, 2, 1])
 }
 
+#[test]
+fn the_second_test_of_each_two_is_counted(rt: HostRuntime) -> Result<(), Fail> {
+    let job = job_of(
+        rt.alloc(),
+        Model::TransitionPairs,
+        BUFFER,
+        b"0\n0\n1\n0\n0\n1\n0\n",
+    )?;
+    check_counts(&rt, rt.alloc(), &job, 9, &[1, 1, 1, 1])
+}
+
 /// A row of a buffer's tests, so many times.
 fn rows(alloc: Global, count: u32) -> Result<Vec<u8>, Fail> {
     let mut text = Vec::new(alloc);

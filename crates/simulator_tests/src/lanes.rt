@@ -24,7 +24,7 @@ struct Worked {
 
 const BUFFER: &str = "INPUT(a)\nOUTPUT(z)\nz = BUFF(a)\n";
 
-static WORKED: [Worked; 5] = [
+static WORKED: [Worked; 7] = [
     Worked {
         name: "buffer",
         bench: BUFFER,
@@ -56,6 +56,22 @@ static WORKED: [Worked; 5] = [
         zeros: 64,
         tests: "1\n0\n",
         lanes: &[0b01, 0b10, 0b01, 0b10],
+    },
+    Worked {
+        name: "pairs of a buffer, and a test without a second",
+        bench: BUFFER,
+        model: Model::TransitionPairs,
+        zeros: 0,
+        tests: "0\n1\n0\n1\n1\n0\n1\n",
+        lanes: &[0b00_1010, 0b10_0000, 0b00_1010, 0b10_0000],
+    },
+    Worked {
+        name: "pairs of the second block",
+        bench: BUFFER,
+        model: Model::TransitionPairs,
+        zeros: 64,
+        tests: "1\n0\n",
+        lanes: &[0, 0b10, 0, 0b10],
     },
     Worked {
         name: "transitions of an and",
@@ -183,7 +199,7 @@ fn a_random_circuit_has_the_lanes_of_plain_evaluation(rt: HostRuntime) -> Result
     push_bench(&mut bench, &mut numbers, 8, 40)?;
     let mut tests = Vec::new(rt.alloc());
     push_rows(&mut tests, &mut numbers, 12, 70)?;
-    for model in [Model::StuckAt, Model::Transition] {
+    for model in [Model::StuckAt, Model::Transition, Model::TransitionPairs] {
         check_model(&rt, rt.alloc(), model, bench.as_slice(), tests.as_slice())?;
     }
     Ok(())

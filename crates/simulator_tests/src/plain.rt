@@ -141,8 +141,8 @@ fn detects(
     test: u32,
 ) -> Result<bool, AllocError> {
     let circuit = job.circuit();
-    if model == Model::Transition {
-        if test == 0 {
+    if model != Model::StuckAt {
+        if test == 0 || (model == Model::TransitionPairs && test % 2 == 0) {
             return Ok(false);
         }
         let before = bits_under(alloc, circuit, job.tests(), test - 1, None)?;

@@ -384,9 +384,9 @@ fn check_plainly<R: Abort>(rt: &R, alloc: Global, job: &Job) -> Result<(), Fail>
     Ok(())
 }
 
-/// Checks the outcomes of texts under both models against those of plain evaluation.
+/// Checks the outcomes of texts under all models against those of plain evaluation.
 fn check_texts<R: Abort>(rt: &R, alloc: Global, bench: &[u8], tests: &[u8]) -> Result<(), Fail> {
-    for model in [Model::StuckAt, Model::Transition] {
+    for model in [Model::StuckAt, Model::Transition, Model::TransitionPairs] {
         check_model(rt, alloc, model, bench, tests)?;
     }
     Ok(())

@@ -7,4 +7,5 @@ pub mod Texts
 pub mod Ledgers
 pub mod Transition
 pub mod Listings
+pub mod Pairs
 pub mod Coverage
