@@ -1,6 +1,6 @@
 -- What the tests that are kept detect, and why each is.
 use Rattle.std.proofs.Common.{◌≡◌, ◌<◌, ◌≤◌, ◌+◌, ◌-◌, ◌*◌, ◌∙◌, ℕ, zero, suc, Bool, true, false, List, ◌∷◌, [], length, ap, refl, sym, subst, arith, add-one, inl, inr, ◌⊎◌, get_or, take, ◌++◌}
-use Rattle.std.specs.Prelude.{◌||◌, ◌==◌, ⊤, Contains, IfOk, Option, Some, None, Result, Ok, Err, slice_get}
+use Rattle.std.specs.Prelude.{◌||◌, ◌==◌, ⊤, ⊥, Contains, IfOk, Option, Some, None, Result, Ok, Err, slice_get}
 use Rattle.std.specs.List.{ReversedBelow, list_any}
 use Rattle.std.proofs.lemmas.Bool.{cases_lt, eqb-true, eq-eqb}
 use Rattle.std.proofs.lemmas.List.{get_or_past}
@@ -12,10 +12,11 @@ use Rattle.bench_net.specs.Statement.{Statement}
 use Rattle.lists.proofs.Members.{Among, among, contained, some_passes}
 use Rattle.lists.proofs.Places.{at_place, place_within, placed, within_place}
 use Rattle.fault_model.specs.declared.Model.{Model}
-use Rattle.fault_model.specs.declared.Model.TheVariants.{StuckAt, Transition}
+use Rattle.fault_model.specs.declared.Model.TheVariants.{StuckAt, Transition, TransitionPairs}
 use Rattle.fault_model.specs.Fault.{Fault, faults}
 use Rattle.fault_model.specs.Solution.{Test, Detects}
-use Rattle.fault_model.specs.Detection.{DetectsAt, HasBit, LooksBack}
+use Rattle.fault_model.specs.declared.Line.{Line}
+use Rattle.fault_model.specs.Detection.{DetectsAt, HasBit, IsInitialized, IsSecondOfPair, LooksBack}
 use Rattle.fault_model.proofs.Public.{listed_model}
 use Rattle.patterns.specs.Tests.{TestList, blocks}
 use Rattle.block_sim.specs.First.{IsFirst}
@@ -26,7 +27,7 @@ use Rattle.workers.specs.Refused.{IsRunFault}
 use Rattle.workers.specs.Verdict.{AreFirsts}
 use Rattle.compaction.specs.Compaction.{Covers, IsCompaction, IsFirstForSome, IsLastForSome, IsNeeded, IsSublist, finds, is_first, marked}
 use Rattle.compaction.specs.Marks.{AreFinding, AreLast}
-use Rattle.compaction.proofs.Marked.{ComesFrom, comes_from, earlier_place, marked_at, ones, ones_next, sublist_twice}
+use Rattle.compaction.proofs.Marked.{ComesFrom, comes_from, earlier_place, marked_at, ones, ones_next, ones_stay, sublist_twice}
 use Rattle.compaction.proofs.Turned.{turned_back, turned_to}
 
 -- ---- marks by first tests
@@ -171,60 +172,168 @@ or_right : (a b : Bool) → b ≡ true → (a || b) ≡ true
 or_right true b e = refl
 or_right false b e = e
 
-pub compacted_transition : (c : List Statement) (tests : List Test) (found marks : List Bool) → AreFinding Transition c tests found → length marks ≡ length found
-    → ((t : ℕ) → t < length found → get_or marks t false ≡ (get_or found t false || get_or found (t + 1) false)) → IsCompaction Transition c tests (marked marks tests)
-compacted_transition c tests found marks are count each = record { rows = (marks, count ∙ are.count, refl); covers = covers; needed = needed }
+-- the marks of tests with the one before each, from those of tests that find something
+pub record AreWithBefore (found marks : List Bool) : Type 0 where
+  pub count : length marks ≡ length found
+  pub each : (t : ℕ) → t < length found
+      → get_or marks t false ≡ (get_or found t false || get_or found (t + 1) false)
+
+on_where : (found marks : List Bool) → AreWithBefore found marks → (t : ℕ) → t < length found → (get_or found t false || get_or found (t + 1) false) ≡ true → slice_get marks t ≡ Some true
+on_where found marks are t lt e = slice_get-get_or marks t false (omega (arith, lt, are.count)) ∙ ap Some (are.each t lt ∙ e)
+
+itself : (found marks : List Bool) → AreWithBefore found marks → (t : ℕ) → slice_get found t ≡ Some true → slice_get marks t ≡ Some true
+itself found marks are t e = on_where found marks are t (slice_get_within found t true e) (or_left (get_or found t false) (get_or found (t + 1) false) (get_or_from_slice_get found t true false e))
+
+the_one_before : (found marks : List Bool) → AreWithBefore found marks → (t : ℕ) → slice_get found (suc t) ≡ Some true → slice_get marks t ≡ Some true
+the_one_before found marks are t e =
+    let lt = slice_get_within found (suc t) true e in
+    on_where found marks are t (omega (arith, lt)) (or_right (get_or found t false) (get_or found (t + 1) false) (ap (λ i. get_or found i false) (add-one t) ∙ get_or_from_slice_get found (suc t) true false e))
+
+-- what is initialized by a test of the list is initialized by the same row
+initialized_same : (c : List Statement) (tests : List Test) (marks : List Bool) (i : ℕ) (l : Line) (b : Bool) → slice_get marks i ≡ Some true → IsInitialized c tests l b (suc i) → IsInitialized c (marked marks tests) l b (suc (ones (take i marks)))
+initialized_same c tests marks i l b on looks = (looks.0, marked_at marks tests i looks.0 on looks.1, looks.2)
+
+mark_at_place : (found : List Bool) (t : ℕ) → get_or found t false ≡ true → slice_get found t ≡ Some true
+mark_at_place found t h = go (cases_lt t (length found))
   where
-    on : (t : ℕ) → t < length found → (get_or found t false || get_or found (t + 1) false) ≡ true → slice_get marks t ≡ Some true
-    on t lt e = slice_get-get_or marks t false (omega (arith, lt, count)) ∙ ap Some (each t lt ∙ e)
+    go : (t < length found) ⊎ (length found ≤ t) → slice_get found t ≡ Some true
+    go (inl low) = slice_get-get_or found t false low ∙ ap Some h
+    go (inr past) = let bad : false ≡ true = sym (get_or_past found t false past) ∙ h in cc
 
-    itself : (t : ℕ) → slice_get found t ≡ Some true → slice_get marks t ≡ Some true
-    itself t e = on t (slice_get_within found t true e) (or_left (get_or found t false) (get_or found (t + 1) false) (get_or_from_slice_get found t true false e))
+-- A model under which a test looks back to the one before it, and finds it in the rows too.
+pub record LooksBackSame (m : Model) (c : List Statement) (tests : List Test)
+    (found marks : List Bool) : Type 0 where
+  pub not_first : (l : Line) (b : Bool) → LooksBack c tests m l b zero → ⊥
+  pub same : (i : ℕ) (l : Line) (b : Bool) → slice_get found (suc i) ≡ Some true
+      → LooksBack c tests m l b (suc i)
+      → LooksBack c (marked marks tests) m l b (suc (ones (take i marks)))
+  pub needs : (kept : List Test) (t k : ℕ)
+      → IsFirstForSome m c tests t ⊎ IsFirstForSome m c tests (t + 1)
+      → IsNeeded m c tests kept t k
 
-    the_one_before : (t : ℕ) → slice_get found (suc t) ≡ Some true → slice_get marks t ≡ Some true
-    the_one_before t e =
-        let lt = slice_get_within found (suc t) true e in
-        on t (omega (arith, lt)) (or_right (get_or found t false) (get_or found (t + 1) false) (ap (λ i. get_or found i false) (add-one t) ∙ get_or_from_slice_get found (suc t) true false e))
-
-    -- what looks back to a test of the list looks back to the same row
-    kept_pair : (s : ℕ) (f : Fault) → Contains (faults Transition c) f → slice_get found s ≡ Some true → DetectsAt c tests f s → (k : ℕ) × DetectsAt c (marked marks tests) f k
-    kept_pair s f listed mark detects = go s mark detects.1 (subst (λ m. LooksBack c tests m f.line f.stuck s) model detects.3)
+pub compacted_before : (m : Model) (c : List Statement) (tests : List Test) (found marks : List Bool) → AreFinding m c tests found → AreWithBefore found marks → LooksBackSame m c tests found marks
+    → IsCompaction m c tests (marked marks tests)
+compacted_before m c tests found marks are before looks_back = record { rows = (marks, before.count ∙ are.count, refl); covers = covers; needed = needed }
+  where
+    kept_pair : (s : ℕ) (f : Fault) → Contains (faults m c) f → slice_get found s ≡ Some true → DetectsAt c tests f s → (k : ℕ) × DetectsAt c (marked marks tests) f k
+    kept_pair s f listed mark detects = go s mark detects.1 (subst (λ x. LooksBack c tests x f.line f.stuck s) model detects.3)
       where
-        model : f.model ≡ Transition
-        model = listed_model Transition c f listed
+        model : f.model ≡ m
+        model = listed_model m c f listed
 
-        go : (i : ℕ) → slice_get found i ≡ Some true → slice_get tests i ≡ Some detects.0 → LooksBack c tests Transition f.line f.stuck i → (k : ℕ) × DetectsAt c (marked marks tests) f k
-        go zero m at looks = absurd looks
-        go (suc i) m at looks =
+        go : (i : ℕ) → slice_get found i ≡ Some true → slice_get tests i ≡ Some detects.0 → LooksBack c tests m f.line f.stuck i → (k : ℕ) × DetectsAt c (marked marks tests) f k
+        go zero on at looks = absurd (looks_back.not_first f.line f.stuck looks)
+        go (suc i) on at looks =
             let k = ones (take i marks) in
-            let before : slice_get (marked marks tests) k ≡ Some looks.0 = marked_at marks tests i looks.0 (the_one_before i m) looks.1 in
-            let next : ones (take (suc i) marks) ≡ suc k = ones_next marks i (the_one_before i m) in
-            let own : slice_get (marked marks tests) (suc k) ≡ Some detects.0 = subst (λ j. slice_get (marked marks tests) j ≡ Some detects.0) next (marked_at marks tests (suc i) detects.0 (itself (suc i) m) at) in
-            let back : LooksBack c (marked marks tests) Transition f.line f.stuck (suc k) = (looks.0, before, looks.2) in
-            (suc k, (detects.0, own, detects.2, subst (λ m. LooksBack c (marked marks tests) m f.line f.stuck (suc k)) (sym model) back))
+            let next : ones (take (suc i) marks) ≡ suc k = ones_next marks i (the_one_before found marks before i on) in
+            let own : slice_get (marked marks tests) (suc k) ≡ Some detects.0 = subst (λ j. slice_get (marked marks tests) j ≡ Some detects.0) next (marked_at marks tests (suc i) detects.0 (itself found marks before (suc i) on) at) in
+            let back : LooksBack c (marked marks tests) m f.line f.stuck (suc k) = looks_back.same i f.line f.stuck on looks in
+            (suc k, (detects.0, own, detects.2, subst (λ x. LooksBack c (marked marks tests) x f.line f.stuck (suc k)) (sym model) back))
 
-    covers : Covers Transition c tests (marked marks tests)
+    covers : Covers m c tests (marked marks tests)
     covers f t listed detects = let s = are.found f t listed detects in kept_pair s.0 f listed s.2 s.1.0
 
-    needed : (k : ℕ) (row : Test) → slice_get (marked marks tests) k ≡ Some row → (t : ℕ) × (slice_get tests t ≡ Some row) × IsNeeded Transition c tests (marked marks tests) t k
-    needed k row e = (from.place, from.at, go (or_cases (get_or found from.place false) (get_or found (from.place + 1) false) (sym (each from.place lt) ∙ get_or_from_slice_get marks from.place true false from.mark)))
+    needed : (k : ℕ) (row : Test) → slice_get (marked marks tests) k ≡ Some row → (t : ℕ) × (slice_get tests t ≡ Some row) × IsNeeded m c tests (marked marks tests) t k
+    needed k row e = (from.place, from.at, looks_back.needs (marked marks tests) from.place k (go (or_cases (get_or found from.place false) (get_or found (from.place + 1) false) (sym (before.each from.place lt) ∙ get_or_from_slice_get marks from.place true false from.mark))))
       where
         from : ComesFrom marks tests k row
         from = comes_from marks tests k row e
 
         lt : from.place < length found
-        lt = let h = slice_get_within marks from.place true from.mark in omega (arith, h, count)
+        lt = let h = slice_get_within marks from.place true from.mark in omega (arith, h, before.count)
 
-        marked_at_place : (t : ℕ) → get_or found t false ≡ true → slice_get found t ≡ Some true
-        marked_at_place t h = go (cases_lt t (length found))
-          where
-            go : (t < length found) ⊎ (length found ≤ t) → slice_get found t ≡ Some true
-            go (inl low) = slice_get-get_or found t false low ∙ ap Some h
-            go (inr past) = let bad : false ≡ true = sym (get_or_past found t false past) ∙ h in cc
+        go : (get_or found from.place false ≡ true) ⊎ (get_or found (from.place + 1) false ≡ true) → IsFirstForSome m c tests from.place ⊎ IsFirstForSome m c tests (from.place + 1)
+        go (inl h) = inl (are.first from.place (mark_at_place found from.place h))
+        go (inr h) = inr (are.first (from.place + 1) (mark_at_place found (from.place + 1) h))
 
-        go : (get_or found from.place false ≡ true) ⊎ (get_or found (from.place + 1) false ≡ true) → IsNeeded Transition c tests (marked marks tests) from.place k
-        go (inl h) = inl (are.first from.place (marked_at_place from.place h))
-        go (inr h) = inr (are.first (from.place + 1) (marked_at_place (from.place + 1) h))
+-- ---- transition faults of a list, where each test but the first is the second of a pair
+
+looks_back_transition : (c : List Statement) (tests : List Test) (found marks : List Bool) → AreWithBefore found marks → LooksBackSame Transition c tests found marks
+looks_back_transition c tests found marks before = record {
+  not_first = λ l b looks. looks;
+  same = λ i l b on looks. initialized_same c tests marks i l b (the_one_before found marks before i on) looks;
+  needs = λ kept t k h. h;
+}
+
+-- ---- transition faults of a list of pairs: a pair is kept whole, so it is a pair of the rows
+
+or_false : (b : Bool) → (b || false) ≡ b
+or_false true = refl
+or_false false = refl
+
+-- the first test of a pair finds nothing
+first_finds_none : (c : List Statement) (tests : List Test) (found : List Bool) → AreFinding TransitionPairs c tests found → (q : ℕ) → get_or found (2 * q) false ≡ false
+first_finds_none c tests found are q = go (get_or found (2 * q) false) refl
+  where
+    go : (b : Bool) → get_or found (2 * q) false ≡ b → get_or found (2 * q) false ≡ false
+    go false e = e
+    go true e = absurd (not_second (second (are.first (2 * q) (mark_at_place found (2 * q) e))))
+      where
+        second : IsFirstForSome TransitionPairs c tests (2 * q) → IsSecondOfPair (2 * q)
+        second first =
+            let looks : LooksBack c tests TransitionPairs first.0.line first.0.stuck (2 * q) = subst (λ x. LooksBack c tests x first.0.line first.0.stuck (2 * q)) (listed_model TransitionPairs c first.0 first.1) first.2.0.3 in
+            looks.0
+
+        not_second : IsSecondOfPair (2 * q) → ⊥
+        not_second pair = let e = pair.1 in omega (arith, e)
+
+-- both tests of a pair are marked, or none is
+marked_alike : (c : List Statement) (tests : List Test) (found marks : List Bool) → AreFinding TransitionPairs c tests found → AreWithBefore found marks → (q : ℕ) → 2 * q + 1 < length found → get_or marks (2 * q) false ≡ get_or marks (2 * q + 1) false
+marked_alike c tests found marks are before q lt =
+    let x = get_or found (2 * q + 1) false in
+    let first : get_or marks (2 * q) false ≡ x = before.each (2 * q) (omega (arith, lt)) ∙ ap (λ b. b || x) (first_finds_none c tests found are q) in
+    let next : get_or found (2 * q + 1 + 1) false ≡ false = subst (λ n. get_or found n false ≡ false) (omega arith) (first_finds_none c tests found are (q + 1)) in
+    let second : get_or marks (2 * q + 1) false ≡ x = before.each (2 * q + 1) lt ∙ (ap (λ b. x || b) next ∙ or_false x) in
+    first ∙ sym second
+
+-- so before a pair an even number of tests is marked
+even_before : (marks : List Bool) (p : ℕ) → 2 * p ≤ length marks → ((q : ℕ) → q < p → get_or marks (2 * q) false ≡ get_or marks (2 * q + 1) false) → (n : ℕ) × (ones (take (2 * p) marks) ≡ 2 * n)
+even_before marks zero le alike = (0, refl)
+even_before marks (suc p) le alike = go (get_or marks (2 * p) false) refl
+  where
+    Even : Type 0
+    Even = (n : ℕ) × (ones (take (2 * suc p) marks) ≡ 2 * n)
+
+    earlier : (n : ℕ) × (ones (take (2 * p) marks) ≡ 2 * n)
+    earlier = even_before marks p (omega (arith, le)) (λ q lt. alike q (omega (arith, lt)))
+
+    twice : (n : ℕ) → ones (take (suc (suc (2 * p))) marks) ≡ 2 * n → Even
+    twice n e = (n, subst (λ i. ones (take i marks) ≡ 2 * n) (omega arith) e)
+
+    there : (b : Bool) → get_or marks (2 * p) false ≡ b → get_or marks (suc (2 * p)) false ≡ b
+    there b e = ap (λ i. get_or marks i false) (sym (add-one (2 * p))) ∙ (sym (alike p (omega arith)) ∙ e)
+
+    go : (b : Bool) → get_or marks (2 * p) false ≡ b → Even
+    go true e =
+        let first : ones (take (suc (2 * p)) marks) ≡ suc (ones (take (2 * p) marks)) = ones_next marks (2 * p) (mark_at_place marks (2 * p) e) in
+        let second : ones (take (suc (suc (2 * p))) marks) ≡ suc (ones (take (suc (2 * p)) marks)) = ones_next marks (suc (2 * p)) (mark_at_place marks (suc (2 * p)) (there true e)) in
+        twice (suc earlier.0) (let h = earlier.1 in omega (arith, first, second, h))
+    go false e =
+        let first : ones (take (suc (2 * p)) marks) ≡ ones (take (2 * p) marks) = ones_stay marks (2 * p) e in
+        let second : ones (take (suc (suc (2 * p))) marks) ≡ ones (take (suc (2 * p)) marks) = ones_stay marks (suc (2 * p)) (there false e) in
+        twice earlier.0 (second ∙ (first ∙ earlier.1))
+
+looks_back_pairs : (c : List Statement) (tests : List Test) (found marks : List Bool) → AreFinding TransitionPairs c tests found → AreWithBefore found marks → LooksBackSame TransitionPairs c tests found marks
+looks_back_pairs c tests found marks are before = record {
+  not_first = λ l b looks. looks.1;
+  same = λ i l b on looks. (second i on looks.0, initialized_same c tests marks i l b (the_one_before found marks before i on) looks.1);
+  needs = λ kept t k h. h;
+}
+  where
+    second : (i : ℕ) → slice_get found (suc i) ≡ Some true → IsSecondOfPair (suc i) → IsSecondOfPair (suc (ones (take i marks)))
+    second i on pair = (even.0, ap suc even.1 ∙ omega arith)
+      where
+        lt : suc i < length found
+        lt = slice_get_within found (suc i) true on
+
+        is : i ≡ 2 * pair.0
+        is = let e = pair.1 in omega (arith, e)
+
+        alike : (q : ℕ) → q < pair.0 → get_or marks (2 * q) false ≡ get_or marks (2 * q + 1) false
+        alike q low = marked_alike c tests found marks are before q (omega (arith, low, is, lt))
+
+        even : (n : ℕ) × (ones (take i marks) ≡ 2 * n)
+        even = subst (λ x. (n : ℕ) × (ones (take x marks) ≡ 2 * n)) (sym is) (even_before marks pair.0 (omega (arith, is, lt, before.count)) alike)
 
 -- ---- by the model of the job
 
@@ -233,11 +342,15 @@ stuck_compacted m c tests rows kept marks model are is last =
     subst (λ x. IsCompaction x c tests kept) (sym model)
     (compacted_stuck c tests kept marks (subst (λ x. AreFinding x c tests marks) model are) (subst (λ xs. AreLast c xs kept) is last))
 
-pub transition_compacted : (m : Model) (c : List Statement) (tests kept : List Test) (found marks : List Bool) → m ≡ Transition → AreFinding m c tests found → length marks ≡ length found
-    → ((t : ℕ) → t < length found → get_or marks t false ≡ (get_or found t false || get_or found (t + 1) false)) → kept ≡ marked marks tests → IsCompaction m c tests kept
-transition_compacted m c tests kept found marks model are count each is =
-    subst (λ x. IsCompaction x c tests kept) (sym model)
-    (subst (λ xs. IsCompaction Transition c tests xs) (sym is) (compacted_transition c tests found marks (subst (λ x. AreFinding x c tests found) model are) count each))
+pub transition_compacted : (m : Model) (c : List Statement) (tests kept : List Test) (found marks : List Bool) → m ≡ Transition → AreFinding m c tests found → AreWithBefore found marks → kept ≡ marked marks tests → IsCompaction m c tests kept
+transition_compacted m c tests kept found marks model are before is =
+    subst (λ xs. IsCompaction m c tests xs) (sym is)
+    (compacted_before m c tests found marks are before (subst (λ x. LooksBackSame x c tests found marks) (sym model) (looks_back_transition c tests found marks before)))
+
+pub pairs_compacted : (m : Model) (c : List Statement) (tests kept : List Test) (found marks : List Bool) → m ≡ TransitionPairs → AreFinding m c tests found → AreWithBefore found marks → kept ≡ marked marks tests → IsCompaction m c tests kept
+pairs_compacted m c tests kept found marks model are before is =
+    subst (λ xs. IsCompaction m c tests xs) (sym is)
+    (compacted_before m c tests found marks are before (subst (λ x. LooksBackSame x c tests found marks) (sym model) (looks_back_pairs c tests found marks (subst (λ x. AreFinding x c tests found) model are) before)))
 
 -- an answer of one kind is one of another
 pub ok_as : {T E : Type 0} (A B : T → Type 0) (r : Result T E) → ((x : T) → A x → B x) → IfOk r A → IfOk r B

@@ -55,6 +55,14 @@ ones_next (false ∷ marks) zero m = let bad : Some false ≡ Some true = m in c
 ones_next (true ∷ marks) (suc t) m = ap suc (ones_next marks t m)
 ones_next (false ∷ marks) (suc t) m = ones_next marks t m
 
+pub ones_stay : (marks : List Bool) (t : ℕ) → get_or marks t false ≡ false → ones (take (suc t) marks) ≡ ones (take t marks)
+ones_stay [] zero e = refl
+ones_stay [] (suc t) e = refl
+ones_stay (true ∷ marks) zero e = let bad : true ≡ false = e in cc
+ones_stay (false ∷ marks) zero e = refl
+ones_stay (true ∷ marks) (suc t) e = ap suc (ones_stay marks t e)
+ones_stay (false ∷ marks) (suc t) e = ones_stay marks t e
+
 pub marked_few : {X : Type 0} (marks : List Bool) (xs : List X) → length (marked marks xs) ≤ length xs
 marked_few [] xs = omega arith
 marked_few (true ∷ marks) [] = omega arith

@@ -3,7 +3,7 @@ use Rattle.std.specs.Prelude.{◌≡◌, ◌⊎◌, ℕ, ◌+◌, ◌<◌, ◌==
 use Rattle.std.specs.List.{list_any}
 use Rattle.bench_net.specs.Statement.{Statement}
 use Rattle.fault_model.specs.declared.Model.{Model}
-use Rattle.fault_model.specs.declared.Model.TheVariants.{StuckAt, Transition}
+use Rattle.fault_model.specs.declared.Model.TheVariants.{StuckAt, Transition, TransitionPairs}
 use Rattle.fault_model.specs.Fault.{Fault, faults}
 use Rattle.fault_model.specs.Solution.{Test}
 use Rattle.fault_model.specs.Detection.{DetectsAt}
@@ -38,12 +38,15 @@ IsLastForSome m c tests t = (f : Fault) × Contains (faults m c) f × DetectsAt 
     × ((later : ℕ) → t < later → ¬ DetectsAt c tests f later)
 
 -- Why test t of the list is kept as row k: under stuck-at faults it is the first of the list and
--- the last of the rows for some faults; under transition faults it or the next is the first.
+-- the last of the rows for some faults; under transition faults it or the next is the first, and
+-- where the list is one of pairs this is the second of its pair.
 abbrev pub IsNeeded : Model → List Statement → List Test → List Test → ℕ → ℕ → Type 0
 IsNeeded StuckAt c tests kept t k =
     IsFirstForSome StuckAt c tests t × IsLastForSome StuckAt c kept k
 IsNeeded Transition c tests kept t k =
     IsFirstForSome Transition c tests t ⊎ IsFirstForSome Transition c tests (t + 1)
+IsNeeded TransitionPairs c tests kept t k =
+    IsFirstForSome TransitionPairs c tests t ⊎ IsFirstForSome TransitionPairs c tests (t + 1)
 
 -- the second list detects each fault of the model that the first one detects
 abbrev pub Covers : Model → List Statement → List Test → List Test → Type 0

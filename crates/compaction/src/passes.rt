@@ -25,7 +25,8 @@ use workers::RunFault;
 /// over these from the last to the first and keeps those that still find something: reverse order
 /// fault simulation (Schulz, Trischler and Sarfert, SOCRATES: A Highly Efficient Automatic Test
 /// Pattern Generation System, 1988). Under [`Model::Transition`] there is the first pass alone, and
-/// a test that is kept keeps the test before it.
+/// a test that is kept keeps the test before it. So under [`Model::TransitionPairs`], where the
+/// second of a pair alone detects, pairs are kept and left out whole.
 ///
 /// The job keeps its circuit, its faults and its classes. Its tests are others after the second
 /// pass. It is refused as [`workers::run`] is.
@@ -49,7 +50,7 @@ pub fn compact<R: Threads + Wait>(
             let kept = marked_tests(alloc, job.tests(), &found)?;
             last_tests(rt, alloc, job, &kept, workers)
         }
-        Model::Transition => {
+        Model::Transition | Model::TransitionPairs => {
             mark_before(&mut found);
             Ok(marked_tests(alloc, job.tests(), &found)?)
         }
