@@ -3,8 +3,10 @@
 ghost use Rattle.std.specs.Prelude.{◌≤◌, IfOk, IfSome};
 ghost use Rattle.command_line.specs.Split.{HasParts};
 
+use crate::compact::do_compact;
 use crate::curve::do_curve;
 use crate::options::{MAX_PARTS, Task, command_line, model_named, workers_help};
+use crate::responses::do_responses;
 use crate::source::{Source, SourceFault};
 use crate::status::{
     DONE, Fault, MISUSED, NO_MEMORY, UNWRITTEN, answer_fault, merge_fault, part_fault,
@@ -109,6 +111,8 @@ fn do_task<'a, R: Threads + Wait, S: Source, W: Out>(
     match Task::named(name) {
         Some(Task::Run) => do_run(rt, alloc, options, files, out),
         Some(Task::Curve) => do_curve(rt, alloc, options, files, out),
+        Some(Task::Compact) => do_compact(rt, alloc, options, files, out),
+        Some(Task::Responses) => do_responses(alloc, options, files, out),
         Some(Task::Schedule) => do_schedule(alloc, options, files, out),
         Some(Task::Faults) => do_faults(alloc, options, files, out),
         Some(Task::Merge) => do_merge(alloc, options, files, out),

@@ -6,8 +6,10 @@
 
 mod arguments;
 mod command;
+mod compact;
 mod curve;
 mod options;
+mod responses;
 mod source;
 mod status;
 

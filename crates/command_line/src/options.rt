@@ -16,15 +16,19 @@ const VERSION: &str = "0.2.0";
 pub(crate) enum Task {
     Run,
     Curve,
+    Compact,
+    Responses,
     Faults,
     Merge,
     Schedule,
 }
 
 /// All that it can be asked to do, in the order of the help.
-static TASKS: [Task; 5] = [
+static TASKS: [Task; 7] = [
     Task::Run,
     Task::Curve,
+    Task::Compact,
+    Task::Responses,
     Task::Faults,
     Task::Merge,
     Task::Schedule,
@@ -37,6 +41,8 @@ impl Task {
         match self {
             Task::Run => "run",
             Task::Curve => "curve",
+            Task::Compact => "compact",
+            Task::Responses => "responses",
             Task::Schedule => "schedule",
             Task::Faults => "faults",
             Task::Merge => "merge",
@@ -48,6 +54,8 @@ impl Task {
         match self {
             Task::Run => "Simulates all faults of a model and tells the fault coverage",
             Task::Curve => "Tells for each test that finds new faults how many are found up to it",
+            Task::Compact => "Writes fewer of the tests, which detect the same faults",
+            Task::Responses => "Writes what the circuit answers to each test without a fault",
             Task::Schedule => {
                 "Does what run does by one thread, with the workers' moves in a given order"
             }
@@ -61,6 +69,8 @@ impl Task {
         match self {
             Task::Run => ABOUT_RUN,
             Task::Curve => ABOUT_CURVE,
+            Task::Compact => ABOUT_COMPACT,
+            Task::Responses => ABOUT_RESPONSES,
             Task::Schedule => ABOUT_SCHEDULE,
             Task::Faults => ABOUT_FAULTS,
             Task::Merge => ABOUT_MERGE,
@@ -72,6 +82,8 @@ impl Task {
         match self {
             Task::Run => &RUN_CHOICES,
             Task::Curve => &CURVE_CHOICES,
+            Task::Compact => &COMPACT_CHOICES,
+            Task::Responses => &RESPONSES_CHOICES,
             Task::Schedule => &SCHEDULE_CHOICES,
             Task::Faults => &FAULTS_CHOICES,
             Task::Merge => &MERGE_CHOICES,
@@ -115,6 +127,17 @@ static RUN_CHOICES: [Choice; 9] = [
 
 /// The options of `curve`.
 static CURVE_CHOICES: [Choice; 4] = [Choice::Bench, Choice::Tests, Choice::Model, Choice::Workers];
+
+/// The options of `compact`.
+static COMPACT_CHOICES: [Choice; 4] = [
+    Choice::Bench,
+    Choice::Tests,
+    Choice::Model,
+    Choice::Workers,
+];
+
+/// The options of `responses`.
+static RESPONSES_CHOICES: [Choice; 2] = [Choice::Bench, Choice::Tests];
 
 /// The options of `schedule`.
 static SCHEDULE_CHOICES: [Choice; 8] = [
@@ -226,6 +249,54 @@ detected up to it and how much of all that is, and then the coverage. Test 2 fin
     1 2 33.33
     3 5 83.33
     5 of 6 (83.33%)
+
+Each FILE is read whole. /dev/stdin serves as a file, too.";
+
+/// What is said after the long help of `compact`.
+const ABOUT_COMPACT: &str = "\
+Example, a circuit and tests for it, one a line:
+
+    a.bench          a.tests
+    INPUT(a)         00
+    INPUT(b)         01
+    OUTPUT(z)        10
+    z = AND(a, b)    11
+
+    faultsim compact --bench a.bench --tests a.tests > b.tests
+
+writes some of the tests, in order, that detect each fault that all detect. Test 00 detects z stuck
+at 1, and so do the next two:
+
+    01
+    10
+    11
+
+Kept are the tests that are the first to detect some fault; then, from the last to the first, those
+of these that detect a fault which no later one detects. Under transition faults the first step is
+the only one, and each test that is kept keeps the test before it.
+
+Each FILE is read whole. /dev/stdin serves as a file, too.";
+
+/// What is said after the long help of `responses`.
+const ABOUT_RESPONSES: &str = "\
+Example, a circuit with a flip-flop and tests for it, a bit for a and one for q:
+
+    a.bench          a.tests
+    INPUT(a)         01
+    OUTPUT(z)        11
+    q = DFF(d)
+    d = XOR(a, q)
+    z = NOT(q)
+
+    faultsim responses --bench a.bench --tests a.tests
+
+writes a row for each test, a bit for each OUTPUT line, and then what each flip-flop captures:
+
+    01
+    00
+
+With the bit of a before it, what q captures is the second test of a launch on capture: 01 is
+followed by 01, and 11 by 10.
 
 Each FILE is read whole. /dev/stdin serves as a file, too.";
 

@@ -17,3 +17,4 @@ pub mod ClassFirsts
 pub mod Endings
 pub mod Curves
 pub mod Compactions
+pub mod Rowed

@@ -20,6 +20,7 @@ mod merged;
 mod part;
 mod part_reader;
 mod report;
+mod responses;
 mod text;
 mod whole;
 
@@ -36,6 +37,7 @@ pub use output::{Formatted, Out, OutFailed, Plain};
 pub use part::part_text_in;
 pub use part_reader::{PartFault, PartHeader, PartText, read_part};
 pub use report::{ReportFault, write_listing, write_report};
+pub use responses::responses_text_in;
 pub use text::{
     SimFault, faults_text, faults_text_in, job_of, listing_bytes, report_bytes, schedule_text,
     schedule_text_in, simulate_text, simulate_text_in, simulate_text_in_parts,

@@ -392,7 +392,11 @@ pub fn job_of(alloc: Global, model: Model, bench: &[u8], tests: &[u8]) -> Result
 }
 
 /// The circuit of a bench text, and the tests for it of a test text.
-fn read_inputs(alloc: Global, bench: &[u8], tests: &[u8]) -> Result<(Circuit, Tests), SimFault>
+pub(crate) fn read_inputs(
+    alloc: Global,
+    bench: &[u8],
+    tests: &[u8],
+) -> Result<(Circuit, Tests), SimFault>
     ensures circuit { IfOk result (λ read. IsAccepted bench.now read.0) }
     ensures tests { IfOk result (λ read. HasTests tests.now (length (sources read.0)) read.1) }
     ensures fit { IfOk result (λ read. AreTestsFor read.0 read.1) }

@@ -1,0 +1,23 @@
+//! The command `responses`.
+
+use crate::command::read_option;
+use crate::source::Source;
+use crate::status::Fault;
+use clap::ArgMatches;
+use report::{Out, responses_text_in};
+use std::alloc::Global;
+
+/// `responses`: both files are read before either text is looked at.
+pub(crate) fn do_responses<'a, S: Source, W: Out>(
+    alloc: Global,
+    matches: &ArgMatches<'a>,
+    files: &mut S,
+    out: &mut W,
+) -> Result<(), Fault<'a>> {
+    let bench = read_option(alloc, matches, "bench", files)?;
+    let tests = read_option(alloc, matches, "tests", files)?;
+    match responses_text_in(alloc, &bench, &tests, out) {
+        Ok(()) => Ok(()),
+        Err(fault) => Err(Fault::Sim(fault)),
+    }
+}

@@ -1,0 +1,36 @@
+//! What a circuit answers to tests, from the bytes of texts to the bytes of rows.
+
+ghost use Rattle.std.specs.Prelude.{IfErr};
+ghost use Rattle.report.specs.EndToEnd.{WritesOneOf};
+ghost use Rattle.report.specs.Responses.{AreResponsesOf, IsResponsesFault};
+
+use crate::text::{SimFault, read_inputs};
+use crate::whole::put_text;
+use block_sim::responses;
+use output::Out;
+use patterns::write_tests;
+use std::alloc::Global;
+
+/// Reads a circuit and tests for it, and writes the responses of the circuit without a fault: for
+/// each test a row of bits, those of the OUTPUT lines in order, and then what each flip-flop
+/// captures, in the order of the DFF lines.
+///
+/// The bench text is read before the tests, and each is refused as [`crate::simulate_text_in`]
+/// refuses it. There is no limit on pieces, since no fault is simulated. Nothing is written before
+/// all responses are there.
+pub fn responses_text_in<W: Out>(
+    alloc: Global,
+    bench: &[u8],
+    tests: &[u8],
+    out: &mut W,
+) -> Result<(), SimFault>
+    ensures written { WritesOneOf (AreResponsesOf bench.now tests.now) result (W.seen out.old)
+        (W.seen out.new) }
+    ensures refused { IfErr result (IsResponsesFault bench.now tests.now) }
+{
+    let (circuit, tests) = read_inputs(alloc, bench, tests)?;
+    let rows = responses(alloc, circuit, &tests)?;
+    let text = write_tests(alloc, &rows)?;
+    put_text(&text, out)?;
+    Ok(())
+}
