@@ -7,11 +7,13 @@
 mod arguments;
 mod command;
 mod curve;
+mod detected;
 mod options;
 mod source;
 mod status;
 
 pub use arguments::run_arguments;
 pub use command::run_words;
-pub use source::{Source, SourceFault};
+pub use options::{MODELS, model_named};
+pub use source::{Files, Source, SourceFault};
 pub use status::status_of;
