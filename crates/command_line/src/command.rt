@@ -5,6 +5,7 @@ ghost use Rattle.command_line.specs.Split.{HasParts};
 
 use crate::compact::do_compact;
 use crate::curve::do_curve;
+use crate::detected::do_detections;
 use crate::options::{MAX_PARTS, Task, command_line, model_named, workers_help};
 use crate::responses::do_responses;
 use crate::source::{Source, SourceFault};
@@ -109,7 +110,7 @@ fn do_task<'a, R: Threads + Wait, S: Source, W: Out>(
         return Err(Fault::Misused("no command"));
     };
     match Task::named(name) {
-        Some(Task::Run) => do_run(rt, alloc, options, files, out),
+        Some(Task::Run) => do_run_or_detections(rt, alloc, options, files, out),
         Some(Task::Curve) => do_curve(rt, alloc, options, files, out),
         Some(Task::Compact) => do_compact(rt, alloc, options, files, out),
         Some(Task::Responses) => do_responses(alloc, options, files, out),
@@ -233,6 +234,20 @@ fn read_part(text: &str) -> Option<Split>
         part: number - 1,
         parts,
     })
+}
+
+/// `run`, or what it is with `--detections`.
+fn do_run_or_detections<'a, R: Threads + Wait, S: Source, W: Out>(
+    rt: &R,
+    alloc: Global,
+    matches: &ArgMatches<'a>,
+    files: &mut S,
+    out: &mut W,
+) -> Result<(), Fault<'a>> {
+    match matches.get_one::<u32>("detections") {
+        Some(most) => do_detections(rt, alloc, matches, most, files, out),
+        None => do_run(rt, alloc, matches, files, out),
+    }
 }
 
 /// `run`: both files are read before either text is looked at.

@@ -8,6 +8,7 @@ mod arguments;
 mod command;
 mod compact;
 mod curve;
+mod detected;
 mod options;
 mod responses;
 mod source;
@@ -15,5 +16,6 @@ mod status;
 
 pub use arguments::run_arguments;
 pub use command::run_words;
-pub use source::{Source, SourceFault};
+pub use options::{MODELS, model_named};
+pub use source::{Files, Source, SourceFault};
 pub use status::status_of;

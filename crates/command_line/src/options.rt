@@ -8,6 +8,9 @@ use std::alloc::{AllocError, Global};
 /// The greatest number of parts of a run.
 pub(crate) const MAX_PARTS: u32 = 65_536;
 
+/// The greatest number of tests that are counted of a fault.
+const MAX_DETECTIONS: u32 = 65_536;
+
 /// What `--version` tells.
 const VERSION: &str = "0.2.0";
 
@@ -106,6 +109,7 @@ enum Choice {
     Workers,
     Parts,
     Part,
+    Detections,
     List,
     Undetected,
     Classes,
@@ -113,13 +117,14 @@ enum Choice {
 }
 
 /// The options of `run`.
-static RUN_CHOICES: [Choice; 9] = [
+static RUN_CHOICES: [Choice; 10] = [
     Choice::Bench,
     Choice::Tests,
     Choice::Model,
     Choice::Workers,
     Choice::Parts,
     Choice::Part,
+    Choice::Detections,
     Choice::List,
     Choice::Undetected,
     Choice::Classes,
@@ -158,10 +163,10 @@ static FAULTS_CHOICES: [Choice; 2] = [Choice::Bench, Choice::Model];
 static MERGE_CHOICES: [Choice; 3] = [Choice::List, Choice::Undetected, Choice::PartTexts];
 
 /// The fault models by their names on the command line.
-static MODELS: [&str; 3] = ["stuck", "transition", "transition-pairs"];
+pub static MODELS: [&str; 3] = ["stuck", "transition", "transition-pairs"];
 
 /// The model of a name among [`MODELS`].
-pub(crate) fn model_named(name: &str) -> Option<Model> {
+pub fn model_named(name: &str) -> Option<Model> {
     match name {
         "stuck" => Some(Model::StuckAt),
         "transition" => Some(Model::Transition),
@@ -407,6 +412,19 @@ fn part_option<'a>(alloc: Global) -> Arg<'a> {
         .help("Run part I of N alone, from 1, and write its part text")
 }
 
+/// The option `--detections N`.
+fn detections_option<'a>(alloc: Global) -> Result<Arg<'a>, AllocError> {
+    Arg::new(alloc, "detections")
+        .long("detections")
+        .value_name("N")
+        .value_parser(value_parser!(u32).range(1..=i64::from(MAX_DETECTIONS)))
+        .help("Count up to N tests that detect each fault, 1 to 65536")
+        .conflicts_with("parts")?
+        .conflicts_with("part")?
+        .conflicts_with("undetected")?
+        .conflicts_with("classes")
+}
+
 /// What is said of the option `--workers N`.
 pub(crate) fn workers_help(alloc: Global) -> Result<String, AllocError> {
     format!(in alloc; "How many workers share the run, 1 to {MAX_WORKERS}")
@@ -465,6 +483,7 @@ fn option<'a>(alloc: Global, choice: Choice, workers: &'a str) -> Result<Arg<'a>
         Choice::Workers => workers_option(alloc, workers),
         Choice::Parts => parts_option(alloc),
         Choice::Part => part_option(alloc),
+        Choice::Detections => detections_option(alloc)?,
         Choice::List => list_flag(alloc),
         Choice::Undetected => undetected_flag(alloc)?,
         Choice::Classes => classes_flag(alloc),

@@ -1,7 +1,7 @@
 //! Command lines: cases with all that they answer, words that are refused, and help.
 
 use crate::cases::{CASES, Case, MORE_CASES, REFUSED_CASES, TRANSITION_CASES};
-use crate::daily::{CONTENTS_CASES, CURVE_CASES};
+use crate::daily::{CONTENTS_CASES, CURVE_CASES, DETECTION_CASES};
 use crate::pairs::PAIR_CASES;
 use crate::screen::{Answer, Screen, Texts, Wanted, answers, run_on};
 use crate::words::{HELP, MISSING, MISUSED};
@@ -167,4 +167,20 @@ fn help_tells_options_and_defaults(rt: HostRuntime) -> Result<(), Fail> {
         assert!(rt; is_help(&told, part), "{line}: {part}");
     }
     Ok(())
+}
+
+/// Checks that cases come out, as they stand.
+fn check_as_they_stand<R: AllocGlobal + Threads + Wait + Abort>(
+    rt: &R,
+    cases: &[Case],
+) -> Result<(), AllocError> {
+    for case in cases {
+        assert!(rt; is_right(rt, case.line, case)?, "{}", case.name);
+    }
+    Ok(())
+}
+
+#[test]
+fn cases_of_detections_come_out(rt: HostRuntime) -> Result<(), Fail> {
+    Ok(check_as_they_stand(&rt, &DETECTION_CASES)?)
 }

@@ -1,4 +1,4 @@
-//! Cases of `--undetected`, `--classes` and `curve`.
+//! Cases of `--undetected`, `--classes`, `--detections` and `curve`.
 
 use crate::cases::{BUFFER, Case};
 
@@ -51,6 +51,48 @@ pub static CONTENTS_CASES: [Case; 4] = [
         stdout: "stem b sa1 none\n5 of 6 (83.33%)\n3 of 4 classes (75.00%)\n",
         stderr: "",
         status: 0,
+    },
+];
+
+/// How many tests detect each fault.
+pub static DETECTION_CASES: [Case; 3] = [
+    Case {
+        name: "detections_of_and",
+        line: "faultsim run --bench bench --tests tests --detections 3 --list --workers 1",
+        bench: AND,
+        tests: "00\n01\n10\n11\n",
+        order: "",
+        stdout: "\
+            stem a sa0 1\n\
+            stem a sa1 1\n\
+            stem b sa0 1\n\
+            stem b sa1 1\n\
+            stem z sa0 1\n\
+            stem z sa1 3\n\
+            1 of 6 (16.66%)\n\
+            ",
+        stderr: "",
+        status: 0,
+    },
+    Case {
+        name: "one_detection_is_the_coverage",
+        line: "faultsim run --bench bench --tests tests --detections 1 --model transition",
+        bench: BUFFER,
+        tests: "0\n1\n",
+        order: "",
+        stdout: "2 of 4 (50.00%)\n",
+        stderr: "",
+        status: 0,
+    },
+    Case {
+        name: "detections_of_a_refused_text",
+        line: "faultsim run --bench bench --tests tests --detections 2",
+        bench: AND,
+        tests: "0\n",
+        order: "",
+        stdout: "",
+        stderr: "faultsim: tests line 1: wrong width\n",
+        status: 1,
     },
 ];
 

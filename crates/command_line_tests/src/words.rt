@@ -11,7 +11,7 @@ pub static MISSING: [&str; 6] = [
 ];
 
 /// Command lines that the program refuses, and what it says of each.
-pub static MISUSED: [(&str, &str); 33] = [
+pub static MISUSED: [(&str, &str); 35] = [
     ("faultsim", "Usage"),
     ("faultsim simulate", "simulate"),
     ("faultsim run --bench bench", "--tests <FILE>"),
@@ -32,6 +32,14 @@ pub static MISUSED: [(&str, &str); 33] = [
     ("faultsim merge --list", "<FILE>..."),
     ("faultsim merge first --parts 2", "--parts"),
     ("faultsim faults --bench bench --list", "--list"),
+    (
+        "faultsim run --bench bench --tests tests --detections 0",
+        "--detections",
+    ),
+    (
+        "faultsim run --bench bench --tests tests --detections 2 --parts 2",
+        "--detections",
+    ),
     (
         "faultsim run --bench bench --tests tests --list --undetected",
         "'--undetected'",
@@ -123,6 +131,7 @@ pub static HELP: [(&str, &str); 28] = [
     ("faultsim --version", "faultsim 0.2.0\n"),
     ("faultsim --help", "6 of 6 (100.00%)"),
     ("faultsim help run", "--bench <FILE>"),
+    ("faultsim help run", "--detections <N>"),
     ("faultsim run --help", "--bench <FILE>"),
     ("faultsim run --help", "--tests <FILE>"),
     ("faultsim run --help", "--model <MODEL>"),

@@ -2,3 +2,4 @@ mod Counting
 mod Classes
 mod Shares
 mod Pushed
+mod Promised

@@ -2,12 +2,14 @@
 
 ghost use Rattle.std.specs.Prelude.{◌≡◌, ◌<◌, ◌≤◌, ℕ, IfOk, Some, length, slice_get};
 ghost use Rattle.detections.specs.Detections.{AreCounts, IsClassCount};
-ghost use Rattle.detections.specs.Share.{AreShares, HasCounted, HaveCounted, IsShareFor};
+ghost use Rattle.detections.specs.Share.{AreShares, HaveCounted};
 
-use crate::share::{Share, count_share};
+use crate::CountFault;
+use crate::share::Share;
+use crate::threads::count_shares;
 use block_sim::Job;
 use std::alloc::{AllocError, Global};
-use std::thread;
+use std::sync::Wait;
 use std::thread::Threads;
 
 /// For each fault of the job's list, before collapsing, the number of tests that detect it. No more
@@ -16,20 +18,23 @@ use std::thread::Threads;
 /// A transition fault is counted at the second test of each pair that detects it. The classes are
 /// shared out among as many workers, each in a thread of its own; the counts are the same for
 /// every number. It takes two numbers for each fault, and for each worker a workspace.
-pub fn detections<R: Threads + Sync>(
+///
+/// It is refused where memory or the start of a thread was refused; the threads that were started
+/// are joined first.
+pub fn detections<R: Threads + Wait>(
     rt: &R,
     alloc: Global,
     job: &Job,
     most: u32,
     workers: u32,
-) -> Result<Vec<u32>, AllocError>
+) -> Result<Vec<u32>, CountFault>
     requires workers { 0 < workers }
     ensures { IfOk result (λ counts. AreCounts job.now.list.model job.now.circuit
         job.now.tests.tests most counts.items) }
 {
-    let mut shares = shares_of(alloc, job, workers)?;
-    count_shares(rt, job, most, workers, shares.as_mut_slice());
-    by_fault(alloc, job, most, workers, shares.as_slice())
+    let shares = shares_of(alloc, job, workers)?;
+    let counted = count_shares(rt, alloc, job, most, workers, shares)?;
+    Ok(by_fault(alloc, job, most, workers, counted.as_slice())?)
 }
 
 /// A share for each worker.
@@ -42,23 +47,6 @@ fn shares_of(alloc: Global, job: &Job, workers: u32) -> Result<Vec<Share>, Alloc
         shares.push(Share::new(alloc, job, first, workers)?)?;
     }
     Ok(shares)
-}
-
-/// Counts for the classes of all shares, each in a thread of its own.
-fn count_shares<R: Threads + Sync>(rt: &R, job: &Job, most: u32, workers: u32, shares: &mut [Share])
-    requires workers { 0 < workers }
-    requires shares { AreShares job.now workers shares.old }
-    ensures { HaveCounted job.now most workers shares.new }
-{
-    let count = |_place: usize, share: &mut Share|
-        requires { IsShareFor job.now share.old.first workers share.old }
-        ensures counted { HasCounted job.entry.now most share.old.first workers
-            share.new.counts.items }
-        ensures first { share.new.first ≡ share.old.first }
-    {
-        count_share(job, most, workers, share);
-    };
-    thread::for_each_mut(rt, shares, workers as usize, &count);
 }
 
 /// The count of each fault, which is that of its class.

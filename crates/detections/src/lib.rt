@@ -8,5 +8,41 @@
 mod class;
 mod faults;
 mod share;
+mod threads;
 
 pub use faults::detections;
+use std::alloc::{AllocError, AllocFailed};
+use thiserror::Error;
+
+/// Why the tests that detect faults were not counted.
+#[derive(Clone, Copy, Debug, PartialEq, Eq, Error)]
+pub enum CountFault {
+    /// Memory was refused.
+    #[error("out of memory")]
+    Memory,
+    /// The start of a thread was refused.
+    #[error("thread refused")]
+    Threads,
+}
+
+impl From<AllocError> for CountFault {
+    ghost use Rattle.std.specs.Prelude.{◌≡◌};
+    ghost use Rattle.detections.specs.declared.CountFault.TheVariants.{Memory};
+
+    ghost from_gives = { λ _ fault. fault ≡ Memory };
+
+    fn from(_refused: AllocError) -> CountFault {
+        CountFault::Memory
+    }
+}
+
+impl<T: Drop> From<AllocFailed<T>> for CountFault {
+    ghost use Rattle.std.specs.Prelude.{◌≡◌};
+    ghost use Rattle.detections.specs.declared.CountFault.TheVariants.{Memory};
+
+    ghost from_gives = { λ _ fault. fault ≡ Memory };
+
+    fn from(_refused: AllocFailed<T>) -> CountFault {
+        CountFault::Memory
+    }
+}

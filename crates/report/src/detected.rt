@@ -15,11 +15,12 @@ use crate::report::{ReportFault, put_coverage, put_fault_line};
 use crate::text::{SimFault, job_of};
 use bench_net::Circuit;
 use block_sim::Job;
-use detections::detections;
+use detections::{CountFault, detections};
 use fault_model::{Faults, Model};
 use itoa::Buffer;
 use output::{Out, OutFailed};
 use std::alloc::Global;
+use std::sync::Wait;
 use std::thread::Threads;
 use workers::{MAX_WORKERS, RunFault};
 
@@ -28,7 +29,7 @@ use workers::{MAX_WORKERS, RunFault};
 /// than `most` are counted of a fault.
 ///
 /// It is refused as [`crate::simulate_text_in`] is, in the same order.
-pub fn detections_text_in<R: Threads + Sync, W: Out>(
+pub fn detections_text_in<R: Threads + Wait, W: Out>(
     rt: &R,
     alloc: Global,
     model: Model,
@@ -49,7 +50,7 @@ pub fn detections_text_in<R: Threads + Sync, W: Out>(
 }
 
 /// Counts for a job, and writes the report.
-fn report_counts<R: Threads + Sync, W: Out>(
+fn report_counts<R: Threads + Wait, W: Out>(
     rt: &R,
     alloc: Global,
     job: &Job,
@@ -70,7 +71,7 @@ fn report_counts<R: Threads + Sync, W: Out>(
 }
 
 /// Counts for a job, where the number of workers is one of a run.
-fn counts_of<R: Threads + Sync>(
+fn counts_of<R: Threads + Wait>(
     rt: &R,
     alloc: Global,
     job: &Job,
@@ -84,7 +85,11 @@ fn counts_of<R: Threads + Sync>(
 {
     match workers {
         0 => Err(RunFault::NoWorkers),
-        1..=MAX_WORKERS => Ok(detections(rt, alloc, job, most, workers)?),
+        1..=MAX_WORKERS => match detections(rt, alloc, job, most, workers) {
+            Ok(counts) => Ok(counts),
+            Err(CountFault::Memory) => Err(RunFault::Memory),
+            Err(CountFault::Threads) => Err(RunFault::Threads),
+        },
         _ => Err(RunFault::TooManyWorkers),
     }
 }

@@ -6,6 +6,7 @@ use fault_model::Model;
 use report::{Plain, detections_text_in, job_of};
 use std::alloc::Global;
 use std::process::Abort;
+use std::sync::Wait;
 use std::test::Fail;
 use std::thread::Threads;
 
@@ -18,7 +19,7 @@ const AND_TESTS: &[u8] = b"00\n01\n10\n11\n";
 const BUFFER: &[u8] = b"INPUT(a)\nOUTPUT(z)\nz = BUFF(a)\n";
 
 /// Checks the counts of a job, by one worker and by more than there are classes.
-fn check_counts<R: Threads + Sync + Abort>(
+fn check_counts<R: Threads + Wait + Abort>(
     rt: &R,
     alloc: Global,
     job: &Job,
