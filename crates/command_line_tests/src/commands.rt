@@ -3,6 +3,7 @@
 use crate::cases::{CASES, Case, MORE_CASES, REFUSED_CASES, TRANSITION_CASES};
 use crate::daily::{CONTENTS_CASES, CURVE_CASES, DETECTION_CASES};
 use crate::pairs::PAIR_CASES;
+use crate::rows::{COMPACT_CASES, RESPONSES_CASES};
 use crate::screen::{Answer, Screen, Texts, Wanted, answers, run_on};
 use crate::words::{HELP, MISSING, MISUSED};
 use std::alloc::AllocError;
@@ -108,6 +109,16 @@ fn cases_of_contents_come_out(rt: HostRuntime) -> Result<(), Fail> {
 #[test]
 fn curves_come_out(rt: HostRuntime) -> Result<(), Fail> {
     Ok(check_cases(&rt, &CURVE_CASES)?)
+}
+
+#[test]
+fn compactions_come_out(rt: HostRuntime) -> Result<(), Fail> {
+    Ok(check_cases(&rt, &COMPACT_CASES)?)
+}
+
+#[test]
+fn responses_come_out(rt: HostRuntime) -> Result<(), Fail> {
+    Ok(check_cases(&rt, &RESPONSES_CASES)?)
 }
 
 #[test]

@@ -20,6 +20,8 @@ mod parts;
 #[cfg(test)]
 mod process;
 #[cfg(test)]
+mod rows;
+#[cfg(test)]
 mod screen;
 #[cfg(test)]
 mod text_calls;

@@ -1,17 +1,19 @@
 //! Command lines that are refused or ask for help.
 
 /// Command lines of which the file `none` is the first that is missing.
-pub static MISSING: [&str; 6] = [
+pub static MISSING: [&str; 8] = [
     "faultsim faults --bench none",
     "faultsim run --bench none --tests other",
     "faultsim run --bench bench --tests none",
     "faultsim curve --bench bench --tests none",
+    "faultsim compact --bench bench --tests none",
+    "faultsim responses --bench bench --tests none",
     "faultsim schedule --bench bench --tests none --order other",
     "faultsim schedule --bench bench --tests tests --order none",
 ];
 
 /// Command lines that the program refuses, and what it says of each.
-pub static MISUSED: [(&str, &str); 35] = [
+pub static MISUSED: [(&str, &str); 36] = [
     ("faultsim", "Usage"),
     ("faultsim simulate", "simulate"),
     ("faultsim run --bench bench", "--tests <FILE>"),
@@ -45,6 +47,10 @@ pub static MISUSED: [(&str, &str); 35] = [
         "'--undetected'",
     ),
     ("faultsim faults --bench bench --classes", "--classes"),
+    (
+        "faultsim responses --bench bench --tests tests --model stuck",
+        "--model",
+    ),
     (
         "faultsim curve --bench bench --tests tests --list",
         "--list",
@@ -127,7 +133,7 @@ pub static MISUSED: [(&str, &str); 35] = [
 /// What help tells: the version, each option with the name of its value, the defaults, the range of
 /// the workers, a worked example and the status. The outputs of the examples are cases of their
 /// own.
-pub static HELP: [(&str, &str); 28] = [
+pub static HELP: [(&str, &str); 31] = [
     ("faultsim --version", "faultsim 0.2.0\n"),
     ("faultsim --help", "6 of 6 (100.00%)"),
     ("faultsim help run", "--bench <FILE>"),
@@ -149,6 +155,8 @@ pub static HELP: [(&str, &str); 28] = [
     ("faultsim run --help", "4 of 4 classes (100.00%)"),
     ("faultsim run --help", "stem b sa0 3\n    stem b sa1 2\n"),
     ("faultsim curve --help", "3 5 83.33\n"),
+    ("faultsim compact --help", "01\n    10\n    11\n"),
+    ("faultsim responses --help", "01\n    00\n"),
     ("faultsim run -h", "/dev/stdin"),
     ("faultsim schedule --help", "--order <FILE>"),
     ("faultsim schedule --help", "[default: 4]"),
