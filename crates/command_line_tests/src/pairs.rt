@@ -1,7 +1,8 @@
 //! Cases of launch and capture pairs: `--model transition-pairs`, beside `--model transition` where
 //! the two differ.
 
-use crate::cases::{BUFFER, C17, Case};
+use crate::cases::{BUFFER, Case};
+use worked_circuits::C17_TEXT as C17;
 
 /// Three pairs for C17, and a test without a second.
 const C17_PAIRS: &str = "11111\n00000\n10111\n01011\n00110\n11010\n11111\n";

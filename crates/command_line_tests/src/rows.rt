@@ -1,11 +1,12 @@
 //! Cases of `compact` and `responses`, and pairs of launch on capture.
 
-use crate::cases::{BUFFER, C17, Case};
+use crate::cases::{BUFFER, Case};
 use crate::screen::{Screen, Texts, run_on};
 use std::alloc::AllocError;
 use std::sync::Wait;
 use std::test::Fail;
 use std::thread::Threads;
+use worked_circuits::C17_TEXT as C17;
 
 /// An AND of two inputs.
 const AND: &str = "INPUT(a)\nINPUT(b)\nOUTPUT(z)\nz = AND(a, b)\n";
