@@ -82,7 +82,7 @@ static CASES: [Case; 6] = [
 /// Command lines that are refused, and what is said of each; help, and what it tells.
 static TOLD: [(&str, u8, &str); 7] = [
     ("faultgen", 2, "--bench <FILE>"),
-    ("faultgen --bench bench --seed -1", 2, "--seed"),
+    ("faultgen --bench bench --seed x", 2, "--seed"),
     ("faultgen --bench bench --most 0", 2, "--most"),
     ("faultgen --bench bench --workers 65", 2, "--workers"),
     ("faultgen --version", 0, "faultgen 0.2.0\n"),
