@@ -8,6 +8,8 @@ mod commands;
 #[cfg(test)]
 mod daily;
 #[cfg(test)]
+mod generator;
+#[cfg(test)]
 mod limits;
 #[cfg(test)]
 mod merges;

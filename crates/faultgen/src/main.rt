@@ -1,0 +1,14 @@
+//! `faultgen` makes tests for a bench circuit: random tests, of which those are kept that detect
+//! something new. It is an example of the library.
+#![tactic(auto)]
+
+use generator::run_arguments;
+use report::Plain;
+use std::process::ExitCode;
+
+/// Does what the command line asks for, and ends with its status.
+fn main(rt: HostRuntime) -> ExitCode {
+    let mut out = Plain::new(rt.stdout());
+    let mut err = Plain::new(rt.stderr());
+    ExitCode::from(run_arguments(&rt, &mut out, &mut err))
+}

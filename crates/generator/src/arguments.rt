@@ -1,0 +1,61 @@
+//! The arguments of the process, on the files of the system.
+
+ghost use Rattle.std.specs.Prelude.{◌≤◌};
+
+use crate::command::{Fault, NO_MEMORY, answer, run_words};
+use command_line::Files;
+use report::Out;
+use std::alloc::{AllocError, Global};
+use std::env;
+use std::io::ErrorKind;
+use std::rt::{Env, Files as HasFiles};
+use std::sync::Wait;
+use std::thread::Threads;
+
+/// Does what the arguments of the process ask for, as [`run_words`] does, on the files of the
+/// system, and answers the status.
+pub fn run_arguments<R: Env + HasFiles + AllocGlobal + Threads + Wait, W: Out, E: Out>(
+    rt: &R,
+    out: &mut W,
+    err: &mut E,
+) -> u8
+    ensures { result ≤ 3 }
+{
+    match read_arguments(rt) {
+        Ok(arguments) => run_on_files(rt, &arguments, out, err),
+        Err(fault) => answer(&fault, err),
+    }
+}
+
+/// The arguments of the process.
+fn read_arguments<R: Env + AllocGlobal>(rt: &R) -> Result<Vec<String>, Fault<'static>> {
+    let arguments = match env::args(rt) {
+        Ok(arguments) => arguments,
+        Err(error) if error.kind() == ErrorKind::OutOfMemory => return Err(NO_MEMORY),
+        Err(_) => return Err(Fault::NoText),
+    };
+    match arguments.collect(rt.alloc()) {
+        Ok(arguments) => Ok(arguments),
+        Err(AllocError) => Err(NO_MEMORY),
+    }
+}
+
+/// Does what arguments ask for on the files of the system.
+fn run_on_files<R: HasFiles + AllocGlobal + Threads + Wait, W: Out, E: Out>(
+    rt: &R,
+    arguments: &[String],
+    out: &mut W,
+    err: &mut E,
+) -> u8
+    ensures { result ≤ 3 }
+{
+    match words_of(rt.alloc(), arguments) {
+        Ok(words) => run_words(rt, rt.alloc(), &words, &mut Files::new(rt), out, err),
+        Err(AllocError) => answer(&NO_MEMORY, err),
+    }
+}
+
+/// The words of arguments.
+fn words_of<'a>(alloc: Global, arguments: &'a [String]) -> Result<Vec<&'a str>, AllocError> {
+    arguments.iter().map(|word| word.as_str()).collect(alloc)
+}

@@ -1,0 +1,177 @@
+//! What the words of `faultgen` ask for is done.
+
+ghost use Rattle.std.specs.Prelude.{◌≤◌};
+
+use crate::options::command_line;
+use crate::{Settings, generate};
+use clap::error::ErrorKind;
+use clap::{ArgMatches, Error};
+use command_line::{Source, SourceFault, model_named, status_of};
+use output::put_all;
+use report::{Formatted, Out, SimFault};
+use std::alloc::Global;
+use std::fmt::Write;
+use std::sync::Wait;
+use std::thread::Threads;
+
+/// The status of what was done.
+const DONE: u8 = 0;
+
+/// The status of a refused command line.
+const MISUSED: u8 = 2;
+
+/// The status of a file or an output that is refused.
+const FAILED: u8 = 3;
+
+/// Why nothing was written, or not all.
+#[derive(Clone, Copy)]
+pub(crate) enum Fault<'a> {
+    /// An argument of the process is no text.
+    NoText,
+    /// The command line lacks an option.
+    Misused(&'a str),
+    /// The file at a path is refused.
+    Unreadable(&'a str),
+    /// The output takes nothing more.
+    Unwritten,
+    /// The circuit is refused, or the work on it.
+    Sim(SimFault),
+}
+
+/// Memory is refused.
+pub(crate) const NO_MEMORY: Fault<'static> = Fault::Sim(SimFault::Memory);
+
+/// Does what the words ask for, and answers the status: 0 done or helped, 1 the circuit is refused,
+/// 2 the command line is refused, 3 a file, the output, memory or a thread is refused. `words[0]` is
+/// the program's name. The tests go to `out`, and their coverage line to `err`.
+pub fn run_words<'a, R: Threads + Wait, S: Source, W: Out, E: Out>(
+    rt: &R,
+    alloc: Global,
+    words: &'a [&'a str],
+    files: &mut S,
+    out: &mut W,
+    err: &mut E,
+) -> u8
+    ensures { result ≤ 3 }
+{
+    let Ok(command) = command_line(alloc) else {
+        return answer(&NO_MEMORY, err);
+    };
+    match command.try_get_matches_from(words) {
+        Ok(matches) => run_matched(rt, alloc, &matches, files, out, err),
+        Err(error) => answer_error(&error, out, err),
+    }
+}
+
+/// Does what a command line asks for.
+fn run_matched<'a, R: Threads + Wait, S: Source, W: Out, E: Out>(
+    rt: &R,
+    alloc: Global,
+    matches: &ArgMatches<'a>,
+    files: &mut S,
+    out: &mut W,
+    err: &mut E,
+) -> u8
+    ensures { result ≤ 3 }
+{
+    match make_tests(rt, alloc, matches, files, out, err) {
+        Ok(()) => DONE,
+        Err(fault) => answer(&fault, err),
+    }
+}
+
+/// Makes tests, writes them, and tells their coverage.
+fn make_tests<'a, R: Threads + Wait, S: Source, W: Out, E: Out>(
+    rt: &R,
+    alloc: Global,
+    matches: &ArgMatches<'a>,
+    files: &mut S,
+    out: &mut W,
+    err: &mut E,
+) -> Result<(), Fault<'a>> {
+    let settings = read_settings(matches)?;
+    let bench = read_bench(alloc, matches, files)?;
+    let made = match generate(rt, alloc, &bench, settings) {
+        Ok(made) => made,
+        Err(fault) => return Err(Fault::Sim(fault)),
+    };
+    if put_all(&made.tests, out).is_err() {
+        return Err(Fault::Unwritten);
+    }
+    let _ = put_all(&made.coverage, err);
+    Ok(())
+}
+
+/// The settings that a command line names.
+fn read_settings<'a>(matches: &ArgMatches<'a>) -> Result<Settings, Fault<'a>> {
+    let Some(model) = matches.get_str("model").and_then(model_named) else {
+        return Err(Fault::Misused("--model"));
+    };
+    let Some(seed) = matches.get_one::<u64>("seed") else {
+        return Err(Fault::Misused("--seed"));
+    };
+    let Some(most) = matches.get_one::<u32>("most") else {
+        return Err(Fault::Misused("--most"));
+    };
+    let Some(workers) = matches.get_one::<u32>("workers") else {
+        return Err(Fault::Misused("--workers"));
+    };
+    Ok(Settings {
+        model,
+        seed,
+        most,
+        workers,
+    })
+}
+
+/// Reads the file of the circuit.
+fn read_bench<'a, S: Source>(
+    alloc: Global,
+    matches: &ArgMatches<'a>,
+    files: &mut S,
+) -> Result<Vec<u8>, Fault<'a>> {
+    let Some(path) = matches.get_str("bench") else {
+        return Err(Fault::Misused("--bench"));
+    };
+    match files.read(alloc, path) {
+        Ok(text) => Ok(text),
+        Err(SourceFault::Unreadable) => Err(Fault::Unreadable(path)),
+        Err(SourceFault::Memory) => Err(NO_MEMORY),
+    }
+}
+
+/// Answers a command line that asks for help, or is refused.
+fn answer_error<W: Out, E: Out>(error: &Error, out: &mut W, err: &mut E) -> u8
+    ensures { result ≤ 3 }
+{
+    if error.kind() == ErrorKind::OutOfMemory {
+        return answer(&NO_MEMORY, err);
+    }
+    if error.use_stderr() {
+        let _ = write!(Formatted(err), "{error}");
+        return MISUSED;
+    }
+    if write!(Formatted(out), "{error}").is_err() {
+        return answer(&Fault::Unwritten, err);
+    }
+    DONE
+}
+
+/// Tells a fault in one line, and answers its status.
+pub(crate) fn answer<E: Out>(fault: &Fault<'_>, err: &mut E) -> u8
+    ensures { result ≤ 3 }
+{
+    let mut text = Formatted(err);
+    let _ = match fault {
+        Fault::NoText => writeln!(text, "faultgen: an argument is no text"),
+        Fault::Misused(option) => writeln!(text, "faultgen: cannot use {option}"),
+        Fault::Unreadable(path) => writeln!(text, "faultgen: cannot read {path}"),
+        Fault::Unwritten => writeln!(text, "faultgen: cannot write"),
+        Fault::Sim(fault) => writeln!(text, "faultgen: {fault}"),
+    };
+    match fault {
+        Fault::NoText | Fault::Misused(_) => MISUSED,
+        Fault::Unreadable(_) | Fault::Unwritten => FAILED,
+        Fault::Sim(fault) => status_of(fault),
+    }
+}

@@ -1,0 +1,100 @@
+//! A small test generator over the library's calls: random tests, of which those are kept that
+//! detect something new.
+//!
+//! [`generate`] tries random tests in rounds, a block of 64 after another, and asks which of the
+//! fault classes that no kept test detects they detect (random test generation: Bushnell and
+//! Agrawal, Essentials of Electronic Testing, the chapter on combinational ATPG). It ends where all
+//! are detected, where 20 blocks in turn detect nothing new, or at the greatest number of tests.
+#![tactic(auto)]
+
+mod arguments;
+mod best;
+mod command;
+mod keeping;
+mod options;
+mod search;
+
+ghost use Rattle.std.specs.Prelude.{◌<◌, ◌≤◌, IfErr, IfOk, OnOk, false};
+ghost use Rattle.report.specs.EndToEnd.{IsReportOf};
+ghost use Rattle.report.specs.declared.contents.Lines.TheVariants.{Omitted};
+ghost use Rattle.generator.specs.Generated.{HasFewRows, IsGeneratorFault};
+
+use crate::best::best_tests;
+use crate::search::search;
+pub use arguments::run_arguments;
+pub use command::run_words;
+use fault_model::Model;
+use patterns::write_tests;
+use report::{Contents, Lines, SimFault, job_of, report_bytes};
+use std::alloc::Global;
+use std::sync::Wait;
+use std::thread::Threads;
+
+/// What a generator is asked for.
+#[derive(Clone, Copy, Debug, PartialEq, Eq)]
+pub struct Settings {
+    /// The faults to detect.
+    pub model: Model,
+    /// The seed of the random tests. The same seed gives the same tests.
+    pub seed: u64,
+    /// The greatest number of tests to keep.
+    pub most: u32,
+    /// How many workers share the simulation, 1 to 64. The tests are the same for every number.
+    pub workers: u32,
+}
+
+/// Tests for a circuit, and what they detect.
+#[derive(Drop)]
+pub struct Generated {
+    /// The test text.
+    pub tests: Vec<u8>,
+    /// The coverage line of the tests.
+    pub coverage: Vec<u8>,
+}
+
+/// Makes tests for the circuit of a bench text.
+///
+/// The coverage is what [`report::report_bytes`] tells of the tests that are given, by a run of its
+/// own over their text: nothing is told of tests that were tried and left out.
+///
+/// It is refused for the bench text first, then for the number of workers.
+pub fn generate<R: Threads + Wait>(
+    rt: &R,
+    alloc: Global,
+    bench: &[u8],
+    settings: Settings,
+) -> Result<Generated, SimFault>
+    ensures coverage { IfOk result (λ made. IsReportOf settings.model bench.now made.tests.items
+        (record {
+          lines = Omitted;
+          classes = false;
+        }) made.coverage.items) }
+    ensures few { IfOk result (λ made. HasFewRows settings.most made.tests.items) }
+    ensures workers { OnOk result ((0 < settings.workers) × (settings.workers ≤ 64)) }
+    ensures refused { IfErr result (IsGeneratorFault bench.now settings.workers) }
+{
+    let tests = test_rows(rt, alloc, bench, settings)?;
+    let contents = Contents {
+        lines: Lines::Omitted,
+        classes: false,
+    };
+    let Settings { model, workers, .. } = settings;
+    let coverage = report_bytes(rt, alloc, model, bench, &tests, workers, contents)?;
+    Ok(Generated { tests, coverage })
+}
+
+/// The text of tests for the circuit of a bench text.
+fn test_rows<R: Threads + Wait>(
+    rt: &R,
+    alloc: Global,
+    bench: &[u8],
+    settings: Settings,
+) -> Result<Vec<u8>, SimFault>
+    ensures few { IfOk result (λ text. HasFewRows settings.most text.items) }
+    ensures refused { IfErr result (IsGeneratorFault bench.now settings.workers) }
+{
+    let mut job = job_of(alloc, settings.model, bench, b"")?;
+    let found = search(rt, alloc, &mut job, settings)?;
+    let best = best_tests(rt, alloc, &mut job, found, settings)?;
+    Ok(write_tests(alloc, &best)?)
+}

@@ -1,0 +1,95 @@
+//! The command line of `faultgen`: options and their help.
+
+use clap::{Arg, Command, value_parser};
+use command_line::MODELS;
+use patterns::MAX_TESTS;
+use report::MAX_WORKERS;
+use std::alloc::{AllocError, Global};
+
+/// What `--version` tells.
+const VERSION: &str = "0.2.0";
+
+/// What is said after the long help.
+const ABOUT: &str = "\
+Example, a circuit:
+
+    a.bench
+    INPUT(a)
+    INPUT(b)
+    OUTPUT(z)
+    z = AND(a, b)
+
+    faultgen --bench a.bench > a.tests
+
+writes tests to a.tests, one a line, and tells on the standard error what they detect:
+
+    6 of 6 (100.00%)
+
+It tries random tests, a block of 64 after another, keeps those that detect something new, and ends
+where nothing is left, where 20 blocks in turn detect nothing new, or at the greatest number of
+tests.
+
+The exit status is 0 where all was done, 1 where the circuit is refused, 2 where the command line
+is, and 3 where a file, the output, memory or a thread is.";
+
+/// The option `--bench FILE`.
+fn bench_option<'a>(alloc: Global) -> Arg<'a> {
+    Arg::new(alloc, "bench")
+        .long("bench")
+        .value_name("FILE")
+        .required(true)
+        .help("The circuit, a bench text")
+}
+
+/// The option `--model MODEL`.
+fn model_option<'a>(alloc: Global) -> Arg<'a> {
+    Arg::new(alloc, "model")
+        .long("model")
+        .value_name("MODEL")
+        .value_parser(MODELS.as_slice())
+        .default_value("stuck")
+        .help("Which faults")
+}
+
+/// The option `--seed N`.
+fn seed_option<'a>(alloc: Global) -> Arg<'a> {
+    Arg::new(alloc, "seed")
+        .long("seed")
+        .value_name("N")
+        .value_parser(value_parser!(u64))
+        .default_value("1")
+        .help("The seed of the random tests: the same seed gives the same tests")
+}
+
+/// The option `--most N`.
+fn most_option<'a>(alloc: Global) -> Arg<'a> {
+    Arg::new(alloc, "most")
+        .long("most")
+        .value_name("N")
+        .value_parser(value_parser!(u32).range(1..=i64::from(MAX_TESTS)))
+        .default_value("65536")
+        .help("The greatest number of tests, 1 to 65536")
+}
+
+/// The option `--workers N`.
+fn workers_option<'a>(alloc: Global) -> Arg<'a> {
+    Arg::new(alloc, "workers")
+        .long("workers")
+        .value_name("N")
+        .value_parser(value_parser!(u32).range(1..=i64::from(MAX_WORKERS)))
+        .default_value("4")
+        .help("How many workers share the simulation, 1 to 64")
+}
+
+/// The command line of the program.
+pub(crate) fn command_line<'a>(alloc: Global) -> Result<Command<'a>, AllocError> {
+    Command::new(alloc, "faultgen")
+        .version(VERSION)
+        .about("Random tests for a bench circuit, of which those are kept that detect more")
+        .after_long_help(ABOUT)
+        .arg(bench_option(alloc))?
+        .arg(model_option(alloc))?
+        .arg(seed_option(alloc))?
+        .arg(most_option(alloc))?
+        .arg(workers_option(alloc))
+}

@@ -1,0 +1,133 @@
+//! Rounds of random tests, and the classes that are left.
+
+ghost use Rattle.std.specs.Prelude.{◌≡◌, ◌<◌, ◌≤◌, All, IfErr, IfOk, length};
+ghost use Rattle.bench_net.specs.Scan.{sources};
+ghost use Rattle.patterns.specs.Tests.{IsTestList};
+ghost use Rattle.generator.specs.Generated.{IsWorkFault, undetected};
+
+use crate::Settings;
+use crate::keeping::keep_tests;
+use block_sim::{Job, JobFault};
+use patterns::{BLOCK_SIZE, MAX_PIECES, MAX_TESTS, Tests};
+use rand::SeedableRng;
+use rand::rngs::SmallRng;
+use rand_core::Rng;
+use report::SimFault;
+use std::alloc::{AllocError, Global};
+use std::sync::Wait;
+use std::thread::Threads;
+use workers::{OpenGate, run_classes};
+
+/// After how many blocks in turn that detect nothing new the search ends.
+const QUIET_BLOCKS: u32 = 20;
+
+/// How many blocks are tried at a time.
+const ROUND_BLOCKS: u32 = 5;
+
+/// Tries random tests on a job, and gives those that detect something new.
+pub(crate) fn search<R: Threads + Wait>(
+    rt: &R,
+    alloc: Global,
+    job: &mut Job,
+    settings: Settings,
+) -> Result<Tests, SimFault>
+    ensures width { IfOk result (λ kept. kept.width ≡ length (sources job.new.circuit)) }
+    ensures refused { IfErr result (IsWorkFault settings.workers) }
+{
+    let mut rng = SmallRng::seed_from_u64(settings.seed);
+    let mut left = all_classes(alloc, job)?;
+    let mut kept = Tests::new(alloc, job.circuit().sources());
+    let room = room_of(job);
+    let blocks = ROUND_BLOCKS.min(room / BLOCK_SIZE);
+    let mut quiet = 0;
+    for _round in 0..u32::MAX {
+        if left.is_empty() || quiet >= QUIET_BLOCKS || kept.count() >= room {
+            break;
+        }
+        take_random_tests(alloc, job, blocks, &mut rng)?;
+        let firsts = run_classes(rt, alloc, job, &left, settings.workers, &OpenGate)?;
+        keep_tests(alloc, job, &left, &firsts, room, &mut kept)?;
+        let still = undetected(alloc, &left, &firsts)?;
+        quiet = if still.len() < left.len() {
+            0
+        } else {
+            quiet + blocks
+        };
+        left = still;
+    }
+    Ok(kept)
+}
+
+/// How many tests a job takes.
+fn room_of(job: &Job) -> u32 {
+    let blocks = MAX_PIECES / job.classes().count().max(1);
+    BLOCK_SIZE * blocks.min(MAX_TESTS / BLOCK_SIZE)
+}
+
+/// All classes of a job.
+fn all_classes(alloc: Global, job: &Job) -> Result<Vec<u32>, AllocError>
+    ensures few { IfOk result (λ all. length all.items ≤ length job.now.classes.representative) }
+    ensures within { IfOk result (λ all.
+        All (λ class. class < length job.now.classes.representative) all.items) }
+{
+    let count = job.classes().count();
+    let mut classes = Vec::with_capacity(alloc, count as usize)?;
+    for class in 0..count {
+        classes.push(class)?;
+    }
+    Ok(classes)
+}
+
+/// Gives a job so many blocks of random tests in place of its own.
+fn take_random_tests(
+    alloc: Global,
+    job: &mut Job,
+    blocks: u32,
+    rng: &mut SmallRng,
+) -> Result<(), JobFault>
+    requires { blocks ≤ 1024 }
+    ensures classes { job.new.classes ≡ job.old.classes }
+    ensures circuit { job.new.circuit ≡ job.old.circuit }
+{
+    let tests = random_tests(alloc, job.circuit().sources(), blocks, rng)?;
+    job.set_tests(alloc, tests)
+}
+
+/// So many blocks of random tests.
+fn random_tests(
+    alloc: Global,
+    width: u32,
+    blocks: u32,
+    rng: &mut SmallRng,
+) -> Result<Tests, AllocError>
+    requires { blocks ≤ 1024 }
+    ensures list { IfOk result (λ tests. IsTestList tests) }
+    ensures width { IfOk result (λ tests. tests.width ≡ width) }
+{
+    let count = width as usize * blocks as usize;
+    let mut words = Vec::with_capacity(alloc, count)?;
+    for _word in 0..count {
+        words.push(rng.next_u64())?;
+    }
+    // Whole blocks have no idle bits, so that memory alone can be refused.
+    let Ok(tests) = Tests::from_words(alloc, width, BLOCK_SIZE * blocks, &words) else {
+        return Err(AllocError);
+    };
+    Ok(tests)
+}
+
+/// Those classes of a list that no test detects.
+fn undetected(
+    alloc: Global,
+    classes: &[u32],
+    firsts: &[Option<u32>],
+) -> Result<Vec<u32>, AllocError>
+    ensures { IfOk result (λ left. left.items ≡ undetected classes.now firsts.now) }
+{
+    classes
+        .iter()
+        .zip(firsts)
+        .filter(|(_class, first)| first.is_none())
+        .map(|(class, _first)| *class)
+        .collect(alloc)
+}
