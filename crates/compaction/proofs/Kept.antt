@@ -1,7 +1,7 @@
 -- What the tests that are kept detect, and why each is.
 use Rattle.std.proofs.Common.{◌≡◌, ◌<◌, ◌≤◌, ◌+◌, ◌-◌, ◌*◌, ◌∙◌, ℕ, zero, suc, Bool, true, false, List, ◌∷◌, [], length, ap, refl, sym, subst, arith, add-one, inl, inr, ◌⊎◌, get_or, take, ◌++◌}
-use Rattle.std.specs.Prelude.{◌||◌, ◌==◌, ⊤, ⊥, Contains, IfOk, Option, Some, None, Result, Ok, Err, slice_get}
-use Rattle.std.specs.List.{ReversedBelow, list_any}
+use Rattle.std.specs.Prelude.{◌||◌, ⊤, Contains, IfOk, Option, Some, None, Result, Ok, Err, slice_get}
+use Rattle.std.specs.List.{ReversedBelow}
 use Rattle.std.proofs.lemmas.Bool.{cases_lt, eqb-true, eq-eqb}
 use Rattle.std.proofs.lemmas.List.{get_or_past}
 use Rattle.std.proofs.lemmas.Nat.{mul-le}
@@ -16,7 +16,7 @@ use Rattle.fault_model.specs.declared.Model.TheVariants.{StuckAt, Transition, Tr
 use Rattle.fault_model.specs.Fault.{Fault, faults}
 use Rattle.fault_model.specs.Solution.{Test, Detects}
 use Rattle.fault_model.specs.declared.Line.{Line}
-use Rattle.fault_model.specs.Detection.{DetectsAt, HasBit, IsInitialized, IsSecondOfPair, LooksBack}
+use Rattle.fault_model.specs.Detection.{DetectsAt, IsInitialized, IsSecondOfPair, LooksBack}
 use Rattle.fault_model.proofs.Public.{listed_model}
 use Rattle.patterns.specs.Tests.{TestList, blocks}
 use Rattle.block_sim.specs.First.{IsFirst}
@@ -25,7 +25,7 @@ use Rattle.workers.specs.declared.RunFault.{RunFault}
 use Rattle.workers.specs.declared.RunFault.TheVariants as run_fault
 use Rattle.workers.specs.Refused.{IsRunFault}
 use Rattle.workers.specs.Verdict.{AreFirsts}
-use Rattle.compaction.specs.Compaction.{Covers, IsCompaction, IsFirstForSome, IsLastForSome, IsNeeded, IsSublist, finds, is_first, marked}
+use Rattle.compaction.specs.Compaction.{Covers, IsCompaction, IsFirstForSome, IsLastForSome, IsNeeded, finds, is_first, marked}
 use Rattle.compaction.specs.Marks.{AreFinding, AreLast}
 use Rattle.compaction.proofs.Marked.{ComesFrom, comes_from, earlier_place, marked_at, ones, ones_next, ones_stay, sublist_twice}
 use Rattle.compaction.proofs.Turned.{turned_back, turned_to}
@@ -282,33 +282,28 @@ marked_alike : (c : List Statement) (tests : List Test) (found marks : List Bool
 marked_alike c tests found marks are before q lt =
     let x = get_or found (2 * q + 1) false in
     let first : get_or marks (2 * q) false ≡ x = before.each (2 * q) (omega (arith, lt)) ∙ ap (λ b. b || x) (first_finds_none c tests found are q) in
-    let next : get_or found (2 * q + 1 + 1) false ≡ false = subst (λ n. get_or found n false ≡ false) (omega arith) (first_finds_none c tests found are (q + 1)) in
+    let two : 2 * (q + 1) ≡ 2 * q + 1 + 1 = omega arith in
+    let next : get_or found (2 * q + 1 + 1) false ≡ false = subst (λ n. get_or found n false ≡ false) two (first_finds_none c tests found are (q + 1)) in
     let second : get_or marks (2 * q + 1) false ≡ x = before.each (2 * q + 1) lt ∙ (ap (λ b. x || b) next ∙ or_false x) in
     first ∙ sym second
 
 -- so before a pair an even number of tests is marked
 even_before : (marks : List Bool) (p : ℕ) → 2 * p ≤ length marks → ((q : ℕ) → q < p → get_or marks (2 * q) false ≡ get_or marks (2 * q + 1) false) → (n : ℕ) × (ones (take (2 * p) marks) ≡ 2 * n)
 even_before marks zero le alike = (0, refl)
-even_before marks (suc p) le alike = go (get_or marks (2 * p) false) refl
+even_before marks (suc p) le alike = go (even_before marks p (omega (arith, le)) (λ q lt. alike q (omega (arith, lt)))) (get_or marks (2 * p) false) refl
   where
-    Even : Type 0
-    Even = (n : ℕ) × (ones (take (2 * suc p) marks) ≡ 2 * n)
-
-    earlier : (n : ℕ) × (ones (take (2 * p) marks) ≡ 2 * n)
-    earlier = even_before marks p (omega (arith, le)) (λ q lt. alike q (omega (arith, lt)))
-
-    twice : (n : ℕ) → ones (take (suc (suc (2 * p))) marks) ≡ 2 * n → Even
-    twice n e = (n, subst (λ i. ones (take i marks) ≡ 2 * n) (omega arith) e)
+    twice : (n : ℕ) → ones (take (suc (suc (2 * p))) marks) ≡ 2 * n → (n : ℕ) × (ones (take (2 * suc p) marks) ≡ 2 * n)
+    twice n e = (n, let two : suc (suc (2 * p)) ≡ 2 * suc p = omega arith in subst (λ i. ones (take i marks) ≡ 2 * n) two e)
 
     there : (b : Bool) → get_or marks (2 * p) false ≡ b → get_or marks (suc (2 * p)) false ≡ b
     there b e = ap (λ i. get_or marks i false) (sym (add-one (2 * p))) ∙ (sym (alike p (omega arith)) ∙ e)
 
-    go : (b : Bool) → get_or marks (2 * p) false ≡ b → Even
-    go true e =
+    go : (n : ℕ) × (ones (take (2 * p) marks) ≡ 2 * n) → (b : Bool) → get_or marks (2 * p) false ≡ b → (n : ℕ) × (ones (take (2 * suc p) marks) ≡ 2 * n)
+    go earlier true e =
         let first : ones (take (suc (2 * p)) marks) ≡ suc (ones (take (2 * p) marks)) = ones_next marks (2 * p) (mark_at_place marks (2 * p) e) in
         let second : ones (take (suc (suc (2 * p))) marks) ≡ suc (ones (take (suc (2 * p)) marks)) = ones_next marks (suc (2 * p)) (mark_at_place marks (suc (2 * p)) (there true e)) in
         twice (suc earlier.0) (let h = earlier.1 in omega (arith, first, second, h))
-    go false e =
+    go earlier false e =
         let first : ones (take (suc (2 * p)) marks) ≡ ones (take (2 * p) marks) = ones_stay marks (2 * p) e in
         let second : ones (take (suc (suc (2 * p))) marks) ≡ ones (take (suc (2 * p)) marks) = ones_stay marks (suc (2 * p)) (there false e) in
         twice earlier.0 (second ∙ (first ∙ earlier.1))
@@ -321,7 +316,7 @@ looks_back_pairs c tests found marks are before = record {
 }
   where
     second : (i : ℕ) → slice_get found (suc i) ≡ Some true → IsSecondOfPair (suc i) → IsSecondOfPair (suc (ones (take i marks)))
-    second i on pair = (even.0, ap suc even.1 ∙ omega arith)
+    second i on pair = (even.0, let e = even.1 in omega (arith, e))
       where
         lt : suc i < length found
         lt = slice_get_within found (suc i) true on
@@ -342,15 +337,15 @@ stuck_compacted m c tests rows kept marks model are is last =
     subst (λ x. IsCompaction x c tests kept) (sym model)
     (compacted_stuck c tests kept marks (subst (λ x. AreFinding x c tests marks) model are) (subst (λ xs. AreLast c xs kept) is last))
 
-pub transition_compacted : (m : Model) (c : List Statement) (tests kept : List Test) (found marks : List Bool) → m ≡ Transition → AreFinding m c tests found → AreWithBefore found marks → kept ≡ marked marks tests → IsCompaction m c tests kept
-transition_compacted m c tests kept found marks model are before is =
+-- both models under which a test looks back to the one before it
+pub before_compacted : (m x : Model) (c : List Statement) (tests kept : List Test) (found marks : List Bool) → m ≡ x → (x ≡ Transition) ⊎ (x ≡ TransitionPairs) → AreFinding m c tests found → AreWithBefore found marks → kept ≡ marked marks tests → IsCompaction m c tests kept
+before_compacted m x c tests kept found marks same either are before is =
     subst (λ xs. IsCompaction m c tests xs) (sym is)
-    (compacted_before m c tests found marks are before (subst (λ x. LooksBackSame x c tests found marks) (sym model) (looks_back_transition c tests found marks before)))
-
-pub pairs_compacted : (m : Model) (c : List Statement) (tests kept : List Test) (found marks : List Bool) → m ≡ TransitionPairs → AreFinding m c tests found → AreWithBefore found marks → kept ≡ marked marks tests → IsCompaction m c tests kept
-pairs_compacted m c tests kept found marks model are before is =
-    subst (λ xs. IsCompaction m c tests xs) (sym is)
-    (compacted_before m c tests found marks are before (subst (λ x. LooksBackSame x c tests found marks) (sym model) (looks_back_pairs c tests found marks (subst (λ x. AreFinding x c tests found) model are) before)))
+    (compacted_before m c tests found marks are before (subst (λ y. LooksBackSame y c tests found marks) (sym same) (go either)))
+  where
+    go : (x ≡ Transition) ⊎ (x ≡ TransitionPairs) → LooksBackSame x c tests found marks
+    go (inl e) = subst (λ y. LooksBackSame y c tests found marks) (sym e) (looks_back_transition c tests found marks before)
+    go (inr e) = subst (λ y. LooksBackSame y c tests found marks) (sym e) (looks_back_pairs c tests found marks (subst (λ y. AreFinding y c tests found) (same ∙ e) are) before)
 
 -- an answer of one kind is one of another
 pub ok_as : {T E : Type 0} (A B : T → Type 0) (r : Result T E) → ((x : T) → A x → B x) → IfOk r A → IfOk r B

@@ -1,6 +1,6 @@
 use Rattle.std.proofs.Common.{◌≡◌, ◌<◌, ◌∙◌, ap, arith, false, get_or, length, sym}
 use Rattle.std.specs.Prelude.{◌||◌}
-use Rattle.compaction.specs.Compaction.{finds, is_first}
+use Rattle.compaction.specs.Compaction.{is_first}
 use Rattle.compaction.proofs.Kept.{finds_more, written_over}
 use Rattle.compaction.proofs.finding.marks_of.Goals as goal
 

@@ -1,9 +1,9 @@
-use Rattle.std.proofs.Common.{◌≡◌, ◌≤◌, ◌+◌, ◌∙◌, ap, arith, false, get_or, length, subst, sym}
+use Rattle.std.proofs.Common.{◌≡◌, ◌+◌, ◌∙◌, ap, arith, false, get_or, length, sym}
 use Rattle.std.specs.Prelude.{◌||◌}
-use Rattle.fault_model.specs.declared.Model.TheVariants.{StuckAt, Transition}
+use Rattle.fault_model.specs.declared.Model.TheVariants.{StuckAt}
 use Rattle.compaction.specs.Compaction.{IsCompaction, marked}
 use Rattle.compaction.specs.Marks.{AreLast}
-use Rattle.compaction.proofs.Kept.{ok_as, stuck_compacted, transition_compacted, written_over}
+use Rattle.compaction.proofs.Kept.{AreWithBefore, before_compacted, ok_as, stuck_compacted, written_over}
 use Rattle.compaction.proofs.Marked.{marked_few}
 use Rattle.compaction.proofs.passes.compact.Goals as goal
 
@@ -27,10 +27,13 @@ returns-clause-compacted g c =
     let job = c.args.job.now in
     let found = c.in_ok-found.found.items in
     let new = c.mark_before.new.marks in
-    let model : job.list.model ≡ Transition = sym (ap (λ l. l.model) c.faults.ensures.part) ∙ (sym c.model.ensures ∙ c.in-Transition.is) in
+    let model : job.list.model ≡ c.model.result = sym (ap (λ l. l.model) c.faults.ensures.part) ∙ sym c.model.ensures in
     let len : c.in_ok-found.found.len ≡ length new = sym (c.mark_before.auto.marks ∙ c.deref_mut.ensures.len) in
     let count : length new ≡ length found = c.mark_before.ensures.count ∙ ap length c.deref_mut.ensures.value in
     let marks : c.deref-in-Transition.result.now ≡ new = c.deref-in-Transition.ensures.value ∙ written_over c.in_ok-found.found.len new _ len in
-    transition_compacted job.list.model job.circuit job.tests.tests c.in_ok-marked_tests-in-Transition.field-0.tests found new model c.in_ok-found.ensures.marks count
-    (λ t lt. c.mark_before.ensures.each t (omega (arith, lt, ap length c.deref_mut.ensures.value)) ∙ ap (λ xs. get_or xs t false || get_or xs (t + 1) false) c.deref_mut.ensures.value)
+    let before : AreWithBefore found new = record {
+      count = count;
+      each = λ t lt. c.mark_before.ensures.each t (omega (arith, lt, ap length c.deref_mut.ensures.value)) ∙ ap (λ xs. get_or xs t false || get_or xs (t + 1) false) c.deref_mut.ensures.value;
+    } in
+    before_compacted job.list.model c.model.result job.circuit job.tests.tests c.in_ok-marked_tests-in-Transition.field-0.tests found new model c.in-Transition.is c.in_ok-found.ensures.marks before
     (c.in_ok-marked_tests-in-Transition.ensures.rows ∙ (ap (λ xs. marked xs c.tests-in-Transition.result.now.tests) marks ∙ ap (λ t. marked new t.tests) c.tests-in-Transition.ensures.part))

@@ -1,8 +1,7 @@
-use Rattle.std.proofs.Common.{◌≡◌, ◌∙◌, Err, List, ap, arith, get_or, length, subst, sym}
+use Rattle.std.proofs.Common.{◌≡◌, ◌∙◌, Err, ap, arith, get_or, length, subst, sym}
 use Rattle.std.specs.Prelude.{vec_len}
 use Rattle.std.specs.List.{ReversedBelow}
 use Rattle.fault_model.specs.declared.Model.TheVariants.{StuckAt}
-use Rattle.compaction.specs.Compaction.{marked}
 use Rattle.compaction.specs.Marks.{AreFinding, AreLast}
 use Rattle.compaction.proofs.Kept.{are_last, fewer_pieces}
 use Rattle.compaction.proofs.passes.last_tests.Goals as goal

@@ -1,4 +1,4 @@
-use Rattle.std.proofs.Common.{◌≡◌, ◌<◌, ◌∙◌, ◌++◌, ◌∷◌, [], ap, arith, get_or, length, subst, sym}
+use Rattle.std.proofs.Common.{◌<◌, ◌∙◌, ◌++◌, ◌∷◌, [], ap, arith, get_or, length, subst, sym}
 use Rattle.patterns.specs.Tests.{IsTestList}
 use Rattle.compaction.proofs.Marked.{marked_below, marked_none, marked_one}
 use Rattle.compaction.proofs.rows.marked_tests.Goals.{then-marks-test+in_ok-push_test, else-marks-test}

@@ -1,4 +1,4 @@
-use Rattle.std.proofs.Common.{◌≡◌, length, take}
+use Rattle.std.proofs.Common.{◌≡◌, take}
 use Rattle.patterns.specs.Tests.{IsTestList}
 use Rattle.compaction.specs.Compaction.{marked}
 use Rattle.compaction.proofs.rows.marked_tests.Given as goal
