@@ -1,6 +1,9 @@
 -- What the tests that are kept detect, and why each is.
-use Rattle.std.proofs.Common.{◌≡◌, ◌<◌, ◌≤◌, ◌+◌, ◌-◌, ◌*◌, ◌∙◌, ℕ, zero, suc, Bool, true, false, List, ◌∷◌, [], length, ap, refl, sym, subst, arith, add-one, inl, inr, ◌⊎◌, get_or, take, ◌++◌}
-use Rattle.std.specs.Prelude.{◌||◌, ⊤, Contains, IfOk, Option, Some, None, Result, Ok, Err, slice_get}
+use Rattle.std.proofs.Common.{◌≡◌, ◌<◌, ◌≤◌, ◌+◌, ◌-◌, ◌*◌, ◌∙◌, ℕ, zero, suc, Bool, true, false}
+use Rattle.std.proofs.Common.{List, ◌∷◌, [], length, ap, refl, sym, subst, arith, add-one, inl, inr}
+use Rattle.std.proofs.Common.{◌⊎◌, get_or, take, ◌++◌}
+use Rattle.std.specs.Prelude.{◌||◌, ⊤, Contains, IfOk, Option, Some, None, Result, Ok, Err}
+use Rattle.std.specs.Prelude.{slice_get}
 use Rattle.std.specs.List.{ReversedBelow}
 use Rattle.std.proofs.lemmas.Bool.{cases_lt, eqb-true, eq-eqb}
 use Rattle.std.proofs.lemmas.List.{get_or_past}
@@ -25,17 +28,22 @@ use Rattle.workers.specs.declared.RunFault.{RunFault}
 use Rattle.workers.specs.declared.RunFault.TheVariants as run_fault
 use Rattle.workers.specs.Refused.{IsRunFault}
 use Rattle.workers.specs.Verdict.{AreFirsts}
-use Rattle.compaction.specs.Compaction.{Covers, IsCompaction, IsFirstForSome, IsLastForSome, IsNeeded, finds, is_first, marked}
+use Rattle.compaction.specs.Compaction.{Covers, IsCompaction, IsFirstForSome, IsLastForSome}
+use Rattle.compaction.specs.Compaction.{IsNeeded, finds, is_first, marked}
 use Rattle.compaction.specs.Marks.{AreFinding, AreLast}
-use Rattle.compaction.proofs.Marked.{ComesFrom, comes_from, earlier_place, marked_at, ones, ones_next, ones_stay, sublist_twice}
+use Rattle.compaction.proofs.Marked.{ComesFrom, comes_from, earlier_place, marked_at, ones}
+use Rattle.compaction.proofs.Marked.{ones_next, ones_stay, sublist_twice}
 use Rattle.compaction.proofs.Turned.{turned_back, turned_to}
 
 -- ---- marks by first tests
 
-some_found : (firsts : List (Option ℕ)) (t : ℕ) (x : Option ℕ) → Among x firsts → is_first t x ≡ true → finds firsts t ≡ true
+some_found : (firsts : List (Option ℕ)) (t : ℕ) (x : Option ℕ) → Among x firsts
+    → is_first t x ≡ true → finds firsts t ≡ true
 some_found [] t x a e = absurd a
-some_found (y ∷ firsts) t x (inl same) e = let first : is_first t y ≡ true = ap (is_first t) same ∙ e in rw (first) refl
-some_found (y ∷ firsts) t x (inr a) e = or_true (is_first t y) (finds firsts t) (some_found firsts t x a e)
+some_found (y ∷ firsts) t x (inl same) e = let first : is_first t y ≡ true = ap (is_first t) same
+    ∙ e in rw (first) refl
+some_found (y ∷ firsts) t x (inr a) e =
+    or_true (is_first t y) (finds firsts t) (some_found firsts t x a e)
   where
     or_true : (b d : Bool) → d ≡ true → (b || d) ≡ true
     or_true true d h = refl
@@ -49,81 +57,123 @@ first_own : (t : ℕ) → is_first t (Some t) ≡ true
 first_own t = eq-eqb t t refl
 
 -- one fault more
-pub finds_more : (firsts : List (Option ℕ)) (t i : ℕ) (first : Option ℕ) → slice_get firsts i ≡ Some first → finds (take (i + 1) firsts) t ≡ (finds (take i firsts) t || is_first t first)
+pub finds_more : (firsts : List (Option ℕ)) (t i : ℕ) (first : Option ℕ) → slice_get firsts i
+    ≡ Some first → finds (take (i + 1) firsts) t ≡ (finds (take i firsts) t || is_first t first)
 finds_more firsts t i first at =
     list_any_more (is_first t) firsts i first (place_within firsts i first at)
-    ∙ ap (λ x. finds (take i firsts) t || is_first t x) (get_or_from_slice_get firsts i first first at)
+    ∙ ap (λ x. finds (take i firsts) t || is_first t x)
+    (get_or_from_slice_get firsts i first first at)
 
 -- what is left of a vector whose slice was written over
-pub written_over : {X : Type 0} (n : ℕ) (new old : List X) → n ≡ length new → take n (new ++ old) ≡ new
+pub written_over : {X : Type 0} (n : ℕ) (new old : List X) → n ≡ length new
+    → take n (new ++ old) ≡ new
 written_over n new old e = ap (λ k. take k (new ++ old)) e ∙ take-append_seam new old
 
-pub are_finding : (m : Model) (c : List Statement) (tests : List Test) (marks : List Bool) (firsts : List (Option ℕ)) → AreFirsts m c tests firsts → length marks ≡ length tests
-    → ((t : ℕ) → t < length tests → get_or marks t false ≡ finds firsts t) → AreFinding m c tests marks
-are_finding m c tests marks firsts are count each = record { count = count; first = first; found = found }
+pub are_finding : (m : Model) (c : List Statement) (tests : List Test) (marks : List Bool)
+    (firsts : List (Option ℕ)) → AreFirsts m c tests firsts → length marks ≡ length tests
+    → ((t : ℕ) → t < length tests → get_or marks t false ≡ finds firsts t)
+    → AreFinding m c tests marks
+are_finding m c tests marks firsts are count each =
+    record { count = count; first = first; found = found }
   where
     first : (t : ℕ) → slice_get marks t ≡ Some true → IsFirstForSome m c tests t
     first t e =
-        let lt : t < length tests = (let h = slice_get_within marks t true e in omega (arith, h, count)) in
-        let on : finds firsts t ≡ true = sym (each t lt) ∙ get_or_from_slice_get marks t true false e in
+        let lt : t < length tests =
+        (let h = slice_get_within marks t true e in omega (arith, h, count)) in
+        let on : finds firsts t ≡ true = sym (each t lt)
+        ∙ get_or_from_slice_get marks t true false e in
         let some = some_passes (is_first t) firsts on in
         let at = placed firsts some.0 (among firsts some.0 some.1) in
-        let there : slice_get firsts at.0 ≡ Some (Some t) = at.1 ∙ ap Some (own_first t some.0 some.2) in
-        let fault = within_place (faults m c) at.0 (let h = place_within firsts at.0 some.0 at.1 in omega (arith, h, are.count)) in
-        (fault.0, contained (faults m c) fault.0 (at_place (faults m c) at.0 fault.0 fault.1), are.first at.0 fault.0 (Some t) fault.1 there)
+        let there : slice_get firsts at.0 ≡ Some (Some t) = at.1
+        ∙ ap Some (own_first t some.0 some.2) in
+        let fault = within_place (faults m c) at.0 (let h = place_within firsts at.0 some.0 at.1 in
+        omega (arith, h, are.count)) in (
+          fault.0,
+          contained (faults m c) fault.0 (at_place (faults m c) at.0 fault.0 fault.1),
+          are.first at.0 fault.0 (Some t) fault.1 there,
+        )
 
-    found : (f : Fault) (t : ℕ) → Contains (faults m c) f → DetectsAt c tests f t → (s : ℕ) × IsFirst c tests f (Some s) × (slice_get marks s ≡ Some true)
+    found : (f : Fault) (t : ℕ) → Contains (faults m c) f → DetectsAt c tests f t
+        → (s : ℕ) × IsFirst c tests f (Some s) × (slice_get marks s ≡ Some true)
     found f t listed detects =
         let at = placed (faults m c) f (among (faults m c) f listed) in
-        let verdict = within_place firsts at.0 (let h = place_within (faults m c) at.0 f at.1 in omega (arith, h, are.count)) in
-        go verdict.0 (are.first at.0 f verdict.0 at.1 verdict.1) (at_place firsts at.0 verdict.0 verdict.1)
+        let verdict = within_place firsts at.0 (let h = place_within (faults m c) at.0 f at.1 in
+        omega (arith, h, are.count)) in
+        go verdict.0 (are.first at.0 f verdict.0 at.1 verdict.1)
+        (at_place firsts at.0 verdict.0 verdict.1)
       where
-        go : (x : Option ℕ) → IsFirst c tests f x → Among x firsts → (s : ℕ) × IsFirst c tests f (Some s) × (slice_get marks s ≡ Some true)
+        go : (x : Option ℕ) → IsFirst c tests f x → Among x firsts
+            → (s : ℕ) × IsFirst c tests f (Some s) × (slice_get marks s ≡ Some true)
         go None is a = absurd (is t detects)
         go (Some s) is a =
             let lt : s < length tests = place_within tests s is.0.0 is.0.1 in
-            let on : get_or marks s false ≡ true = each s lt ∙ some_found firsts s (Some s) a (first_own s) in
+            let on : get_or marks s false ≡ true = each s lt
+            ∙ some_found firsts s (Some s) a (first_own s) in
             (s, is, slice_get-get_or marks s false (omega (arith, lt, count)) ∙ ap Some on)
 
 -- ---- stuck-at faults: a row detects by itself
 
-pub stuck_at : (c : List Statement) (rows : List Test) (f : Fault) (k : ℕ) (test : Test) → Contains (faults StuckAt c) f → slice_get rows k ≡ Some test → Detects c test f → DetectsAt c rows f k
+pub stuck_at : (c : List Statement) (rows : List Test) (f : Fault) (k : ℕ) (test : Test) → Contains
+    (faults StuckAt c) f → slice_get rows k ≡ Some test → Detects c test f → DetectsAt c rows f k
 stuck_at c rows f k test listed at detects =
     let model : f.model ≡ StuckAt = listed_model StuckAt c f listed in
     (test, at, detects, subst (λ m. LooksBack c rows m f.line f.stuck k) (sym model) tt)
 
-pub covers_stuck : (c : List Statement) (tests : List Test) (marks : List Bool) → AreFinding StuckAt c tests marks → Covers StuckAt c tests (marked marks tests)
+pub covers_stuck : (c : List Statement) (tests : List Test) (marks : List Bool)
+    → AreFinding StuckAt c tests marks → Covers StuckAt c tests (marked marks tests)
 covers_stuck c tests marks are f t listed detects =
     let s = are.found f t listed detects in
-    let own = s.1.0 in
-    (ones (take s.0 marks), stuck_at c (marked marks tests) f (ones (take s.0 marks)) own.0 listed (marked_at marks tests s.0 own.0 s.2 own.1) own.2)
+    let own = s.1.0 in (
+      ones (take s.0 marks),
+      stuck_at c (marked marks tests) f (ones (take s.0 marks)) own.0 listed
+          (marked_at marks tests s.0 own.0 s.2 own.1) own.2,
+    )
 
--- the second pass: turned round, the list has the first of some faults where it has the last of them
-pub are_last : (c : List Statement) (tests turned : List Test) (found marks : List Bool) → length turned ≡ length tests → ReversedBelow tests turned (length tests) → AreFinding StuckAt c turned found
-    → length marks ≡ length tests → ReversedBelow found marks (length tests) → AreLast c tests (marked marks tests)
-are_last c tests turned found marks count round are marked_all back = record { rows = (marks, marked_all, refl); covers = covers; last = last }
+-- the second pass: turned round, the list has the first of some faults where it has the last of
+-- them
+pub are_last : (c : List Statement) (tests turned : List Test) (found marks : List Bool)
+    → length turned ≡ length tests → ReversedBelow tests turned (length tests)
+    → AreFinding StuckAt c turned found
+    → length marks ≡ length tests → ReversedBelow found marks (length tests)
+    → AreLast c tests (marked marks tests)
+are_last c tests turned found marks count round are marked_all back =
+    record { rows = (marks, marked_all, refl); covers = covers; last = last }
   where
     all_found : length found ≡ length tests
     all_found = are.count ∙ count
 
     covers : Covers StuckAt c tests (marked marks tests)
     covers f t listed detects =
-        let there = stuck_at c turned f (length tests - 1 - t) detects.0 listed (turned_to tests turned (length tests) t detects.0 refl count round detects.1) detects.2 in
+        let there = stuck_at c turned f (length tests - 1 - t) detects.0 listed (turned_to tests
+        turned (length tests) t detects.0 refl count round detects.1) detects.2 in
         let s = are.found f (length tests - 1 - t) listed there in
         let own = s.1.0 in
         let place = length tests - 1 - s.0 in
-        let at : slice_get tests place ≡ Some own.0 = turned_back tests turned (length tests) s.0 own.0 refl count round own.1 in
-        let mark : slice_get marks place ≡ Some true = turned_to found marks (length tests) s.0 true all_found marked_all back s.2 in
-        (ones (take place marks), stuck_at c (marked marks tests) f (ones (take place marks)) own.0 listed (marked_at marks tests place own.0 mark at) own.2)
+        let at : slice_get tests place ≡ Some own.0 =
+        turned_back tests turned (length tests) s.0 own.0 refl count round own.1 in
+        let mark : slice_get marks place ≡ Some true =
+        turned_to found marks (length tests) s.0 true all_found marked_all back s.2 in (
+          ones (take place marks),
+          stuck_at c (marked marks tests) f (ones
+              (take place marks)) own.0 listed (marked_at marks tests place own.0 mark at) own.2,
+        )
 
-    last : (k : ℕ) (row : Test) → slice_get (marked marks tests) k ≡ Some row → IsLastForSome StuckAt c (marked marks tests) k
-    last k row e = (f, listed, stuck_at c (marked marks tests) f k row listed e (subst (λ test. Detects c test f) same is.0.2), later)
+    last : (k : ℕ) (row : Test) → slice_get (marked marks tests) k ≡ Some row
+        → IsLastForSome StuckAt c (marked marks tests) k
+    last k row e = (
+      f,
+      listed,
+      stuck_at c (marked marks tests) f k row listed e
+          (subst (λ test. Detects c test f) same is.0.2),
+      later,
+    )
       where
         from : ComesFrom marks tests k row
         from = comes_from marks tests k row e
 
         first : IsFirstForSome StuckAt c turned (length tests - 1 - from.place)
-        first = are.first (length tests - 1 - from.place) (turned_back found marks (length tests) from.place true all_found marked_all back from.mark)
+        first = are.first (length tests - 1 - from.place) (turned_back found marks
+            (length tests) from.place true all_found marked_all back from.mark)
 
         f : Fault
         f = first.0
@@ -136,26 +186,42 @@ are_last c tests turned found marks count round are marked_all back = record { r
 
         same : is.0.0 ≡ row
         same =
-            let own : Some is.0.0 ≡ Some row = sym is.0.1 ∙ turned_to tests turned (length tests) from.place row refl count round from.at in cc
+            let own : Some is.0.0 ≡ Some row = sym is.0.1
+            ∙ turned_to tests turned (length tests) from.place row refl count round from.at in
+            cc
 
         later : (after : ℕ) → k < after → ¬ DetectsAt c (marked marks tests) f after
         later after lt detects =
             let other = comes_from marks tests after detects.0 detects.1 in
-            let behind : from.place < other.place = earlier_place marks from.place other.place k after from.before other.before lt in
-            let within : other.place < length tests = place_within tests other.place detects.0 other.at in
+            let behind : from.place < other.place =
+            earlier_place marks from.place other.place k after from.before other.before lt in
+            let within : other.place < length tests =
+            place_within tests other.place detects.0 other.at in
             let place = length tests - 1 - other.place in
             is.1 place (omega (arith, behind, within))
-            (stuck_at c turned f place detects.0 listed (turned_to tests turned (length tests) other.place detects.0 refl count round other.at) detects.2)
+            (stuck_at c turned f place detects.0 listed (turned_to tests turned
+            (length tests) other.place detects.0 refl count round other.at) detects.2)
 
-pub compacted_stuck : (c : List Statement) (tests kept : List Test) (marks : List Bool) → AreFinding StuckAt c tests marks → AreLast c (marked marks tests) kept → IsCompaction StuckAt c tests kept
-compacted_stuck c tests kept marks are last_are = record { rows = sublist_twice kept (marked marks tests) tests last_are.rows (marks, are.count, refl); covers = covers; needed = needed }
+pub compacted_stuck : (c : List Statement) (tests kept : List Test) (marks : List Bool)
+    → AreFinding StuckAt c tests marks → AreLast c (marked marks tests) kept
+    → IsCompaction StuckAt c tests kept
+compacted_stuck c tests kept marks are last_are =
+    record {
+      rows = sublist_twice kept (marked marks tests) tests last_are.rows
+          (marks, are.count, refl);
+      covers = covers;
+      needed = needed;
+    }
   where
     covers : Covers StuckAt c tests kept
-    covers f t listed detects = let h = covers_stuck c tests marks are f t listed detects in last_are.covers f h.0 listed h.1
+    covers f t listed detects = let h = covers_stuck c tests marks are f t listed detects in
+        last_are.covers f h.0 listed h.1
 
-    needed : (k : ℕ) (row : Test) → slice_get kept k ≡ Some row → (t : ℕ) × (slice_get tests t ≡ Some row) × IsNeeded StuckAt c tests kept t k
+    needed : (k : ℕ) (row : Test) → slice_get kept k ≡ Some row
+        → (t : ℕ) × (slice_get tests t ≡ Some row) × IsNeeded StuckAt c tests kept t k
     needed k row e =
-        let inner = comes_from last_are.rows.0 (marked marks tests) k row (subst (λ rows. slice_get rows k ≡ Some row) last_are.rows.2 e) in
+        let inner = comes_from last_are.rows.0 (marked marks tests) k row
+        (subst (λ rows. slice_get rows k ≡ Some row) last_are.rows.2 e) in
         let from = comes_from marks tests inner.place row inner.at in
         (from.place, from.at, (are.first from.place from.mark, last_are.last k row e))
 
@@ -178,22 +244,34 @@ pub record AreWithBefore (found marks : List Bool) : Type 0 where
   pub each : (t : ℕ) → t < length found
       → get_or marks t false ≡ (get_or found t false || get_or found (t + 1) false)
 
-on_where : (found marks : List Bool) → AreWithBefore found marks → (t : ℕ) → t < length found → (get_or found t false || get_or found (t + 1) false) ≡ true → slice_get marks t ≡ Some true
-on_where found marks are t lt e = slice_get-get_or marks t false (omega (arith, lt, are.count)) ∙ ap Some (are.each t lt ∙ e)
+on_where : (found marks : List Bool) → AreWithBefore found marks → (t : ℕ) → t < length found
+    → (get_or found t false || get_or found (t + 1) false) ≡ true → slice_get marks t ≡ Some true
+on_where found marks are t lt e = slice_get-get_or marks t false (omega (arith, lt, are.count))
+    ∙ ap Some (are.each t lt ∙ e)
 
-itself : (found marks : List Bool) → AreWithBefore found marks → (t : ℕ) → slice_get found t ≡ Some true → slice_get marks t ≡ Some true
-itself found marks are t e = on_where found marks are t (slice_get_within found t true e) (or_left (get_or found t false) (get_or found (t + 1) false) (get_or_from_slice_get found t true false e))
+itself : (found marks : List Bool) → AreWithBefore found marks → (t : ℕ)
+    → slice_get found t ≡ Some true → slice_get marks t ≡ Some true
+itself found marks are t e =
+    on_where found marks are t (slice_get_within found t true e) (or_left (get_or found t false)
+    (get_or found (t + 1) false) (get_or_from_slice_get found t true false e))
 
-the_one_before : (found marks : List Bool) → AreWithBefore found marks → (t : ℕ) → slice_get found (suc t) ≡ Some true → slice_get marks t ≡ Some true
+the_one_before : (found marks : List Bool) → AreWithBefore found marks → (t : ℕ)
+    → slice_get found (suc t) ≡ Some true → slice_get marks t ≡ Some true
 the_one_before found marks are t e =
     let lt = slice_get_within found (suc t) true e in
-    on_where found marks are t (omega (arith, lt)) (or_right (get_or found t false) (get_or found (t + 1) false) (ap (λ i. get_or found i false) (add-one t) ∙ get_or_from_slice_get found (suc t) true false e))
+    on_where found marks are t (omega (arith, lt)) (or_right (get_or found t false)
+    (get_or found (t + 1) false) (ap (λ i. get_or found i false) (add-one t)
+    ∙ get_or_from_slice_get found (suc t) true false e))
 
 -- what is initialized by a test of the list is initialized by the same row
-initialized_same : (c : List Statement) (tests : List Test) (marks : List Bool) (i : ℕ) (l : Line) (b : Bool) → slice_get marks i ≡ Some true → IsInitialized c tests l b (suc i) → IsInitialized c (marked marks tests) l b (suc (ones (take i marks)))
-initialized_same c tests marks i l b on looks = (looks.0, marked_at marks tests i looks.0 on looks.1, looks.2)
+initialized_same : (c : List Statement) (tests : List Test) (marks : List Bool) (i : ℕ)
+    (l : Line) (b : Bool) → slice_get marks i ≡ Some true → IsInitialized c tests l b (suc i)
+    → IsInitialized c (marked marks tests) l b (suc (ones (take i marks)))
+initialized_same c tests marks i l b on looks =
+    (looks.0, marked_at marks tests i looks.0 on looks.1, looks.2)
 
-mark_at_place : (found : List Bool) (t : ℕ) → get_or found t false ≡ true → slice_get found t ≡ Some true
+mark_at_place : (found : List Bool) (t : ℕ) → get_or found t false ≡ true
+    → slice_get found t ≡ Some true
 mark_at_place found t h = go (cases_lt t (length found))
   where
     go : (t < length found) ⊎ (length found ≤ t) → slice_get found t ≡ Some true
@@ -211,47 +289,79 @@ pub record LooksBackSame (m : Model) (c : List Statement) (tests : List Test)
       → IsFirstForSome m c tests t ⊎ IsFirstForSome m c tests (t + 1)
       → IsNeeded m c tests kept t k
 
-pub compacted_before : (m : Model) (c : List Statement) (tests : List Test) (found marks : List Bool) → AreFinding m c tests found → AreWithBefore found marks → LooksBackSame m c tests found marks
+pub compacted_before : (m : Model) (c : List Statement) (tests : List Test)
+    (found marks : List Bool) → AreFinding m c tests found → AreWithBefore found marks
+    → LooksBackSame m c tests found marks
     → IsCompaction m c tests (marked marks tests)
-compacted_before m c tests found marks are before looks_back = record { rows = (marks, before.count ∙ are.count, refl); covers = covers; needed = needed }
+compacted_before m c tests found marks are before looks_back =
+    record { rows = (marks, before.count ∙ are.count, refl); covers = covers; needed = needed }
   where
-    kept_pair : (s : ℕ) (f : Fault) → Contains (faults m c) f → slice_get found s ≡ Some true → DetectsAt c tests f s → (k : ℕ) × DetectsAt c (marked marks tests) f k
-    kept_pair s f listed mark detects = go s mark detects.1 (subst (λ x. LooksBack c tests x f.line f.stuck s) model detects.3)
+    kept_pair : (s : ℕ) (f : Fault) → Contains (faults m c) f → slice_get found s ≡ Some true
+        → DetectsAt c tests f s → (k : ℕ) × DetectsAt c (marked marks tests) f k
+    kept_pair s f listed mark detects =
+        go s mark detects.1 (subst (λ x. LooksBack c tests x f.line f.stuck s) model detects.3)
       where
         model : f.model ≡ m
         model = listed_model m c f listed
 
-        go : (i : ℕ) → slice_get found i ≡ Some true → slice_get tests i ≡ Some detects.0 → LooksBack c tests m f.line f.stuck i → (k : ℕ) × DetectsAt c (marked marks tests) f k
+        go : (i : ℕ) → slice_get found i ≡ Some true → slice_get tests i ≡ Some detects.0
+            → LooksBack c tests m f.line f.stuck i → (k : ℕ) × DetectsAt c (marked marks tests) f k
         go zero on at looks = absurd (looks_back.not_first f.line f.stuck looks)
         go (suc i) on at looks =
             let k = ones (take i marks) in
-            let next : ones (take (suc i) marks) ≡ suc k = ones_next marks i (the_one_before found marks before i on) in
-            let own : slice_get (marked marks tests) (suc k) ≡ Some detects.0 = subst (λ j. slice_get (marked marks tests) j ≡ Some detects.0) next (marked_at marks tests (suc i) detects.0 (itself found marks before (suc i) on) at) in
-            let back : LooksBack c (marked marks tests) m f.line f.stuck (suc k) = looks_back.same i f.line f.stuck on looks in
-            (suc k, (detects.0, own, detects.2, subst (λ x. LooksBack c (marked marks tests) x f.line f.stuck (suc k)) (sym model) back))
+            let next : ones (take (suc i) marks) ≡ suc k =
+            ones_next marks i (the_one_before found marks before i on) in
+            let own : slice_get (marked marks tests) (suc k) ≡ Some detects.0 = subst
+            (λ j. slice_get (marked marks tests) j ≡ Some detects.0) next (marked_at marks tests
+            (suc i) detects.0 (itself found marks before (suc i) on) at) in
+            let back : LooksBack c (marked marks tests) m f.line f.stuck (suc k) =
+            looks_back.same i f.line f.stuck on looks in (
+              suc k,
+              (
+                detects.0,
+                own,
+                detects.2,
+                subst
+                    (λ x. LooksBack c (marked marks tests) x f.line f.stuck (suc k))
+                    (sym model) back,
+              ),
+            )
 
     covers : Covers m c tests (marked marks tests)
-    covers f t listed detects = let s = are.found f t listed detects in kept_pair s.0 f listed s.2 s.1.0
+    covers f t listed detects = let s = are.found f t listed detects in
+        kept_pair s.0 f listed s.2 s.1.0
 
-    needed : (k : ℕ) (row : Test) → slice_get (marked marks tests) k ≡ Some row → (t : ℕ) × (slice_get tests t ≡ Some row) × IsNeeded m c tests (marked marks tests) t k
-    needed k row e = (from.place, from.at, looks_back.needs (marked marks tests) from.place k (go (or_cases (get_or found from.place false) (get_or found (from.place + 1) false) (sym (before.each from.place lt) ∙ get_or_from_slice_get marks from.place true false from.mark))))
+    needed : (k : ℕ) (row : Test) → slice_get (marked marks tests) k ≡ Some row
+        → (t : ℕ) × (slice_get tests t ≡ Some row) × IsNeeded m c tests (marked marks tests) t k
+    needed k row e = (
+      from.place,
+      from.at,
+      looks_back.needs
+          (marked marks tests) from.place k (go (or_cases (get_or found from.place false)
+          (get_or found (from.place + 1) false) (sym (before.each from.place lt)
+          ∙ get_or_from_slice_get marks from.place true false from.mark))),
+    )
       where
         from : ComesFrom marks tests k row
         from = comes_from marks tests k row e
 
         lt : from.place < length found
-        lt = let h = slice_get_within marks from.place true from.mark in omega (arith, h, before.count)
+        lt = let h = slice_get_within marks from.place true from.mark in
+            omega (arith, h, before.count)
 
-        go : (get_or found from.place false ≡ true) ⊎ (get_or found (from.place + 1) false ≡ true) → IsFirstForSome m c tests from.place ⊎ IsFirstForSome m c tests (from.place + 1)
+        go : (get_or found from.place false ≡ true) ⊎ (get_or found (from.place + 1) false ≡ true)
+            → IsFirstForSome m c tests from.place ⊎ IsFirstForSome m c tests (from.place + 1)
         go (inl h) = inl (are.first from.place (mark_at_place found from.place h))
         go (inr h) = inr (are.first (from.place + 1) (mark_at_place found (from.place + 1) h))
 
 -- ---- transition faults of a list, where each test but the first is the second of a pair
 
-looks_back_transition : (c : List Statement) (tests : List Test) (found marks : List Bool) → AreWithBefore found marks → LooksBackSame Transition c tests found marks
+looks_back_transition : (c : List Statement) (tests : List Test) (found marks : List Bool)
+    → AreWithBefore found marks → LooksBackSame Transition c tests found marks
 looks_back_transition c tests found marks before = record {
   not_first = λ l b looks. looks;
-  same = λ i l b on looks. initialized_same c tests marks i l b (the_one_before found marks before i on) looks;
+  same = λ i l b on looks.
+      initialized_same c tests marks i l b (the_one_before found marks before i on) looks;
   needs = λ kept t k h. h;
 }
 
@@ -262,7 +372,8 @@ or_false true = refl
 or_false false = refl
 
 -- the first test of a pair finds nothing
-first_finds_none : (c : List Statement) (tests : List Test) (found : List Bool) → AreFinding TransitionPairs c tests found → (q : ℕ) → get_or found (2 * q) false ≡ false
+first_finds_none : (c : List Statement) (tests : List Test) (found : List Bool)
+    → AreFinding TransitionPairs c tests found → (q : ℕ) → get_or found (2 * q) false ≡ false
 first_finds_none c tests found are q = go (get_or found (2 * q) false) refl
   where
     go : (b : Bool) → get_or found (2 * q) false ≡ b → get_or found (2 * q) false ≡ false
@@ -271,51 +382,78 @@ first_finds_none c tests found are q = go (get_or found (2 * q) false) refl
       where
         second : IsFirstForSome TransitionPairs c tests (2 * q) → IsSecondOfPair (2 * q)
         second first =
-            let looks : LooksBack c tests TransitionPairs first.0.line first.0.stuck (2 * q) = subst (λ x. LooksBack c tests x first.0.line first.0.stuck (2 * q)) (listed_model TransitionPairs c first.0 first.1) first.2.0.3 in
+            let looks : LooksBack c tests TransitionPairs first.0.line first.0.stuck (2 * q) =
+            subst (λ x. LooksBack c tests x first.0.line first.0.stuck (2 * q))
+            (listed_model TransitionPairs c first.0 first.1) first.2.0.3 in
             looks.0
 
         not_second : IsSecondOfPair (2 * q) → ⊥
         not_second pair = let e = pair.1 in omega (arith, e)
 
 -- both tests of a pair are marked, or none is
-marked_alike : (c : List Statement) (tests : List Test) (found marks : List Bool) → AreFinding TransitionPairs c tests found → AreWithBefore found marks → (q : ℕ) → 2 * q + 1 < length found → get_or marks (2 * q) false ≡ get_or marks (2 * q + 1) false
+marked_alike : (c : List Statement) (tests : List Test) (found marks : List Bool)
+    → AreFinding TransitionPairs c tests found → AreWithBefore found marks → (q : ℕ)
+    → 2 * q + 1 < length found → get_or marks (2 * q) false ≡ get_or marks (2 * q + 1) false
 marked_alike c tests found marks are before q lt =
     let x = get_or found (2 * q + 1) false in
-    let first : get_or marks (2 * q) false ≡ x = before.each (2 * q) (omega (arith, lt)) ∙ ap (λ b. b || x) (first_finds_none c tests found are q) in
+    let first : get_or marks (2 * q) false ≡ x = before.each (2 * q) (omega (arith, lt))
+    ∙ ap (λ b. b || x) (first_finds_none c tests found are q) in
     let two : 2 * (q + 1) ≡ 2 * q + 1 + 1 = omega arith in
-    let next : get_or found (2 * q + 1 + 1) false ≡ false = subst (λ n. get_or found n false ≡ false) two (first_finds_none c tests found are (q + 1)) in
-    let second : get_or marks (2 * q + 1) false ≡ x = before.each (2 * q + 1) lt ∙ (ap (λ b. x || b) next ∙ or_false x) in
+    let next : get_or found (2 * q + 1 + 1) false ≡ false = subst
+    (λ n. get_or found n false ≡ false) two (first_finds_none c tests found are (q + 1)) in
+    let second : get_or marks (2 * q + 1) false ≡ x = before.each (2 * q + 1) lt
+    ∙ (ap (λ b. x || b) next ∙ or_false x) in
     first ∙ sym second
 
 -- so before a pair an even number of tests is marked
-even_before : (marks : List Bool) (p : ℕ) → 2 * p ≤ length marks → ((q : ℕ) → q < p → get_or marks (2 * q) false ≡ get_or marks (2 * q + 1) false) → (n : ℕ) × (ones (take (2 * p) marks) ≡ 2 * n)
+even_before : (marks : List Bool) (p : ℕ) → 2 * p ≤ length marks
+    → ((q : ℕ) → q < p → get_or marks (2 * q) false ≡ get_or marks (2 * q + 1) false)
+    → (n : ℕ) × (ones (take (2 * p) marks) ≡ 2 * n)
 even_before marks zero le alike = (0, refl)
-even_before marks (suc p) le alike = go (even_before marks p (omega (arith, le)) (λ q lt. alike q (omega (arith, lt)))) (get_or marks (2 * p) false) refl
+even_before marks (suc p) le alike = go (even_before marks p (omega (arith, le))
+    (λ q lt. alike q (omega (arith, lt)))) (get_or marks (2 * p) false) refl
   where
-    twice : (n : ℕ) → ones (take (suc (suc (2 * p))) marks) ≡ 2 * n → (n : ℕ) × (ones (take (2 * suc p) marks) ≡ 2 * n)
-    twice n e = (n, let two : suc (suc (2 * p)) ≡ 2 * suc p = omega arith in subst (λ i. ones (take i marks) ≡ 2 * n) two e)
+    twice : (n : ℕ) → ones (take (suc (suc (2 * p))) marks) ≡ 2 * n
+        → (n : ℕ) × (ones (take (2 * suc p) marks) ≡ 2 * n)
+    twice n e = (
+      n,
+      let two : suc (suc (2 * p)) ≡ 2 * suc p = omega arith in
+          subst (λ i. ones (take i marks) ≡ 2 * n) two e,
+    )
 
     there : (b : Bool) → get_or marks (2 * p) false ≡ b → get_or marks (suc (2 * p)) false ≡ b
-    there b e = ap (λ i. get_or marks i false) (sym (add-one (2 * p))) ∙ (sym (alike p (omega arith)) ∙ e)
+    there b e = ap (λ i. get_or marks i false) (sym (add-one (2 * p)))
+        ∙ (sym (alike p (omega arith)) ∙ e)
 
-    go : (n : ℕ) × (ones (take (2 * p) marks) ≡ 2 * n) → (b : Bool) → get_or marks (2 * p) false ≡ b → (n : ℕ) × (ones (take (2 * suc p) marks) ≡ 2 * n)
+    go : (n : ℕ) × (ones (take (2 * p) marks) ≡ 2 * n) → (b : Bool) → get_or marks (2 * p) false ≡ b
+        → (n : ℕ) × (ones (take (2 * suc p) marks) ≡ 2 * n)
     go earlier true e =
-        let first : ones (take (suc (2 * p)) marks) ≡ suc (ones (take (2 * p) marks)) = ones_next marks (2 * p) (mark_at_place marks (2 * p) e) in
-        let second : ones (take (suc (suc (2 * p))) marks) ≡ suc (ones (take (suc (2 * p)) marks)) = ones_next marks (suc (2 * p)) (mark_at_place marks (suc (2 * p)) (there true e)) in
+        let first : ones (take (suc (2 * p)) marks) ≡ suc (ones (take (2 * p) marks)) =
+        ones_next marks (2 * p) (mark_at_place marks (2 * p) e) in
+        let second : ones (take (suc (suc (2 * p))) marks) ≡ suc (ones (take (suc (2 * p)) marks)) =
+        ones_next marks (suc (2 * p)) (mark_at_place marks (suc (2 * p)) (there true e)) in
         twice (suc earlier.0) (let h = earlier.1 in omega (arith, first, second, h))
     go earlier false e =
-        let first : ones (take (suc (2 * p)) marks) ≡ ones (take (2 * p) marks) = ones_stay marks (2 * p) e in
-        let second : ones (take (suc (suc (2 * p))) marks) ≡ ones (take (suc (2 * p)) marks) = ones_stay marks (suc (2 * p)) (there false e) in
+        let first : ones (take (suc (2 * p)) marks) ≡ ones (take (2 * p) marks) =
+        ones_stay marks (2 * p) e in
+        let second : ones (take (suc (suc (2 * p))) marks) ≡ ones (take (suc (2 * p)) marks) =
+        ones_stay marks (suc (2 * p)) (there false e) in
         twice earlier.0 (second ∙ (first ∙ earlier.1))
 
-looks_back_pairs : (c : List Statement) (tests : List Test) (found marks : List Bool) → AreFinding TransitionPairs c tests found → AreWithBefore found marks → LooksBackSame TransitionPairs c tests found marks
+looks_back_pairs : (c : List Statement) (tests : List Test) (found marks : List Bool)
+    → AreFinding TransitionPairs c tests found → AreWithBefore found marks
+    → LooksBackSame TransitionPairs c tests found marks
 looks_back_pairs c tests found marks are before = record {
   not_first = λ l b looks. looks.1;
-  same = λ i l b on looks. (second i on looks.0, initialized_same c tests marks i l b (the_one_before found marks before i on) looks.1);
+  same = λ i l b on looks. (
+    second i on looks.0,
+    initialized_same c tests marks i l b (the_one_before found marks before i on) looks.1,
+  );
   needs = λ kept t k h. h;
 }
   where
-    second : (i : ℕ) → slice_get found (suc i) ≡ Some true → IsSecondOfPair (suc i) → IsSecondOfPair (suc (ones (take i marks)))
+    second : (i : ℕ) → slice_get found (suc i) ≡ Some true → IsSecondOfPair (suc i)
+        → IsSecondOfPair (suc (ones (take i marks)))
     second i on pair = (even.0, let e = even.1 in omega (arith, e))
       where
         lt : suc i < length found
@@ -328,38 +466,52 @@ looks_back_pairs c tests found marks are before = record {
         alike q low = marked_alike c tests found marks are before q (omega (arith, low, is, lt))
 
         even : (n : ℕ) × (ones (take i marks) ≡ 2 * n)
-        even = subst (λ x. (n : ℕ) × (ones (take x marks) ≡ 2 * n)) (sym is) (even_before marks pair.0 (omega (arith, is, lt, before.count)) alike)
+        even = subst (λ x. (n : ℕ) × (ones (take x marks) ≡ 2 * n)) (sym is)
+            (even_before marks pair.0 (omega (arith, is, lt, before.count)) alike)
 
 -- ---- by the model of the job
 
-pub stuck_compacted : (m : Model) (c : List Statement) (tests rows kept : List Test) (marks : List Bool) → m ≡ StuckAt → AreFinding m c tests marks → rows ≡ marked marks tests → AreLast c rows kept → IsCompaction m c tests kept
+pub stuck_compacted : (m : Model) (c : List Statement) (tests rows kept : List Test)
+    (marks : List Bool) → m ≡ StuckAt → AreFinding m c tests marks → rows ≡ marked marks tests
+    → AreLast c rows kept → IsCompaction m c tests kept
 stuck_compacted m c tests rows kept marks model are is last =
     subst (λ x. IsCompaction x c tests kept) (sym model)
-    (compacted_stuck c tests kept marks (subst (λ x. AreFinding x c tests marks) model are) (subst (λ xs. AreLast c xs kept) is last))
+    (compacted_stuck c tests kept marks (subst (λ x. AreFinding x c tests marks) model are)
+    (subst (λ xs. AreLast c xs kept) is last))
 
 -- both models under which a test looks back to the one before it
-pub before_compacted : (m x : Model) (c : List Statement) (tests kept : List Test) (found marks : List Bool) → m ≡ x → (x ≡ Transition) ⊎ (x ≡ TransitionPairs) → AreFinding m c tests found → AreWithBefore found marks → kept ≡ marked marks tests → IsCompaction m c tests kept
+pub before_compacted : (m x : Model) (c : List Statement) (tests kept : List Test)
+    (found marks : List Bool) → m ≡ x → (x ≡ Transition) ⊎ (x ≡ TransitionPairs)
+    → AreFinding m c tests found → AreWithBefore found marks → kept ≡ marked marks tests
+    → IsCompaction m c tests kept
 before_compacted m x c tests kept found marks same either are before is =
     subst (λ xs. IsCompaction m c tests xs) (sym is)
-    (compacted_before m c tests found marks are before (subst (λ y. LooksBackSame y c tests found marks) (sym same) (go either)))
+    (compacted_before m c tests found marks are before
+    (subst (λ y. LooksBackSame y c tests found marks) (sym same) (go either)))
   where
     go : (x ≡ Transition) ⊎ (x ≡ TransitionPairs) → LooksBackSame x c tests found marks
-    go (inl e) = subst (λ y. LooksBackSame y c tests found marks) (sym e) (looks_back_transition c tests found marks before)
-    go (inr e) = subst (λ y. LooksBackSame y c tests found marks) (sym e) (looks_back_pairs c tests found marks (subst (λ y. AreFinding y c tests found) (same ∙ e) are) before)
+    go (inl e) = subst (λ y. LooksBackSame y c tests found marks) (sym e)
+        (looks_back_transition c tests found marks before)
+    go (inr e) = subst (λ y. LooksBackSame y c tests found marks) (sym e) (looks_back_pairs c tests
+        found marks (subst (λ y. AreFinding y c tests found) (same ∙ e) are) before)
 
 -- an answer of one kind is one of another
-pub ok_as : {T E : Type 0} (A B : T → Type 0) (r : Result T E) → ((x : T) → A x → B x) → IfOk r A → IfOk r B
+pub ok_as : {T E : Type 0} (A B : T → Type 0) (r : Result T E) → ((x : T) → A x → B x) → IfOk r A
+    → IfOk r B
 ok_as A B (Ok x) into h = into x h
 ok_as A B (Err e) into h = h
 
 -- ---- refusals
 
 -- fewer tests don't make more pieces
-pub fewer_pieces : (classes few many : ℕ) → few ≤ many → classes * blocks few ≤ classes * blocks many
-fewer_pieces classes few many le = mul-le classes (blocks few) classes (blocks many) (omega arith) (omega (arith, le))
+pub fewer_pieces : (classes few many : ℕ) → few ≤ many
+    → classes * blocks few ≤ classes * blocks many
+fewer_pieces classes few many le =
+    mul-le classes (blocks few) classes (blocks many) (omega arith) (omega (arith, le))
 
 -- a run under other tests is refused as one under the job's own
-pub refused_alike : (job : Parts) (tests : TestList) (workers : ℕ) (f : RunFault) → IsRunFault (with_tests job tests) workers ⊤ (λ _ _ _. ⊥) f → IsRunFault job workers ⊤ (λ _ _ _. ⊥) f
+pub refused_alike : (job : Parts) (tests : TestList) (workers : ℕ) (f : RunFault) → IsRunFault
+    (with_tests job tests) workers ⊤ (λ _ _ _. ⊥) f → IsRunFault job workers ⊤ (λ _ _ _. ⊥) f
 refused_alike job tests workers run_fault.NoWorkers h = h
 refused_alike job tests workers run_fault.TooManyWorkers h = h
 refused_alike job tests workers (run_fault.NoSuchMove index) h = h

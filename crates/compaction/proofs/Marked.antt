@@ -1,5 +1,7 @@
 -- The elements at marked places.
-use Rattle.std.proofs.Common.{◌≡◌, ◌<◌, ◌≤◌, ◌+◌, ◌∙◌, ℕ, zero, suc, Bool, true, false, List, [], ◌∷◌, ◌++◌, length, take, ap, refl, sym, arith, add-one, get_or, inl, inr, ◌⊎◌}
+use Rattle.std.proofs.Common.{◌≡◌, ◌<◌, ◌≤◌, ◌+◌, ◌∙◌, ℕ, zero, suc, Bool, true, false, List, []}
+use Rattle.std.proofs.Common.{◌∷◌, ◌++◌, length, take, ap, refl, sym, arith, add-one, get_or, inl}
+use Rattle.std.proofs.Common.{inr, ◌⊎◌}
 use Rattle.std.proofs.lemmas.Bool.{cases_lt}
 use Rattle.std.specs.Prelude.{Some, None, slice_get}
 use Rattle.compaction.specs.Compaction.{IsSublist, marked}
@@ -10,7 +12,9 @@ ones [] = 0
 ones (true ∷ marks) = suc (ones marks)
 ones (false ∷ marks) = ones marks
 
-pub marked_at : {X : Type 0} (marks : List Bool) (xs : List X) (t : ℕ) (x : X) → slice_get marks t ≡ Some true → slice_get xs t ≡ Some x → slice_get (marked marks xs) (ones (take t marks)) ≡ Some x
+pub marked_at : {X : Type 0} (marks : List Bool) (xs : List X) (t : ℕ) (x : X)
+    → slice_get marks t ≡ Some true → slice_get xs t ≡ Some x
+    → slice_get (marked marks xs) (ones (take t marks)) ≡ Some x
 marked_at [] xs t x m e = let bad : None ≡ Some true = m in cc
 marked_at (b ∷ marks) [] t x m e = let bad : None ≡ Some x = e in cc
 marked_at (true ∷ marks) (y ∷ xs) zero x m e = e
@@ -25,37 +29,45 @@ pub record ComesFrom {X : Type 0} (marks : List Bool) (xs : List X) (k : ℕ) (x
   pub at : slice_get xs place ≡ Some x
   pub before : ones (take place marks) ≡ k
 
-pub comes_from : {X : Type 0} (marks : List Bool) (xs : List X) (k : ℕ) (x : X) → slice_get (marked marks xs) k ≡ Some x → ComesFrom marks xs k x
+pub comes_from : {X : Type 0} (marks : List Bool) (xs : List X) (k : ℕ) (x : X)
+    → slice_get (marked marks xs) k ≡ Some x → ComesFrom marks xs k x
 comes_from [] xs k x e = let bad : None ≡ Some x = e in cc
 comes_from (true ∷ marks) [] k x e = let bad : None ≡ Some x = e in cc
 comes_from (false ∷ marks) [] k x e = let bad : None ≡ Some x = e in cc
-comes_from (true ∷ marks) (y ∷ xs) zero x e = record { place = 0; mark = refl; at = e; before = refl }
-comes_from (true ∷ marks) (y ∷ xs) (suc k) x e = let h = comes_from marks xs k x e in record { place = suc h.place; mark = h.mark; at = h.at; before = ap suc h.before }
-comes_from (false ∷ marks) (y ∷ xs) k x e = let h = comes_from marks xs k x e in record { place = suc h.place; mark = h.mark; at = h.at; before = h.before }
+comes_from (true ∷ marks) (y ∷ xs) zero x e =
+    record { place = 0; mark = refl; at = e; before = refl }
+comes_from (true ∷ marks) (y ∷ xs) (suc k) x e = let h = comes_from marks xs k x e in
+    record { place = suc h.place; mark = h.mark; at = h.at; before = ap suc h.before }
+comes_from (false ∷ marks) (y ∷ xs) k x e = let h = comes_from marks xs k x e in
+    record { place = suc h.place; mark = h.mark; at = h.at; before = h.before }
 
 -- the number of marks before a place rises
 pub ones_rise : (marks : List Bool) (s t : ℕ) → s ≤ t → ones (take s marks) ≤ ones (take t marks)
 ones_rise marks zero t le = omega arith
 ones_rise marks (suc s) zero le = absurd (omega (arith, le))
 ones_rise [] (suc s) (suc t) le = omega arith
-ones_rise (true ∷ marks) (suc s) (suc t) le = let h = ones_rise marks s t (omega (arith, le)) in omega (arith, h)
+ones_rise (true ∷ marks) (suc s) (suc t) le = let h = ones_rise marks s t (omega (arith, le)) in
+    omega (arith, h)
 ones_rise (false ∷ marks) (suc s) (suc t) le = ones_rise marks s t (omega (arith, le))
 
-pub earlier_place : (marks : List Bool) (s t i j : ℕ) → ones (take s marks) ≡ i → ones (take t marks) ≡ j → i < j → s < t
+pub earlier_place : (marks : List Bool) (s t i j : ℕ) → ones (take s marks) ≡ i
+    → ones (take t marks) ≡ j → i < j → s < t
 earlier_place marks s t i j ei ej lt = go (cases_lt s t)
   where
     go : (s < t) ⊎ (t ≤ s) → s < t
     go (inl h) = h
     go (inr h) = absurd (let le = ones_rise marks t s h in omega (arith, le, ei, ej, lt))
 
-pub ones_next : (marks : List Bool) (t : ℕ) → slice_get marks t ≡ Some true → ones (take (suc t) marks) ≡ suc (ones (take t marks))
+pub ones_next : (marks : List Bool) (t : ℕ) → slice_get marks t ≡ Some true
+    → ones (take (suc t) marks) ≡ suc (ones (take t marks))
 ones_next [] t m = let bad : None ≡ Some true = m in cc
 ones_next (true ∷ marks) zero m = refl
 ones_next (false ∷ marks) zero m = let bad : Some false ≡ Some true = m in cc
 ones_next (true ∷ marks) (suc t) m = ap suc (ones_next marks t m)
 ones_next (false ∷ marks) (suc t) m = ones_next marks t m
 
-pub ones_stay : (marks : List Bool) (t : ℕ) → get_or marks t false ≡ false → ones (take (suc t) marks) ≡ ones (take t marks)
+pub ones_stay : (marks : List Bool) (t : ℕ) → get_or marks t false ≡ false
+    → ones (take (suc t) marks) ≡ ones (take t marks)
 ones_stay [] zero e = refl
 ones_stay [] (suc t) e = refl
 ones_stay (true ∷ marks) zero e = let bad : true ≡ false = e in cc
@@ -63,14 +75,16 @@ ones_stay (false ∷ marks) zero e = refl
 ones_stay (true ∷ marks) (suc t) e = ap suc (ones_stay marks t e)
 ones_stay (false ∷ marks) (suc t) e = ones_stay marks t e
 
-pub marked_few : {X : Type 0} (marks : List Bool) (xs : List X) → length (marked marks xs) ≤ length xs
+pub marked_few : {X : Type 0} (marks : List Bool) (xs : List X)
+    → length (marked marks xs) ≤ length xs
 marked_few [] xs = omega arith
 marked_few (true ∷ marks) [] = omega arith
 marked_few (false ∷ marks) [] = omega arith
 marked_few (true ∷ marks) (x ∷ xs) = let h = marked_few marks xs in omega (arith, h)
 marked_few (false ∷ marks) (x ∷ xs) = let h = marked_few marks xs in omega (arith, h)
 
-pub marked_below : {X : Type 0} (marks : List Bool) (xs : List X) (t : ℕ) → length (marked (take t marks) xs) ≤ t
+pub marked_below : {X : Type 0} (marks : List Bool) (xs : List X) (t : ℕ)
+    → length (marked (take t marks) xs) ≤ t
 marked_below marks xs zero = omega arith
 marked_below [] xs (suc t) = omega arith
 marked_below (true ∷ marks) [] (suc t) = omega arith
@@ -85,27 +99,39 @@ no_elements (true ∷ marks) = refl
 no_elements (false ∷ marks) = refl
 
 -- one place more
-one_next : {X : Type 0} (marks : List Bool) (xs : List X) (t : ℕ) (d : X) → t < length marks → t < length xs → get_or marks t false ≡ true → marked (take (suc t) marks) xs ≡ marked (take t marks) xs ++ get_or xs t d ∷ []
+one_next : {X : Type 0} (marks : List Bool) (xs : List X) (t : ℕ) (d : X)
+    → t < length marks → t < length xs → get_or marks t false ≡ true
+    → marked (take (suc t) marks) xs ≡ marked (take t marks) xs ++ get_or xs t d ∷ []
 one_next [] xs t d m lt e = absurd (omega (arith, m))
 one_next (b ∷ marks) [] t d m lt e = absurd (omega (arith, lt))
 one_next (true ∷ marks) (x ∷ xs) zero d m lt e = refl
 one_next (false ∷ marks) (x ∷ xs) zero d m lt e = let bad : false ≡ true = e in cc
-one_next (true ∷ marks) (x ∷ xs) (suc t) d m lt e = ap (λ ys. x ∷ ys) (one_next marks xs t d (omega (arith, m)) (omega (arith, lt)) e)
-one_next (false ∷ marks) (x ∷ xs) (suc t) d m lt e = one_next marks xs t d (omega (arith, m)) (omega (arith, lt)) e
+one_next (true ∷ marks) (x ∷ xs) (suc t) d m lt e =
+    ap (λ ys. x ∷ ys) (one_next marks xs t d (omega (arith, m)) (omega (arith, lt)) e)
+one_next (false ∷ marks) (x ∷ xs) (suc t) d m lt e =
+    one_next marks xs t d (omega (arith, m)) (omega (arith, lt)) e
 
-none_next : {X : Type 0} (marks : List Bool) (xs : List X) (t : ℕ) → t < length marks → get_or marks t false ≡ false → marked (take (suc t) marks) xs ≡ marked (take t marks) xs
+none_next : {X : Type 0} (marks : List Bool) (xs : List X) (t : ℕ) → t < length marks
+    → get_or marks t false ≡ false → marked (take (suc t) marks) xs ≡ marked (take t marks) xs
 none_next [] xs t m e = absurd (omega (arith, m))
-none_next (b ∷ marks) [] t m e = no_elements (take (suc t) (b ∷ marks)) ∙ sym (no_elements (take t (b ∷ marks)))
+none_next (b ∷ marks) [] t m e = no_elements (take (suc t) (b ∷ marks))
+    ∙ sym (no_elements (take t (b ∷ marks)))
 none_next (true ∷ marks) (x ∷ xs) zero m e = let bad : true ≡ false = e in cc
 none_next (false ∷ marks) (x ∷ xs) zero m e = refl
-none_next (true ∷ marks) (x ∷ xs) (suc t) m e = ap (λ ys. x ∷ ys) (none_next marks xs t (omega (arith, m)) e)
+none_next (true ∷ marks) (x ∷ xs) (suc t) m e =
+    ap (λ ys. x ∷ ys) (none_next marks xs t (omega (arith, m)) e)
 none_next (false ∷ marks) (x ∷ xs) (suc t) m e = none_next marks xs t (omega (arith, m)) e
 
-pub marked_one : {X : Type 0} (marks : List Bool) (xs : List X) (t : ℕ) (d : X) → t < length marks → t < length xs → get_or marks t false ≡ true → marked (take (t + 1) marks) xs ≡ marked (take t marks) xs ++ get_or xs t d ∷ []
-marked_one marks xs t d m lt e = ap (λ n. marked (take n marks) xs) (add-one t) ∙ one_next marks xs t d m lt e
+pub marked_one : {X : Type 0} (marks : List Bool) (xs : List X) (t : ℕ) (d : X)
+    → t < length marks → t < length xs → get_or marks t false ≡ true
+    → marked (take (t + 1) marks) xs ≡ marked (take t marks) xs ++ get_or xs t d ∷ []
+marked_one marks xs t d m lt e = ap (λ n. marked (take n marks) xs) (add-one t)
+    ∙ one_next marks xs t d m lt e
 
-pub marked_none : {X : Type 0} (marks : List Bool) (xs : List X) (t : ℕ) → t < length marks → get_or marks t false ≡ false → marked (take (t + 1) marks) xs ≡ marked (take t marks) xs
-marked_none marks xs t m e = ap (λ n. marked (take n marks) xs) (add-one t) ∙ none_next marks xs t m e
+pub marked_none : {X : Type 0} (marks : List Bool) (xs : List X) (t : ℕ) → t < length marks
+    → get_or marks t false ≡ false → marked (take (t + 1) marks) xs ≡ marked (take t marks) xs
+marked_none marks xs t m e = ap (λ n. marked (take n marks) xs) (add-one t)
+    ∙ none_next marks xs t m e
 
 -- ---- some of some
 
@@ -122,7 +148,8 @@ both_counted (false ∷ marks) inner = ap suc (both_counted marks inner)
 both_counted (true ∷ marks) [] = ap suc (both_counted marks [])
 both_counted (true ∷ marks) (mark ∷ inner) = ap suc (both_counted marks inner)
 
-marked_twice : {X : Type 0} (marks inner : List Bool) (xs : List X) → marked inner (marked marks xs) ≡ marked (both_marks marks inner) xs
+marked_twice : {X : Type 0} (marks inner : List Bool) (xs : List X)
+    → marked inner (marked marks xs) ≡ marked (both_marks marks inner) xs
 marked_twice [] inner xs = no_elements inner
 marked_twice (false ∷ marks) inner [] = no_elements inner
 marked_twice (false ∷ marks) inner (x ∷ xs) = marked_twice marks inner xs
@@ -130,9 +157,15 @@ marked_twice (true ∷ marks) [] [] = refl
 marked_twice (true ∷ marks) [] (x ∷ xs) = marked_twice marks [] xs
 marked_twice (true ∷ marks) (true ∷ inner) [] = refl
 marked_twice (true ∷ marks) (false ∷ inner) [] = refl
-marked_twice (true ∷ marks) (true ∷ inner) (x ∷ xs) = ap (λ ys. x ∷ ys) (marked_twice marks inner xs)
+marked_twice (true ∷ marks) (true ∷ inner) (x ∷ xs) =
+    ap (λ ys. x ∷ ys) (marked_twice marks inner xs)
 marked_twice (true ∷ marks) (false ∷ inner) (x ∷ xs) = marked_twice marks inner xs
 
-pub sublist_twice : {X : Type 0} (xs ys zs : List X) → IsSublist xs ys → IsSublist ys zs → IsSublist xs zs
-sublist_twice xs ys zs inner outer =
-    (both_marks outer.0 inner.0, both_counted outer.0 inner.0 ∙ outer.1, inner.2 ∙ (ap (marked inner.0) outer.2 ∙ marked_twice outer.0 inner.0 zs))
+pub sublist_twice : {X : Type 0} (xs ys zs : List X) → IsSublist xs ys → IsSublist ys zs
+    → IsSublist xs zs
+sublist_twice xs ys zs inner outer = (
+  both_marks outer.0 inner.0,
+  both_counted outer.0 inner.0 ∙ outer.1,
+  inner.2
+      ∙ (ap (marked inner.0) outer.2 ∙ marked_twice outer.0 inner.0 zs),
+)

@@ -7,13 +7,17 @@ use Rattle.compaction.proofs.Kept.{are_last, fewer_pieces}
 use Rattle.compaction.proofs.passes.last_tests.Goals as goal
 
 pub set_tests-requires-clause-width : goal.set_tests-requires-clause-width
-set_tests-requires-clause-width g c = c.in_ok-turned.ensures.width ∙ (c.requires.width ∙ c.requires.job.width)
+set_tests-requires-clause-width g c = c.in_ok-turned.ensures.width
+    ∙ (c.requires.width ∙ c.requires.job.width)
 
 pub unreachable-requires : goal.unreachable-requires
 unreachable-requires g c =
     let job = c.args.job.now in
-    let over = c.set_tests.ensures.too_many.0 (c.in-Err-TooManyPieces.is ∙ ap Err c.in-Err-TooManyPieces.field-0-is) in
-    let fewer = fewer_pieces (length job.classes.representative) (length c.in_ok-turned.turned.tests) (length job.tests.tests) (omega (arith, c.in_ok-turned.ensures.count, c.requires.few)) in
+    let over = c.set_tests.ensures.too_many.0 (c.in-Err-TooManyPieces.is
+    ∙ ap Err c.in-Err-TooManyPieces.field-0-is) in
+    let fewer =
+    fewer_pieces (length job.classes.representative) (length c.in_ok-turned.turned.tests)
+    (length job.tests.tests) (omega (arith, c.in_ok-turned.ensures.count, c.requires.few)) in
     omega (arith, over, fewer, c.requires.pieces)
 
 pub returns-clause-last : goal.returns-clause-last
@@ -23,12 +27,19 @@ returns-clause-last g c =
     let turned = c.in_ok-turned.turned.tests in
     let found = c.in_ok-found.found.items in
     let marks = c.deref.result.now in
-    let given = subst (λ p. AreFinding p.list.model p.circuit p.tests.tests found) c.in-Ok.ensures.job c.in_ok-found.ensures.marks in
-    let are : AreFinding StuckAt job.circuit turned found = subst (λ m. AreFinding m job.circuit turned found) c.requires.model given in
+    let given = subst (λ p. AreFinding p.list.model p.circuit p.tests.tests found)
+    c.in-Ok.ensures.job c.in_ok-found.ensures.marks in
+    let are : AreFinding StuckAt job.circuit turned found =
+    subst (λ m. AreFinding m job.circuit turned found) c.requires.model given in
     let all : length found ≡ length tests = are.count ∙ c.in_ok-turned.ensures.count in
-    let len : vec_len c.in_ok-found.found ≡ length tests = omega (arith, all, c.in_ok-found.found.ok.0) in
-    let long : length marks ≡ length tests = omega (arith, len, c.deref.ensures.len, c.reverse.ensures.len) in
-    let back : ReversedBelow found marks (length tests) = λ k d lt. ap (λ xs. get_or xs k d) c.deref.ensures.value
-    ∙ subst (λ n. ReversedBelow found c.reverse.new.self.items n) len c.reverse.ensures.by_index k d lt in
+    let len : vec_len c.in_ok-found.found ≡ length tests =
+    omega (arith, all, c.in_ok-found.found.ok.0) in
+    let long : length marks ≡ length tests =
+    omega (arith, len, c.deref.ensures.len, c.reverse.ensures.len) in
+    let back : ReversedBelow found marks (length tests) =
+    λ k d lt. ap (λ xs. get_or xs k d) c.deref.ensures.value
+    ∙ subst (λ n.
+    ReversedBelow found c.reverse.new.self.items n) len c.reverse.ensures.by_index k d lt in
     subst (λ rows. AreLast job.circuit tests rows) (sym c.in_ok-marked_tests.ensures.rows)
-    (are_last job.circuit tests turned found marks c.in_ok-turned.ensures.count c.in_ok-turned.ensures.rows are long back)
+    (are_last job.circuit tests turned found marks c.in_ok-turned.ensures.count
+    c.in_ok-turned.ensures.rows are long back)

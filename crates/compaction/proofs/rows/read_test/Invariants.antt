@@ -4,4 +4,5 @@ use Rattle.patterns.specs.Tests.{bit}
 use Rattle.compaction.proofs.rows.read_test.Given as goal
 
 abbrev pub invariant-loop-source : goal.invariant-loop-source
-invariant-loop-source l = (k : ℕ) (d : Bool) → k < l.source → get_or l.row k d ≡ bit l.tests.tests l.test k
+invariant-loop-source l = (k : ℕ) (d : Bool) → k < l.source
+    → get_or l.row k d ≡ bit l.tests.tests l.test k
