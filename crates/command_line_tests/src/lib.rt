@@ -8,7 +8,7 @@ mod commands;
 #[cfg(test)]
 mod daily;
 #[cfg(test)]
-mod generator;
+mod generated;
 #[cfg(test)]
 mod limits;
 #[cfg(test)]
