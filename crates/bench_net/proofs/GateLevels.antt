@@ -32,7 +32,7 @@ abbrev pub pins : List Statement → ℕ → List ℕ
 pins c s = pins_in (gate_of c s)
 
 -- a source is an input's name, or a cell's q
-of_input : (c : List Statement) (n : Name) → Among n (inputs c) → Among (Input n) c
+pub of_input : (c : List Statement) (n : Name) → Among n (inputs c) → Among (Input n) c
 of_input [] n a = absurd a
 of_input (_ ∷ c) n a = grind (arith, a, of_input c n)
 

@@ -1,6 +1,7 @@
 -- Lemmas on circuits: what has a number, which line defines a name, which texts are circuits.
 -- Proofs of the crates above cite these alone.
 pub use Rattle.bench_net.specs.reader.Entries.{is_in}
+pub use Rattle.bench_net.proofs.GateLevels.{named as defined_among, of_cell, of_input}
 pub use Rattle.bench_net.proofs.OneAnswer.{answer_text, accepted_by, refused_by}
 pub use Rattle.bench_net.proofs.Names.{bytes_refl, same_bytes, at_position, definition_defines}
 pub use Rattle.bench_net.proofs.Names.{name_of-signal, read_named, signal-name_of}

@@ -50,13 +50,13 @@ solves_like c t f v w well same known = record {
       (λ m h. sym (same m (among (names c) m (read_named c (Gate n kind args) m well (among c (Gate n kind args) at) h))))));
 }
 
-module _ (c : List Statement) (tests : List Test) (block : ℕ) (f : Option Fault) where
+module _ (c : List Statement) (tests : List Test) (group : ℕ) (f : Option Fault) where
   -- a signal's word is right where in each lane it has the bit that every solution gives the signal
   abbrev pub IsRight : ℕ → ℕ → Type 0
-  IsRight s word = (n : Name) (k : ℕ) (v : Name → Bool) → name_of c s ≡ Some n → k < 64 → Solves c (test_of tests block k) f v → lane word k ≡ v n
+  IsRight s word = (n : Name) (k : ℕ) (v : Name → Bool) → name_of c s ≡ Some n → k < 128 → Solves c (test_of tests group k) f v → lane word k ≡ v n
 
   -- a word that satisfies the equation of its signal is right, where the words of the signals that its gate reads are
-  pub right_by_equation : (words : List ℕ) (s word : ℕ) → IsWellFormed c → IsSignalWord c tests block f words s word
+  pub right_by_equation : (words : List ℕ) (s word : ℕ) → IsWellFormed c → IsSignalWord c tests group f words s word
       → ((n a : Name) (kind : Kind) (args : List Name) → signal c n ≡ s → Among (Gate n kind args) c → Among a args → IsRight (signal c a) (slice_index_or words (signal c a) 0))
       → IsRight s word
   right_by_equation words s word well equation pins n k v named lt solves = go (driven c n (at_place (names c) s n named))
@@ -84,14 +84,14 @@ module _ (c : List Statement) (tests : List Test) (block : ℕ) (f : Option Faul
       go (inr (inr x)) = by_gate x.0 x.1 x.2
 
   -- where every signal's word is right, each lane solves
-  pub right_in_lanes : (words : List ℕ) → IsWellFormed c → ((s : ℕ) → s < length (names c) → IsRight s (slice_index_or words s 0)) → AreWords c tests block f words
+  pub right_in_lanes : (words : List ℕ) → IsWellFormed c → ((s : ℕ) → s < length (names c) → IsRight s (slice_index_or words s 0)) → AreWords c tests group f words
   right_in_lanes words well right k lt =
-      solves_like c (test_of tests block k) f (lane_bits c words k) (solution c (test_of tests block k) f well) well same (solution_solves c (test_of tests block k) f well)
+      solves_like c (test_of tests group k) f (lane_bits c words k) (solution c (test_of tests group k) f well) well same (solution_solves c (test_of tests group k) f well)
     where
-      same : (n : Name) → Among n (names c) → lane_bits c words k n ≡ solution c (test_of tests block k) f well n
+      same : (n : Name) → Among n (names c) → lane_bits c words k n ≡ solution c (test_of tests group k) f well n
       same n a =
           let named : name_of c (signal c n) ≡ Some n = name_of-signal c n (contained (names c) n a) in
-          right (signal c n) (place_within (names c) (signal c n) n named) n k (solution c (test_of tests block k) f well) named lt (solution_solves c (test_of tests block k) f well)
+          right (signal c n) (place_within (names c) (signal c n) n named) n k (solution c (test_of tests group k) f well) named lt (solution_solves c (test_of tests group k) f well)
 
   -- a right word that is written leaves the right ones right
   pub right_kept : (words : List ℕ) (s t word : ℕ) → s < length words → IsRight s word → IsRight t (slice_index_or words t 0) → IsRight t (slice_index_or (set words s word) t 0)

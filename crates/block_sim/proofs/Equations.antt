@@ -17,8 +17,8 @@ use Rattle.fault_model.specs.declared.Line.TheVariants as line
 use Rattle.fault_model.specs.Fault.{Fault}
 use Rattle.fault_model.specs.Solution.{Test, value, under}
 use Rattle.fault_model.proofs.Public.{Driven, driven, IsSource, definition-signal, source_definition, source_place}
-use Rattle.patterns.specs.Tests.{IsWord, as_number, bit}
-use Rattle.block_sim.specs.Words.{lane, pin_bits, IsSignalWord}
+use Rattle.patterns.specs.Tests.{as_number, bit}
+use Rattle.block_sim.specs.Words.{lane, pin_bits, IsGroupWord, IsSignalWord}
 use Rattle.block_sim.proofs.Bridge.{pins_named}
 
 pub nothing : {X : Type 0} (x : X) → None ≡ Some x → ⊥
@@ -137,12 +137,12 @@ lane_number : (word k : ℕ) (b : Bool) → bit_at word k ≡ as_number b → la
 lane_number word k true e = ap (λ x. x == 1) e
 lane_number word k false e = ap (λ x. x == 1) e
 
-module _ (c : List Statement) (tests : List Test) (block : ℕ) (f : Option Fault) (words : List ℕ) (s driven_word word : ℕ) (well : IsWellFormed c)
-    (shown : (k : ℕ) → k < 64 → lane word k ≡ under f (line.Stem s) (lane driven_word k)) where
+module _ (c : List Statement) (tests : List Test) (group : ℕ) (f : Option Fault) (words : List ℕ) (s driven_word word : ℕ) (well : IsWellFormed c)
+    (shown : (k : ℕ) → k < 128 → lane word k ≡ under f (line.Stem s) (lane driven_word k)) where
   -- the word of a source
-  pub source_equation : gate_of c s ≡ None → ((i : ℕ) → slice_get (sources c) i ≡ name_of c s → IsWord tests block i driven_word) → IsSignalWord c tests block f words s word
+  pub source_equation : gate_of c s ≡ None → ((i : ℕ) → slice_get (sources c) i ≡ name_of c s → IsGroupWord tests group i driven_word) → IsSignalWord c tests group f words s word
   source_equation none taken = record {
-    source = λ i n k lt named at. shown k lt ∙ ap (under f (line.Stem s)) (lane_number driven_word k (bit tests (64 * block + k) i) (taken i (at ∙ sym named) k lt));
+    source = λ i n k lt named at. shown k lt ∙ ap (under f (line.Stem s)) (lane_number driven_word k (bit tests (128 * group + k) i) (taken i (at ∙ sym named) k lt));
     gate = λ n kind args k lt number at.
         let defined : definition c (signal c n) ≡ Some (Gate n kind args) = definition-signal c (Gate n kind args) n well at refl in
         let gate : gate_of c s ≡ Some (kind, map (signal c) args) = ap (λ k. gate_of c k) (sym number) ∙ ap (gate_line c) defined in
@@ -151,8 +151,8 @@ module _ (c : List Statement) (tests : List Test) (block : ℕ) (f : Option Faul
 
   -- the word of a gate's signal
   pub gate_equation : (kind : Kind) (pins delta : List ℕ) → ((t : ℕ) → slice_index_or delta t 0 ≡ 0) → gate_of c s ≡ Some (kind, pins)
-      → ((k : ℕ) → k < 64 → lane driven_word k ≡ value kind (pin_bits f s pins words delta k))
-      → IsSignalWord c tests block f words s word
+      → ((k : ℕ) → k < 128 → lane driven_word k ≡ value kind (pin_bits f s pins words delta k))
+      → IsSignalWord c tests group f words s word
   gate_equation kind pins delta clear e valued = record {
     source = λ i n k lt named at. absurd (no_source n named (source_definition c n well (at_place (sources c) i n at)));
     gate = λ n other args k lt number at.

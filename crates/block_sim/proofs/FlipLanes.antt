@@ -1,7 +1,7 @@
 -- The lanes in which a signal that is turned round is detected, out of one spread that turns it in
 -- lanes of both bits.
 use Rattle.std.proofs.Common.{◌≡◌, ◌<◌, ◌≤◌, ◌+◌, ℕ, refl, sym, ◌∙◌, ap, subst, Bool, true, false, not, List, [], length, arith}
-use Rattle.std.specs.Prelude.{◌*◌, ◌-◌, Some, None, min, slice_index_or}
+use Rattle.std.specs.Prelude.{◌*◌, Some, None, slice_index_or}
 use Rattle.std.proofs.lemmas.Bool.{false≢true}
 use Rattle.bench_net.specs.Statement.{Name, Statement}
 use Rattle.bench_net.specs.Scan.{names, signal, name_of}
@@ -17,6 +17,8 @@ use Rattle.block_sim.specs.Regions.{DetectsFlip, TellsFirstFlips, flip, flips}
 use Rattle.block_sim.specs.declared.spread.Followed.{Followed}
 use Rattle.block_sim.specs.Spreading.{AreShown, IsFirstChange}
 use Rattle.block_sim.specs.Stirred.{HasStirredIn}
+use Rattle.block_sim.specs.Spans.{AreInSpan, IsInSpan, group_of}
+use Rattle.block_sim.specs.declared.span.Span.{Span}
 use Rattle.block_sim.specs.Ways.{HasStirredByFlip}
 use Rattle.block_sim.specs.Words.{lane, lane_bits, test_of, AreWords}
 use Rattle.block_sim.proofs.Flips.{bit_is}
@@ -28,12 +30,12 @@ turned_bit : (a l : Bool) → l ≡ true → unlike a l ≡ not a
 turned_bit true l e = ap not e
 turned_bit false l e = e
 
-module _ (c : List Statement) (well : IsWellFormed c) (tests : List Test) (block : ℕ) (good : List ℕ)
-    (words : AreWords c tests block None good) (s : ℕ) (low : s < length (names c)) where
+module _ (c : List Statement) (well : IsWellFormed c) (tests : List Test) (group : ℕ) (good : List ℕ)
+    (words : AreWords c tests group None good) (s : ℕ) (low : s < length (names c)) where
   pub flip_first : (delta : List ℕ) (lanes : ℕ) → s < length delta
-      → IsFirstChange c tests block (flips good s) good lanes delta s lanes
+      → IsFirstChange c tests group (flips good s) good lanes delta s lanes
   flip_first delta lanes within =
-      first_on_stem c tests block (flips good s) good lanes delta s lanes well (λ k. refl) within words
+      first_on_stem c tests group (flips good s) good lanes delta s lanes well (λ k. refl) within words
       (λ k lt e. lane_xor (slice_index_or good s 0) lanes k
       ∙ turned_bit (lane (slice_index_or good s 0) k) (lane lanes k) e)
 
@@ -46,7 +48,7 @@ module _ (c : List Statement) (well : IsWellFormed c) (tests : List Test) (block
   number : signal c name.0 ≡ s
   number = signal-name_of c s name.0 well.once name.1 (contained (names c) name.0 here)
 
-  has_bit : (k : ℕ) → k < 64 → HasBit c (test_of tests block k) (line.Stem s) (lane (slice_index_or good s 0) k)
+  has_bit : (k : ℕ) → k < 128 → HasBit c (test_of tests group k) (line.Stem s) (lane (slice_index_or good s 0) k)
   has_bit k lt = (
     lane_bits c good k,
     name.0,
@@ -56,28 +58,28 @@ module _ (c : List Statement) (well : IsWellFormed c) (tests : List Test) (block
   )
 
   -- what the faults that turn it round stir is what it stirs turned round
-  pub flips_stir : (gates : List ℕ) → HasStirredByFlip c tests block s gates → HasStirredIn c tests block (flips good s) gates
-  flips_stir gates all gate h =
-      let low : h.0 < min 64 (length tests - 64 * block) = h.2 in
-      let is : test_of tests block h.0 ≡ h.1 = index_of tests (64 * block + h.0) h.1 [] h.3 in
+  pub flips_stir : (span : Span) (lanes : ℕ) (gates : List ℕ) → group_of span ≡ group → AreInSpan tests span lanes
+      → HasStirredByFlip c tests span s gates → HasStirredIn c tests group lanes (flips good s) gates
+  flips_stir span lanes gates own within all gate h =
+      let is : test_of tests group h.0 ≡ h.1 = index_of tests (128 * group + h.0) h.1 [] h.4 in
       let bit = lane (slice_index_or good s 0) h.0 in
-      all gate (h.0, h.1, bit, h.2, h.3, subst (λ t. HasBit c t (line.Stem s) bit) is (has_bit h.0 (omega (arith, low))), h.4)
+      all gate (128 * group + h.0, h.1, bit, subst (λ g. IsInSpan (length tests) span (128 * g + h.0)) own (within h.0 h.2 h.3), h.4, subst (λ t. HasBit c t (line.Stem s) bit) is (has_bit h.0 h.2), h.5)
 
   pub flip_told : (lanes seen : ℕ) (settled : ℕ → Type 0)
-      → AreShown c tests block (flips good s) good lanes settled seen → (one : Followed)
+      → AreShown c tests group (flips good s) good lanes settled seen → (one : Followed)
       → ((k : ℕ) → lane one.lanes k ≡ true → lane lanes k ≡ true)
       → ((k : ℕ) → settled k → lane one.lanes k ≡ true
       → (j : ℕ) × (j ≤ k) × (lane one.lanes j ≡ true) × (lane seen j ≡ true))
-      → TellsFirstFlips c tests block one.lanes s seen
+      → TellsFirstFlips c tests group one.lanes s seen
   flip_told lanes seen settled shown one inside ends = record {
     found = λ k lt own e. there k lt e;
     clear = λ k lt own none d. clear k lt own none d;
   }
     where
-      there : (k : ℕ) → k < 64 → lane seen k ≡ true → DetectsFlip c (test_of tests block k) s
+      there : (k : ℕ) → k < 128 → lane seen k ≡ true → DetectsFlip c (test_of tests group k) s
       there k lt e =
           let f = shown.found k lt e in
-          let t = test_of tests block k in
+          let t = test_of tests group k in
           let u = has_solutions c well t (Some (flips good s k)) in
           let is : Detects c t (flips good s k) =
           (detection_is_of_any_solution c well (flips good s k) t (lane_bits c good k) u.0 (words k lt) u.1).1
@@ -87,11 +89,11 @@ module _ (c : List Statement) (well : IsWellFormed c) (tests : List Test) (block
             is,
           )
 
-      clear : (k : ℕ) → k < 64 → lane one.lanes k ≡ true
+      clear : (k : ℕ) → k < 128 → lane one.lanes k ≡ true
           → ((j : ℕ) → j ≤ k → lane one.lanes j ≡ true → lane seen j ≡ false)
-          → DetectsFlip c (test_of tests block k) s → ⊥
+          → DetectsFlip c (test_of tests group k) s → ⊥
       clear k lt own none d =
-          let t = test_of tests block k in
+          let t = test_of tests group k in
           let unsettled : settled k → ⊥ = λ x. (let j = ends k x own in
           false≢true (sym (none j.0 j.1 j.2) ∙ j.3)) in
           let v = shown.clear k lt (inside k own) (none k (omega arith) own) unsettled in

@@ -67,18 +67,18 @@ at_last n i started within passed at = go (cases_eq (n - 1) 0)
 
 -- In each lane: whether the bits that the first pins see, turned round or not, are all 1, and an odd number of them 1.
 pub record AreFolds (f : Option Fault) (gate : ℕ) (pins words delta : List ℕ) (turn : Bool) (i all odd : ℕ) : Type 0 where
-  pub all_is : (k : ℕ) → k < 64 → lane all k ≡ list_all (λ b. turned turn b) (take i (pin_bits f gate pins words delta k))
-  pub odd_is : (k : ℕ) → k < 64 → lane odd k ≡ is_odd (take i (pin_bits f gate pins words delta k))
+  pub all_is : (k : ℕ) → k < 128 → lane all k ≡ list_all (λ b. turned turn b) (take i (pin_bits f gate pins words delta k))
+  pub odd_is : (k : ℕ) → k < 128 → lane odd k ≡ is_odd (take i (pin_bits f gate pins words delta k))
 
 module _ (f : Option Fault) (gate : ℕ) (pins words delta : List ℕ) where
-  pub folds_none : (turn : Bool) → AreFolds f gate pins words delta turn 0 18446744073709551615 0
+  pub folds_none : (turn : Bool) → AreFolds f gate pins words delta turn 0 340282366920938463463374607431768211455 0
   folds_none turn = record {
-    all_is = λ k lt. lane_ones 64 k lt;
+    all_is = λ k lt. lane_ones 128 k lt;
     odd_is = λ k lt. lane_zero k;
   }
 
-  pub folds_more : (turn : Bool) (flips i all odd word : ℕ) → i < length pins → ((k : ℕ) → k < 64 → lane flips k ≡ turn) → AreFolds f gate pins words delta turn i all odd
-      → ((k : ℕ) → k < 64 → lane word k ≡ under f (line.Pin gate i) (lane (overlaid words delta (slice_index_or pins i 0)) k))
+  pub folds_more : (turn : Bool) (flips i all odd word : ℕ) → i < length pins → ((k : ℕ) → k < 128 → lane flips k ≡ turn) → AreFolds f gate pins words delta turn i all odd
+      → ((k : ℕ) → k < 128 → lane word k ≡ under f (line.Pin gate i) (lane (overlaid words delta (slice_index_or pins i 0)) k))
       → AreFolds f gate pins words delta turn (i + 1) (bit_and all (bit_xor word flips)) (bit_xor odd word)
   folds_more turn flips i all odd word lt flip h is = record {
     all_is = λ k below.
@@ -93,24 +93,24 @@ module _ (f : Option Fault) (gate : ℕ) (pins words delta : List ℕ) where
       within : (k : ℕ) → i < length (pin_bits f gate pins words delta k)
       within k = let e : length (pin_bits f gate pins words delta k) ≡ length pins = pins_counted f gate pins words delta k in omega (arith, e, lt)
 
-      bit : (k : ℕ) → k < 64 → lane word k ≡ slice_index_or (pin_bits f gate pins words delta k) i false
+      bit : (k : ℕ) → k < 128 → lane word k ≡ slice_index_or (pin_bits f gate pins words delta k) i false
       bit k below = is k below ∙ sym (pin_at f gate pins words delta k i lt)
 
   -- the first pin
-  pub folds_first : (turn : Bool) (flips word : ℕ) → 0 < length pins → ((k : ℕ) → k < 64 → lane flips k ≡ turn)
-      → ((k : ℕ) → k < 64 → lane word k ≡ under f (line.Pin gate 0) (lane (overlaid words delta (slice_index_or pins 0 0)) k))
+  pub folds_first : (turn : Bool) (flips word : ℕ) → 0 < length pins → ((k : ℕ) → k < 128 → lane flips k ≡ turn)
+      → ((k : ℕ) → k < 128 → lane word k ≡ under f (line.Pin gate 0) (lane (overlaid words delta (slice_index_or pins 0 0)) k))
       → AreFolds f gate pins words delta turn 1 (bit_xor word flips) word
   folds_first turn flips word some flip is =
-      let h = folds_more turn flips 0 18446744073709551615 0 word some flip (folds_none turn) is in
+      let h = folds_more turn flips 0 340282366920938463463374607431768211455 0 word some flip (folds_none turn) is in
       record {
-        all_is = λ k lt. sym (lane_and 18446744073709551615 (bit_xor word flips) k ∙ rw (lane_ones 64 k lt) refl) ∙ h.all_is k lt;
+        all_is = λ k lt. sym (lane_and 340282366920938463463374607431768211455 (bit_xor word flips) k ∙ rw (lane_ones 128 k lt) refl) ∙ h.all_is k lt;
         odd_is = λ k lt. sym (lane_xor 0 word k ∙ rw (lane_zero k) refl) ∙ h.odd_is k lt;
       }
 
   -- the last pin, which of one pin is the first again
-  pub folds_last : (turn : Bool) (flips i last all odd word other : ℕ) → length pins ≡ last + 1 → ((i ≡ last) ⊎ ((i ≡ 1) × (last ≡ 0))) → ((k : ℕ) → k < 64 → lane flips k ≡ turn)
-      → ((k : ℕ) → k < 64 → lane other k ≡ nat_lt 0 last) → AreFolds f gate pins words delta turn i all odd
-      → ((k : ℕ) → k < 64 → lane word k ≡ under f (line.Pin gate last) (lane (overlaid words delta (slice_index_or pins last 0)) k))
+  pub folds_last : (turn : Bool) (flips i last all odd word other : ℕ) → length pins ≡ last + 1 → ((i ≡ last) ⊎ ((i ≡ 1) × (last ≡ 0))) → ((k : ℕ) → k < 128 → lane flips k ≡ turn)
+      → ((k : ℕ) → k < 128 → lane other k ≡ nat_lt 0 last) → AreFolds f gate pins words delta turn i all odd
+      → ((k : ℕ) → k < 128 → lane word k ≡ under f (line.Pin gate last) (lane (overlaid words delta (slice_index_or pins last 0)) k))
       → 0 < i → AreFolds f gate pins words delta turn (length pins) (bit_and all (bit_xor word flips)) (bit_xor odd (bit_and word other))
   folds_last turn flips i last all odd word other count (inl e) flip others h is more = record {
     all_is = λ k lt. whole.all_is k lt ∙ ap (λ n. list_all (λ b. turned turn b) (take n (pin_bits f gate pins words delta k))) long;
@@ -156,7 +156,7 @@ module _ (f : Option Fault) (gate : ℕ) (pins words delta : List ℕ) where
       only : AreFolds f gate pins words delta turn 1 (bit_xor word flips) word
       only = folds_first turn flips word (omega (arith, count)) flip (λ k lt. subst (λ j. lane word k ≡ under f (line.Pin gate j) (lane (overlaid words delta (slice_index_or pins j 0)) k)) none (is k lt))
 
-      same : (k : ℕ) → k < 64 → lane (bit_xor word flips) k ≡ list_all (λ b. turned turn b) (take i (pin_bits f gate pins words delta k))
+      same : (k : ℕ) → k < 128 → lane (bit_xor word flips) k ≡ list_all (λ b. turned turn b) (take i (pin_bits f gate pins words delta k))
       same k lt = only.all_is k lt ∙ ap (λ n. list_all (λ b. turned turn b) (take n (pin_bits f gate pins words delta k))) (sym one)
 
   -- and so of all pins
@@ -164,10 +164,10 @@ module _ (f : Option Fault) (gate : ℕ) (pins words delta : List ℕ) where
   whole k = let e : length (pin_bits f gate pins words delta k) ≡ length pins = pins_counted f gate pins words delta k in take_all (length pins) (pin_bits f gate pins words delta k) (omega (arith, e))
 
   module _ (turn : Bool) (all odd : ℕ) (h : AreFolds f gate pins words delta turn (length pins) all odd) where
-    pub folds_all : (k : ℕ) → k < 64 → lane all k ≡ list_all (λ b. turned turn b) (pin_bits f gate pins words delta k)
+    pub folds_all : (k : ℕ) → k < 128 → lane all k ≡ list_all (λ b. turned turn b) (pin_bits f gate pins words delta k)
     folds_all k lt = h.all_is k lt ∙ ap (list_all (λ b. turned turn b)) (whole k)
 
-    pub folds_odd : (k : ℕ) → k < 64 → lane odd k ≡ is_odd (pin_bits f gate pins words delta k)
+    pub folds_odd : (k : ℕ) → k < 128 → lane odd k ≡ is_odd (pin_bits f gate pins words delta k)
     folds_odd k lt = h.odd_is k lt ∙ ap is_odd (whole k)
 
 -- the word of a form

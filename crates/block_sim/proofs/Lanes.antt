@@ -1,7 +1,7 @@
 -- What the operations on words do in a lane.
 use Rattle.std.proofs.Common.{◌≡◌, ◌<◌, ◌^◌, ◌-◌, ◌%◌, ℕ, zero, suc, ◌+◌, refl, Bool, true, false, not, ◌&&◌, ◌||◌, arith, inl, inr, ◌⊎◌, min, max}
 use Rattle.std.specs.Prelude.{◌==◌, bit_and, bit_or, bit_xor}
-use Rattle.std.specs.Int.{bit_at, bit_not, w64}
+use Rattle.std.specs.Int.{bit_at, bit_not, w128}
 use Rattle.std.proofs.lemmas.Nat.Bits.{bit_at-lt, bit_at-zero, bit_at_and, bit_at_or, bit_at_xor, bit_at_ones, bit_at_not}
 use Rattle.block_sim.specs.Words.{lane}
 
@@ -42,8 +42,8 @@ lane_xor a b k = rw (bit_at_xor a b k) (go (bit_at a k) (bit_at b k) (two _ (bit
     go x y (inr e) (inl g) = rw (e, g) refl
     go x y (inr e) (inr g) = rw (e, g) refl
 
-pub lane_not : (a k : ℕ) → a < 2 ^ 64 → k < 64 → lane (bit_not w64 a) k ≡ not (lane a k)
-lane_not a k fits lt = rw (bit_at_not w64 a k fits lt) (go (bit_at a k) (two _ (bit_at-lt a k)))
+pub lane_not : (a k : ℕ) → a < 2 ^ 128 → k < 128 → lane (bit_not w128 a) k ≡ not (lane a k)
+lane_not a k fits lt = rw (bit_at_not w128 a k fits lt) (go (bit_at a k) (two _ (bit_at-lt a k)))
   where
     go : (x : ℕ) → (x ≡ 0) ⊎ (x ≡ 1) → (1 - x == 1) ≡ not (x == 1)
     go x (inl e) = rw e refl

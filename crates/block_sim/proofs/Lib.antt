@@ -48,3 +48,4 @@ mod Simulated
 mod ResponseRows
 pub mod Public
 mod Ways
+mod Groups

@@ -61,11 +61,11 @@ module _ (c : List Statement) (good : List ℕ) (lanes : ℕ) where
   }
 
   -- ---- fewer lanes are followed
-  pub leads_narrower : (delta at : List ℕ) (evaluations level kept seen narrow : ℕ) → ((k : ℕ) → k < 64 → lane narrow k ≡ true → lane kept k ≡ true)
+  pub leads_narrower : (delta at : List ℕ) (evaluations level kept seen narrow : ℕ) → ((k : ℕ) → k < 128 → lane narrow k ≡ true → lane kept k ≡ true)
       → Leads c good lanes (moment_of delta at evaluations level kept seen) (moment_of delta at evaluations level narrow seen)
   leads_narrower delta at evaluations level kept seen narrow within = record {
     spreading = λ case h.
-        spreading_narrower c case.tests case.block case.fault good lanes (level_at c case.level) case.start kept delta at level narrow within h;
+        spreading_narrower c case.tests case.group case.fault good lanes (level_at c case.level) case.start kept delta at level narrow within h;
     counted = λ case gates h all. omega arith;
     seen = seen_narrower c delta kept seen narrow within;
     more = λ s ne. ne;
@@ -78,7 +78,7 @@ module _ (c : List Statement) (good : List ℕ) (lanes : ℕ) where
   leads_higher delta at now evaluations level kept seen same none =
       subst (λ x. Leads c good lanes (moment_of delta at evaluations level kept seen) (moment_of delta x evaluations (level + 1) kept seen)) (sym same) (record {
         spreading = λ case h.
-            level_done c case.tests case.block case.fault good lanes (level_at c case.level) case.start kept delta at level none h;
+            level_done c case.tests case.group case.fault good lanes (level_at c case.level) case.start kept delta at level none h;
         counted = λ case gates h all. let less = ahead_higher (level_at c case.level) at level gates in omega (arith, less);
         seen = λ h. h;
         more = λ s ne. ne;
@@ -100,8 +100,8 @@ module _ (c : List Statement) (good : List ℕ) (lanes : ℕ) where
   leads_skipped delta at evaluations level kept seen gate in_at waits none = record {
     spreading = λ case h.
         let lv = level_at c case.level in
-        subst (λ x. IsSpreading c case.tests case.block case.fault good lanes lv case.start kept delta x level) back
-        (spreading_skipped c case.tests case.block case.fault good lanes lv case.start kept delta taken_at level gate in_taken
+        subst (λ x. IsSpreading c case.tests case.group case.fault good lanes lv case.start kept delta x level) back
+        (spreading_skipped c case.tests case.group case.fault good lanes lv case.start kept delta taken_at level gate in_taken
         (λ k e. false≢true (sym (lane_of_zero kept k none) ∙ e)) h);
     counted = λ case gates h all.
         let lv = level_at c case.level in
@@ -124,7 +124,7 @@ module _ (c : List Statement) (good : List ℕ) (lanes : ℕ) where
   -- ---- it is evaluated
   module _ (well : IsWellFormed c) (delta at : List ℕ) (before after level kept seen gate : ℕ) (in_at : gate < length at) (in_delta : gate < length delta) (waits : slice_index_or at gate 0 ≡ 0)
       (grown : before ≤ after) (one : after ≤ before + 1) (kind : Kind) (pins : List ℕ) (is : gate_of c gate ≡ Some (kind, pins)) (word : ℕ)
-      (valued : (k : ℕ) → k < 64 → lane word k ≡ value kind (pin_bits None gate pins good delta k)) where
+      (valued : (k : ℕ) → k < 128 → lane word k ≡ value kind (pin_bits None gate pins good delta k)) where
     abbrev taken_at : List ℕ
     taken_at = slice_set at gate (level + 1)
 
@@ -138,18 +138,18 @@ module _ (c : List Statement) (good : List ℕ) (lanes : ℕ) where
     back = restored at gate level waits
 
     -- its word is what it was
-    pub leads_same : ((k : ℕ) → k < 64 → lane kept k ≡ true → lane (slice_index_or good gate 0) k ≡ lane word k)
+    pub leads_same : ((k : ℕ) → k < 128 → lane kept k ≡ true → lane (slice_index_or good gate 0) k ≡ lane word k)
         → Leads c good lanes (moment_of delta (slice_set at gate (level + 1)) before level kept seen) (moment_of delta at after level kept (bit_or seen 0))
     leads_same same = record {
       spreading = λ case h.
           let lv = level_at c case.level in
-          subst (λ x. IsSpreading c case.tests case.block case.fault good lanes lv case.start kept delta x level) back
-          (evaluated_same c case.tests case.block case.fault good lanes lv case.start kept well (reads_rise c case.level well case.levels) case.elsewhere
+          subst (λ x. IsSpreading c case.tests case.group case.fault good lanes lv case.start kept delta x level) back
+          (evaluated_same c case.tests case.group case.fault good lanes lv case.start kept well (reads_rise c case.level well case.levels) case.elsewhere
           delta taken_at level gate h taken in_taken in_delta kind pins is word valued same);
       counted = λ case gates h all.
           let lv = level_at c case.level in
           let less = subst (λ x. ahead lv x level gates + 1 ≤ ahead lv taken_at level gates) back
-          (ahead_same c case.tests case.block case.fault good lanes lv case.start kept well (reads_rise c case.level well case.levels) case.elsewhere
+          (ahead_same c case.tests case.group case.fault good lanes lv case.start kept well (reads_rise c case.level well case.levels) case.elsewhere
           delta taken_at level gate h taken in_taken in_delta kind pins is word valued gates all) in
           omega (arith, less, one);
       seen = seen_like c delta kept seen (bit_or seen 0) (with_none seen);
@@ -158,19 +158,19 @@ module _ (c : List Statement) (good : List ℕ) (lanes : ℕ) where
     }
 
     -- its signal changes, and the readers of that wait
-    pub leads_changed : (diff shown : ℕ) (now new : List ℕ) → slice_index_or delta gate 0 ≡ 0 → now ≡ set delta gate diff → diff ≢ 0 → (k : ℕ) × (k < 64) × (lane diff k ≡ true)
-        → ((k : ℕ) → k < 64 → lane diff k ≡ true → lane kept k ≡ true)
-        → ((k : ℕ) → k < 64 → lane kept k ≡ true → lane (bit_xor (slice_index_or good gate 0) diff) k ≡ lane word k)
+    pub leads_changed : (diff shown : ℕ) (now new : List ℕ) → slice_index_or delta gate 0 ≡ 0 → now ≡ set delta gate diff → diff ≢ 0 → (k : ℕ) × (k < 128) × (lane diff k ≡ true)
+        → ((k : ℕ) → k < 128 → lane diff k ≡ true → lane kept k ≡ true)
+        → ((k : ℕ) → k < 128 → lane kept k ≡ true → lane (bit_xor (slice_index_or good gate 0) diff) k ≡ lane word k)
         → ((level : Name → ℕ) → AreLevels c level → AreWoken c (level_at c level) gate at new)
-        → ((k : ℕ) → k < 64 → Decides (lane shown k) (IsObserved c gate × (lane diff k ≡ true)))
+        → ((k : ℕ) → k < 128 → Decides (lane shown k) (IsObserved c gate × (lane diff k ≡ true)))
         → Leads c good lanes (moment_of delta (slice_set at gate (level + 1)) before level kept seen) (moment_of now new after level kept (bit_or seen shown))
     leads_changed diff shown now new clear is_now differs a_lane in_kept changed woken observed =
         subst (λ x. Leads c good lanes (moment_of delta (slice_set at gate (level + 1)) before level kept seen) (moment_of x new after level kept (bit_or seen shown))) (sym is_now) (record {
           spreading = λ case h.
-              evaluated_changed c case.tests case.block case.fault good lanes (level_at c case.level) case.start kept well (reads_rise c case.level well case.levels) case.elsewhere
+              evaluated_changed c case.tests case.group case.fault good lanes (level_at c case.level) case.start kept well (reads_rise c case.level well case.levels) case.elsewhere
               delta taken_at level gate h taken in_taken in_delta kind pins is word valued diff new differs a_lane in_kept changed (woken_now case);
           counted = λ case gates h all.
-              let less = ahead_changed c case.tests case.block case.fault good lanes (level_at c case.level) case.start kept well (reads_rise c case.level well case.levels) case.elsewhere
+              let less = ahead_changed c case.tests case.group case.fault good lanes (level_at c case.level) case.start kept well (reads_rise c case.level well case.levels) case.elsewhere
               delta taken_at level gate h taken in_taken in_delta kind pins is word valued diff new differs a_lane in_kept changed (woken_now case) gates all in
               omega (arith, less, one);
           seen = seen_changed c delta kept seen gate diff shown clear in_delta observed;
@@ -187,11 +187,11 @@ module _ (c : List Statement) (good : List ℕ) (lanes : ℕ) where
             ne (sym (get_or-set_other delta gate s diff 0 other) ∙ e)
 
 -- ---- the first moment, after the first change of a fault
-abbrev pub case_of : (c : List Statement) (tests : List Test) (block : ℕ) (f : ℕ → Fault) (good : List ℕ) (lanes : ℕ) (delta : List ℕ) (start diff : ℕ)
-    → IsFirstChange c tests block f good lanes delta start diff → (level : Name → ℕ) → AreLevels c level → Case c
-case_of c tests block f good lanes delta start diff first level levels = record {
+abbrev pub case_of : (c : List Statement) (tests : List Test) (group : ℕ) (f : ℕ → Fault) (good : List ℕ) (lanes : ℕ) (delta : List ℕ) (start diff : ℕ)
+    → IsFirstChange c tests group f good lanes delta start diff → (level : Name → ℕ) → AreLevels c level → Case c
+case_of c tests group f good lanes delta start diff first level levels = record {
   tests = tests;
-  block = block;
+  group = group;
   fault = f;
   start = start;
   elsewhere = first.elsewhere;
@@ -199,24 +199,24 @@ case_of c tests block f good lanes delta start diff first level levels = record 
   levels = levels;
 }
 
-module _ (c : List Statement) (tests : List Test) (block : ℕ) (f : ℕ → Fault) (good : List ℕ) (lanes : ℕ) (before after : Changes) (start diff : ℕ) (well : IsWellFormed c)
-    (first : IsFirstChange c tests block f good lanes before.overlay start diff) (level : Name → ℕ) (levels : AreLevels c level)
+module _ (c : List Statement) (tests : List Test) (group : ℕ) (f : ℕ → Fault) (good : List ℕ) (lanes : ℕ) (before after : Changes) (start diff : ℕ) (well : IsWellFormed c)
+    (first : IsFirstChange c tests group f good lanes before.overlay start diff) (level : Name → ℕ) (levels : AreLevels c level)
     (clear : IsClear before) (woken : (level : Name → ℕ) → AreLevels c level → AreWoken c (level_at c level) start before.buckets.at after.buckets.at)
     (now : ℕ) (here : level_at c level start ≡ now) (kept seen : ℕ) where
-  pub first_spreads : after.overlay ≡ set before.overlay start diff → start < length before.overlay → diff ≢ 0 → (k : ℕ) × (k < 64) × (lane diff k ≡ true)
-      → ((k : ℕ) → k < 64 → lane diff k ≡ true → lane lanes k ≡ true) → ((k : ℕ) → k < 64 → lane kept k ≡ true → lane lanes k ≡ true)
-      → Spreads c good lanes (case_of c tests block f good lanes before.overlay start diff first level levels) (moment after now kept seen)
+  pub first_spreads : after.overlay ≡ set before.overlay start diff → start < length before.overlay → diff ≢ 0 → (k : ℕ) × (k < 128) × (lane diff k ≡ true)
+      → ((k : ℕ) → k < 128 → lane diff k ≡ true → lane lanes k ≡ true) → ((k : ℕ) → k < 128 → lane kept k ≡ true → lane lanes k ≡ true)
+      → Spreads c good lanes (case_of c tests group f good lanes before.overlay start diff first level levels) (moment after now kept seen)
   first_spreads changed within differs a_lane in_lanes narrow =
-      spreading_narrower c tests block f good lanes (level_at c level) start lanes after.overlay after.buckets.at now kept narrow
-      (subst (λ x. IsSpreading c tests block f good lanes (level_at c level) start lanes x after.buckets.at now) (sym changed)
-      (subst (IsSpreading c tests block f good lanes (level_at c level) start lanes (set before.overlay start diff) after.buckets.at) here
-      (spreading_first c tests block f good lanes (level_at c level) start well (reads_rise c level well levels) before.overlay before.buckets.at after.buckets.at
+      spreading_narrower c tests group f good lanes (level_at c level) start lanes after.overlay after.buckets.at now kept narrow
+      (subst (λ x. IsSpreading c tests group f good lanes (level_at c level) start lanes x after.buckets.at now) (sym changed)
+      (subst (IsSpreading c tests group f good lanes (level_at c level) start lanes (set before.overlay start diff) after.buckets.at) here
+      (spreading_first c tests group f good lanes (level_at c level) start well (reads_rise c level well levels) before.overlay before.buckets.at after.buckets.at
       (λ t. index_zero before.buckets.at t clear.gates) (woken level levels) diff first.words (λ t. index_zero before.overlay t clear.words) first.elsewhere first.first within differs a_lane in_lanes)))
 
   pub first_left : (gates : List ℕ)
-      → left c (case_of c tests block f good lanes before.overlay start diff first level levels) (moment after now kept seen) gates + count_by (λ g. g == start) gates ≤ length gates
+      → left c (case_of c tests group f good lanes before.overlay start diff first level levels) (moment after now kept seen) gates + count_by (λ g. g == start) gates ≤ length gates
   first_left gates =
-      let few = count_first c tests block f good lanes (level_at c level) start well (reads_rise c level well levels) before.overlay before.buckets.at after.buckets.at
+      let few = count_first c tests group f good lanes (level_at c level) start well (reads_rise c level well levels) before.overlay before.buckets.at after.buckets.at
       (λ t. index_zero before.buckets.at t clear.gates) (woken level levels) gates in
       let same = ap (λ x. ahead (level_at c level) after.buckets.at x gates) here in
       omega (arith, few, same)
@@ -224,8 +224,8 @@ module _ (c : List Statement) (tests : List Test) (block : ℕ) (f : ℕ → Fau
 -- what is seen of the first change, and of the lanes that are then followed
 pub first_seen : (c : List Statement) (lanes : ℕ) (before after : Changes) (start diff seen kept : ℕ) → IsClear before
     → after.overlay ≡ set before.overlay start diff → start < length before.overlay
-    → ((k : ℕ) → k < 64 → Decides (lane seen k) (IsObserved c start × (lane diff k ≡ true)))
-    → ((k : ℕ) → k < 64 → lane kept k ≡ true → lane lanes k ≡ true) → AreSeen c after.overlay kept seen
+    → ((k : ℕ) → k < 128 → Decides (lane seen k) (IsObserved c start × (lane diff k ≡ true)))
+    → ((k : ℕ) → k < 128 → lane kept k ≡ true → lane lanes k ≡ true) → AreSeen c after.overlay kept seen
 first_seen c lanes before after start diff seen kept rest changed within shown narrow =
     seen_narrower c after.overlay lanes seen kept narrow (subst (λ x. AreSeen c x lanes seen) (sym changed)
     (seen_like c (set before.overlay start diff) lanes (bit_or 0 seen) seen (from_none seen)

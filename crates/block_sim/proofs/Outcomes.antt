@@ -1,5 +1,5 @@
--- The outcome of a fault on a block, of a word that tells lanes in which it is detected: the least is
--- the outcome, whatever the word leaves out above it.
+-- The first test of a span that detects a fault, of a word that tells lanes in which it is detected:
+-- that of the least lane, whatever the word leaves out above it. And the outcome on each block.
 use Rattle.std.proofs.Common.{◌≡◌, ◌<◌, ◌≤◌, ℕ, ◌+◌, ◌*◌, ◌-◌, min, sym, subst, true, false, List, []}
 use Rattle.std.proofs.Common.{length, arith}
 use Rattle.lists.proofs.Places.{within_place}
@@ -7,48 +7,67 @@ use Rattle.bench_net.specs.Statement.{Statement}
 use Rattle.fault_model.specs.Fault.{Fault}
 use Rattle.fault_model.specs.Solution.{Test, Detects}
 use Rattle.fault_model.specs.Detection.{DetectsAt}
-use Rattle.patterns.specs.declared.Outcome.{Outcome}
 use Rattle.patterns.specs.declared.Outcome.TheVariants.{Clear, Hit}
-use Rattle.patterns.specs.Tests.{size_of}
-use Rattle.block_sim.specs.First.{IsOutcome}
+use Rattle.block_sim.specs.declared.span.Span.{Span}
+use Rattle.block_sim.specs.First.{IsOutcome, TellsFirst}
 use Rattle.block_sim.specs.Regions.{AreLanesFor}
-use Rattle.block_sim.specs.Words.{lane, test_of, IsLeastLane}
+use Rattle.block_sim.specs.Spans.{IsSpan, group_of}
+use Rattle.block_sim.specs.Words.{lane, test_of}
 use Rattle.block_sim.proofs.Placed.{index_of}
 
-module _ (c : List Statement) (tests : List Test) (block : ℕ) (f : Fault) (lanes word : ℕ)
-    (decides : AreLanesFor tests block c f lanes)
-    (found : (k : ℕ) → k < 64 → lane word k ≡ true
-    → (lane lanes k ≡ true) × Detects c (test_of tests block k) f)
-    (clear : (k : ℕ) → k < 64 → lane lanes k ≡ true → ((j : ℕ) → j ≤ k → lane word j ≡ false)
-    → Detects c (test_of tests block k) f → ⊥) where
-  detected : (k : ℕ) → k < 64 → lane word k ≡ true
-      → (k < size_of (length tests) block) × DetectsAt c tests f (64 * block + k)
-  detected k lt e =
-      let h = found k lt e in
-      let d = (decides k lt).0 h.0 in
-      let few : k < min 64 (length tests - 64 * block) = d.0 in
-      let at = within_place tests (64 * block + k) (omega (arith, few)) in
-      let same : test_of tests block k ≡ at.0 = index_of tests (64 * block + k) at.0 [] at.1 in
-      (d.0, (at.0, at.1, subst (λ t. Detects c t f) same h.1, d.1))
+module _ (c : List Statement) (tests : List Test) (span : Span) (f : Fault) (lanes word : ℕ)
+    (decides : AreLanesFor tests span c f lanes)
+    (found : (k : ℕ) → k < 128 → lane word k ≡ true
+    → (lane lanes k ≡ true) × Detects c (test_of tests (group_of span) k) f)
+    (clear : (k : ℕ) → k < 128 → lane lanes k ≡ true → ((j : ℕ) → j ≤ k → lane word j ≡ false)
+    → Detects c (test_of tests (group_of span) k) f → ⊥) where
+  pub first_of_told : TellsFirst c tests span f word
+  first_of_told = record {
+    found = λ k lt e.
+        let h = found k lt e in
+        let d = (decides k lt).0 h.0 in
+        let at = within_place tests (128 * group_of span + k) d.0.listed in
+        let same : test_of tests (group_of span) k ≡ at.0 = index_of tests (128 * group_of span + k) at.0 [] at.1 in
+        (d.0, (at.0, at.1, subst (λ t. Detects c t f) same h.1, d.1));
+    clear = λ k lt own none d.
+        let same : test_of tests (group_of span) k ≡ d.0 = index_of tests (128 * group_of span + k) d.0 [] d.1 in
+        clear k lt ((decides k lt).1 (own, d.3)) none (subst (λ t. Detects c t f) (sym same) d.2);
+  }
 
-  undetected : (k : ℕ) → k < 64 → k < size_of (length tests) block
-      → ((j : ℕ) → j ≤ k → lane word j ≡ false) → DetectsAt c tests f (64 * block + k) → ⊥
-  undetected k lt few none d =
-      let same : test_of tests block k ≡ d.0 = index_of tests (64 * block + k) d.0 [] d.1 in
-      clear k lt ((decides k lt).1 (few, d.3)) none (subst (λ t. Detects c t f) (sym same) d.2)
+module _ (c : List Statement) (tests : List Test) (span : Span) (f : Fault) (word : ℕ)
+    (is_span : IsSpan (length tests) span) (first : TellsFirst c tests span f word) where
+  -- no test of a block detects the fault before which no lane is 1
+  pub clear_before : (block : ℕ) → span.first ≤ block → block ≤ span.last
+      → ((j : ℕ) → 128 * group_of span + j < 64 * block + 64 → lane word j ≡ false) → IsOutcome c tests f block Clear
+  clear_before block from to none k few d =
+      let le : k < min 64 (length tests - 64 * block) = few in
+      let one = is_span.one_group in
+      let place : 128 * group_of span + (64 * block + k - 128 * group_of span) ≡ 64 * block + k = omega (arith, from) in
+      first.clear (64 * block + k - 128 * group_of span) (omega (arith, from, to, le, one))
+      (record { from = omega (arith, from, place); to = omega (arith, to, le, place); listed = omega (arith, le, place) })
+      (λ j low. none j (omega (arith, low, le, place)))
+      (subst (DetectsAt c tests f) (sym place) d)
 
-  within_word : (k : ℕ) → k < size_of (length tests) block → k < 64
-  within_word k few = let le : k < min 64 (length tests - 64 * block) = few in omega (arith, le)
-
-  pub outcome_of_told : (o : Outcome) → IsLeastLane word o → IsOutcome c tests f block o
-  outcome_of_told Clear none = λ k few d.
-      let lt = within_word k few in undetected k lt few (λ j le. none j (omega (arith, le, lt))) d
-  outcome_of_told (Hit k) least =
-      let found = detected k least.0 least.1 in (
-        found.0,
-        found.1,
-        λ lower lt d.
-            let few : k < min 64 (length tests - 64 * block) = found.0 in
-            undetected lower (omega (arith, lt, least.0)) (omega (arith, lt, few))
-            (λ j le. least.2 j (omega (arith, le, lt))) d,
+  -- the block of the least lane that is 1
+  pub hit_at : (k block test : ℕ) → k < 128 → lane word k ≡ true → ((j : ℕ) → j < k → lane word j ≡ false)
+      → 128 * group_of span + k ≡ 64 * block + test → test < 64
+      → (span.first ≤ block) × (block ≤ span.last) × IsOutcome c tests f block (Hit test)
+  hit_at k block test lt e least place few =
+      let h = first.found k lt e in
+      let from = h.0.from in
+      let to = h.0.to in
+      let listed = h.0.listed in
+      let one = is_span.one_group in (
+        omega (arith, from, place, few),
+        omega (arith, to, place, few),
+        (
+          omega (arith, listed, place, few),
+          subst (DetectsAt c tests f) place h.1,
+          λ lower low d.
+              let there : 128 * group_of span + (k - (test - lower)) ≡ 64 * block + lower = omega (arith, place, low, few, from) in
+              first.clear (k - (test - lower)) (omega (arith, lt))
+              (record { from = omega (arith, from, place, there, low, few); to = omega (arith, to, place, there, low); listed = omega (arith, listed, place, there, low) })
+              (λ j le. least j (omega (arith, le, low, place, there)))
+              (subst (DetectsAt c tests f) (sym there) d),
+        ),
       )

@@ -34,20 +34,20 @@ passes p (suc n) k e lt = go (passes p n k (and_parts (p n) (passes_below p n) e
     go below (inr g) = let same : n ≡ k = omega (arith, lt, g) in subst (λ j. p j ≡ true) same (and_parts (p n) (passes_below p n) e).0
 
 -- the word whose lanes of odd number are 1
-odd_lanes : (k : ℕ) → k < 64 → bit_at 12297829382473034410 k ≡ k % 2
-odd_lanes k lt = eqb-true _ _ (passes (λ j. bit_at 12297829382473034410 j == j % 2) 64 k refl lt)
+odd_lanes : (k : ℕ) → k < 128 → bit_at 226854911280625642308916404954512140970 k ≡ k % 2
+odd_lanes k lt = eqb-true _ _ (passes (λ j. bit_at 226854911280625642308916404954512140970 j == j % 2) 128 k refl lt)
 
-pub seconds_decide : (block k : ℕ) → k < 64 → Decides (lane 12297829382473034410 k) (IsSecondOfPair (64 * block + k))
-seconds_decide block k lt = (there, back)
+pub seconds_decide : (group k : ℕ) → k < 128 → Decides (lane 226854911280625642308916404954512140970 k) (IsSecondOfPair (128 * group + k))
+seconds_decide group k lt = (there, back)
   where
-    is : lane 12297829382473034410 k ≡ (k % 2 == 1)
+    is : lane 226854911280625642308916404954512140970 k ≡ (k % 2 == 1)
     is = ap (λ x. x == 1) (odd_lanes k lt)
 
-    there : lane 12297829382473034410 k ≡ true → IsSecondOfPair (64 * block + k)
-    there e = let odd : k % 2 ≡ 1 = eqb-true (k % 2) 1 (sym is ∙ e) in odd_second (64 * block + k) (omega (arith, odd))
+    there : lane 226854911280625642308916404954512140970 k ≡ true → IsSecondOfPair (128 * group + k)
+    there e = let odd : k % 2 ≡ 1 = eqb-true (k % 2) 1 (sym is ∙ e) in odd_second (128 * group + k) (omega (arith, odd))
 
-    back : IsSecondOfPair (64 * block + k) → lane 12297829382473034410 k ≡ true
-    back h = let odd = second_odd (64 * block + k) h in is ∙ eq-eqb (k % 2) 1 (omega (arith, odd))
+    back : IsSecondOfPair (128 * group + k) → lane 226854911280625642308916404954512140970 k ≡ true
+    back h = let odd = second_odd (128 * group + k) h in is ∙ eq-eqb (k % 2) 1 (omega (arith, odd))
 
 -- a lane of two words is 1 where it is in both
 pub both_decide : (a b k : ℕ) (P Q : Type 0) → Decides (lane a k) P → Decides (lane b k) Q → Decides (lane (bit_and a b) k) (P × Q)

@@ -1,4 +1,4 @@
--- The laws of regions on words of 64 lanes.
+-- The laws of regions on words of a group.
 use Rattle.std.proofs.Common.{◌≡◌, ◌<◌, ◌≤◌, ℕ, ◌+◌, refl, sym, ◌∙◌, ap, subst, Bool, true, false, not, ◌&&◌, List, [], ◌∷◌, length, set, arith, eqb-true, eq-eqb}
 use Rattle.std.specs.Prelude.{◌≢◌, ◌↔◌, ◌==◌, All, Contains, Some, None, map, slice_index_or, bit_and, bit_xor, if◌then◌else◌, unwrap_or}
 use Rattle.std.specs.Bool.{Decides}
@@ -25,7 +25,8 @@ use Rattle.block_sim.proofs.Bridge.{lane_same}
 use Rattle.block_sim.proofs.Entered.{free_pins, map_alike}
 use Rattle.block_sim.proofs.Equated.{gate_named}
 use Rattle.block_sim.proofs.Lanes.{lane_and, lane_xor, unlike}
-use Rattle.block_sim.proofs.Outcomes.{outcome_of_told}
+use Rattle.block_sim.proofs.Outcomes.{first_of_told}
+use Rattle.block_sim.specs.Spans.{group_of}
 use Rattle.block_sim.proofs.Regions.{step_law}
 use Rattle.block_sim.proofs.Steps.{lane_of_zero, left_of, only_lanes, turned_lanes}
 
@@ -40,11 +41,11 @@ pub lanes_first : (x y k : ℕ) → lane (bit_and x y) k ≡ true → lane x k �
 lanes_first x y k e = left_of (lane x k) (lane y k) (sym (lane_and x y k) ∙ e)
 
 pub lanes_law : (c : List Statement) → LanesLaw c
-lanes_law c tests block f s lanes arrived seen o decides come tells least =
-    outcome_of_told c tests block f lanes (bit_and (bit_and lanes arrived) seen) decides there clear o least
+lanes_law c tests span f s lanes arrived seen decides come tells =
+    first_of_told c tests span f lanes (bit_and (bit_and lanes arrived) seen) decides there clear
   where
-    there : (k : ℕ) → k < 64 → lane (bit_and (bit_and lanes arrived) seen) k ≡ true
-        → (lane lanes k ≡ true) × Detects c (test_of tests block k) f
+    there : (k : ℕ) → k < 128 → lane (bit_and (bit_and lanes arrived) seen) k ≡ true
+        → (lane lanes k ≡ true) × Detects c (test_of tests (group_of span) k) f
     there k lt e =
         let wanted = lanes_first (bit_and lanes arrived) seen k e in
         let in_lanes = lanes_first lanes arrived k wanted in
@@ -56,9 +57,9 @@ lanes_law c tests block f s lanes arrived seen o decides come tells least =
     unseen j out own false e = e
     unseen j out own true e = absurd (false≢true (sym out ∙ lanes_both (bit_and lanes arrived) seen j own e))
 
-    clear : (k : ℕ) → k < 64 → lane lanes k ≡ true
+    clear : (k : ℕ) → k < 128 → lane lanes k ≡ true
         → ((j : ℕ) → j ≤ k → lane (bit_and (bit_and lanes arrived) seen) j ≡ false)
-        → Detects c (test_of tests block k) f → ⊥
+        → Detects c (test_of tests (group_of span) k) f → ⊥
     clear k lt in_lanes none d =
         let h = (come k lt in_lanes).0 d in
         tells.clear k lt (lanes_both lanes arrived k in_lanes h.0)
@@ -99,10 +100,10 @@ passes_is c t s u name kind args well p at = (
         ∙ (ap (value kind) alike ∙ (same ∙ (sym (agree c t None h.bits u well h.solves p name named) ∙ ap h.bits (sym one))))))
 
 -- where one signal alone differs, the word of the gate that alone reads it tells in which lanes the gate passes that on
-module _ (c : List Statement) (well : IsWellFormed c) (tests : List Test) (block : ℕ) (good : List ℕ) (words : AreWords c tests block None good) (s g : ℕ) (h : IsReadBy c g s) (kind : Kind) (pins : List ℕ)
+module _ (c : List Statement) (well : IsWellFormed c) (tests : List Test) (group : ℕ) (good : List ℕ) (words : AreWords c tests group None good) (s g : ℕ) (h : IsReadBy c g s) (kind : Kind) (pins : List ℕ)
     (gate : gate_of c g ≡ Some (kind, pins)) (delta : List ℕ) (diff word : ℕ) (here : slice_index_or delta s 0 ≡ diff) (elsewhere : (x : ℕ) → x ≢ s → slice_index_or delta x 0 ≡ 0)
-    (valued : (k : ℕ) → k < 64 → lane word k ≡ value kind (pin_bits None g pins good delta k)) where
-  read_as : (k : ℕ) → k < 64 → lane word k ≡ value h.reads.kind (map (bits_of c good delta k) h.reads.args)
+    (valued : (k : ℕ) → k < 128 → lane word k ≡ value kind (pin_bits None g pins good delta k)) where
+  read_as : (k : ℕ) → k < 128 → lane word k ≡ value h.reads.kind (map (bits_of c good delta k) h.reads.args)
   read_as k lt =
       let pair : (kind, pins) ≡ (h.reads.kind, map (signal c) h.reads.args) = ap (λ o. unwrap_or o (kind, pins)) (sym gate ∙ gate_named c h.reads.name h.reads.kind h.reads.args g well h.reads.number h.reads.gate) in
       valued k lt ∙ (ap (λ p. value p.0 (pin_bits None g p.1 good delta k)) pair ∙ ap (value h.reads.kind) (pins_plain c good delta g k 0 h.reads.args))
@@ -135,50 +136,50 @@ module _ (c : List Statement) (well : IsWellFormed c) (tests : List Test) (block
   good_of : (k : ℕ) → lane (slice_index_or good g 0) k ≡ lane_bits c good k h.reads.name
   good_of k = ap (λ x. lane (slice_index_or good x 0) k) (sym h.reads.number)
 
-  pub passed : (k : ℕ) → k < 64 → lane diff k ≡ true → Passes c (test_of tests block k) s g ↔ (lane (slice_index_or good g 0) k ≢ lane word k)
+  pub passed : (k : ℕ) → k < 128 → lane diff k ≡ true → Passes c (test_of tests group k) s g ↔ (lane (slice_index_or good g 0) k ≢ lane word k)
   passed k lt e =
-      let both = passes_is c (test_of tests block k) s (lane_bits c good k) h.reads.name h.reads.kind h.reads.args well (words k lt) h.reads.gate in
+      let both = passes_is c (test_of tests group k) s (lane_bits c good k) h.reads.name h.reads.kind h.reads.args well (words k lt) h.reads.gate in
       let is : lane word k ≡ value h.reads.kind (map (turned_at c s (lane_bits c good k)) h.reads.args) =
       read_as k lt ∙ ap (value h.reads.kind) (map_alike (bits_of c good delta k) (turned_at c s (lane_bits c good k)) h.reads.args (λ a b. now_turned k a e)) in (
-        λ p same. both.0 (subst (Passes c (test_of tests block k) s) (sym h.reads.number) p) (sym is ∙ (sym same ∙ good_of k)),
-        λ ne. subst (Passes c (test_of tests block k) s) h.reads.number (both.1 (λ same. ne (good_of k ∙ (sym same ∙ sym is)))),
+        λ p same. both.0 (subst (Passes c (test_of tests group k) s) (sym h.reads.number) p) (sym is ∙ (sym same ∙ good_of k)),
+        λ ne. subst (Passes c (test_of tests group k) s) h.reads.number (both.1 (λ same. ne (good_of k ∙ (sym same ∙ sym is)))),
       )
 
-  pub unpassed : (k : ℕ) → k < 64 → lane diff k ≡ false → lane (slice_index_or good g 0) k ≡ lane word k
+  pub unpassed : (k : ℕ) → k < 128 → lane diff k ≡ false → lane (slice_index_or good g 0) k ≡ lane word k
   unpassed k lt e =
       good_of k ∙ ((words k lt).gate h.reads.name h.reads.kind h.reads.args h.reads.gate
       ∙ (ap (value h.reads.kind) (free_pins None (lane_bits c good k) (signal c h.reads.name) 0 h.reads.args tt
       ∙ map_alike (lane_bits c good k) (bits_of c good delta k) h.reads.args (λ a b. sym (unturned k a e))) ∙ sym (read_as k lt)))
 
   -- so a fault that has come to the signal has come to the gate
-  pub come_over : (f : Fault) (lanes : ℕ) → HasCome c tests block f lanes s diff → HasCome c tests block f lanes g (bit_and (bit_xor word (slice_index_or good g 0)) lanes)
+  pub come_over : (f : Fault) (lanes : ℕ) → HasCome c tests group f lanes s diff → HasCome c tests group f lanes g (bit_and (bit_xor word (slice_index_or good g 0)) lanes)
   come_over f lanes come k lt in_lanes = (λ d. there ((come k lt in_lanes).0 d), λ p. back (lane diff k) refl p.0 p.1)
     where
       turns : Decides (lane (bit_and (bit_xor word (slice_index_or good g 0)) lanes) k) ((lane lanes k ≡ true) × (lane (slice_index_or good g 0) k ≢ lane word k))
       turns = turned_lanes word (slice_index_or good g 0) lanes k (lane word k) refl
 
-      there : (lane diff k ≡ true) × DetectsFlip c (test_of tests block k) s → (lane (bit_and (bit_xor word (slice_index_or good g 0)) lanes) k ≡ true) × DetectsFlip c (test_of tests block k) g
+      there : (lane diff k ≡ true) × DetectsFlip c (test_of tests group k) s → (lane (bit_and (bit_xor word (slice_index_or good g 0)) lanes) k ≡ true) × DetectsFlip c (test_of tests group k) g
       there p =
-          let over = (step_law c well (test_of tests block k) s g h).0 p.1 in
+          let over = (step_law c well (test_of tests group k) s g h).0 p.1 in
           (turns.1 (in_lanes, (passed k lt p.0).0 over.0), over.1)
 
-      back : (x : Bool) → lane diff k ≡ x → lane (bit_and (bit_xor word (slice_index_or good g 0)) lanes) k ≡ true → DetectsFlip c (test_of tests block k) g → Detects c (test_of tests block k) f
-      back true e new d = (come k lt in_lanes).1 (e, (step_law c well (test_of tests block k) s g h).1 ((passed k lt e).1 (turns.0 new).1, d))
+      back : (x : Bool) → lane diff k ≡ x → lane (bit_and (bit_xor word (slice_index_or good g 0)) lanes) k ≡ true → DetectsFlip c (test_of tests group k) g → Detects c (test_of tests group k) f
+      back true e new d = (come k lt in_lanes).1 (e, (step_law c well (test_of tests group k) s g h).1 ((passed k lt e).1 (turns.0 new).1, d))
       back false e new d = absurd ((turns.0 new).1 (unpassed k lt e))
 
 -- the same after a change of that signal, where nothing differed
-pub crossed : (c : List Statement) (tests : List Test) (block : ℕ) (f : Fault) (good : List ℕ) (lanes s g diff word : ℕ) (kind : Kind) (pins before delta : List ℕ) → IsWellFormed c → AreWords c tests block None good
+pub crossed : (c : List Statement) (tests : List Test) (group : ℕ) (f : Fault) (good : List ℕ) (lanes s g diff word : ℕ) (kind : Kind) (pins before delta : List ℕ) → IsWellFormed c → AreWords c tests group None good
     → IsReadBy c g s → gate_of c g ≡ Some (kind, pins) → All (λ x. x ≡ 0) before → s < length before → delta ≡ set before s diff
-    → ((k : ℕ) → k < 64 → lane word k ≡ value kind (pin_bits None g pins good delta k)) → HasCome c tests block f lanes s diff
-    → HasCome c tests block f lanes g (bit_and (bit_xor word (slice_index_or good g 0)) lanes)
-crossed c tests block f good lanes s g diff word kind pins before delta well words h gate clear within is valued come =
-    come_over c well tests block good words s g h kind pins gate delta diff word
+    → ((k : ℕ) → k < 128 → lane word k ≡ value kind (pin_bits None g pins good delta k)) → HasCome c tests group f lanes s diff
+    → HasCome c tests group f lanes g (bit_and (bit_xor word (slice_index_or good g 0)) lanes)
+crossed c tests group f good lanes s g diff word kind pins before delta well words h gate clear within is valued come =
+    come_over c well tests group good words s g h kind pins gate delta diff word
     (ap (λ d. slice_index_or d s 0) is ∙ get_or-set_same before s diff 0 within)
     (λ x ne. ap (λ d. slice_index_or d x 0) is ∙ (get_or-set_other before s x diff 0 ne ∙ index_zero before x clear)) valued f lanes come
 
 -- a fault that has come in no lane comes on in none
-pub come_nowhere : (c : List Statement) (tests : List Test) (block : ℕ) (f : Fault) (lanes s g diff : ℕ) → diff ≡ 0 → HasCome c tests block f lanes s diff → HasCome c tests block f lanes g 0
-come_nowhere c tests block f lanes s g diff none come k lt in_lanes = (
+pub come_nowhere : (c : List Statement) (tests : List Test) (group : ℕ) (f : Fault) (lanes s g diff : ℕ) → diff ≡ 0 → HasCome c tests group f lanes s diff → HasCome c tests group f lanes g 0
+come_nowhere c tests group f lanes s g diff none come k lt in_lanes = (
   λ d. absurd (false≢true (sym (lane_of_zero diff k none) ∙ ((come k lt in_lanes).0 d).0)),
   λ p. absurd (false≢true (sym (lane_of_zero 0 k refl) ∙ p.0)),
 )

@@ -1,5 +1,5 @@
 -- The rows of responses, test by test, and the signals that are observed.
-use Rattle.std.proofs.Common.{◌≡◌, ◌<◌, ◌≤◌, ◌+◌, ◌*◌, ◌-◌, ◌∙◌, ℕ, zero, suc, min, Bool, List, [], ◌∷◌, ◌++◌, length, map, ap, refl, sym, subst, arith, inl, inr, ◌⊎◌, get_or, append_assoc}
+use Rattle.std.proofs.Common.{◌≡◌, ◌<◌, ◌≤◌, ◌+◌, ◌*◌, ◌-◌, ◌∙◌, ℕ, Bool, List, [], ◌∷◌, ◌++◌, length, map, ap, refl, sym, subst, arith, inl, inr, ◌⊎◌, get_or, append_assoc}
 use Rattle.std.specs.Prelude.{All, Contains, Some, None, flat_map, slice_get, slice_index_or}
 use Rattle.std.specs.List.{enumerate_from}
 use Rattle.std.proofs.lemmas.List.{length-append, length-map, map-append, get_or_append_left, get_or-append-add, get_or-map, same_lists}
@@ -18,8 +18,7 @@ use Rattle.lists.proofs.Places.{at_place, numbered_at, place_within}
 use Rattle.fault_model.specs.Solution.{Test, Solves, shows}
 use Rattle.fault_model.proofs.Public.{agree}
 use Rattle.patterns.specs.Least.{below}
-use Rattle.patterns.specs.Tests.{TestList, blocks, size_of}
-use Rattle.block_sim.specs.Responses.{AreResponses, lane_row}
+use Rattle.block_sim.specs.Responses.{lane_row}
 use Rattle.block_sim.specs.Words.{AreWords, lane, lane_bits, test_of}
 
 -- ---- the observed signals
@@ -131,12 +130,12 @@ same_row : (os : List (Sink × Name)) (p : Sink × Name → ℕ) (g : ℕ → Bo
 same_row [] p g h each = refl
 same_row (o ∷ os) p g h each = ap (λ b. b ∷ map g (map p os)) (each o (inl refl)) ∙ ap (λ bs. h o ∷ bs) (same_row os p g h (λ x a. each x (inr a)))
 
--- a lane of a block's words has what the observers show under the lane's test
-pub row_shows : (c : List Statement) (tests : List Test) (block k : ℕ) (words observed : List ℕ) (test : Test) (v : Name → Bool) → IsWellFormed c → AreWords c tests block None words → k < 64
-    → observed ≡ map (λ (o : Sink × Name). signal c o.1) (observers c) → slice_get tests (64 * block + k) ≡ Some test → Solves c test None v
+-- a lane of a group's words has what the observers show under the lane's test
+pub row_shows : (c : List Statement) (tests : List Test) (group k : ℕ) (words observed : List ℕ) (test : Test) (v : Name → Bool) → IsWellFormed c → AreWords c tests group None words → k < 128
+    → observed ≡ map (λ (o : Sink × Name). signal c o.1) (observers c) → slice_get tests (128 * group + k) ≡ Some test → Solves c test None v
     → lane_row observed words k ≡ map (shows None v) (observers c)
-row_shows c tests block k words observed test v well are lt is at solves =
-    let own : test_of tests block k ≡ test = get_or_from_slice_get tests (64 * block + k) test [] at in
+row_shows c tests group k words observed test v well are lt is at solves =
+    let own : test_of tests group k ≡ test = get_or_from_slice_get tests (128 * group + k) test [] at in
     let solved = subst (λ t. Solves c t None (lane_bits c words k)) own (are k lt) in
     ap (λ xs. lane_row xs words k) is
     ∙ same_row (observers c) (λ (o : Sink × Name). signal c o.1) (λ s. lane (slice_index_or words s 0) k) (shows None v)
@@ -150,11 +149,11 @@ pub record AreFirstResponses (c : List Statement) (tests : List Test) (n : ℕ) 
 pub none_yet : (c : List Statement) (tests : List Test) (rows : List (List Bool)) (n : ℕ) → rows ≡ [] → n ≡ 0 → AreFirstResponses c tests n rows
 none_yet c tests rows n e z = record { count = ap length e ∙ sym z; each = λ t test v lt at solves. absurd (omega (arith, lt, z)) }
 
--- the rows of one block more
-pub block_more : (c : List Statement) (tests : List Test) (block n m size : ℕ) (rows more : List (List Bool)) (words observed : List ℕ) → IsWellFormed c → AreWords c tests block None words
-    → observed ≡ map (λ (o : Sink × Name). signal c o.1) (observers c) → n ≡ 64 * block → size ≤ 64 → m ≡ n + size
+-- the rows of one group more
+pub group_more : (c : List Statement) (tests : List Test) (group n m size : ℕ) (rows more : List (List Bool)) (words observed : List ℕ) → IsWellFormed c → AreWords c tests group None words
+    → observed ≡ map (λ (o : Sink × Name). signal c o.1) (observers c) → n ≡ 128 * group → size ≤ 128 → m ≡ n + size
     → more ≡ rows ++ map (lane_row observed words) (below size) → AreFirstResponses c tests n rows → AreFirstResponses c tests m more
-block_more c tests block n m size rows more words observed well are is starts few ends same before = record { count = counted; each = each }
+group_more c tests group n m size rows more words observed well are is starts few ends same before = record { count = counted; each = each }
   where
     long : length (map (lane_row observed words) (below size)) ≡ size
     long = length-map-range_with_len (lane_row observed words) 0 size
@@ -175,11 +174,11 @@ block_more c tests block n m size rows more words observed well are is starts fe
             ∙ get_or_from_slice_get rows t (map (shows None v) (observers c)) [] (before.each t test v low at solves)))
         go (inr high) =
             let place : length rows + (t - n) ≡ t = omega (arith, before.count, high) in
-            let number : 64 * block + (t - n) ≡ t = omega (arith, starts, high) in
+            let number : 128 * group + (t - n) ≡ t = omega (arith, starts, high) in
             let small : t - n < size = omega (arith, ends, lt, high) in
-            let own : slice_get tests (64 * block + (t - n)) ≡ Some test = subst (λ i. slice_get tests i ≡ Some test) (sym number) at in
+            let own : slice_get tests (128 * group + (t - n)) ≡ Some test = subst (λ i. slice_get tests i ≡ Some test) (sym number) at in
             whole (map (shows None v) (observers c)) (ap (λ rs. get_or rs t []) same
             ∙ (ap (λ i. get_or (rows ++ map (lane_row observed words) (below size)) i []) (sym place)
             ∙ (get_or-append-add rows (map (lane_row observed words) (below size)) (t - n) []
             ∙ (get_or-map-range_with_len (lane_row observed words) 0 size (t - n) (t - n) [] small (omega arith)
-            ∙ row_shows c tests block (t - n) words observed test v well are (omega (arith, small, few)) is own solves))))
+            ∙ row_shows c tests group (t - n) words observed test v well are (omega (arith, small, few)) is own solves))))

@@ -16,9 +16,9 @@ use Rattle.block_sim.specs.Words.{lane, test_of}
 use Rattle.block_sim.specs.Events.{bits_of, HasEquation, Reads}
 use Rattle.block_sim.specs.Spreading.{IsBalanced}
 
-module _ (c : List Statement) (counts : ℕ → Type 0) (closed : (g s : ℕ) → Reads c g s → counts g → counts s) (tests : List Test) (block : ℕ) (f : ℕ → Fault) (good : List ℕ) (mask : ℕ) (delta at : List ℕ) (balanced : IsBalanced c counts tests block f good mask delta at) where
+module _ (c : List Statement) (counts : ℕ → Type 0) (closed : (g s : ℕ) → Reads c g s → counts g → counts s) (tests : List Test) (group : ℕ) (f : ℕ → Fault) (good : List ℕ) (mask : ℕ) (delta at : List ℕ) (balanced : IsBalanced c counts tests group f good mask delta at) where
   module _ (lv : ℕ → ℕ) (level : ℕ) (well : IsWellFormed c) (rises : (g s : ℕ) → Reads c g s → lv s < lv g) (not_below : (g : ℕ) → slice_index_or at g 0 ≢ 0 → level ≤ lv g)
-      (k : ℕ) (lt : k < 64) (in_mask : lane mask k ≡ true) (v : Name → Bool) (solves : Solves c (test_of tests block k) (Some (f k)) v) where
+      (k : ℕ) (lt : k < 128) (in_mask : lane mask k ≡ true) (v : Name → Bool) (solves : Solves c (test_of tests group k) (Some (f k)) v) where
     idle_below : (s : ℕ) → lv s < level → slice_index_or at s 0 ≡ 0
     idle_below s low = go (cases_eq (slice_index_or at s 0) 0)
       where
@@ -31,7 +31,7 @@ module _ (c : List Statement) (counts : ℕ → Type 0) (closed : (g s : ℕ) �
         → ((a : Name) → Reads c (signal c n) (signal c a) → Among a (names c) → bits_of c good delta k a ≡ v a) → bits_of c good delta k n ≡ v n
     right_here n a is_counted idle below = go (driven c n a)
       where
-        equation : HasEquation c (test_of tests block k) (Some (f k)) (bits_of c good delta k) (signal c n)
+        equation : HasEquation c (test_of tests group k) (Some (f k)) (bits_of c good delta k) (signal c n)
         equation = balanced (signal c n) k is_counted idle lt in_mask
 
         by_source : Among n (sources c) → bits_of c good delta k n ≡ v n

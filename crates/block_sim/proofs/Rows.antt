@@ -1,4 +1,4 @@
--- Rows of words, one a block.
+-- Rows of words, one a group.
 use Rattle.std.proofs.Common.{◌≡◌, ◌<◌, ℕ, zero, suc, refl, sym, ◌∙◌, ap, subst, List, [], ◌∷◌, ◌++◌, length, arith, inl, inr, ◌⊎◌}
 use Rattle.std.specs.Prelude.{Some, None, map, slice_get, slice_index_or, unwrap_or}
 use Rattle.bench_net.specs.Statement.{Statement}
@@ -22,13 +22,13 @@ pushed_get {X} (z ∷ xs) x y (suc i) e = go (pushed_get xs x y i e)
     go (inl h) = inl h
     go (inr h) = inr (ap suc h.0, h.1)
 
--- the words of one block more
-pub rows_more : (c : List Statement) (tests : List Test) (rows : List (List ℕ)) (row : List ℕ) (block : ℕ) → length rows ≡ block → AreFaultFree c tests rows
-    → length row ≡ length (names c) → AreWords c tests block None row → AreFaultFree c tests (rows ++ row ∷ [])
-rows_more c tests rows row block count before room words b r at = go (pushed_get rows row r b at)
+-- the words of one group more
+pub rows_more : (c : List Statement) (tests : List Test) (rows : List (List ℕ)) (row : List ℕ) (group : ℕ) → length rows ≡ group → AreFaultFree c tests rows
+    → length row ≡ length (names c) → AreWords c tests group None row → AreFaultFree c tests (rows ++ row ∷ [])
+rows_more c tests rows row group count before room words b r at = go (pushed_get rows row r b at)
   where
     go : (slice_get rows b ≡ Some r) ⊎ ((b ≡ length rows) × (row ≡ r)) → (length r ≡ length (names c)) × AreWords c tests b None r
     go (inl h) = before b r h
     go (inr h) =
-        let same : block ≡ b = sym count ∙ sym h.0 in
-        (ap length (sym h.1) ∙ room, subst (λ n. AreWords c tests n None r) same (subst (AreWords c tests block None) h.1 words))
+        let same : group ≡ b = sym count ∙ sym h.0 in
+        (ap length (sym h.1) ∙ room, subst (λ n. AreWords c tests n None r) same (subst (AreWords c tests group None) h.1 words))

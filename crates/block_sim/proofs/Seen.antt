@@ -22,7 +22,7 @@ seen_first c delta mask clear = record {
 
 -- a signal that changes is seen where it is observed
 pub seen_changed : (c : List Statement) (delta : List ℕ) (mask seen g diff shown : ℕ) → slice_index_or delta g 0 ≡ 0 → g < length delta
-    → ((k : ℕ) → k < 64 → Decides (lane shown k) (IsObserved c g × (lane diff k ≡ true))) → AreSeen c delta mask seen → AreSeen c (set delta g diff) mask (bit_or seen shown)
+    → ((k : ℕ) → k < 128 → Decides (lane shown k) (IsObserved c g × (lane diff k ≡ true))) → AreSeen c delta mask seen → AreSeen c (set delta g diff) mask (bit_or seen shown)
 seen_changed c delta mask seen g diff shown clear within is h = record {
   found = λ k lt e. found k lt (or_cases (lane seen k) (lane shown k) (sym (lane_or seen shown k) ∙ e));
   shown = λ s k lt m o e. lane_or seen shown k ∙ seen_now s k lt m o e (cases_eq s g);
@@ -34,13 +34,13 @@ seen_changed c delta mask seen g diff shown clear within is h = record {
     kept : (s : ℕ) → s ≢ g → slice_index_or (set delta g diff) s 0 ≡ slice_index_or delta s 0
     kept s ne = get_or-set_other delta g s diff 0 ne
 
-    found : (k : ℕ) → k < 64 → (lane seen k ≡ true) ⊎ (lane shown k ≡ true) → (s : ℕ) × IsObserved c s × (lane (slice_index_or (set delta g diff) s 0) k ≡ true)
+    found : (k : ℕ) → k < 128 → (lane seen k ≡ true) ⊎ (lane shown k ≡ true) → (s : ℕ) × IsObserved c s × (lane (slice_index_or (set delta g diff) s 0) k ≡ true)
     found k lt (inl e) =
         let s = h.found k lt e in
         (s.0, s.1, ap (λ d. lane d k) (kept s.0 (λ same. none_in_zero (slice_index_or delta s.0 0) k (ap (λ x. slice_index_or delta x 0) same ∙ clear) s.2)) ∙ s.2)
     found k lt (inr e) = let d = (is k lt).0 e in (g, d.0, ap (λ x. lane x k) at ∙ d.1)
 
-    seen_now : (s k : ℕ) → k < 64 → lane mask k ≡ true → IsObserved c s → lane (slice_index_or (set delta g diff) s 0) k ≡ true → (s ≡ g) ⊎ (s ≢ g) → (lane seen k || lane shown k) ≡ true
+    seen_now : (s k : ℕ) → k < 128 → lane mask k ≡ true → IsObserved c s → lane (slice_index_or (set delta g diff) s 0) k ≡ true → (s ≡ g) ⊎ (s ≢ g) → (lane seen k || lane shown k) ≡ true
     seen_now s k lt m o e (inl same) =
         let here : lane diff k ≡ true = ap (λ d. lane d k) (sym at) ∙ (ap (λ x. lane (slice_index_or (set delta g diff) x 0) k) (sym same) ∙ e) in
         or_right (lane seen k) (lane shown k) ((is k lt).1 (subst (IsObserved c) same o, here))
@@ -48,7 +48,7 @@ seen_changed c delta mask seen g diff shown clear within is h = record {
 
 -- fewer lanes are followed
 pub seen_narrower : (c : List Statement) (delta : List ℕ) (mask seen narrow : ℕ)
-    → ((k : ℕ) → k < 64 → lane narrow k ≡ true → lane mask k ≡ true) → AreSeen c delta mask seen
+    → ((k : ℕ) → k < 128 → lane narrow k ≡ true → lane mask k ≡ true) → AreSeen c delta mask seen
     → AreSeen c delta narrow seen
 seen_narrower c delta mask seen narrow within h = record {
   found = h.found;

@@ -1,7 +1,7 @@
 -- The lanes of which nothing more is asked, as more lanes are seen and fewer are followed.
 use Rattle.std.proofs.Common.{◌≡◌, ◌<◌, ◌≤◌, ℕ, ◌+◌, ◌^◌, refl, sym, ◌∙◌, ap, subst, Bool, true, false, ◌&&◌, ◌||◌, List, inl, inr, ◌⊎◌}
 use Rattle.std.specs.Prelude.{Contains, Some, bit_and, bit_or, nat_lt, slice_get, unwrap_or}
-use Rattle.std.specs.Int.{w64, trailing_zeros}
+use Rattle.std.specs.Int.{w128, trailing_zeros}
 use Rattle.std.proofs.lemmas.Bool.{false≢true, and_from, or_cases, or_left}
 use Rattle.lists.proofs.Members.{contained}
 use Rattle.lists.proofs.Places.{at_place}
@@ -24,7 +24,7 @@ settled_more (FirstHits followed) seen more k h = λ one at own.
 
 -- a step that sees more lanes, and then follows fewer
 pub settled_on : (extent : Extent) (lanes kept narrow seen more : ℕ) → LeavesSettled extent lanes kept seen
-    → ((k : ℕ) → k < 64 → lane kept k ≡ true → lane narrow k ≡ false → IsSettled extent (bit_or seen more) k)
+    → ((k : ℕ) → k < 128 → lane kept k ≡ true → lane narrow k ≡ false → IsSettled extent (bit_or seen more) k)
     → LeavesSettled extent lanes narrow (bit_or seen more)
 settled_on extent lanes kept narrow seen more before out k lt in_lanes left = go (lane kept k) refl
   where
@@ -47,8 +47,8 @@ seen_not : (b : Bool) → (b ≡ true → ⊥) → b ≡ false
 seen_not true never = absurd (never refl)
 seen_not false never = refl
 
-module _ (one : Followed) (seen low k : ℕ) (small : bit_and one.lanes seen < 2 ^ 64) (lt : k < 64)
-    (is : (j : ℕ) → j < 64 → lane low j ≡ nat_lt j (trailing_zeros w64 (bit_and one.lanes seen))) where
+module _ (one : Followed) (seen low k : ℕ) (small : bit_and one.lanes seen < 2 ^ 128) (lt : k < 128)
+    (is : (j : ℕ) → j < 128 → lane low j ≡ nat_lt j (trailing_zeros w128 (bit_and one.lanes seen))) where
   -- the lanes below the least that was seen
   pub open_of : lane (bit_and one.lanes low) k ≡ true → IsOpen one seen k
   open_of e = (left_of (lane one.lanes k) (lane low k) (sym (lane_and one.lanes low k) ∙ e), unseen)
@@ -69,8 +69,8 @@ or_none false b e = (refl, e)
 
 -- ---- one more that is followed
 module _ (followed : List Followed) (i : ℕ) (one : Followed) (at : slice_get followed i ≡ Some one)
-    (below seen low : ℕ) (small : bit_and one.lanes seen < 2 ^ 64)
-    (is : (j : ℕ) → j < 64 → lane low j ≡ nat_lt j (trailing_zeros w64 (bit_and one.lanes seen))) where
+    (below seen low : ℕ) (small : bit_and one.lanes seen < 2 ^ 128)
+    (is : (j : ℕ) → j < 128 → lane low j ≡ nat_lt j (trailing_zeros w128 (bit_and one.lanes seen))) where
   abbrev SomeOpen : ℕ → ℕ → Type 0
   SomeOpen word k = lane word k ≡ true → (x : Followed) × Contains followed x × IsOpen x seen k
 
@@ -78,7 +78,7 @@ module _ (followed : List Followed) (i : ℕ) (one : Followed) (at : slice_get f
   AllHit word count k = lane word k ≡ false → (j : ℕ) (x : Followed) → j < count
       → slice_get followed j ≡ Some x → HasHit x seen k
 
-  pub one_open : (k : ℕ) → k < 64 → SomeOpen below k → SomeOpen (bit_or below (bit_and one.lanes low)) k
+  pub one_open : (k : ℕ) → k < 128 → SomeOpen below k → SomeOpen (bit_or below (bit_and one.lanes low)) k
   one_open k lt before e =
       go (or_cases (lane below k) (lane (bit_and one.lanes low) k) (sym (lane_or below (bit_and one.lanes low) k) ∙ e))
     where
@@ -87,7 +87,7 @@ module _ (followed : List Followed) (i : ℕ) (one : Followed) (at : slice_get f
       go (inl h) = before h
       go (inr h) = (one, contained followed one (at_place followed i one at), open_of one seen low k small lt is h)
 
-  pub one_hit : (k : ℕ) → k < 64 → AllHit below i k → AllHit (bit_or below (bit_and one.lanes low)) (i + 1) k
+  pub one_hit : (k : ℕ) → k < 128 → AllHit below i k → AllHit (bit_or below (bit_and one.lanes low)) (i + 1) k
   one_hit k lt before e j x le there = go (at_end i j le)
     where
       none : (lane below k ≡ false) × (lane (bit_and one.lanes low) k ≡ false)

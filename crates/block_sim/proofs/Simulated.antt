@@ -7,7 +7,8 @@ use Rattle.std.proofs.lemmas.List.{get_or-set_same, get_or-set_other, length-set
 use Rattle.lists.proofs.Members.{Among, among, among_append, among_left, among_right, contained}
 use Rattle.bench_net.specs.Scan.{names}
 use Rattle.bench_net.specs.Circuit.{IsWellFormed}
-use Rattle.patterns.specs.declared.Outcome.{Outcome}
+use Rattle.block_sim.specs.declared.span.Span.{Span}
+use Rattle.block_sim.specs.First.{TellsFirst}
 use Rattle.block_sim.specs.declared.simulation.Memo.{Memo}
 use Rattle.block_sim.specs.declared.simulation.Memo.TheVariants.{Nothing}
 use Rattle.block_sim.specs.declared.spread.Followed.{Followed}
@@ -15,23 +16,23 @@ use Rattle.block_sim.specs.declared.changes.Changes.{Changes}
 use Rattle.block_sim.specs.Changes.{HasRoomFor, IsAsLarge, IsAtRest, IsClear}
 use Rattle.block_sim.specs.Parts.{Parts}
 use Rattle.block_sim.specs.Regions.{TellsFirstFlips}
-use Rattle.block_sim.specs.Simulation.{AreFollowed, AreTrueBut, AreTrueMemos, HasArrived, IsFollowed, IsOutcomeIn, IsTrueMemo}
-use Rattle.block_sim.specs.Stirred.{AreInBlock}
-use Rattle.block_sim.specs.Words.{lane, IsLeastLane}
+use Rattle.block_sim.specs.Simulation.{AreFollowed, AreTrueBut, AreTrueMemos, HasArrived, IsFollowed, IsTrueMemo, TellsFirstIn}
+use Rattle.block_sim.specs.Spans.{AreInSpan, group_of}
+use Rattle.block_sim.specs.Words.{lane}
 use Rattle.block_sim.proofs.Deep.{level_within}
 use Rattle.block_sim.proofs.RegionLanes.{lanes_first, lanes_law}
 
--- the outcome of a class that came to a stem in some lanes
-pub arrived_outcome : (job : Parts) (block stem class word seen : ℕ) (o : Outcome)
-    → HasArrived job block stem class word
-    → TellsFirstFlips job.circuit job.tests.tests block word stem seen
-    → IsLeastLane (bit_and word seen) o → IsOutcomeIn job class block o
-arrived_outcome job block stem class word seen o a told least = (
+-- the first test that detects a class that came to a stem in some lanes
+pub arrived_first : (job : Parts) (span : Span) (stem class word seen : ℕ)
+    → HasArrived job span stem class word
+    → TellsFirstFlips job.circuit job.tests.tests (group_of span) word stem seen
+    → TellsFirstIn job span class (bit_and word seen)
+arrived_first job span stem class word seen a told = (
   a.0,
   a.3,
-  lanes_law job.circuit job.tests.tests block a.0 stem a.1 a.2 seen o a.4 a.5
-      (subst (λ w. TellsFirstFlips job.circuit job.tests.tests block w stem seen) a.6 told)
-      (subst (λ w. IsLeastLane (bit_and w seen) o) a.6 least),
+  subst (λ w. TellsFirst job.circuit job.tests.tests span a.0 (bit_and w seen)) (sym a.6)
+      (lanes_law job.circuit job.tests.tests span a.0 stem a.1 a.2 seen a.4 a.5
+      (subst (λ w. TellsFirstFlips job.circuit job.tests.tests (group_of span) w stem seen) a.6 told)),
 )
 
 -- one memo more
@@ -82,24 +83,24 @@ memo_waits job followed memos one memo count each = record {
         (sym (get_or-set_other memos one.class x memo Nothing other)) (more x (each x))
 
 -- a class came to a stem in lanes of tests alone
-pub arrived_within : (job : Parts) (block stem class word : ℕ) → HasArrived job block stem class word
-    → AreInBlock job.tests.tests block word
-arrived_within job block stem class word a k lt own =
+pub arrived_within : (job : Parts) (span : Span) (stem class word : ℕ) → HasArrived job span stem class word
+    → AreInSpan job.tests.tests span word
+arrived_within job span stem class word a k lt own =
     ((a.4 k lt).0 (lanes_first a.1 a.2 k (ap (λ w. lane w k) (sym a.6) ∙ own))).0
 
 -- one class more is followed
-pub followed_more : (job : Parts) (block stem : ℕ) (followed : List Followed) (one : Followed)
-    → AreFollowed job block stem followed → one.class < length job.classes.representative
-    → HasArrived job block stem one.class one.lanes
-    → AreFollowed job block stem (followed ++ one ∷ [])
-followed_more job block stem followed one before within at x there =
+pub followed_more : (job : Parts) (span : Span) (stem : ℕ) (followed : List Followed) (one : Followed)
+    → AreFollowed job span stem followed → one.class < length job.classes.representative
+    → HasArrived job span stem one.class one.lanes
+    → AreFollowed job span stem (followed ++ one ∷ [])
+followed_more job span stem followed one before within at x there =
     go (among_append followed (one ∷ []) x (among (followed ++ one ∷ []) x there))
   where
     go : Among x followed ⊎ Among x (one ∷ [])
-        → (x.class < length job.classes.representative) × HasArrived job block stem x.class x.lanes
+        → (x.class < length job.classes.representative) × HasArrived job span stem x.class x.lanes
     go (inl h) = before x (contained followed x h)
     go (inr (inl same)) =
-        subst (λ (y : Followed). (y.class < length job.classes.representative) × HasArrived job block stem y.class y.lanes)
+        subst (λ (y : Followed). (y.class < length job.classes.representative) × HasArrived job span stem y.class y.lanes)
         same (within, at)
     go (inr (inr bad)) = absurd bad
 

@@ -19,10 +19,10 @@ use Rattle.block_sim.proofs.LiveSignals.{counts_closed, reader_live}
 use Rattle.block_sim.proofs.RightByNow.{right_by_now}
 use Rattle.block_sim.proofs.Ahead.{ahead_taken, ahead_woken}
 
-module _ (c : List Statement) (tests : List Test) (block : ℕ) (f : ℕ → Fault) (good : List ℕ) (lanes : ℕ) (lv : ℕ → ℕ) (start mask : ℕ) where
+module _ (c : List Statement) (tests : List Test) (group : ℕ) (f : ℕ → Fault) (good : List ℕ) (lanes : ℕ) (lv : ℕ → ℕ) (start mask : ℕ) where
   -- ---- a level higher
-  pub level_done : (delta at : List ℕ) (level : ℕ) → ((g : ℕ) → slice_index_or at g 0 ≢ level + 1) → IsSpreading c tests block f good lanes lv start mask delta at level
-      → IsSpreading c tests block f good lanes lv start mask delta at (level + 1)
+  pub level_done : (delta at : List ℕ) (level : ℕ) → ((g : ℕ) → slice_index_or at g 0 ≢ level + 1) → IsSpreading c tests group f good lanes lv start mask delta at level
+      → IsSpreading c tests group f good lanes lv start mask delta at (level + 1)
   level_done delta at level none h = record {
     balanced = h.balanced;
     at_level = h.at_level;
@@ -42,8 +42,8 @@ module _ (c : List Statement) (tests : List Test) (block : ℕ) (f : ℕ → Fau
 
   -- ---- one evaluation
   module _ (well : IsWellFormed c) (rises : (g s : ℕ) → Reads c g s → lv s < lv g) (elsewhere : (t k : ℕ) → t ≢ start → IsElsewhere (f k) t)
-      (delta at : List ℕ) (level g : ℕ) (h : IsSpreading c tests block f good lanes lv start mask delta at level) (taken : slice_index_or at g 0 ≡ level + 1) (in_at : g < length at) (in_delta : g < length delta)
-      (kind : Kind) (pins : List ℕ) (is : gate_of c g ≡ Some (kind, pins)) (word : ℕ) (valued : (k : ℕ) → k < 64 → lane word k ≡ value kind (pin_bits None g pins good delta k)) where
+      (delta at : List ℕ) (level g : ℕ) (h : IsSpreading c tests group f good lanes lv start mask delta at level) (taken : slice_index_or at g 0 ≡ level + 1) (in_at : g < length at) (in_delta : g < length delta)
+      (kind : Kind) (pins : List ℕ) (is : gate_of c g ≡ Some (kind, pins)) (word : ℕ) (valued : (k : ℕ) → k < 128 → lane word k ≡ value kind (pin_bits None g pins good delta k)) where
     waits : slice_index_or at g 0 ≢ 0
     waits e = omega (arith, e, taken)
 
@@ -67,9 +67,9 @@ module _ (c : List Statement) (tests : List Test) (block : ℕ) (f : ℕ → Fau
         other : t ≢ g
         other e = ne (ap (λ x. slice_index_or (set at g 0) x 0) e ∙ get_or-set_same at g 0 0 in_at)
 
-    pub evaluated_same : ((k : ℕ) → k < 64 → lane mask k ≡ true → lane (slice_index_or good g 0) k ≡ lane word k) → IsSpreading c tests block f good lanes lv start mask delta (set at g 0) level
+    pub evaluated_same : ((k : ℕ) → k < 128 → lane mask k ≡ true → lane (slice_index_or good g 0) k ≡ lane word k) → IsSpreading c tests group f good lanes lv start mask delta (set at g 0) level
     evaluated_same same = record {
-      balanced = balanced_same c (Counts c lv start) tests block f good mask lv well rises delta at g h.balanced (λ k. elsewhere g k not_start) kind pins is word valued clear same;
+      balanced = balanced_same c (Counts c lv start) tests group f good mask lv well rises delta at g h.balanced (λ k. elsewhere g k not_start) kind pins is word valued clear same;
       at_level = λ t ne. let w = still_waits t ne in get_or-set_other at g t 0 0 w.0 ∙ h.at_level t w.1;
       not_below = λ t ne. h.not_below t (still_waits t ne).1;
       live = λ t ne. h.live t (still_waits t ne).1;
@@ -87,8 +87,8 @@ module _ (c : List Statement) (tests : List Test) (block : ℕ) (f : ℕ → Fau
     pub ahead_same : (gates : List ℕ) → HasTouched c delta gates → ahead lv (set at g 0) level gates + 1 ≤ ahead lv at level gates
     ahead_same gates all = let by = h.touched g waits in ahead_taken lv at level g gates in_at here waits (all g by.0 by.1 by.2)
 
-    module _ (diff : ℕ) (after : List ℕ) (differs : diff ≢ 0) (a_lane : (k : ℕ) × (k < 64) × (lane diff k ≡ true)) (in_mask : (k : ℕ) → k < 64 → lane diff k ≡ true → lane mask k ≡ true)
-        (changed : (k : ℕ) → k < 64 → lane mask k ≡ true → lane (bit_xor (slice_index_or good g 0) diff) k ≡ lane word k)
+    module _ (diff : ℕ) (after : List ℕ) (differs : diff ≢ 0) (a_lane : (k : ℕ) × (k < 128) × (lane diff k ≡ true)) (in_mask : (k : ℕ) → k < 128 → lane diff k ≡ true → lane mask k ≡ true)
+        (changed : (k : ℕ) → k < 128 → lane mask k ≡ true → lane (bit_xor (slice_index_or good g 0) diff) k ≡ lane word k)
         (woken : AreWoken c lv g (set at g 0) after) where
       new_at : slice_index_or (set delta g diff) g 0 ≡ diff
       new_at = get_or-set_same delta g diff 0 in_delta
@@ -117,7 +117,7 @@ module _ (c : List Statement) (tests : List Test) (block : ℕ) (f : ℕ → Fau
           go (inl e) = let w = still_waits t (λ z. ne (e ∙ z)) in inl (w.0, w.1, e ∙ get_or-set_other at g t 0 0 w.0)
           go (inr r) = inr (r.0, r.2)
 
-      pub evaluated_changed : IsSpreading c tests block f good lanes lv start mask (set delta g diff) after level
+      pub evaluated_changed : IsSpreading c tests group f good lanes lv start mask (set delta g diff) after level
       evaluated_changed = record {
         balanced = balanced_now;
         narrow = h.narrow;
@@ -133,8 +133,8 @@ module _ (c : List Statement) (tests : List Test) (block : ℕ) (f : ℕ → Fau
         right = λ s k lt e. right s k lt e (cases_eq s g);
       }
         where
-          balanced_now : IsBalanced c (Counts c lv start) tests block f good mask (set delta g diff) after
-          balanced_now = balanced_changed c (Counts c lv start) tests block f good mask lv well rises delta at g h.balanced (λ k. elsewhere g k not_start) kind pins is word valued diff after in_delta
+          balanced_now : IsBalanced c (Counts c lv start) tests group f good mask (set delta g diff) after
+          balanced_now = balanced_changed c (Counts c lv start) tests group f good mask lv well rises delta at g h.balanced (λ k. elsewhere g k not_start) kind pins is word valued diff after in_delta
               (λ t is_counted reads. reader_live c lv start rises g t from_start is_counted reads) changed woken
 
           at_level : (t : ℕ) → slice_index_or after t 0 ≢ 0 → slice_index_or after t 0 ≡ lv t + 1
@@ -183,11 +183,11 @@ module _ (c : List Statement) (tests : List Test) (block : ℕ) (f : ℕ → Fau
           here_diff : (s k : ℕ) → s ≡ g → lane (slice_index_or (set delta g diff) s 0) k ≡ true → lane diff k ≡ true
           here_diff s k same e = ap (λ d. lane d k) (sym new_at) ∙ (ap (λ x. lane (slice_index_or (set delta g diff) x 0) k) (sym same) ∙ e)
 
-          inside : (s k : ℕ) → k < 64 → lane (slice_index_or (set delta g diff) s 0) k ≡ true → (s ≡ g) ⊎ (s ≢ g) → lane lanes k ≡ true
+          inside : (s k : ℕ) → k < 128 → lane (slice_index_or (set delta g diff) s 0) k ≡ true → (s ≡ g) ⊎ (s ≢ g) → lane lanes k ≡ true
           inside s k lt e (inl same) = h.narrow k lt (in_mask k lt (here_diff s k same e))
           inside s k lt e (inr other) = h.inside s k lt (ap (λ d. lane d k) (sym (kept_at s other)) ∙ e)
 
-          some : (s : ℕ) → slice_index_or (set delta g diff) s 0 ≢ 0 → (s ≡ g) ⊎ (s ≢ g) → (k : ℕ) × (k < 64) × (lane (slice_index_or (set delta g diff) s 0) k ≡ true)
+          some : (s : ℕ) → slice_index_or (set delta g diff) s 0 ≢ 0 → (s ≡ g) ⊎ (s ≢ g) → (k : ℕ) × (k < 128) × (lane (slice_index_or (set delta g diff) s 0) k ≡ true)
           some s ne (inl same) = (a_lane.0, a_lane.1, ap (λ x. lane (slice_index_or (set delta g diff) x 0) a_lane.0) same ∙ (ap (λ d. lane d a_lane.0) new_at ∙ a_lane.2))
           some s ne (inr other) = let k = h.some s (λ e. ne (kept_at s other ∙ e)) in (k.0, k.1, ap (λ d. lane d k.0) (kept_at s other) ∙ k.2)
 
@@ -198,21 +198,21 @@ module _ (c : List Statement) (tests : List Test) (block : ℕ) (f : ℕ → Fau
               go (inl e) = e ∙ get_or-set_same at g 0 0 in_at
               go (inr r) = let up = rises g g r.0.0 in absurd (omega (arith, up))
 
-          right : (s k : ℕ) → k < 64 → lane (slice_index_or (set delta g diff) s 0) k ≡ true → (s ≡ g) ⊎ (s ≢ g) → IsRightIn c tests block f good (set delta g diff) s k
+          right : (s k : ℕ) → k < 128 → lane (slice_index_or (set delta g diff) s 0) k ≡ true → (s ≡ g) ⊎ (s ≢ g) → IsRightIn c tests group f good (set delta g diff) s k
           right s k lt e (inl same) n v named number solves =
               let is : signal c n ≡ g = number ∙ same in
               let low : lv (signal c n) ≡ lv g = ap lv is in
               let at_level : lv (signal c n) ≤ level = (let l = here in omega (arith, low, l)) in
-              right_by_now c (Counts c lv start) (counts_closed c lv start rises) tests block f good mask (set delta g diff) after balanced_now lv level well rises not_below k lt (in_mask k lt (here_diff s k same e)) v solves n (among (names c) n named)
+              right_by_now c (Counts c lv start) (counts_closed c lv start rises) tests group f good mask (set delta g diff) after balanced_now lv level well rises not_below k lt (in_mask k lt (here_diff s k same e)) v solves n (among (names c) n named)
               (inl (subst (IsLive c) (sym is) (h.live g waits))) at_level (ap (λ x. slice_index_or after x 0) is ∙ idle_here)
           right s k lt e (inr other) n v named number solves =
               sym (word_other good delta g diff (signal c n) k (λ x. other (sym number ∙ x)))
               ∙ h.right s k lt (ap (λ d. lane d k) (sym (kept_at s other)) ∙ e) n v named number solves
 
 -- fewer lanes are followed
-pub spreading_narrower : (c : List Statement) (tests : List Test) (block : ℕ) (f : ℕ → Fault) (good : List ℕ) (lanes : ℕ) (lv : ℕ → ℕ) (start mask : ℕ) (delta at : List ℕ) (level narrow : ℕ)
-    → ((k : ℕ) → k < 64 → lane narrow k ≡ true → lane mask k ≡ true) → IsSpreading c tests block f good lanes lv start mask delta at level → IsSpreading c tests block f good lanes lv start narrow delta at level
-spreading_narrower c tests block f good lanes lv start mask delta at level narrow within h = record {
+pub spreading_narrower : (c : List Statement) (tests : List Test) (group : ℕ) (f : ℕ → Fault) (good : List ℕ) (lanes : ℕ) (lv : ℕ → ℕ) (start mask : ℕ) (delta at : List ℕ) (level narrow : ℕ)
+    → ((k : ℕ) → k < 128 → lane narrow k ≡ true → lane mask k ≡ true) → IsSpreading c tests group f good lanes lv start mask delta at level → IsSpreading c tests group f good lanes lv start narrow delta at level
+spreading_narrower c tests group f good lanes lv start mask delta at level narrow within h = record {
   balanced = λ s k is_counted idle lt e. h.balanced s k is_counted idle lt (within k lt e);
   narrow = λ k lt e. h.narrow k lt (within k lt e);
   at_level = h.at_level;
@@ -238,9 +238,9 @@ woken_above c lv g before after rises woken r = go (woken.only r)
     go (inr w) = inr (rises r g w.0.0, w.2)
 
 -- a gate that is taken where no lane is followed any more
-pub spreading_skipped : (c : List Statement) (tests : List Test) (block : ℕ) (f : ℕ → Fault) (good : List ℕ) (lanes : ℕ) (lv : ℕ → ℕ) (start mask : ℕ) (delta at : List ℕ) (level g : ℕ) → g < length at
-    → ((k : ℕ) → lane mask k ≡ true → ⊥) → IsSpreading c tests block f good lanes lv start mask delta at level → IsSpreading c tests block f good lanes lv start mask delta (set at g 0) level
-spreading_skipped c tests block f good lanes lv start mask delta at level g in_at none h = record {
+pub spreading_skipped : (c : List Statement) (tests : List Test) (group : ℕ) (f : ℕ → Fault) (good : List ℕ) (lanes : ℕ) (lv : ℕ → ℕ) (start mask : ℕ) (delta at : List ℕ) (level g : ℕ) → g < length at
+    → ((k : ℕ) → lane mask k ≡ true → ⊥) → IsSpreading c tests group f good lanes lv start mask delta at level → IsSpreading c tests group f good lanes lv start mask delta (set at g 0) level
+spreading_skipped c tests group f good lanes lv start mask delta at level g in_at none h = record {
   balanced = λ s k is_counted idle lt e. absurd (none k e);
   narrow = h.narrow;
   at_level = λ t ne. let w = still_waits t ne in get_or-set_other at g t 0 0 w.0 ∙ h.at_level t w.1;

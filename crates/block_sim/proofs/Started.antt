@@ -1,5 +1,5 @@
 -- Where a fault begins: the lanes in which it turns its line, and the first change.
-use Rattle.std.proofs.Common.{◌≡◌, ◌≢◌, ◌<◌, ℕ, suc, ◌+◌, ◌*◌, ◌-◌, min, refl, sym, ◌∙◌, ap, subst, Bool, true, false, List, [], ◌∷◌, length, map, set, arith, inl, inr, ◌⊎◌}
+use Rattle.std.proofs.Common.{◌≡◌, ◌≢◌, ◌<◌, ℕ, suc, ◌+◌, ◌*◌, refl, sym, ◌∙◌, ap, subst, Bool, true, false, List, [], ◌∷◌, length, map, set, arith, inl, inr, ◌⊎◌}
 use Rattle.std.specs.Prelude.{Contains, Option, Some, None, slice_get, slice_index_or, bit_and, bit_xor, option_map}
 use Rattle.std.specs.Bool.{Decides}
 use Rattle.std.specs.List.{enumerate_from}
@@ -20,9 +20,8 @@ use Rattle.fault_model.specs.Detection.{argument, carried}
 use Rattle.fault_model.specs.Fault.{Fault, branch, same_line}
 use Rattle.fault_model.specs.Solution.{Test, Solves, sees, under, value}
 use Rattle.fault_model.proofs.Public.{has_solutions, same_lines, under_other, under_own, observes, defined_among, definition-signal, source_named}
-use Rattle.patterns.specs.Tests.{size_of}
 use Rattle.block_sim.specs.Words.{lane, lane_bits, overlaid, pin_bits, test_of, AreWords}
-use Rattle.block_sim.specs.Stirred.{IsStirred, IsStirredBy}
+use Rattle.block_sim.specs.Stirred.{AreInGroup, IsStirredIn, IsStirredBy}
 use Rattle.block_sim.specs.Events.{bits_of, Reads}
 use Rattle.block_sim.specs.Spreading.{AreShown, IsApart, IsFirstChange}
 use Rattle.block_sim.proofs.Equated.{equation_of, word_other}
@@ -71,9 +70,9 @@ data_observed c i n e =
     let p = some_mapped (λ (qd : Name × Name). qd.1) (slice_get (cells c) i) n e in
     subst (λ m. Contains (observers c) (sink.Data i, m)) p.2 (cell_observed c i p.0.0 p.0.1 p.1)
 
-module _ (c : List Statement) (tests : List Test) (block : ℕ) (f : Fault) (good : List ℕ) (n : Name) (well : IsWellFormed c) (words : AreWords c tests block None good) (carries : carried c f.line ≡ Some n) where
+module _ (c : List Statement) (tests : List Test) (group : ℕ) (f : Fault) (good : List ℕ) (n : Name) (well : IsWellFormed c) (words : AreWords c tests group None good) (carries : carried c f.line ≡ Some n) where
   -- ---- a lane in which the line has the stuck bit anyway
-  module _ (k : ℕ) (lt : k < 64) (stuck : lane_bits c good k n ≡ f.stuck) where
+  module _ (k : ℕ) (lt : k < 128) (stuck : lane_bits c good k n ≡ f.stuck) where
     stuck_name : (m : Name) → Some m ≡ Some n → lane_bits c good k m ≡ f.stuck
     stuck_name m e = let is : m ≡ n = cc in ap (lane_bits c good k) is ∙ stuck
 
@@ -88,7 +87,7 @@ module _ (c : List Statement) (tests : List Test) (block : ℕ) (f : Fault) (goo
         let rest = pins_from s (from + 1) args (λ i b at own. same (suc i) b at (own ∙ ap (line.Pin s) (omega arith))) in
         rw (first, rest) refl
 
-    unmoved : Solves c (test_of tests block k) (Some f) (lane_bits c good k)
+    unmoved : Solves c (test_of tests group k) (Some f) (lane_bits c good k)
     unmoved = record {
       source = λ i m at.
           let plain = (words k lt).source i m at in
@@ -106,44 +105,42 @@ module _ (c : List Statement) (tests : List Test) (block : ℕ) (f : Fault) (goo
     unapart h = h.2 (sym (under_same f (branch h.0.0) (lane_bits c good k h.0.1) (λ own. stuck_name h.0.1 (sym (observer_carries c h.0 h.1) ∙ (ap (carried c) (sym own) ∙ carries)))))
 
   -- ---- the lanes in which the fault turns its line
-  module _ (settled : ℕ → Type 0) (lanes turned : ℕ) (is : (k : ℕ) → k < 64 → Decides (lane turned k) ((lane lanes k ≡ true) × (lane_bits c good k n ≢ f.stuck))) where
+  module _ (settled : ℕ → Type 0) (lanes turned : ℕ) (is : (k : ℕ) → k < 128 → Decides (lane turned k) ((lane lanes k ≡ true) × (lane_bits c good k n ≢ f.stuck))) where
     same_or : (a b : Bool) → (a ≢ b → ⊥) → a ≡ b
     same_or true true h = refl
     same_or true false h = absurd (h (λ e. false≢true (sym e)))
     same_or false true h = absurd (h false≢true)
     same_or false false h = refl
 
-    still : (k : ℕ) → k < 64 → lane lanes k ≡ true → lane turned k ≡ false → lane_bits c good k n ≡ f.stuck
+    still : (k : ℕ) → k < 128 → lane lanes k ≡ true → lane turned k ≡ false → lane_bits c good k n ≡ f.stuck
     still k lt in_lanes none = same_or (lane_bits c good k n) f.stuck (λ ne. false≢true (sym none ∙ (is k lt).1 (in_lanes, ne)))
 
-    cleared : (k : ℕ) → k < 64 → lane lanes k ≡ true → lane turned k ≡ false → (v : Name → Bool) × Solves c (test_of tests block k) (Some f) v × (IsApart c f good k v → ⊥)
+    cleared : (k : ℕ) → k < 128 → lane lanes k ≡ true → lane turned k ≡ false → (v : Name → Bool) × Solves c (test_of tests group k) (Some f) v × (IsApart c f good k v → ⊥)
     cleared k lt in_lanes none = let stuck = still k lt in_lanes none in (lane_bits c good k, unmoved k lt stuck, unapart k lt stuck)
 
     -- where it turns none, nothing is shown
-    pub shown_none : (seen : ℕ) → ((k : ℕ) → k < 64 → lane turned k ≡ false) → ((k : ℕ) → lane seen k ≡ false) → AreShown c tests block (λ _. f) good lanes settled seen
+    pub shown_none : (seen : ℕ) → ((k : ℕ) → k < 128 → lane turned k ≡ false) → ((k : ℕ) → lane seen k ≡ false) → AreShown c tests group (λ _. f) good lanes settled seen
     shown_none seen none unseen = record {
       found = λ k lt e. absurd (false≢true (sym (unseen k) ∙ e));
       clear = λ k lt in_lanes out _. cleared k lt in_lanes (none k lt);
     }
 
     -- the line of an observer: what is turned is shown
-    pub shown_at_observer : (o : Sink) → branch o ≡ f.line → Contains (observers c) (o, n) → AreShown c tests block (λ _. f) good lanes settled turned
+    pub shown_at_observer : (o : Sink) → branch o ≡ f.line → Contains (observers c) (o, n) → AreShown c tests group (λ _. f) good lanes settled turned
     shown_at_observer o own there = record {
       found = λ k lt e. let d = (is k lt).0 e in (d.0, λ v solves. ((o, n), there, λ same. d.1 (same ∙ under_own f (branch o) (v n) (sym own))));
       clear = λ k lt in_lanes out _. cleared k lt in_lanes out;
     }
 
     -- the gate whose pin is turned is stirred
-    pub pin_stirred : (k g pin : ℕ) → k < 64 → f.line ≡ line.Pin g pin → ((j : ℕ) → j < 64 → lane lanes j ≡ true → j < size_of (length tests) block) → lane turned k ≡ true
-        → (name : Name) (kind : Kind) (args : List Name) → Contains c (Gate name kind args) → signal c name ≡ g → slice_get args pin ≡ Some n → IsStirred c tests block f g
+    pub pin_stirred : (k g pin : ℕ) → k < 128 → f.line ≡ line.Pin g pin → AreInGroup tests group lanes → lane turned k ≡ true
+        → (name : Name) (kind : Kind) (args : List Name) → Contains c (Gate name kind args) → signal c name ≡ g → slice_get args pin ≡ Some n → IsStirredIn c tests group lanes (λ _. f) g
     pin_stirred k g pin lt on sized e name kind args stands number at =
         let d = (is k lt).0 e in
-        let few = sized k lt d.0 in
-        let le : k < min 64 (length tests - 64 * block) = few in
-        let place = within_place tests (64 * block + k) (omega (arith, le)) in
-        let same : test_of tests block k ≡ place.0 = index_of tests (64 * block + k) place.0 [] place.1 in
-        let u = has_solutions c well (test_of tests block k) (Some f) in
-        let stirred : IsStirredBy c (test_of tests block k) f g = record {
+        let place = within_place tests (128 * group + k) (sized k lt d.0) in
+        let same : test_of tests group k ≡ place.0 = index_of tests (128 * group + k) place.0 [] place.1 in
+        let u = has_solutions c well (test_of tests group k) (Some f) in
+        let stirred : IsStirredBy c (test_of tests group k) f g = record {
           fault_free = lane_bits c good k;
           faulty = u.0;
           name = name;
@@ -158,17 +155,17 @@ module _ (c : List Statement) (tests : List Test) (block : ℕ) (f : Fault) (goo
           at = at;
           differs = λ eq. d.1 (eq ∙ under_own f (line.Pin g pin) (u.0 n) on);
         } in
-        (k, place.0, few, place.1, subst (λ t. IsStirredBy c t f g) same stirred)
+        (k, place.0, lt, d.0, place.1, subst (λ t. IsStirredBy c t f g) same stirred)
 
 -- ---- the first change
 unobserved : (c : List Statement) (f : Fault) (l : Line) → IsWellFormed c → f.line ≡ l → ((o : Sink × Name) → Contains (observers c) o → l ≢ branch o.0) → (o : Sink × Name) → Contains (observers c) o → f.line ≢ branch o.0
 unobserved c f l well on off o there e = off o there (sym on ∙ e)
 
-pub first_on_stem : (c : List Statement) (tests : List Test) (block : ℕ) (f : ℕ → Fault) (good : List ℕ) (lanes : ℕ) (delta : List ℕ) (start diff : ℕ) → IsWellFormed c
-    → ((k : ℕ) → (f k).line ≡ line.Stem start) → start < length delta → AreWords c tests block None good
-    → ((k : ℕ) → k < 64 → lane lanes k ≡ true → lane (bit_xor (slice_index_or good start 0) diff) k ≡ (f k).stuck)
-    → IsFirstChange c tests block f good lanes delta start diff
-first_on_stem c tests block f good lanes delta start diff well on within words now = record {
+pub first_on_stem : (c : List Statement) (tests : List Test) (group : ℕ) (f : ℕ → Fault) (good : List ℕ) (lanes : ℕ) (delta : List ℕ) (start diff : ℕ) → IsWellFormed c
+    → ((k : ℕ) → (f k).line ≡ line.Stem start) → start < length delta → AreWords c tests group None good
+    → ((k : ℕ) → k < 128 → lane lanes k ≡ true → lane (bit_xor (slice_index_or good start 0) diff) k ≡ (f k).stuck)
+    → IsFirstChange c tests group f good lanes delta start diff
+first_on_stem c tests group f good lanes delta start diff well on within words now = record {
   words = words;
   elsewhere = λ t k ne. record {
     stem = λ e. let same : line.Stem start ≡ line.Stem t = sym (on k) ∙ e in let is : start ≡ t = cc in ne (sym is);
@@ -181,39 +178,39 @@ first_on_stem c tests block f good lanes delta start diff well on within words n
   };
 }
   where
-    here : (k : ℕ) → k < 64 → lane lanes k ≡ true → (n : Name) → signal c n ≡ start → bits_of c good (set delta start diff) k n ≡ (f k).stuck
+    here : (k : ℕ) → k < 128 → lane lanes k ≡ true → (n : Name) → signal c n ≡ start → bits_of c good (set delta start diff) k n ≡ (f k).stuck
     here k lt in_lanes n number =
         ap (λ s. lane (overlaid good (set delta start diff) s) k) number
         ∙ (ap (λ d. lane (bit_xor (slice_index_or good start 0) d) k) (get_or-set_same delta start diff 0 within) ∙ now k lt in_lanes)
 
-pub first_on_pin : (c : List Statement) (tests : List Test) (block : ℕ) (f : Fault) (good : List ℕ) (lanes : ℕ) (delta : List ℕ) (start pin diff : ℕ) (kind : Kind) (pins : List ℕ)
-    → IsWellFormed c → AreWords c tests block None good → f.line ≡ line.Pin start pin → start < length delta → (Reads c start start → ⊥) → gate_of c start ≡ Some (kind, pins)
-    → ((k : ℕ) → k < 64 → lane lanes k ≡ true → lane (bit_xor (slice_index_or good start 0) diff) k ≡ value kind (pin_bits (Some f) start pins good delta k))
-    → IsFirstChange c tests block (λ _. f) good lanes delta start diff
-first_on_pin c tests block f good lanes delta start pin diff kind pins well words on within loop is now = record {
+pub first_on_pin : (c : List Statement) (tests : List Test) (group : ℕ) (f : Fault) (good : List ℕ) (lanes : ℕ) (delta : List ℕ) (start pin diff : ℕ) (kind : Kind) (pins : List ℕ)
+    → IsWellFormed c → AreWords c tests group None good → f.line ≡ line.Pin start pin → start < length delta → (Reads c start start → ⊥) → gate_of c start ≡ Some (kind, pins)
+    → ((k : ℕ) → k < 128 → lane lanes k ≡ true → lane (bit_xor (slice_index_or good start 0) diff) k ≡ value kind (pin_bits (Some f) start pins good delta k))
+    → IsFirstChange c tests group (λ _. f) good lanes delta start diff
+first_on_pin c tests group f good lanes delta start pin diff kind pins well words on within loop is now = record {
   words = words;
   elsewhere = λ t k ne. record {
     stem = λ e. let same : line.Pin start pin ≡ line.Stem t = sym on ∙ e in cc;
     pin = λ p e. let same : line.Pin start pin ≡ line.Pin t p = sym on ∙ e in let is : start ≡ t = cc in ne (sym is);
   };
   unobserved = λ o k. unobserved c f (line.Pin start pin) well on (λ p there. (observes c p well there).no_pin_line start pin) o;
-  first = λ k lt in_lanes. equation_of c (test_of tests block k) (Some f) good delta (set delta start diff) start k kind pins well loop is (λ s ne. word_other good delta start diff s k ne)
+  first = λ k lt in_lanes. equation_of c (test_of tests group k) (Some f) good delta (set delta start diff) start k kind pins well loop is (λ s ne. word_other good delta start diff s k ne)
       (ap (λ d. lane (bit_xor (slice_index_or good start 0) d) k) (get_or-set_same delta start diff 0 within)
       ∙ (now k lt in_lanes ∙ sym (under_other f (line.Stem start) _ (λ e. let same : line.Pin start pin ≡ line.Stem start = sym on ∙ e in cc))));
 }
 
 -- the same out of the word of the signal that the line carries
-pub stem_change : (c : List Statement) (tests : List Test) (block : ℕ) (f : Fault) (good : List ℕ) (lanes : ℕ) (delta : List ℕ) (start number word : ℕ) → IsWellFormed c → AreWords c tests block None good
-    → f.line ≡ line.Stem start → start < length delta → number ≡ start → ((k : ℕ) → k < 64 → lane word k ≡ f.stuck)
-    → IsFirstChange c tests block (λ _. f) good lanes delta start (bit_and (bit_xor word (slice_index_or good number 0)) lanes)
-stem_change c tests block f good lanes delta start number word well words on within same stuck =
-    subst (λ x. IsFirstChange c tests block (λ _. f) good lanes delta start (bit_and (bit_xor word (slice_index_or good x 0)) lanes)) (sym same)
-    (first_on_stem c tests block (λ _. f) good lanes delta start (bit_and (bit_xor word (slice_index_or good start 0)) lanes) well (λ _. on) within words
+pub stem_change : (c : List Statement) (tests : List Test) (group : ℕ) (f : Fault) (good : List ℕ) (lanes : ℕ) (delta : List ℕ) (start number word : ℕ) → IsWellFormed c → AreWords c tests group None good
+    → f.line ≡ line.Stem start → start < length delta → number ≡ start → ((k : ℕ) → k < 128 → lane word k ≡ f.stuck)
+    → IsFirstChange c tests group (λ _. f) good lanes delta start (bit_and (bit_xor word (slice_index_or good number 0)) lanes)
+stem_change c tests group f good lanes delta start number word well words on within same stuck =
+    subst (λ x. IsFirstChange c tests group (λ _. f) good lanes delta start (bit_and (bit_xor word (slice_index_or good x 0)) lanes)) (sym same)
+    (first_on_stem c tests group (λ _. f) good lanes delta start (bit_and (bit_xor word (slice_index_or good start 0)) lanes) well (λ _. on) within words
     (λ k lt in_lanes. changed_to word (slice_index_or good start 0) lanes k in_lanes ∙ stuck k lt))
 
 -- the lanes in which the code sees the line turned
-pub turned_is : (c : List Statement) (f : Fault) (good : List ℕ) (lanes number word : ℕ) (n : Name) → number ≡ signal c n → ((k : ℕ) → k < 64 → lane word k ≡ f.stuck)
-    → (k : ℕ) → k < 64 → Decides (lane (bit_and (bit_xor word (slice_index_or good number 0)) lanes) k) ((lane lanes k ≡ true) × (lane_bits c good k n ≢ f.stuck))
+pub turned_is : (c : List Statement) (f : Fault) (good : List ℕ) (lanes number word : ℕ) (n : Name) → number ≡ signal c n → ((k : ℕ) → k < 128 → lane word k ≡ f.stuck)
+    → (k : ℕ) → k < 128 → Decides (lane (bit_and (bit_xor word (slice_index_or good number 0)) lanes) k) ((lane lanes k ≡ true) × (lane_bits c good k n ≢ f.stuck))
 turned_is c f good lanes number word n is stuck k lt =
     subst (λ x. Decides (lane (bit_and (bit_xor word (slice_index_or good number 0)) lanes) k) ((lane lanes k ≡ true) × (lane (slice_index_or good x 0) k ≢ f.stuck))) is
     (turned_lanes word (slice_index_or good number 0) lanes k f.stuck (stuck k lt))

@@ -2,11 +2,11 @@
 use Rattle.std.proofs.Common.{◌≡◌, ◌≢◌, ◌<◌, ◌≤◌, ℕ, ◌+◌, ◌^◌, refl, sym, ◌∙◌, ap, Bool, true, false, ◌&&◌, List, set, arith, inl, inr, ◌⊎◌}
 use Rattle.std.specs.Prelude.{slice_index_or, bit_and, bit_xor, nat_lt, ◌==◌}
 use Rattle.std.proofs.lemmas.List.{set-set, set-get_or}
-use Rattle.std.proofs.lemmas.Bool.{cases_eq, cases_lt, false≢true, le-ltb, lt-ltb, ltb-true}
+use Rattle.std.proofs.lemmas.Bool.{cases_eq, cases_lt, false≢true, le-ltb, lt-ltb}
 use Rattle.block_sim.specs.Words.{lane}
 use Rattle.std.proofs.lemmas.Nat.Bits.{bit_at-trailing_zeros}
 use Rattle.std.specs.Bool.{Decides}
-use Rattle.std.specs.Int.{w64, trailing_zeros}
+use Rattle.std.specs.Int.{w128, trailing_zeros}
 use lib.Count.{trailing_of_zero}
 use Rattle.block_sim.proofs.Lanes.{lane_and, lane_xor, lane_zero, unlike}
 
@@ -30,7 +30,7 @@ pub left_of : (a b : Bool) → (a && b) ≡ true → a ≡ true
 left_of true b e = refl
 left_of false b e = absurd (false≢true e)
 
-right_of : (a b : Bool) → (a && b) ≡ true → b ≡ true
+pub right_of : (a b : Bool) → (a && b) ≡ true → b ≡ true
 right_of true b e = e
 right_of false b e = absurd (false≢true e)
 
@@ -52,24 +52,24 @@ changed_to word good lanes k in_lanes =
     ∙ turned (lane word k) (lane good k) (lane lanes k) in_lanes)
 
 -- a word that is not 0 has a lane
-pub some_lane : (word : ℕ) → word < 2 ^ 64 → word ≢ 0 → (k : ℕ) × (k < 64) × (lane word k ≡ true)
-some_lane word within ne = let found = bit_at-trailing_zeros w64 word (omega (arith, ne)) within in (_, found.0, ap (λ x. x == 1) found.1)
+pub some_lane : (word : ℕ) → word < 2 ^ 128 → word ≢ 0 → (k : ℕ) × (k < 128) × (lane word k ≡ true)
+some_lane word within ne = let found = bit_at-trailing_zeros w128 word (omega (arith, ne)) within in (_, found.0, ap (λ x. x == 1) found.1)
 
 -- of lanes of which those below the first one of another word are kept, one that is left out lies not below that one
-pub left_out : (lanes seen low k : ℕ) → seen < 2 ^ 64 → k < 64 → ((j : ℕ) → j < 64 → lane low j ≡ nat_lt j (trailing_zeros w64 seen)) → lane lanes k ≡ true → lane (bit_and lanes low) k ≡ false
+pub left_out : (lanes seen low k : ℕ) → seen < 2 ^ 128 → k < 128 → ((j : ℕ) → j < 128 → lane low j ≡ nat_lt j (trailing_zeros w128 seen)) → lane lanes k ≡ true → lane (bit_and lanes low) k ≡ false
     → (j : ℕ) × (j ≤ k) × (lane seen j ≡ true)
-left_out lanes seen low k within lt is in_lanes out = go (cases_lt k (trailing_zeros w64 seen)) (cases_eq seen 0)
+left_out lanes seen low k within lt is in_lanes out = go (cases_lt k (trailing_zeros w128 seen)) (cases_eq seen 0)
   where
-    go : (k < trailing_zeros w64 seen) ⊎ (trailing_zeros w64 seen ≤ k) → (seen ≡ 0) ⊎ (seen ≢ 0) → (j : ℕ) × (j ≤ k) × (lane seen j ≡ true)
+    go : (k < trailing_zeros w128 seen) ⊎ (trailing_zeros w128 seen ≤ k) → (seen ≡ 0) ⊎ (seen ≢ 0) → (j : ℕ) × (j ≤ k) × (lane seen j ≡ true)
     go (inl below) z =
-        let kept : lane (bit_and lanes low) k ≡ true = lane_and lanes low k ∙ both (lane lanes k) (lane low k) in_lanes (is k lt ∙ lt-ltb k (trailing_zeros w64 seen) below) in
+        let kept : lane (bit_and lanes low) k ≡ true = lane_and lanes low k ∙ both (lane lanes k) (lane low k) in_lanes (is k lt ∙ lt-ltb k (trailing_zeros w128 seen) below) in
         absurd (false≢true (sym out ∙ kept))
       where
         both : (a b : Bool) → a ≡ true → b ≡ true → (a && b) ≡ true
         both true b p q = q
         both false b p q = p
-    go (inr above) (inl zero_is) = let all : trailing_zeros w64 seen ≡ 64 = ap (trailing_zeros w64) zero_is ∙ trailing_of_zero 64 in absurd (omega (arith, above, all, lt))
-    go (inr above) (inr ne) = let found = bit_at-trailing_zeros w64 seen (omega (arith, ne)) within in (trailing_zeros w64 seen, above, ap (λ x. x == 1) found.1)
+    go (inr above) (inl zero_is) = let all : trailing_zeros w128 seen ≡ 128 = ap (trailing_zeros w128) zero_is ∙ trailing_of_zero 128 in absurd (omega (arith, above, all, lt))
+    go (inr above) (inr ne) = let found = bit_at-trailing_zeros w128 seen (omega (arith, ne)) within in (trailing_zeros w128 seen, above, ap (λ x. x == 1) found.1)
 
 -- the lanes, of those that are asked for, in which a word is not one bit
 pub turned_lanes : (word good lanes k : ℕ) (b : Bool) → lane word k ≡ b → Decides (lane (bit_and (bit_xor word good) lanes) k) ((lane lanes k ≡ true) × (lane good k ≢ b))
@@ -93,28 +93,28 @@ turned_lanes word good lanes k b is = (
     back true m false e ne = e
     back false m false e ne = absurd (ne refl)
 
--- lanes below a size, of those that a second word decides there
-pub lanes_decide : {B : Type 0} (low fit size k : ℕ) → lane low k ≡ nat_lt k size → (k < size → Decides (lane fit k) B) → Decides (lane (bit_and low fit) k) ((k < size) × B)
-lanes_decide {B} low fit size k is by = (there, back)
+-- lanes that one word decides, and of these those that a second word does
+pub lanes_decide : {A B : Type 0} (low fit k : ℕ) → Decides (lane low k) A → (A → Decides (lane fit k) B) → Decides (lane (bit_and low fit) k) (A × B)
+lanes_decide {A} {B} low fit k is by = (there, back)
   where
-    there : lane (bit_and low fit) k ≡ true → (k < size) × B
+    there : lane (bit_and low fit) k ≡ true → A × B
     there e =
         let both = sym (lane_and low fit k) ∙ e in
-        let few : k < size = ltb-true k size (sym is ∙ left_of (lane low k) (lane fit k) both) in
-        (few, (by few).0 (right_of (lane low k) (lane fit k) both))
+        let own = is.0 (left_of (lane low k) (lane fit k) both) in
+        (own, (by own).0 (right_of (lane low k) (lane fit k) both))
 
     both_true : (a b : Bool) → a ≡ true → b ≡ true → (a && b) ≡ true
     both_true true b p q = q
     both_true false b p q = p
 
-    back : (k < size) × B → lane (bit_and low fit) k ≡ true
-    back h = lane_and low fit k ∙ both_true (lane low k) (lane fit k) (is ∙ lt-ltb k size h.0) ((by h.0).1 h.1)
+    back : A × B → lane (bit_and low fit) k ≡ true
+    back h = lane_and low fit k ∙ both_true (lane low k) (lane fit k) (is.1 h.0) ((by h.0).1 h.1)
 
 pub lane_of_zero : (word k : ℕ) → word ≡ 0 → lane word k ≡ false
 lane_of_zero word k e = ap (λ x. lane x k) e ∙ lane_zero k
 
 -- and none that is kept lies at or above a lane of that word
-pub left_behind : (lanes seen low j k : ℕ) → seen < 2 ^ 64 → k < 64 → ((i : ℕ) → i < 64 → lane low i ≡ nat_lt i (trailing_zeros w64 seen)) → j ≤ k → lane seen j ≡ true → lane (bit_and lanes low) k ≡ false
+pub left_behind : (lanes seen low j k : ℕ) → seen < 2 ^ 128 → k < 128 → ((i : ℕ) → i < 128 → lane low i ≡ nat_lt i (trailing_zeros w128 seen)) → j ≤ k → lane seen j ≡ true → lane (bit_and lanes low) k ≡ false
 left_behind lanes seen low j k within lt is le at = go (cases_eq seen 0)
   where
     none : (a b : Bool) → b ≡ false → (a && b) ≡ false
@@ -123,10 +123,10 @@ left_behind lanes seen low j k within lt is le at = go (cases_eq seen 0)
 
     go : (seen ≡ 0) ⊎ (seen ≢ 0) → lane (bit_and lanes low) k ≡ false
     go (inl e) = absurd (false≢true (sym (lane_of_zero seen j e) ∙ at))
-    go (inr ne) = by (cases_lt j (trailing_zeros w64 seen))
+    go (inr ne) = by (cases_lt j (trailing_zeros w128 seen))
       where
-        by : (j < trailing_zeros w64 seen) ⊎ (trailing_zeros w64 seen ≤ j) → lane (bit_and lanes low) k ≡ false
+        by : (j < trailing_zeros w128 seen) ⊎ (trailing_zeros w128 seen ≤ j) → lane (bit_and lanes low) k ≡ false
         by (inl below) =
-            let found = bit_at-trailing_zeros w64 seen (omega (arith, ne)) within in
+            let found = bit_at-trailing_zeros w128 seen (omega (arith, ne)) within in
             absurd (false≢true (sym (ap (λ x. x == 1) (found.2 j below)) ∙ at))
-        by (inr above) = lane_and lanes low k ∙ none (lane lanes k) (lane low k) (is k lt ∙ le-ltb k (trailing_zeros w64 seen) (omega (arith, above, le)))
+        by (inr above) = lane_and lanes low k ∙ none (lane lanes k) (lane low k) (is k lt ∙ le-ltb k (trailing_zeros w128 seen) (omega (arith, above, le)))

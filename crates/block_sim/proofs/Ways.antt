@@ -1,8 +1,9 @@
 -- The way to the stem of a region gets shorter gate by gate, and each class that gets known adds its
 -- own to the ways of those that are.
-use Rattle.std.proofs.Common.{◌≡◌, ◌+◌, ◌<◌, ◌≤◌, ℕ, zero, suc, refl, sym, ◌∙◌, ap, subst, true, false, Bool, List, [], ◌∷◌, length, set, arith}
+use Rattle.std.proofs.Common.{◌≡◌, ◌+◌, ◌*◌, ◌/◌, ◌<◌, ◌≤◌, ◌⊎◌, inl, inr, ℕ, zero, suc, refl, sym, ◌∙◌, ap, subst, true, false, Bool, List, [], ◌∷◌, length, set, arith}
 use Rattle.std.specs.Prelude.{Some, None, if◌then◌else◌, slice_index_or}
 use Rattle.std.specs.List.{enumerate_from, sum_by}
+use Rattle.std.proofs.lemmas.Bool.{cases_lt, le-ltb, lt-ltb}
 use Rattle.std.proofs.lemmas.List.FromFn.{length-enumerate_from, get_or-enumerate_from}
 use Rattle.std.proofs.lemmas.List.Sums.{sum_by-set}
 use Rattle.bench_net.specs.Statement.{Statement}
@@ -14,7 +15,10 @@ use Rattle.fault_model.specs.Fault.{Fault}
 use Rattle.block_sim.specs.declared.simulation.Memo.{Memo}
 use Rattle.block_sim.specs.declared.simulation.Memo.TheVariants.{Nothing}
 use Rattle.block_sim.specs.Regions.{IsStem, IsStemOf, IsStemOfLine, LeadsTo, here, lone_reader, onward}
-use Rattle.block_sim.specs.Ways.{IsWay, IsWayOfLine, OneWayLaw, SomeWayLaw, is_on, known_ways, steps}
+use Rattle.fault_model.specs.Solution.{Test}
+use Rattle.block_sim.specs.declared.span.Span.{Span}
+use Rattle.block_sim.specs.Spans.{IsSpan, span_from}
+use Rattle.block_sim.specs.Ways.{HasStirredByFlip, IsWay, IsWayOfLine, OneWayLaw, SomeWayLaw, is_between, is_on, known_ways, steps}
 use Rattle.block_sim.proofs.Stems.{class_has_stem}
 
 -- one gate further there is one gate less to go
@@ -68,6 +72,10 @@ class_has_way m c well class lt =
     let way = some_line_way c stem.0 is.0.line is.2 in
     (way.0, (is.0, is.1, way.1))
 
+-- the first of some blocks is one of them
+pub between_first : (first last : ℕ) → first ≤ last → is_between first last first ≡ true
+between_first first last le = rw (lt-ltb first (first + 1) (omega arith), lt-ltb first (last + 1) (omega (arith, le))) refl
+
 -- ---- one memo more
 enumerate_set : (n : ℕ) (memos : List Memo) (i : ℕ) (memo : Memo) → enumerate_from n (set memos i memo) ≡ set (enumerate_from n memos) i (n + i, memo)
 enumerate_set n [] zero memo = refl
@@ -116,3 +124,26 @@ module _ (way : ℕ → ℕ) (block : ℕ) (memos : List Memo) (class : ℕ) (me
             let same : one (class, before) ≡ way class = ap (λ b. if b then way class else 0) e in
             let all = moved in let own = now in omega (arith, all, same, own)
         go false e = let more = known_more e in omega (arith, more)
+
+-- a span that begins at a block, and below the third one has it alone, has no other blocks than these
+span_within : (tests : ℕ) (span : Span) (block : ℕ) → IsSpan tests span → span.first ≡ block → (block < 2 → span.last ≡ block)
+    → span.last ≤ (span_from block).last
+span_within tests span block is first alone = go (cases_lt block 2)
+  where
+    go : (block < 2) ⊎ (2 ≤ block) → span.last ≤ (span_from block).last
+    go (inl lt) =
+        let own = alone lt in
+        subst (λ b. span.last ≤ (if b then block else block / 2 * 2 + 1)) (sym (lt-ltb block 2 lt)) (omega (arith, own))
+    go (inr le) =
+        let one = is.one_group in
+        subst (λ b. span.last ≤ (if b then block else block / 2 * 2 + 1)) (sym (le-ltb block 2 le)) (omega (arith, one, first))
+
+-- and stirs no more gates than they do
+pub stirred_wider : (c : List Statement) (tests : List Test) (span : Span) (block s : ℕ) (gates : List ℕ) → IsSpan (length tests) span → span.first ≡ block
+    → (block < 2 → span.last ≡ block) → HasStirredByFlip c tests (span_from block) s gates → HasStirredByFlip c tests span s gates
+stirred_wider c tests span block s gates is first alone all gate h =
+    let own = h.3 in
+    let from = own.from in
+    let to = own.to in
+    let last = span_within (length tests) span block is first alone in
+    all gate (h.0, h.1, h.2, record { from = omega (arith, from, first); to = omega (arith, to, last); listed = own.listed }, h.4, h.5, h.6)

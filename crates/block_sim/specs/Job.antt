@@ -1,24 +1,23 @@
 -- What is true of a job, its parts and the fault-free words that it holds.
-use Rattle.std.specs.Prelude.{◌≡◌, ℕ, ◌<◌, ◌≤◌, All, List, length, Some, None, slice_get}
+use Rattle.std.specs.Prelude.{◌≡◌, ℕ, ◌<◌, All, List, length, Some, None, slice_get}
 use Rattle.bench_net.specs.Statement.{Statement}
 use Rattle.bench_net.specs.Scan.{names}
 use Rattle.fault_model.specs.Solution.{Test}
-use Rattle.patterns.specs.Tests.{blocks, max_pieces}
-use Rattle.block_sim.specs.Parts.{Parts, BelongTogether, piece_count}
+use Rattle.block_sim.specs.Parts.{Parts, BelongTogether}
 use Rattle.block_sim.specs.Regions.{HaveStems}
+use Rattle.block_sim.specs.Spans.{groups}
 use Rattle.block_sim.specs.Words.{AreWords}
 
--- the words of the first blocks without a fault, one row of words a block
+-- the words of the first groups without a fault, one row of words a group
 abbrev pub AreFaultFree : List Statement → List Test → List (List ℕ) → Type 0
-AreFaultFree c tests rows = (block : ℕ) (row : List ℕ) → slice_get rows block ≡ Some row
-    → (length row ≡ length (names c)) × AreWords c tests block None row
+AreFaultFree c tests rows = (group : ℕ) (row : List ℕ) → slice_get rows group ≡ Some row
+    → (length row ≡ length (names c)) × AreWords c tests group None row
 
--- The parts belong together, their pieces are within the limit, the rows are the fault-free words
--- of all blocks, and each class has its stem and a next class.
+-- The parts belong together, the rows are the fault-free words of all groups, and each class has its
+-- stem and a next class.
 pub record IsJob (parts : Parts) (rows : List (List ℕ)) (class_stems next : List ℕ) : Type 0 where
   pub together : BelongTogether parts
-  pub few : piece_count parts ≤ max_pieces
-  pub count : length rows ≡ blocks (length parts.tests.tests)
+  pub count : length rows ≡ groups (length parts.tests.tests)
   pub fault_free : AreFaultFree parts.circuit parts.tests.tests rows
   pub stem_count : length class_stems ≡ length parts.classes.representative
   pub stems : HaveStems parts.list.model parts.circuit class_stems

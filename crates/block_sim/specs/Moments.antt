@@ -40,11 +40,11 @@ not_yet_taken gate m = record {
   seen = m.seen;
 }
 
--- A case of a simulation: faults that start at a signal, one a lane, on a block of tests, and the
+-- A case of a simulation: faults that start at a signal, one a lane, on a group of tests, and the
 -- levels.
 pub record Case (c : List Statement) : Type 0 where
   pub tests : List Test
-  pub block : ℕ
+  pub group : ℕ
   pub fault : ℕ → Fault
   pub start : ℕ
   pub elsewhere : (t k : ℕ) → t ≢ start → IsElsewhere (fault k) t
@@ -53,7 +53,7 @@ pub record Case (c : List Statement) : Type 0 where
 
 -- what is true at a moment of a case, where these lanes were asked for
 abbrev pub Spreads : (c : List Statement) → List ℕ → ℕ → Case c → Moment → Type 0
-Spreads c good lanes case m = IsSpreading c case.tests case.block case.fault good lanes
+Spreads c good lanes case m = IsSpreading c case.tests case.group case.fault good lanes
     (level_at c case.level) case.start m.kept m.delta m.at m.level
 
 -- how many of the gates are still ahead at a moment of a case

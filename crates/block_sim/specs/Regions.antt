@@ -17,11 +17,11 @@ use Rattle.fault_model.specs.Solution.{Test, Solves, Detects, value}
 use Rattle.fault_model.specs.Collapse.{readers, representatives}
 use Rattle.fault_model.specs.Known.{only_gate}
 use Rattle.fault_model.specs.Detection.{HasBit, LooksBack, carried}
-use Rattle.patterns.specs.declared.Outcome.{Outcome}
-use Rattle.patterns.specs.Tests.{size_of}
 use Rattle.block_sim.specs.Events.{Reads, IsObserved}
-use Rattle.block_sim.specs.First.{IsOutcome}
-use Rattle.block_sim.specs.Words.{lane, test_of, IsLeastLane}
+use Rattle.block_sim.specs.First.{TellsFirst}
+use Rattle.block_sim.specs.Spans.{IsInSpan, group_of}
+use Rattle.block_sim.specs.Words.{lane, test_of}
+use Rattle.block_sim.specs.declared.span.Span.{Span}
 use Rattle.block_sim.specs.declared.region.Reach.{Reach}
 use Rattle.block_sim.specs.declared.region.Reach.TheVariants.{Observed, Stem}
 
@@ -184,41 +184,42 @@ ObserverLaw c = (m : Model) (f : Fault) (t : Test) → Contains (faults m c) f
 
 -- Of the lanes of a mask a word tells those whose tests detect the signal turned round, each up to
 -- the least that the word names; what it says of lanes above that is true where it says yes.
-pub record TellsFirstFlips (c : List Statement) (tests : List Test) (block mask s word : ℕ) :
+pub record TellsFirstFlips (c : List Statement) (tests : List Test) (group mask s word : ℕ) :
     Type 0 where
-  pub found : (k : ℕ) → k < 64 → lane mask k ≡ true → lane word k ≡ true
-      → DetectsFlip c (test_of tests block k) s
-  pub clear : (k : ℕ) → k < 64 → lane mask k ≡ true
+  pub found : (k : ℕ) → k < 128 → lane mask k ≡ true → lane word k ≡ true
+      → DetectsFlip c (test_of tests group k) s
+  pub clear : (k : ℕ) → k < 128 → lane mask k ≡ true
       → ((j : ℕ) → j ≤ k → lane mask j ≡ true → lane word j ≡ false)
-      → ¬ DetectsFlip c (test_of tests block k) s
+      → ¬ DetectsFlip c (test_of tests group k) s
 
 -- In the lanes of a mask a fault has come to a signal: a test detects the fault exactly where the
 -- word has a 1 and the test detects the signal turned round.
 abbrev pub HasCome : List Statement → List Test → ℕ → Fault → ℕ → ℕ → ℕ → Type 0
-HasCome c tests block f mask s word = (k : ℕ) → k < 64 → lane mask k ≡ true
-    → Detects c (test_of tests block k) f
-    ↔ ((lane word k ≡ true) × DetectsFlip c (test_of tests block k) s)
+HasCome c tests group f mask s word = (k : ℕ) → k < 128 → lane mask k ≡ true
+    → Detects c (test_of tests group k) f
+    ↔ ((lane word k ≡ true) × DetectsFlip c (test_of tests group k) s)
 
--- the lanes are those of a block's tests that look back as the fault asks
-abbrev pub AreLanesFor : List Test → ℕ → List Statement → Fault → ℕ → Type 0
-AreLanesFor tests block c f lanes = (k : ℕ) → k < 64 → Decides (lane lanes k)
-    ((k < size_of (length tests) block)
-    × LooksBack c tests f.model f.line f.stuck (64 * block + k))
+-- the lanes are those of a span's tests that look back as the fault asks
+abbrev pub AreLanesFor : List Test → Span → List Statement → Fault → ℕ → Type 0
+AreLanesFor tests span c f lanes = (k : ℕ) → k < 128 → Decides (lane lanes k)
+    (IsInSpan (length tests) span (128 * group_of span + k)
+    × LooksBack c tests f.model f.line f.stuck (128 * group_of span + k))
 
 -- on words: of the lanes in which a fault has come to a signal those in which a word tells that
--- this is detected turned round, whatever the word says in other lanes; the least is the outcome
+-- this is detected turned round, whatever the word says in other lanes; the least is the first test
+-- of the span that detects the fault
 abbrev pub LanesLaw : List Statement → Type 0
-LanesLaw c = (tests : List Test) (block : ℕ) (f : Fault) (s lanes arrived seen : ℕ) (o : Outcome)
-    → AreLanesFor tests block c f lanes → HasCome c tests block f lanes s arrived
-    → TellsFirstFlips c tests block (bit_and lanes arrived) s seen
-    → IsLeastLane (bit_and (bit_and lanes arrived) seen) o → IsOutcome c tests f block o
+LanesLaw c = (tests : List Test) (span : Span) (f : Fault) (s lanes arrived seen : ℕ)
+    → AreLanesFor tests span c f lanes → HasCome c tests (group_of span) f lanes s arrived
+    → TellsFirstFlips c tests (group_of span) (bit_and lanes arrived) s seen
+    → TellsFirst c tests span f (bit_and (bit_and lanes arrived) seen)
 
--- How far a fault was followed on a block: to an observer, in the lanes in which it is detected
+-- How far a fault was followed on a group: to an observer, in the lanes in which it is detected
 -- there; or to a signal, in the lanes in which it has come to that.
 abbrev pub IsReached : List Statement → List Test → ℕ → Fault → ℕ → Reach → Type 0
-IsReached c tests block f mask (Observed word) = (k : ℕ) → k < 64
-    → Decides (lane word k) ((lane mask k ≡ true) × Detects c (test_of tests block k) f)
-IsReached c tests block f mask (Stem at) = HasCome c tests block f mask at.signal at.lanes
+IsReached c tests group f mask (Observed word) = (k : ℕ) → k < 128
+    → Decides (lane word k) ((lane mask k ≡ true) × Detects c (test_of tests group k) f)
+IsReached c tests group f mask (Stem at) = HasCome c tests group f mask at.signal at.lanes
 
 -- the faults that turn a signal round, each lane from the bit that the signal has there
 abbrev pub flips : List ℕ → ℕ → ℕ → Fault

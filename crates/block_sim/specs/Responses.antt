@@ -14,6 +14,6 @@ pub record AreResponses (c : List Statement) (tests : List Test) (rows : TestLis
   pub each : (t : ℕ) (test : Test) (v : Name → Bool) → slice_get tests t ≡ Some test
       → Solves c test None v → slice_get rows.tests t ≡ Some (map (shows None v) (observers c))
 
--- the bits of signals, given by their numbers, in one lane of a block's words
+-- the bits of signals, given by their numbers, in one lane of a group's words
 abbrev pub lane_row : List ℕ → List ℕ → ℕ → List Bool
 lane_row observed words k = map (λ s. lane (slice_index_or words s 0) k) observed

@@ -12,21 +12,36 @@ use Rattle.block_sim.specs.declared.simulation.Memo.{Memo}
 use Rattle.block_sim.specs.declared.simulation.Memo.TheVariants.{Nothing, Pending}
 use Rattle.block_sim.specs.declared.simulation.Memo.TheVariants as memo
 use Rattle.block_sim.specs.declared.spread.Followed.{Followed}
-use Rattle.block_sim.specs.First.{IsTrueOutcome}
+use Rattle.block_sim.specs.declared.span.Span.{Span}
+use Rattle.block_sim.specs.First.{IsTrueOutcome, TellsFirst}
 use Rattle.block_sim.specs.Parts.{Parts}
 use Rattle.block_sim.specs.Regions.{AreLanesFor, HasCome}
+use Rattle.block_sim.specs.Spans.{group_of}
 
 -- the true outcome of a class of the job on a block
 abbrev pub IsOutcomeIn : Parts → ℕ → ℕ → Outcome → Type 0
 IsOutcomeIn job class block outcome =
     IsTrueOutcome job.list.model job.circuit job.tests.tests class block outcome
 
+-- no test of the blocks from a first to a last detects the class
+abbrev pub AreClear : Parts → ℕ → ℕ → ℕ → Type 0
+AreClear job class first last = (block : ℕ) → first ≤ block → block ≤ last
+    → IsOutcomeIn job class block outcome.Clear
+
+-- the least lane of a word that is 1 has the first test of the span that detects the class
+abbrev pub TellsFirstIn : Parts → Span → ℕ → ℕ → Type 0
+TellsFirstIn job span class word =
+    (r : Fault) × (slice_get (representatives job.list.model job.circuit) class ≡ Some r)
+    × TellsFirst job.circuit job.tests.tests span r word
+
 -- what is known of a class is true; a class waits for its outcome within a call alone
 abbrev pub IsTrueMemo : Parts → ℕ → Memo → Type 0
 IsTrueMemo job class Nothing = Unit {0}
-IsTrueMemo job class (Pending block) = ⊥
-IsTrueMemo job class (memo.Clear block) = IsOutcomeIn job class block outcome.Clear
-IsTrueMemo job class (memo.Hit block test) = IsOutcomeIn job class block (outcome.Hit test)
+IsTrueMemo job class (Pending span) = ⊥
+IsTrueMemo job class (memo.Clear span) = AreClear job class span.first span.last
+IsTrueMemo job class (memo.Hit first block test) =
+    ((b : ℕ) → first ≤ b → b < block → IsOutcomeIn job class b outcome.Clear)
+    × IsOutcomeIn job class block (outcome.Hit test)
 
 -- there is a memo for each class, and each is true
 pub record AreTrueMemos (job : Parts) (memos : List Memo) : Type 0 where
@@ -43,27 +58,27 @@ pub record AreTrueBut (job : Parts) (followed : List Followed) (memos : List Mem
   pub each : (class : ℕ)
       → IsTrueMemo job class (slice_index_or memos class Nothing) ⊎ IsFollowed followed class
 
--- In these lanes of a block a class came to a signal: they are those of the block's tests that look
+-- In these lanes of a span a class came to a signal: they are those of the span's tests that look
 -- back as its representative asks and in which that came there.
-abbrev pub HasArrived : Parts → ℕ → ℕ → ℕ → ℕ → Type 0
-HasArrived job block signal class word =
+abbrev pub HasArrived : Parts → Span → ℕ → ℕ → ℕ → Type 0
+HasArrived job span signal class word =
     (r : Fault) × (lanes arrived : ℕ)
     × (slice_get (representatives job.list.model job.circuit) class ≡ Some r)
-    × AreLanesFor job.tests.tests block job.circuit r lanes
-    × HasCome job.circuit job.tests.tests block r lanes signal arrived
+    × AreLanesFor job.tests.tests span job.circuit r lanes
+    × HasCome job.circuit job.tests.tests (group_of span) r lanes signal arrived
     × (word ≡ bit_and lanes arrived)
 
--- all that are followed on a block are classes of the job that came to one signal
-abbrev pub AreFollowed : Parts → ℕ → ℕ → List Followed → Type 0
-AreFollowed job block signal followed = (one : Followed) → Contains followed one
+-- all that are followed on a span are classes of the job that came to one signal
+abbrev pub AreFollowed : Parts → Span → ℕ → List Followed → Type 0
+AreFollowed job span signal followed = (one : Followed) → Contains followed one
     → (one.class < length job.classes.representative)
-    × HasArrived job block signal one.class one.lanes
+    × HasArrived job span signal one.class one.lanes
 
--- a class was followed by itself: its outcome is known, or it came to a signal
-abbrev pub IsApproach : Parts → ℕ → ℕ → Approach → Type 0
-IsApproach job class block (Known outcome) = IsOutcomeIn job class block outcome
-IsApproach job class block (Stem at) =
-    (at.signal < length (names job.circuit)) × HasArrived job block at.signal class at.lanes
+-- a class was followed by itself: it is known which test is the first, or it came to a signal
+abbrev pub IsApproach : Parts → ℕ → Span → Approach → Type 0
+IsApproach job class span (Known word) = TellsFirstIn job span class word
+IsApproach job class span (Stem at) =
+    (at.signal < length (names job.circuit)) × HasArrived job span at.signal class at.lanes
 
 -- what contracts see of a simulation: for how many signals it has room, the evaluations that it has
 -- counted, what it knows of each class, and how many classes it can follow at once

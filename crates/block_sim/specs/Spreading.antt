@@ -17,9 +17,9 @@ use Rattle.block_sim.specs.Events.{bits_of, HasEquation, Reads, IsElsewhere, IsL
 -- of the signals that count the equation of each that does not wait holds in each lane of the mask
 abbrev pub IsBalanced : List Statement → (ℕ → Type 0) → List Test → ℕ → (ℕ → Fault) → List ℕ → ℕ
     → List ℕ → List ℕ → Type 0
-IsBalanced c counts tests block f good mask delta at = (s k : ℕ) → counts s
-    → slice_index_or at s 0 ≡ 0 → k < 64 → lane mask k ≡ true
-    → HasEquation c (test_of tests block k) (Some (f k)) (bits_of c good delta k) s
+IsBalanced c counts tests group f good mask delta at = (s k : ℕ) → counts s
+    → slice_index_or at s 0 ≡ 0 → k < 128 → lane mask k ≡ true
+    → HasEquation c (test_of tests group k) (Some (f k)) (bits_of c good delta k) s
 
 -- What counts in a simulation: live signals, and those up to the level of the start. The others
 -- keep the words that they have without a fault.
@@ -40,18 +40,18 @@ HasTouched c delta gates = (g s : ℕ) → Reads c g s → slice_index_or delta 
 -- a signal has in a lane the bit that every solution with the lane's fault gives it
 abbrev pub IsRightIn : List Statement → List Test → ℕ → (ℕ → Fault) → List ℕ → List ℕ → ℕ → ℕ
     → Type 0
-IsRightIn c tests block f good delta s k = (n : Name) (v : Name → Bool) → Contains (names c) n
-    → signal c n ≡ s → Solves c (test_of tests block k) (Some (f k)) v
+IsRightIn c tests group f good delta s k = (n : Name) (v : Name → Bool) → Contains (names c) n
+    → signal c n ≡ s → Solves c (test_of tests group k) (Some (f k)) v
     → bits_of c good delta k n ≡ v n
 
 -- Signals of the levels below are as they will be; live gates of this level and above wait where a
 -- signal that they read differs. The mask has the lanes, of those that are asked for, that are
 -- still followed.
-pub record IsSpreading (c : List Statement) (tests : List Test) (block : ℕ) (f : ℕ → Fault)
+pub record IsSpreading (c : List Statement) (tests : List Test) (group : ℕ) (f : ℕ → Fault)
     (good : List ℕ) (lanes : ℕ) (lv : ℕ → ℕ) (start mask : ℕ) (delta at : List ℕ) (level : ℕ) :
     Type 0 where
-  pub balanced : IsBalanced c (Counts c lv start) tests block f good mask delta at
-  pub narrow : (k : ℕ) → k < 64 → lane mask k ≡ true → lane lanes k ≡ true
+  pub balanced : IsBalanced c (Counts c lv start) tests group f good mask delta at
+  pub narrow : (k : ℕ) → k < 128 → lane mask k ≡ true → lane lanes k ≡ true
   pub at_level : (g : ℕ) → slice_index_or at g 0 ≢ 0 → slice_index_or at g 0 ≡ lv g + 1
   pub not_below : (g : ℕ) → slice_index_or at g 0 ≢ 0 → level ≤ lv g
   pub live : (g : ℕ) → slice_index_or at g 0 ≢ 0 → IsLive c g
@@ -60,17 +60,17 @@ pub record IsSpreading (c : List Statement) (tests : List Test) (block : ℕ) (f
   pub waits_clear : (g : ℕ) → slice_index_or at g 0 ≢ 0 → slice_index_or delta g 0 ≡ 0
   pub above_clear : (g : ℕ) → level < lv g → slice_index_or delta g 0 ≡ 0
   pub after_start : (s : ℕ) → slice_index_or delta s 0 ≢ 0 → lv start ≤ lv s
-  pub inside : (s k : ℕ) → k < 64 → lane (slice_index_or delta s 0) k ≡ true → lane lanes k ≡ true
+  pub inside : (s k : ℕ) → k < 128 → lane (slice_index_or delta s 0) k ≡ true → lane lanes k ≡ true
   pub some : (s : ℕ) → slice_index_or delta s 0 ≢ 0
-      → (k : ℕ) × (k < 64) × (lane (slice_index_or delta s 0) k ≡ true)
-  pub right : (s k : ℕ) → k < 64 → lane (slice_index_or delta s 0) k ≡ true
-      → IsRightIn c tests block f good delta s k
+      → (k : ℕ) × (k < 128) × (lane (slice_index_or delta s 0) k ≡ true)
+  pub right : (s k : ℕ) → k < 128 → lane (slice_index_or delta s 0) k ≡ true
+      → IsRightIn c tests group f good delta s k
 
 -- a lane is seen only where an observed signal differs, and each such lane of the mask is seen
 pub record AreSeen (c : List Statement) (delta : List ℕ) (mask seen : ℕ) : Type 0 where
-  pub found : (k : ℕ) → k < 64 → lane seen k ≡ true
+  pub found : (k : ℕ) → k < 128 → lane seen k ≡ true
       → (s : ℕ) × IsObserved c s × (lane (slice_index_or delta s 0) k ≡ true)
-  pub shown : (s k : ℕ) → k < 64 → lane mask k ≡ true → IsObserved c s
+  pub shown : (s k : ℕ) → k < 128 → lane mask k ≡ true → IsObserved c s
       → lane (slice_index_or delta s 0) k ≡ true → lane seen k ≡ true
 
 -- each that is followed in a lane has a lane of its own that was seen, this one or one below
@@ -78,7 +78,7 @@ abbrev pub HaveHits : List Followed → ℕ → ℕ → Type 0
 HaveHits followed seen k = (one : Followed) → Contains followed one → lane one.lanes k ≡ true
     → (j : ℕ) × (j ≤ k) × (lane one.lanes j ≡ true) × (lane seen j ≡ true)
 
--- Where some lanes were seen, a lane is settled: nothing more is asked of it. Where the whole block
+-- Where some lanes were seen, a lane is settled: nothing more is asked of it. Where the whole group
 -- is asked for, none is.
 abbrev pub IsSettled : Extent → ℕ → ℕ → Type 0
 IsSettled WholeBlock seen k = ⊥
@@ -86,18 +86,18 @@ IsSettled (FirstHits followed) seen k = HaveHits followed.now seen k
 
 -- the lanes that were asked for and are not followed any more are settled
 abbrev pub LeavesSettled : Extent → ℕ → ℕ → ℕ → Type 0
-LeavesSettled extent lanes kept seen = (k : ℕ) → k < 64 → lane lanes k ≡ true
+LeavesSettled extent lanes kept seen = (k : ℕ) → k < 128 → lane lanes k ≡ true
     → lane kept k ≡ false → IsSettled extent seen k
 
 -- The first change of faults on stem or pin: in each lane that is asked for the start has its bit
 -- under the lane's fault, and every other equation is without it.
-pub record IsFirstChange (c : List Statement) (tests : List Test) (block : ℕ) (f : ℕ → Fault)
+pub record IsFirstChange (c : List Statement) (tests : List Test) (group : ℕ) (f : ℕ → Fault)
     (good : List ℕ) (lanes : ℕ) (delta : List ℕ) (start diff : ℕ) : Type 0 where
-  pub words : AreWords c tests block None good
+  pub words : AreWords c tests group None good
   pub elsewhere : (t k : ℕ) → t ≢ start → IsElsewhere (f k) t
   pub unobserved : (o : Sink × Name) (k : ℕ) → Contains (observers c) o → (f k).line ≢ branch o.0
-  pub first : (k : ℕ) → k < 64 → lane lanes k ≡ true
-      → HasEquation c (test_of tests block k) (Some (f k))
+  pub first : (k : ℕ) → k < 128 → lane lanes k ≡ true
+      → HasEquation c (test_of tests group k) (Some (f k))
       (bits_of c good (slice_set delta start diff) k) start
 
 -- some observer shows another bit than without the fault
@@ -111,16 +111,16 @@ IsAlike c t f good k = (v : Name → Bool) × Solves c t (Some f) v × (IsApart 
 
 -- In each lane that is seen every solution with the lane's fault is apart, and in each that was
 -- asked for, is not seen and is not settled some is not.
-pub record AreShown (c : List Statement) (tests : List Test) (block : ℕ) (f : ℕ → Fault)
+pub record AreShown (c : List Statement) (tests : List Test) (group : ℕ) (f : ℕ → Fault)
     (good : List ℕ) (lanes : ℕ) (settled : ℕ → Type 0) (seen : ℕ) : Type 0 where
-  pub found : (k : ℕ) → k < 64 → lane seen k ≡ true
+  pub found : (k : ℕ) → k < 128 → lane seen k ≡ true
       → (lane lanes k ≡ true)
-      × ((v : Name → Bool) → Solves c (test_of tests block k) (Some (f k)) v
+      × ((v : Name → Bool) → Solves c (test_of tests group k) (Some (f k)) v
       → IsApart c (f k) good k v)
-  pub clear : (k : ℕ) → k < 64 → lane lanes k ≡ true → lane seen k ≡ false
-      → (settled k → ⊥) → IsAlike c (test_of tests block k) (f k) good k
+  pub clear : (k : ℕ) → k < 128 → lane lanes k ≡ true → lane seen k ≡ false
+      → (settled k → ⊥) → IsAlike c (test_of tests group k) (f k) good k
 
 -- where a lane is settled, it is seen or lies above one that is
 abbrev pub EndsAtHits : Extent → Type 0
-EndsAtHits extent = (seen k : ℕ) → k < 64 → IsSettled extent seen k
+EndsAtHits extent = (seen k : ℕ) → k < 128 → IsSettled extent seen k
     → (j : ℕ) × (j ≤ k) × (lane seen j ≡ true)

@@ -29,25 +29,29 @@ pub record IsStirredBy (c : List Statement) (t : Test) (f : Fault) (gate : ℕ) 
   pub differs : sees None fault_free (line.Pin gate pin) read
       ≢ sees (Some f) faulty (line.Pin gate pin) read
 
--- each of the lanes has a test of the block
-abbrev pub AreInBlock : List Test → ℕ → ℕ → Type 0
-AreInBlock tests block lanes = (k : ℕ) → k < 64 → lane lanes k ≡ true
-    → k < size_of (length tests) block
+-- each of the lanes has a test of the group
+abbrev pub AreInGroup : List Test → ℕ → ℕ → Type 0
+AreInGroup tests group lanes = (k : ℕ) → k < 128 → lane lanes k ≡ true
+    → 128 * group + k < length tests
 
--- some test of the block stirs the gate, with the fault of its lane
-abbrev pub IsStirredIn : List Statement → List Test → ℕ → (ℕ → Fault) → ℕ → Type 0
-IsStirredIn c tests block f gate =
-    (k : ℕ) × (t : Test) × (k < size_of (length tests) block)
-    × (slice_get tests (64 * block + k) ≡ Some t) × IsStirredBy c t (f k) gate
+-- in one of the lanes the test stirs the gate, with the fault of the lane
+abbrev pub IsStirredIn : List Statement → List Test → ℕ → ℕ → (ℕ → Fault) → ℕ → Type 0
+IsStirredIn c tests group lanes f gate =
+    (k : ℕ) × (t : Test) × (k < 128) × (lane lanes k ≡ true)
+    × (slice_get tests (128 * group + k) ≡ Some t) × IsStirredBy c t (f k) gate
 
--- the list names each gate that the faults stir on the block, one a lane
-abbrev pub HasStirredIn : List Statement → List Test → ℕ → (ℕ → Fault) → List ℕ → Type 0
-HasStirredIn c tests block f gates = (gate : ℕ) → IsStirredIn c tests block f gate
+-- the list names each gate that the faults stir in the lanes, one a lane
+abbrev pub HasStirredIn : List Statement → List Test → ℕ → ℕ → (ℕ → Fault) → List ℕ → Type 0
+HasStirredIn c tests group lanes f gates = (gate : ℕ) → IsStirredIn c tests group lanes f gate
     → Contains gates gate
 
--- the same of one fault in all lanes
+-- some test of the block stirs the gate
 abbrev pub IsStirred : List Statement → List Test → ℕ → Fault → ℕ → Type 0
-IsStirred c tests block f gate = IsStirredIn c tests block (λ _. f) gate
+IsStirred c tests block f gate =
+    (k : ℕ) × (t : Test) × (k < size_of (length tests) block)
+    × (slice_get tests (64 * block + k) ≡ Some t) × IsStirredBy c t f gate
 
+-- the list names each gate that the fault stirs on the block
 abbrev pub HasStirred : List Statement → List Test → ℕ → Fault → List ℕ → Type 0
-HasStirred c tests block f gates = HasStirredIn c tests block (λ _. f) gates
+HasStirred c tests block f gates = (gate : ℕ) → IsStirred c tests block f gate
+    → Contains gates gate

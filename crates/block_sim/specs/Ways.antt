@@ -1,6 +1,6 @@
 -- How many gates a call of a simulation evaluates at most: those on the way of each class that is
 -- followed to the stem of its region, and those that the stem stirs where it is turned round.
-use Rattle.std.specs.Prelude.{◌≡◌, ◌==◌, ℕ, ◌+◌, ◌*◌, ◌<◌, Bool, false, List, Contains}
+use Rattle.std.specs.Prelude.{◌≡◌, ℕ, ◌+◌, ◌<◌, ◌&&◌, nat_lt, Bool, false, List, Contains}
 use Rattle.std.specs.Prelude.{Some, length, slice_get, if◌then◌else◌}
 use Rattle.std.specs.List.{enumerate_from, sum_by}
 use Rattle.bench_net.specs.Statement.{Statement}
@@ -11,11 +11,12 @@ use Rattle.fault_model.specs.Fault.{Fault}
 use Rattle.fault_model.specs.Solution.{Test}
 use Rattle.fault_model.specs.Collapse.{representatives}
 use Rattle.fault_model.specs.Detection.{HasBit}
-use Rattle.patterns.specs.Tests.{size_of}
 use Rattle.block_sim.specs.declared.simulation.Memo.{Memo}
 use Rattle.block_sim.specs.declared.simulation.Memo.TheVariants.{Nothing, Pending, Clear, Hit}
 use Rattle.block_sim.specs.Parts.{Parts}
 use Rattle.block_sim.specs.Regions.{Chain, IsStemOf, flip, here, onward}
+use Rattle.block_sim.specs.declared.span.Span.{Span}
+use Rattle.block_sim.specs.Spans.{IsInSpan}
 use Rattle.block_sim.specs.Stirred.{IsStirredBy}
 
 -- the number of steps of a chain
@@ -53,26 +54,30 @@ abbrev pub AreWays : Parts → (ℕ → ℕ) → Type 0
 AreWays job way = (class : ℕ) → class < length job.classes.representative
     → IsWayOfClass job.list.model job.circuit class (way class)
 
+-- the block is one of those from a first to a last
+abbrev pub is_between : ℕ → ℕ → ℕ → Bool
+is_between first last block = nat_lt first (block + 1) && nat_lt block (last + 1)
+
 -- what is known of a class is known on this block
 abbrev pub is_on : ℕ → Memo → Bool
 is_on block Nothing = false
-is_on block (Pending at) = at == block
-is_on block (Clear at) = at == block
-is_on block (Hit at test) = at == block
+is_on block (Pending span) = is_between span.first span.last block
+is_on block (Clear span) = is_between span.first span.last block
+is_on block (Hit first at test) = is_between first at block
 
 -- how many gates it takes for all classes together of which something is known on a block
 abbrev pub known_ways : (ℕ → ℕ) → ℕ → List Memo → ℕ
 known_ways way block memos =
     sum_by (λ at. if is_on block at.1 then way at.0 else 0) (enumerate_from 0 memos)
 
--- some test of the block stirs the gate, where the signal is turned round
-abbrev pub IsStirredByFlip : List Statement → List Test → ℕ → ℕ → ℕ → Type 0
-IsStirredByFlip c tests block s gate =
-    (k : ℕ) × (t : Test) × (bit : Bool) × (k < size_of (length tests) block)
-    × (slice_get tests (64 * block + k) ≡ Some t) × HasBit c t (line.Stem s) bit
+-- some test of the span stirs the gate, where the signal is turned round
+abbrev pub IsStirredByFlip : List Statement → List Test → Span → ℕ → ℕ → Type 0
+IsStirredByFlip c tests span s gate =
+    (number : ℕ) × (t : Test) × (bit : Bool) × IsInSpan (length tests) span number
+    × (slice_get tests number ≡ Some t) × HasBit c t (line.Stem s) bit
     × IsStirredBy c t (flip s bit) gate
 
--- the list names each gate that a signal stirs on the block where it is turned round
-abbrev pub HasStirredByFlip : List Statement → List Test → ℕ → ℕ → List ℕ → Type 0
-HasStirredByFlip c tests block s gates = (gate : ℕ) → IsStirredByFlip c tests block s gate
+-- the list names each gate that a signal stirs on the span where it is turned round
+abbrev pub HasStirredByFlip : List Statement → List Test → Span → ℕ → List ℕ → Type 0
+HasStirredByFlip c tests span s gates = (gate : ℕ) → IsStirredByFlip c tests span s gate
     → Contains gates gate

@@ -1,4 +1,4 @@
--- Words of 64 lanes: a block's bits side by side, one word a signal.
+-- Words of 128 lanes: the bits of a group, two blocks side by side, one word a signal.
 use Rattle.std.specs.Prelude.{◌≡◌, ℕ, ◌+◌, ◌*◌, ◌<◌, ◌==◌, Bool, true, false, List, [], length, map}
 use Rattle.std.specs.Prelude.{Contains, Option, Some, None, slice_get, slice_index_or, bit_xor}
 use Rattle.std.specs.Int.{bit_at}
@@ -12,7 +12,7 @@ use Rattle.fault_model.specs.Fault.{Fault}
 use Rattle.fault_model.specs.Solution.{Test, Solves, under, value, pins_see}
 use Rattle.patterns.specs.declared.Outcome.{Outcome}
 use Rattle.patterns.specs.declared.Outcome.TheVariants.{Clear, Hit}
-use Rattle.patterns.specs.Tests.{bit}
+use Rattle.patterns.specs.Tests.{as_number, bit}
 
 -- the bit of a word's lane
 abbrev pub lane : ℕ → ℕ → Bool
@@ -22,21 +22,22 @@ lane word k = bit_at word k == 1
 abbrev pub lane_bits : List Statement → List ℕ → ℕ → Name → Bool
 lane_bits c words k n = lane (slice_index_or words (signal c n) 0) k
 
--- the test of a lane: test 64 b + k, and one of bits 0 past the last
+-- the test of a lane: test 128 g + k, and one of bits 0 past the last
 abbrev pub test_of : List Test → ℕ → ℕ → Test
-test_of tests block k = slice_index_or tests (64 * block + k) []
+test_of tests group k = slice_index_or tests (128 * group + k) []
 
--- The words are those of a block under a fault, or under none: in each lane they solve the circuit
+-- The words are those of a group under a fault, or under none: in each lane they solve the circuit
 -- under the lane's test.
 abbrev pub AreWords : List Statement → List Test → ℕ → Option Fault → List ℕ → Type 0
-AreWords c tests block f words = (k : ℕ) → k < 64
-    → Solves c (test_of tests block k) f (lane_bits c words k)
+AreWords c tests group f words = (k : ℕ) → k < 128
+    → Solves c (test_of tests group k) f (lane_bits c words k)
 
--- The word of one signal without a fault, by its number: in each lane the bit that the solution
--- under the lane's test gives it.
+-- The word of one signal on a block without a fault, by its number: bit k is the one that the
+-- solution under test 64 b + k gives it.
 abbrev pub IsFaultFreeWord : List Statement → List Test → ℕ → ℕ → ℕ → Type 0
 IsFaultFreeWord c tests block s word = (k : ℕ) (n : Name) (v : Name → Bool) → k < 64
-    → name_of c s ≡ Some n → Solves c (test_of tests block k) None v → lane word k ≡ v n
+    → name_of c s ≡ Some n → Solves c (slice_index_or tests (64 * block + k) []) None v
+    → lane word k ≡ v n
 
 -- a circuit, and a word for each of its signals
 pub record HasWords (c : List Statement) (words : List ℕ) : Type 0 where
@@ -46,12 +47,12 @@ pub record HasWords (c : List Statement) (words : List ℕ) : Type 0 where
 -- The equation of one signal on words: in each lane a source has the bit of the lane's test and a
 -- gate's signal the bit that its kind gives for what its pins see in that lane, but for a fault on
 -- its stem.
-pub record IsSignalWord (c : List Statement) (tests : List Test) (block : ℕ) (f : Option Fault)
+pub record IsSignalWord (c : List Statement) (tests : List Test) (group : ℕ) (f : Option Fault)
     (words : List ℕ) (s word : ℕ) : Type 0 where
-  pub source : (i : ℕ) (n : Name) (k : ℕ) → k < 64 → name_of c s ≡ Some n
+  pub source : (i : ℕ) (n : Name) (k : ℕ) → k < 128 → name_of c s ≡ Some n
       → slice_get (sources c) i ≡ Some n
-      → lane word k ≡ under f (line.Stem s) (bit tests (64 * block + k) i)
-  pub gate : (n : Name) (kind : Kind) (args : List Name) (k : ℕ) → k < 64 → signal c n ≡ s
+      → lane word k ≡ under f (line.Stem s) (bit tests (128 * group + k) i)
+  pub gate : (n : Name) (kind : Kind) (args : List Name) (k : ℕ) → k < 128 → signal c n ≡ s
       → Contains c (Gate n kind args)
       → lane word k ≡ under f (line.Stem s) (value kind (pins_see f (lane_bits c words k) s args))
 
@@ -65,8 +66,13 @@ pin_bits f gate pins words delta k =
     map (λ at. under f (line.Pin gate at.0) (lane (overlaid words delta at.1) k))
     (enumerate_from 0 pins)
 
--- the outcome names the least lane of a word that is 1
+-- the outcome names the least lane of a block's word that is 1
 abbrev pub IsLeastLane : ℕ → Outcome → Type 0
 IsLeastLane word (Hit k) = (k < 64) × (lane word k ≡ true)
     × ((lower : ℕ) → lower < k → lane word lower ≡ false)
 IsLeastLane word Clear = (k : ℕ) → k < 64 → lane word k ≡ false
+
+-- the word of a group at a source: bit k is that of test 128 g + k, and 0 past the last test
+abbrev pub IsGroupWord : List Test → ℕ → ℕ → ℕ → Type 0
+IsGroupWord tests group source word = (k : ℕ) → k < 128
+    → bit_at word k ≡ as_number (bit tests (128 * group + k) source)

@@ -1,4 +1,4 @@
-//! The effect of one fault on a block of tests: where it turns its line, the first signal that it
+//! The effect of one fault on a group of tests: where it turns its line, the first signal that it
 //! changes, and the lanes in which an observer shows it.
 
 ghost use Rattle.std.specs.Prelude.{◌≡◌, ℕ, ◌+◌, ◌<◌, ◌≤◌, Contains, List, None, Some, true};
@@ -9,7 +9,7 @@ ghost use Rattle.fault_model.specs.Fault.{faults};
 ghost use Rattle.fault_model.specs.Solution.{Test, value};
 ghost use Rattle.block_sim.specs.Changes.{HasRoomFor, IsAsLarge, IsClear};
 ghost use Rattle.block_sim.specs.Spreading.{AreShown, IsSettled};
-ghost use Rattle.block_sim.specs.Stirred.{AreInBlock, HasStirred};
+ghost use Rattle.block_sim.specs.Stirred.{AreInGroup, HasStirredIn};
 ghost use Rattle.block_sim.specs.Stuck.{stuck_fault};
 ghost use Rattle.block_sim.specs.Words.{lane, pin_bits, AreWords, HasWords};
 
@@ -23,21 +23,22 @@ use fault_model::Line;
 /// Of the lanes that are asked for those in which some observer shows another bit with the fault
 /// than without it; where first hits are asked for, some of them with those. No gate is
 /// evaluated where the fault turns its line in none of the lanes.
-pub fn effect(view: BlockView<'_>, fault: Stuck, extent: Extent<'_>, changes: &mut Changes) -> u64
+pub fn effect(view: BlockView<'_>, fault: Stuck, extent: Extent<'_>, changes: &mut Changes) -> u128
     requires view { HasWords view.circuit.now view.good.now }
-    requires words { (tests : List Test) × (block : ℕ)
-        × AreWords view.circuit.now tests block None view.good.now }
+    requires words { (tests : List Test) × (group : ℕ)
+        × AreWords view.circuit.now tests group None view.good.now }
     requires listed { Contains (faults fault.model view.circuit.now) (stuck_fault fault) }
     requires room { HasRoomFor view.circuit.now changes.old }
     requires clear { IsClear changes.old }
-    ensures shown { (tests : List Test) (block : ℕ)
-        → AreWords view.entry.circuit.now tests block None view.entry.good.now
-        → AreShown view.entry.circuit.now tests block (λ _. stuck_fault fault) view.entry.good.now
+    ensures shown { (tests : List Test) (group : ℕ)
+        → AreWords view.entry.circuit.now tests group None view.entry.good.now
+        → AreShown view.entry.circuit.now tests group (λ _. stuck_fault fault) view.entry.good.now
         view.entry.lanes (IsSettled extent.entry result) result }
-    ensures counted { (tests : List Test) (block : ℕ) (gates : List ℕ)
-        → AreWords view.entry.circuit.now tests block None view.entry.good.now
-        → AreInBlock tests block view.entry.lanes
-        → HasStirred view.entry.circuit.now tests block (stuck_fault fault) gates
+    ensures counted { (tests : List Test) (group : ℕ) (gates : List ℕ)
+        → AreWords view.entry.circuit.now tests group None view.entry.good.now
+        → AreInGroup tests group view.entry.lanes
+        → HasStirredIn view.entry.circuit.now tests group view.entry.lanes
+        (λ _. stuck_fault fault) gates
         → changes.new.evaluations ≤ changes.old.evaluations + length gates }
     ensures grown { changes.old.evaluations ≤ changes.new.evaluations }
     ensures room { IsAsLarge changes.old changes.new }
@@ -60,14 +61,14 @@ pub fn effect(view: BlockView<'_>, fault: Stuck, extent: Extent<'_>, changes: &m
 
 /// The lanes, of those that are asked for, in which a fault on a pin of a gate changes the gate's
 /// word.
-pub fn gate_change(view: BlockView<'_>, fault: Stuck, gate: u32, changes: &mut Changes) -> u64
+pub fn gate_change(view: BlockView<'_>, fault: Stuck, gate: u32, changes: &mut Changes) -> u128
     requires view { HasWords view.circuit.now view.good.now }
     requires room { HasRoomFor view.circuit.now changes.old }
     requires gate { gate < length (names view.circuit.now) }
     requires driven { (line : Kind × List ℕ) × (gate_of view.circuit.now gate ≡ Some line) }
-    ensures inside { (k : ℕ) → k < 64 → lane result k ≡ true → lane view.entry.lanes k ≡ true }
+    ensures inside { (k : ℕ) → k < 128 → lane result k ≡ true → lane view.entry.lanes k ≡ true }
     ensures changed { (kind : Kind) (pins : List ℕ) (k : ℕ)
-        → gate_of view.entry.circuit.now gate ≡ Some (kind, pins) → k < 64
+        → gate_of view.entry.circuit.now gate ≡ Some (kind, pins) → k < 128
         → lane view.entry.lanes k ≡ true
         → lane (bit_xor (slice_index_or view.entry.good.now gate 0) result) k
         ≡ value kind (pin_bits (Some (stuck_fault fault)) gate pins view.entry.good.now

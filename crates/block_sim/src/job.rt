@@ -10,9 +10,11 @@ ghost use Rattle.patterns.specs.Tests.{IsTestList, blocks, max_pieces};
 ghost use Rattle.block_sim.specs.Job.{AreFaultFree};
 ghost use Rattle.block_sim.specs.Parts.{BelongTogether, piece_count, with_tests};
 ghost use Rattle.block_sim.specs.Regions.{IsStemOfClass};
+ghost use Rattle.block_sim.specs.Spans.{groups};
 ghost use Rattle.block_sim.specs.Stuck.{stuck_fault};
 ghost use Rattle.block_sim.specs.Words.{AreWords, IsFaultFreeWord};
 
+use crate::block_lanes::block_word;
 use crate::flat::FlatCircuit;
 use crate::region_classes::{class_stems, next_with_stem};
 use crate::words::{Stuck, evaluate};
@@ -53,7 +55,7 @@ pub struct Job {
     faults: Faults,
     classes: Classes,
     tests: Tests,
-    rows: Vec<Vec<u64>>,
+    rows: Vec<Vec<u128>>,
     class_stems: Vec<u32>,
     next_in_region: Vec<u32>,
 }
@@ -120,6 +122,31 @@ impl Job {
         if has_too_many_pieces(&classes, &tests) {
             return Err(JobFault::TooManyPieces);
         }
+        Ok(Job::of_any_size(alloc, circuit, faults, classes, tests)?)
+    }
+
+    /// A job as [`Job::new`] makes it, whatever the number of its pieces: for runs of some of its
+    /// classes at a time. It is refused for want of memory alone.
+    pub fn of_any_size(
+        alloc: Global,
+        circuit: Circuit,
+        faults: Faults,
+        classes: Classes,
+        tests: Tests,
+    ) -> Result<Job, AllocError>
+        requires { BelongTogether (record {
+          circuit = circuit;
+          list = faults;
+          classes = classes;
+          tests = tests;
+        }) }
+        ensures { IfOk result (λ job. job ≡ record {
+          circuit = circuit;
+          list = faults;
+          classes = classes;
+          tests = tests;
+        }) }
+    {
         let flat = FlatCircuit::new(alloc, circuit)?;
         let rows = fault_free_rows(alloc, &flat, &tests)?;
         let class_stems = class_stems(alloc, &flat, &faults, &classes)?;
@@ -146,12 +173,24 @@ impl Job {
         requires width { tests.width ≡ length (sources self.old.circuit) }
         ensures too_many { (result ≡ Err JobFault.TooManyPieces)
             ↔ (max_pieces < piece_count (with_tests self.old tests)) }
+        ensures few { OnOk result (piece_count self.new ≤ max_pieces) }
         ensures job { OnOk result (self.new ≡ with_tests self.old tests) }
         ensures kept { IfErr result (λ fault. self.new ≡ self.old) }
     {
         if has_too_many_pieces(&self.classes, &tests) {
             return Err(JobFault::TooManyPieces);
         }
+        Ok(self.set_tests_of_any_size(alloc, tests)?)
+    }
+
+    /// Takes other tests as [`Job::set_tests`] does, whatever the number of the job's pieces then
+    /// is. It is refused for want of memory alone, and then the job is as it was.
+    pub fn set_tests_of_any_size(&mut self, alloc: Global, tests: Tests) -> Result<(), AllocError>
+        requires tests { IsTestList tests }
+        requires width { tests.width ≡ length (sources self.old.circuit) }
+        ensures job { OnOk result (self.new ≡ with_tests self.old tests) }
+        ensures kept { IfErr result (λ fault. self.new ≡ self.old) }
+    {
         let rows = fault_free_rows(alloc, &self.flat, &tests)?;
         self.tests = tests;
         self.rows = rows;
@@ -162,7 +201,6 @@ impl Job {
     pub fn circuit(&self) -> &Circuit
         ensures part { result.now ≡ self.now.circuit }
         ensures together { BelongTogether self.now }
-        ensures few { piece_count self.now ≤ max_pieces }
     {
         self.flat.circuit()
     }
@@ -179,7 +217,6 @@ impl Job {
     pub fn faults(&self) -> &Faults
         ensures part { result.now ≡ self.now.list }
         ensures together { BelongTogether self.now }
-        ensures few { piece_count self.now ≤ max_pieces }
     {
         &self.faults
     }
@@ -188,7 +225,6 @@ impl Job {
     pub fn classes(&self) -> &Classes
         ensures part { result.now ≡ self.now.classes }
         ensures together { BelongTogether self.now }
-        ensures few { piece_count self.now ≤ max_pieces }
     {
         &self.classes
     }
@@ -197,7 +233,6 @@ impl Job {
     pub fn tests(&self) -> &Tests
         ensures part { result.now ≡ self.now.tests }
         ensures together { BelongTogether self.now }
-        ensures few { piece_count self.now ≤ max_pieces }
     {
         &self.tests
     }
@@ -246,16 +281,16 @@ impl Job {
         requires signal { signal < length (names self.now.circuit) }
         ensures { IsFaultFreeWord self.now.circuit self.now.tests.tests block signal result }
     {
-        self.rows[block as usize][signal as usize]
+        block_word(self.rows[(block / 2) as usize][signal as usize], block)
     }
 
-    /// The words of a block without a fault, one a signal.
-    pub(crate) fn fault_free(&self, block: u32) -> &[u64]
-        requires { block < blocks (length self.now.tests.tests) }
+    /// The words of a group of two blocks without a fault, one a signal.
+    pub(crate) fn fault_free(&self, group: u32) -> &[u128]
+        requires { group < groups (length self.now.tests.tests) }
         ensures count { length result.now ≡ length (names self.now.circuit) }
-        ensures words { AreWords self.now.circuit self.now.tests.tests block None result.now }
+        ensures words { AreWords self.now.circuit self.now.tests.tests group None result.now }
     {
-        self.rows[block as usize].as_slice()
+        self.rows[group as usize].as_slice()
     }
 }
 
@@ -267,26 +302,26 @@ fn has_too_many_pieces(classes: &Classes, tests: &Tests) -> bool
     u64::from(classes.count()) * u64::from(tests.blocks()) > u64::from(MAX_PIECES)
 }
 
-/// The words of every block without a fault, one row a block.
+/// The words of every group of two blocks without a fault, one row a group.
 fn fault_free_rows(
     alloc: Global,
     circuit: &FlatCircuit,
     tests: &Tests,
-) -> Result<Vec<Vec<u64>>, AllocError>
+) -> Result<Vec<Vec<u128>>, AllocError>
     requires circuit { IsCircuit circuit.now }
     requires width { tests.now.width ≡ length (sources circuit.now) }
     ensures count { IfOk result (λ rows. length (map (λ row. row.items) rows.items)
-        ≡ blocks (length tests.now.tests)) }
+        ≡ groups (length tests.now.tests)) }
     ensures rows { IfOk result (λ rows. AreFaultFree circuit.now tests.now.tests
         (map (λ row. row.items) rows.items)) }
 {
     let signals = circuit.circuit().signals() as usize;
-    let same = vec![in alloc; 0u64; signals]?;
+    let same = vec![in alloc; 0u128; signals]?;
     let mut evaluations = 0;
     let mut rows = Vec::new(alloc);
-    for block in 0..tests.blocks() {
-        let mut row = vec![in alloc; 0u64; signals]?;
-        evaluate(circuit, tests, block, &mut row, &same, &mut evaluations);
+    for group in 0..tests.blocks().div_ceil(2) {
+        let mut row = vec![in alloc; 0u128; signals]?;
+        evaluate(circuit, tests, group, &mut row, &same, &mut evaluations);
         rows.push(row)?;
     }
     Ok(rows)

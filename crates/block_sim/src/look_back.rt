@@ -13,7 +13,7 @@ ghost use Rattle.fault_model.specs.declared.Line.{Line};
 ghost use Rattle.fault_model.specs.Fault.{faults};
 ghost use Rattle.fault_model.specs.Detection.{HasBit, IsInitialized, IsSecondOfPair, LooksBack};
 ghost use Rattle.fault_model.specs.Detection.{argument, carried};
-ghost use Rattle.patterns.specs.Tests.{blocks, size_of};
+ghost use Rattle.block_sim.specs.Spans.{groups};
 ghost use Rattle.block_sim.specs.Stuck.{stuck_fault};
 ghost use Rattle.block_sim.specs.Words.{lane};
 
@@ -22,76 +22,76 @@ use crate::job::Job;
 use crate::words::Stuck;
 use fault_model::Line;
 
-/// The lanes of a block whose test before lets the fault be detected: for a stuck-at fault all
+/// The lanes of a group whose test before lets the fault be detected: for a stuck-at fault all
 /// lanes, for a transition fault those in which that test gives its line the bit that the line is
 /// slow to leave, and in a list of pairs of these the second tests of the pairs.
-pub fn lanes_that_fit(job: &Job, block: u32, fault: Stuck) -> u64
-    requires block { block < blocks (length job.now.tests.tests) }
+pub fn lanes_that_fit(job: &Job, group: u32, fault: Stuck) -> u128
+    requires group { group < groups (length job.now.tests.tests) }
     requires listed { Contains (faults fault.model job.now.circuit) (stuck_fault fault) }
-    ensures { (k : ℕ) → k < size_of (length job.now.tests.tests) block
+    ensures { (k : ℕ) → k < 128 → 128 * group + k < length job.now.tests.tests
         → Decides (lane result k) (LooksBack job.now.circuit job.now.tests.tests fault.model
-        fault.line fault.at_one (64 * block + k)) }
+        fault.line fault.at_one (128 * group + k)) }
 {
     match fault.model {
         fault_model::Model::StuckAt => !0,
-        fault_model::Model::Transition => initialized_lanes(job, block, fault),
+        fault_model::Model::Transition => initialized_lanes(job, group, fault),
         fault_model::Model::TransitionPairs => {
-            second_lanes() & initialized_lanes(job, block, fault)
+            second_lanes() & initialized_lanes(job, group, fault)
         }
     }
 }
 
-/// The lanes of the second tests of pairs. A block has an even number of lanes, so each pair lies
-/// in one block, and its second test has an odd lane.
+/// The lanes of the second tests of pairs. A group has an even number of lanes, so each pair lies
+/// in one group, and its second test has an odd lane.
 #[inline(always)]
-fn second_lanes() -> u64
-    ensures { (block k : ℕ) → k < 64
-        → Decides (lane result k) (IsSecondOfPair (64 * block + k)) }
+fn second_lanes() -> u128
+    ensures { (group k : ℕ) → k < 128
+        → Decides (lane result k) (IsSecondOfPair (128 * group + k)) }
 {
-    0xAAAA_AAAA_AAAA_AAAA
+    0xAAAA_AAAA_AAAA_AAAA_AAAA_AAAA_AAAA_AAAA
 }
 
-/// The lanes of a block whose test before gives the line of a fault the fault's bit. The first test
+/// The lanes of a group whose test before gives the line of a fault the fault's bit. The first test
 /// of all has none before it.
-fn initialized_lanes(job: &Job, block: u32, fault: Stuck) -> u64
-    requires block { block < blocks (length job.now.tests.tests) }
+fn initialized_lanes(job: &Job, group: u32, fault: Stuck) -> u128
+    requires group { group < groups (length job.now.tests.tests) }
     requires listed { Contains (faults fault.model job.now.circuit) (stuck_fault fault) }
-    ensures { (k : ℕ) → k < size_of (length job.now.tests.tests) block
+    ensures { (k : ℕ) → k < 128 → 128 * group + k < length job.now.tests.tests
         → Decides (lane result k) (IsInitialized job.now.circuit job.now.tests.tests fault.line
-        fault.at_one (64 * block + k)) }
+        fault.at_one (128 * group + k)) }
 {
-    let before = word_before(job, block, carried(job.flat(), fault.line));
+    let before = word_before(job, group, carried(job.flat(), fault.line));
     let fits = if fault.at_one { before } else { !before };
-    let earlier = if block == 0 { !1 } else { !0 };
+    let earlier = if group == 0 { !1 } else { !0 };
     fits & earlier
 }
 
 /// The word of the signal of this number without a fault, one test earlier: lane `k` has its bit
-/// under test `64 * block + k - 1`, where there is one.
-fn word_before(job: &Job, block: u32, number: u32) -> u64
-    requires block { block < blocks (length job.now.tests.tests) }
+/// under test `128 * group + k - 1`, where there is one.
+fn word_before(job: &Job, group: u32, number: u32) -> u128
+    requires group { group < groups (length job.now.tests.tests) }
     requires circuit { IsWellFormed job.now.circuit }
     requires signal { number < length (names job.now.circuit) }
-    ensures { (k t : ℕ) (line : Line) (n : Name) (bit : Bool) → k < 64 → suc t ≡ 64 * block + k
+    ensures { (k t : ℕ) (line : Line) (n : Name) (bit : Bool) → k < 128 → suc t ≡ 128 * group + k
         → carried job.now.circuit line ≡ Some n → Contains (names job.now.circuit) n
         → number ≡ signal job.now.circuit n
         → (lane result k ≡ bit) ↔ HasBit job.now.circuit (slice_index_or job.now.tests.tests t [])
         line bit }
 {
-    let last = if block == 0 {
+    let last = if group == 0 {
         0
     } else {
-        job.fault_free(block - 1)[number as usize]
+        job.fault_free(group - 1)[number as usize]
     };
-    one_lane_up(job.fault_free(block)[number as usize], last)
+    one_lane_up(job.fault_free(group)[number as usize], last)
 }
 
 /// The lanes of a word one up, and in lane 0 the last lane of the word before it.
-fn one_lane_up(word: u64, last: u64) -> u64
-    ensures first { lane result 0 ≡ lane last 63 }
-    ensures later { (k : ℕ) → k < 63 → lane result (k + 1) ≡ lane word k }
+fn one_lane_up(word: u128, last: u128) -> u128
+    ensures first { lane result 0 ≡ lane last 127 }
+    ensures later { (k : ℕ) → k < 127 → lane result (k + 1) ≡ lane word k }
 {
-    word << 1 | last >> 63
+    word << 1 | last >> 127
 }
 
 /// The signal that a line of the circuit carries: that of the stem, or the one that its branch

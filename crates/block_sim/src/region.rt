@@ -9,7 +9,8 @@ ghost use Rattle.fault_model.specs.Solution.{Test};
 ghost use Rattle.block_sim.specs.Changes.{HasRoomFor, IsAsLarge, IsClear};
 ghost use Rattle.block_sim.specs.Regions.{HasCome, IsReached, IsReadBy, IsStemOf, IsStemOfLine};
 ghost use Rattle.block_sim.specs.Regions.{TellsFirstFlips};
-ghost use Rattle.block_sim.specs.Stirred.{AreInBlock};
+ghost use Rattle.block_sim.specs.Spans.{AreInSpan, group_of};
+ghost use Rattle.block_sim.specs.declared.span.Span.{Span};
 ghost use Rattle.block_sim.specs.Stuck.{stuck_fault};
 ghost use Rattle.block_sim.specs.Ways.{HasStirredByFlip, IsWay, IsWayOfLine};
 ghost use Rattle.block_sim.specs.Words.{lane, AreWords, HasWords};
@@ -26,22 +27,22 @@ use fault_model::Line;
 #[derive(Clone, Copy)]
 pub struct Arrival {
     pub signal: u32,
-    pub lanes: u64,
+    pub lanes: u128,
 }
 
 /// The lanes in which a fault comes over the gate that alone reads a signal, of those in which it
 /// has come to the signal. There is one at least.
 #[inline(always)]
-fn cross(view: BlockView<'_>, at: Arrival, gate: u32, changes: &mut Changes) -> u64
+fn cross(view: BlockView<'_>, at: Arrival, gate: u32, changes: &mut Changes) -> u128
     requires view { HasWords view.circuit.now view.good.now }
     requires room { HasRoomFor view.circuit.now changes.old }
     requires clear { IsClear changes.old }
     requires some { at.lanes ≢ 0 }
     requires read { IsReadBy view.circuit.now gate at.signal }
-    ensures come { (tests : List Test) (block : ℕ) (f : Fault)
-        → AreWords view.entry.circuit.now tests block None view.entry.good.now
-        → HasCome view.entry.circuit.now tests block f view.entry.lanes at.signal at.lanes
-        → HasCome view.entry.circuit.now tests block f view.entry.lanes gate result }
+    ensures come { (tests : List Test) (group : ℕ) (f : Fault)
+        → AreWords view.entry.circuit.now tests group None view.entry.good.now
+        → HasCome view.entry.circuit.now tests group f view.entry.lanes at.signal at.lanes
+        → HasCome view.entry.circuit.now tests group f view.entry.lanes gate result }
     ensures counted { changes.new.evaluations ≤ changes.old.evaluations + 1 }
     ensures grown { changes.old.evaluations ≤ changes.new.evaluations }
     ensures room { IsAsLarge changes.old changes.new }
@@ -67,10 +68,10 @@ pub fn arrive(view: BlockView<'_>, from: Arrival, changes: &mut Changes) -> Arri
     requires room { HasRoomFor view.circuit.now changes.old }
     requires clear { IsClear changes.old }
     requires signal { from.signal < length (names view.circuit.now) }
-    ensures come { (tests : List Test) (block : ℕ) (f : Fault)
-        → AreWords view.entry.circuit.now tests block None view.entry.good.now
-        → HasCome view.entry.circuit.now tests block f view.entry.lanes from.signal from.lanes
-        → HasCome view.entry.circuit.now tests block f view.entry.lanes result.signal result.lanes }
+    ensures come { (tests : List Test) (group : ℕ) (f : Fault)
+        → AreWords view.entry.circuit.now tests group None view.entry.good.now
+        → HasCome view.entry.circuit.now tests group f view.entry.lanes from.signal from.lanes
+        → HasCome view.entry.circuit.now tests group f view.entry.lanes result.signal result.lanes }
     ensures signal { result.signal < length (names view.entry.circuit.now) }
     ensures stem { result.lanes ≢ 0
         → IsStemOf view.entry.circuit.now result.signal from.signal }
@@ -105,11 +106,11 @@ pub fn arrive(view: BlockView<'_>, from: Arrival, changes: &mut Changes) -> Arri
     at
 }
 
-/// How far a fault is followed on a block before it shares its way with others.
+/// How far a fault is followed on a group before it shares its way with others.
 #[derive(Clone, Copy)]
 pub enum Reach {
     /// To an observer, or nowhere: the lanes in which it is detected.
-    Observed(u64),
+    Observed(u128),
     /// To a signal, in some lanes.
     Stem(Arrival),
 }
@@ -118,14 +119,14 @@ pub enum Reach {
 /// gate's pin from the gate's signal. One on an observer's line is detected where it turns that.
 pub fn follow(view: BlockView<'_>, fault: Stuck, changes: &mut Changes) -> Reach
     requires view { HasWords view.circuit.now view.good.now }
-    requires words { (tests : List Test) × (block : ℕ)
-        × AreWords view.circuit.now tests block None view.good.now }
+    requires words { (tests : List Test) × (group : ℕ)
+        × AreWords view.circuit.now tests group None view.good.now }
     requires listed { Contains (faults fault.model view.circuit.now) (stuck_fault fault) }
     requires room { HasRoomFor view.circuit.now changes.old }
     requires clear { IsClear changes.old }
-    ensures reached { (tests : List Test) (block : ℕ)
-        → AreWords view.entry.circuit.now tests block None view.entry.good.now
-        → IsReached view.entry.circuit.now tests block (stuck_fault fault) view.entry.lanes result }
+    ensures reached { (tests : List Test) (group : ℕ)
+        → AreWords view.entry.circuit.now tests group None view.entry.good.now
+        → IsReached view.entry.circuit.now tests group (stuck_fault fault) view.entry.lanes result }
     ensures signal { (at : Arrival) → result ≡ Reach.Stem at
         → at.signal < length (names view.entry.circuit.now) }
     ensures stem { (at : Arrival) → result ≡ Reach.Stem at → at.lanes ≢ 0
@@ -162,7 +163,7 @@ pub fn follow(view: BlockView<'_>, fault: Stuck, changes: &mut Changes) -> Reach
 }
 
 /// The lanes in which some of the classes that are followed came to a signal.
-fn all_lanes(followed: &[Followed]) -> u64
+fn all_lanes(followed: &[Followed]) -> u128
     ensures all { (one : Followed) (k : ℕ) → Contains followed.now one → lane one.lanes k ≡ true
         → lane result k ≡ true }
     ensures only { (k : ℕ) → lane result k ≡ true
@@ -177,21 +178,21 @@ fn all_lanes(followed: &[Followed]) -> u64
 
 /// Turns a signal round in the lanes in which some of the classes that are followed came to it, and
 /// tells lanes in which an observer shows that: of each class up to the least.
-pub fn flip(view: BlockView<'_>, followed: &[Followed], signal: u32, changes: &mut Changes) -> u64
+pub fn flip(view: BlockView<'_>, followed: &[Followed], signal: u32, changes: &mut Changes) -> u128
     requires view { HasWords view.circuit.now view.good.now }
-    requires words { (tests : List Test) × (block : ℕ)
-        × AreWords view.circuit.now tests block None view.good.now }
+    requires words { (tests : List Test) × (group : ℕ)
+        × AreWords view.circuit.now tests group None view.good.now }
     requires room { HasRoomFor view.circuit.now changes.old }
     requires clear { IsClear changes.old }
     requires signal { signal < length (names view.circuit.now) }
-    ensures told { (tests : List Test) (block : ℕ)
-        → AreWords view.entry.circuit.now tests block None view.entry.good.now
+    ensures told { (tests : List Test) (group : ℕ)
+        → AreWords view.entry.circuit.now tests group None view.entry.good.now
         → (one : Followed) → Contains followed.now one
-        → TellsFirstFlips view.entry.circuit.now tests block one.lanes signal result }
-    ensures counted { (tests : List Test) (block : ℕ) (gates : List ℕ)
-        → AreWords view.entry.circuit.now tests block None view.entry.good.now
-        → ((one : Followed) → Contains followed.now one → AreInBlock tests block one.lanes)
-        → HasStirredByFlip view.entry.circuit.now tests block signal gates
+        → TellsFirstFlips view.entry.circuit.now tests group one.lanes signal result }
+    ensures counted { (tests : List Test) (span : Span) (gates : List ℕ)
+        → AreWords view.entry.circuit.now tests (group_of span) None view.entry.good.now
+        → ((one : Followed) → Contains followed.now one → AreInSpan tests span one.lanes)
+        → HasStirredByFlip view.entry.circuit.now tests span signal gates
         → changes.new.evaluations ≤ changes.old.evaluations + length gates }
     ensures grown { changes.old.evaluations ≤ changes.new.evaluations }
     ensures room { IsAsLarge changes.old changes.new }

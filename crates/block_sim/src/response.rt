@@ -20,7 +20,7 @@ use std::alloc::{AllocError, Global};
 /// the second vectors of launch on capture (Bushnell and Agrawal, Essentials of Electronic Testing,
 /// chapter 12, on delay test).
 ///
-/// Each gate is evaluated once for 64 tests. It takes a bit for each observer and test, and some
+/// Each gate is evaluated once for 128 tests. It takes a bit for each observer and test, and some
 /// memory for each signal and pin.
 pub fn responses(alloc: Global, circuit: Circuit, tests: &Tests) -> Result<Tests, AllocError>
     requires { tests.now.width ≡ length (sources circuit) }
@@ -39,11 +39,11 @@ fn response_rows(alloc: Global, circuit: &FlatCircuit, tests: &Tests) -> Result<
 {
     let observed = observed_signals(alloc, circuit.circuit())?;
     let signals = circuit.circuit().signals() as usize;
-    let same = vec![in alloc; 0u64; signals]?;
-    let mut words = vec![in alloc; 0u64; signals]?;
+    let same = vec![in alloc; 0u128; signals]?;
+    let mut words = vec![in alloc; 0u128; signals]?;
     let mut row = vec![in alloc; false; observed.len()]?;
     let mut rows = Tests::new(alloc, observed.len() as u32);
-    add_blocks(
+    add_groups(
         alloc, circuit, tests, &observed, &same, &mut words, &mut row, &mut rows,
     )?;
     let _width = rows.width();
@@ -67,14 +67,14 @@ fn observed_signals(alloc: Global, circuit: &Circuit) -> Result<Vec<u32>, AllocE
     Ok(observed)
 }
 
-/// Adds the responses to the tests of all blocks to rows that were empty.
-fn add_blocks(
+/// Adds the responses to the tests of all groups to rows that were empty.
+fn add_groups(
     alloc: Global,
     circuit: &FlatCircuit,
     tests: &Tests,
     observed: &[u32],
-    same: &[u64],
-    words: &mut [u64],
+    same: &[u128],
+    words: &mut [u128],
     row: &mut [bool],
     rows: &mut Tests,
 ) -> Result<(), AllocError>
@@ -92,23 +92,24 @@ fn add_blocks(
 {
     let _width = tests.width();
     let mut evaluations = 0;
-    for block in 0..tests.blocks() {
-        evaluate(circuit, tests, block, words, same, &mut evaluations);
-        add_lanes(alloc, observed, words, tests.size_of(block), row, rows)?;
+    for group in 0..tests.blocks().div_ceil(2) {
+        evaluate(circuit, tests, group, words, same, &mut evaluations);
+        let size = (tests.count() - 128 * group).min(128);
+        add_lanes(alloc, observed, words, size, row, rows)?;
     }
     Ok(())
 }
 
-/// Adds the rows of the first lanes of a block's words.
+/// Adds the rows of the first lanes of a group's words.
 fn add_lanes(
     alloc: Global,
     observed: &[u32],
-    words: &[u64],
+    words: &[u128],
     size: u32,
     row: &mut [bool],
     rows: &mut Tests,
 ) -> Result<(), AllocError>
-    requires size { size ≤ 64 }
+    requires size { size ≤ 128 }
     requires within { All (λ s. s < length words.now) observed.now }
     requires row { length row.old ≡ length observed.now }
     requires width { rows.old.width ≡ length observed.now }
@@ -125,8 +126,8 @@ fn add_lanes(
 }
 
 /// Reads the bit of one lane of each observed signal.
-fn read_lane(observed: &[u32], words: &[u64], lane: u32, row: &mut [bool])
-    requires lane { lane < 64 }
+fn read_lane(observed: &[u32], words: &[u128], lane: u32, row: &mut [bool])
+    requires lane { lane < 128 }
     requires within { All (λ s. s < length words.now) observed.now }
     requires row { length row.old ≡ length observed.now }
     ensures { row.new ≡ lane_row observed.now words.now lane }

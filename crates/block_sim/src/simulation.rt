@@ -9,49 +9,58 @@ ghost use Rattle.block_sim.specs.Changes.{HasRoomFor, IsAsLarge, IsClear};
 ghost use Rattle.block_sim.specs.First.{IsTrueOutcome};
 ghost use Rattle.block_sim.specs.Regions.{IsStemOfClass, TellsFirstFlips};
 ghost use Rattle.block_sim.specs.Parts.{Parts};
+ghost use Rattle.block_sim.specs.Spans.{IsSpan, group_of, span_from};
 ghost use Rattle.block_sim.specs.Simulation.{AreFollowed, AreTrueBut, AreTrueMemos, HasArrived};
-ghost use Rattle.block_sim.specs.Simulation.{IsApproach, IsOutcomeIn, IsTrueMemo, Serves};
+ghost use Rattle.block_sim.specs.Simulation.{IsApproach, IsOutcomeIn, IsTrueMemo, Serves, TellsFirstIn};
 ghost use Rattle.block_sim.specs.Ways.{AreWays, HasStirredByFlip, IsWayOfClass, is_on, known_ways};
 
-use crate::block_lanes::{lanes_below, least_lane};
 use crate::changes::Changes;
 use crate::job::Job;
 use crate::look_back::lanes_that_fit;
 use crate::region::{Arrival, Reach, flip, follow};
+use crate::span::Span;
 use crate::spread::Followed;
 use crate::view::BlockView;
 use patterns::Outcome;
 use std::alloc::{AllocError, Global};
 use std::marker::Model;
 
-/// What is known of a class: its outcome on the block on which it was found out last.
+/// What is known of a class: its outcome on the blocks on which it was found out last.
 #[derive(Clone, Copy)]
 pub enum Memo {
     /// It was found out on no block.
     Nothing,
-    /// It is followed on this block, and gets its outcome when its region is found out. No class
+    /// It is followed on these blocks, and gets its outcome when its region is found out. No class
     /// waits from one call to the next.
-    Pending { block: u32 },
-    /// No test of the block detects it.
-    Clear { block: u32 },
-    /// This test of the block, counted from 0, is the first that detects it.
-    Hit { block: u32, test: u32 },
+    Pending { span: Span },
+    /// No test of these blocks detects it.
+    Clear { span: Span },
+    /// This test of a block, counted from 0, is the first from the first block on that detects it.
+    Hit { first: u32, block: u32, test: u32 },
 }
 
 impl Memo {
-    /// The outcome on a block.
-    fn of(block: u32, outcome: Outcome) -> Memo
-        ensures truth { (job : Parts) (class : ℕ) → IsOutcomeIn job class block outcome
-            → IsTrueMemo job class result }
-        ensures known { is_on block result ≡ true }
+    /// What a word tells whose least lane that is 1 has the first test of some blocks that detects
+    /// a class.
+    fn of(span: Span, word: u128) -> Memo
+        requires told { (job : Parts) × (class : ℕ) × IsSpan (length job.tests.tests) span
+            × TellsFirstIn job span class word }
+        ensures truth { (job : Parts) (class : ℕ) → IsSpan (length job.tests.tests) span
+            → TellsFirstIn job span class word → IsTrueMemo job class result }
+        ensures known { is_on span.first result ≡ true }
     {
-        match outcome {
-            Outcome::Clear => Memo::Clear { block },
-            Outcome::Hit(test) => Memo::Hit { block, test },
+        if word == 0 {
+            return Memo::Clear { span };
+        }
+        let lane = word.trailing_zeros();
+        Memo::Hit {
+            first: span.first,
+            block: span.first / 2 * 2 + lane / 64,
+            test: lane % 64,
         }
     }
 
-    /// The outcome on a block, where that is the one that is known.
+    /// The outcome on a block, where that is known.
     #[inline(always)]
     fn on(self, block: u32) -> Option<Outcome>
         ensures truth { IfSome result (λ outcome. (job : Parts) (class : ℕ)
@@ -60,18 +69,29 @@ impl Memo {
             → result ≡ None → is_on block self ≡ false }
     {
         match self {
-            Memo::Clear { block: last } if last == block => Some(Outcome::Clear),
-            Memo::Hit { block: last, test } if last == block => Some(Outcome::Hit(test)),
+            Memo::Clear { span } if span.first <= block && block <= span.last => {
+                Some(Outcome::Clear)
+            }
+            Memo::Hit {
+                first,
+                block: at,
+                test: _,
+            } if first <= block && block < at => { Some(Outcome::Clear) }
+            Memo::Hit {
+                first,
+                block: at,
+                test,
+            } if first <= block && block == at => { Some(Outcome::Hit(test)) }
             _ => None,
         }
     }
 }
 
-/// How far a class is followed on a block by itself.
+/// How far a class is followed on some blocks by itself.
 #[derive(Clone, Copy)]
 pub enum Approach {
-    /// Its outcome is known.
-    Known(Outcome),
+    /// It is known which test detects it first: that of the least lane that is 1.
+    Known(u128),
     /// It came to the stem of its region, in some lanes.
     Stem(Arrival),
 }
@@ -134,10 +154,11 @@ impl Simulation {
     /// memory.
     ///
     /// It follows classes of the region, this one among them, that are known on the block from then
-    /// on and were not before. At most it evaluates the gates on their ways to the stem, and once
-    /// each those that the stem stirs where it is turned round: gates with a pin that sees under
-    /// some test of the block another bit then. Where the class is known on the block it evaluates
-    /// none.
+    /// on and were not before. From the third block on it finds them out on two blocks at once. At
+    /// most it evaluates the gates on their ways to the stem, and once each those that the stem
+    /// stirs where it is turned round: gates with a pin that sees another bit then, under some test
+    /// of the block, or from the third block on of what is behind it in its group of two. Where the
+    /// class is known on the block it evaluates none.
     pub fn outcome(&mut self, job: &Job, class: u32, block: u32) -> Outcome
         requires serves { Serves self.old job.now }
         requires class { class < length job.now.classes.representative }
@@ -147,7 +168,7 @@ impl Simulation {
         ensures serves { Serves self.new job.now }
         ensures counted { (way : ℕ → ℕ) (stem : ℕ) (gates : List ℕ) → AreWays job.now way
             → IsStemOfClass job.now.list.model job.now.circuit class stem
-            → HasStirredByFlip job.now.circuit job.now.tests.tests block stem gates
+            → HasStirredByFlip job.now.circuit job.now.tests.tests (span_from block) stem gates
             → self.new.evaluations + known_ways way block self.old.memos
             ≤ self.old.evaluations + known_ways way block self.new.memos + length gates }
         ensures again { is_on block (slice_index_or self.old.memos class Memo.Nothing) ≡ true
@@ -158,10 +179,12 @@ impl Simulation {
         if let Some(outcome) = self.memos[class as usize].on(block) {
             return outcome;
         }
-        match follow_alone(job, class, block, &mut self.changes) {
-            Approach::Known(outcome) => {
-                self.memos[class as usize] = Memo::of(block, outcome);
-                outcome
+        let span = Span::from(job.tests(), block);
+        match follow_alone(job, class, span, &mut self.changes) {
+            Approach::Known(word) => {
+                let memo = Memo::of(span, word);
+                self.memos[class as usize] = memo;
+                first_outcome(memo, block)
             }
             Approach::Stem(at) => {
                 let own = Followed {
@@ -171,10 +194,23 @@ impl Simulation {
                 let followed = &mut self.followed;
                 let memos = &mut self.memos;
                 let changes = &mut self.changes;
-                let seen = find_out_region(job, block, at.signal, own, changes, memos, followed);
-                least_lane(at.lanes & seen)
+                let seen = find_out_region(job, span, at.signal, own, changes, memos, followed);
+                first_outcome(Memo::of(span, at.lanes & seen), block)
             }
         }
+    }
+}
+
+/// The outcome on a block on which a class is known.
+fn first_outcome(memo: Memo, block: u32) -> Outcome
+    requires truth { (job : Parts) × (class : ℕ) × IsTrueMemo job class memo }
+    requires known { is_on block memo ≡ true }
+    ensures { (job : Parts) (class : ℕ) → IsTrueMemo job class memo
+        → IsOutcomeIn job class block result }
+{
+    match memo.on(block) {
+        Some(outcome) => outcome,
+        None => unreachable!(),
     }
 }
 
@@ -182,51 +218,51 @@ impl Simulation {
 /// to be asked for on the block. Tells lanes in which the stem turned round is detected.
 fn find_out_region(
     job: &Job,
-    block: u32,
+    span: Span,
     stem: u32,
     own: Followed,
     changes: &mut Changes,
     memos: &mut [Memo],
     followed: &mut Vec<Followed>,
-) -> u64
-    requires block { block < blocks (length job.now.tests.tests) }
+) -> u128
+    requires span { IsSpan (length job.now.tests.tests) span }
     requires room { HasRoomFor job.now.circuit changes.old }
     requires clear { IsClear changes.old }
     requires memos { AreTrueMemos job.now memos.old }
     requires stem { stem < length (names job.now.circuit) }
     requires class { own.class < length job.now.classes.representative }
-    requires arrived { HasArrived job.now block stem own.class own.lanes }
+    requires arrived { HasArrived job.now span stem own.class own.lanes }
     requires region { IsStemOfClass job.now.list.model job.now.circuit own.class stem }
-    requires idle { is_on block (slice_index_or memos.old own.class Memo.Nothing) ≡ false }
+    requires idle { is_on span.first (slice_index_or memos.old own.class Memo.Nothing) ≡ false }
     requires capacity { 0 < vec_capacity followed.old }
-    ensures told { TellsFirstFlips job.now.circuit job.now.tests.tests block own.lanes stem result }
+    ensures told { TellsFirstFlips job.now.circuit job.now.tests.tests (group_of span) own.lanes stem result }
     ensures memos { AreTrueMemos job.now memos.new }
     ensures counted { (way : ℕ → ℕ) (gates : List ℕ) → AreWays job.now way
-        → HasStirredByFlip job.now.circuit job.now.tests.tests block stem gates
-        → changes.new.evaluations + known_ways way block memos.old + way own.class
-        ≤ changes.old.evaluations + known_ways way block memos.new + length gates }
+        → HasStirredByFlip job.now.circuit job.now.tests.tests span stem gates
+        → changes.new.evaluations + known_ways way span.first memos.old + way own.class
+        ≤ changes.old.evaluations + known_ways way span.first memos.new + length gates }
     ensures capacity { vec_capacity followed.new ≡ vec_capacity followed.old }
     ensures grown { changes.old.evaluations ≤ changes.new.evaluations }
     ensures room { IsAsLarge changes.old changes.new }
     ensures clear { IsClear changes.new }
 {
     followed.clear();
-    memos[own.class as usize] = Memo::Pending { block };
+    memos[own.class as usize] = Memo::Pending { span };
     followed.push_reserved(own);
-    gather(job, block, stem, own.class, changes, memos, followed);
+    gather(job, span, stem, own.class, changes, memos, followed);
     let all = followed.as_slice();
-    let seen = flip_stem(job, block, stem, all, changes);
-    conclude(job, block, stem, seen, all, memos);
+    let seen = flip_stem(job, span, stem, all, changes);
+    conclude(job, span, stem, seen, all, memos);
     seen
 }
 
 /// Follows a class to the stem of its region.
-fn follow_alone(job: &Job, class: u32, block: u32, changes: &mut Changes) -> Approach
+fn follow_alone(job: &Job, class: u32, span: Span, changes: &mut Changes) -> Approach
     requires class { class < length job.now.classes.representative }
-    requires block { block < blocks (length job.now.tests.tests) }
+    requires span { IsSpan (length job.now.tests.tests) span }
     requires room { HasRoomFor job.now.circuit changes.old }
     requires clear { IsClear changes.old }
-    ensures approach { IsApproach job.now class block result }
+    ensures approach { IsApproach job.now class span result }
     ensures stem { (at : Arrival) → result ≡ Approach.Stem at
         → IsStemOfClass job.now.list.model job.now.circuit class at.signal }
     ensures counted { (way : ℕ)
@@ -237,18 +273,19 @@ fn follow_alone(job: &Job, class: u32, block: u32, changes: &mut Changes) -> App
     ensures clear { IsClear changes.new }
 {
     let fault = job.representative(class);
-    let lanes = lanes_below(job.tests().size_of(block)) & lanes_that_fit(job, block, fault);
+    let group = span.first / 2;
+    let lanes = span.test_lanes(job.tests()) & lanes_that_fit(job, group, fault);
     let view = BlockView {
         circuit: job.flat(),
-        good: job.fault_free(block),
+        good: job.fault_free(group),
         lanes,
     };
     match follow(view, fault, changes) {
-        Reach::Observed(word) => Approach::Known(least_lane(word)),
+        Reach::Observed(word) => Approach::Known(word),
         Reach::Stem(at) => {
             let lanes = lanes & at.lanes;
             if lanes == 0 {
-                return Approach::Known(Outcome::Clear);
+                return Approach::Known(0);
             }
             Approach::Stem(Arrival {
                 signal: at.signal,
@@ -266,7 +303,7 @@ fn is_likely(memo: Memo, block: u32) -> bool
 {
     match memo {
         Memo::Nothing => block == 0,
-        Memo::Clear { block: last } => last < block && last + 1 == block,
+        Memo::Clear { span } => span.last < block && span.last + 1 == block,
         Memo::Pending { .. } | Memo::Hit { .. } => false,
     }
 }
@@ -275,24 +312,24 @@ fn is_likely(memo: Memo, block: u32) -> bool
 /// on the block. What is known of others at once is kept.
 fn gather(
     job: &Job,
-    block: u32,
+    span: Span,
     stem: u32,
     first: u32,
     changes: &mut Changes,
     memos: &mut [Memo],
     followed: &mut Vec<Followed>,
 )
-    requires block { block < blocks (length job.now.tests.tests) }
+    requires span { IsSpan (length job.now.tests.tests) span }
     requires first { first < length job.now.classes.representative }
     requires room { HasRoomFor job.now.circuit changes.old }
     requires clear { IsClear changes.old }
     requires memos { AreTrueBut job.now followed.old.items memos.old }
-    requires followed { AreFollowed job.now block stem followed.old.items }
+    requires followed { AreFollowed job.now span stem followed.old.items }
     ensures memos { AreTrueBut job.now followed.new.items memos.new }
     ensures counted { (way : ℕ → ℕ) → AreWays job.now way
-        → changes.new.evaluations + known_ways way block memos.old
-        ≤ changes.old.evaluations + known_ways way block memos.new }
-    ensures followed { AreFollowed job.now block stem followed.new.items }
+        → changes.new.evaluations + known_ways way span.first memos.old
+        ≤ changes.old.evaluations + known_ways way span.first memos.new }
+    ensures followed { AreFollowed job.now span stem followed.new.items }
     ensures kept { (one : Followed) → Contains followed.old.items one
         → Contains followed.new.items one }
     ensures capacity { vec_capacity followed.new ≡ vec_capacity followed.old }
@@ -306,37 +343,37 @@ fn gather(
         if class == first || followed.len() >= followed.capacity() {
             break;
         }
-        if !is_likely(memos[class as usize], block) || job.stem_of_class(class) != stem {
+        if !is_likely(memos[class as usize], span.first) || job.stem_of_class(class) != stem {
             continue;
         }
-        follow_too(job, block, stem, class, changes, memos, followed);
+        follow_too(job, span, stem, class, changes, memos, followed);
     }
 }
 
 /// Follows one more class of the region, and keeps its outcome where that is known at once.
 fn follow_too(
     job: &Job,
-    block: u32,
+    span: Span,
     stem: u32,
     class: u32,
     changes: &mut Changes,
     memos: &mut [Memo],
     followed: &mut Vec<Followed>,
 )
-    requires block { block < blocks (length job.now.tests.tests) }
+    requires span { IsSpan (length job.now.tests.tests) span }
     requires class { class < length job.now.classes.representative }
     requires region { IsStemOfClass job.now.list.model job.now.circuit class stem }
-    requires idle { is_on block (slice_index_or memos.old class Memo.Nothing) ≡ false }
+    requires idle { is_on span.first (slice_index_or memos.old class Memo.Nothing) ≡ false }
     requires room { HasRoomFor job.now.circuit changes.old }
     requires clear { IsClear changes.old }
     requires memos { AreTrueBut job.now followed.old.items memos.old }
-    requires followed { AreFollowed job.now block stem followed.old.items }
+    requires followed { AreFollowed job.now span stem followed.old.items }
     requires capacity { vec_len followed.old < vec_capacity followed.old }
     ensures memos { AreTrueBut job.now followed.new.items memos.new }
     ensures counted { (way : ℕ → ℕ) → AreWays job.now way
-        → changes.new.evaluations + known_ways way block memos.old
-        ≤ changes.old.evaluations + known_ways way block memos.new }
-    ensures followed { AreFollowed job.now block stem followed.new.items }
+        → changes.new.evaluations + known_ways way span.first memos.old
+        ≤ changes.old.evaluations + known_ways way span.first memos.new }
+    ensures followed { AreFollowed job.now span stem followed.new.items }
     ensures kept { (one : Followed) → Contains followed.old.items one
         → Contains followed.new.items one }
     ensures capacity { vec_capacity followed.new ≡ vec_capacity followed.old }
@@ -344,10 +381,10 @@ fn follow_too(
     ensures room { IsAsLarge changes.old changes.new }
     ensures clear { IsClear changes.new }
 {
-    match follow_alone(job, class, block, changes) {
-        Approach::Known(outcome) => memos[class as usize] = Memo::of(block, outcome),
+    match follow_alone(job, class, span, changes) {
+        Approach::Known(word) => memos[class as usize] = Memo::of(span, word),
         Approach::Stem(at) => {
-            memos[class as usize] = Memo::Pending { block };
+            memos[class as usize] = Memo::Pending { span };
             followed.push_reserved(Followed {
                 class,
                 lanes: at.lanes,
@@ -357,16 +394,16 @@ fn follow_too(
 }
 
 /// Turns the stem round for all classes that are followed.
-fn flip_stem(job: &Job, block: u32, stem: u32, followed: &[Followed], changes: &mut Changes) -> u64
-    requires block { block < blocks (length job.now.tests.tests) }
+fn flip_stem(job: &Job, span: Span, stem: u32, followed: &[Followed], changes: &mut Changes) -> u128
+    requires span { IsSpan (length job.now.tests.tests) span }
     requires room { HasRoomFor job.now.circuit changes.old }
     requires clear { IsClear changes.old }
     requires stem { stem < length (names job.now.circuit) }
-    requires followed { AreFollowed job.now block stem followed.now }
+    requires followed { AreFollowed job.now span stem followed.now }
     ensures told { (one : Followed) → Contains followed.now one
-        → TellsFirstFlips job.now.circuit job.now.tests.tests block one.lanes stem result }
+        → TellsFirstFlips job.now.circuit job.now.tests.tests (group_of span) one.lanes stem result }
     ensures counted { (gates : List ℕ)
-        → HasStirredByFlip job.now.circuit job.now.tests.tests block stem gates
+        → HasStirredByFlip job.now.circuit job.now.tests.tests span stem gates
         → changes.new.evaluations ≤ changes.old.evaluations + length gates }
     ensures grown { changes.old.evaluations ≤ changes.new.evaluations }
     ensures room { IsAsLarge changes.old changes.new }
@@ -374,25 +411,24 @@ fn flip_stem(job: &Job, block: u32, stem: u32, followed: &[Followed], changes: &
 {
     let view = BlockView {
         circuit: job.flat(),
-        good: job.fault_free(block),
+        good: job.fault_free(span.first / 2),
         lanes: 0,
     };
     flip(view, followed, stem, changes)
 }
 
 /// Keeps the outcomes of all classes that were followed.
-fn conclude(job: &Job, block: u32, stem: u32, seen: u64, followed: &[Followed], memos: &mut [Memo])
-    requires block { block < blocks (length job.now.tests.tests) }
+fn conclude(job: &Job, span: Span, stem: u32, seen: u128, followed: &[Followed], memos: &mut [Memo])
+    requires span { IsSpan (length job.now.tests.tests) span }
     requires memos { AreTrueBut job.now followed.now memos.old }
-    requires followed { AreFollowed job.now block stem followed.now }
+    requires followed { AreFollowed job.now span stem followed.now }
     requires told { (one : Followed) → Contains followed.now one
-        → TellsFirstFlips job.now.circuit job.now.tests.tests block one.lanes stem seen }
+        → TellsFirstFlips job.now.circuit job.now.tests.tests (group_of span) one.lanes stem seen }
     ensures memos { AreTrueMemos job.now memos.new }
-    ensures known { (way : ℕ → ℕ) → known_ways way block memos.old
-        ≤ known_ways way block memos.new }
+    ensures known { (way : ℕ → ℕ) → known_ways way span.first memos.old
+        ≤ known_ways way span.first memos.new }
 {
     for one in followed {
-        let outcome = least_lane(one.lanes & seen);
-        memos[one.class as usize] = Memo::of(block, outcome);
+        memos[one.class as usize] = Memo::of(span, one.lanes & seen);
     }
 }

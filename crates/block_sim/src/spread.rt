@@ -19,7 +19,7 @@ ghost use Rattle.block_sim.specs.Events.{level_at, AreWoken, IsWokenAbove, IsObs
 ghost use Rattle.block_sim.specs.Moments.{Case, Leads, Spreads, moment, not_yet_taken};
 ghost use Rattle.block_sim.specs.Spreading.{AreShown, HaveHits, IsFirstChange, IsSettled};
 ghost use Rattle.block_sim.specs.Spreading.{LeavesSettled};
-ghost use Rattle.block_sim.specs.Stirred.{AreInBlock, HasStirredIn};
+ghost use Rattle.block_sim.specs.Stirred.{AreInGroup, HasStirredIn};
 ghost use Rattle.block_sim.specs.Words.{lane, HasWords};
 
 use crate::block_lanes::lanes_below;
@@ -33,10 +33,10 @@ use event_queue::Buckets;
 #[derive(Clone, Copy)]
 pub struct Followed {
     pub class: u32,
-    pub lanes: u64,
+    pub lanes: u128,
 }
 
-/// How far the lanes of a block are followed.
+/// How far the lanes of a group are followed.
 #[derive(Clone, Copy)]
 pub enum Extent<'a> {
     /// Each lane to the end.
@@ -49,11 +49,11 @@ pub enum Extent<'a> {
 impl Extent<'_> {
     /// The lanes that are still followed, of some that are, where these lanes were seen.
     #[inline(always)]
-    fn followed(self, lanes: u64, seen: u64) -> u64
-        ensures within { (k : ℕ) → k < 64 → lane result k ≡ true → lane lanes k ≡ true }
-        ensures rest { (k : ℕ) → k < 64 → lane lanes k ≡ true → lane result k ≡ false
+    fn followed(self, lanes: u128, seen: u128) -> u128
+        ensures within { (k : ℕ) → k < 128 → lane result k ≡ true → lane lanes k ≡ true }
+        ensures rest { (k : ℕ) → k < 128 → lane lanes k ≡ true → lane result k ≡ false
             → IsSettled self.entry seen k }
-        ensures below { (k : ℕ) → k < 64 → IsSettled self.entry seen k → lane result k ≡ false }
+        ensures below { (k : ℕ) → k < 128 → IsSettled self.entry seen k → lane result k ≡ false }
     {
         match self {
             Extent::WholeBlock => lanes,
@@ -63,11 +63,11 @@ impl Extent<'_> {
 }
 
 /// The lanes of some that are followed, each below the least of its own that was seen.
-fn below_hits(followed: &[Followed], seen: u64) -> u64
-    ensures below { (k : ℕ) → k < 64 → lane result k ≡ true → (one : Followed)
+fn below_hits(followed: &[Followed], seen: u128) -> u128
+    ensures below { (k : ℕ) → k < 128 → lane result k ≡ true → (one : Followed)
         × Contains followed.now one × (lane one.lanes k ≡ true)
         × ((j : ℕ) → j ≤ k → lane one.lanes j ≡ true → lane seen j ≡ false) }
-    ensures rest { (k : ℕ) → k < 64 → lane result k ≡ false
+    ensures rest { (k : ℕ) → k < 128 → lane result k ≡ false
         → HaveHits followed.now seen k }
 {
     let mut below = 0;
@@ -105,7 +105,7 @@ fn wake(circuit: &FlatCircuit, signal: u32, buckets: &mut Buckets) -> bool
 /// Lets a signal differ in some lanes, so that its readers wait, and tells in which of them an
 /// observer sees it.
 #[inline(always)]
-fn change(circuit: &FlatCircuit, signal: u32, diff: u64, changes: &mut Changes) -> u64
+fn change(circuit: &FlatCircuit, signal: u32, diff: u128, changes: &mut Changes) -> u128
     requires circuit { IsCircuit circuit.now }
     requires signal { signal < length (names circuit.now) }
     requires room { HasRoomFor circuit.now changes.old }
@@ -115,9 +115,9 @@ fn change(circuit: &FlatCircuit, signal: u32, diff: u64, changes: &mut Changes) 
     ensures woken { (level : Name → ℕ) → AreLevels circuit.now level
         → AreWoken circuit.now (level_at circuit.now level) signal
         changes.old.buckets.at changes.new.buckets.at }
-    ensures shown { (k : ℕ) → k < 64
+    ensures shown { (k : ℕ) → k < 128
         → Decides (lane result k) (IsObserved circuit.now signal × (lane diff k ≡ true)) }
-    ensures some { (k : ℕ) × (k < 64) × (lane diff k ≡ true) }
+    ensures some { (k : ℕ) × (k < 128) × (lane diff k ≡ true) }
     ensures evaluations { changes.new.evaluations ≡ changes.old.evaluations }
     ensures room { IsAsLarge changes.old changes.new }
 {
@@ -133,7 +133,7 @@ fn change(circuit: &FlatCircuit, signal: u32, diff: u64, changes: &mut Changes) 
 /// lanes that are followed. Tells in which of them an observer sees that. Where none is followed
 /// nothing is evaluated.
 #[inline(always)]
-fn evaluate_waiting(view: BlockView<'_>, kept: u64, gate: u32, changes: &mut Changes) -> u64
+fn evaluate_waiting(view: BlockView<'_>, kept: u128, gate: u32, changes: &mut Changes) -> u128
     requires view { HasWords view.circuit.now view.good.now }
     requires room { HasRoomFor view.circuit.now changes.old }
     requires taken { IsTaken view.circuit.now changes.old gate }
@@ -166,8 +166,8 @@ fn evaluate_waiting(view: BlockView<'_>, kept: u64, gate: u32, changes: &mut Cha
 /// The lanes in which an observer saw a difference so far, and those that are still followed.
 #[derive(Clone, Copy)]
 struct Found {
-    seen: u64,
-    kept: u64,
+    seen: u128,
+    kept: u128,
 }
 
 /// Evaluates the gates that wait at a level, and tells what is found then.
@@ -210,27 +210,27 @@ pub fn spread(
     view: BlockView<'_>,
     extent: Extent<'_>,
     start: u32,
-    diff: u64,
+    diff: u128,
     changes: &mut Changes,
-) -> u64
+) -> u128
     requires view { HasWords view.circuit.now view.good.now }
     requires room { HasRoomFor view.circuit.now changes.old }
     requires clear { IsClear changes.old }
     requires start { start < length (names view.circuit.now) }
-    requires inside { (k : ℕ) → k < 64 → lane diff k ≡ true → lane view.lanes k ≡ true }
-    requires first { (tests : List Test) × (block : ℕ) × (f : ℕ → Fault) × IsFirstChange
-        view.circuit.now tests block f view.good.now view.lanes changes.old.overlay start diff }
-    ensures shown { (tests : List Test) (block : ℕ) (f : ℕ → Fault) → IsFirstChange
-        view.entry.circuit.now tests block f view.entry.good.now view.entry.lanes
+    requires inside { (k : ℕ) → k < 128 → lane diff k ≡ true → lane view.lanes k ≡ true }
+    requires first { (tests : List Test) × (group : ℕ) × (f : ℕ → Fault) × IsFirstChange
+        view.circuit.now tests group f view.good.now view.lanes changes.old.overlay start diff }
+    ensures shown { (tests : List Test) (group : ℕ) (f : ℕ → Fault) → IsFirstChange
+        view.entry.circuit.now tests group f view.entry.good.now view.entry.lanes
         changes.old.overlay start diff → AreShown
-        view.entry.circuit.now tests block f view.entry.good.now view.entry.lanes
+        view.entry.circuit.now tests group f view.entry.good.now view.entry.lanes
         (IsSettled extent.entry result) result }
-    ensures counted { (tests : List Test) (block : ℕ) (f : ℕ → Fault) (gates : List ℕ)
+    ensures counted { (tests : List Test) (group : ℕ) (f : ℕ → Fault) (gates : List ℕ)
         → IsFirstChange
-        view.entry.circuit.now tests block f view.entry.good.now view.entry.lanes
+        view.entry.circuit.now tests group f view.entry.good.now view.entry.lanes
         changes.old.overlay start diff
-        → AreInBlock tests block view.entry.lanes
-        → HasStirredIn view.entry.circuit.now tests block f gates
+        → AreInGroup tests group view.entry.lanes
+        → HasStirredIn view.entry.circuit.now tests group view.entry.lanes f gates
         → changes.new.evaluations + count_by (λ g. g == start) gates
         ≤ changes.old.evaluations + length gates }
     ensures grown { changes.old.evaluations ≤ changes.new.evaluations }

@@ -1,4 +1,4 @@
-//! A block of tests as the simulation of a fault reads it.
+//! A group of tests as the simulation of a fault reads it.
 
 use crate::flat::FlatCircuit;
 
@@ -6,6 +6,6 @@ use crate::flat::FlatCircuit;
 #[derive(Clone, Copy)]
 pub struct BlockView<'a> {
     pub circuit: &'a FlatCircuit,
-    pub good: &'a [u64],
-    pub lanes: u64,
+    pub good: &'a [u128],
+    pub lanes: u128,
 }

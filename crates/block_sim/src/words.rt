@@ -1,6 +1,7 @@
-//! The words of a circuit's signals: a block's 64 tests side by side, without a fault or under one.
+//! The words of a circuit's signals: the 128 tests of a group of two blocks side by side, without a
+//! fault or under one.
 //!
-//! Bit `k` of a word is the bit of test `64 * block + k`. A gate is evaluated on a whole word at
+//! Bit `k` of a word is the bit of test `128 * group + k`. A gate is evaluated on a whole word at
 //! once (parallel-pattern simulation: Bushnell and Agrawal, Essentials of Electronic Testing).
 
 ghost use Rattle.std.specs.Prelude.{◌≡◌, ℕ, ◌+◌, ◌-◌, ◌^◌, ◌<◌, ◌≤◌, All, min, length, None};
@@ -11,11 +12,12 @@ ghost use Rattle.bench_net.specs.Circuit.{IsCircuit, max_sinks};
 ghost use Rattle.fault_model.specs.declared.Line.TheVariants.{Pin};
 ghost use Rattle.fault_model.specs.Solution.{is_odd, value, under};
 ghost use Rattle.patterns.specs.Tests.{IsWord, blocks};
+ghost use Rattle.block_sim.specs.Spans.{groups};
 ghost use Rattle.block_sim.specs.Forms.{IsFormOf, turned};
-ghost use Rattle.block_sim.specs.Words.{lane, overlaid, pin_bits, AreWords, IsSignalWord};
+ghost use Rattle.block_sim.specs.Words.{lane, overlaid, pin_bits, AreWords, IsGroupWord, IsSignalWord};
 ghost use Rattle.block_sim.specs.Stuck.{fault_of};
 
-use crate::block_lanes::in_each_lane;
+use crate::block_lanes::{group_word, in_each_lane};
 use crate::flat::{FlatCircuit, Gate};
 use bench_net::Circuit;
 use fault_model::Line;
@@ -34,8 +36,8 @@ pub struct Stuck {
 impl Stuck {
     /// The stuck bit in every lane.
     #[inline(always)]
-    pub fn word(self) -> u64
-        ensures { (k : ℕ) → k < 64 → lane result k ≡ self.at_one }
+    pub fn word(self) -> u128
+        ensures { (k : ℕ) → k < 128 → lane result k ≡ self.at_one }
     {
         in_each_lane(self.at_one)
     }
@@ -44,8 +46,8 @@ impl Stuck {
 /// The word that the readers of a line get: the stuck bit in every lane where the fault is on this
 /// very line, else the word that drives it.
 #[inline(always)]
-fn seen(fault: Option<Stuck>, own: Line, word: u64) -> u64
-    ensures { (k : ℕ) → k < 64 → lane result k ≡ under (fault_of fault) own (lane word k) }
+fn seen(fault: Option<Stuck>, own: Line, word: u128) -> u128
+    ensures { (k : ℕ) → k < 128 → lane result k ≡ under (fault_of fault) own (lane word k) }
 {
     match fault {
         Some(stuck) if stuck.line == own => stuck.word(),
@@ -61,14 +63,14 @@ fn pin_word(
     gate: u32,
     place: usize,
     fault: Option<Stuck>,
-    words: &[u64],
-    delta: &[u64],
-) -> u64
+    words: &[u128],
+    delta: &[u128],
+) -> u128
     requires place { place < length line.pins.now }
     requires pins_in { All (λ p. p < length words.now) line.pins.now }
     requires same { length words.now ≤ length delta.now }
     requires few { length line.pins.now ≤ max_sinks }
-    ensures { (k : ℕ) → k < 64 → lane result k ≡ under (fault_of fault) (Pin gate place)
+    ensures { (k : ℕ) → k < 128 → lane result k ≡ under (fault_of fault) (Pin gate place)
         (lane (overlaid words.now delta.now (slice_index_or line.entry.pins.now place 0)) k) }
 {
     let own = Line::Pin {
@@ -83,22 +85,28 @@ fn pin_word(
 /// and their XOR.
 #[derive(Clone, Copy)]
 struct Folds {
-    all: u64,
-    odd: u64,
+    all: u128,
+    odd: u128,
 }
 
 /// What the words of a gate's pins come to. The first and the last are read apart, so that a gate
 /// of one pin or two, as most are, takes no turn of the loop: which of the two it is isn't asked.
 #[inline(always)]
-fn folds_of(line: Gate<'_>, gate: u32, fault: Option<Stuck>, words: &[u64], delta: &[u64]) -> Folds
+fn folds_of(
+    line: Gate<'_>,
+    gate: u32,
+    fault: Option<Stuck>,
+    words: &[u128],
+    delta: &[u128],
+) -> Folds
     requires some { 0 < length line.pins.now }
     requires pins_in { All (λ p. p < length words.now) line.pins.now }
     requires same { length words.now ≤ length delta.now }
     requires few { length line.pins.now ≤ max_sinks }
-    ensures all { (k : ℕ) → k < 64
+    ensures all { (k : ℕ) → k < 128
         → lane result.all k ≡ list_all (λ b. turned line.entry.form.turns_pins b)
         (pin_bits (fault_of fault) gate line.entry.pins.now words.now delta.now k) }
-    ensures odd { (k : ℕ) → k < 64 → lane result.odd k
+    ensures odd { (k : ℕ) → k < 128 → lane result.odd k
         ≡ is_odd (pin_bits (fault_of fault) gate line.entry.pins.now words.now delta.now k) }
 {
     let turned = in_each_lane(line.form.turns_pins);
@@ -124,16 +132,16 @@ pub fn evaluate_gate(
     line: Gate<'_>,
     gate: u32,
     fault: Option<Stuck>,
-    words: &[u64],
-    delta: &[u64],
+    words: &[u128],
+    delta: &[u128],
     evaluations: &mut u64,
-) -> u64
+) -> u128
     requires form { IsFormOf line.kind line.form }
     requires some { 0 < length line.pins.now }
     requires pins_in { All (λ p. p < length words.now) line.pins.now }
     requires same { length words.now ≤ length delta.now }
     requires few { length line.pins.now ≤ max_sinks }
-    ensures value { (k : ℕ) → k < 64
+    ensures value { (k : ℕ) → k < 128
         → lane result k ≡ value line.entry.kind
         (pin_bits (fault_of fault) gate line.entry.pins.now words.now delta.now k) }
     ensures grown { evaluations.old ≤ evaluations.new }
@@ -149,18 +157,37 @@ pub fn evaluate_gate(
     word ^ in_each_lane(line.form.turns)
 }
 
-/// The word that a block's tests give a source.
-fn source_word(circuit: &Circuit, tests: &Tests, block: u32, signal: u32) -> u64
+/// The word of a block at a source, and 0 past the last block.
+fn word_at(tests: &Tests, count: u32, block: u32, source: u32) -> u64
+    requires count { count ≡ blocks (length tests.now.tests) }
+    requires source { source < tests.now.width }
+    ensures { IsWord tests.now.tests block source result }
+{
+    if block < count {
+        tests.word(block, source)
+    } else {
+        0
+    }
+}
+
+/// The word that a group's tests give a source.
+fn source_word(circuit: &Circuit, tests: &Tests, group: u32, signal: u32) -> u128
     requires circuit { IsCircuit circuit.now }
     requires signal { signal < length (names circuit.now) }
     requires source { gate_of circuit.now signal ≡ None }
     requires width { tests.now.width ≡ length (sources circuit.now) }
-    requires block { block < blocks (length tests.now.tests) }
+    requires group { group < groups (length tests.now.tests) }
     ensures { (i : ℕ) → slice_get (sources circuit.now) i ≡ name_of circuit.now signal
-        → IsWord tests.now.tests block i result }
+        → IsGroupWord tests.now.tests group i result }
 {
     match circuit.source_of(signal) {
-        Some(source) => tests.word(block, source),
+        Some(source) => {
+            let count = tests.blocks();
+            let block = 2 * group;
+            let low = word_at(tests, count, block, source);
+            let high = word_at(tests, count, block + 1, source);
+            group_word(low, high)
+        }
         None => unreachable!(),
     }
 }
@@ -170,35 +197,35 @@ fn source_word(circuit: &Circuit, tests: &Tests, block: u32, signal: u32) -> u64
 fn signal_word(
     circuit: &FlatCircuit,
     tests: &Tests,
-    block: u32,
-    words: &[u64],
-    same: &[u64],
+    group: u32,
+    words: &[u128],
+    same: &[u128],
     signal: u32,
     evaluations: &mut u64,
-) -> u64
+) -> u128
     requires circuit { IsCircuit circuit.now }
     requires signal { signal < length (names circuit.now) }
     requires words { length (names circuit.now) ≤ length words.now }
     requires room { length words.now ≤ length same.now }
     requires same { All (λ word. word ≡ 0) same.now }
     requires width { tests.now.width ≡ length (sources circuit.now) }
-    requires block { block < blocks (length tests.now.tests) }
-    ensures { IsSignalWord circuit.now tests.now.tests block None words.now signal result }
+    requires group { group < groups (length tests.now.tests) }
+    ensures { IsSignalWord circuit.now tests.now.tests group None words.now signal result }
 {
     match circuit.gate_of(signal) {
         Some(gate) => evaluate_gate(gate, signal, None, words, same, evaluations),
-        None => source_word(circuit.circuit(), tests, block, signal),
+        None => source_word(circuit.circuit(), tests, group, signal),
     }
 }
 
-/// Writes the fault-free word of every signal on a block, at the signal's number. It goes in level
+/// Writes the fault-free word of every signal on a group, at the signal's number. It goes in level
 /// order, so a gate comes after the signals that it reads.
 pub fn evaluate(
     circuit: &FlatCircuit,
     tests: &Tests,
-    block: u32,
-    words: &mut [u64],
-    same: &[u64],
+    group: u32,
+    words: &mut [u128],
+    same: &[u128],
     evaluations: &mut u64,
 )
     requires circuit { IsCircuit circuit.now }
@@ -206,14 +233,14 @@ pub fn evaluate(
     requires room { length words.old ≤ length same.now }
     requires same { All (λ word. word ≡ 0) same.now }
     requires width { tests.now.width ≡ length (sources circuit.now) }
-    requires block { block < blocks (length tests.now.tests) }
-    ensures words { AreWords circuit.now tests.now.tests block None words.new }
+    requires group { group < groups (length tests.now.tests) }
+    ensures words { AreWords circuit.now tests.now.tests group None words.new }
     ensures room { length words.new ≡ length words.old }
 {
     let order = circuit.circuit().in_level_order();
     for signal in order {
         let signal = *signal;
-        let word = signal_word(circuit, tests, block, words, same, signal, evaluations);
+        let word = signal_word(circuit, tests, group, words, same, signal, evaluations);
         words[signal as usize] = word;
     }
 }

@@ -7,14 +7,16 @@ ghost use Rattle.fault_model.specs.Fault.{Fault};
 ghost use Rattle.patterns.specs.Tests.{blocks};
 ghost use Rattle.block_sim.specs.First.{AreDetecting, AreTold, IsTrueOutcome};
 ghost use Rattle.block_sim.specs.Parts.{HasRoom};
+ghost use Rattle.block_sim.specs.Spans.{one_block};
 ghost use Rattle.block_sim.specs.Spreading.{EndsAtHits, IsSettled};
 ghost use Rattle.block_sim.specs.Stirred.{HasStirred};
 
-use crate::block_lanes::{lanes_below, least_lane};
+use crate::block_lanes::{block_word, least_lane};
 use crate::changes::Changes;
 use crate::effect::effect;
 use crate::job::Job;
 use crate::look_back::lanes_that_fit;
+use crate::span::Span;
 use crate::spread::{Extent, Followed};
 use crate::view::BlockView;
 use patterns::Outcome;
@@ -139,7 +141,8 @@ pub fn detecting(job: &Job, workspace: &mut Workspace, class: u32, block: u32) -
         → HasStirred job.now.circuit job.now.tests.tests block r gates
         → workspace.new.evaluations ≤ workspace.old.evaluations + length gates }
 {
-    told(job, workspace, class, block, Extent::WholeBlock)
+    let word = told(job, workspace, class, block, Extent::WholeBlock);
+    block_word(word, block)
 }
 
 /// The outcome of a class on a block, by following its lanes so far.
@@ -163,17 +166,19 @@ fn outcome(
         → HasStirred job.now.circuit job.now.tests.tests block r gates
         → workspace.new.evaluations ≤ workspace.old.evaluations + length gates }
 {
-    least_lane(told(job, workspace, class, block, extent))
+    let word = told(job, workspace, class, block, extent);
+    least_lane(block_word(word, block))
 }
 
-/// The lanes of a block whose tests detect a class, as far as they are followed.
-fn told(job: &Job, workspace: &mut Workspace, class: u32, block: u32, extent: Extent<'_>) -> u64
+/// The lanes, in the word of its group, of a block whose tests detect a class, as far as they are
+/// followed.
+fn told(job: &Job, workspace: &mut Workspace, class: u32, block: u32, extent: Extent<'_>) -> u128
     requires class { class < length job.now.classes.representative }
     requires block { block < blocks (length job.now.tests.tests) }
     requires fits { HasRoom workspace.old job.now }
     ensures told { (r : Fault)
         × (slice_get (representatives job.now.list.model job.now.circuit) class ≡ Some r)
-        × AreTold job.now.circuit job.now.tests.tests block r
+        × AreTold job.now.circuit job.now.tests.tests (one_block block) r
         (IsSettled extent.entry result) result }
     ensures room { workspace.new.signals ≡ workspace.old.signals }
     ensures grown { workspace.old.evaluations ≤ workspace.new.evaluations }
@@ -183,10 +188,15 @@ fn told(job: &Job, workspace: &mut Workspace, class: u32, block: u32, extent: Ex
         → workspace.new.evaluations ≤ workspace.old.evaluations + length gates }
 {
     let fault = job.representative(class);
-    let lanes = lanes_below(job.tests().size_of(block)) & lanes_that_fit(job, block, fault);
+    let group = block / 2;
+    let span = Span {
+        first: block,
+        last: block,
+    };
+    let lanes = span.test_lanes(job.tests()) & lanes_that_fit(job, group, fault);
     let view = BlockView {
         circuit: job.flat(),
-        good: job.fault_free(block),
+        good: job.fault_free(group),
         lanes,
     };
     effect(view, fault, extent, &mut workspace.changes)

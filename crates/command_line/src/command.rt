@@ -3,12 +3,14 @@
 ghost use Rattle.std.specs.Prelude.{◌≤◌, IfOk, IfSome};
 ghost use Rattle.command_line.specs.Split.{HasParts};
 
+use crate::check::do_check;
 use crate::compact::do_compact;
 use crate::curve::do_curve;
 use crate::detected::do_detections;
+use crate::format::{read_format, write_faults_table, write_run_table};
 use crate::options::{MAX_PARTS, Task, command_line, model_named, workers_help};
 use crate::responses::do_responses;
-use crate::source::{Source, SourceFault};
+use crate::source::{Source, SourceFault, Stream, is_standard_input};
 use crate::status::{
     DONE, Fault, MISUSED, NO_MEMORY, UNWRITTEN, answer_fault, merge_fault, part_fault,
 };
@@ -75,7 +77,7 @@ fn run_matched<'a, R: Threads + Wait, S: Source, W: Out, E: Out>(
 ) -> u8
     ensures { result ≤ 3 }
 {
-    match do_task(rt, alloc, matches, files, out) {
+    match do_task(rt, alloc, matches, files, out, err) {
         Ok(()) => DONE,
         Err(fault) => answer_fault(&fault, err),
     }
@@ -99,17 +101,20 @@ fn answer_error<W: Out, E: Out>(error: &Error, out: &mut W, err: &mut E) -> u8
 }
 
 /// Does what the subcommand names.
-fn do_task<'a, R: Threads + Wait, S: Source, W: Out>(
+fn do_task<'a, R: Threads + Wait, S: Source, W: Out, E: Out>(
     rt: &R,
     alloc: Global,
     matches: &ArgMatches<'a>,
     files: &mut S,
     out: &mut W,
+    err: &mut E,
 ) -> Result<(), Fault<'a>> {
     let Some((name, options)) = matches.subcommand() else {
         return Err(Fault::Misused("no command"));
     };
+    check_streams(alloc, options, files)?;
     match Task::named(name) {
+        Some(Task::Check) => do_check(alloc, options, files, out, err),
         Some(Task::Run) => do_run_or_detections(rt, alloc, options, files, out),
         Some(Task::Curve) => do_curve(rt, alloc, options, files, out),
         Some(Task::Compact) => do_compact(rt, alloc, options, files, out),
@@ -119,6 +124,50 @@ fn do_task<'a, R: Threads + Wait, S: Source, W: Out>(
         Some(Task::Merge) => do_merge(alloc, options, files, out),
         None => Err(Fault::Misused(name)),
     }
+}
+
+/// The files that the command line names.
+fn named_files<'a>(alloc: Global, matches: &ArgMatches<'a>) -> Result<Vec<&'a str>, AllocError> {
+    let mut paths = Vec::new(alloc);
+    for option in ["bench", "tests", "order"] {
+        if let Some(path) = matches.get_str(option) {
+            paths.push(path)?;
+        }
+    }
+    if let Some(more) = matches.get_strs("part texts") {
+        for path in more {
+            paths.push(*path)?;
+        }
+    }
+    Ok(paths)
+}
+
+/// Refuses a command line that names one stream for two files: it would be empty for the second.
+fn check_streams<'a, S: Source>(
+    alloc: Global,
+    matches: &ArgMatches<'a>,
+    files: &S,
+) -> Result<(), Fault<'a>> {
+    let Ok(paths) = named_files(alloc, matches) else {
+        return Err(NO_MEMORY);
+    };
+    let inputs = paths.iter().filter(|path| is_standard_input(**path));
+    if inputs.count() > 1 {
+        return Err(Fault::Misused("the standard input for two files"));
+    }
+    let mut streams: Vec<Stream> = Vec::new(alloc);
+    for path in &paths {
+        let Some(stream) = files.stream(path) else {
+            continue;
+        };
+        if streams.contains(&stream) {
+            return Err(Fault::Misused("one stream for two files"));
+        }
+        if streams.push(stream).is_err() {
+            return Err(NO_MEMORY);
+        }
+    }
+    Ok(())
 }
 
 /// The model that the command line names.
@@ -143,7 +192,7 @@ pub(crate) fn read_option<'a, S: Source>(
 }
 
 /// Reads the file at a path.
-fn read_file<'a, S: Source>(
+pub(crate) fn read_file<'a, S: Source>(
     alloc: Global,
     path: &'a str,
     files: &mut S,
@@ -264,8 +313,15 @@ fn do_run<'a, R: Threads + Wait, S: Source, W: Out>(
         contents,
     } = read_settings(matches)?;
     let split = read_split(matches)?;
+    let format = read_format(matches)?;
     let bench = read_option(alloc, matches, "bench", files)?;
     let tests = read_option(alloc, matches, "tests", files)?;
+    if let Some(format) = format {
+        let lines = contents.lines;
+        return write_run_table(
+            rt, alloc, model, &bench, &tests, workers, lines, format, out,
+        );
+    }
     let done = match split {
         Split::Whole => simulate_text_in(rt, alloc, model, &bench, &tests, workers, contents, out),
         Split::Parts(parts) => {
@@ -312,7 +368,11 @@ fn do_faults<'a, S: Source, W: Out>(
     out: &mut W,
 ) -> Result<(), Fault<'a>> {
     let model = read_model(matches)?;
+    let format = read_format(matches)?;
     let bench = read_option(alloc, matches, "bench", files)?;
+    if let Some(format) = format {
+        return write_faults_table(alloc, model, &bench, format, out);
+    }
     match faults_text_in(alloc, model, &bench, out) {
         Ok(()) => Ok(()),
         Err(fault) => Err(Fault::Sim(fault)),

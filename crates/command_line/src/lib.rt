@@ -5,10 +5,12 @@
 #![tactic(auto)]
 
 mod arguments;
+mod check;
 mod command;
 mod compact;
 mod curve;
 mod detected;
+mod format;
 mod options;
 mod responses;
 mod source;
@@ -17,5 +19,5 @@ mod status;
 pub use arguments::run_arguments;
 pub use command::run_words;
 pub use options::{MODELS, model_named};
-pub use source::{Files, Source, SourceFault};
+pub use source::{Files, Source, SourceFault, Stream};
 pub use status::status_of;

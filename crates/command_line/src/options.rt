@@ -17,6 +17,7 @@ const VERSION: &str = "0.2.0";
 /// What the program can be asked to do.
 #[derive(Clone, Copy)]
 pub(crate) enum Task {
+    Check,
     Run,
     Curve,
     Compact,
@@ -26,8 +27,9 @@ pub(crate) enum Task {
     Schedule,
 }
 
-/// All that it can be asked to do, in the order of the help.
-static TASKS: [Task; 7] = [
+/// All that it can be asked to do, in the order of the help, which is that of use.
+static TASKS: [Task; 8] = [
+    Task::Check,
     Task::Run,
     Task::Curve,
     Task::Compact,
@@ -42,6 +44,7 @@ impl Task {
     /// The name of the subcommand.
     fn name<'a>(self) -> &'a str {
         match self {
+            Task::Check => "check",
             Task::Run => "run",
             Task::Curve => "curve",
             Task::Compact => "compact",
@@ -55,6 +58,7 @@ impl Task {
     /// What the subcommand does.
     fn about<'a>(self) -> &'a str {
         match self {
+            Task::Check => "Tells what a circuit and its tests have, or all faults of their texts",
             Task::Run => "Simulates all faults of a model and tells the fault coverage",
             Task::Curve => "Tells for each test that finds new faults how many are found up to it",
             Task::Compact => "Writes fewer of the tests, which detect the same faults",
@@ -70,6 +74,7 @@ impl Task {
     /// What is said after its long help.
     fn example<'a>(self) -> &'a str {
         match self {
+            Task::Check => ABOUT_CHECK,
             Task::Run => ABOUT_RUN,
             Task::Curve => ABOUT_CURVE,
             Task::Compact => ABOUT_COMPACT,
@@ -83,6 +88,7 @@ impl Task {
     /// Its options, in the order of its help.
     fn choices(self) -> &'static [Choice] {
         match self {
+            Task::Check => &CHECK_CHOICES,
             Task::Run => &RUN_CHOICES,
             Task::Curve => &CURVE_CHOICES,
             Task::Compact => &COMPACT_CHOICES,
@@ -104,6 +110,7 @@ impl Task {
 enum Choice {
     Bench,
     Tests,
+    TestsIfAny,
     Order,
     Model,
     Workers,
@@ -113,11 +120,18 @@ enum Choice {
     List,
     Undetected,
     Classes,
+    /// The format of a run's list.
+    RunFormat,
+    /// The format of the list of faults.
+    Format,
     PartTexts,
 }
 
+/// The options of `check`.
+static CHECK_CHOICES: [Choice; 3] = [Choice::Bench, Choice::TestsIfAny, Choice::Model];
+
 /// The options of `run`.
-static RUN_CHOICES: [Choice; 10] = [
+static RUN_CHOICES: [Choice; 11] = [
     Choice::Bench,
     Choice::Tests,
     Choice::Model,
@@ -128,6 +142,7 @@ static RUN_CHOICES: [Choice; 10] = [
     Choice::List,
     Choice::Undetected,
     Choice::Classes,
+    Choice::RunFormat,
 ];
 
 /// The options of `curve`.
@@ -157,7 +172,7 @@ static SCHEDULE_CHOICES: [Choice; 8] = [
 ];
 
 /// The options of `faults`.
-static FAULTS_CHOICES: [Choice; 2] = [Choice::Bench, Choice::Model];
+static FAULTS_CHOICES: [Choice; 3] = [Choice::Bench, Choice::Model, Choice::Format];
 
 /// The options of `merge`.
 static MERGE_CHOICES: [Choice; 3] = [Choice::List, Choice::Undetected, Choice::PartTexts];
@@ -187,7 +202,7 @@ A list of launch and capture pairs wants transition-pairs: with transition the c
 too high, since tests 1 and 2 count as a pair, too.";
 
 /// What is said of the files after the options.
-const FILES: &str = "Each FILE is read whole. /dev/stdin serves as a file, too.";
+const FILES: &str = "Each FILE is read whole. One FILE can be -, the standard input.";
 
 /// What is said after the long help of the program.
 const ABOUT_TEXTS: &str = "\
@@ -207,6 +222,35 @@ tells that all faults are found:
 
 The exit status is 0 where all was done, 1 where a text is refused, 2 where the command line is,
 and 3 where a file, the output, memory or a thread is.";
+
+/// What is said after the long help of `check`.
+const ABOUT_CHECK: &str = "\
+Example, a circuit with two faults:
+
+    INPUT(a)
+    OUTPUT(z)
+    n1 = INV(a)
+    z = NOT(n2)
+
+    faultsim check --bench a.bench
+
+tells on standard error all faults of the text, each with its line, a mark and what may be meant,
+and then the refusal that run tells:
+
+    a.bench:3: syntax
+        n1 = INV(a)
+             ^^^
+        unknown gate INV; did you mean NOT?
+    a.bench:4: name not defined
+        z = NOT(n2)
+                ^^
+        n2 is not defined; is n1 meant?
+    faultsim: bench line 3: syntax
+
+Of texts without a fault it tells how much they have of what, how many tests one run takes, and
+warnings of what is seldom meant.
+
+Each FILE is read whole. One FILE can be -, the standard input.";
 
 /// What is said after the long help of `run`.
 const ABOUT_RUN: &str = "\
@@ -230,10 +274,12 @@ tells for each fault the first test that detects it, counted from 0, and then th
     stem z sa1 0
     6 of 6 (100.00%)
 
---undetected tells the lines of the faults alone that no test detects, which end in none. --classes
-tells after the coverage how many of the fault classes are detected: 4 of 4 classes (100.00%).
+A fault that no test detects has none in place of a number. The faults are those of the uncollapsed
+list, and the percentage is cut off after two decimals. --undetected tells the lines of the faults
+alone that no test detects. --classes tells after the coverage how many of the fault classes are
+detected: 4 of 4 classes (100.00%).
 
-Each FILE is read whole. /dev/stdin serves as a file, too.";
+Each FILE is read whole. One FILE can be -, the standard input.";
 
 /// What is said after the long help of `curve`.
 const ABOUT_CURVE: &str = "\
@@ -255,7 +301,7 @@ detected up to it and how much of all that is, and then the coverage. Test 2 fin
     3 5 83.33
     5 of 6 (83.33%)
 
-Each FILE is read whole. /dev/stdin serves as a file, too.";
+Each FILE is read whole. One FILE can be -, the standard input.";
 
 /// What is said after the long help of `compact`.
 const ABOUT_COMPACT: &str = "\
@@ -280,7 +326,7 @@ Kept are the tests that are the first to detect some fault; then, from the last 
 of these that detect a fault which no later one detects. Under transition faults the first step is
 the only one, and each test that is kept keeps the test before it.
 
-Each FILE is read whole. /dev/stdin serves as a file, too.";
+Each FILE is read whole. One FILE can be -, the standard input.";
 
 /// What is said after the long help of `responses`.
 const ABOUT_RESPONSES: &str = "\
@@ -303,7 +349,7 @@ writes a row for each test, a bit for each OUTPUT line, and then what each flip-
 With the bit of a before it, what q captures is the second test of a launch on capture: 01 is
 followed by 01, and 11 by 10.
 
-Each FILE is read whole. /dev/stdin serves as a file, too.";
+Each FILE is read whole. One FILE can be -, the standard input.";
 
 /// What is said after the long help of `schedule`.
 const ABOUT_SCHEDULE: &str = "\
@@ -321,7 +367,7 @@ lets worker 1 move, then worker 0, then worker 1, and then all in turn:
 
     6 of 6 (100.00%)
 
-Each FILE is read whole. /dev/stdin serves as a file, too.";
+Each FILE is read whole. One FILE can be -, the standard input.";
 
 /// What is said after the long help of `faults`.
 const ABOUT_FAULTS: &str = "\
@@ -341,7 +387,7 @@ tells the class of each fault, counted from 0; faults of one class are detected 
     stem z sa1 class 1
     4 faults in 2 classes
 
-Each FILE is read whole. /dev/stdin serves as a file, too.";
+Each FILE is read whole. One FILE can be -, the standard input.";
 
 /// What is said after the long help of `merge`.
 const ABOUT_MERGE: &str = "\
@@ -363,21 +409,26 @@ tells what the run tells that is not cut into parts:
 
 The order of the files doesn't matter. All parts of one run must be there, each once.
 
-Each FILE is read whole. /dev/stdin serves as a file, too.";
+Each FILE is read whole. One FILE can be -, the standard input.";
 
-/// The option `--NAME FILE`.
-fn file_option<'a>(alloc: Global, name: &'a str, help: &'a str) -> Arg<'a> {
+/// The option `--NAME FILE`, with its letter.
+fn file_option<'a>(alloc: Global, name: &'a str, letter: char, help: &'a str) -> Arg<'a> {
     Arg::new(alloc, name)
         .long(name)
+        .short(letter)
         .value_name("FILE")
         .required(true)
         .help(help)
 }
 
+/// What is said of the option `--tests`.
+const TESTS_HELP: &str = "The tests, one a line: a bit for each input, then for each flip-flop";
+
 /// The option `--model MODEL`.
 fn model_option<'a>(alloc: Global) -> Arg<'a> {
     Arg::new(alloc, "model")
         .long("model")
+        .short('m')
         .value_name("MODEL")
         .value_parser(MODELS.as_slice())
         .default_value("stuck")
@@ -389,6 +440,7 @@ fn model_option<'a>(alloc: Global) -> Arg<'a> {
 fn workers_option<'a>(alloc: Global, help: &'a str) -> Arg<'a> {
     Arg::new(alloc, "workers")
         .long("workers")
+        .short('w')
         .value_name("N")
         .value_parser(value_parser!(u32).range(1..=i64::from(MAX_WORKERS)))
         .default_value("4")
@@ -434,8 +486,9 @@ pub(crate) fn workers_help(alloc: Global) -> Result<String, AllocError> {
 fn list_flag<'a>(alloc: Global) -> Arg<'a> {
     Arg::new(alloc, "list")
         .long("list")
+        .short('l')
         .action(ArgAction::SetTrue)
-        .help("Tell the first test of each fault, too")
+        .help("Tell the first test of each fault, too, none where no test detects it")
 }
 
 /// The flag `--undetected`.
@@ -455,6 +508,28 @@ fn classes_flag<'a>(alloc: Global) -> Arg<'a> {
         .help("Tell the coverage of the fault classes, too")
 }
 
+/// How a list is written.
+static FORMATS: [&str; 3] = ["text", "csv", "json"];
+
+/// The option `--format FORMAT`.
+fn format_option<'a>(alloc: Global) -> Arg<'a> {
+    Arg::new(alloc, "format")
+        .long("format")
+        .value_name("FORMAT")
+        .value_parser(FORMATS.as_slice())
+        .default_value("text")
+        .help("How the list of faults is written; csv and json tell all faults")
+}
+
+/// The option `--format FORMAT` of `run`.
+fn run_format_option<'a>(alloc: Global) -> Result<Arg<'a>, AllocError> {
+    format_option(alloc)
+        .conflicts_with("parts")?
+        .conflicts_with("part")?
+        .conflicts_with("detections")?
+        .conflicts_with("classes")
+}
+
 /// The files `FILE..` of `merge`.
 fn part_texts<'a>(alloc: Global) -> Arg<'a> {
     Arg::new(alloc, "part texts")
@@ -468,15 +543,13 @@ fn part_texts<'a>(alloc: Global) -> Arg<'a> {
 /// An option, with the help of `--workers N`.
 fn option<'a>(alloc: Global, choice: Choice, workers: &'a str) -> Result<Arg<'a>, AllocError> {
     let option = match choice {
-        Choice::Bench => file_option(alloc, "bench", "The circuit, a bench text"),
-        Choice::Tests => file_option(
-            alloc,
-            "tests",
-            "The tests, one a line: a bit for each input, then for each flip-flop",
-        ),
+        Choice::Bench => file_option(alloc, "bench", 'b', "The circuit, a bench text"),
+        Choice::Tests => file_option(alloc, "tests", 't', TESTS_HELP),
+        Choice::TestsIfAny => file_option(alloc, "tests", 't', TESTS_HELP).required(false),
         Choice::Order => file_option(
             alloc,
             "order",
+            'o',
             "The moves, the number of a worker, from 0, a line",
         ),
         Choice::Model => model_option(alloc),
@@ -487,6 +560,8 @@ fn option<'a>(alloc: Global, choice: Choice, workers: &'a str) -> Result<Arg<'a>
         Choice::List => list_flag(alloc),
         Choice::Undetected => undetected_flag(alloc)?,
         Choice::Classes => classes_flag(alloc),
+        Choice::RunFormat => run_format_option(alloc)?,
+        Choice::Format => format_option(alloc),
         Choice::PartTexts => part_texts(alloc),
     };
     Ok(option)

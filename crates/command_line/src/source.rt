@@ -2,6 +2,7 @@
 
 use std::alloc::Global;
 use std::io::ErrorKind;
+use std::os::unix::fs::{FileTypeExt, MetadataExt};
 use std::{fs, rt};
 
 /// Why a text could not be had.
@@ -13,13 +14,35 @@ pub enum SourceFault {
     Memory,
 }
 
+/// What a stream is known by: its device, and its number there.
+#[derive(Clone, Copy, Debug, PartialEq, Eq)]
+pub struct Stream {
+    pub device: u64,
+    pub number: u64,
+}
+
 /// Something that gives the text at a path, whole.
 pub trait Source {
     /// The bytes at a path.
     fn read(&mut self, alloc: Global, path: &str) -> Result<Vec<u8>, SourceFault>;
+
+    /// The stream at a path, where what is there gives its bytes once alone and can be told.
+    fn stream(&self, _path: &str) -> Option<Stream> {
+        None
+    }
 }
 
-/// The files of the system.
+/// Whether a path is that of the standard input: `-`, or a name that the system has for it.
+pub(crate) fn is_standard_input(path: &str) -> bool {
+    matches!(path, "-" | "/dev/stdin" | "/dev/fd/0" | "/proc/self/fd/0")
+}
+
+/// The path of the system for a path of the command line.
+fn system_path(path: &str) -> &str {
+    if path == "-" { "/dev/stdin" } else { path }
+}
+
+/// The files of the system, with the standard input as `-`.
 #[derive(Drop)]
 pub struct Files<'a, R> {
     rt: &'a R,
@@ -34,9 +57,23 @@ impl<'a, R: rt::Files + AllocGlobal> Files<'a, R> {
 
 impl<R: rt::Files + AllocGlobal> Source for Files<'_, R> {
     fn read(&mut self, _alloc: Global, path: &str) -> Result<Vec<u8>, SourceFault> {
-        fs::read(self.rt, path).map_err(|error| match error.kind() {
+        fs::read(self.rt, system_path(path)).map_err(|error| match error.kind() {
             ErrorKind::OutOfMemory => SourceFault::Memory,
             _ => SourceFault::Unreadable,
         })
+    }
+
+    /// The device and the inode of a pipe or a socket.
+    fn stream(&self, path: &str) -> Option<Stream> {
+        let found = fs::metadata(self.rt, system_path(path)).ok()?;
+        let kind = found.file_type();
+        if kind.is_fifo() || kind.is_socket() {
+            Some(Stream {
+                device: found.dev(),
+                number: found.ino(),
+            })
+        } else {
+            None
+        }
     }
 }

@@ -107,7 +107,7 @@ pub fn status_of(fault: &SimFault) -> u8
         SimFault::Job(JobFault::Memory) => FAILED,
         SimFault::Run(fault) => match fault {
             RunFault::NoWorkers | RunFault::TooManyWorkers => MISUSED,
-            RunFault::NoSuchMove(_) => REFUSED,
+            RunFault::NoSuchMove(_) | RunFault::TooManyPieces => REFUSED,
             RunFault::Memory | RunFault::Threads | RunFault::Unfinished { .. } => FAILED,
         },
         SimFault::Report(ReportFault::Write) | SimFault::Memory => FAILED,

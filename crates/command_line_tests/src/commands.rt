@@ -2,6 +2,7 @@
 
 use crate::cases::{CASES, Case, MORE_CASES, REFUSED_CASES, TRANSITION_CASES};
 use crate::daily::{CONTENTS_CASES, CURVE_CASES, DETECTION_CASES};
+use crate::formats::FORMAT_CASES;
 use crate::pairs::PAIR_CASES;
 use crate::rows::{COMPACT_CASES, RESPONSES_CASES};
 use crate::screen::{Answer, Screen, Texts, Wanted, answers, run_on};
@@ -124,6 +125,14 @@ fn responses_come_out(rt: HostRuntime) -> Result<(), Fail> {
 #[test]
 fn refused_cases_come_out(rt: HostRuntime) -> Result<(), Fail> {
     Ok(check_cases(&rt, &REFUSED_CASES)?)
+}
+
+#[test]
+fn tables_come_out(rt: HostRuntime) -> Result<(), Fail> {
+    for case in &FORMAT_CASES {
+        assert!(rt; is_right(&rt, case.line, case)?, "{}", case.name);
+    }
+    Ok(())
 }
 
 /// Whether an answer tells that the file `none` can't be read.

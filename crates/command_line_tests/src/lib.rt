@@ -4,9 +4,13 @@
 #[cfg(test)]
 mod cases;
 #[cfg(test)]
+mod checks;
+#[cfg(test)]
 mod commands;
 #[cfg(test)]
 mod daily;
+#[cfg(test)]
+mod formats;
 #[cfg(test)]
 mod generated;
 #[cfg(test)]

@@ -74,8 +74,25 @@ static LONG_BENCHES: [Past; 3] = [
     },
 ];
 
-/// More moves, and more pieces, than there may be.
-static LONG_RUNS: [Past; 2] = [
+/// A gate of many pins. Each of the 8,191 pins, the source and the gate have two faults: 16,386
+/// classes, of which 16,384 are of the gate's region.
+const WIDE: Long = Long {
+    before: "INPUT(a)\nz = XOR(a",
+    part: ",a",
+    count: 8_190,
+    after: ")",
+};
+
+/// As many tests as there may be.
+const MANY_TESTS: Long = Long {
+    before: "",
+    part: "0\n1\n",
+    count: 32_768,
+    after: "",
+};
+
+/// More moves, and more pieces, of the whole or of a part, than there may be.
+static LONG_RUNS: [Past; 4] = [
     Past {
         line: "faultsim schedule --bench bench --tests tests --order order",
         bench: Long {
@@ -93,19 +110,22 @@ static LONG_RUNS: [Past; 2] = [
     },
     Past {
         line: "faultsim run --bench bench --tests tests",
-        // Each of the 8,191 pins, the source and the gate have two faults: 16,386 classes.
-        bench: Long {
-            before: "INPUT(a)\nz = XOR(a",
-            part: ",a",
-            count: 8_190,
-            after: ")",
-        },
-        tests: Long {
-            before: "",
-            part: "0\n",
-            count: 65_536,
-            after: "",
-        },
+        bench: WIDE,
+        tests: MANY_TESTS,
+        order: NOTHING,
+        stderr: "faultsim: more than 16777216 pieces\n",
+    },
+    Past {
+        line: "faultsim run --bench bench --tests tests --parts 1",
+        bench: WIDE,
+        tests: MANY_TESTS,
+        order: NOTHING,
+        stderr: "faultsim: more than 16777216 pieces\n",
+    },
+    Past {
+        line: "faultsim run --bench bench --tests tests --part 1/1",
+        bench: WIDE,
+        tests: MANY_TESTS,
         order: NOTHING,
         stderr: "faultsim: more than 16777216 pieces\n",
     },

@@ -1,12 +1,12 @@
 //! Runs of command lines on files and streams in memory.
 
-use command_line::{Source, SourceFault, run_words};
+use command_line::{Source, SourceFault, Stream, run_words};
 use report::{Out, OutFailed};
 use std::alloc::{AllocError, Global};
 use std::sync::Wait;
 use std::thread::Threads;
 
-/// The files `bench`, `tests` and `order`.
+/// The files `bench`, `tests` and `order`, and one stream as `pipe` and `same-pipe`.
 #[derive(Clone, Copy)]
 pub struct Texts<'a> {
     pub bench: &'a str,
@@ -23,6 +23,16 @@ impl Source for Texts<'_> {
             _ => return Err(SourceFault::Unreadable),
         };
         Vec::from_slice(alloc, text.as_bytes()).map_err(|_| SourceFault::Memory)
+    }
+
+    fn stream(&self, path: &str) -> Option<Stream> {
+        match path {
+            "pipe" | "same-pipe" => Some(Stream {
+                device: 1,
+                number: 2,
+            }),
+            _ => None,
+        }
     }
 }
 

@@ -187,7 +187,7 @@ fn number_of_workers_is_refused_after_the_texts(rt: HostRuntime) -> Result<(), F
 }
 
 /// Each fault of a text call, its words and its status.
-static FAULTS: [(SimFault, &str, u8); 16] = [
+static FAULTS: [(SimFault, &str, u8); 17] = [
     (SimFault::Bench(BenchFault::Memory), "out of memory", 3),
     (SimFault::Tests(TestFault::Memory), "out of memory", 3),
     (SimFault::Job(JobFault::Memory), "out of memory", 3),
@@ -213,6 +213,11 @@ static FAULTS: [(SimFault, &str, u8); 16] = [
         1,
     ),
     (SimFault::Run(RunFault::NoWorkers), "no workers", 2),
+    (
+        SimFault::Run(RunFault::TooManyPieces),
+        "more than 16777216 pieces",
+        1,
+    ),
     (
         SimFault::Run(RunFault::TooManyWorkers),
         "more than 64 workers",

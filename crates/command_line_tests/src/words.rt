@@ -1,8 +1,9 @@
 //! Command lines that are refused or ask for help.
 
 /// Command lines of which the file `none` is the first that is missing.
-pub static MISSING: [&str; 8] = [
+pub static MISSING: [&str; 9] = [
     "faultsim faults --bench none",
+    "faultsim check --bench bench --tests none",
     "faultsim run --bench none --tests other",
     "faultsim run --bench bench --tests none",
     "faultsim curve --bench bench --tests none",
@@ -13,7 +14,7 @@ pub static MISSING: [&str; 8] = [
 ];
 
 /// Command lines that the program refuses, and what it says of each.
-pub static MISUSED: [(&str, &str); 36] = [
+pub static MISUSED: [(&str, &str); 40] = [
     ("faultsim", "Usage"),
     ("faultsim simulate", "simulate"),
     ("faultsim run --bench bench", "--tests <FILE>"),
@@ -128,12 +129,28 @@ pub static MISUSED: [(&str, &str); 36] = [
         "faultsim schedule --bench bench --tests tests --order order --parts 2",
         "--parts",
     ),
+    (
+        "faultsim run --bench - --tests /dev/stdin",
+        "cannot use the standard input for two files\n",
+    ),
+    (
+        "faultsim run --bench pipe --tests same-pipe",
+        "cannot use one stream for two files\n",
+    ),
+    (
+        "faultsim merge - part -",
+        "cannot use the standard input for two files\n",
+    ),
+    (
+        "faultsim run --bench bench --tests tests --format csv --parts 2",
+        "--format",
+    ),
 ];
 
 /// What help tells: the version, each option with the name of its value, the defaults, the range of
 /// the workers, a worked example and the status. The outputs of the examples are cases of their
 /// own.
-pub static HELP: [(&str, &str); 31] = [
+pub static HELP: [(&str, &str); 36] = [
     ("faultsim --version", "faultsim 0.2.0\n"),
     ("faultsim --help", "6 of 6 (100.00%)"),
     ("faultsim help run", "--bench <FILE>"),
@@ -157,12 +174,17 @@ pub static HELP: [(&str, &str); 31] = [
     ("faultsim curve --help", "3 5 83.33\n"),
     ("faultsim compact --help", "01\n    10\n    11\n"),
     ("faultsim responses --help", "01\n    00\n"),
-    ("faultsim run -h", "/dev/stdin"),
+    ("faultsim run -h", "-, the standard input"),
     ("faultsim schedule --help", "--order <FILE>"),
     ("faultsim schedule --help", "[default: 4]"),
     ("faultsim faults --help", "4 faults in 2 classes"),
-    ("faultsim faults --help", "/dev/stdin"),
+    ("faultsim faults --help", "-, the standard input"),
     ("faultsim merge --help", "<FILE>..."),
     ("faultsim merge --help", "--list"),
     ("faultsim merge --help", "6 of 6 (100.00%)"),
+    ("faultsim run -h", "-b, --bench <FILE>"),
+    ("faultsim run -h", "none where no test detects it"),
+    ("faultsim run --help", "uncollapsed"),
+    ("faultsim run --help", "text, csv, json"),
+    ("faultsim check --help", "did you mean NOT?"),
 ];

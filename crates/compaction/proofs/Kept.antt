@@ -509,12 +509,18 @@ pub fewer_pieces : (classes few many : ℕ) → few ≤ many
 fewer_pieces classes few many le =
     mul-le classes (blocks few) classes (blocks many) (omega arith) (omega (arith, le))
 
--- a run under other tests is refused as one under the job's own
-pub refused_alike : (job : Parts) (tests : TestList) (workers : ℕ) (f : RunFault) → IsRunFault
-    (with_tests job tests) workers ⊤ (λ _ _ _. ⊥) f → IsRunFault job workers ⊤ (λ _ _ _. ⊥) f
-refused_alike job tests workers run_fault.NoWorkers h = h
-refused_alike job tests workers run_fault.TooManyWorkers h = h
-refused_alike job tests workers (run_fault.NoSuchMove index) h = h
-refused_alike job tests workers run_fault.Memory h = h
-refused_alike job tests workers run_fault.Threads h = h
-refused_alike job tests workers (run_fault.Unfinished class block) h = absurd (h.4 tt)
+-- a run under tests that are no more is refused as one under the job's own
+pub refused_alike : (job : Parts) (tests : TestList) (workers : ℕ) (f : RunFault)
+    → length tests.tests ≤ length job.tests.tests
+    → IsRunFault (with_tests job tests) workers ⊤ (λ _ _ _. ⊥) f
+    → IsRunFault job workers ⊤ (λ _ _ _. ⊥) f
+refused_alike job tests workers run_fault.NoWorkers le h = h
+refused_alike job tests workers run_fault.TooManyWorkers le h = h
+refused_alike job tests workers (run_fault.NoSuchMove index) le h = h
+refused_alike job tests workers run_fault.TooManyPieces le h =
+    let fewer = fewer_pieces (length job.classes.representative) (length tests.tests)
+    (length job.tests.tests) le in
+    (h.0, h.1, omega (arith, h.2, fewer))
+refused_alike job tests workers run_fault.Memory le h = h
+refused_alike job tests workers run_fault.Threads le h = h
+refused_alike job tests workers (run_fault.Unfinished class block) le h = absurd (h.4 tt)

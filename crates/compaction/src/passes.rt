@@ -1,16 +1,16 @@
 //! The two passes of a compaction.
 
 ghost use Rattle.std.specs.Prelude.{◌≡◌, ◌<◌, ◌≤◌, ⊤, IfErr, IfOk, OnOk, length};
-ghost use Rattle.block_sim.specs.Parts.{BelongTogether, piece_count, with_tests};
+ghost use Rattle.block_sim.specs.Parts.{BelongTogether, with_tests};
 ghost use Rattle.compaction.specs.Compaction.{IsCompaction};
 ghost use Rattle.compaction.specs.Marks.{AreLast};
-ghost use Rattle.patterns.specs.Tests.{IsTestList, max_pieces};
+ghost use Rattle.patterns.specs.Tests.{IsTestList};
 ghost use Rattle.fault_model.specs.declared.Model.TheVariants as model;
 ghost use Rattle.workers.specs.Refused.{IsRunFault};
 
 use crate::finding::{finding_tests, mark_before};
 use crate::rows::{marked_tests, reversed_tests};
-use block_sim::{Job, JobFault};
+use block_sim::Job;
 use fault_model::Model;
 use patterns::Tests;
 use std::alloc::Global;
@@ -67,7 +67,6 @@ fn last_tests<R: Threads + Wait>(
     workers: u32,
 ) -> Result<Tests, RunFault>
     requires job { BelongTogether job.old }
-    requires pieces { piece_count job.old ≤ max_pieces }
     requires model { job.old.list.model ≡ model.StuckAt }
     requires width { tests.now.width ≡ job.old.tests.width }
     requires few { length tests.now.tests ≤ length job.old.tests.tests }
@@ -79,11 +78,7 @@ fn last_tests<R: Threads + Wait>(
     ensures refused { IfErr result (IsRunFault job.old workers ⊤ (λ _ _ _. ⊥)) }
 {
     let turned = reversed_tests(alloc, tests)?;
-    match job.set_tests(alloc, turned) {
-        Ok(()) => {}
-        Err(JobFault::Memory) => return Err(RunFault::Memory),
-        Err(JobFault::TooManyPieces) => unreachable!(),
-    }
+    job.set_tests_of_any_size(alloc, turned)?;
     let mut found = finding_tests(rt, alloc, job, workers)?;
     found.reverse();
     Ok(marked_tests(alloc, tests, &found)?)

@@ -1,5 +1,5 @@
-mod Counting
-mod Classes
+mod RangeCounts
+mod ClassCounts
 mod Shares
-mod Pushed
-mod Promised
+mod EachPushed
+mod ThreadPromises

@@ -8,7 +8,7 @@ use std::marker::Model;
 /// A word a signal, 0 where it does not differ, with the list of those that do.
 #[derive(Drop)]
 pub struct Overlay {
-    words: Vec<u64>,
+    words: Vec<u128>,
     changed: Vec<u32>,
     count: usize,
 }
@@ -30,7 +30,7 @@ impl Overlay {
         ensures room { IfOk result (λ o. length o ≡ signals) }
         ensures clear { IfOk result (λ o. All (λ word. word ≡ 0) o) }
     {
-        let words = vec![in alloc; 0u64; signals as usize]?;
+        let words = vec![in alloc; 0u128; signals as usize]?;
         let changed = vec![in alloc; 0u32; signals as usize]?;
         Ok(Overlay {
             words,
@@ -41,7 +41,7 @@ impl Overlay {
 
     /// The words.
     #[inline(always)]
-    pub fn words(&self) -> &[u64]
+    pub fn words(&self) -> &[u128]
         ensures { result.now ≡ self.now }
     {
         self.words.as_slice()
@@ -49,7 +49,7 @@ impl Overlay {
 
     /// Lets a signal differ that did not.
     #[inline(always)]
-    pub fn change(&mut self, signal: u32, word: u64)
+    pub fn change(&mut self, signal: u32, word: u128)
         requires signal { signal < length self.old }
         requires same { slice_index_or self.old signal 0 ≡ 0 }
         requires word { word ≢ 0 }
@@ -73,7 +73,7 @@ impl Overlay {
 
 /// Writes 0 at each of the listed places, which have all that is not 0.
 #[inline(always)]
-fn erase(words: &mut [u64], listed: &[u32])
+fn erase(words: &mut [u128], listed: &[u32])
     requires within { All (λ s. s < length words.old) listed.now }
     requires all { (s : ℕ) → slice_index_or words.old s 0 ≢ 0 → (j : ℕ) × (j < length listed.now)
         × (slice_index_or listed.now j 0 ≡ s) }

@@ -1,13 +1,19 @@
--- What defines a name: the definition of a name's number is the one statement that defines the name.
-use Rattle.std.proofs.Common.{◌≡◌, ℕ, refl, sym, ◌∙◌, ap, subst, Bool, true, false, List, [], ◌∷◌, inl, inr, ◌⊎◌}
-use Rattle.std.specs.Prelude.{Contains, Option, Some, slice_get, map, flat_map, bytes_eq, unwrap_or, ◌≢◌}
+-- What defines a name: the definition of a name's number is the one statement that defines the
+-- name.
+use Rattle.std.proofs.Common.{◌≡◌, ℕ, refl, sym, ◌∙◌, ap, subst, Bool, true, false, List, [], ◌∷◌}
+use Rattle.std.proofs.Common.{inl, inr, ◌⊎◌}
+use Rattle.std.specs.Prelude.{Contains, Option, Some, slice_get, map, bytes_eq, unwrap_or}
+use Rattle.std.specs.Prelude.{◌≢◌}
 use Rattle.std.specs.List.{position_or_len}
 use Rattle.std.proofs.Math.Numerals.{one-add}
-use Rattle.bench_net.specs.Statement.{Name, Statement, Input, Output, Gate, Dff, defined, read}
-use Rattle.bench_net.specs.Scan.{names, signal, name_of, definition, inputs, outputs, cells, sources}
+use Rattle.bench_net.specs.Statement.{Name, Statement, Input, Output, Gate, Dff, defined}
+use Rattle.bench_net.specs.Scan.{names, signal, name_of, definition, inputs, outputs, cells}
+use Rattle.bench_net.specs.Scan.{sources}
 use Rattle.bench_net.specs.Circuit.{IsWellFormed}
-use Rattle.lists.proofs.Members.{Among, among, contained, among_append, among_joined}
-use Rattle.bench_net.proofs.Public.{same_bytes, bytes_refl, at_position, name_of-signal}
+use Rattle.lists.proofs.Members.{Among, among, contained, among_append}
+pub use Rattle.bench_net.proofs.Public.{defined_among}
+use Rattle.bench_net.proofs.Public.{same_bytes, bytes_refl, at_position, name_of-signal, of_cell}
+use Rattle.bench_net.proofs.Public.{of_input}
 use Rattle.lists.proofs.Distinct.{Distinct, distinct_from_pairs, distinct_between, one_place_of}
 use Rattle.lists.proofs.Places.{at_place}
 
@@ -19,91 +25,87 @@ bytes_differ n m other = go (bytes_eq n m) refl
     go true e = absurd (other (sym (same_bytes n m e)))
     go false e = e
 
-here : {S : Type 0} (n m : Name) (ns : List Name) (x : S) (xs : List S) → m ≡ n → slice_get (x ∷ xs) (position_or_len (bytes_eq n) (m ∷ ns)) ≡ Some x
+here : {S : Type 0} (n m : Name) (ns : List Name) (x : S) (xs : List S) → m ≡ n
+    → slice_get (x ∷ xs) (position_or_len (bytes_eq n) (m ∷ ns)) ≡ Some x
 here n m ns x xs e = rw (e, bytes_refl n) refl
 
-later : {S : Type 0} (n m : Name) (ns : List Name) (x y : S) (xs : List S) → m ≢ n → slice_get xs (position_or_len (bytes_eq n) ns) ≡ Some y
+later : {S : Type 0} (n m : Name) (ns : List Name) (x y : S) (xs : List S) → m ≢ n
+    → slice_get xs (position_or_len (bytes_eq n) ns) ≡ Some y
     → slice_get (x ∷ xs) (position_or_len (bytes_eq n) (m ∷ ns)) ≡ Some y
 later n m ns x y xs other at = rw (bytes_differ n m other, one-add) at
-
--- a statement that defines n puts it among the names
-pub defined_among : (c : List Statement) (st : Statement) (n : Name) → Among st c → defined st ≡ n ∷ [] → Among n (names c)
-defined_among c st n a e = among_joined defined c st n a (rw e (inl refl))
 
 head_is : (m n : Name) (st : Statement) → defined st ≡ m ∷ [] → defined st ≡ n ∷ [] → m ≡ n
 head_is m n st e g = let h : m ∷ [] ≡ n ∷ [] = sym e ∙ g in cc
 
-definition_in : (c : List Statement) (st : Statement) (n : Name) → Distinct (names c) → Among st c → defined st ≡ n ∷ [] → definition c (signal c n) ≡ Some st
+definition_in : (c : List Statement) (st : Statement) (n : Name) → Distinct (names c) → Among st c
+    → defined st ≡ n ∷ [] → definition c (signal c n) ≡ Some st
 definition_in [] st n d a e = absurd a
 definition_in (Output m ∷ c) st n d (inl h) e = let bad : [] ≡ n ∷ [] = ap defined h ∙ e in cc
 definition_in (Output m ∷ c) st n d (inr a) e = definition_in c st n d a e
-definition_in (Input m ∷ c) st n d (inl h) e = here n m (names c) (Input m) _ (head_is m n st (sym (ap defined h)) e) ∙ ap Some h
+definition_in (Input m ∷ c) st n d (inl h) e =
+    here n m (names c) (Input m) _ (head_is m n st (sym (ap defined h)) e) ∙ ap Some h
 definition_in (Input m ∷ c) st n d (inr a) e =
-    later n m (names c) (Input m) st _ (λ same. d.0 (subst (λ x. Among x (names c)) (sym same) (defined_among c st n a e))) (definition_in c st n d.1 a e)
-definition_in (Gate m kind args ∷ c) st n d (inl h) e = here n m (names c) (Gate m kind args) _ (head_is m n st (sym (ap defined h)) e) ∙ ap Some h
+    later n m (names c) (Input m) st _
+    (λ same. d.0 (subst (λ x. Among x (names c)) (sym same) (defined_among c st n a e)))
+    (definition_in c st n d.1 a e)
+definition_in (Gate m kind args ∷ c) st n d (inl h) e =
+    here n m (names c) (Gate m kind args) _ (head_is m n st (sym (ap defined h)) e) ∙ ap Some h
 definition_in (Gate m kind args ∷ c) st n d (inr a) e =
-    later n m (names c) (Gate m kind args) st _ (λ same. d.0 (subst (λ x. Among x (names c)) (sym same) (defined_among c st n a e))) (definition_in c st n d.1 a e)
-definition_in (Dff q x ∷ c) st n d (inl h) e = here n q (names c) (Dff q x) _ (head_is q n st (sym (ap defined h)) e) ∙ ap Some h
+    later n m (names c) (Gate m kind args) st _
+    (λ same. d.0 (subst (λ x. Among x (names c)) (sym same) (defined_among c st n a e)))
+    (definition_in c st n d.1 a e)
+definition_in (Dff q x ∷ c) st n d (inl h) e =
+    here n q (names c) (Dff q x) _ (head_is q n st (sym (ap defined h)) e) ∙ ap Some h
 definition_in (Dff q x ∷ c) st n d (inr a) e =
-    later n q (names c) (Dff q x) st _ (λ same. d.0 (subst (λ y. Among y (names c)) (sym same) (defined_among c st n a e))) (definition_in c st n d.1 a e)
+    later n q (names c) (Dff q x) st _
+    (λ same. d.0 (subst (λ y. Among y (names c)) (sym same) (defined_among c st n a e)))
+    (definition_in c st n d.1 a e)
 
 -- in a well-formed list the definition of a name's number is the statement that defines it
-pub definition-signal : (c : List Statement) (st : Statement) (n : Name) → IsWellFormed c → Contains c st → defined st ≡ n ∷ [] → definition c (signal c n) ≡ Some st
-definition-signal c st n well at e = definition_in c st n (distinct_from_pairs (names c) well.once) (among c st at) e
+pub definition-signal : (c : List Statement) (st : Statement) (n : Name) → IsWellFormed c
+    → Contains c st → defined st ≡ n ∷ [] → definition c (signal c n) ≡ Some st
+definition-signal c st n well at e =
+    definition_in c st n (distinct_from_pairs (names c) well.once) (among c st at) e
 
 -- so two statements that define one name are one
-pub one_definition : (c : List Statement) (s t : Statement) (n : Name) → IsWellFormed c → Contains c s → Contains c t → defined s ≡ n ∷ [] → defined t ≡ n ∷ [] → s ≡ t
+pub one_definition : (c : List Statement) (s t : Statement) (n : Name) → IsWellFormed c
+    → Contains c s → Contains c t → defined s ≡ n ∷ [] → defined t ≡ n ∷ [] → s ≡ t
 one_definition c s t n well p q e g =
-    let same : Some s ≡ Some t = sym (definition-signal c s n well p e) ∙ definition-signal c t n well q g in
+    let same : Some s ≡ Some t =
+    sym (definition-signal c s n well p e) ∙ definition-signal c t n well q g in
     ap (λ o. unwrap_or o t) same
 
 -- names with one number are one name
-pub signal_apart : (c : List Statement) (m n : Name) → Contains (names c) m → Contains (names c) n → signal c m ≡ signal c n → m ≡ n
+pub signal_apart : (c : List Statement) (m n : Name) → Contains (names c) m → Contains (names c) n
+    → signal c m ≡ signal c n → m ≡ n
 signal_apart c m n p q e =
-    let same : Some m ≡ Some n = sym (name_of-signal c m p) ∙ (ap (name_of c) e ∙ name_of-signal c n q) in
+    let same : Some m ≡ Some n =
+    sym (name_of-signal c m p) ∙ (ap (name_of c) e ∙ name_of-signal c n q) in
     ap (λ o. unwrap_or o n) same
 
--- what an input and a cell define
-input_in : (c : List Statement) (n : Name) → Among n (inputs c) → Among (Input n) c
-input_in [] n a = absurd a
-input_in (Input m ∷ c) n (inl e) = inl (ap Input e)
-input_in (Input m ∷ c) n (inr a) = inr (input_in c n a)
-input_in (Output m ∷ c) n a = inr (input_in c n a)
-input_in (Gate m kind args ∷ c) n a = inr (input_in c n a)
-input_in (Dff q d ∷ c) n a = inr (input_in c n a)
-
+-- an output and a cell stand in the list
 pub output_in : (c : List Statement) (n : Name) → Among n (outputs c) → Among (Output n) c
 output_in [] n a = absurd a
 output_in (Output m ∷ c) n (inl e) = inl (ap Output e)
 output_in (Output m ∷ c) n (inr a) = inr (output_in c n a)
-output_in (Input m ∷ c) n a = inr (output_in c n a)
-output_in (Gate m kind args ∷ c) n a = inr (output_in c n a)
-output_in (Dff q d ∷ c) n a = inr (output_in c n a)
+output_in (_ ∷ c) n a = inr (output_in c n a)
 
-pub cell_in : (c : List Statement) (at : Name × Name) → Among at (cells c) → Among (Dff at.0 at.1) c
+pub cell_in : (c : List Statement) (at : Name × Name) → Among at (cells c)
+    → Among (Dff at.0 at.1) c
 cell_in [] at a = absurd a
 cell_in (Dff q d ∷ c) at (inl e) = inl (ap (λ p. Dff p.0 p.1) e)
 cell_in (Dff q d ∷ c) at (inr a) = inr (cell_in c at a)
-cell_in (Input m ∷ c) at a = inr (cell_in c at a)
-cell_in (Gate m kind args ∷ c) at a = inr (cell_in c at a)
-cell_in (Output m ∷ c) at a = inr (cell_in c at a)
-
--- a name of the cells' q is that of a cell
-driven_by_cell : (c : List Statement) (n : Name) → Among n (map (λ cell. cell.0) (cells c)) → (d : Name) × Among (Dff n d) c
-driven_by_cell [] n a = absurd a
-driven_by_cell (Dff q d ∷ c) n (inl e) = (d, inl (ap (λ x. Dff x d) e))
-driven_by_cell (Dff q d ∷ c) n (inr a) = let p = driven_by_cell c n a in (p.0, inr p.1)
-driven_by_cell (Input m ∷ c) n a = let p = driven_by_cell c n a in (p.0, inr p.1)
-driven_by_cell (Gate m kind args ∷ c) n a = let p = driven_by_cell c n a in (p.0, inr p.1)
-driven_by_cell (Output m ∷ c) n a = let p = driven_by_cell c n a in (p.0, inr p.1)
+cell_in (_ ∷ c) at a = inr (cell_in c at a)
 
 -- a source is an input or the q of a cell
-source_by : (c : List Statement) (n : Name) → Among n (sources c) → Among (Input n) c ⊎ ((d : Name) × Among (Dff n d) c)
+source_by : (c : List Statement) (n : Name) → Among n (sources c)
+    → Among (Input n) c ⊎ ((d : Name) × Among (Dff n d) c)
 source_by c n a = go (among_append (inputs c) (map (λ cell. cell.0) (cells c)) n a)
   where
-    go : Among n (inputs c) ⊎ Among n (map (λ cell. cell.0) (cells c)) → Among (Input n) c ⊎ ((d : Name) × Among (Dff n d) c)
-    go (inl h) = inl (input_in c n h)
-    go (inr h) = inr (driven_by_cell c n h)
+    go : Among n (inputs c) ⊎ Among n (map (λ cell. cell.0) (cells c))
+        → Among (Input n) c ⊎ ((d : Name) × Among (Dff n d) c)
+    go (inl h) = inl (of_input c n h)
+    go (inr h) = inr (of_cell c n h)
 
 -- so it is a defined name
 pub source_named : (c : List Statement) (n : Name) → Among n (sources c) → Among n (names c)
@@ -119,7 +121,8 @@ IsSource (Some (Input n)) = Unit {0}
 IsSource (Some (Dff q d)) = Unit {0}
 IsSource _ = ⊥
 
-pub source_definition : (c : List Statement) (n : Name) → IsWellFormed c → Among n (sources c) → IsSource (definition c (signal c n))
+pub source_definition : (c : List Statement) (n : Name) → IsWellFormed c → Among n (sources c)
+    → IsSource (definition c (signal c n))
 source_definition c n well a = go (source_by c n a)
   where
     go : Among (Input n) c ⊎ ((d : Name) × Among (Dff n d) c) → IsSource (definition c (signal c n))
@@ -132,10 +135,14 @@ distinct_sources [] d = tt
 distinct_sources (Input m ∷ c) d = (λ a. d.0 (source_named c m a), distinct_sources c d.1)
 distinct_sources (Output m ∷ c) d = distinct_sources c d
 distinct_sources (Gate m kind args ∷ c) d = distinct_sources c d.1
-distinct_sources (Dff q x ∷ c) d = distinct_between (inputs c) (map (λ cell. cell.0) (cells c)) q (distinct_sources c d.1) (λ a. d.0 (source_named c q a))
+distinct_sources (Dff q x ∷ c) d =
+    distinct_between (inputs c) (map (λ cell. cell.0) (cells c)) q (distinct_sources c d.1)
+    (λ a. d.0 (source_named c q a))
 
 -- the place of a source is where it stands
-pub source_place : (c : List Statement) (i : ℕ) (n : Name) → IsWellFormed c → slice_get (sources c) i ≡ Some n → position_or_len (bytes_eq n) (sources c) ≡ i
+pub source_place : (c : List Statement) (i : ℕ) (n : Name) → IsWellFormed c
+    → slice_get (sources c) i ≡ Some n → position_or_len (bytes_eq n) (sources c) ≡ i
 source_place c i n well e =
-    one_place_of (sources c) (position_or_len (bytes_eq n) (sources c)) i n (distinct_sources c (distinct_from_pairs (names c) well.once))
+    one_place_of (sources c) (position_or_len (bytes_eq n) (sources c)) i n
+    (distinct_sources c (distinct_from_pairs (names c) well.once))
     (at_position (sources c) n (at_place (sources c) i n e)) e

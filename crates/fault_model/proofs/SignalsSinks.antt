@@ -1,12 +1,15 @@
--- Who reads a name: each pin, data pin and output that reads it is among its sinks, and a gate pin among them reads it.
-use Rattle.std.proofs.Common.{◌≡◌, ℕ, refl, sym, ◌∙◌, ap, subst, Bool, true, false, List, [], ◌∷◌, inl, inr, ◌⊎◌}
+-- Who reads a name: each pin, data pin and output that reads it is among its sinks, and a gate pin
+-- among them reads it.
+use Rattle.std.proofs.Common.{◌≡◌, ℕ, refl, sym, ◌∙◌, ap, subst, Bool, true, false, List, [], ◌∷◌}
+use Rattle.std.proofs.Common.{inl, inr, ◌⊎◌}
 use Rattle.std.specs.Prelude.{Some, slice_get, map, filter, flat_map, bytes_eq}
 use Rattle.std.specs.List.{enumerate_from}
 use Rattle.bench_net.specs.declared.Kind.{Kind}
 use Rattle.bench_net.specs.declared.Sink.TheVariants.{Pin, Data, Out}
 use Rattle.bench_net.specs.Statement.{Name, Statement, Input, Output, Gate, Dff}
 use Rattle.bench_net.specs.Scan.{signal, outputs, cell, places, pins_of, sinks}
-use Rattle.lists.proofs.Members.{Among, among_left, among_right, among_append, among_joined, joined_from, among_map, mapped_from, among_filter, filtered_from}
+use Rattle.lists.proofs.Members.{Among, among_left, among_right, among_append, among_joined}
+use Rattle.lists.proofs.Members.{joined_from, among_map, mapped_from, among_filter, filtered_from}
 use Rattle.bench_net.proofs.Public.{same_bytes, bytes_refl}
 use Rattle.lists.proofs.Places.{among_numbered, numbered_at}
 
@@ -14,9 +17,11 @@ use Rattle.lists.proofs.Places.{among_numbered, numbered_at}
 among_places : (n : Name) (ns : List Name) (i : ℕ) → slice_get ns i ≡ Some n → Among i (places n ns)
 among_places n ns i e =
     among_map (λ at. at.0) (filter (λ at. bytes_eq n at.1) (enumerate_from 0 ns)) (i, n)
-    (among_filter (λ at. bytes_eq n at.1) (enumerate_from 0 ns) (i, n) (among_numbered ns i n e) (bytes_refl n))
+    (among_filter (λ at. bytes_eq n at.1) (enumerate_from 0 ns) (i, n) (among_numbered ns i n e)
+    (bytes_refl n))
 
-pub places_are : (n : Name) (ns : List Name) (i : ℕ) → Among i (places n ns) → slice_get ns i ≡ Some n
+pub places_are : (n : Name) (ns : List Name) (i : ℕ) → Among i (places n ns)
+    → slice_get ns i ≡ Some n
 places_are n ns i a =
     let p = mapped_from (λ at. at.0) (filter (λ at. bytes_eq n at.1) (enumerate_from 0 ns)) i a in
     let q = filtered_from (λ at. bytes_eq n at.1) (enumerate_from 0 ns) p.0 p.1 in
@@ -24,7 +29,8 @@ places_are n ns i a =
     subst (λ k. slice_get ns k ≡ Some n) p.2 (numbered_at ns p.0 q.0 ∙ ap Some (sym same))
 
 -- a pin that reads the name is among its sinks
-pub pin_among : (c : List Statement) (x n : Name) (kind : Kind) (args : List Name) (pin : ℕ) → Among (Gate x kind args) c → slice_get args pin ≡ Some n
+pub pin_among : (c : List Statement) (x n : Name) (kind : Kind) (args : List Name) (pin : ℕ)
+    → Among (Gate x kind args) c → slice_get args pin ≡ Some n
     → Among (Pin (signal c x) pin) (sinks c n)
 pin_among c x n kind args pin a e =
     among_left (flat_map (pins_of c n) c) (map Out (places n (outputs c))) (Pin (signal c x) pin)
@@ -32,12 +38,15 @@ pin_among c x n kind args pin a e =
     (among_map (λ k. Pin (signal c x) k) (places n args) pin (among_places n args pin e)))
 
 -- so is an output that observes it
-pub out_among : (c : List Statement) (n : Name) (output : ℕ) → slice_get (outputs c) output ≡ Some n → Among (Out output) (sinks c n)
+pub out_among : (c : List Statement) (n : Name) (output : ℕ) → slice_get (outputs c) output ≡ Some n
+    → Among (Out output) (sinks c n)
 out_among c n output e =
-    among_right (flat_map (pins_of c n) c) (map Out (places n (outputs c))) (Out output) (among_map Out (places n (outputs c)) output (among_places n (outputs c) output e))
+    among_right (flat_map (pins_of c n) c) (map Out (places n (outputs c))) (Out output)
+    (among_map Out (places n (outputs c)) output (among_places n (outputs c) output e))
 
 -- and a cell's data pin
-pub data_among : (c : List Statement) (q n : Name) → Among (Dff q n) c → Among (Data (cell c q)) (sinks c n)
+pub data_among : (c : List Statement) (q n : Name) → Among (Dff q n) c
+    → Among (Data (cell c q)) (sinks c n)
 data_among c q n a =
     among_left (flat_map (pins_of c n) c) (map Out (places n (outputs c))) (Data (cell c q))
     (among_joined (pins_of c n) c (Dff q n) (Data (cell c q)) a (rw (bytes_refl n) (inl refl)))
@@ -51,7 +60,8 @@ pub record PinReads (c : List Statement) (n : Name) (gate pin : ℕ) : Type 0 wh
   pub number : signal c name ≡ gate
   pub reads : slice_get args pin ≡ Some n
 
-pin_of : (c : List Statement) (n : Name) (st : Statement) (gate pin : ℕ) → Among st c → Among (Pin gate pin) (pins_of c n st) → PinReads c n gate pin
+pin_of : (c : List Statement) (n : Name) (st : Statement) (gate pin : ℕ) → Among st c
+    → Among (Pin gate pin) (pins_of c n st) → PinReads c n gate pin
 pin_of c n (Input m) gate pin a h = absurd h
 pin_of c n (Output m) gate pin a h = absurd h
 pin_of c n (Gate x kind args) gate pin a h =
@@ -78,9 +88,16 @@ pin_of c n (Dff q d) gate pin a h = go (bytes_eq n d) refl
     go false e = let none : ⊥ = rw e at h in absurd none
 
 -- a gate pin among the sinks of a name is a pin that reads it
-pub pin_reads : (c : List Statement) (n : Name) (gate pin : ℕ) → Among (Pin gate pin) (sinks c n) → PinReads c n gate pin
-pin_reads c n gate pin a = go (among_append (flat_map (pins_of c n) c) (map Out (places n (outputs c))) (Pin gate pin) a)
+pub pin_reads : (c : List Statement) (n : Name) (gate pin : ℕ) → Among (Pin gate pin) (sinks c n)
+    → PinReads c n gate pin
+pin_reads c n gate pin a =
+    go (among_append (flat_map (pins_of c n) c) (map Out (places n (outputs c))) (Pin gate pin) a)
   where
-    go : Among (Pin gate pin) (flat_map (pins_of c n) c) ⊎ Among (Pin gate pin) (map Out (places n (outputs c))) → PinReads c n gate pin
-    go (inl h) = let p = joined_from (pins_of c n) c (Pin gate pin) h in pin_of c n p.0 gate pin p.1 p.2
-    go (inr h) = let p = mapped_from Out (places n (outputs c)) (Pin gate pin) h in let bad : Out p.0 ≡ Pin gate pin = p.2 in cc
+    go : Among (Pin gate pin) (flat_map (pins_of c n) c)
+        ⊎ Among (Pin gate pin) (map Out (places n (outputs c))) → PinReads c n gate pin
+    go (inl h) =
+        let p = joined_from (pins_of c n) c (Pin gate pin) h in pin_of c n p.0 gate pin p.1 p.2
+    go (inr h) =
+        let p = mapped_from Out (places n (outputs c)) (Pin gate pin) h in
+        let bad : Out p.0 ≡ Pin gate pin = p.2 in
+        cc

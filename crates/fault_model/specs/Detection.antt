@@ -1,5 +1,6 @@
 -- Which tests of a list detect a fault of a model.
-use Rattle.std.specs.Prelude.{◌≡◌, ◌↔◌, ◌+◌, ◌*◌, ⊤, ℕ, zero, suc, Bool, List, Option, Some, None, option_map, slice_get}
+use Rattle.std.specs.Prelude.{◌≡◌, ◌↔◌, ◌+◌, ◌*◌, ⊤, ℕ, zero, suc, Bool, List, Option, Some, None}
+use Rattle.std.specs.Prelude.{option_map, slice_get}
 use Rattle.bench_net.specs.Statement.{Name, Statement, Gate}
 use Rattle.bench_net.specs.Scan.{name_of, definition, cells, outputs}
 use Rattle.fault_model.specs.declared.Line.{Line}

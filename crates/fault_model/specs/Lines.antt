@@ -1,5 +1,6 @@
 -- What the tables of the fault list keep.
-use Rattle.std.specs.Prelude.{◌≡◌, ◌≤◌, ◌+◌, ℕ, List, length, Contains, Some, slice_get, option_and_then}
+use Rattle.std.specs.Prelude.{◌≡◌, ◌≤◌, ◌+◌, ℕ, List, length, Contains, Some, slice_get}
+use Rattle.std.specs.Prelude.{option_and_then}
 use Rattle.bench_net.specs.Circuit.{max_signals, max_sinks}
 use Rattle.fault_model.specs.declared.Line.{Line}
 use Rattle.fault_model.specs.declared.Line.TheVariants as line

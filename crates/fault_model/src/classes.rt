@@ -1,11 +1,14 @@
 //! Equivalence collapsing.
 
-ghost use Rattle.std.specs.Prelude.{◌≡◌, ◌<◌, ◌≤◌, List, ℕ, map, length, IfOk, Some, None, Option, option_map, option_and_then, slice_get};
+ghost use Rattle.std.specs.Prelude.{◌≡◌, ◌<◌, ◌≤◌, List, ℕ, map, length, IfOk, Some, None, Option};
+ghost use Rattle.std.specs.Prelude.{option_map, option_and_then, slice_get};
 ghost use Rattle.bench_net.specs.Scan.{names};
 ghost use Rattle.bench_net.specs.Circuit.{IsCircuit};
 ghost use Rattle.fault_model.specs.Fault.{Fault, faults};
-ghost use Rattle.fault_model.specs.Collapse.{next, next_stuck, readers, representatives, AreClassesOf, ClassesShowSame};
-ghost use Rattle.fault_model.specs.Known.{only_gate, IsInCircuit, HasClassAt, HasEnds, HasNext, HasStems, KeepsClasses};
+ghost use Rattle.fault_model.specs.Collapse.{next, next_stuck, readers, representatives};
+ghost use Rattle.fault_model.specs.Collapse.{AreClassesOf, ClassesShowSame};
+ghost use Rattle.fault_model.specs.Known.{only_gate, IsInCircuit, HasClassAt, HasEnds, HasNext};
+ghost use Rattle.fault_model.specs.Known.{HasStems, KeepsClasses};
 
 use crate::Line;
 use crate::faults::Faults;

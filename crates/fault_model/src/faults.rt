@@ -1,6 +1,7 @@
 //! The fault list of a circuit.
 
-ghost use Rattle.std.specs.Prelude.{◌≡◌, ◌++◌, ◌<◌, List, map, length, Contains, IfOk, IfSome, OnOk, Some, slice_get, nat_le, if◌then◌else◌, []};
+ghost use Rattle.std.specs.Prelude.{◌≡◌, ◌++◌, ◌<◌, List, map, length, Contains, IfOk, IfSome};
+ghost use Rattle.std.specs.Prelude.{OnOk, Some, slice_get, nat_le, if◌then◌else◌, []};
 ghost use Rattle.fault_model.specs.declared.Line.TheVariants as line;
 ghost use Rattle.fault_model.specs.declared.Model.TheVariants as model;
 ghost use Rattle.fault_model.specs.Fault.{Fault, branch, faults, fault_list};

@@ -12,7 +12,9 @@ ghost use Rattle.fault_model.specs.declared.Model.{Model};
 ghost use Rattle.fault_model.specs.Fault.{faults};
 ghost use Rattle.fault_model.specs.Collapse.{ClassesShowSame};
 ghost use Rattle.fault_model.specs.Detection.{ClassesDetectedSame, DetectedAsRepresentative};
-ghost use Rattle.fault_model.specs.Laws.{HasSolutions, HasOneSolution, HasRepresentatives, HasClasses, ClassesDetectSame, RepresentativesDetectSame, DetectionIsOfAnySolution};
+ghost use Rattle.fault_model.specs.Laws.{HasSolutions, HasOneSolution, HasRepresentatives};
+ghost use Rattle.fault_model.specs.Laws.{HasClasses, ClassesDetectSame, RepresentativesDetectSame};
+ghost use Rattle.fault_model.specs.Laws.{DetectionIsOfAnySolution};
 
 /// A circuit without cycles has exactly one solution under each test, without a fault and under
 /// each single stuck-at fault.

@@ -36,15 +36,17 @@ is, and 3 where a file, the output, memory or a thread is.";
 fn bench_option<'a>(alloc: Global) -> Arg<'a> {
     Arg::new(alloc, "bench")
         .long("bench")
+        .short('b')
         .value_name("FILE")
         .required(true)
-        .help("The circuit, a bench text")
+        .help("The circuit, a bench text; - is the standard input")
 }
 
 /// The option `--model MODEL`.
 fn model_option<'a>(alloc: Global) -> Arg<'a> {
     Arg::new(alloc, "model")
         .long("model")
+        .short('m')
         .value_name("MODEL")
         .value_parser(MODELS.as_slice())
         .default_value("stuck")
@@ -75,6 +77,7 @@ fn most_option<'a>(alloc: Global) -> Arg<'a> {
 fn workers_option<'a>(alloc: Global) -> Arg<'a> {
     Arg::new(alloc, "workers")
         .long("workers")
+        .short('w')
         .value_name("N")
         .value_parser(value_parser!(u32).range(1..=i64::from(MAX_WORKERS)))
         .default_value("4")

@@ -1,8 +1,9 @@
 //! Rounds of random tests, and the classes that are left.
 
-ghost use Rattle.std.specs.Prelude.{◌≡◌, ◌<◌, ◌≤◌, All, IfErr, IfOk, length};
+ghost use Rattle.std.specs.Prelude.{◌≡◌, ◌<◌, ◌≤◌, All, IfErr, IfOk, OnOk, length};
 ghost use Rattle.bench_net.specs.Scan.{sources};
-ghost use Rattle.patterns.specs.Tests.{IsTestList};
+ghost use Rattle.patterns.specs.Tests.{IsTestList, max_pieces};
+ghost use Rattle.block_sim.specs.Parts.{piece_count};
 ghost use Rattle.generator.specs.Generated.{IsWorkFault, undetected};
 
 use crate::Settings;
@@ -88,6 +89,7 @@ fn take_random_tests(
     requires { blocks ≤ 1024 }
     ensures classes { job.new.classes ≡ job.old.classes }
     ensures circuit { job.new.circuit ≡ job.old.circuit }
+    ensures few { OnOk result (piece_count job.new ≤ max_pieces) }
 {
     let tests = random_tests(alloc, job.circuit().sources(), blocks, rng)?;
     job.set_tests(alloc, tests)

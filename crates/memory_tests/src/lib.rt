@@ -9,6 +9,8 @@ mod commands;
 #[cfg(test)]
 mod full;
 #[cfg(test)]
+mod merges;
+#[cfg(test)]
 mod once;
 #[cfg(test)]
 mod parts;

@@ -4,7 +4,7 @@
 use crate::parts::{MEANS, Making, PARTS, Setting, c17_under, tests_of_c17};
 use crate::runs::{Scheduled, Threaded};
 use crate::sweep::once;
-use crate::texts::{TextCall, Written, text_of};
+use crate::texts::{CALLS, Written, text_of};
 use block_sim::Job;
 use fault_model::Model;
 use report::{Contents, Lines, listing_bytes, report_bytes};
@@ -37,7 +37,7 @@ fn write_texts<R: Threads + Wait + Abort>(
     report: &[u8],
     listing: &[u8],
 ) {
-    for call in [TextCall::Simulate, TextCall::Schedule, TextCall::Faults] {
+    for call in CALLS {
         let text = text_of(call, report, listing);
         let written = Written {
             rt,

@@ -124,7 +124,7 @@ fn add_tests(sum: &mut Sum, tests: &Tests) {
 /// What the calls of the verdicts answer.
 fn add_verdicts(sum: &mut Sum, verdicts: &Verdicts) {
     sum.add(u64::from(verdicts.detected()));
-    sum.add(u64::from(verdicts.skipped()));
+    sum.add(verdicts.skipped());
     for fault in 0..verdicts.total() {
         sum.add(u64::from(verdicts.first(fault).unwrap_or(u32::MAX)));
     }

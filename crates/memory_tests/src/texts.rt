@@ -6,8 +6,9 @@ use crate::parts::{ORDER, is_want, tests_of_c17};
 use crate::sweep::{Outcome, Trial, answered, refused, sweep};
 use fault_model::Model;
 use report::{
-    Contents, Lines, Out, OutFailed, RunFault, SimFault, faults_text, listing_bytes, report_bytes,
-    schedule_text, simulate_text, simulate_text_in_parts,
+    Contents, Lines, Out, OutFailed, RunFault, SimFault, compact_text_in, curve_text_in,
+    detections_text_in, faults_text, listing_bytes, report_bytes, responses_text_in, schedule_text,
+    simulate_text, simulate_text_in_parts,
 };
 use std::alloc::Global;
 use std::process::Abort;
@@ -64,13 +65,51 @@ pub(crate) enum TextCall {
     InParts,
     Schedule,
     Faults,
+    Curve,
+    Detections,
+    Compact,
+    Responses,
 }
+
+/// All of them.
+pub(crate) const CALLS: [TextCall; 8] = [
+    TextCall::Simulate,
+    TextCall::InParts,
+    TextCall::Schedule,
+    TextCall::Faults,
+    TextCall::Curve,
+    TextCall::Detections,
+    TextCall::Compact,
+    TextCall::Responses,
+];
+
+/// The curve of C17 under the tests of [`tests_of_c17`]: 64 tests of ones, and then one of zeros.
+/// Ones detect 14 of the 34 faults, and zeros 5 more.
+const CURVE: &[u8] = b"0 14 41.17\n64 19 55.88\n19 of 34 (55.88%)\n";
+
+/// How many faults two of these tests detect.
+const TWICE_DETECTED: &[u8] = b"14 of 34 (41.17%)\n";
+
+/// The tests that are kept.
+const COMPACTED: &[u8] = b"11111\n00000\n";
+
+/// What C17 answers to these tests.
+const RESPONSES: &[u8] = b"\
+    10\n10\n10\n10\n10\n10\n10\n10\n10\n10\n10\n10\n10\n10\n10\n10\n\
+    10\n10\n10\n10\n10\n10\n10\n10\n10\n10\n10\n10\n10\n10\n10\n10\n\
+    10\n10\n10\n10\n10\n10\n10\n10\n10\n10\n10\n10\n10\n10\n10\n10\n\
+    10\n10\n10\n10\n10\n10\n10\n10\n10\n10\n10\n10\n10\n10\n10\n10\n\
+    00\n";
 
 /// What a text call on C17 writes, of its report and its listing.
 pub(crate) fn text_of<'a>(call: TextCall, report: &'a [u8], listing: &'a [u8]) -> &'a [u8] {
     match call {
         TextCall::Simulate | TextCall::InParts | TextCall::Schedule => report,
         TextCall::Faults => listing,
+        TextCall::Curve => CURVE,
+        TextCall::Detections => TWICE_DETECTED,
+        TextCall::Compact => COMPACTED,
+        TextCall::Responses => RESPONSES,
     }
 }
 
@@ -85,25 +124,33 @@ pub(crate) struct Written<'a, R> {
 
 impl<R: Threads + Wait> Written<'_, R> {
     fn write(&self, alloc: Global, screen: &mut Screen) -> Result<(), SimFault> {
+        let (rt, tests, model) = (self.rt, self.tests, Model::StuckAt);
         let all = Contents::of(Lines::All);
         match self.call {
-            TextCall::Simulate => simulate_text(self.rt, alloc, C17, self.tests, 2, all, screen),
+            TextCall::Simulate => simulate_text(rt, alloc, C17, tests, 2, all, screen),
             TextCall::InParts => {
-                let model = Model::StuckAt;
-                simulate_text_in_parts(self.rt, alloc, model, C17, self.tests, 3, 2, all, screen)
+                simulate_text_in_parts(rt, alloc, model, C17, tests, 3, 2, all, screen)
             }
-            TextCall::Schedule => schedule_text(alloc, C17, self.tests, ORDER, 2, all, screen),
+            TextCall::Schedule => schedule_text(alloc, C17, tests, ORDER, 2, all, screen),
             TextCall::Faults => faults_text(alloc, C17, screen),
+            TextCall::Curve => curve_text_in(rt, alloc, model, C17, tests, 2, screen),
+            TextCall::Detections => {
+                detections_text_in(rt, alloc, model, C17, tests, 2, 2, false, screen)
+            }
+            TextCall::Compact => compact_text_in(rt, alloc, model, C17, tests, 2, screen),
+            TextCall::Responses => responses_text_in(alloc, C17, tests, screen),
         }
     }
 
     /// Whether the call may be refused so: for want of memory, and of a thread where it starts some.
     fn is_want(&self, fault: SimFault) -> bool {
         match self.call {
-            TextCall::Simulate | TextCall::InParts => {
-                is_want(fault) || fault == SimFault::Run(RunFault::Threads)
-            }
-            TextCall::Schedule | TextCall::Faults => is_want(fault),
+            TextCall::Schedule | TextCall::Faults | TextCall::Responses => is_want(fault),
+            TextCall::Simulate
+            | TextCall::InParts
+            | TextCall::Curve
+            | TextCall::Detections
+            | TextCall::Compact => is_want(fault) || fault == SimFault::Run(RunFault::Threads),
         }
     }
 }
@@ -115,6 +162,10 @@ impl<R: Threads + Wait> Trial for Written<'_, R> {
             TextCall::InParts => "simulate_text_in_parts",
             TextCall::Schedule => "schedule_text",
             TextCall::Faults => "faults_text",
+            TextCall::Curve => "curve_text_in",
+            TextCall::Detections => "detections_text_in",
+            TextCall::Compact => "compact_text_in",
+            TextCall::Responses => "responses_text_in",
         }
     }
 
@@ -135,12 +186,7 @@ fn sweep_texts<R: Threads + Wait + Abort>(
     report: &[u8],
     listing: &[u8],
 ) -> Result<(), Fail> {
-    for call in [
-        TextCall::Simulate,
-        TextCall::InParts,
-        TextCall::Schedule,
-        TextCall::Faults,
-    ] {
+    for call in CALLS {
         let text = text_of(call, report, listing);
         let written = Written {
             rt,

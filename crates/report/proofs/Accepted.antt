@@ -15,7 +15,7 @@ use Rattle.orders.specs.Order.{HasMoves}
 use Rattle.orders.proofs.Public.{All-has_moves}
 use Rattle.block_sim.specs.declared.job.JobFault.{JobFault}
 use Rattle.block_sim.specs.declared.job.JobFault.TheVariants as job_fault
-use Rattle.block_sim.specs.Parts.{Parts, BelongTogether}
+use Rattle.block_sim.specs.Parts.{Parts, BelongTogether, piece_count}
 use Rattle.workers.specs.declared.RunFault.{RunFault}
 use Rattle.workers.specs.declared.RunFault.TheVariants as run_fault
 use Rattle.workers.specs.Refused.{IsScheduleFault}
@@ -80,13 +80,15 @@ no_other_worker order workers index moves has at =
 -- a run of the moves of an order text is refused for its number of workers, or for want of memory
 pub schedule_fault : (m : Model) (bench text order : List ℕ) (workers : ℕ) (job : Parts)
     (moves : List ℕ) (f : RunFault) → IsJobWithin m bench text job → HasMoves order workers moves
-    → IsScheduleFault workers moves f
+    → IsScheduleFault (piece_count job) workers moves f
     → IsScheduleTextFault m bench text order workers (fault.Run f)
 schedule_fault m bench text order workers job moves (run_fault.NoSuchMove index) within has refused =
     no_other_worker order workers index moves has refused.2
 schedule_fault m bench text order workers job moves run_fault.NoWorkers within has refused =
     (job, moves, within, has, refused)
 schedule_fault m bench text order workers job moves run_fault.TooManyWorkers within has refused =
+    (job, moves, within, has, refused)
+schedule_fault m bench text order workers job moves run_fault.TooManyPieces within has refused =
     (job, moves, within, has, refused)
 schedule_fault m bench text order workers job moves run_fault.Memory within has refused =
     (job, moves, within, has, refused)

@@ -1,15 +1,20 @@
 -- From the report of a job to that of the texts that the job was read from.
-use Rattle.std.proofs.Common.{◌∙◌, ℕ, ap, subst, List}
-use Rattle.std.specs.Prelude.{Result, Ok, Err, IfErr}
+use Rattle.std.proofs.Common.{◌∙◌, ℕ, ap, subst, List, length, arith}
+use Rattle.std.proofs.Math.Nat.{mul-le-mul_right}
+use Rattle.std.specs.Prelude.{⊤, Result, Ok, Err, IfErr}
 use Rattle.fault_model.specs.declared.Model.{Model}
 use Rattle.fault_model.specs.Collapse.{AreClassesOf}
 use Rattle.orders.specs.Order.{HasMoves}
-use Rattle.block_sim.specs.Parts.{Parts}
+use Rattle.patterns.specs.Tests.{blocks}
+use Rattle.block_sim.specs.Parts.{Parts, piece_count}
+use Rattle.workers.specs.declared.RunFault.{RunFault}
+use Rattle.workers.specs.declared.RunFault.TheVariants as run_fault
+use Rattle.workers.specs.Refused.{IsPartsFault, IsRunFault}
 use Rattle.workers.specs.Verdict.{AreFirsts}
 use Rattle.output.specs.Output.{Output}
 use Rattle.report.specs.declared.text.SimFault.{SimFault}
 use Rattle.report.specs.declared.text.SimFault.TheVariants as fault
-use Rattle.report.specs.EndToEnd.{WritesOneOf, IsJobOf, IsJobWithin, IsReportOf, IsReportOfJob, IsReportFault, IsRunReportFault, IsScheduleReportFault, IsScheduleTextFault}
+use Rattle.report.specs.EndToEnd.{WritesOneOf, IsJobOf, IsJobWithin, IsReportOf, IsReportOfJob, IsReportFault, IsRunReportFault, IsJobReportFault, IsTextFault, IsScheduleReportFault, IsScheduleTextFault}
 use Rattle.report.specs.declared.contents.Contents.{Contents}
 use Rattle.report.specs.Report.{whole_report}
 use Rattle.report.proofs.Accepted.{schedule_fault}
@@ -32,6 +37,19 @@ pub refused_as : (A B : SimFault → Type 0) (r : Result (Unit {0}) SimFault)
 refused_as A B (Ok u) into w = w
 refused_as A B (Err f) into w = into f w
 
+-- a run in parts whose gate lets every piece pass is refused as a run is
+pub parts_fault : (job : Parts) (parts workers : ℕ) (f : RunFault)
+    → IsPartsFault job parts workers ⊤ (λ _ _ _. ⊥) f → IsRunFault job workers ⊤ (λ _ _ _. ⊥) f
+parts_fault job parts workers run_fault.NoWorkers h = h
+parts_fault job parts workers run_fault.TooManyWorkers h = h
+parts_fault job parts workers (run_fault.NoSuchMove index) h = h
+parts_fault job parts workers run_fault.TooManyPieces h =
+    let more = mul-le-mul_right (blocks (length job.tests.tests)) h.2.3.few in
+    (h.0, h.1, omega (arith, h.2.4, more))
+parts_fault job parts workers run_fault.Memory h = h
+parts_fault job parts workers run_fault.Threads h = h
+parts_fault job parts workers (run_fault.Unfinished class block) h = absurd (h.4 tt)
+
 -- the report of a job of texts is that of the texts
 pub report_of : (m : Model) (bench text : List ℕ) (contents : Contents) (job : Parts)
     → IsJobOf m bench text job → (bytes : List ℕ) → IsReportOfJob job contents bytes
@@ -41,20 +59,47 @@ report_of m bench text contents job is bytes of_job =
     let classes = subst (λ k. AreClassesOf k job.circuit job.classes) is.3 is.2.classes in
     (job.circuit, job.tests, job.classes, of_job.0, is.0, is.1, classes, are, of_job.2 ∙ ap (λ k. whole_report k job.circuit job.classes of_job.0 contents) is.3)
 
-pub run_fault : (m : Model) (bench text : List ℕ) (workers : ℕ) (job : Parts)
+pub job_run_fault : (m : Model) (bench text : List ℕ) (workers : ℕ) (job : Parts)
     → IsJobWithin m bench text job → (f : SimFault) → IsRunReportFault job workers f
     → IsReportFault m bench text workers f
-run_fault m bench text workers job within (fault.Run f) h = (job, within, h)
-run_fault m bench text workers job within (fault.Report f) h = (job, within, h.0, h.1)
-run_fault m bench text workers job within (fault.Bench f) h = absurd h
-run_fault m bench text workers job within (fault.Tests f) h = absurd h
-run_fault m bench text workers job within (fault.Order f) h = absurd h
-run_fault m bench text workers job within (fault.Job f) h = absurd h
-run_fault m bench text workers job within fault.Memory h = absurd h
+job_run_fault m bench text workers job within (fault.Run f) h = (job, within, h)
+job_run_fault m bench text workers job within (fault.Report f) h = (job, within, h.0, h.1)
+job_run_fault m bench text workers job within (fault.Bench f) h = absurd h
+job_run_fault m bench text workers job within (fault.Tests f) h = absurd h
+job_run_fault m bench text workers job within (fault.Order f) h = absurd h
+job_run_fault m bench text workers job within (fault.Job f) h = absurd h
+job_run_fault m bench text workers job within fault.Memory h = absurd h
+
+-- the same of a run in parts of such a job
+pub parts_run_fault : (m : Model) (bench text : List ℕ) (parts workers : ℕ) (job : Parts)
+    → IsJobWithin m bench text job → (f : SimFault)
+    → IsJobReportFault workers (IsPartsFault job parts workers ⊤ (λ _ _ _. ⊥)) f
+    → IsReportFault m bench text workers f
+parts_run_fault m bench text parts workers job within (fault.Run f) h =
+    (job, within, parts_fault job parts workers f h)
+parts_run_fault m bench text parts workers job within (fault.Report f) h = (job, within, h.0, h.1)
+parts_run_fault m bench text parts workers job within (fault.Bench f) h = absurd h
+parts_run_fault m bench text parts workers job within (fault.Tests f) h = absurd h
+parts_run_fault m bench text parts workers job within (fault.Order f) h = absurd h
+parts_run_fault m bench text parts workers job within (fault.Job f) h = absurd h
+parts_run_fault m bench text parts workers job within fault.Memory h = absurd h
+
+-- and of a run of a job of any size
+pub text_fault : (m : Model) (bench text : List ℕ) (workers : ℕ)
+    (IsFault : Parts → RunFault → Type 0) (job : Parts) → IsJobOf m bench text job
+    → (f : SimFault) → IsJobReportFault workers (IsFault job) f
+    → IsTextFault m bench text workers IsFault f
+text_fault m bench text workers IsFault job is (fault.Run f) h = (job, is, h)
+text_fault m bench text workers IsFault job is (fault.Report f) h = (job, is, h.0, h.1)
+text_fault m bench text workers IsFault job is (fault.Bench f) h = absurd h
+text_fault m bench text workers IsFault job is (fault.Tests f) h = absurd h
+text_fault m bench text workers IsFault job is (fault.Order f) h = absurd h
+text_fault m bench text workers IsFault job is (fault.Job f) h = absurd h
+text_fault m bench text workers IsFault job is fault.Memory h = absurd h
 
 pub moves_fault : (m : Model) (bench text order : List ℕ) (workers : ℕ) (job : Parts)
     (moves : List ℕ) → IsJobWithin m bench text job → HasMoves order workers moves
-    → (f : SimFault) → IsScheduleReportFault moves workers f
+    → (f : SimFault) → IsScheduleReportFault (piece_count job) moves workers f
     → IsScheduleTextFault m bench text order workers f
 moves_fault m bench text order workers job moves within has (fault.Run f) h =
     schedule_fault m bench text order workers job moves f within has h

@@ -14,7 +14,8 @@ use Rattle.patterns.specs.Tests.{TestList, HasTests, IsTestList, IsTestRefusal, 
 use Rattle.block_sim.specs.declared.job.JobFault.TheVariants as job_fault
 use Rattle.block_sim.specs.Parts.{Parts, BelongTogether, piece_count}
 use Rattle.workers.specs.declared.RunFault.TheVariants as run_fault
-use Rattle.workers.specs.Refused.{IsRunFault, IsScheduleFault}
+use Rattle.workers.specs.declared.RunFault.{RunFault}
+use Rattle.workers.specs.Refused.{IsPartFault, IsPartsFault, IsRunFault, IsScheduleFault}
 use Rattle.workers.specs.Verdict.{AreFirsts}
 use Rattle.report.specs.declared.text.SimFault.{SimFault}
 use Rattle.report.specs.declared.text.SimFault.TheVariants as fault
@@ -105,6 +106,29 @@ IsReportFault m bench text workers (fault.Report f) =
     (job : Parts) × IsJobWithin m bench text job × (0 < workers) × (workers ≤ 64)
 IsReportFault m bench text workers f = IsJobFault m bench text f
 
+-- When the bench text or the test text of a job of any size is refused.
+abbrev pub IsReadFault : List ℕ → List ℕ → SimFault → Type 0
+IsReadFault bench text fault.Memory = ⊤
+IsReadFault bench text f = IsInputFault bench text f
+
+-- When each fault of a text comes whose run is refused so: those of the two texts, then those of the
+-- run, then an output that takes nothing more. No number of pieces is looked at before the run.
+abbrev pub IsTextFault : Model → List ℕ → List ℕ → ℕ → (Parts → RunFault → Type 0) → SimFault → Type 0
+IsTextFault m bench text workers IsFault (fault.Run f) =
+    (job : Parts) × IsJobOf m bench text job × IsFault job f
+IsTextFault m bench text workers IsFault (fault.Report f) =
+    (job : Parts) × IsJobOf m bench text job × (0 < workers) × (workers ≤ 64)
+IsTextFault m bench text workers IsFault f = IsReadFault bench text f
+
+-- when the report of a run in so many parts is refused, and the text of one part
+abbrev pub IsPartsReportFault : Model → List ℕ → List ℕ → ℕ → ℕ → SimFault → Type 0
+IsPartsReportFault m bench text parts workers f =
+    IsTextFault m bench text workers (λ job. IsPartsFault job parts workers ⊤ (λ _ _ _. ⊥)) f
+
+abbrev pub IsPartReportFault : Model → List ℕ → List ℕ → ℕ → ℕ → ℕ → SimFault → Type 0
+IsPartReportFault m bench text part parts workers f =
+    IsTextFault m bench text workers (λ job. IsPartFault job parts part workers ⊤ (λ _ _ _. ⊥)) f
+
 -- the order text spells moves of so many workers
 abbrev pub HasSomeMoves : List ℕ → ℕ → Type 0
 HasSomeMoves order workers = (moves : List ℕ) × HasMoves order workers moves
@@ -123,7 +147,7 @@ IsScheduleTextFault m bench text order workers fault.Memory = HasSomeMoves order
 IsScheduleTextFault m bench text order workers (fault.Run (run_fault.NoSuchMove index)) = ⊥
 IsScheduleTextFault m bench text order workers (fault.Run f) =
     (job : Parts) × (moves : List ℕ) × IsJobWithin m bench text job
-    × HasMoves order workers moves × IsScheduleFault workers moves f
+    × HasMoves order workers moves × IsScheduleFault (piece_count job) workers moves f
 IsScheduleTextFault m bench text order workers (fault.Report f) =
     (job : Parts) × IsJobWithin m bench text job
     × HasSomeMoves order workers × (0 < workers) × (workers ≤ 64)
@@ -142,8 +166,14 @@ IsRunReportFault job workers (fault.Run f) = IsRunFault job workers ⊤ (λ _ _ 
 IsRunReportFault job workers (fault.Report f) = (0 < workers) × (workers ≤ 64)
 IsRunReportFault job workers _ = ⊥
 
--- the same for a job that is run by moves
-abbrev pub IsScheduleReportFault : List ℕ → ℕ → SimFault → Type 0
-IsScheduleReportFault moves workers (fault.Run f) = IsScheduleFault workers moves f
-IsScheduleReportFault moves workers (fault.Report f) = (0 < workers) × (workers ≤ 64)
-IsScheduleReportFault moves workers _ = ⊥
+-- the same of a run that is refused so
+abbrev pub IsJobReportFault : ℕ → (RunFault → Type 0) → SimFault → Type 0
+IsJobReportFault workers IsFault (fault.Run f) = IsFault f
+IsJobReportFault workers IsFault (fault.Report f) = (0 < workers) × (workers ≤ 64)
+IsJobReportFault workers IsFault _ = ⊥
+
+-- the same for a job with so many pieces that is run by moves
+abbrev pub IsScheduleReportFault : ℕ → List ℕ → ℕ → SimFault → Type 0
+IsScheduleReportFault pieces moves workers (fault.Run f) = IsScheduleFault pieces workers moves f
+IsScheduleReportFault pieces moves workers (fault.Report f) = (0 < workers) × (workers ≤ 64)
+IsScheduleReportFault pieces moves workers _ = ⊥

@@ -6,14 +6,15 @@ ghost use Rattle.std.specs.List.{flat_map};
 ghost use Rattle.fault_model.specs.Fault.{Fault, faults};
 ghost use Rattle.block_sim.specs.Parts.{BelongTogether};
 ghost use Rattle.output.specs.Output.{Writes};
-ghost use Rattle.report.specs.EndToEnd.{IsReportFault, IsRunReportFault, WritesOneOf};
+ghost use Rattle.workers.specs.Refused.{IsPartFault};
+ghost use Rattle.report.specs.EndToEnd.{IsJobReportFault, IsPartReportFault, WritesOneOf};
 ghost use Rattle.report.specs.PartText.{IsPartTextOf, IsPartTextOfJob, head_line, head_of, is_found, is_own};
 ghost use Rattle.report.specs.PartText.{end_line, job_part_text, model_name, part_name, rule_name, sum_text};
 ghost use Rattle.report.specs.PartText.{part_line, said_by};
 ghost use Rattle.report.specs.Report.{fault_text};
 
 use crate::report::{ReportFault, put_fault_line, put_first_line};
-use crate::text::{SimFault, job_of};
+use crate::text::{SimFault, job_of_any_size};
 use bench_net::Circuit;
 use block_sim::Job;
 use fault_model::{Faults, Model};
@@ -34,7 +35,9 @@ const RULE: &str = "region";
 /// test that detects it, with `none`, or with `-` where the fault is of another part, and then how
 /// many faults of the part are detected. The work is done as in [`crate::simulate_text_in`].
 ///
-/// It is refused as [`crate::simulate_text_in`] is, in the same order.
+/// It is refused as [`crate::simulate_text_in`] is, in the same order, but for the number of
+/// pieces: that of the whole has no limit, and the run is refused with
+/// [`workers::RunFault::TooManyPieces`] where the part has too many.
 pub fn part_text_in<R: Threads + Wait, W: Out>(
     rt: &R,
     alloc: Global,
@@ -49,10 +52,11 @@ pub fn part_text_in<R: Threads + Wait, W: Out>(
     requires { part < parts }
     ensures written { WritesOneOf (IsPartTextOf model bench.now tests.now part parts) result
         (W.seen out.old) (W.seen out.new) }
-    ensures refused { IfErr result (IsReportFault model bench.now tests.now workers) }
+    ensures refused { IfErr result
+        (IsPartReportFault model bench.now tests.now part parts workers) }
     ensures workers { OnOk result ((0 < workers) × (workers ≤ 64)) }
 {
-    let job = job_of(alloc, model, bench, tests)?;
+    let job = job_of_any_size(alloc, model, bench, tests)?;
     let bench_sum = sum_of(alloc, bench)?;
     let test_sum = sum_of(alloc, tests)?;
     let head = Head {
@@ -108,7 +112,8 @@ fn report_part<R: Threads + Wait, W: Out>(
     requires part { head.now.part < head.now.parts }
     ensures written { WritesOneOf (IsPartTextOfJob (said_by head.now) job.now) result
         (W.seen out.old) (W.seen out.new) }
-    ensures refused { IfErr result (IsRunReportFault job.now workers) }
+    ensures refused { IfErr result (IsJobReportFault workers
+        (IsPartFault job.now head.now.parts head.now.part workers ⊤ (λ _ _ _. ⊥))) }
     ensures workers { OnOk result ((0 < workers) × (workers ≤ 64)) }
 {
     let verdicts = run_part(rt, alloc, job, head.part, head.parts, workers, &OpenGate)?;

@@ -6,10 +6,8 @@ ghost use Rattle.bench_net.specs.Scan.{sources};
 ghost use Rattle.fault_model.specs.declared.Model.TheVariants as model;
 ghost use Rattle.patterns.specs.Tests.{HasTests, max_pieces};
 ghost use Rattle.block_sim.specs.Parts.{BelongTogether, piece_count};
-ghost use Rattle.workers.specs.Refused.{IsRunFault};
-ghost use Rattle.workers.specs.Verdict.{AreFirsts};
-ghost use Rattle.report.specs.Split.{HasParts};
-ghost use Rattle.report.specs.EndToEnd.{WritesOneOf, AreTestsFor, IsReportOf, IsReportFault, IsScheduleTextFault, HasSomeMoves, IsListingOf, IsListingFault, IsJobOf, IsJobFor, IsJobFault, IsInputFault, IsPiecesFault, IsReportOfJob, IsRunReportFault, IsScheduleReportFault};
+ghost use Rattle.workers.specs.Refused.{IsPartsFault};
+ghost use Rattle.report.specs.EndToEnd.{WritesOneOf, AreTestsFor, IsReportOf, IsReportFault, IsScheduleTextFault, HasSomeMoves, IsListingOf, IsListingFault, IsJobOf, IsJobFor, IsJobFault, IsInputFault, IsPiecesFault, IsReportOfJob, IsJobReportFault, IsPartsReportFault, IsReadFault, IsScheduleReportFault};
 
 use crate::contents::Contents;
 use crate::report::{ReportFault, write_listing, write_report};
@@ -23,7 +21,10 @@ use std::alloc::{AllocError, Global};
 use std::sync::Wait;
 use std::thread::Threads;
 use thiserror::Error;
-use workers::{OpenGate, RunFault, Verdicts, run, run_in_parts, run_schedule};
+use workers::{MAX_WORKERS, OpenGate, RunFault, run_in_parts, run_schedule};
+
+/// How many parts each of several workers runs, where no number of parts is given.
+const PARTS_OF_A_WORKER: u32 = 16;
 
 /// Why a text call gave no text: the fault of the part that refused.
 #[derive(Clone, Copy, Debug, PartialEq, Eq, Error)]
@@ -150,8 +151,8 @@ pub fn simulate_text<R: Threads + Wait, W: Out>(
 
 /// Reads a circuit and tests for it, and writes the report of the faults of a model: of the faults
 /// that are asked for the first test that detects each, and then the coverage. The work is done by
-/// workers in threads of their own, which are joined before this returns, and the report is the same
-/// whatever their number.
+/// workers in threads of their own, which are joined before this returns, and the report is the
+/// same whatever their number.
 ///
 /// The bench text is read before the tests, then the number of pieces is looked at, and then the
 /// number of workers; nothing is written before the verdicts are there.
@@ -170,15 +171,29 @@ pub fn simulate_text_in<R: Threads + Wait, W: Out>(
     ensures refused { IfErr result (IsReportFault model bench.now tests.now workers) }
     ensures workers { OnOk result ((0 < workers) × (workers ≤ 64)) }
 {
-    let split = Split::Whole;
-    simulate_split(
-        rt, alloc, model, bench, tests, split, workers, contents, out,
-    )
+    let job = job_of(alloc, model, bench, tests)?;
+    let parts = parts_for(workers);
+    report_run(rt, alloc, &job, parts, workers, contents, out)
+}
+
+/// In how many parts so many workers run where no number of parts is given: one worker in one part,
+/// and several in some times more parts than they are, so that all end at about one time.
+pub(crate) fn parts_for(workers: u32) -> u32
+    ensures { 0 < result }
+{
+    if workers < 2 {
+        1
+    } else {
+        PARTS_OF_A_WORKER * workers.min(MAX_WORKERS)
+    }
 }
 
 /// Reads a circuit and tests for it, and writes the report that [`simulate_text_in`] writes, with
-/// the same bytes and the same refusals. The classes of the faults are run in so many parts, each by
-/// one worker alone ([`workers::run_in_parts`]).
+/// the same bytes. The classes of the faults are run in so many parts, each by one worker alone
+/// ([`workers::run_in_parts`]).
+///
+/// It is refused as [`simulate_text_in`] is, but for the number of pieces: that of the whole has no
+/// limit, and the run is refused with [`RunFault::TooManyPieces`] where one part has too many.
 pub fn simulate_text_in_parts<R: Threads + Wait, W: Out>(
     rt: &R,
     alloc: Global,
@@ -193,86 +208,35 @@ pub fn simulate_text_in_parts<R: Threads + Wait, W: Out>(
     requires { 0 < parts }
     ensures written { WritesOneOf (IsReportOf model bench.now tests.now contents) result
         (W.seen out.old) (W.seen out.new) }
-    ensures refused { IfErr result (IsReportFault model bench.now tests.now workers) }
+    ensures refused { IfErr result
+        (IsPartsReportFault model bench.now tests.now parts workers) }
     ensures workers { OnOk result ((0 < workers) × (workers ≤ 64)) }
 {
-    let split = Split::Parts(parts);
-    simulate_split(
-        rt, alloc, model, bench, tests, split, workers, contents, out,
-    )
+    let job = job_of_any_size(alloc, model, bench, tests)?;
+    report_run(rt, alloc, &job, parts, workers, contents, out)
 }
 
-/// How the classes of a run are shared out.
-#[derive(Clone, Copy)]
-enum Split {
-    /// All in one ledger.
-    Whole,
-    /// In so many parts, at least one, each by one worker alone.
-    Parts(u32),
-}
-
-/// Reads a circuit and tests for it, and writes the report of a run that is split in some way.
-fn simulate_split<R: Threads + Wait, W: Out>(
-    rt: &R,
-    alloc: Global,
-    model: Model,
-    bench: &[u8],
-    tests: &[u8],
-    split: Split,
-    workers: u32,
-    contents: Contents,
-    out: &mut W,
-) -> Result<(), SimFault>
-    requires { HasParts split }
-    ensures written { WritesOneOf (IsReportOf model bench.now tests.now contents) result
-        (W.seen out.old) (W.seen out.new) }
-    ensures refused { IfErr result (IsReportFault model bench.now tests.now workers) }
-    ensures workers { OnOk result ((0 < workers) × (workers ≤ 64)) }
-{
-    let job = job_of(alloc, model, bench, tests)?;
-    report_run(rt, alloc, &job, split, workers, contents, out)
-}
-
-/// Runs a job by workers in threads of their own, and writes its report.
+/// Runs a job in parts by workers in threads of their own, and writes its report.
 fn report_run<R: Threads + Wait, W: Out>(
     rt: &R,
     alloc: Global,
     job: &Job,
-    split: Split,
+    parts: u32,
     workers: u32,
     contents: Contents,
     out: &mut W,
 ) -> Result<(), SimFault>
     requires job { BelongTogether job.now }
-    requires split { HasParts split }
+    requires parts { 0 < parts }
     ensures written { WritesOneOf (IsReportOfJob job.now contents) result
         (W.seen out.old) (W.seen out.new) }
-    ensures refused { IfErr result (IsRunReportFault job.now workers) }
+    ensures refused { IfErr result (IsJobReportFault workers
+        (IsPartsFault job.now parts workers ⊤ (λ _ _ _. ⊥))) }
     ensures workers { OnOk result ((0 < workers) × (workers ≤ 64)) }
 {
-    let verdicts = run_split(rt, alloc, job, split, workers)?;
+    let verdicts = run_in_parts(rt, alloc, job, parts, workers, &OpenGate)?;
     write_report(job, &verdicts, contents, out)?;
     Ok(())
-}
-
-/// Runs a job by workers in threads of their own, whole or in parts.
-fn run_split<R: Threads + Wait>(
-    rt: &R,
-    alloc: Global,
-    job: &Job,
-    split: Split,
-    workers: u32,
-) -> Result<Verdicts, RunFault>
-    requires { HasParts split }
-    ensures firsts { IfOk result (λ v.
-        AreFirsts job.now.list.model job.now.circuit job.now.tests.tests v.firsts) }
-    ensures workers { OnOk result ((0 < workers) × (workers ≤ 64)) }
-    ensures refused { IfErr result (IsRunFault job.now workers ⊤ (λ _ _ _. ⊥)) }
-{
-    match split {
-        Split::Whole => run(rt, alloc, job, workers, &OpenGate),
-        Split::Parts(parts) => run_in_parts(rt, alloc, job, parts, workers, &OpenGate),
-    }
 }
 
 /// Reads a circuit, tests for it and an order of moves, and writes the report of the stuck-at
@@ -348,7 +312,8 @@ fn report_schedule<W: Out>(
     requires { BelongTogether job.now }
     ensures written { WritesOneOf (IsReportOfJob job.now contents) result
         (W.seen out.old) (W.seen out.new) }
-    ensures refused { IfErr result (IsScheduleReportFault moves.now workers) }
+    ensures refused { IfErr result
+        (IsScheduleReportFault (piece_count job.now) moves.now workers) }
     ensures workers { OnOk result ((0 < workers) × (workers ≤ 64)) }
 {
     let verdicts = run_schedule(alloc, job, workers, moves)?;
@@ -389,6 +354,35 @@ pub fn job_of(alloc: Global, model: Model, bench: &[u8], tests: &[u8]) -> Result
 {
     let (circuit, tests) = read_inputs(alloc, bench, tests)?;
     make_job(alloc, model, circuit, tests)
+}
+
+/// The job of a bench text and a test text under a model, whatever the number of its pieces.
+pub(crate) fn job_of_any_size(
+    alloc: Global,
+    model: Model,
+    bench: &[u8],
+    tests: &[u8],
+) -> Result<Job, SimFault>
+    ensures job { IfOk result (IsJobOf model bench.now tests.now) }
+    ensures refused { IfErr result (IsReadFault bench.now tests.now) }
+{
+    let (circuit, tests) = read_inputs(alloc, bench, tests)?;
+    Ok(make_any_job(alloc, model, circuit, tests)?)
+}
+
+/// The job of a circuit and of tests for it under a model, whatever the number of its pieces.
+fn make_any_job(
+    alloc: Global,
+    model: Model,
+    circuit: Circuit,
+    tests: Tests,
+) -> Result<Job, AllocError>
+    requires { AreTestsFor circuit tests }
+    ensures { IfOk result (IsJobFor model circuit tests) }
+{
+    let faults = list_faults_in(alloc, &circuit, model)?;
+    let classes = collapse(alloc, &circuit, &faults)?;
+    Job::of_any_size(alloc, circuit, faults, classes, tests)
 }
 
 /// The circuit of a bench text, and the tests for it of a test text.

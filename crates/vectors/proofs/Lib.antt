@@ -9,3 +9,4 @@ pub mod Transition
 pub mod Listings
 pub mod Pairs
 pub mod Coverage
+pub mod Answered

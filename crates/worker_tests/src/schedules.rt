@@ -17,7 +17,7 @@ fn skipped_by<R: Abort>(
     workers: u32,
     moves: &[u32],
     firsts: &[Option<u32>],
-) -> Result<u32, Fail> {
+) -> Result<u64, Fail> {
     let verdicts = run_schedule(alloc, job, workers, moves)?;
     check(rt, &verdicts, firsts);
     Ok(verdicts.skipped())
@@ -30,7 +30,7 @@ fn refusal(alloc: Global, job: &Job, workers: u32, moves: &[u32]) -> Option<RunF
 
 /// Checks the buffer where block 1 is reported before block 0, and where it is dropped.
 fn check_orders<R: Abort>(rt: &R, alloc: Global, job: &Job) -> Result<(), Fail> {
-    let orders: [(&[u32], u32); 2] = [(&[0, 1, 2, 3, 2, 3, 1, 0], 0), (&[], 2)];
+    let orders: [(&[u32], u64); 2] = [(&[0, 1, 2, 3, 2, 3, 1, 0], 0), (&[], 2)];
     let firsts = [Some(63), Some(0), Some(63), Some(0)];
     for (moves, skipped) in orders {
         let found = skipped_by(rt, alloc, job, 4, moves, &firsts)?;
@@ -119,6 +119,7 @@ fn words_of_the_faults(rt: HostRuntime) -> Result<(), Fail> {
         (RunFault::NoWorkers, "no workers"),
         (RunFault::TooManyWorkers, "more than 64 workers"),
         (RunFault::NoSuchMove(1), "move 1: no such worker"),
+        (RunFault::TooManyPieces, "more than 16777216 pieces"),
         (RunFault::Memory, "out of memory"),
         (RunFault::Threads, "thread refused"),
         (unfinished, "unfinished at class 1 block 2"),

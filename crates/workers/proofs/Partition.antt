@@ -1,5 +1,5 @@
 -- That parts are a partition, and what runs over them give.
-use Rattle.std.proofs.Common.{◌≡◌, ◌≢◌, ◌<◌, ◌≤◌, ◌+◌, ◌-◌, ◌*◌, ◌%◌, ◌⊎◌, inl, inr, ℕ, zero, suc, List, [], ◌∷◌, ◌++◌, map, set, take, drop, length, get_or, All, Option, Some, None, refl, sym, ap, ◌∙◌, subst, arith, replicate, length-drop}
+use Rattle.std.proofs.Common.{◌≡◌, ◌≢◌, ◌<◌, ◌≤◌, ◌+◌, ◌-◌, ◌*◌, ◌%◌, ◌^◌, ◌⊎◌, inl, inr, ℕ, zero, suc, List, [], ◌∷◌, ◌++◌, map, set, take, drop, length, get_or, All, Option, Some, None, refl, sym, ap, ◌∙◌, subst, arith, replicate, length-drop}
 use Rattle.std.specs.Prelude.{option_map, slice_get, slice_range}
 use Rattle.bench_net.specs.Statement.{Statement}
 use Rattle.fault_model.specs.declared.Model.{Model}
@@ -7,7 +7,7 @@ use Rattle.fault_model.specs.Solution.{Test}
 use Rattle.block_sim.specs.First.{IsFirst}
 use Rattle.block_sim.specs.Regions.{IsStemOfClass}
 use Rattle.block_sim.proofs.Public.{class_has_stem, one_class_stem}
-use Rattle.std.proofs.Math.Nat.{mod-lt, suc-mul}
+use Rattle.std.proofs.Math.Nat.{mod-lt, mul-le-mul_left, suc-mul}
 use Rattle.patterns.specs.Tests.{blocks}
 use Rattle.std.proofs.Math.Seq.{take-add, take-length}
 use Rattle.std.proofs.lemmas.Bool.{cases_lt}
@@ -96,6 +96,13 @@ start_first ranked s is = go (cases_lt 0 s)
     go (inl x) = let at = within_place ranked 0 (omega (arith, x, is.within)) in absurd (omega (arith, is.before 0 at.0 x at.1))
     go (inr x) = omega (arith, x)
 
+-- a part has no more classes than there are
+pub part_few : (job : Parts) (parts s e : ℕ) (ranked : List Ranked) (classes : List ℕ) → IsCutOf job parts ranked classes → s ≤ e → e ≤ length ranked → length (slice_range classes s e) ≤ length job.classes.representative
+part_few job parts s e ranked classes cut le within =
+    let n = ap (λ (l : List ℕ). length l) cut.classes_are ∙ length-map ranked (λ (r : Ranked). r.class) in
+    let long = length-take (e - s) (drop s classes) in
+    omega (arith, n, long, within, cut.ranked_are.count)
+
 -- what stands from the start of a part up to that of the next are its classes
 pub part_list : (job : Parts) (parts part s e : ℕ) (ranked : List Ranked) (classes : List ℕ) → IsCutOf job parts ranked classes → IsStart ranked part s → IsStart ranked (part + 1) e
     → ArePartOf job parts part (slice_range classes s e)
@@ -124,6 +131,7 @@ part_list job parts part s e ranked classes cut from to = record {
       let rs : x.0.stem ≡ r = one_class_stem job.list.model job.circuit first x.0.stem r (subst (λ c. IsStemOfClass job.list.model job.circuit c x.0.stem) x.2 left.stem) ra in
       let qs : y.0.stem ≡ q = one_class_stem job.list.model job.circuit second y.0.stem q (subst (λ c. IsStemOfClass job.list.model job.circuit c y.0.stem) y.2 right.stem) qb in
       later x.0 y.0 first second r q x.2 y.2 rs qs (own i x.0 x.3 x.1) (own k y.0 y.3 y.1) (cut.ranked_are.ordered (s + i) (s + k) x.0 y.0 (omega (arith, lt)) x.1 y.1);
+  few = part_few job parts s e ranked classes cut le to.within;
 }
   where
     le : s ≤ e
@@ -159,13 +167,6 @@ part_list job parts part s e ranked classes cut from to = record {
     later a b first second r q ca cb sa sb pa pb (inl x) = absurd (omega (arith, x, pa, pb))
     later a b first second r q ca cb sa sb pa pb (inr (_, inl x)) = inl (omega (arith, x, sa, sb))
     later a b first second r q ca cb sa sb pa pb (inr (_, inr x)) = inr (omega (arith, x.0, sa, sb), omega (arith, x.1, ca, cb))
-
--- a part has no more classes than there are
-pub part_few : (job : Parts) (parts s e : ℕ) (ranked : List Ranked) (classes : List ℕ) → IsCutOf job parts ranked classes → s ≤ e → e ≤ length ranked → length (slice_range classes s e) ≤ length job.classes.representative
-part_few job parts s e ranked classes cut le within =
-    let n = ap (λ (l : List ℕ). length l) cut.classes_are ∙ length-map ranked (λ (r : Ranked). r.class) in
-    let long = length-take (e - s) (drop s classes) in
-    omega (arith, n, long, within, cut.ranked_are.count)
 
 -- each is a class of the job
 pub part_within : (job : Parts) (parts part : ℕ) (classes : List ℕ) → ArePartOf job parts part classes → All (λ class. class < length job.classes.representative) classes
@@ -393,6 +394,14 @@ pub own_fault : (job : Parts) (parts part workers : ℕ) (P : Type 0) (S : Stops
 own_fault job parts part workers P S run_fault.NoWorkers classes are r = r
 own_fault job parts part workers P S run_fault.TooManyWorkers classes are r = r
 own_fault job parts part workers P S (run_fault.NoSuchMove index) classes are r = r
+own_fault job parts part workers P S run_fault.TooManyPieces classes are r = (classes, are, r)
 own_fault job parts part workers P S run_fault.Memory classes are r = r
 own_fault job parts part workers P S run_fault.Threads classes are r = r
 own_fault job parts part workers P S (run_fault.Unfinished class block) classes are r = (classes, are, r)
+
+-- a product of two numbers of 32 bits has 64
+pub small_product : (a b : ℕ) → a < 2 ^ 32 → b < 2 ^ 32 → a * b < 2 ^ 64
+small_product a b small few =
+    let le : b ≤ 2 ^ 32 = omega (arith, few) in
+    let more : a * b ≤ a * 2 ^ 32 = mul-le-mul_left a le in
+    omega (arith, small, more)

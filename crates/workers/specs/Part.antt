@@ -1,5 +1,5 @@
 -- The parts of the classes, and what a run over a part says of each fault.
-use Rattle.std.specs.Prelude.{◌≡◌, ◌≢◌, ◌⊎◌, ◌<◌, ℕ, ◌%◌, List, length, slice_get, Option, Some, None}
+use Rattle.std.specs.Prelude.{◌≡◌, ◌≢◌, ◌⊎◌, ◌<◌, ◌≤◌, ℕ, ◌%◌, List, length, slice_get, Option, Some, None}
 use Rattle.fault_model.specs.Fault.{Fault, faults}
 use Rattle.block_sim.specs.First.{IsFirst}
 use Rattle.block_sim.specs.Parts.{Parts}
@@ -28,7 +28,7 @@ ComesBefore job first second = (r q : ℕ)
 
 -- The classes of a part, of so many parts, region by region: each is one of the part, each of the
 -- part is among them, and each comes before those behind it, so that it stands there once and those
--- of one region stand next to each other.
+-- of one region stand next to each other. So they are no more than the job's.
 pub record ArePartOf (job : Parts) (parts part : ℕ) (classes : List ℕ) : Type 0 where
   pub each : (k class : ℕ) → slice_get classes k ≡ Some class
       → (class < length job.classes.representative) × IsOfPart job parts part class
@@ -36,6 +36,7 @@ pub record ArePartOf (job : Parts) (parts part : ℕ) (classes : List ℕ) : Typ
       → IsOfPart job parts part class → (k : ℕ) × (slice_get classes k ≡ Some class)
   pub ordered : (i k first second : ℕ) → i < k → slice_get classes i ≡ Some first
       → slice_get classes k ≡ Some second → ComesBefore job first second
+  pub few : length classes ≤ length job.classes.representative
 
 -- The verdict on a class by the first tests of the classes of a list, up to some place: that of the
 -- class, or of another part where the class is not in the list.

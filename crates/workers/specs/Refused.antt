@@ -1,10 +1,11 @@
 -- When a run is refused.
-use Rattle.std.specs.Prelude.{◌≡◌, ◌<◌, ◌≤◌, ℕ, nat_le, List, All, Some, length, position}
-use Rattle.patterns.specs.Tests.{blocks}
+use Rattle.std.specs.Prelude.{◌≡◌, ◌<◌, ◌≤◌, ◌*◌, ℕ, nat_le, List, All, Some, length, position}
+use Rattle.patterns.specs.Tests.{blocks, max_pieces}
 use Rattle.block_sim.specs.Parts.{Parts}
 use Rattle.workers.specs.declared.RunFault.{RunFault}
 use Rattle.workers.specs.declared.RunFault.TheVariants.{NoWorkers, TooManyWorkers, NoSuchMove}
-use Rattle.workers.specs.declared.RunFault.TheVariants.{Memory, Threads, Unfinished}
+use Rattle.workers.specs.declared.RunFault.TheVariants.{TooManyPieces, Memory, Threads}
+use Rattle.workers.specs.declared.RunFault.TheVariants.{Unfinished}
 use Rattle.workers.specs.Alone.{PartsWaitFor}
 use Rattle.workers.specs.Chosen.{Chosen, every, listed}
 use Rattle.workers.specs.Part.{ArePartOf}
@@ -16,19 +17,40 @@ IsWorkersFault workers NoWorkers = workers ≡ 0
 IsWorkersFault workers TooManyWorkers = 64 < workers
 IsWorkersFault workers _ = ⊥
 
--- When a schedule is refused: for its number of workers, then for the first of its moves that is
--- of a worker out of range, and then for want of memory.
-abbrev pub IsScheduleFault : ℕ → List ℕ → RunFault → Type 0
-IsScheduleFault workers moves (NoSuchMove index) =
-    (0 < workers) × (workers ≤ 64) × (position (λ worker. nat_le workers worker) moves ≡ Some index)
-IsScheduleFault workers moves Memory =
-    (0 < workers) × (workers ≤ 64) × All (λ worker. worker < workers) moves
-IsScheduleFault workers moves fault = IsWorkersFault workers fault
+-- the part, of so many parts, is within the limit of pieces
+abbrev pub IsPartWithin : Parts → ℕ → ℕ → Type 0
+IsPartWithin job parts part = (classes : List ℕ) × ArePartOf job parts part classes
+    × (length classes * blocks (length job.tests.tests) ≤ max_pieces)
 
--- When a run in threads over chosen classes is refused: for its number of workers, and then for want
--- of memory or of a thread. One whose gate always lets pass finishes; else the fault names the class
+-- each is
+abbrev pub ArePartsWithin : Parts → ℕ → Type 0
+ArePartsWithin job parts = (part : ℕ) → part < parts → IsPartWithin job parts part
+
+-- one is past it
+abbrev pub HasLargePart : Parts → ℕ → Type 0
+HasLargePart job parts = (part : ℕ) × (part < parts) × (classes : List ℕ)
+    × ArePartOf job parts part classes
+    × (max_pieces < length classes * blocks (length job.tests.tests))
+
+-- When a schedule of a job with so many pieces is refused: for its number of workers, then for the
+-- first of its moves that is of a worker out of range, then for its pieces, and then for want of
+-- memory.
+abbrev pub IsScheduleFault : ℕ → ℕ → List ℕ → RunFault → Type 0
+IsScheduleFault pieces workers moves (NoSuchMove index) =
+    (0 < workers) × (workers ≤ 64) × (position (λ worker. nat_le workers worker) moves ≡ Some index)
+IsScheduleFault pieces workers moves TooManyPieces =
+    (0 < workers) × (workers ≤ 64) × All (λ worker. worker < workers) moves
+    × (max_pieces < pieces)
+IsScheduleFault pieces workers moves Memory =
+    (0 < workers) × (workers ≤ 64) × All (λ worker. worker < workers) moves
+IsScheduleFault pieces workers moves fault = IsWorkersFault workers fault
+
+-- When a run in threads over chosen classes is refused: for its number of workers, then for their
+-- pieces, and then for want of memory or of a thread. One whose gate always lets pass finishes; else the fault names the class
 -- and the block of the job for which the run waits.
 abbrev pub IsRunFaultOver : Parts → Chosen → ℕ → Type 0 → Stops → RunFault → Type 0
+IsRunFaultOver job chosen workers passing stops TooManyPieces = (0 < workers) × (workers ≤ 64)
+    × (max_pieces < chosen.count * blocks (length job.tests.tests))
 IsRunFaultOver job chosen workers passing stops Memory = (0 < workers) × (workers ≤ 64)
 IsRunFaultOver job chosen workers passing stops Threads = (0 < workers) × (workers ≤ 64)
 IsRunFaultOver job chosen workers passing stops (Unfinished class block) =
@@ -41,16 +63,21 @@ IsRunFaultOver job chosen workers passing stops fault = IsWorkersFault workers f
 abbrev pub IsPartFault : Parts → ℕ → ℕ → ℕ → Type 0 → Stops → RunFault → Type 0
 IsPartFault job parts part workers passing stops Memory = (0 < workers) × (workers ≤ 64)
 IsPartFault job parts part workers passing stops Threads = (0 < workers) × (workers ≤ 64)
+IsPartFault job parts part workers passing stops TooManyPieces =
+    (classes : List ℕ) × ArePartOf job parts part classes
+    × IsRunFaultOver job (listed classes) workers passing stops TooManyPieces
 IsPartFault job parts part workers passing stops (Unfinished class block) =
     (classes : List ℕ) × ArePartOf job parts part classes
     × IsRunFaultOver job (listed classes) workers passing stops (Unfinished class block)
 IsPartFault job parts part workers passing stops fault = IsWorkersFault workers fault
 
--- the same where the classes are run in so many parts, each by one worker alone: the class is the
--- lowest of all classes that aren't settled
+-- the same where the classes are run in so many parts, each by one worker alone: it is a part that
+-- has too many pieces, and the class is the lowest of all classes that aren't settled
 abbrev pub IsPartsFault : Parts → ℕ → ℕ → Type 0 → Stops → RunFault → Type 0
 IsPartsFault job parts workers passing stops Memory = (0 < workers) × (workers ≤ 64)
 IsPartsFault job parts workers passing stops Threads = (0 < workers) × (workers ≤ 64)
+IsPartsFault job parts workers passing stops TooManyPieces =
+    (0 < workers) × (workers ≤ 64) × HasLargePart job parts
 IsPartsFault job parts workers passing stops (Unfinished class block) =
     (0 < workers) × (workers ≤ 64)
     × (class < length job.classes.representative) × (block < blocks (length job.tests.tests))

@@ -77,11 +77,11 @@ fn run_block<G: Gate, K: Simulator>(
     ensures serves { K.serves simulator.new job.now }
 {
     for place in 0..classes.len() {
-        let class = class_at(classes, place);
         match first_at(firsts, place) {
             Some(_test) => continue,
             None => {}
         }
+        let class = class_at(classes, place);
         if !gate.pass(worker, class, block) {
             return Some(Stop { place, block });
         }

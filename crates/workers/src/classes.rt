@@ -1,7 +1,8 @@
 //! A run of workers over some classes of a job.
 
-ghost use Rattle.std.specs.Prelude.{◌≡◌, ◌<◌, ◌≤◌, [], All, IfErr, IfOk, OnOk, length, map};
+ghost use Rattle.std.specs.Prelude.{◌≡◌, ◌<◌, ◌≤◌, ◌*◌, [], All, IfErr, IfOk, OnOk, length, map};
 ghost use Rattle.patterns.specs.Least.{below};
+ghost use Rattle.patterns.specs.Tests.{blocks, max_pieces};
 ghost use Rattle.fault_ledger.specs.Answer.{IsLegal};
 ghost use Rattle.fault_ledger.specs.History.{History};
 ghost use Rattle.fault_ledger.specs.Seats.{closed_face};
@@ -14,7 +15,7 @@ ghost use Rattle.workers.specs.Verdict.{AreClassFirsts, settled_at};
 use crate::chosen::Listed;
 use crate::threads::run_over;
 use crate::worker::Gate;
-use crate::{RunFault, check_workers};
+use crate::{RunFault, check_pieces, check_workers};
 use block_sim::Job;
 use fault_ledger::{Closed, Status};
 use std::alloc::Global;
@@ -28,8 +29,8 @@ use std::thread::Threads;
 /// Gives for each class of the list, in its order, the first test that detects the faults of the
 /// class, or none.
 ///
-/// It is refused as [`crate::run`] is; [`RunFault::Unfinished`] names the class by its number in
-/// the job, the first in the list that isn't settled.
+/// It is refused as [`crate::run`] is, for the pieces of the list; [`RunFault::Unfinished`] names the
+/// class by its number in the job, the first in the list that isn't settled.
 pub fn run_classes<G: Gate + Sync, R: Threads + Wait>(
     rt: &R,
     alloc: Global,
@@ -43,6 +44,8 @@ pub fn run_classes<G: Gate + Sync, R: Threads + Wait>(
     ensures firsts { IfOk result (λ firsts. AreClassFirsts job.now.list.model job.now.circuit
         job.now.tests.tests classes.now firsts.items) }
     ensures workers { OnOk result ((0 < workers) × (workers ≤ 64)) }
+    ensures few { OnOk result (length classes.now * blocks (length job.now.tests.tests)
+        ≤ max_pieces) }
     ensures refused { IfErr result (IsRunFaultOver job.now (listed classes.now) workers
         (G.passing gate.now) (G.stops gate.now)) }
 {
@@ -74,6 +77,8 @@ pub(crate) fn run_listed<G: Gate + Sync, R: Threads + Wait>(
     ensures firsts { IfOk result (λ found. AreClassFirsts job.now.list.model job.now.circuit
         job.now.tests.tests classes.now found.firsts.items) }
     ensures workers { OnOk result ((0 < workers) × (workers ≤ 64)) }
+    ensures few { OnOk result (length classes.now * blocks (length job.now.tests.tests)
+        ≤ max_pieces) }
     ensures refused { IfErr result (IsRunFaultOver job.now (listed classes.now) workers
         (G.passing gate.now) (G.stops gate.now)) }
 {
@@ -82,6 +87,7 @@ pub(crate) fn run_listed<G: Gate + Sync, R: Threads + Wait>(
     let holds = classes.len() <= most as usize;
     prove!(holds);
     let count = classes.len() as u32;
+    check_pieces(job, count)?;
     let firsts = Vec::with_capacity(alloc, classes.len())?;
     let chosen = Listed { classes, count };
     let closed = run_over(rt, alloc, job, &chosen, workers, gate)?;

@@ -26,12 +26,16 @@ mod threads;
 mod verdicts;
 mod worker;
 
-ghost use Rattle.std.specs.Prelude.{◌<◌, ◌≤◌, IfErr, OnOk};
+ghost use Rattle.std.specs.Prelude.{◌≡◌, ◌<◌, ◌≤◌, ◌*◌, IfErr, OnOk, length};
+ghost use Rattle.patterns.specs.Tests.{blocks, max_pieces};
+ghost use Rattle.block_sim.specs.Parts.{piece_count};
 ghost use Rattle.workers.specs.Refused.{IsWorkersFault};
 
+use block_sim::Job;
 pub use classes::run_classes;
 pub use fault_ledger::MAX_WORKERS;
 pub use parts::{PartVerdict, in_one_part, part_of, run_in_parts, run_part};
+use patterns::MAX_PIECES;
 pub use schedule::run_schedule;
 use std::alloc::{AllocError, AllocFailed};
 use thiserror::Error;
@@ -51,6 +55,10 @@ pub enum RunFault {
     /// The move of this index, counted from 0, is of a worker that isn't one of the run's.
     #[error("move {0}: no such worker")]
     NoSuchMove(u64),
+    /// The classes that are to be run at a time have more pieces than
+    /// [`patterns::MAX_PIECES`].
+    #[error("more than 16777216 pieces")]
+    TooManyPieces,
     /// Memory was refused.
     #[error("out of memory")]
     Memory,
@@ -95,4 +103,27 @@ pub(crate) fn check_workers(workers: u32) -> Result<(), RunFault>
         1..=MAX_WORKERS => Ok(()),
         _ => Err(RunFault::TooManyWorkers),
     }
+}
+
+/// Refuses so many classes of a job where they have more pieces than a ledger takes.
+pub(crate) fn check_pieces(job: &Job, classes: u32) -> Result<(), RunFault>
+    ensures few { OnOk result (classes * blocks (length job.now.tests.tests) ≤ max_pieces) }
+    ensures refused { IfErr result (λ fault. (fault ≡ RunFault.TooManyPieces)
+        × (max_pieces < classes * blocks (length job.now.tests.tests))) }
+{
+    let pieces = u64::from(classes) * u64::from(job.tests().blocks());
+    if pieces > u64::from(MAX_PIECES) {
+        Err(RunFault::TooManyPieces)
+    } else {
+        Ok(())
+    }
+}
+
+/// Refuses a job with more pieces than a ledger takes.
+pub(crate) fn check_job(job: &Job) -> Result<(), RunFault>
+    ensures few { OnOk result (piece_count job.now ≤ max_pieces) }
+    ensures refused { IfErr result (λ fault. (fault ≡ RunFault.TooManyPieces)
+        × (max_pieces < piece_count job.now)) }
+{
+    check_pieces(job, job.classes().count())
 }

@@ -2,13 +2,15 @@
 
 ghost use Rattle.std.specs.Prelude.{◌≡◌, ◌⊎◌, ◌<◌, ◌≤◌, ◌+◌, ◌*◌, ◌^◌, ℕ, [], All, IfErr, IfOk};
 ghost use Rattle.std.specs.Prelude.{OnOk, Some, length, map, slice_get, slice_index_or, vec_len};
+ghost use Rattle.patterns.specs.Tests.{blocks, max_pieces};
 ghost use Rattle.block_sim.specs.Parts.{BelongTogether, Parts};
 ghost use Rattle.block_sim.specs.Simulation.{Serves};
 ghost use Rattle.workers.specs.Alone.{AreFoundByPart, AreGivenBack, ArePut, IsDone};
 ghost use Rattle.workers.specs.Part.{AreClassVerdicts, ArePartOf, ArePartVerdicts, IsInOnePart};
 ghost use Rattle.workers.specs.Part.{IsOfPart, first_in};
 ghost use Rattle.workers.specs.Rank.{IsCutOf};
-ghost use Rattle.workers.specs.Refused.{IsPartFault, IsPartsFault};
+ghost use Rattle.workers.specs.Refused.{ArePartsWithin, HasLargePart, IsPartFault, IsPartsFault};
+ghost use Rattle.workers.specs.Refused.{IsPartWithin};
 ghost use Rattle.workers.specs.Verdict.{AreBehindHits, AreClassFirsts, AreFirsts};
 ghost use Rattle.workers.specs.Verdict.{behind, pieces_behind};
 
@@ -17,7 +19,7 @@ use crate::classes::{Found, run_listed};
 use crate::ranks::Cut;
 use crate::taken::{Done, Member, crew_of, empty_table, run_alone, take_parts};
 use crate::worker::Gate;
-use crate::{RunFault, Verdicts, check_workers};
+use crate::{RunFault, Verdicts, check_pieces, check_workers};
 use block_sim::Job;
 use std::alloc::{AllocError, Global};
 use std::sync::Wait;
@@ -131,7 +133,7 @@ fn first_in(verdict: PartVerdict) -> Option<u32>
 /// for each fault of the list, before collapsing, the first test that detects it, or none, where
 /// its class is of the part, and else that it is of another part.
 ///
-/// It is refused as [`crate::run_classes`] is for the classes of the part.
+/// It is refused as [`crate::run_classes`] is for the classes of the part, whose pieces alone count.
 pub fn run_part<G: Gate + Sync, R: Threads + Wait>(
     rt: &R,
     alloc: Global,
@@ -145,6 +147,7 @@ pub fn run_part<G: Gate + Sync, R: Threads + Wait>(
     ensures verdicts { IfOk result (λ verdicts.
         ArePartVerdicts job.now parts part verdicts.items) }
     ensures workers { OnOk result ((0 < workers) × (workers ≤ 64)) }
+    ensures within { OnOk result (IsPartWithin job.now parts part) }
     ensures refused { IfErr result (IsPartFault job.now parts part workers
         (G.passing gate.now) (G.stops gate.now)) }
 {
@@ -167,9 +170,10 @@ pub fn run_part<G: Gate + Sync, R: Threads + Wait>(
 /// parts and of workers, whatever the workers do in whatever order. The skipped pieces are those
 /// behind the first hits.
 ///
-/// It is refused, in this order, with [`RunFault::NoWorkers`], with [`RunFault::TooManyWorkers`]
-/// above 64 workers, and with [`RunFault::Memory`] or [`RunFault::Threads`] where memory or the
-/// start of a thread was refused; the threads that were started are joined first. Where the gate
+/// It is refused with [`RunFault::NoWorkers`], with [`RunFault::TooManyWorkers`] above 64 workers,
+/// with [`RunFault::TooManyPieces`] where one part has more than [`patterns::MAX_PIECES`] pieces,
+/// and with [`RunFault::Memory`] or [`RunFault::Threads`] where memory or the start of a thread was
+/// refused; the threads that were started are joined first. Where the gate
 /// stopped workers and not all classes are settled it is [`RunFault::Unfinished`]: it names the
 /// lowest class, by the job's number, of all that aren't settled, and the block that it waits for.
 pub fn run_in_parts<G: Gate + Sync, R: Threads + Wait>(
@@ -185,11 +189,13 @@ pub fn run_in_parts<G: Gate + Sync, R: Threads + Wait>(
         AreFirsts job.now.list.model job.now.circuit job.now.tests.tests v.firsts) }
     ensures skipped { IfOk result (λ v. AreBehindHits job.now v.skipped) }
     ensures workers { OnOk result ((0 < workers) × (workers ≤ 64)) }
+    ensures within { OnOk result (ArePartsWithin job.now parts) }
     ensures refused { IfErr result (IsPartsFault job.now parts workers (G.passing gate.now)
         (G.stops gate.now)) }
 {
     check_workers(workers)?;
     let cut = Cut::new(alloc, job, parts)?;
+    check_parts(job, &cut, parts)?;
     let gathered = gather(rt, alloc, job, &cut, parts, workers, gate)?;
     let count = job.classes().count();
     let table = by_class(alloc, count, cut.classes.as_slice(), gathered.as_slice())?;
@@ -199,14 +205,42 @@ pub fn run_in_parts<G: Gate + Sync, R: Threads + Wait>(
     Ok(Verdicts::of(found, skipped))
 }
 
+/// How many classes a list has, which has no more than the job.
+fn count_in(job: &Job, classes: &[u32]) -> u32
+    requires { length classes.now ≤ length job.now.classes.representative }
+    ensures { result ≡ length classes.now }
+{
+    let most = job.classes().count();
+    let holds = classes.len() <= most as usize;
+    prove!(holds);
+    classes.len() as u32
+}
+
+/// Refuses parts of which one has more pieces than are run at a time.
+fn check_parts(job: &Job, cut: &Cut, parts: u32) -> Result<(), RunFault>
+    requires { IsCutOf job.now parts cut.now.ranked.items cut.now.classes.items }
+    ensures within { OnOk result (ArePartsWithin job.now parts) }
+    ensures refused { IfErr result (λ fault. (fault ≡ RunFault.TooManyPieces)
+        × HasLargePart job.now parts) }
+{
+    for part in 0..parts {
+        let start = cut.start_of(part);
+        let end = cut.start_of(part + 1);
+        let own = cut.between(start, end);
+        check_pieces(job, count_in(job, own))?;
+    }
+    Ok(())
+}
+
 /// The number of pieces behind the first hits of all classes.
-fn skipped_behind(by_class: &[PartVerdict], blocks: u32) -> u32
-    requires { length by_class.now * blocks < 2 ^ 32 }
+fn skipped_behind(by_class: &[PartVerdict], blocks: u32) -> u64
+    requires { length by_class.now < 2 ^ 32 }
     ensures { result ≡ pieces_behind blocks (map first_in by_class.now) }
 {
     let mut skipped = 0;
     for verdict in by_class {
-        skipped += behind(*verdict, blocks);
+        let more = behind(*verdict, blocks);
+        skipped += u64::from(more);
     }
     skipped
 }
@@ -356,6 +390,8 @@ fn run_one<G: Gate + Sync, R: Threads + Wait>(
     requires workers { (0 < workers) × (workers ≤ 64) }
     ensures firsts { IfOk result (λ found. AreClassFirsts job.now.list.model job.now.circuit
         job.now.tests.tests own.now found.firsts.items) }
+    ensures few { OnOk result (length own.now * blocks (length job.now.tests.tests)
+        ≤ max_pieces) }
     ensures refused { IfErr result (IsPartFault job.now parts part workers (G.passing gate.now)
         (G.stops gate.now)) }
 {

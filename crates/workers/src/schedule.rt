@@ -4,6 +4,8 @@ ghost use Rattle.std.specs.Prelude.{◌≡◌, ◌≢◌, ◌<◌, ◌≤◌, �
 ghost use Rattle.std.specs.Prelude.{All, Some, position, length, IfOk, IfErr, OnOk};
 ghost use Rattle.std.specs.Option.{option_map_or};
 ghost use Rattle.patterns.specs.Least.{Table, below};
+ghost use Rattle.patterns.specs.Tests.{max_pieces};
+ghost use Rattle.block_sim.specs.Parts.{piece_count as job_pieces};
 ghost use Rattle.block_sim.specs.Simulation.{Serves};
 ghost use Rattle.fault_ledger.specs.declared.Shape.{Shape};
 ghost use Rattle.fault_ledger.specs.Answer.{IsLegal};
@@ -15,7 +17,7 @@ ghost use Rattle.workers.specs.Settling.{AreSettled, IsShapeOf, shape_for};
 ghost use Rattle.workers.specs.Verdict.{AreFirsts};
 
 use crate::verdicts::verdicts_of;
-use crate::{RunFault, Verdicts, check_workers};
+use crate::{RunFault, Verdicts, check_job, check_workers};
 use block_sim::{Job, Simulation};
 use fault_ledger::{Claim, Event, Ledger};
 use std::alloc::{AllocError, Global};
@@ -67,6 +69,7 @@ struct Played {
 /// The moves of these workers, in order.
 fn play(job: &Job, ledger: &mut Ledger, simulation: &mut Simulation, moves: &[u32]) -> Played
     requires shape { IsShapeOf job.now ledger.old.shape }
+    requires few { job_pieces job.now ≤ max_pieces }
     requires history { HasHistory ledger.old }
     requires workers { All (λ worker. worker < ledger.old.shape.workers) moves.now }
     requires serves { Serves simulation.old job.now }
@@ -99,6 +102,7 @@ fn play(job: &Job, ledger: &mut Ledger, simulation: &mut Simulation, moves: &[u3
 /// pieces that were dropped.
 fn take_turns(job: &Job, ledger: &mut Ledger, simulation: &mut Simulation, everyone: &[u32]) -> u32
     requires shape { IsShapeOf job.now ledger.old.shape }
+    requires few { job_pieces job.now ≤ max_pieces }
     requires history { HasHistory ledger.old }
     requires everyone { everyone.now ≡ below ledger.old.shape.workers }
     requires some { 0 < ledger.old.shape.workers }
@@ -142,7 +146,9 @@ fn check_moves(workers: u32, moves: &[u32]) -> Result<(), RunFault>
 ///
 /// It is refused, in this order, with [`RunFault::NoWorkers`], with [`RunFault::TooManyWorkers`]
 /// above 64 workers, with [`RunFault::NoSuchMove`] and the least index of a move of a worker that
-/// isn't below the number of workers, before any move is made, and with [`RunFault::Memory`].
+/// isn't below the number of workers, before any move is made, with [`RunFault::TooManyPieces`] above
+/// [`patterns::MAX_PIECES`] pieces, which a job of [`Job::new`] hasn't, and with
+/// [`RunFault::Memory`].
 /// Beside the ledger, a simulation and the verdicts it takes a word for each worker.
 pub fn run_schedule(
     alloc: Global,
@@ -155,17 +161,20 @@ pub fn run_schedule(
     ensures history { IfOk result (IsScheduled job.now workers moves.now) }
     ensures workers { OnOk result ((0 < workers) × (workers ≤ 64)) }
     ensures moves { OnOk result (All (λ worker. worker < workers) moves.now) }
-    ensures refused { IfErr result (IsScheduleFault workers moves.now) }
+    ensures few { OnOk result (job_pieces job.now ≤ max_pieces) }
+    ensures refused { IfErr result (IsScheduleFault (job_pieces job.now) workers moves.now) }
 {
     check_workers(workers)?;
     check_moves(workers, moves)?;
+    check_job(job)?;
     let everyone = workers_in_order(alloc, workers)?;
     let mut ledger = open_ledger(alloc, job, workers)?;
     let mut simulation = Simulation::new(alloc, job)?;
     let firsts = Vec::with_capacity(alloc, job.faults().count() as usize)?;
     let played = play(job, &mut ledger, &mut simulation, moves);
     let turned = take_turns(job, &mut ledger, &mut simulation, everyone.as_slice());
-    let verdicts = verdicts_of(job, &ledger, played.skipped + turned, firsts)?;
+    let skipped = played.skipped + turned;
+    let verdicts = verdicts_of(job, &ledger, u64::from(skipped), firsts)?;
     Ok(verdicts)
 }
 
@@ -180,10 +189,11 @@ fn workers_in_order(alloc: Global, workers: u32) -> Result<Vec<u32>, AllocError>
     Ok(everyone)
 }
 
-/// A new ledger of a job. A job has no more pieces than a ledger takes, so it is refused for want
+/// A new ledger of a job that has no more pieces than a ledger takes, so that it is refused for want
 /// of memory alone.
 fn open_ledger(alloc: Global, job: &Job, workers: u32) -> Result<Ledger, RunFault>
-    requires { (0 < workers) × (workers ≤ 64) }
+    requires workers { (0 < workers) × (workers ≤ 64) }
+    requires few { job_pieces job.now ≤ max_pieces }
     ensures face { IfOk result (λ ledger. ledger ≡ face (shape_for job.now workers) []) }
     ensures refused { IfErr result (λ fault. fault ≡ RunFault.Memory) }
 {

@@ -1,7 +1,8 @@
 //! A run of workers in threads of their own.
 
-ghost use Rattle.std.specs.Prelude.{◌≡◌, ◌⊎◌, ◌<◌, ◌≤◌, All, map, IfOk, IfErr, OnOk};
-ghost use Rattle.block_sim.specs.Parts.{BelongTogether};
+ghost use Rattle.std.specs.Prelude.{◌≡◌, ◌⊎◌, ◌<◌, ◌≤◌, ◌*◌, All, length, map, IfOk, IfErr, OnOk};
+ghost use Rattle.patterns.specs.Tests.{blocks, max_pieces};
+ghost use Rattle.block_sim.specs.Parts.{BelongTogether, piece_count};
 ghost use Rattle.block_sim.specs.Simulation.{Serves};
 ghost use Rattle.fault_ledger.specs.Answer.{IsLegal};
 ghost use Rattle.fault_ledger.specs.Seats.{newcomer, newcomers};
@@ -14,7 +15,7 @@ ghost use Rattle.workers.specs.Work.{AreBack, HasRun, IsOfHistory, Returns};
 use crate::chosen::Chosen;
 use crate::verdicts::verdicts_of;
 use crate::worker::{Gate, work_over};
-use crate::{RunFault, Verdicts, check_workers};
+use crate::{RunFault, Verdicts, check_job, check_workers};
 use block_sim::{Job, Simulation};
 use fault_ledger::{Closed, Finish, Seat, SharedLedger};
 use std::alloc::{AllocError, Global};
@@ -147,7 +148,7 @@ fn workers_of(alloc: Global, job: &Job, seats: Vec<Seat>) -> Result<Vec<Worker>,
     Ok(workers)
 }
 
-/// A new shared ledger of chosen classes of a job, and the seats of its workers. A job has no more
+/// A new shared ledger of chosen classes of a job, and the seats of its workers. They have no more
 /// pieces than a ledger takes, so it is refused for want of memory alone.
 fn share_ledger<C: Chosen>(
     alloc: Global,
@@ -157,6 +158,8 @@ fn share_ledger<C: Chosen>(
 ) -> Result<(SharedLedger, Vec<Seat>), RunFault>
     requires workers { (0 < workers) × (workers ≤ 64) }
     requires chosen { AreChosenOf job.now (C.chosen chosen.now) }
+    requires few { (C.chosen chosen.now).count * blocks (length job.now.tests.tests)
+        ≤ max_pieces }
     ensures ledger { IfOk result (λ made.
         made.0.shape ≡ shape_over job.now (C.chosen chosen.now) workers) }
     ensures seats { IfOk result (λ made. made.1.items ≡ newcomers made.0) }
@@ -175,8 +178,9 @@ fn share_ledger<C: Chosen>(
 /// tests, whatever the workers do in whatever order.
 ///
 /// It is refused, in this order, with [`RunFault::NoWorkers`], with [`RunFault::TooManyWorkers`]
-/// above 64 workers, and with [`RunFault::Memory`] or [`RunFault::Threads`] where memory or the
-/// start of a thread was refused; the threads that were started are joined first. Where the gate
+/// above 64 workers, with [`RunFault::TooManyPieces`] above [`patterns::MAX_PIECES`] pieces, which
+/// a job of [`Job::new`] hasn't, and with [`RunFault::Memory`] or [`RunFault::Threads`] where memory
+/// or the start of a thread was refused; the threads that were started are joined first. Where the gate
 /// stopped workers and not all classes are settled it is [`RunFault::Unfinished`]. The job is
 /// unchanged, and can be run again.
 ///
@@ -194,13 +198,15 @@ pub fn run<G: Gate + Sync, R: Threads + Wait>(
         AreFirsts job.now.list.model job.now.circuit job.now.tests.tests v.firsts) }
     ensures history { IfOk result (IsOfHistory job.now workers) }
     ensures workers { OnOk result ((0 < workers) × (workers ≤ 64)) }
+    ensures few { OnOk result (piece_count job.now ≤ max_pieces) }
     ensures refused { IfErr result (IsRunFault job.now workers (G.passing gate.now)
         (G.stops gate.now)) }
 {
     check_workers(workers)?;
+    check_job(job)?;
     let firsts = Vec::with_capacity(alloc, job.faults().count() as usize)?;
     let closed = run_over(rt, alloc, job, job.classes(), workers, gate)?;
-    let verdicts = verdicts_of(job, &closed, closed.skipped(), firsts)?;
+    let verdicts = verdicts_of(job, &closed, u64::from(closed.skipped()), firsts)?;
     Ok(verdicts)
 }
 
@@ -215,6 +221,8 @@ pub(crate) fn run_over<G: Gate + Sync, C: Chosen + Sync, R: Threads + Wait>(
 ) -> Result<Closed, RunFault>
     requires workers { (0 < workers) × (workers ≤ 64) }
     requires chosen { AreChosenOf job.now (C.chosen chosen.now) }
+    requires few { (C.chosen chosen.now).count * blocks (length job.now.tests.tests)
+        ≤ max_pieces }
     ensures run { IfOk result (HasRun job.now (C.chosen chosen.now) workers) }
     ensures refused { IfErr result (IsRunFaultOver job.now (C.chosen chosen.now) workers
         (G.passing gate.now) (G.stops gate.now)) }

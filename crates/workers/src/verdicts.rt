@@ -17,7 +17,7 @@ use std::marker::Model;
 pub struct Verdicts {
     firsts: Vec<Option<u32>>,
     detected: u32,
-    skipped: u32,
+    skipped: u64,
 }
 
 impl Model for Verdicts {
@@ -34,7 +34,7 @@ impl Model for Verdicts {
 
 impl Verdicts {
     /// The verdicts of faults in the order of their list.
-    pub(crate) fn of(firsts: Vec<Option<u32>>, skipped: u32) -> Verdicts
+    pub(crate) fn of(firsts: Vec<Option<u32>>, skipped: u64) -> Verdicts
         requires { length firsts.items < 2 ^ 32 }
         ensures firsts { result.firsts ≡ firsts.items }
         ensures skipped { result.skipped ≡ skipped }
@@ -72,7 +72,7 @@ impl Verdicts {
 
     /// The number of pieces of work that were dropped, since an earlier block of their class
     /// detects.
-    pub fn skipped(&self) -> u32
+    pub fn skipped(&self) -> u64
         ensures { result ≡ self.now.skipped }
     {
         self.skipped
@@ -127,7 +127,7 @@ impl Statuses for Closed {
 pub(crate) fn verdicts_of<L: Statuses>(
     job: &Job,
     ledger: &L,
-    skipped: u32,
+    skipped: u64,
     firsts: Vec<Option<u32>>,
 ) -> Result<Verdicts, RunFault>
     requires shape { IsShapeOf job.now (L.shape_of ledger.now) }

@@ -1,4 +1,4 @@
-use Rattle.std.proofs.Common.{◌≡◌, ◌≢◌, ◌<◌, ◌+◌, ◌*◌, ◌-◌, ◌^◌, ◌∙◌, min, ap, arith, subst, sym, inl, inr, length}
+use Rattle.std.proofs.Common.{◌≡◌, ◌≢◌, ◌<◌, ◌^◌, ◌∙◌, ap, arith, subst, sym, inl, inr, length}
 use Rattle.bench_net.specs.Scan.{names, signal}
 use Rattle.bench_net.specs.Circuit.{IsCircuit}
 use Rattle.bench_net.proofs.Public.{name_of-signal}
@@ -8,7 +8,7 @@ use Rattle.fault_model.proofs.Public.{carries}
 use Rattle.block_sim.specs.Stuck.{stuck_fault}
 use Rattle.block_sim.proofs.LookedBack.{fits_where, masked_look_back}
 use Rattle.block_sim.proofs.look_back.initialized_lanes.Goals as goal
-use Rattle.block_sim.proofs.look_back.initialized_lanes.Goals.{then-fault, else-fault, then-block-eq0, else-block-eq0}
+use Rattle.block_sim.proofs.look_back.initialized_lanes.Goals.{then-fault, else-fault, then-group-eq0, else-group-eq0}
 
 pub carried-requires-clause-circuit : goal.carried-requires-clause-circuit
 carried-requires-clause-circuit c = subst IsCircuit (sym c.flat.ensures.part) c.flat.ensures.together.circuit
@@ -30,13 +30,11 @@ word_before-before-requires-clause-signal c =
     subst (λ x. x < length (names c.args.job.now.circuit)) (sym is) lt
 
 pub returns : goal.returns
-returns c = λ k few.
+returns c = λ k lt listed.
     let job = c.args.job.now in
     let bit = c.args.fault.at_one in
     let before = c.word_before-before.result in
-    let below : k < min 64 (length job.tests.tests - 64 * c.args.block) = few in
-    let lt : k < 64 = omega (arith, below) in
-    let within : before < 2 ^ 64 = omega arith in
+    let within : before < 2 ^ 128 = omega arith in
     let named = carries c.args.fault.model job.circuit (stuck_fault c.args.fault) c.flat.ensures.together.circuit.well_formed c.requires.listed in
     let is : c.carried.result ≡ signal job.circuit named.0 =
     c.carried.ensures named.0 (ap (λ x. carried x c.args.fault.line) c.flat.ensures.part ∙ named.1) ∙ ap (λ x. signal x named.0) c.flat.ensures.part in
@@ -44,9 +42,9 @@ returns c = λ k few.
       | then-fault w ↦ inl (w.if-fault.true, w.fits-is)
       | else-fault w ↦ inr (w.if-fault.false, w.fits-is)
     ]) in
-    masked_look_back job.circuit job.tests.tests c.args.block k before c.if-fault.fits c.args.fault.line bit few
-    (λ t e. c.word_before-before.ensures k t c.args.fault.line named.0 bit lt e named.1 named.2 is) fit c.if-block-eq0.earlier
-    (elim c.if-block-eq0.branch [
-      | then-block-eq0 w ↦ inl (w.if-block-eq0.true, w.earlier-is)
-      | else-block-eq0 w ↦ let some : c.args.block ≢ 0 = w.if-block-eq0.false in inr (omega (arith, some), w.earlier-is)
+    masked_look_back job.circuit job.tests.tests c.args.group k before c.if-fault.fits c.args.fault.line bit lt listed
+    (λ t e. c.word_before-before.ensures k t c.args.fault.line named.0 bit lt e named.1 named.2 is) fit c.if-group-eq0.earlier
+    (elim c.if-group-eq0.branch [
+      | then-group-eq0 w ↦ inl (w.if-group-eq0.true, w.earlier-is)
+      | else-group-eq0 w ↦ let some : c.args.group ≢ 0 = w.if-group-eq0.false in inr (omega (arith, some), w.earlier-is)
     ])

@@ -12,9 +12,9 @@ use Rattle.block_sim.proofs.Ways.{one_less}
 use Rattle.block_sim.proofs.region.arrive.Goals as goal
 
 pub returns-then-not-is_live-clause-come : goal.returns-then-not-is_live-clause-come
-returns-then-not-is_live-clause-come c = λ tests block f words come k lt asked.
+returns-then-not-is_live-clause-come c = λ tests group f words come k lt asked.
     let circuit = c.args.view.circuit.now in (
-      λ d. absurd (dead_flip circuit c.requires.view.circuit.well_formed (test_of tests block k) c.args.from.signal
+      λ d. absurd (dead_flip circuit c.requires.view.circuit.well_formed (test_of tests group k) c.args.from.signal
           (λ live. false≢true (sym c.if-not-is_live.true ∙ c.is_live.ensures.1 live)) ((come k lt asked).0 d).1),
       λ b. absurd (false≢true (sym (lane_zero k) ∙ b.0)),
     )
@@ -28,7 +28,7 @@ loop-step-init c = record {
   leads = here;
   deep = λ k h. omega arith;
   left = λ r chain. (chain.0, omega arith);
-  come = λ tests block f words come. come;
+  come = λ tests group f words come. come;
 }
 
 pub cross-lanes-requires-clause-room : goal.cross-lanes-requires-clause-room
@@ -56,7 +56,7 @@ loop-step-preserved c =
           let now = one_less circuit c.in-Some.gate chain.1 alone before.0 in
           let one = next.counted in
           (now.0, omega (arith, before.1, now.1, one));
-      come = λ tests block f words come. next.come tests block f words (last.come tests block f words come);
+      come = λ tests group f words come. next.come tests group f words (last.come tests group f words come);
     }
 
 pub returns-in-None-clause-stem : goal.returns-in-None-clause-stem

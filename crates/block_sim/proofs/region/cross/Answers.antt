@@ -39,14 +39,14 @@ unreachable-requires c =
     reader_driven c.args.view.circuit.now c.args.gate c.args.at.signal c.requires.view.circuit.well_formed c.requires.read.reads (sym c.in-None.ensures.gate)
 
 pub returns-clause-come : goal.returns-clause-come
-returns-clause-come c = λ tests block f words come.
+returns-clause-come c = λ tests group f words come.
     let circuit = c.args.view.circuit.now in
     let good = c.args.view.good.now in
     let s = c.args.at.signal in
     let own = c.in-Some.line in
     let low = read_within circuit c.args.gate s c.requires.view.circuit.well_formed c.requires.read.reads in
     let within : s < length c.args.changes.now.overlay = omega (arith, low, c.requires.room.overlay) in
-    let valued : (k : ℕ) → k < 64 → lane c.evaluate_gate-word.result k ≡ value own.kind (pin_bits None c.args.gate own.pins.now good c.change.new.self k) =
+    let valued : (k : ℕ) → k < 128 → lane c.evaluate_gate-word.result k ≡ value own.kind (pin_bits None c.args.gate own.pins.now good c.change.new.self k) =
     λ k lt. c.evaluate_gate-word.ensures.value k lt ∙ ap (λ d. value own.kind (pin_bits None c.args.gate own.pins.now good d k)) c.words-delta.ensures in
-    crossed circuit tests block f good c.args.view.lanes s c.args.gate c.args.at.lanes c.evaluate_gate-word.result own.kind own.pins.now c.args.changes.now.overlay c.change.new.self
+    crossed circuit tests group f good c.args.view.lanes s c.args.gate c.args.at.lanes c.evaluate_gate-word.result own.kind own.pins.now c.args.changes.now.overlay c.change.new.self
     c.requires.view.circuit.well_formed words c.requires.read (sym c.in-Some.ensures.gate) c.requires.clear.words within c.change.ensures valued come

@@ -1,5 +1,6 @@
-use Rattle.std.proofs.Common.{◌<◌, length, arith}
+use Rattle.std.proofs.Common.{◌<◌, length, refl, arith}
 use Rattle.block_sim.specs.Regions.{flips}
+use Rattle.block_sim.specs.Spans.{AreInSpan, group_of}
 use Rattle.block_sim.specs.Spreading.{HaveHits}
 use Rattle.block_sim.proofs.FlipLanes.{flip_first, flip_told, flips_stir}
 use Rattle.block_sim.proofs.region.flip.Goals as goal
@@ -19,7 +20,7 @@ spread-requires-clause-first c =
     )
 
 pub returns-clause-told : goal.returns-clause-told
-returns-clause-told c = λ tests block words one there.
+returns-clause-told c = λ tests group words one there.
     let s = c.args.signal in
     let good = c.args.view.good.now in
     let circuit = c.args.view.circuit.now in
@@ -29,13 +30,14 @@ returns-clause-told c = λ tests block words one there.
     let lanes = c.all_lanes-lanes.result in
     let seen = c.spread.result in
     let within : s < length delta = omega (arith, c.requires.signal, c.requires.room.overlay) in
-    let first = flip_first circuit well tests block good words s c.requires.signal delta lanes within in
-    flip_told circuit well tests block good words s c.requires.signal lanes seen (HaveHits followed seen)
-    (c.spread.ensures.shown tests block (flips good s) first) one (λ k own. c.all_lanes-lanes.ensures.all one k there own)
+    let first = flip_first circuit well tests group good words s c.requires.signal delta lanes within in
+    flip_told circuit well tests group good words s c.requires.signal lanes seen (HaveHits followed seen)
+    (c.spread.ensures.shown tests group (flips good s) first) one (λ k own. c.all_lanes-lanes.ensures.all one k there own)
     (λ k settled own. settled one there own)
 
 pub returns-clause-counted : goal.returns-clause-counted
-returns-clause-counted c = λ tests block gates words inside stirred.
+returns-clause-counted c = λ tests span gates words inside stirred.
+    let group = group_of span in
     let s = c.args.signal in
     let good = c.args.view.good.now in
     let circuit = c.args.view.circuit.now in
@@ -43,8 +45,8 @@ returns-clause-counted c = λ tests block gates words inside stirred.
     let delta = c.args.changes.now.overlay in
     let lanes = c.all_lanes-lanes.result in
     let within : s < length delta = omega (arith, c.requires.signal, c.requires.room.overlay) in
-    let first = flip_first circuit well tests block good words s c.requires.signal delta lanes within in
-    let le = c.spread.ensures.counted tests block (flips good s) gates first
-    (λ k lt own. (let one = c.all_lanes-lanes.ensures.only k own in inside one.0 one.1 k lt one.2))
-    (flips_stir circuit well tests block good words s c.requires.signal gates stirred) in
+    let first = flip_first circuit well tests group good words s c.requires.signal delta lanes within in
+    let within : AreInSpan tests span lanes = λ k lt own. (let one = c.all_lanes-lanes.ensures.only k own in inside one.0 one.1 k lt one.2) in
+    let le = c.spread.ensures.counted tests group (flips good s) gates first (λ k lt own. (within k lt own).listed)
+    (flips_stir circuit well tests group good words s c.requires.signal span lanes gates refl within stirred) in
     omega (arith, le)

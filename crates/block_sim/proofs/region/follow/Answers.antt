@@ -40,7 +40,7 @@ bounds-view-signal c =
     omega (arith, lt, number, c.requires.view.count)
 
 pub returns-then-turned-eq0-clause-reached : goal.returns-then-turned-eq0-clause-reached
-returns-then-turned-eq0-clause-reached c = λ tests block words k lt.
+returns-then-turned-eq0-clause-reached c = λ tests group words k lt.
     let circuit = c.args.view.circuit.now in
     let well = c.requires.view.circuit.well_formed in
     let good = c.args.view.good.now in
@@ -48,8 +48,8 @@ returns-then-turned-eq0-clause-reached c = λ tests block words k lt.
     let fault = stuck_fault c.args.fault in
     let n = carries c.args.fault.model circuit fault well c.requires.listed in
     let number : c.carried-signal.result ≡ signal circuit n.0 = c.carried-signal.ensures n.0 n.1 in
-    none_told circuit well tests block fault good words lanes
-    (shown_none circuit tests block fault good n.0 well words n.1 (λ _. ⊥) lanes (bit_and (bit_xor c.word.result (slice_index_or good c.carried-signal.result 0)) lanes)
+    none_told circuit well tests group fault good words lanes
+    (shown_none circuit tests group fault good n.0 well words n.1 (λ _. ⊥) lanes (bit_and (bit_xor c.word.result (slice_index_or good c.carried-signal.result 0)) lanes)
     (turned_is circuit fault good lanes c.carried-signal.result c.word.result n.0 number c.word.ensures) 0 (λ k lt. lane_of_zero _ k c.if-turned-eq0.true) lane_zero) k lt
 
 pub arrive-requires-clause-signal : goal.arrive-requires-clause-signal
@@ -114,7 +114,7 @@ arrive-requires-in-Pin-clause-signal c =
     low
 
 pub returns-in-Stem-clause-reached : goal.returns-in-Stem-clause-reached
-returns-in-Stem-clause-reached c = λ tests block words.
+returns-in-Stem-clause-reached c = λ tests group words.
     let circuit = c.args.view.circuit.now in
     let well = c.requires.view.circuit.well_formed in
     let good = c.args.view.good.now in
@@ -123,12 +123,12 @@ returns-in-Stem-clause-reached c = λ tests block words.
     let n = carries c.args.fault.model circuit fault well c.requires.listed in
     let number : c.carried-signal.result ≡ signal circuit n.0 = c.carried-signal.ensures n.0 n.1 in
     let named : name_of circuit c.in-Stem.start ≡ Some n.0 = ap (carried circuit) (sym c.in-Stem.is) ∙ n.1 in
-    c.arrive.ensures.come tests block fault words
-    (stem_come circuit well tests block fault good words lanes c.in-Stem.start (bit_and (bit_xor c.word.result (slice_index_or good c.carried-signal.result 0)) lanes) n.0 named c.in-Stem.is
+    c.arrive.ensures.come tests group fault words
+    (stem_come circuit well tests group fault good words lanes c.in-Stem.start (bit_and (bit_xor c.word.result (slice_index_or good c.carried-signal.result 0)) lanes) n.0 named c.in-Stem.is
     (turned_is circuit fault good lanes c.carried-signal.result c.word.result n.0 number c.word.ensures))
 
 pub returns-in-Pin-clause-reached : goal.returns-in-Pin-clause-reached
-returns-in-Pin-clause-reached c = λ tests block words.
+returns-in-Pin-clause-reached c = λ tests group words.
     let circuit = c.args.view.circuit.now in
     let well = c.requires.view.circuit.well_formed in
     let good = c.args.view.good.now in
@@ -139,13 +139,13 @@ returns-in-Pin-clause-reached c = λ tests block words.
     let p = pin_of circuit c.in-Pin.gate c.in-Pin.pin n.0 reads in
     let gate_is : gate_of circuit c.in-Pin.gate ≡ Some (p.kind, map (signal circuit) p.args) = ap (gate_line circuit) p.is in
     let low : c.in-Pin.gate < length (names circuit) = gate_within circuit c.in-Pin.gate c.in-Pin.pin n.0 reads in
-    c.arrive-in-Pin.ensures.come tests block fault words
-    (pin_come circuit well tests block fault good words lanes c.args.fault.model c.requires.listed c.in-Pin.gate c.in-Pin.pin c.in-Pin.is p.kind (map (signal circuit) p.args)
+    c.arrive-in-Pin.ensures.come tests group fault words
+    (pin_come circuit well tests group fault good words lanes c.args.fault.model c.requires.listed c.in-Pin.gate c.in-Pin.pin c.in-Pin.is p.kind (map (signal circuit) p.args)
     c.args.changes.now.overlay c.gate_change-lanes.result gate_is c.requires.clear.words
     (λ k lt in_lanes. c.gate_change-lanes.ensures.changed p.kind (map (signal circuit) p.args) k gate_is lt in_lanes))
 
 pub returns-in-Data-clause-reached : goal.returns-in-Data-clause-reached
-returns-in-Data-clause-reached c = λ tests block words k lt.
+returns-in-Data-clause-reached c = λ tests group words k lt.
     let circuit = c.args.view.circuit.now in
     let well = c.requires.view.circuit.well_formed in
     let good = c.args.view.good.now in
@@ -153,7 +153,7 @@ returns-in-Data-clause-reached c = λ tests block words k lt.
     let fault = stuck_fault c.args.fault in
     let n = carries c.args.fault.model circuit fault well c.requires.listed in
     let number : c.carried-signal.result ≡ signal circuit n.0 = c.carried-signal.ensures n.0 n.1 in
-    let told = λ (none : start_of fault.line ≡ None). observer_told circuit well tests block fault good words lanes c.args.fault.model (bit_and (bit_xor c.word.result (slice_index_or good c.carried-signal.result 0)) lanes) n.0 c.requires.listed none n.1
+    let told = λ (none : start_of fault.line ≡ None). observer_told circuit well tests group fault good words lanes c.args.fault.model (bit_and (bit_xor c.word.result (slice_index_or good c.carried-signal.result 0)) lanes) n.0 c.requires.listed none n.1
     (turned_is circuit fault good lanes c.carried-signal.result c.word.result n.0 number c.word.ensures) k lt in
     elim c.in-Data.is [
       | inl x ↦ told (ap start_of x.1)

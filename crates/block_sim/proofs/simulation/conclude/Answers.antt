@@ -8,7 +8,7 @@ use Rattle.block_sim.specs.declared.simulation.Memo.TheVariants.{Nothing}
 use Rattle.block_sim.specs.declared.spread.Followed.{Followed}
 use Rattle.block_sim.specs.Simulation.{IsFollowed, IsTrueMemo}
 use Rattle.block_sim.proofs.Placed.{index_of}
-use Rattle.block_sim.proofs.Simulated.{arrived_outcome}
+use Rattle.block_sim.proofs.Simulated.{arrived_first}
 use Rattle.block_sim.proofs.Ways.{known_still}
 use Rattle.block_sim.proofs.simulation.conclude.Goals as goal
 
@@ -51,7 +51,7 @@ loop-one-preserved c = record {
   each = λ class. go class (cases_eq class one.class);
   known = λ way.
       let before = c.loop-one.invariant.known way in
-      let more = known_still way c.args.block c.loop-one.memos one.class c.of.result low c.of.ensures.known in
+      let more = known_still way c.args.span.first c.loop-one.memos one.class c.of.result low c.of.ensures.known in
       omega (arith, before, more);
 }
   where
@@ -68,8 +68,8 @@ loop-one-preserved c = record {
     low = let lt = (c.requires.followed one there).0 in omega (arith, lt, c.loop-one.invariant.count)
 
     truth : IsTrueMemo c.args.job.now one.class c.of.result
-    truth = c.of.ensures.truth c.args.job.now one.class (arrived_outcome c.args.job.now c.args.block c.args.stem one.class one.lanes c.args.seen
-        c.least_lane-outcome.result (c.requires.followed one there).1 (c.requires.told one there) c.least_lane-outcome.ensures)
+    truth = c.of.ensures.truth c.args.job.now one.class c.requires.span (arrived_first c.args.job.now c.args.span c.args.stem one.class one.lanes c.args.seen
+        (c.requires.followed one there).1 (c.requires.told one there))
 
     later : (class : ℕ) → class ≢ one.class → (r : Rest c.args.followed.now c.loop-one.one-index class) → (r.0 ≡ c.loop-one.one-index) ⊎ (r.0 ≢ c.loop-one.one-index)
         → Rest c.args.followed.now (c.loop-one.one-index + 1) class
@@ -98,3 +98,19 @@ returns-clause-memos c = record { count = c.loop-one.invariant.count; each = λ 
         → IsTrueMemo c.args.job.now class (slice_index_or c.loop-one.memos class Nothing)
     go class (inl h) = h
     go class (inr r) = let le = r.1 in let lt = r.2 in absurd (omega (arith, le, lt, c.loop-one-test.false))
+
+pub of-requires : goal.of-requires
+of-requires c =
+    let i = c.loop-one.one-index in
+    let none : Followed = record { class = 0; lanes = 0 } in
+    let one = slice_index_or c.args.followed.now i none in
+    let there : Contains c.args.followed.now one = (i, c.loop-one-test.true, get_or_default c.args.followed.now i one none c.loop-one-test.true) in
+    record {
+      told = (
+        c.args.job.now,
+        one.class,
+        c.requires.span,
+        arrived_first c.args.job.now c.args.span c.args.stem one.class one.lanes c.args.seen
+            (c.requires.followed one there).1 (c.requires.told one there),
+      );
+    }

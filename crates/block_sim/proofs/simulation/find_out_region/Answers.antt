@@ -1,10 +1,10 @@
-use Rattle.std.proofs.Common.{◌≡◌, sym, ◌∙◌, ap, [], ◌∷◌, ◌++◌, refl, arith, subst, set, eq-eqb, inl}
+use Rattle.std.proofs.Common.{◌≡◌, sym, ◌∙◌, ap, [], ◌∷◌, ◌++◌, refl, arith, subst, set, inl}
 use Rattle.std.specs.Prelude.{Contains}
 use Rattle.block_sim.specs.declared.simulation.Memo.TheVariants.{Pending}
 use Rattle.block_sim.specs.Simulation.{AreFollowed, AreTrueBut}
 use Rattle.block_sim.proofs.Moments.{large_enough}
 use Rattle.block_sim.proofs.Simulated.{memo_waits}
-use Rattle.block_sim.proofs.Ways.{known_more}
+use Rattle.block_sim.proofs.Ways.{between_first, known_more}
 use Rattle.block_sim.proofs.simulation.find_out_region.Goals as goal
 
 pub gather-requires-clause-memos : goal.gather-requires-clause-memos
@@ -12,9 +12,9 @@ gather-requires-clause-memos c =
     let own = c.args.own in
     let items : c.push_reserved.new.self.items ≡ [] ++ own ∷ [] =
     c.push_reserved.ensures.items ∙ ap (λ l. l ++ own ∷ []) c.clear.ensures.items in
-    let memos = set c.args.memos.now own.class (Pending c.args.block) in
+    let memos = set c.args.memos.now own.class (Pending c.args.span) in
     subst (λ l. AreTrueBut c.args.job.now l memos) (sym items)
-    (memo_waits c.args.job.now [] c.args.memos.now own (Pending c.args.block) c.requires.memos.count (λ class. inl (c.requires.memos.each class)))
+    (memo_waits c.args.job.now [] c.args.memos.now own (Pending c.args.span) c.requires.memos.count (λ class. inl (c.requires.memos.each class)))
 
 pub flip_stem-seen-requires-clause-room : goal.flip_stem-seen-requires-clause-room
 flip_stem-seen-requires-clause-room c =
@@ -22,7 +22,7 @@ flip_stem-seen-requires-clause-room c =
 
 pub flip_stem-seen-requires-clause-followed : goal.flip_stem-seen-requires-clause-followed
 flip_stem-seen-requires-clause-followed c =
-    subst (AreFollowed c.args.job.now c.args.block c.args.stem) (sym c.as_slice-all.ensures.value) c.gather.ensures.followed
+    subst (AreFollowed c.args.job.now c.args.span c.args.stem) (sym c.as_slice-all.ensures.value) c.gather.ensures.followed
 
 pub conclude-requires-clause-memos : goal.conclude-requires-clause-memos
 conclude-requires-clause-memos c =
@@ -30,7 +30,7 @@ conclude-requires-clause-memos c =
 
 pub conclude-requires-clause-followed : goal.conclude-requires-clause-followed
 conclude-requires-clause-followed c =
-    subst (AreFollowed c.args.job.now c.args.block c.args.stem) (sym c.as_slice-all.ensures.value) c.gather.ensures.followed
+    subst (AreFollowed c.args.job.now c.args.span c.args.stem) (sym c.as_slice-all.ensures.value) c.gather.ensures.followed
 
 pub returns-clause-told : goal.returns-clause-told
 returns-clause-told c =
@@ -44,8 +44,8 @@ returns-clause-told c =
 pub returns-clause-counted : goal.returns-clause-counted
 returns-clause-counted c = λ way gates ways stirred.
     let own = c.args.own in
-    let more = known_more way c.args.block c.args.memos.now own.class (Pending c.args.block)
-    (let count = c.requires.memos.count in omega (arith, c.requires.class, count)) (eq-eqb c.args.block c.args.block refl) c.requires.idle in
+    let more = known_more way c.args.span.first c.args.memos.now own.class (Pending c.args.span)
+    (let count = c.requires.memos.count in omega (arith, c.requires.class, count)) (between_first c.args.span.first c.args.span.last c.requires.span.ordered) c.requires.idle in
     let first = c.gather.ensures.counted way ways in
     let spread = c.flip_stem-seen.ensures.counted gates stirred in
     let known = c.conclude.ensures.known way in

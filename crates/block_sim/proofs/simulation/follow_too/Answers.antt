@@ -1,10 +1,10 @@
-use Rattle.std.proofs.Common.{◌≡◌, refl, sym, subst, set, eq-eqb, arith}
+use Rattle.std.proofs.Common.{◌≡◌, refl, sym, subst, set, arith}
 use Rattle.block_sim.specs.Simulation.{AreFollowed, AreTrueBut, HasArrived}
 use Rattle.block_sim.specs.declared.spread.Followed.{Followed}
 use Rattle.block_sim.specs.declared.simulation.Memo.TheVariants.{Pending}
 use Rattle.block_sim.proofs.Simulated.{followed_more, memo_kept_but, memo_waits}
 use Rattle.block_sim.proofs.Stems.{one_class_stem}
-use Rattle.block_sim.proofs.Ways.{known_more}
+use Rattle.block_sim.proofs.Ways.{between_first, known_more}
 use Rattle.block_sim.proofs.simulation.follow_too.Goals as goal
 
 pub returns-in-Stem-clause-memos : goal.returns-in-Stem-clause-memos
@@ -12,9 +12,9 @@ returns-in-Stem-clause-memos c =
     let job = c.args.job.now in
     let before = c.requires.memos in
     let one : Followed = record { class = c.args.class; lanes = c.in-Stem.at.lanes } in
-    let memos = set c.args.memos.now c.args.class (Pending c.args.block) in
+    let memos = set c.args.memos.now c.args.class (Pending c.args.span) in
     subst (λ l. AreTrueBut job l memos) (sym c.push_reserved.ensures.items)
-    (memo_waits job c.args.followed.now.items c.args.memos.now one (Pending c.args.block) before.count before.each)
+    (memo_waits job c.args.followed.now.items c.args.memos.now one (Pending c.args.span) before.count before.each)
 
 pub returns-in-Stem-clause-followed : goal.returns-in-Stem-clause-followed
 returns-in-Stem-clause-followed c =
@@ -22,17 +22,17 @@ returns-in-Stem-clause-followed c =
     let at = c.in-Stem.ensures.approach in
     let same : c.in-Stem.at.signal ≡ c.args.stem = one_class_stem job.list.model job.circuit c.args.class c.in-Stem.at.signal c.args.stem
     (c.in-Stem.ensures.stem c.in-Stem.at refl) c.requires.region in
-    let come = subst (λ s. HasArrived job c.args.block s c.args.class c.in-Stem.at.lanes) same at.1 in
-    subst (AreFollowed job c.args.block c.args.stem) (sym c.push_reserved.ensures.items)
-    (followed_more job c.args.block c.args.stem c.args.followed.now.items
+    let come = subst (λ s. HasArrived job c.args.span s c.args.class c.in-Stem.at.lanes) same at.1 in
+    subst (AreFollowed job c.args.span c.args.stem) (sym c.push_reserved.ensures.items)
+    (followed_more job c.args.span c.args.stem c.args.followed.now.items
     (record { class = c.args.class; lanes = c.in-Stem.at.lanes }) c.requires.followed c.requires.class come)
 
 pub returns-in-Stem-clause-counted : goal.returns-in-Stem-clause-counted
 returns-in-Stem-clause-counted c = λ way ways.
     let before = c.requires.memos in
     let le = c.follow_alone.ensures.counted (way c.args.class) (ways c.args.class c.requires.class) in
-    let more = known_more way c.args.block c.args.memos.now c.args.class (Pending c.args.block) (omega (arith, c.requires.class, before.count))
-    (eq-eqb c.args.block c.args.block refl) c.requires.idle in
+    let more = known_more way c.args.span.first c.args.memos.now c.args.class (Pending c.args.span) (omega (arith, c.requires.class, before.count))
+    (between_first c.args.span.first c.args.span.last c.requires.span.ordered) c.requires.idle in
     omega (arith, le, more)
 
 pub returns-in-Known-clause-memos : goal.returns-in-Known-clause-memos
@@ -40,12 +40,15 @@ returns-in-Known-clause-memos c =
     let job = c.args.job.now in
     let before = c.requires.memos in
     memo_kept_but job c.args.followed.now.items c.args.memos.now c.args.class c.of.result before (omega (arith, c.requires.class, before.count))
-    (c.of.ensures.truth job c.args.class c.in-Known.ensures.approach)
+    (c.of.ensures.truth job c.args.class c.requires.span c.in-Known.ensures.approach)
 
 pub returns-in-Known-clause-counted : goal.returns-in-Known-clause-counted
 returns-in-Known-clause-counted c = λ way ways.
     let before = c.requires.memos in
     let le = c.follow_alone.ensures.counted (way c.args.class) (ways c.args.class c.requires.class) in
-    let more = known_more way c.args.block c.args.memos.now c.args.class c.of.result (omega (arith, c.requires.class, before.count))
+    let more = known_more way c.args.span.first c.args.memos.now c.args.class c.of.result (omega (arith, c.requires.class, before.count))
     c.of.ensures.known c.requires.idle in
     omega (arith, le, more)
+
+pub of-requires : goal.of-requires
+of-requires c = record { told = (c.args.job.now, c.args.class, c.requires.span, c.in-Known.ensures.approach) }

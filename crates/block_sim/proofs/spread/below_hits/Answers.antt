@@ -17,7 +17,7 @@ loop-one-preserved c =
     let place = within_place followed i c.loop-one-test.true in
     let at : slice_get followed i ≡ Some one = (rw (index_of followed i place.0 none place.1) place.1) in
     let seen = c.args.seen in
-    let small : bit_and one.lanes seen < 2 ^ 64 = (let le = and_le_r one.lanes seen in omega (arith, le, c.ranges.seen)) in
+    let small : bit_and one.lanes seen < 2 ^ 128 = (let le = and_le_r one.lanes seen in omega (arith, le, c.ranges.seen)) in
     let before = c.loop-one.invariant in
     record {
       below = λ k lt. one_open followed i one at c.loop-one.below seen c.lanes_below.result small c.lanes_below.ensures k lt (before.below k lt);

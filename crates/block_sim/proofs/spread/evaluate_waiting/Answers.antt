@@ -38,7 +38,7 @@ returns-then-diff-eq0-clause-leads c = λ now seen.
     let gate = c.args.gate in
     let word = c.evaluate_gate-word.result in
     let own = c.in-Some.line in
-    let valued : (k : ℕ) → k < 64 → lane word k ≡ value own.kind (pin_bits None gate own.pins.now good old.overlay k) =
+    let valued : (k : ℕ) → k < 128 → lane word k ≡ value own.kind (pin_bits None gate own.pins.now good old.overlay k) =
     λ k lt. c.evaluate_gate-word.ensures.value k lt
     ∙ ap (λ d. value own.kind (pin_bits None gate own.pins.now good d k)) c.words-delta.ensures in
     leads_same circuit good c.args.view.lanes c.requires.view.circuit.well_formed old.overlay old.buckets.at old.evaluations c.evaluate_gate-word.new.evaluations now c.args.kept seen gate
@@ -54,7 +54,7 @@ returns-clause-leads c = λ now seen.
     let gate = c.args.gate in
     let word = c.evaluate_gate-word.result in
     let own = c.in-Some.line in
-    let valued : (k : ℕ) → k < 64 → lane word k ≡ value own.kind (pin_bits None gate own.pins.now good old.overlay k) =
+    let valued : (k : ℕ) → k < 128 → lane word k ≡ value own.kind (pin_bits None gate own.pins.now good old.overlay k) =
     λ k lt. c.evaluate_gate-word.ensures.value k lt
     ∙ ap (λ d. value own.kind (pin_bits None gate own.pins.now good d k)) c.words-delta.ensures in
     let diff = bit_and (bit_xor word (slice_index_or good gate 0)) c.args.kept in

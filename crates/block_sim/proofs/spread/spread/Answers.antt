@@ -13,13 +13,13 @@ use Rattle.block_sim.proofs.spread.spread.Goals as goal
 use Rattle.block_sim.proofs.spread.spread.Goals.{else-loop-level-test, then-loop-level-test+then-is_empty}
 
 pub returns-then-diff-eq0-clause-shown : goal.returns-then-diff-eq0-clause-shown
-returns-then-diff-eq0-clause-shown c = λ tests block f first.
+returns-then-diff-eq0-clause-shown c = λ tests group f first.
     let overlay = c.args.changes.now.overlay in
-    shown_unchanged c.args.view.circuit.now tests block f c.args.view.good.now c.args.view.lanes overlay c.args.start c.args.diff (IsSettled c.args.extent 0) c.requires.view.circuit.well_formed
+    shown_unchanged c.args.view.circuit.now tests group f c.args.view.good.now c.args.view.lanes overlay c.args.start c.args.diff (IsSettled c.args.extent 0) c.requires.view.circuit.well_formed
     (λ t. index_zero overlay t c.requires.clear.words) (omega (arith, c.requires.start, c.requires.room.overlay)) c.if-diff-eq0.true first
 
 pub returns-then-diff-eq0-clause-counted : goal.returns-then-diff-eq0-clause-counted
-returns-then-diff-eq0-clause-counted c = λ tests block f gates first sized all.
+returns-then-diff-eq0-clause-counted c = λ tests group f gates first sized all.
     let few = count_at_most (λ g. g == c.args.start) gates in omega (arith, few)
 
 pub loop-level-init : goal.loop-level-init
@@ -62,7 +62,7 @@ loop-level-preserved c = record {
 }
 
 pub returns-clause-shown : goal.returns-clause-shown
-returns-clause-shown c = λ tests block f first.
+returns-clause-shown c = λ tests group f first.
     let circuit = c.args.view.circuit.now in
     let well = c.requires.view.circuit.well_formed in
     let good = c.args.view.good.now in
@@ -71,11 +71,11 @@ returns-clause-shown c = λ tests block f first.
     let now = c.loop-level.changes in
     let start = c.args.start in
     let levels = c.level_of-level.ensures in
-    let case = case_of circuit tests block f good lanes old.overlay start c.args.diff first levels.0 levels.2 in
+    let case = case_of circuit tests group f good lanes old.overlay start c.args.diff first levels.0 levels.2 in
     let here = level_is circuit levels.0 start c.level_of-level.result well levels.2 levels in
     let within : start < length old.overlay = omega (arith, c.requires.start, c.requires.room.overlay) in
     let spreads = c.loop-level.invariant.leads.spreading case
-    (first_spreads circuit tests block f good lanes old c.change-seen.new.changes start c.args.diff well first levels.0 levels.2 c.requires.clear c.change-seen.ensures.woken
+    (first_spreads circuit tests group f good lanes old c.change-seen.new.changes start c.args.diff well first levels.0 levels.2 c.requires.clear c.change-seen.ensures.woken
     c.level_of-level.result here c.followed-kept.result c.change-seen.result c.change-seen.ensures.changed within c.if-diff-eq0.false
     c.change-seen.ensures.some c.requires.inside c.followed-kept.ensures.within) in
     let seen = c.loop-level.invariant.leads.seen
@@ -84,15 +84,15 @@ returns-clause-shown c = λ tests block f first.
     let below : (g : ℕ) → g < length (names circuit) → level_at circuit levels.0 g < c.change-seen.new.changes.buckets.levels =
     λ g lt. (let less = c.requires.room.levels g (level_at circuit levels.0 g) (has_level circuit levels.0 g levels.2 lt) in omega (arith, less, c.change-seen.ensures.room.levels)) in
     let idle : (s : ℕ) → slice_index_or now.buckets.at s 0 ≡ 0 = elim c.loop-level-test.branch [
-      | else-loop-level-test x ↦ none_above circuit tests block f good lanes (level_at circuit levels.0) start c.loop-level.found.kept now.overlay now.buckets.at c.loop-level.level well spreads
+      | else-loop-level-test x ↦ none_above circuit tests group f good lanes (level_at circuit levels.0) start c.loop-level.found.kept now.overlay now.buckets.at c.loop-level.level well spreads
           c.change-seen.new.changes.buckets.levels (let le = x.loop-level-test.false in omega (arith, le, c.levels-level-end.ensures)) below
       | then-loop-level-test+then-is_empty x ↦ λ s. index_zero now.buckets.at s (x.is_empty.ensures.0 x.if-is_empty.true)
     ] in
-    shown_from circuit tests block f good lanes (level_at circuit levels.0) start c.loop-level.found.kept now.overlay now.buckets.at c.loop-level.level well
+    shown_from circuit tests group f good lanes (level_at circuit levels.0) start c.loop-level.found.kept now.overlay now.buckets.at c.loop-level.level well
     spreads (IsSettled c.args.extent c.loop-level.found.seen) c.loop-level.found.seen (reads_rise circuit levels.0 well levels.2) idle first.unobserved seen c.loop-level.invariant.settled
 
 pub returns-clause-counted : goal.returns-clause-counted
-returns-clause-counted c = λ tests block f gates first sized all.
+returns-clause-counted c = λ tests group f gates first sized all.
     let circuit = c.args.view.circuit.now in
     let well = c.requires.view.circuit.well_formed in
     let good = c.args.view.good.now in
@@ -101,15 +101,15 @@ returns-clause-counted c = λ tests block f gates first sized all.
     let now = c.loop-level.changes in
     let start = c.args.start in
     let levels = c.level_of-level.ensures in
-    let case = case_of circuit tests block f good lanes old.overlay start c.args.diff first levels.0 levels.2 in
+    let case = case_of circuit tests group f good lanes old.overlay start c.args.diff first levels.0 levels.2 in
     let here = level_is circuit levels.0 start c.level_of-level.result well levels.2 levels in
-    let begin = first_spreads circuit tests block f good lanes old c.change-seen.new.changes start c.args.diff well first levels.0 levels.2 c.requires.clear c.change-seen.ensures.woken
+    let begin = first_spreads circuit tests group f good lanes old c.change-seen.new.changes start c.args.diff well first levels.0 levels.2 c.requires.clear c.change-seen.ensures.woken
     c.level_of-level.result here c.followed-kept.result c.change-seen.result c.change-seen.ensures.changed (omega (arith, c.requires.start, c.requires.room.overlay)) c.if-diff-eq0.false
     c.change-seen.ensures.some c.requires.inside c.followed-kept.ensures.within in
-    let touched = stirred_touched circuit tests block f good lanes (level_at circuit levels.0) start c.loop-level.found.kept now.overlay now.buckets.at c.loop-level.level well
+    let touched = stirred_touched circuit tests group f good lanes (level_at circuit levels.0) start c.loop-level.found.kept now.overlay now.buckets.at c.loop-level.level well
     (c.loop-level.invariant.leads.spreading case begin) gates first.words sized first.elsewhere (reads_rise circuit levels.0 well levels.2) all in
     let less = c.loop-level.invariant.leads.counted case gates begin touched in
-    let few = first_left circuit tests block f good lanes old c.change-seen.new.changes start c.args.diff well first levels.0 levels.2 c.requires.clear c.change-seen.ensures.woken
+    let few = first_left circuit tests group f good lanes old c.change-seen.new.changes start c.args.diff well first levels.0 levels.2 c.requires.clear c.change-seen.ensures.woken
     c.level_of-level.result here c.followed-kept.result c.change-seen.result gates in
     omega (arith, less, few, c.change-seen.ensures.evaluations)
 

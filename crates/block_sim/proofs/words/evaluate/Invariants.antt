@@ -5,6 +5,6 @@ use Rattle.block_sim.proofs.words.evaluate.Given as goal
 
 abbrev pub invariant-loop-signal : goal.invariant-loop-signal
 invariant-loop-signal l = record {
-  passed : ArePassed l.circuit l.tests.tests l.block None l.order l.words l.signal-index;
+  passed : ArePassed l.circuit l.tests.tests l.group None l.order l.words l.signal-index;
   room : length l.words ≡ length l.fn.words;
 }

@@ -21,12 +21,12 @@ evaluate_gate-requires-clause-few c =
 
 pub returns-in-Some : goal.returns-in-Some
 returns-in-Some c =
-    gate_equation c.args.circuit.now c.args.tests.now.tests c.args.block None c.args.words.now c.args.signal c.evaluate_gate.result c.evaluate_gate.result
+    gate_equation c.args.circuit.now c.args.tests.now.tests c.args.group None c.args.words.now c.args.signal c.evaluate_gate.result c.evaluate_gate.result
     c.requires.circuit.well_formed (λ k lt. refl) c.in-Some.gate.kind c.in-Some.gate.pins.now c.args.same.now (λ t. index_zero c.args.same.now t c.requires.same) (sym c.in-Some.ensures.gate)
     c.evaluate_gate.ensures.value
 
 pub returns-in-None : goal.returns-in-None
 returns-in-None c =
-    source_equation c.args.circuit.now c.args.tests.now.tests c.args.block None c.args.words.now c.args.signal c.source_word.result c.source_word.result
+    source_equation c.args.circuit.now c.args.tests.now.tests c.args.group None c.args.words.now c.args.signal c.source_word.result c.source_word.result
     c.requires.circuit.well_formed (λ k lt. refl) (sym c.in-None.ensures.gate)
     (λ i at. c.source_word.ensures i (ap (λ x. slice_get (sources x) i) c.circuit.ensures ∙ (at ∙ ap (λ x. name_of x c.args.signal) (sym c.circuit.ensures))))

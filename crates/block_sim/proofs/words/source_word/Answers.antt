@@ -1,7 +1,7 @@
-use Rattle.std.proofs.Common.{◌≡◌, ◌+◌, ◌*◌, subst}
-use Rattle.std.specs.Int.{bit_at}
-use Rattle.patterns.specs.Tests.{as_number, bit}
+use Rattle.std.proofs.Common.{subst}
+use Rattle.block_sim.specs.Words.{IsGroupWord}
 use Rattle.block_sim.proofs.Equations.{source_there, one_source}
+use Rattle.block_sim.proofs.Groups.{joined_words}
 use Rattle.block_sim.proofs.words.source_word.Goals as goal
 
 pub unreachable-requires : goal.unreachable-requires
@@ -10,6 +10,8 @@ unreachable-requires c =
     c.in-None.ensures.none there.0 there.1
 
 pub returns : goal.returns
-returns c = λ i at k lt.
-    subst (λ j. bit_at c.word.result k ≡ as_number (bit c.args.tests.now.tests (64 * c.args.block + k) j))
-    (one_source c.args.circuit.now c.args.signal c.requires.circuit.well_formed c.requires.signal c.in-Some.source i c.in-Some.ensures.place at) (c.word.ensures k lt)
+returns c = λ i at.
+    subst (λ j. IsGroupWord c.args.tests.now.tests c.args.group j c.group_word.result)
+    (one_source c.args.circuit.now c.args.signal c.requires.circuit.well_formed c.requires.signal c.in-Some.source i c.in-Some.ensures.place at)
+    (joined_words c.args.tests.now.tests c.args.group c.in-Some.source c.word_at-low.result c.word_at-high.result c.group_word.result
+    c.word_at-low.ensures c.word_at-high.ensures c.group_word.ensures.low c.group_word.ensures.high)

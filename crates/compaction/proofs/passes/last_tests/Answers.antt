@@ -1,24 +1,27 @@
-use Rattle.std.proofs.Common.{◌≡◌, ◌∙◌, Err, ap, arith, get_or, length, subst, sym}
-use Rattle.std.specs.Prelude.{vec_len}
+use Rattle.std.proofs.Common.{◌≡◌, ◌∙◌, ap, arith, get_or, length, subst, sym}
+use Rattle.std.specs.Prelude.{⊤, vec_len}
+use Rattle.std.proofs.lemmas.Result.{err_from_is_err_and}
 use Rattle.std.specs.List.{ReversedBelow}
 use Rattle.fault_model.specs.declared.Model.TheVariants.{StuckAt}
+use Rattle.workers.specs.Refused.{IsRunFault}
 use Rattle.compaction.specs.Marks.{AreFinding, AreLast}
-use Rattle.compaction.proofs.Kept.{are_last, fewer_pieces}
+use Rattle.compaction.proofs.Kept.{are_last, refused_alike}
 use Rattle.compaction.proofs.passes.last_tests.Goals as goal
 
-pub set_tests-requires-clause-width : goal.set_tests-requires-clause-width
-set_tests-requires-clause-width g c = c.in_ok-turned.ensures.width
+pub set_tests_of_any_size-requires-clause-width : goal.set_tests_of_any_size-requires-clause-width
+set_tests_of_any_size-requires-clause-width g c = c.in_ok-turned.ensures.width
     ∙ (c.requires.width ∙ c.requires.job.width)
 
-pub unreachable-requires : goal.unreachable-requires
-unreachable-requires g c =
+pub returns-in_err-found-clause-refused : goal.returns-in_err-found-clause-refused
+returns-in_err-found-clause-refused g c =
+    let p = err_from_is_err_and c.from_residual-in_err-found.result
+    c.from_residual-in_err-found.ensures.1 in
     let job = c.args.job.now in
-    let over = c.set_tests.ensures.too_many.0 (c.in-Err-TooManyPieces.is
-    ∙ ap Err c.in-Err-TooManyPieces.field-0-is) in
-    let fewer =
-    fewer_pieces (length job.classes.representative) (length c.in_ok-turned.turned.tests)
-    (length job.tests.tests) (omega (arith, c.in_ok-turned.ensures.count, c.requires.few)) in
-    omega (arith, over, fewer, c.requires.pieces)
+    let given = subst (λ x. IsRunFault x c.args.workers ⊤ (λ _ _ _. ⊥) c.in_err-found.field-0.0)
+    c.in_ok-set_tests_of_any_size.ensures.job c.in_err-found.ensures.refused in
+    rw (p.1, p.2) (refused_alike job c.in_ok-turned.turned c.args.workers
+    c.in_err-found.field-0.0
+    (omega (arith, c.in_ok-turned.ensures.count, c.requires.few)) given)
 
 pub returns-clause-last : goal.returns-clause-last
 returns-clause-last g c =
@@ -28,7 +31,7 @@ returns-clause-last g c =
     let found = c.in_ok-found.found.items in
     let marks = c.deref.result.now in
     let given = subst (λ p. AreFinding p.list.model p.circuit p.tests.tests found)
-    c.in-Ok.ensures.job c.in_ok-found.ensures.marks in
+    c.in_ok-set_tests_of_any_size.ensures.job c.in_ok-found.ensures.marks in
     let are : AreFinding StuckAt job.circuit turned found =
     subst (λ m. AreFinding m job.circuit turned found) c.requires.model given in
     let all : length found ≡ length tests = are.count ∙ c.in_ok-turned.ensures.count in

@@ -12,6 +12,8 @@ abbrev pub invariant-loop-block : goal.invariant-loop-block
 invariant-loop-block l = record {
   few : l.count ≤ l.most;
   room : HasRoom l.workspace l.job;
-  counted : (r : Fault) (detects : ℕ → Bool) → slice_get (representatives l.job.list.model l.job.circuit) l.class ≡ Some r
-      → ((t : ℕ) → Decides (detects t) (DetectsAt l.job.circuit l.job.tests.tests r t)) → l.count ≡ min l.most (count_by detects (below (64 * l.block)));
+  counted : (r : Fault) (detects : ℕ → Bool)
+      → slice_get (representatives l.job.list.model l.job.circuit) l.class ≡ Some r
+      → ((t : ℕ) → Decides (detects t) (DetectsAt l.job.circuit l.job.tests.tests r t))
+      → l.count ≡ min l.most (count_by detects (below (64 * l.block)));
 }

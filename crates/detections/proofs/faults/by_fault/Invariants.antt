@@ -6,5 +6,6 @@ use Rattle.detections.proofs.faults.by_fault.Given as goal
 abbrev pub invariant-loop-fault : goal.invariant-loop-fault
 invariant-loop-fault l = record {
   count : vec_len l.counts ≡ l.fault;
-  each : (i n class : ℕ) → slice_get l.counts.items i ≡ Some n → slice_get l.job.classes.class_of i ≡ Some class → IsClassCount l.job l.most class n;
+  each : (i n class : ℕ) → slice_get l.counts.items i ≡ Some n
+      → slice_get l.job.classes.class_of i ≡ Some class → IsClassCount l.job l.most class n;
 }

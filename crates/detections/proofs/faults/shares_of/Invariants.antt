@@ -7,5 +7,6 @@ use Rattle.detections.proofs.faults.shares_of.Given as goal
 abbrev pub invariant-loop-first : goal.invariant-loop-first
 invariant-loop-first l = record {
   count : vec_len l.shares ≡ l.first;
-  each : (i : ℕ) (share : Share) → slice_get l.shares.items i ≡ Some share → IsShareFor l.job i l.workers share;
+  each : (i : ℕ) (share : Share) → slice_get l.shares.items i ≡ Some share
+      → IsShareFor l.job i l.workers share;
 }

@@ -10,5 +10,6 @@ invariant-loop-place l = record {
   places : length l.share.counts.items ≡ length l.fn.share.counts.items;
   room : HasRoom l.share.workspace l.job;
   class_is : l.class ≡ min (2 ^ 32 - 1) (l.fn.share.first + l.place * l.shares);
-  each : (k n : ℕ) → k < l.place → slice_get l.share.counts.items k ≡ Some n → IsClassCount l.job l.most (l.fn.share.first + k * l.shares) n;
+  each : (k n : ℕ) → k < l.place → slice_get l.share.counts.items k ≡ Some n
+      → IsClassCount l.job l.most (l.fn.share.first + k * l.shares) n;
 }

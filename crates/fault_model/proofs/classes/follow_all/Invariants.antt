@@ -1,4 +1,4 @@
-use Rattle.fault_model.proofs.Stems.{FollowedBelow}
+use Rattle.fault_model.proofs.StemClasses.{FollowedBelow}
 use Rattle.fault_model.proofs.classes.follow_all.Given as goal
 
 abbrev pub invariant-loop-fault : goal.invariant-loop-fault

@@ -1,4 +1,4 @@
-use Rattle.fault_model.proofs.Stems.{StemsFrom}
+use Rattle.fault_model.proofs.StemClasses.{StemsFrom}
 use Rattle.fault_model.proofs.classes.follow_stems.Given as goal
 
 abbrev pub invariant-loop-place : goal.invariant-loop-place

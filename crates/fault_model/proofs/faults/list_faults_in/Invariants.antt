@@ -1,4 +1,4 @@
-use Rattle.fault_model.proofs.Built.{Built}
+use Rattle.fault_model.proofs.BuiltLines.{Built}
 use Rattle.fault_model.proofs.faults.list_faults_in.Given as goal
 
 abbrev pub invariant-loop-signal : goal.invariant-loop-signal

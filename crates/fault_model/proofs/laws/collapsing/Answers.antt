@@ -1,4 +1,4 @@
-use Rattle.fault_model.proofs.Chains.{has_representatives, has_classes}
+use Rattle.fault_model.proofs.NextFaultChains.{has_representatives, has_classes}
 use Rattle.fault_model.proofs.laws.collapsing.Goals as goal
 
 pub returns-clause-representatives : goal.returns-clause-representatives

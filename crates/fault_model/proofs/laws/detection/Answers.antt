@@ -1,4 +1,4 @@
-use Rattle.fault_model.proofs.ClassLaw.{detection_is_of_any_solution}
+use Rattle.fault_model.proofs.ClassLaws.{detection_is_of_any_solution}
 use Rattle.fault_model.proofs.laws.detection.Goals as goal
 
 pub returns : goal.returns

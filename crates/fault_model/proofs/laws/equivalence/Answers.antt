@@ -1,4 +1,5 @@
-use Rattle.fault_model.proofs.ClassLaw.{classes_show_same, classes_detect_same, representatives_detect_same}
+use Rattle.fault_model.proofs.ClassLaws.{classes_show_same, classes_detect_same}
+use Rattle.fault_model.proofs.ClassLaws.{representatives_detect_same}
 use Rattle.fault_model.proofs.LookBack.{classes_detected_same, detected_as_representative}
 use Rattle.fault_model.proofs.laws.equivalence.Goals as goal
 

@@ -1,4 +1,4 @@
-use Rattle.fault_model.proofs.ClassLaw.{has_solutions, has_one_solution}
+use Rattle.fault_model.proofs.ClassLaws.{has_solutions, has_one_solution}
 use Rattle.fault_model.proofs.laws.solutions.Goals as goal
 
 pub returns-clause-exist : goal.returns-clause-exist

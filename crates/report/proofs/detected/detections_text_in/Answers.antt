@@ -2,7 +2,7 @@ use Rattle.std.proofs.Common.{◌∙◌, ap, subst}
 use Rattle.detections.specs.Detections.{AreCounts}
 use Rattle.report.specs.Detected.{IsDetectionReportOf, IsDetectionReportOfJob, detection_report}
 use Rattle.report.specs.EndToEnd.{IsReportFault, IsRunReportFault}
-use Rattle.report.proofs.Runs.{written_as, refused_as, run_fault}
+use Rattle.report.proofs.Runs.{written_as, refused_as, job_run_fault}
 use Rattle.report.proofs.detected.detections_text_in.Goals as goal
 
 pub returns-clause-written : goal.returns-clause-written
@@ -19,5 +19,5 @@ pub returns-clause-refused : goal.returns-clause-refused
 returns-clause-refused g c =
     let job = c.in_ok-job.job in
     refused_as (IsRunReportFault job c.args.workers) (IsReportFault c.args.model c.args.bench.now c.args.tests.now c.args.workers)
-    c.report_counts.result (run_fault c.args.model c.args.bench.now c.args.tests.now c.args.workers job (c.in_ok-job.ensures.job, c.in_ok-job.ensures.few))
+    c.report_counts.result (job_run_fault c.args.model c.args.bench.now c.args.tests.now c.args.workers job (c.in_ok-job.ensures.job, c.in_ok-job.ensures.few))
     c.report_counts.ensures.refused

@@ -1,6 +1,8 @@
-use Rattle.report.specs.EndToEnd.{IsReportFault, IsRunReportFault}
+use Rattle.std.specs.Prelude.{⊤}
+use Rattle.workers.specs.Refused.{IsPartFault}
+use Rattle.report.specs.EndToEnd.{IsJobReportFault, IsPartReportFault}
 use Rattle.report.specs.PartText.{IsPartTextOf, IsPartTextOfJob, head_of}
-use Rattle.report.proofs.Runs.{written_as, refused_as, run_fault}
+use Rattle.report.proofs.Runs.{written_as, refused_as, text_fault}
 use Rattle.report.proofs.part.part_text_in.Goals as goal
 
 pub report_part-requires-clause-job : goal.report_part-requires-clause-job
@@ -17,6 +19,6 @@ returns-clause-written g c =
 pub returns-clause-refused : goal.returns-clause-refused
 returns-clause-refused g c =
     let job = c.in_ok-job.job in
-    refused_as (IsRunReportFault job c.args.workers) (IsReportFault c.args.model c.args.bench.now c.args.tests.now c.args.workers)
-    c.report_part.result (run_fault c.args.model c.args.bench.now c.args.tests.now c.args.workers job (c.in_ok-job.ensures.job, c.in_ok-job.ensures.few))
+    refused_as (IsJobReportFault c.args.workers (IsPartFault job c.args.parts c.args.part c.args.workers ⊤ (λ _ _ _. ⊥))) (IsPartReportFault c.args.model c.args.bench.now c.args.tests.now c.args.part c.args.parts c.args.workers)
+    c.report_part.result (text_fault c.args.model c.args.bench.now c.args.tests.now c.args.workers (λ x. IsPartFault x c.args.parts c.args.part c.args.workers ⊤ (λ _ _ _. ⊥)) job c.in_ok-job.ensures.job)
     c.report_part.ensures.refused

@@ -1,3 +1,4 @@
+use Rattle.block_sim.specs.Parts.{piece_count}
 use Rattle.report.specs.EndToEnd.{IsReportOf, IsReportOfJob, IsScheduleReportFault, IsScheduleTextFault}
 use Rattle.report.proofs.Accepted.{job_of_texts}
 use Rattle.report.proofs.Runs.{written_as, refused_as, report_of, moves_fault}
@@ -20,7 +21,7 @@ returns-clause-refused g c =
     let made = job_of_texts c.args.model c.args.bench.now c.args.tests.now c.in_ok-circuit.circuit c.in_ok-circuit.tests job
     c.in_ok-circuit.ensures.circuit c.in_ok-circuit.ensures.tests c.in_ok-job.ensures.job in
     let moves = c.in_ok-moves.moves.items in
-    refused_as (IsScheduleReportFault moves c.args.workers) (IsScheduleTextFault c.args.model c.args.bench.now c.args.tests.now c.args.order.now c.args.workers)
+    refused_as (IsScheduleReportFault (piece_count job) moves c.args.workers) (IsScheduleTextFault c.args.model c.args.bench.now c.args.tests.now c.args.order.now c.args.workers)
     c.report_schedule.result
     (moves_fault c.args.model c.args.bench.now c.args.tests.now c.args.order.now c.args.workers job moves (made, c.in_ok-job.ensures.few) c.in_ok-moves.ensures.moves)
     (rw (c.deref.ensures.value) at c.report_schedule.ensures.refused)

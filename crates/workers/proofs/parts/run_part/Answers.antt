@@ -48,3 +48,10 @@ returns-clause-verdicts g c =
     let is : c.in_ok-verdicts.verdicts.items ≡ map (λ class. get_or table class OtherPart) job.classes.class_of =
     c.in_ok-verdicts.ensures ∙ ap (λ (l : List PartVerdict). map (λ class. get_or l class OtherPart) job.classes.class_of) c.as_slice-2.ensures.value in
     part_verdicts job c.args.parts c.args.part classes firsts table c.in_ok-verdicts.verdicts.items c.classes.ensures.together own c.in_ok-found.ensures.firsts by is
+
+pub returns-clause-within : goal.returns-clause-within
+returns-clause-within g c =
+    let job = c.args.job.now in
+    let own : ArePartOf job c.args.parts c.args.part c.between-own.result.now = subst (ArePartOf job c.args.parts c.args.part) (sym c.between-own.ensures)
+    (part_list job c.args.parts c.args.part c.start_of-start.result c.start_of-end.result c.in_ok-cut.cut.ranked.items c.in_ok-cut.cut.classes.items c.in_ok-cut.ensures c.start_of-start.ensures c.start_of-end.ensures) in
+    (c.between-own.result.now, own, c.in_ok-found.ensures.few)

@@ -30,7 +30,7 @@ overflow_add-skipped c =
     let adds = m.2 ∙ ap (λ r. option_map_or (λ event. event ∷ g) r g) (c.in-Some.is ∙ ap Some c.in-Drop.is) in
     let more = done_more t.0 s h.0 (take k c.args.moves.now) w c.loop-worker.ledger c.step.new.ledger c.loop-worker.skipped c.loop-worker.changed at m.0 m.1
     (Event.Drop c.in-Drop.field-0) (c.loop-worker.skipped + 1) adds refl in
-    let few = skipped_few job s (moved t.0 s h.0 (take k c.args.moves.now ++ w ∷ [])) (drops h.0) (c.loop-worker.skipped + 1) c.requires.shape c.classes-parts.ensures.few more.1 more.2 in
+    let few = skipped_few job s (moved t.0 s h.0 (take k c.args.moves.now ++ w ∷ [])) (drops h.0) (c.loop-worker.skipped + 1) c.requires.shape c.requires.few more.1 more.2 in
     omega (arith, few)
 
 pub loop-worker-preserved : goal.loop-worker-preserved

@@ -29,15 +29,15 @@ take_turns-turned-requires-clause-history c =
     begins c.play-played.ensures.moved in
     subst (λ (x : Shape). (g : History) × IsLegal x g × (c.play-played.new.ledger ≡ face x g)) (sym (ap (λ (x : Face). x.shape) a.0)) (moved t.0 s [] c.args.moves.now, a.1, a.0)
 
-pub overflow_add-played : goal.overflow_add-played
-overflow_add-played c =
+pub overflow_add-skipped : goal.overflow_add-skipped
+overflow_add-skipped c =
     let job = c.args.job.now in
     let t = true_table job.list.model job.circuit job.tests.tests c.faults.ensures.together.circuit.well_formed in
     let s = shape_for job c.args.workers in
     let is : IsShapeOf job s = record { classes = refl; tests = refl } in
     let x = scheduled job t.0 s c.args.moves.now c.in_ok-ledger.ledger c.play-played.new.ledger c.take_turns-turned.new.ledger c.play-played.result.skipped c.take_turns-turned.result
     c.play-played.result.changed t.1 c.in_ok-ledger.ensures.face c.play-played.ensures.moved c.take_turns-turned.ensures.moved in
-    let few = skipped_few job s (schedule_history t.0 s c.args.moves.now) 0 (c.play-played.result.skipped + c.take_turns-turned.result) is c.faults.ensures.few x.1 (x.2 ∙ omega arith) in
+    let few = skipped_few job s (schedule_history t.0 s c.args.moves.now) 0 (c.play-played.result.skipped + c.take_turns-turned.result) is c.in_ok-check_job.ensures.few x.1 (x.2 ∙ omega arith) in
     omega (arith, few)
 
 pub verdicts_of-requires-clause-settled : goal.verdicts_of-requires-clause-settled
@@ -76,5 +76,5 @@ returns-clause-history c =
       is_true = t.1;
       finished = settled_finished s (schedule_history t.0 s c.args.moves.now) x.3;
       firsts = told job s (schedule_history t.0 s c.args.moves.now) c.take_turns-turned.new.ledger c.in_ok-verdicts.verdicts.firsts x.1 x.0 c.in_ok-verdicts.ensures.firsts;
-      skipped = c.in_ok-verdicts.ensures.skipped ∙ sym x.2;
+      skipped = c.in_ok-verdicts.ensures.skipped ∙ (c.from.ensures ∙ sym x.2);
     }

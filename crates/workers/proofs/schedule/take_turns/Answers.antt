@@ -38,7 +38,7 @@ overflow_add-skipped c =
     let turn = played_on job t.0 s c.turns.ledger c.play-turn.new.ledger g c.args.everyone.now c.play-turn.result.skipped c.play-turn.result.changed c.turns.invariant.shape t.1 x.legal x.shows
     c.play-turn.ensures.moved in
     let sum : drops (moved t.0 s g c.args.everyone.now) ≡ drops h.0 + (c.turns.skipped + c.play-turn.result.skipped) = let a = turn.2 in let b = x.dropped in omega (arith, a, b) in
-    let few = skipped_few job s (moved t.0 s g c.args.everyone.now) (drops h.0) (c.turns.skipped + c.play-turn.result.skipped) c.requires.shape c.classes-parts.ensures.few turn.1 sum in
+    let few = skipped_few job s (moved t.0 s g c.args.everyone.now) (drops h.0) (c.turns.skipped + c.play-turn.result.skipped) c.requires.shape c.requires.few turn.1 sum in
     omega (arith, few)
 
 pub returns-then-not-turn-clause-moved : goal.returns-then-not-turn-clause-moved

@@ -2,7 +2,7 @@ use Rattle.std.proofs.Common.{◌<◌, ◌∙◌, ap, subst, sym, arith, length}
 use Rattle.std.specs.Prelude.{None}
 use Rattle.std.proofs.lemmas.List.{length-map}
 use Rattle.bench_net.specs.Scan.{names}
-use Rattle.patterns.specs.Tests.{blocks}
+use Rattle.block_sim.specs.Spans.{groups}
 use Rattle.block_sim.specs.Words.{AreWords}
 use Rattle.block_sim.proofs.Rows.{mapped_get}
 use Rattle.block_sim.proofs.job.Job.fault_free.Goals as goal
@@ -11,17 +11,17 @@ pub returns-clause-count : goal.returns-clause-count
 returns-clause-count c =
     let view = c.self.view_is in
     let counted = length-map c.self.inside.rows.items (λ row. row.items) in
-    let tests = ap (λ p. blocks (length p.tests.tests)) view in
-    let within : c.args.block < length c.self.inside.rows.items = omega (arith, c.self.invariant.count, counted, tests) in
-    let row = c.self.invariant.fault_free c.args.block c.index.result.now.items (mapped_get (λ row. row.items) c.self.inside.rows.items c.args.block c.index.result.now within c.index.ensures) in
+    let tests = ap (λ p. groups (length p.tests.tests)) view in
+    let within : c.args.group < length c.self.inside.rows.items = omega (arith, c.self.invariant.count, counted, tests) in
+    let row = c.self.invariant.fault_free c.args.group c.index.result.now.items (mapped_get (λ row. row.items) c.self.inside.rows.items c.args.group c.index.result.now within c.index.ensures) in
     ap length c.as_slice.ensures.value ∙ (row.0 ∙ ap (λ p. length (names p.circuit)) view)
 
 pub returns-clause-words : goal.returns-clause-words
 returns-clause-words c =
     let view = c.self.view_is in
     let counted = length-map c.self.inside.rows.items (λ row. row.items) in
-    let tests = ap (λ p. blocks (length p.tests.tests)) view in
-    let within : c.args.block < length c.self.inside.rows.items = omega (arith, c.self.invariant.count, counted, tests) in
-    let row = c.self.invariant.fault_free c.args.block c.index.result.now.items (mapped_get (λ row. row.items) c.self.inside.rows.items c.args.block c.index.result.now within c.index.ensures) in
-    subst (λ p. AreWords p.circuit p.tests.tests c.args.block None c.as_slice.result.now) view
-    (subst (λ words. AreWords c.self.inside.flat c.self.inside.tests.tests c.args.block None words) (sym c.as_slice.ensures.value) row.1)
+    let tests = ap (λ p. groups (length p.tests.tests)) view in
+    let within : c.args.group < length c.self.inside.rows.items = omega (arith, c.self.invariant.count, counted, tests) in
+    let row = c.self.invariant.fault_free c.args.group c.index.result.now.items (mapped_get (λ row. row.items) c.self.inside.rows.items c.args.group c.index.result.now within c.index.ensures) in
+    subst (λ p. AreWords p.circuit p.tests.tests c.args.group None c.as_slice.result.now) view
+    (subst (λ words. AreWords c.self.inside.flat c.self.inside.tests.tests c.args.group None words) (sym c.as_slice.ensures.value) row.1)

@@ -1,17 +1,19 @@
-use Rattle.std.proofs.Common.{◌≡◌, ◌<◌, ◌≤◌, ◌++◌, ℕ, List, length, refl, subst, sym, ◌∙◌, ap, true, false, arith, take, drop}
+use Rattle.std.proofs.Common.{◌≡◌, ◌<◌, ◌≤◌, ◌+◌, ◌++◌, ℕ, List, length, refl, subst, sym, ◌∙◌, ap, true, false, arith, take, drop}
 use Rattle.std.specs.Prelude.{slice_index_or}
 use Rattle.std.proofs.lemmas.Bool.{false≢true}
 use Rattle.std.proofs.Math.Seq.{take-append_seam}
 use Rattle.std.proofs.lemmas.List.{get_or_read}
 use Rattle.bench_net.specs.Scan.{names}
+use Rattle.patterns.specs.Tests.{TestList}
 use Rattle.block_sim.specs.Simulation.{IsTrueMemo, Serves}
 use Rattle.block_sim.specs.declared.simulation.Memo.{Memo}
 use Rattle.block_sim.specs.declared.simulation.Memo.TheVariants.{Nothing}
+use Rattle.block_sim.specs.Spans.{IsSpan, span_from}
 use Rattle.block_sim.specs.Ways.{HasStirredByFlip, is_on, known_ways}
 use Rattle.block_sim.proofs.Moments.{large_enough}
-use Rattle.block_sim.proofs.Simulated.{arrived_outcome, memo_kept, room_at_rest}
+use Rattle.block_sim.proofs.Simulated.{arrived_first, memo_kept, room_at_rest}
 use Rattle.block_sim.proofs.Stems.{one_class_stem}
-use Rattle.block_sim.proofs.Ways.{known_more}
+use Rattle.block_sim.proofs.Ways.{known_more, stirred_wider}
 use Rattle.block_sim.proofs.simulation.Simulation.outcome.Goals as goal
 
 -- a list that was written over whole
@@ -37,10 +39,63 @@ find_out_region-seen-requires-clause-room c =
     large_enough c.args.job.now.circuit c.self.inside.changes c.follow_alone.new.changes
     (room_at_rest c.args.job.now c.self.inside.changes c.flat-circuit.ensures.together.circuit.well_formed c.self.invariant served.room) c.follow_alone.ensures.room
 
+pub follow_alone-requires-clause-span : goal.follow_alone-requires-clause-span
+follow_alone-requires-clause-span c = subst (λ (t : TestList). IsSpan (length t.tests) c.from-span.result) c.tests.ensures.part c.from-span.ensures.span
+
+pub find_out_region-seen-requires-clause-span : goal.find_out_region-seen-requires-clause-span
+find_out_region-seen-requires-clause-span c = subst (λ (t : TestList). IsSpan (length t.tests) c.from-span.result) c.tests.ensures.part c.from-span.ensures.span
+
+pub of-memo-requires : goal.of-memo-requires
+of-memo-requires c =
+    record { told = (c.args.job.now, c.args.class, subst (λ (t : TestList). IsSpan (length t.tests) c.from-span.result) c.tests.ensures.part c.from-span.ensures.span, c.in-Known.ensures.approach) }
+
+pub first_outcome-requires-clause-truth : goal.first_outcome-requires-clause-truth
+first_outcome-requires-clause-truth c =
+    let is = subst (λ (t : TestList). IsSpan (length t.tests) c.from-span.result) c.tests.ensures.part c.from-span.ensures.span in
+    (c.args.job.now, c.args.class, c.of-memo.ensures.truth c.args.job.now c.args.class is c.in-Known.ensures.approach)
+
+pub first_outcome-requires-clause-known : goal.first_outcome-requires-clause-known
+first_outcome-requires-clause-known c = subst (λ b. is_on b c.of-memo.result ≡ true) c.from-span.ensures.first c.of-memo.ensures.known
+
+pub returns-in-Known-clause-outcome : goal.returns-in-Known-clause-outcome
+returns-in-Known-clause-outcome c =
+    let is = subst (λ (t : TestList). IsSpan (length t.tests) c.from-span.result) c.tests.ensures.part c.from-span.ensures.span in
+    c.first_outcome.ensures c.args.job.now c.args.class (c.of-memo.ensures.truth c.args.job.now c.args.class is c.in-Known.ensures.approach)
+
+pub of-requires : goal.of-requires
+of-requires c =
+    let job = c.args.job.now in
+    let is = subst (λ (t : TestList). IsSpan (length t.tests) c.from-span.result) c.tests.ensures.part c.from-span.ensures.span in
+    record {
+      told = (
+        job,
+        c.args.class,
+        is,
+        arrived_first job c.from-span.result c.in-Stem.at.signal c.args.class c.in-Stem.at.lanes c.find_out_region-seen.result
+            c.in-Stem.ensures.approach.1 c.find_out_region-seen.ensures.told,
+      );
+    }
+
+pub first_outcome-requires-in-Stem-clause-truth : goal.first_outcome-requires-in-Stem-clause-truth
+first_outcome-requires-in-Stem-clause-truth c =
+    let job = c.args.job.now in
+    let is = subst (λ (t : TestList). IsSpan (length t.tests) c.from-span.result) c.tests.ensures.part c.from-span.ensures.span in (
+      job,
+      c.args.class,
+      c.of.ensures.truth job c.args.class is (arrived_first job c.from-span.result c.in-Stem.at.signal c.args.class c.in-Stem.at.lanes c.find_out_region-seen.result
+          c.in-Stem.ensures.approach.1 c.find_out_region-seen.ensures.told),
+    )
+
+pub first_outcome-requires-in-Stem-clause-known : goal.first_outcome-requires-in-Stem-clause-known
+first_outcome-requires-in-Stem-clause-known c = subst (λ b. is_on b c.of.result ≡ true) c.from-span.ensures.first c.of.ensures.known
+
 pub returns-in-Stem-clause-outcome : goal.returns-in-Stem-clause-outcome
 returns-in-Stem-clause-outcome c =
-    arrived_outcome c.args.job.now c.args.block c.in-Stem.at.signal c.args.class c.in-Stem.at.lanes c.find_out_region-seen.result
-    c.least_lane.result c.in-Stem.ensures.approach.1 c.find_out_region-seen.ensures.told c.least_lane.ensures
+    let job = c.args.job.now in
+    let is = subst (λ (t : TestList). IsSpan (length t.tests) c.from-span.result) c.tests.ensures.part c.from-span.ensures.span in
+    c.first_outcome-in-Stem.ensures job c.args.class (c.of.ensures.truth job c.args.class is
+    (arrived_first job c.from-span.result c.in-Stem.at.signal c.args.class c.in-Stem.at.lanes c.find_out_region-seen.result
+    c.in-Stem.ensures.approach.1 c.find_out_region-seen.ensures.told))
 
 pub returns-in-Known-clause-serves : goal.returns-in-Known-clause-serves
 returns-in-Known-clause-serves c =
@@ -50,7 +105,8 @@ returns-in-Known-clause-serves c =
     (let count = served.outcomes.count in omega (arith, c.requires.class, count)) in
     record {
       room = subst (λ n. length (names job.circuit) ≤ n) (sym c.follow_alone.ensures.room.overlay) served.room;
-      outcomes = memo_kept job c.self.inside.memos.items c.args.class c.of.result served.outcomes low (c.of.ensures.truth job c.args.class c.in-Known.ensures.approach);
+      outcomes = memo_kept job c.self.inside.memos.items c.args.class c.of-memo.result served.outcomes low (c.of-memo.ensures.truth job c.args.class
+          (subst (λ (t : TestList). IsSpan (length t.tests) c.from-span.result) c.tests.ensures.part c.from-span.ensures.span) c.in-Known.ensures.approach);
       followed = served.followed;
     }
 
@@ -61,9 +117,10 @@ find_out_region-seen-requires-clause-idle c =
     let memos = c.self.inside.memos.items in
     let low : c.args.class < length memos = (let count = served.outcomes.count in omega (arith, c.requires.class, count)) in
     let is = get_or_read memos _ _ low c.index.ensures Nothing in
-    ap (λ l. is_on c.args.block (slice_index_or l c.args.class Nothing)) c.deref_mut.ensures.value
+    subst (λ b. is_on b (slice_index_or c.deref_mut.result.now c.args.class Nothing) ≡ false) (sym c.from-span.ensures.first)
+    (ap (λ l. is_on c.args.block (slice_index_or l c.args.class Nothing)) c.deref_mut.ensures.value
     ∙ (ap (is_on c.args.block) (sym is)
-    ∙ c.on.ensures.none job c.args.class (subst (IsTrueMemo job c.args.class) (sym is) (served.outcomes.each c.args.class)) c.in_default.is)
+    ∙ c.on.ensures.none job c.args.class (subst (IsTrueMemo job c.args.class) (sym is) (served.outcomes.each c.args.class)) c.in_default.is))
 
 pub returns-in-Known-clause-counted : goal.returns-in-Known-clause-counted
 returns-in-Known-clause-counted c = λ way stem gates ways at stirred.
@@ -77,7 +134,7 @@ returns-in-Known-clause-counted c = λ way stem gates ways at stirred.
     let idle : is_on block (slice_index_or memos class Nothing) ≡ false = ap (is_on block) (sym is)
     ∙ c.on.ensures.none job class (subst (IsTrueMemo job class) (sym is) (served.outcomes.each class)) c.in_default.is in
     let own = c.follow_alone.ensures.counted (way class) (ways class c.requires.class) in
-    let more = known_more way block memos class c.of.result low c.of.ensures.known idle in
+    let more = known_more way block memos class c.of-memo.result low (subst (λ b. is_on b c.of-memo.result ≡ true) c.from-span.ensures.first c.of-memo.ensures.known) idle in
     let before : known_ways way block memos ≡ known_ways way block c.args.self.now.memos = ap (λ v. known_ways way block v.memos) c.self.view_is in
     let from : c.self.inside.changes.evaluations ≡ c.args.self.now.evaluations = ap (λ v. v.evaluations) c.self.view_is in
     omega (arith, own, more, before, from)
@@ -93,8 +150,13 @@ returns-in-Stem-clause-counted c = λ way stem gates ways at stirred.
     let same : c.in-Stem.at.signal ≡ stem =
     one_class_stem job.list.model job.circuit class c.in-Stem.at.signal stem (c.in-Stem.ensures.stem c.in-Stem.at refl) at in
     let own = c.follow_alone.ensures.counted (way class) (ways class c.requires.class) in
-    let all = c.find_out_region-seen.ensures.counted way gates ways
-    (subst (λ s. HasStirredByFlip job.circuit job.tests.tests block s gates) (sym same) stirred) in
+    let span = c.from-span.result in
+    let is = subst (λ (t : TestList). IsSpan (length t.tests) span) c.tests.ensures.part c.from-span.ensures.span in
+    let found_all = c.find_out_region-seen.ensures.counted way gates ways
+    (stirred_wider job.circuit job.tests.tests span block c.in-Stem.at.signal gates is c.from-span.ensures.first c.from-span.ensures.alone
+    (subst (λ s. HasStirredByFlip job.circuit job.tests.tests (span_from block) s gates) (sym same) stirred)) in
+    let all = subst (λ b. c.find_out_region-seen.new.changes.evaluations + known_ways way b c.deref_mut.result.now + way class
+    ≤ c.follow_alone.new.changes.evaluations + known_ways way b found + length gates) c.from-span.ensures.first found_all in
     let long : length found ≡ c.self.inside.memos.len =
     (let a = c.find_out_region-seen.ensures.memos.count in let b = served.outcomes.count in omega (arith, a, b)) in
     let after = ap (known_ways way block) (written c.self.inside.memos.len found (drop (length found) memos) long) in

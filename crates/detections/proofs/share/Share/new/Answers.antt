@@ -6,7 +6,8 @@ use Rattle.detections.proofs.share.Share.new.Goals as goal
 pub returns : goal.returns
 returns c =
     let number = ap (λ (x : Collapsed). length x.representative) c.classes.ensures.part in
-    let long : length c.in_ok-counts.counts.items ≡ c.div_ceil-count.result = omega (arith, c.in_ok-counts.ensures.len, c.in_ok-counts.counts.ok) in
+    let long : length c.in_ok-counts.counts.items ≡ c.div_ceil-count.result =
+    omega (arith, c.in_ok-counts.ensures.len, c.in_ok-counts.counts.ok) in
     let times = div_ceil_times c.count.result c.args.shares (omega (arith, c.requires)) in
     let product = ap (λ n. n * c.args.shares) (long ∙ c.div_ceil-count.ensures) in
     record {

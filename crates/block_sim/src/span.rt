@@ -1,0 +1,50 @@
+//! The blocks that are simulated at once: one, or the two of a group.
+
+ghost use Rattle.std.specs.Prelude.{◌≡◌, ◌+◌, ◌*◌, ◌<◌, ◌≤◌, ℕ, length, true};
+ghost use Rattle.std.specs.Bool.{Decides};
+ghost use Rattle.patterns.specs.Tests.{blocks};
+ghost use Rattle.block_sim.specs.Spans.{IsInSpan, IsSpan, group_of};
+ghost use Rattle.block_sim.specs.Words.{lane};
+
+use crate::block_lanes::lanes_below;
+use patterns::Tests;
+
+/// The first and the last of some blocks of a group.
+#[derive(Clone, Copy)]
+pub struct Span {
+    pub first: u32,
+    pub last: u32,
+}
+
+impl Span {
+    /// A block with the other one of its group, where that comes behind it. Most classes are
+    /// detected in the first group, so its blocks are taken one by one.
+    pub fn from(tests: &Tests, block: u32) -> Span
+        requires { block < blocks (length tests.now.tests) }
+        ensures span { IsSpan (length tests.now.tests) result }
+        ensures first { result.first ≡ block }
+        ensures alone { block < 2 → result.last ≡ block }
+    {
+        if block >= 2 && block % 2 == 0 && block + 1 < tests.blocks() {
+            Span {
+                first: block,
+                last: block + 1,
+            }
+        } else {
+            Span {
+                first: block,
+                last: block,
+            }
+        }
+    }
+
+    /// The lanes of its tests.
+    pub fn test_lanes(self, tests: &Tests) -> u128
+        requires { IsSpan (length tests.now.tests) self }
+        ensures { (k : ℕ) → k < 128 → Decides (lane result k)
+            (IsInSpan (length tests.now.tests) self (128 * group_of self + k)) }
+    {
+        let end = self.last % 2 * 64 + tests.size_of(self.last);
+        lanes_below(end) & !lanes_below(self.first % 2 * 64)
+    }
+}

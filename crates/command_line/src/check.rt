@@ -1,0 +1,70 @@
+//! The command `check`.
+
+use crate::command::{read_file, read_model, read_option};
+use crate::source::Source;
+use crate::status::{Fault, NO_MEMORY, UNWRITTEN};
+use block_sim::JobFault;
+use clap::ArgMatches;
+use diagnosis::{Answer, Findings, Located, check_texts};
+use report::{Formatted, Out, SimFault};
+use std::alloc::{AllocError, Global};
+use std::fmt::Write;
+
+/// `check`: the files are read before either text is looked at. The faults of a refused text go to
+/// standard error, before the refusal that `run` tells.
+pub(crate) fn do_check<'a, S: Source, W: Out, E: Out>(
+    alloc: Global,
+    matches: &ArgMatches<'a>,
+    files: &mut S,
+    out: &mut W,
+    err: &mut E,
+) -> Result<(), Fault<'a>> {
+    let model = read_model(matches)?;
+    let bench = read_option(alloc, matches, "bench", files)?;
+    let tests = match matches.get_str("tests") {
+        Some(path) => Some(read_file(alloc, path, files)?),
+        None => None,
+    };
+    let text = tests.as_ref().map(|tests| tests.as_slice());
+    match check_texts(alloc, model, &bench, text) {
+        Ok(answer) => tell_answer(matches, &answer, out, err),
+        Err(AllocError) => Err(NO_MEMORY),
+    }
+}
+
+/// Tells what was found.
+fn tell_answer<'a, W: Out, E: Out>(
+    matches: &ArgMatches<'a>,
+    answer: &Answer<'_>,
+    out: &mut W,
+    err: &mut E,
+) -> Result<(), Fault<'a>> {
+    match answer {
+        Answer::Accepted(table) => {
+            if write!(Formatted(out), "{table}").is_err() {
+                return Err(UNWRITTEN);
+            }
+            Ok(())
+        }
+        Answer::BenchRefused(findings) => Err(tell_findings(matches, "bench", findings, err)),
+        Answer::TestsRefused(findings) => Err(tell_findings(matches, "tests", findings, err)),
+        Answer::TooManyPieces => Err(Fault::Sim(SimFault::Job(JobFault::TooManyPieces))),
+    }
+}
+
+/// Tells the faults of the text in the file that an option names, and gives the refusal.
+fn tell_findings<'a, E: Out>(
+    matches: &ArgMatches<'a>,
+    option: &str,
+    findings: &Findings<'_>,
+    err: &mut E,
+) -> Fault<'a> {
+    if let Some(path) = matches.get_str(option) {
+        let located = Located { path, findings };
+        let _ = write!(Formatted(err), "{located}");
+    }
+    match findings.first.fault {
+        diagnosis::Fault::Bench(fault) => Fault::Sim(SimFault::Bench(fault)),
+        diagnosis::Fault::Tests(fault) => Fault::Sim(SimFault::Tests(fault)),
+    }
+}

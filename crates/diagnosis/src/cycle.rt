@@ -1,0 +1,149 @@
+//! Cycles of gates, by their names.
+
+use crate::bench::Names;
+use std::alloc::{AllocError, Global};
+
+/// A cycle of gates.
+#[derive(Drop)]
+pub(crate) struct Cycle {
+    /// The gate that it is told at, by the number of its name: one that is on it or fed by it.
+    pub(crate) at: usize,
+    /// The gates of which each feeds the next, from one round to the same.
+    pub(crate) gates: Vec<usize>,
+}
+
+/// What is known of a gate.
+#[derive(Clone, Copy, PartialEq, Eq)]
+enum State {
+    /// Nothing yet.
+    New,
+    /// It is on the path from the gate at which the search began.
+    Open,
+    /// All that it reads is known.
+    Done,
+}
+
+/// A gate on the path, and the read that is looked at next.
+#[derive(Clone, Copy)]
+struct Visit {
+    gate: usize,
+    next: usize,
+    end: usize,
+}
+
+/// A search for cycles against the reads.
+#[derive(Drop)]
+struct Search {
+    states: Vec<State>,
+    told: Vec<bool>,
+    path: Vec<Visit>,
+    found: Vec<Cycle>,
+}
+
+/// The cycles of the gates of a text, of cycles with a gate in common one at least. The first is
+/// told at the first gate of the text that is on a cycle or fed by one.
+pub(crate) fn cycles(alloc: Global, names: &Names<'_>) -> Result<Vec<Cycle>, AllocError> {
+    let count = names.pins.len();
+    let mut search = Search {
+        states: vec![in alloc; State::New; count]?,
+        told: vec![in alloc; false; count]?,
+        path: Vec::new(alloc),
+        found: Vec::new(alloc),
+    };
+    for gate in 0..count {
+        search_from(alloc, names, gate, &mut search)?;
+    }
+    Ok(search.found)
+}
+
+/// Searches from a gate that nothing is known of.
+fn search_from(
+    alloc: Global,
+    names: &Names<'_>,
+    root: usize,
+    search: &mut Search,
+) -> Result<(), AllocError> {
+    enter(names, root, search)?;
+    // Each read is looked at once, and each gate is entered and left once.
+    let reads = names.reads.len();
+    let steps = reads.saturating_add(names.pins.len()).saturating_add(1);
+    for _ in 0..steps {
+        let Some(visit) = search.path.pop() else {
+            break;
+        };
+        step(alloc, names, root, visit, search)?;
+    }
+    Ok(())
+}
+
+/// Puts a gate on the path, where nothing is known of it.
+fn enter(names: &Names<'_>, gate: usize, search: &mut Search) -> Result<(), AllocError> {
+    let Some(state) = search.states.get_mut(gate) else {
+        return Ok(());
+    };
+    if *state != State::New {
+        return Ok(());
+    }
+    *state = State::Open;
+    if let Some((next, end)) = names.pins.get(gate).copied() {
+        search.path.push(Visit { gate, next, end })?;
+    }
+    Ok(())
+}
+
+/// Looks at the next read of the gate at the end of the path, or leaves the gate.
+fn step(
+    alloc: Global,
+    names: &Names<'_>,
+    root: usize,
+    visit: Visit,
+    search: &mut Search,
+) -> Result<(), AllocError> {
+    if visit.next >= visit.end {
+        if let Some(state) = search.states.get_mut(visit.gate) {
+            *state = State::Done;
+        }
+        return Ok(());
+    }
+    let read = names.reads.get(visit.next).map(|read| read.name.text);
+    let next = visit.next.saturating_add(1);
+    search.path.push(Visit { next, ..visit })?;
+    let Some(gate) = read.and_then(|name| names.defined.get_index_of(name)) else {
+        return Ok(());
+    };
+    if search.states.get(gate).copied() == Some(State::Open) {
+        return close(alloc, root, gate, search);
+    }
+    enter(names, gate, search)
+}
+
+/// Tells the cycle that the end of the path closes by reading a gate of the path, where none of its
+/// gates was told of.
+fn close(alloc: Global, root: usize, gate: usize, search: &mut Search) -> Result<(), AllocError> {
+    let mut gates = vec![in alloc; gate]?;
+    let mut is_told = false;
+    let mut lowest = gate;
+    for visit in search.path.iter().rev() {
+        is_told |= search.told.get(visit.gate).copied().unwrap_or(false);
+        lowest = lowest.min(visit.gate);
+        gates.push(visit.gate)?;
+        if visit.gate == gate {
+            break;
+        }
+    }
+    if is_told {
+        return Ok(());
+    }
+    for told in &gates {
+        if let Some(is_told) = search.told.get_mut(*told) {
+            *is_told = true;
+        }
+    }
+    let at = if search.found.is_empty() {
+        root
+    } else {
+        lowest
+    };
+    search.found.push(Cycle { at, gates })?;
+    Ok(())
+}

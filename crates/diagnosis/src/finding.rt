@@ -1,0 +1,254 @@
+//! Faults of a text with their places, and how they are told.
+
+ghost use Rattle.std.specs.Prelude.{◌≡◌};
+
+use crate::note::Note;
+use crate::scan::Place;
+use bench_net::BenchFault;
+use patterns::TestFault;
+use std::alloc::{AllocError, Global};
+use std::fmt::{self, Display, Formatter};
+
+/// Why a text is refused.
+#[derive(Clone, Copy, Debug, PartialEq, Eq)]
+pub enum Fault {
+    Bench(BenchFault),
+    Tests(TestFault),
+}
+
+impl Fault {
+    /// The line that it names, from 1.
+    pub(crate) fn line(self) -> Option<u64> {
+        match self {
+            Fault::Bench(
+                BenchFault::Syntax(line)
+                | BenchFault::Redefined(line)
+                | BenchFault::Undefined(line)
+                | BenchFault::Cycle(line),
+            ) => Some(line),
+            Fault::Tests(TestFault::BadByte(line) | TestFault::BadWidth(line)) => Some(line),
+            _ => None,
+        }
+    }
+}
+
+impl Display for Fault {
+    /// Writes the words of the refusal, without the text and the line that it names.
+    fn fmt<W: fmt::Write>(&self, f: &mut Formatter<W>) -> fmt::Result {
+        match self {
+            Fault::Bench(fault) => fmt_bench(fault, f),
+            Fault::Tests(fault) => fmt_tests(fault, f),
+        }
+    }
+}
+
+/// Writes the words of a bench text's refusal.
+fn fmt_bench<W: fmt::Write>(fault: &BenchFault, f: &mut Formatter<W>) -> fmt::Result {
+    match fault {
+        BenchFault::TooLarge(limit) => write!(f, "more than {limit}"),
+        BenchFault::Syntax(_) => f.write_str("syntax"),
+        BenchFault::Redefined(_) => f.write_str("name defined before"),
+        BenchFault::Undefined(_) => f.write_str("name not defined"),
+        BenchFault::Cycle(_) => f.write_str("cycle"),
+        BenchFault::Empty => f.write_str("no signal"),
+        BenchFault::Memory => f.write_str("out of memory"),
+    }
+}
+
+/// Writes the words of a test text's refusal.
+fn fmt_tests<W: fmt::Write>(fault: &TestFault, f: &mut Formatter<W>) -> fmt::Result {
+    match fault {
+        TestFault::BadByte(_) => f.write_str("not 0 or 1"),
+        TestFault::BadWidth(_) => f.write_str("wrong width"),
+        TestFault::TooMany => f.write_str("more than 65536 rows"),
+        TestFault::Memory => f.write_str("out of memory"),
+    }
+}
+
+/// A fault of a text: the refusal, the line where it is, and what is said of it.
+#[derive(Debug, Drop)]
+pub struct Finding<'a> {
+    /// The refusal, which names the line.
+    pub fault: Fault,
+    /// The line's bytes without its end; none where the refusal names no line.
+    pub text: &'a [u8],
+    /// The place on the line.
+    pub place: Place,
+    /// What was found and expected.
+    pub note: Note<'a>,
+}
+
+/// All faults of a text: the refusal first, then others, and how many more there are.
+#[derive(Debug, Drop)]
+pub struct Findings<'a> {
+    /// The refusal of the text.
+    pub first: Finding<'a>,
+    /// Others, at most 19.
+    pub others: Vec<Finding<'a>>,
+    /// How many there are besides.
+    pub more: u64,
+}
+
+/// How many faults are kept beside the first.
+const MAX_OTHERS: usize = 19;
+
+/// Faults as they are found.
+#[derive(Drop)]
+pub(crate) struct Found<'a> {
+    first: Option<Finding<'a>>,
+    others: Vec<Finding<'a>>,
+    more: u64,
+}
+
+impl<'a> Found<'a> {
+    /// No fault yet.
+    pub(crate) fn new(alloc: Global) -> Self {
+        Found {
+            first: None,
+            others: Vec::new(alloc),
+            more: 0,
+        }
+    }
+
+    /// Whether one more fault is counted alone.
+    pub(crate) fn is_full(&self) -> bool {
+        self.others.len() >= MAX_OTHERS
+    }
+
+    /// Counts one more fault.
+    pub(crate) fn count(&mut self) {
+        self.more = self.more.saturating_add(1);
+    }
+
+    /// Adds a fault.
+    pub(crate) fn push(&mut self, finding: Finding<'a>) -> Result<(), AllocError> {
+        if self.first.is_none() {
+            self.first = Some(finding);
+            return Ok(());
+        }
+        self.others.push(finding)?;
+        Ok(())
+    }
+
+    /// The faults of a text that is refused by this one, which is to be the first that was found.
+    pub(crate) fn into_findings(self, fault: Fault) -> Findings<'a>
+        ensures { result.first.fault ≡ fault }
+    {
+        let Found {
+            first,
+            others,
+            more,
+        } = self;
+        Findings {
+            first: first_of(first, fault),
+            others,
+            more,
+        }
+    }
+}
+
+/// The finding of a refusal: what was found first, where that is the refusal.
+fn first_of<'a>(first: Option<Finding<'a>>, fault: Fault) -> Finding<'a>
+    ensures { result.fault ≡ fault }
+{
+    match first {
+        Some(finding) if finding.fault == fault => Finding { fault, ..finding },
+        _ => Finding {
+            fault,
+            text: &[],
+            place: Place { start: 0, len: 0 },
+            note: Note::Nothing,
+        },
+    }
+}
+
+/// Findings of a text with the path of its file. Each is told as `PATH:LINE: WORDS`, the line's
+/// text, a mark under the place, and what was found and expected.
+#[derive(Clone, Copy)]
+pub struct Located<'p, 'f, 't> {
+    /// The path of the file.
+    pub path: &'p str,
+    /// Its faults.
+    pub findings: &'f Findings<'t>,
+}
+
+impl Display for Located<'_, '_, '_> {
+    fn fmt<W: fmt::Write>(&self, f: &mut Formatter<W>) -> fmt::Result {
+        fmt_finding(self.path, &self.findings.first, f)?;
+        for finding in &self.findings.others {
+            fmt_finding(self.path, finding, f)?;
+        }
+        match self.findings.more {
+            0 => Ok(()),
+            1 => writeln!(f, "and 1 more"),
+            more => writeln!(f, "and {more} more"),
+        }
+    }
+}
+
+/// Writes a finding.
+fn fmt_finding<W: fmt::Write>(
+    path: &str,
+    finding: &Finding<'_>,
+    f: &mut Formatter<W>,
+) -> fmt::Result {
+    let fault = finding.fault;
+    match fault.line() {
+        Some(line) => writeln!(f, "{path}:{line}: {fault}")?,
+        None => writeln!(f, "{path}: {fault}")?,
+    }
+    if fault.line().is_some() {
+        fmt_mark(finding.text, finding.place, f)?;
+    }
+    match finding.note {
+        Note::Nothing => Ok(()),
+        _ => {
+            let note = &finding.note;
+            writeln!(f, "    {note}")
+        }
+    }
+}
+
+/// How many bytes of a line are shown.
+const SHOWN: usize = 80;
+
+/// How many of these stand before the place, where the line is long.
+const BEFORE: usize = 40;
+
+/// Writes a line's text, from a place near the mark where the line is long, and the mark below.
+fn fmt_mark<W: fmt::Write>(text: &[u8], place: Place, f: &mut Formatter<W>) -> fmt::Result {
+    let from = if text.len() > SHOWN {
+        place.start.saturating_sub(BEFORE)
+    } else {
+        0
+    };
+    let shown = text.get(from..).unwrap_or(&[]);
+    let before = place.start.saturating_sub(from);
+    let room = SHOWN.saturating_sub(before);
+    f.write_str("    ")?;
+    fmt_bytes(shown, f)?;
+    f.write_str("\n    ")?;
+    fmt_repeated(' ', before, f)?;
+    fmt_repeated('^', place.len.min(room).max(1), f)?;
+    f.write_str("\n")
+}
+
+/// Writes the bytes of a line that are shown: a space for a tab, and `?` for what is no ASCII.
+fn fmt_bytes<W: fmt::Write>(bytes: &[u8], f: &mut Formatter<W>) -> fmt::Result {
+    for byte in bytes.iter().take(SHOWN) {
+        f.write_char(match *byte {
+            0x20..=0x7e => char::from(*byte),
+            b'\t' => ' ',
+            _ => '?',
+        })?;
+    }
+    Ok(())
+}
+
+/// Writes a character a number of times.
+fn fmt_repeated<W: fmt::Write>(character: char, count: usize, f: &mut Formatter<W>) -> fmt::Result {
+    for _ in 0..count {
+        f.write_char(character)?;
+    }
+    Ok(())
+}

@@ -1,0 +1,178 @@
+//! What is said of a fault beside the words of the refusal.
+
+use crate::scan::Token;
+use std::fmt::{self, Display, Formatter};
+
+/// What was found at a fault, what was expected there, and what may have been meant.
+#[derive(Debug, Drop)]
+pub enum Note<'a> {
+    /// Nothing more than the words of the refusal.
+    Nothing,
+    /// Another token than is expected.
+    Expected {
+        found: Token<'a>,
+        expected: &'static str,
+    },
+    /// The word before a parenthesis is no gate.
+    UnknownGate {
+        word: &'a str,
+        near: Option<&'static str>,
+    },
+    /// The word before a parenthesis is neither INPUT nor OUTPUT.
+    UnknownStatement {
+        word: &'a str,
+        near: Option<&'static str>,
+    },
+    /// Another number of arguments than one.
+    OneArgument {
+        word: &'a str,
+        found: usize,
+    },
+    /// A line of a bench text that looks like a test.
+    TestRow,
+    /// No line defines the name.
+    NotDefined {
+        name: &'a str,
+        near: Option<&'a str>,
+    },
+    /// The line, from 1, that defines the name first.
+    DefinedAt {
+        name: &'a str,
+        line: u64,
+    },
+    /// Gates of which each feeds the next, from one round to the same.
+    Cycle {
+        names: Vec<&'a str>,
+    },
+    /// A gate, and the cycle that feeds it.
+    FedByCycle {
+        name: &'a str,
+        names: Vec<&'a str>,
+    },
+    /// How many there are of what there is too much of.
+    TooMany {
+        found: usize,
+        what: &'static str,
+    },
+    /// The text has no statement.
+    NoStatement,
+    /// A byte of a test that is neither `0` nor `1`.
+    NoBit(u8),
+    /// A row with a number and a colon before its bits.
+    NumberedRow,
+    /// A line of a test text that looks like one of a bench text.
+    BenchLine,
+    /// Another number of bits than the circuit has sources.
+    Width {
+        found: usize,
+        inputs: usize,
+        cells: usize,
+    },
+}
+
+/// The end of a number of things.
+fn plural(count: usize) -> &'static str {
+    if count == 1 { "" } else { "s" }
+}
+
+/// Writes what may have been meant.
+fn write_near<W: fmt::Write>(near: Option<&str>, f: &mut Formatter<W>) -> fmt::Result {
+    match near {
+        Some(word) => write!(f, "; did you mean {word}?"),
+        None => Ok(()),
+    }
+}
+
+/// How many names of a cycle are told.
+const MAX_NAMES: usize = 12;
+
+/// Writes the names of a cycle, of a long one those at its front.
+fn write_cycle<W: fmt::Write>(names: &[&str], f: &mut Formatter<W>) -> fmt::Result {
+    for (place, name) in names.iter().enumerate() {
+        if place >= MAX_NAMES {
+            break;
+        }
+        if place > 0 {
+            f.write_str(" -> ")?;
+        }
+        f.write_str(*name)?;
+    }
+    if names.len() > MAX_NAMES {
+        let gates = names.len() - 1;
+        write!(f, " -> .. ({gates} gates)")?;
+    }
+    Ok(())
+}
+
+/// Writes a byte that is no bit.
+fn write_no_bit<W: fmt::Write>(byte: u8, f: &mut Formatter<W>) -> fmt::Result {
+    match byte {
+        b' ' | b'\t' => f.write_str("found a blank inside a test, expected 0 or 1"),
+        b'x' | b'X' => f.write_str("found `x`, expected 0 or 1: a test has a bit for each source"),
+        0x21..=0x7e => write!(f, "found `{}`, expected 0 or 1", char::from(byte)),
+        _ => write!(f, "found the byte 0x{byte:02x}, expected 0 or 1"),
+    }
+}
+
+/// Writes how wide a test is and how wide it should be.
+fn write_width<W: fmt::Write>(
+    found: usize,
+    inputs: usize,
+    cells: usize,
+    f: &mut Formatter<W>,
+) -> fmt::Result {
+    let wanted = inputs.saturating_add(cells);
+    write!(f, "found {found} bit{}, expected {wanted}", plural(found))?;
+    write!(f, ": {inputs} input{} and ", plural(inputs))?;
+    write!(f, "{cells} flip-flop{}", plural(cells))
+}
+
+impl Display for Note<'_> {
+    fn fmt<W: fmt::Write>(&self, f: &mut Formatter<W>) -> fmt::Result {
+        match self {
+            Note::Nothing => Ok(()),
+            Note::Expected { found, expected } => write!(f, "found {found}, expected {expected}"),
+            Note::UnknownGate { word, near } => {
+                write!(f, "unknown gate {word}")?;
+                write_near(*near, f)
+            }
+            Note::UnknownStatement { word, near } => {
+                write!(f, "unknown statement {word}")?;
+                write_near(*near, f)
+            }
+            Note::OneArgument { word, found } => {
+                write!(f, "{word} takes 1 argument, found {found}")
+            }
+            Note::TestRow | Note::BenchLine => self.fmt_swapped(f),
+            Note::NotDefined { name, near } => match near {
+                Some(near) => write!(f, "{name} is not defined; is {near} meant?"),
+                None => write!(f, "{name} is not defined"),
+            },
+            Note::DefinedAt { name, line } => write!(f, "{name} is defined at line {line} too"),
+            Note::Cycle { names } => write_cycle(names.as_slice(), f),
+            Note::FedByCycle { name, names } => {
+                write!(f, "{name} is fed by the cycle ")?;
+                write_cycle(names.as_slice(), f)
+            }
+            Note::TooMany { found, what } => write!(f, "found {found} {what}"),
+            Note::NoStatement => f.write_str("no line has a statement"),
+            Note::NoBit(byte) => write_no_bit(*byte, f),
+            Note::NumberedRow => f.write_str("looks like numbered rows of another tool"),
+            Note::Width {
+                found,
+                inputs,
+                cells,
+            } => write_width(*found, *inputs, *cells, f),
+        }
+    }
+}
+
+impl Note<'_> {
+    /// Writes that a text looks like the other one.
+    fn fmt_swapped<W: fmt::Write>(&self, f: &mut Formatter<W>) -> fmt::Result {
+        f.write_str(match self {
+            Note::TestRow => "looks like a test; are --bench and --tests swapped?",
+            _ => "looks like a line of a circuit; are --bench and --tests swapped?",
+        })
+    }
+}

@@ -1,0 +1,221 @@
+//! What a circuit and its tests have, and what a run of them takes.
+
+ghost use Rattle.std.specs.Prelude.{IfOk};
+ghost use Rattle.diagnosis.specs.Counts.{AreCountsOf, AreTestCountsOf};
+
+use bench_net::{Circuit, Kind};
+use fault_model::{Model, collapse, list_faults_in};
+use patterns::{BLOCK_SIZE, MAX_PIECES, MAX_TESTS, Tests};
+use std::alloc::{AllocError, Global};
+use std::fmt::{self, Display, Formatter};
+
+/// The kinds of gates and their names, in the order of [`Counts::gates`].
+static KINDS: [(Kind, &str); 8] = [
+    (Kind::And, "AND"),
+    (Kind::Nand, "NAND"),
+    (Kind::Or, "OR"),
+    (Kind::Nor, "NOR"),
+    (Kind::Xor, "XOR"),
+    (Kind::Xnor, "XNOR"),
+    (Kind::Not, "NOT"),
+    (Kind::Buff, "BUFF"),
+];
+
+/// How much a circuit has of what.
+#[derive(Clone, Copy, Debug, PartialEq, Eq)]
+pub struct Counts {
+    pub model: Model,
+    pub inputs: usize,
+    pub outputs: usize,
+    /// Flip-flops.
+    pub cells: usize,
+    /// Gates of each kind: AND, NAND, OR, NOR, XOR, XNOR, NOT, BUFF.
+    pub gates: [u64; 8],
+    /// The arguments of all gates.
+    pub pins: u64,
+    pub signals: u32,
+    /// The greatest level of a gate.
+    pub depth: u32,
+    /// Faults of the model, in the uncollapsed list.
+    pub faults: u32,
+    /// Classes of these faults.
+    pub classes: u32,
+}
+
+/// Counts what a circuit has.
+pub fn count_circuit(alloc: Global, model: Model, circuit: &Circuit) -> Result<Counts, AllocError>
+    ensures { IfOk result (AreCountsOf model circuit.now) }
+{
+    let list = list_faults_in(alloc, circuit, model)?;
+    let classes = collapse(alloc, circuit, &list)?;
+    let (gates, pins) = count_gates(circuit);
+    Ok(Counts {
+        model,
+        inputs: circuit.inputs().len(),
+        outputs: circuit.outputs().len(),
+        cells: circuit.scan_cells().len(),
+        gates,
+        pins,
+        signals: circuit.signals(),
+        depth: circuit.depth(),
+        faults: list.count(),
+        classes: classes.count(),
+    })
+}
+
+/// The place of a kind among [`KINDS`].
+fn place_of(kind: Kind) -> usize {
+    KINDS.iter().position(|known| known.0 == kind).unwrap_or(0)
+}
+
+/// The number of gates of each kind, and the number of their pins.
+fn count_gates(circuit: &Circuit) -> ([u64; 8], u64) {
+    let mut gates = [0; 8];
+    let mut pins: u64 = 0;
+    for signal in 0..circuit.signals() {
+        let Some(gate) = circuit.gate_of(signal) else {
+            continue;
+        };
+        pins = pins.saturating_add(gate.pins.len() as u64);
+        if let Some(count) = gates.get_mut(place_of(gate.kind)) {
+            *count = u64::saturating_add(*count, 1);
+        }
+    }
+    (gates, pins)
+}
+
+impl Counts {
+    /// All gates.
+    fn all_gates(&self) -> u64 {
+        let mut all: u64 = 0;
+        for count in &self.gates {
+            all = all.saturating_add(*count);
+        }
+        all
+    }
+
+    /// What reads signals: gate pins, data pins of flip-flops and OUTPUT lines.
+    fn sinks(&self) -> u64 {
+        let ports = self.cells.saturating_add(self.outputs) as u64;
+        self.pins.saturating_add(ports)
+    }
+
+    /// How many tests one run takes at most: 64 times 16,777,216 div classes, and 65,536.
+    pub(crate) fn tests_a_run(&self) -> u32 {
+        let blocks = MAX_PIECES / self.classes.max(1);
+        blocks.saturating_mul(BLOCK_SIZE).min(MAX_TESTS)
+    }
+
+    /// Some bytes that a run of so many blocks takes, by the figures of the README.
+    fn memory(&self, blocks: u64, workers: u64) -> u64 {
+        let signals = u64::from(self.signals);
+        let classes = u64::from(self.classes);
+        let sources = self.inputs.saturating_add(self.cells) as u64;
+        let circuit = self.all_gates().saturating_mul(290);
+        let words = signals.saturating_add(sources).saturating_mul(blocks);
+        let words = words.saturating_mul(8);
+        let once = signals
+            .saturating_mul(60)
+            .saturating_add(self.pins.saturating_mul(12));
+        let lists = u64::from(self.faults).saturating_mul(4);
+        let lists = lists.saturating_add(classes.saturating_mul(12));
+        let each = signals
+            .saturating_mul(25)
+            .saturating_add(classes.saturating_mul(28));
+        let done = classes.saturating_mul(blocks).saturating_mul(2);
+        circuit
+            .saturating_add(words)
+            .saturating_add(once)
+            .saturating_add(lists)
+            .saturating_add(each.saturating_mul(workers))
+            .saturating_add(done)
+    }
+}
+
+/// The name of a model on the command line.
+fn model_name(model: Model) -> &'static str {
+    match model {
+        Model::StuckAt => "stuck",
+        Model::Transition => "transition",
+        Model::TransitionPairs => "transition-pairs",
+    }
+}
+
+/// Writes a row of a table.
+fn fmt_row<W: fmt::Write>(name: &str, count: u64, f: &mut Formatter<W>) -> fmt::Result {
+    writeln!(f, "{name:<12}{count:>10}")
+}
+
+/// Writes a row for each kind of gate that there is.
+fn fmt_gates<W: fmt::Write>(gates: &[u64], f: &mut Formatter<W>) -> fmt::Result {
+    for (count, (_, name)) in gates.iter().zip(&KINDS) {
+        if *count > 0 {
+            writeln!(f, "  {name:<10}{count:>10}")?;
+        }
+    }
+    Ok(())
+}
+
+impl Display for Counts {
+    fn fmt<W: fmt::Write>(&self, f: &mut Formatter<W>) -> fmt::Result {
+        fmt_row("inputs", self.inputs as u64, f)?;
+        fmt_row("outputs", self.outputs as u64, f)?;
+        fmt_row("flip-flops", self.cells as u64, f)?;
+        fmt_row("gates", self.all_gates(), f)?;
+        fmt_gates(&self.gates, f)?;
+        fmt_row("signals", u64::from(self.signals), f)?;
+        fmt_row("sinks", self.sinks(), f)?;
+        fmt_row("depth", u64::from(self.depth), f)?;
+        let model = model_name(self.model);
+        let faults = self.faults;
+        writeln!(f, "faults      {faults:>10} {model}")?;
+        fmt_row("classes", u64::from(self.classes), f)?;
+        let most = self.tests_a_run();
+        writeln!(f, "tests a run {most:>10} at most")
+    }
+}
+
+/// How many workers `run` has where none are asked for.
+const USUAL_WORKERS: u64 = 4;
+
+/// How much a run of tests takes.
+#[derive(Clone, Copy, Debug, PartialEq, Eq)]
+pub struct TestCounts {
+    pub tests: u32,
+    /// Blocks of 64 tests.
+    pub blocks: u32,
+    /// Classes times blocks.
+    pub pieces: u64,
+    /// Some bytes that a run with four workers takes.
+    pub bytes: u64,
+}
+
+/// Counts what a run of tests takes on a circuit with these counts.
+pub fn count_tests(counts: &Counts, tests: &Tests) -> TestCounts
+    ensures { AreTestCountsOf tests.now result }
+{
+    let blocks = tests.blocks();
+    TestCounts {
+        tests: tests.count(),
+        blocks,
+        pieces: u64::from(counts.classes).saturating_mul(u64::from(blocks)),
+        bytes: counts.memory(u64::from(blocks), USUAL_WORKERS),
+    }
+}
+
+impl TestCounts {
+    /// Whether they are too many for one run.
+    pub(crate) fn are_too_many(&self) -> bool {
+        self.pieces > u64::from(MAX_PIECES)
+    }
+}
+
+impl Display for TestCounts {
+    fn fmt<W: fmt::Write>(&self, f: &mut Formatter<W>) -> fmt::Result {
+        fmt_row("tests", u64::from(self.tests), f)?;
+        fmt_row("blocks", u64::from(self.blocks), f)?;
+        fmt_row("pieces", self.pieces, f)?;
+        let megabytes = self.bytes / 1_000_000 + 1;
+        writeln!(f, "memory      {megabytes:>10} MB, some, for 4 workers")
+    }
+}

@@ -1,0 +1,261 @@
+//! What is no fault of a text, but seldom meant.
+
+ghost use Rattle.std.specs.Prelude.{◌<◌};
+
+use bench_net::{Circuit, Sink};
+use patterns::Tests;
+use std::alloc::{AllocError, Global};
+use std::fmt::{self, Display, Formatter};
+
+/// How many names of a list are told.
+const MAX_NAMES: usize = 5;
+
+/// Names of signals, of many those at the front.
+#[derive(Debug, Drop)]
+pub(crate) struct NameList<'a> {
+    names: Vec<&'a str>,
+    more: u64,
+}
+
+impl<'a> NameList<'a> {
+    /// No names.
+    fn new(alloc: Global) -> Self {
+        NameList {
+            names: Vec::new(alloc),
+            more: 0,
+        }
+    }
+
+    /// Adds a name.
+    fn push(&mut self, name: &'a str) -> Result<(), AllocError> {
+        if self.names.len() >= MAX_NAMES {
+            self.more = self.more.saturating_add(1);
+            return Ok(());
+        }
+        self.names.push(name)?;
+        Ok(())
+    }
+
+    /// Whether there is none.
+    fn is_empty(&self) -> bool {
+        self.names.is_empty()
+    }
+}
+
+impl Display for NameList<'_> {
+    fn fmt<W: fmt::Write>(&self, f: &mut Formatter<W>) -> fmt::Result {
+        for (place, name) in self.names.iter().enumerate() {
+            if place > 0 {
+                f.write_str(", ")?;
+            }
+            f.write_str(*name)?;
+        }
+        match self.more {
+            0 => Ok(()),
+            more => write!(f, " and {more} more"),
+        }
+    }
+}
+
+/// What is no fault of a text, but seldom meant.
+#[derive(Debug, Drop)]
+pub(crate) enum Warning<'a> {
+    /// The circuit has no OUTPUT line and no flip-flop, so no test detects anything.
+    Unobserved,
+    /// Signals that nothing reads.
+    Unread(NameList<'a>),
+    /// Signals that two OUTPUT lines or more observe.
+    OutputTwice(NameList<'a>),
+    /// There is no test.
+    NoTest,
+    /// A test that is the same as one before it, both counted from 0, and how many more there are.
+    SameTest { test: u32, as_test: u32, more: u64 },
+    /// Inputs and flip-flops that have the same bit in all tests.
+    Unturned(NameList<'a>),
+}
+
+impl Display for Warning<'_> {
+    fn fmt<W: fmt::Write>(&self, f: &mut Formatter<W>) -> fmt::Result {
+        match self {
+            Warning::Unobserved => {
+                f.write_str("no output and no flip-flop: no test detects any fault")
+            }
+            Warning::Unread(names) => write!(f, "nothing reads {names}"),
+            Warning::OutputTwice(names) => write!(f, "more than one OUTPUT line has {names}"),
+            Warning::NoTest => f.write_str("no test"),
+            Warning::SameTest {
+                test,
+                as_test,
+                more,
+            } => {
+                write!(f, "test {test} is the same as test {as_test}")?;
+                match more {
+                    0 => Ok(()),
+                    more => write!(f, ", and {more} more are as one before them"),
+                }
+            }
+            Warning::Unturned(names) => write!(f, "no test turns {names}"),
+        }
+    }
+}
+
+/// The warnings of a circuit.
+pub(crate) fn circuit_warnings<'a>(
+    alloc: Global,
+    circuit: &'a Circuit,
+) -> Result<Vec<Warning<'a>>, AllocError> {
+    let mut warnings = Vec::new(alloc);
+    if circuit.outputs().is_empty() && circuit.scan_cells().is_empty() {
+        warnings.push(Warning::Unobserved)?;
+    }
+    let mut unread = NameList::new(alloc);
+    let mut twice = NameList::new(alloc);
+    for signal in 0..circuit.signals() {
+        let sinks = circuit.sinks_of(signal);
+        if sinks.is_empty() {
+            unread.push(circuit.name_of(signal))?;
+        }
+        if output_lines(sinks) > 1 {
+            twice.push(circuit.name_of(signal))?;
+        }
+    }
+    if !unread.is_empty() {
+        warnings.push(Warning::Unread(unread))?;
+    }
+    if !twice.is_empty() {
+        warnings.push(Warning::OutputTwice(twice))?;
+    }
+    Ok(warnings)
+}
+
+/// How many of the readers are OUTPUT lines.
+fn output_lines(sinks: &[Sink]) -> usize {
+    sinks
+        .iter()
+        .filter(|sink| matches!(**sink, Sink::Out { .. }))
+        .count()
+}
+
+/// The warnings of tests for a circuit.
+pub(crate) fn test_warnings<'a>(
+    alloc: Global,
+    circuit: &'a Circuit,
+    tests: &Tests,
+) -> Result<Vec<Warning<'a>>, AllocError> {
+    let mut warnings = Vec::new(alloc);
+    if tests.count() == 0 {
+        warnings.push(Warning::NoTest)?;
+        return Ok(warnings);
+    }
+    if let Some(warning) = same_tests(alloc, tests)? {
+        warnings.push(warning)?;
+    }
+    let unturned = unturned_sources(alloc, circuit, tests)?;
+    if tests.count() > 1 && !unturned.is_empty() {
+        warnings.push(Warning::Unturned(unturned))?;
+    }
+    Ok(warnings)
+}
+
+/// The sources that have the same bit in all tests.
+fn unturned_sources<'a>(
+    alloc: Global,
+    circuit: &'a Circuit,
+    tests: &Tests,
+) -> Result<NameList<'a>, AllocError> {
+    let mut unturned = NameList::new(alloc);
+    for source in 0..tests.width() {
+        let ones = ones_of(tests, source);
+        if ones > 0 && ones < u64::from(tests.count()) {
+            continue;
+        }
+        if let Some(name) = source_name(circuit, source as usize) {
+            unturned.push(name)?;
+        }
+    }
+    Ok(unturned)
+}
+
+/// How many tests have a 1 at a source.
+fn ones_of(tests: &Tests, source: u32) -> u64
+    requires { source < tests.now.width }
+{
+    let mut ones: u64 = 0;
+    for block in 0..tests.blocks() {
+        ones = ones.saturating_add(u64::from(tests.word(block, source).count_ones()));
+    }
+    ones
+}
+
+/// The name of a source, by its place in a test.
+fn source_name(circuit: &Circuit, source: usize) -> Option<&str> {
+    let inputs = circuit.inputs();
+    let signal = match inputs.get(source) {
+        Some(signal) => *signal,
+        None => circuit
+            .scan_cells()
+            .get(source.saturating_sub(inputs.len()))?
+            .q,
+    };
+    if signal < circuit.signals() {
+        Some(circuit.name_of(signal))
+    } else {
+        None
+    }
+}
+
+/// A test with a number that equal tests have in common.
+fn sum_of(row: &[u8]) -> u64 {
+    let mut sum: u64 = 0xcbf2_9ce4_8422_2325;
+    for byte in row {
+        sum = (sum ^ u64::from(*byte)).wrapping_mul(0x0100_0000_01b3);
+    }
+    sum
+}
+
+/// The tests that are the same as one before them.
+fn same_tests<'a>(alloc: Global, tests: &Tests) -> Result<Option<Warning<'a>>, AllocError> {
+    let sums = sums_of(alloc, tests)?;
+    let mut same = Vec::new(alloc);
+    let mut row = Vec::new(alloc);
+    let mut other = Vec::new(alloc);
+    for pair in sums.windows(2) {
+        let [first, second] = pair else {
+            continue;
+        };
+        if first.0 != second.0 || first.1 >= tests.count() || second.1 >= tests.count() {
+            continue;
+        }
+        row.clear();
+        other.clear();
+        tests.push_row(first.1, &mut row)?;
+        tests.push_row(second.1, &mut other)?;
+        if row.as_slice() == other.as_slice() {
+            same.push((second.1, first.1))?;
+        }
+    }
+    Ok(first_same(same.as_slice()))
+}
+
+/// The warning of tests that are as others, with the first of them.
+fn first_same<'a>(same: &[(u32, u32)]) -> Option<Warning<'a>> {
+    let first = same.iter().copied().min()?;
+    Some(Warning::SameTest {
+        test: first.0,
+        as_test: first.1,
+        more: (same.len() as u64).saturating_sub(1),
+    })
+}
+
+/// The tests by a number that equal tests have in common, and then in their order.
+fn sums_of(alloc: Global, tests: &Tests) -> Result<Vec<(u64, u32)>, AllocError> {
+    let mut sums = Vec::new(alloc);
+    let mut row = Vec::new(alloc);
+    for test in 0..tests.count() {
+        row.clear();
+        tests.push_row(test, &mut row)?;
+        sums.push((sum_of(row.as_slice()), test))?;
+    }
+    sums.sort_unstable();
+    Ok(sums)
+}

@@ -1,0 +1,10 @@
+-- When a table is not written.
+use Rattle.std.specs.Prelude.{⊤}
+use Rattle.report.specs.declared.text.SimFault.{SimFault}
+use Rattle.report.specs.declared.text.SimFault.TheVariants as fault
+
+-- a table of what is known is refused for want of memory, and by an output that takes nothing more
+abbrev pub IsTableFault : SimFault → Type 0
+IsTableFault fault.Memory = ⊤
+IsTableFault (fault.Report f) = ⊤
+IsTableFault _ = ⊥

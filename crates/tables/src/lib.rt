@@ -1,0 +1,12 @@
+//! Lists of faults as tables for other tools: as comma-separated values (RFC 4180), and as JSON
+//! (RFC 8259).
+#![tactic(auto)]
+
+mod column;
+mod csv_table;
+mod json_table;
+mod row;
+mod table;
+mod writer;
+
+pub use table::{Format, faults_table_in, run_table_in};
