@@ -9,7 +9,7 @@ use block_sim::Job;
 use std::alloc::{AllocError, Global};
 use std::sync::Wait;
 use std::thread::Threads;
-use workers::{OpenGate, RunFault, Verdicts, run};
+use workers::{RunFault, Verdicts, run_open};
 
 /// Tells of each test of a job whether it is the first to detect some fault.
 pub fn finding_tests<R: Threads + Wait>(
@@ -23,7 +23,7 @@ pub fn finding_tests<R: Threads + Wait>(
     ensures workers { OnOk result ((0 < workers) × (workers ≤ 64)) }
     ensures refused { IfErr result (IsRunFault job.now workers ⊤ (λ _ _ _. ⊥)) }
 {
-    let verdicts = run(rt, alloc, job, workers, &OpenGate)?;
+    let verdicts = run_open(rt, alloc, job, workers)?;
     Ok(marks_of(alloc, &verdicts, job.tests().count())?)
 }
 

@@ -29,7 +29,7 @@ use workers::RunFault;
 /// second of a pair alone detects, pairs are kept and left out whole.
 ///
 /// The job keeps its circuit, its faults and its classes. Its tests are others after the second
-/// pass. It is refused as [`workers::run`] is.
+/// pass. It is refused as [`workers::run_open`] is.
 pub fn compact<R: Threads + Wait>(
     rt: &R,
     alloc: Global,

@@ -1,15 +1,13 @@
 -- From the report of a job to that of the texts that the job was read from.
-use Rattle.std.proofs.Common.{◌∙◌, ℕ, ap, subst, List, length, arith}
-use Rattle.std.proofs.Math.Nat.{mul-le-mul_right}
+use Rattle.std.proofs.Common.{◌∙◌, ℕ, ap, subst, List}
 use Rattle.std.specs.Prelude.{⊤, Result, Ok, Err, IfErr}
 use Rattle.fault_model.specs.declared.Model.{Model}
 use Rattle.fault_model.specs.Collapse.{AreClassesOf}
 use Rattle.orders.specs.Order.{HasMoves}
-use Rattle.patterns.specs.Tests.{blocks}
 use Rattle.block_sim.specs.Parts.{Parts, piece_count}
 use Rattle.workers.specs.declared.RunFault.{RunFault}
-use Rattle.workers.specs.declared.RunFault.TheVariants as run_fault
-use Rattle.workers.specs.Refused.{IsPartsFault, IsRunFault}
+use Rattle.workers.specs.Refused.{IsPartsFault}
+use Rattle.workers.proofs.Public.{parts_fault}
 use Rattle.workers.specs.Verdict.{AreFirsts}
 use Rattle.output.specs.Output.{Output}
 use Rattle.report.specs.declared.text.SimFault.{SimFault}
@@ -36,19 +34,6 @@ pub refused_as : (A B : SimFault → Type 0) (r : Result (Unit {0}) SimFault)
     → ((f : SimFault) → A f → B f) → IfErr r A → IfErr r B
 refused_as A B (Ok u) into w = w
 refused_as A B (Err f) into w = into f w
-
--- a run in parts whose gate lets every piece pass is refused as a run is
-pub parts_fault : (job : Parts) (parts workers : ℕ) (f : RunFault)
-    → IsPartsFault job parts workers ⊤ (λ _ _ _. ⊥) f → IsRunFault job workers ⊤ (λ _ _ _. ⊥) f
-parts_fault job parts workers run_fault.NoWorkers h = h
-parts_fault job parts workers run_fault.TooManyWorkers h = h
-parts_fault job parts workers (run_fault.NoSuchMove index) h = h
-parts_fault job parts workers run_fault.TooManyPieces h =
-    let more = mul-le-mul_right (blocks (length job.tests.tests)) h.2.3.few in
-    (h.0, h.1, omega (arith, h.2.4, more))
-parts_fault job parts workers run_fault.Memory h = h
-parts_fault job parts workers run_fault.Threads h = h
-parts_fault job parts workers (run_fault.Unfinished class block) h = absurd (h.4 tt)
 
 -- the report of a job of texts is that of the texts
 pub report_of : (m : Model) (bench text : List ℕ) (contents : Contents) (job : Parts)

@@ -1,17 +1,15 @@
 //! The curve of a run: how many faults are detected up to each test.
 
-ghost use Rattle.std.specs.Prelude.{◌≡◌, ◌+◌, ◌-◌, ◌<◌, ◌≤◌, ◌^◌, ⊤, ℕ, get_or, length, IfErr, IfOk, OnOk};
+ghost use Rattle.std.specs.Prelude.{◌≡◌, ◌+◌, ◌-◌, ◌<◌, ◌≤◌, ◌^◌, ℕ, get_or, length, IfErr, IfOk, OnOk};
 ghost use Rattle.std.specs.List.{flat_map};
 ghost use Rattle.block_sim.specs.Parts.{BelongTogether};
 ghost use Rattle.output.specs.Output.{Writes};
-ghost use Rattle.workers.specs.Refused.{IsRunFault};
-ghost use Rattle.workers.specs.Verdict.{AreFirsts};
 ghost use Rattle.report.specs.Curve.{IsCurveFault, IsCurveOf, IsCurveOfJob, curve, curve_text};
 ghost use Rattle.report.specs.Curve.{counts_at, news_at, point_line};
 ghost use Rattle.report.specs.EndToEnd.{IsReportFault, WritesOneOf};
 
 use crate::report::{ReportFault, hundredths, put_coverage};
-use crate::text::{SimFault, job_of, parts_for};
+use crate::text::{SimFault, job_of};
 use block_sim::Job;
 use fault_model::Model;
 use fault_model::laws::stems;
@@ -20,7 +18,7 @@ use output::{Out, OutFailed, put_pieces};
 use std::alloc::{AllocError, Global};
 use std::sync::Wait;
 use std::thread::Threads;
-use workers::{OpenGate, RunFault, Verdicts, run_in_parts};
+use workers::{Verdicts, run_open};
 
 /// A test that is the first to detect some fault, and how many faults are detected by it or by a
 /// test before it. Tests count from 0.
@@ -68,30 +66,10 @@ fn report_curve<R: Threads + Wait, W: Out>(
     ensures refused { IfErr result (IsCurveFault job.now workers) }
     ensures workers { OnOk result ((0 < workers) × (workers ≤ 64)) }
 {
-    let verdicts = run_open(rt, alloc, job, parts_for(workers), workers)?;
+    let verdicts = run_open(rt, alloc, job, workers)?;
     let points = curve_of(alloc, &verdicts, job.tests().count())?;
     write_curve(job, &verdicts, &points, out)?;
     Ok(())
-}
-
-/// Runs a job in parts by workers in threads of their own, whose gate lets every piece pass.
-fn run_open<R: Threads + Wait>(
-    rt: &R,
-    alloc: Global,
-    job: &Job,
-    parts: u32,
-    workers: u32,
-) -> Result<Verdicts, RunFault>
-    requires { 0 < parts }
-    ensures firsts { IfOk result (λ v.
-        AreFirsts job.now.list.model job.now.circuit job.now.tests.tests v.firsts) }
-    ensures workers { OnOk result ((0 < workers) × (workers ≤ 64)) }
-    ensures refused { IfErr result (IsRunFault job.now workers ⊤ (λ _ _ _. ⊥)) }
-{
-    match run_in_parts(rt, alloc, job, parts, workers, &OpenGate) {
-        Ok(verdicts) => Ok(verdicts),
-        Err(fault) => Err(fault),
-    }
 }
 
 /// The points of the curve of a run over so many tests, in the order of the tests. Tests that

@@ -21,10 +21,7 @@ use std::alloc::{AllocError, Global};
 use std::sync::Wait;
 use std::thread::Threads;
 use thiserror::Error;
-use workers::{MAX_WORKERS, OpenGate, RunFault, run_in_parts, run_schedule};
-
-/// How many parts each of several workers runs, where no number of parts is given.
-const PARTS_OF_A_WORKER: u32 = 16;
+use workers::{OpenGate, RunFault, parts_for, run_in_parts, run_schedule};
 
 /// Why a text call gave no text: the fault of the part that refused.
 #[derive(Clone, Copy, Debug, PartialEq, Eq, Error)]
@@ -174,18 +171,6 @@ pub fn simulate_text_in<R: Threads + Wait, W: Out>(
     let job = job_of(alloc, model, bench, tests)?;
     let parts = parts_for(workers);
     report_run(rt, alloc, &job, parts, workers, contents, out)
-}
-
-/// In how many parts so many workers run where no number of parts is given: one worker in one part,
-/// and several in some times more parts than they are, so that all end at about one time.
-pub(crate) fn parts_for(workers: u32) -> u32
-    ensures { 0 < result }
-{
-    if workers < 2 {
-        1
-    } else {
-        PARTS_OF_A_WORKER * workers.min(MAX_WORKERS)
-    }
 }
 
 /// Reads a circuit and tests for it, and writes the report that [`simulate_text_in`] writes, with

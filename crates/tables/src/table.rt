@@ -18,7 +18,7 @@ use report::{Lines, Out, SimFault, job_of};
 use std::alloc::Global;
 use std::sync::Wait;
 use std::thread::Threads;
-use workers::{OpenGate, run};
+use workers::run_open;
 
 /// How a table is written.
 #[derive(Clone, Copy, Debug, PartialEq, Eq)]
@@ -101,7 +101,7 @@ fn write_run<R: Threads + Wait, W: Out>(
     ensures refused { IfErr result (IsCurveFault job.now workers) }
     ensures workers { OnOk result ((0 < workers) × (workers ≤ 64)) }
 {
-    let verdicts = run(rt, alloc, job, workers, &OpenGate)?;
+    let verdicts = run_open(rt, alloc, job, workers)?;
     let column = first_column(alloc, &verdicts, lines)?;
     write_table(alloc, job.circuit(), job.faults(), &column, format, out)
 }

@@ -12,3 +12,5 @@ pub mod Solo
 pub mod Taking
 pub mod Joined
 pub mod Collected
+pub mod PartFaults
+pub mod Public

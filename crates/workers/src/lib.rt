@@ -10,12 +10,13 @@
 //! its caller gives. [`run`] lets each worker work in a thread of its own, and [`work`] is the
 //! work of one.
 //! [`run_in_parts`] cuts the classes into parts, each of which one worker runs alone, without a
-//! ledger.
+//! ledger, and [`run_open`] does so with as many parts as serve the workers.
 #![tactic(auto)]
 
 mod alone;
 mod chosen;
 mod classes;
+mod open;
 mod pace;
 mod parts;
 mod ranks;
@@ -34,6 +35,7 @@ ghost use Rattle.workers.specs.Refused.{IsWorkersFault};
 use block_sim::Job;
 pub use classes::run_classes;
 pub use fault_ledger::MAX_WORKERS;
+pub use open::{parts_for, run_open};
 pub use parts::{PartVerdict, in_one_part, part_of, run_in_parts, run_part};
 use patterns::MAX_PIECES;
 pub use schedule::run_schedule;

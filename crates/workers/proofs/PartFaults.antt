@@ -1,0 +1,22 @@
+-- Refusals of a run in parts whose gate lets every piece pass.
+use Rattle.std.proofs.Common.{ℕ, arith, length}
+use Rattle.std.proofs.Math.Nat.{mul-le-mul_right}
+use Rattle.std.specs.Prelude.{⊤}
+use Rattle.patterns.specs.Tests.{blocks}
+use Rattle.block_sim.specs.Parts.{Parts}
+use Rattle.workers.specs.declared.RunFault.{RunFault}
+use Rattle.workers.specs.declared.RunFault.TheVariants as run_fault
+use Rattle.workers.specs.Refused.{IsPartsFault, IsRunFault}
+
+-- it is refused as a run is
+pub parts_fault : (job : Parts) (parts workers : ℕ) (f : RunFault)
+    → IsPartsFault job parts workers ⊤ (λ _ _ _. ⊥) f → IsRunFault job workers ⊤ (λ _ _ _. ⊥) f
+parts_fault job parts workers run_fault.NoWorkers h = h
+parts_fault job parts workers run_fault.TooManyWorkers h = h
+parts_fault job parts workers (run_fault.NoSuchMove index) h = h
+parts_fault job parts workers run_fault.TooManyPieces h =
+    let more = mul-le-mul_right (blocks (length job.tests.tests)) h.2.3.few in
+    (h.0, h.1, omega (arith, h.2.4, more))
+parts_fault job parts workers run_fault.Memory h = h
+parts_fault job parts workers run_fault.Threads h = h
+parts_fault job parts workers (run_fault.Unfinished class block) h = absurd (h.4 tt)

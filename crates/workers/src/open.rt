@@ -1,0 +1,50 @@
+//! Runs whose workers nothing stops, in as many parts as serve them.
+
+ghost use Rattle.std.specs.Prelude.{◌≡◌, ◌<◌, ◌≤◌, ⊤, IfErr, IfOk, OnOk};
+ghost use Rattle.workers.specs.Refused.{IsRunFault};
+ghost use Rattle.workers.specs.Verdict.{AreBehindHits, AreFirsts};
+
+use crate::parts::run_in_parts;
+use crate::worker::OpenGate;
+use crate::{MAX_WORKERS, RunFault, Verdicts};
+use block_sim::Job;
+use std::alloc::Global;
+use std::sync::Wait;
+use std::thread::Threads;
+
+/// How many parts there are for each of several workers.
+const PARTS_OF_A_WORKER: u32 = 16;
+
+/// In how many parts so many workers run a job where no number of parts is given: one worker in one
+/// part, and several in some times more parts than they are, so that all end at about one time.
+pub fn parts_for(workers: u32) -> u32
+    ensures { 0 < result }
+{
+    if workers < 2 {
+        1
+    } else {
+        PARTS_OF_A_WORKER * workers.min(MAX_WORKERS)
+    }
+}
+
+/// Runs all classes of a job in [`parts_for`] so many workers, by [`run_in_parts`] with an open
+/// gate. The verdicts are those of [`crate::run`], and it is refused as that is, but that a job may
+/// have more than [`patterns::MAX_PIECES`] pieces where no part has.
+pub fn run_open<R: Threads + Wait>(
+    rt: &R,
+    alloc: Global,
+    job: &Job,
+    workers: u32,
+) -> Result<Verdicts, RunFault>
+    ensures firsts { IfOk result (λ v.
+        AreFirsts job.now.list.model job.now.circuit job.now.tests.tests v.firsts) }
+    ensures skipped { IfOk result (λ v. AreBehindHits job.now v.skipped) }
+    ensures workers { OnOk result ((0 < workers) × (workers ≤ 64)) }
+    ensures refused { IfErr result (IsRunFault job.now workers ⊤ (λ _ _ _. ⊥)) }
+{
+    let parts = parts_for(workers);
+    match run_in_parts(rt, alloc, job, parts, workers, &OpenGate) {
+        Ok(verdicts) => Ok(verdicts),
+        Err(fault) => Err(fault),
+    }
+}
