@@ -15,7 +15,9 @@ use Rattle.lists.proofs.Places.{placed, place_within}
 use Rattle.block_sim.specs.declared.flat.Row.{Row}
 use Rattle.block_sim.specs.declared.flat.Reader.{Reader}
 use Rattle.block_sim.specs.Events.{Reads, IsLive}
-use Rattle.block_sim.specs.Flat.{AreReaders, IsRow, HasMore, AreRows, IsFlat}
+use Rattle.block_sim.specs.declared.flat.Standing.{Standing}
+use Rattle.block_sim.specs.Flat.{AreReaders, IsRow, HasMore, AreRows, IsFlat, IsStanding}
+use Rattle.block_sim.specs.Flat.{AreStandings}
 use Rattle.block_sim.proofs.Readers.{read_sink}
 use Rattle.block_sim.proofs.Rows.{pushed_get}
 use Rattle.block_sim.proofs.Woken.{same_gate, at_end}
@@ -104,10 +106,7 @@ row_kept c pins more_pins readers more_readers s row pins_more readers_more h =
       driven = ap (λ own. option_map (λ driver. (driver.kind, own)) row.driver) pins_are ∙ h.driven;
       formed = h.formed;
       read_by = subst (AreReaders c s) (sym readers_are) h.read_by;
-      lone = h.lone;
-      level = h.level;
       observed = h.observed;
-      live = h.live;
     }
 
 pub rows_none : (c : List Statement) (pins : List ℕ) (readers : List Reader) → AreRows c pins readers []
@@ -126,7 +125,33 @@ got [] i x lt e = absurd (omega (arith, lt))
 got (y ∷ xs) zero x lt e = ap Some (sym e)
 got (y ∷ xs) (suc i) x lt e = got xs i x (omega (arith, lt)) e
 
+-- ---- standings
+pub standings_none : (c : List Statement) → AreStandings c []
+standings_none c s standing at = let bad : None ≡ Some standing = at in cc
+
+pub standings_with : (c : List Statement) (standings : List Standing) (s : ℕ) (standing : Standing)
+    → length standings ≡ s → AreStandings c standings → IsStanding c s standing
+    → AreStandings c (standings ++ standing ∷ [])
+standings_with c standings s standing count before new t other at =
+    go (pushed_get standings standing other t at)
+  where
+    go : (slice_get standings t ≡ Some other) ⊎ ((t ≡ length standings) × (standing ≡ other))
+        → IsStanding c t other
+    go (inl h) = before t other h
+    go (inr h) = subst (λ x. IsStanding c x other) (sym count ∙ sym h.0)
+        (subst (IsStanding c s) h.1 new)
+
 -- the row that is read at a signal's number
-pub row_of : (c : List Statement) (pins : List ℕ) (readers : List Reader) (rows : List Row) (s : ℕ) (row : Row) → IsFlat c pins readers rows → s < length (names c)
-    → row ≡ slice_index_or rows s row → IsRow c pins readers s row
-row_of c pins readers rows s row flat lt e = flat.numbered s row (got rows s row (omega (arith, lt, flat.count)) e)
+pub row_of : (c : List Statement) (pins : List ℕ) (readers : List Reader) (rows : List Row)
+    (standings : List Standing) (s : ℕ) (row : Row) → IsFlat c pins readers rows standings
+    → s < length (names c) → row ≡ slice_index_or rows s row → IsRow c pins readers s row
+row_of c pins readers rows standings s row flat lt e =
+    flat.numbered s row (got rows s row (omega (arith, lt, flat.count)) e)
+
+-- and where the signal stands
+pub standing_of : (c : List Statement) (pins : List ℕ) (readers : List Reader) (rows : List Row)
+    (standings : List Standing) (s : ℕ) (standing : Standing)
+    → IsFlat c pins readers rows standings → s < length (names c)
+    → standing ≡ slice_index_or standings s standing → IsStanding c s standing
+standing_of c pins readers rows standings s standing flat lt e =
+    flat.standing s standing (got standings s standing (omega (arith, lt, flat.stand)) e)

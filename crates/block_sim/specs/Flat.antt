@@ -10,6 +10,7 @@ use Rattle.bench_net.specs.Level.{HasLevel}
 use Rattle.block_sim.specs.declared.flat.Driver.{Driver}
 use Rattle.block_sim.specs.declared.flat.Row.{Row}
 use Rattle.block_sim.specs.declared.flat.Reader.{Reader}
+use Rattle.block_sim.specs.declared.flat.Standing.{Standing}
 use Rattle.block_sim.specs.Events.{Reads, IsObserved, IsLive}
 use Rattle.block_sim.specs.Forms.{IsFormOf}
 use Rattle.block_sim.specs.Regions.{lone_reader}
@@ -28,8 +29,7 @@ IsLiveAt c live s = IsTrue (slice_index_or live s false) ↔ IsLive c s
 abbrev pub AreLive : List Statement → List Bool → Type 0
 AreLive c live = (s : ℕ) → s < length (names c) → IsLiveAt c live s
 
--- a row says what drives a signal, what reads it and what alone does, its level, whether an
--- observer observes it, and whether one is reached from it
+-- a row says what drives a signal, what reads it, and whether an observer observes it
 pub record IsRow (c : List Statement) (pins : List ℕ) (readers : List Reader) (s : ℕ) (row : Row) :
     Type 0 where
   pub pins_in : (row.pins_start ≤ row.pins_end) × (row.pins_end ≤ length pins)
@@ -39,10 +39,13 @@ pub record IsRow (c : List Statement) (pins : List ℕ) (readers : List Reader) 
       ≡ gate_of c s
   pub formed : IfSome row.driver (λ driver. IsFormOf driver.kind driver.form)
   pub read_by : AreReaders c s (slice_range readers row.readers_start row.readers_end)
-  pub lone : row.lone_reader ≡ lone_reader c s
-  pub level : HasLevel c s row.level
   pub observed : IsTrue row.observed ↔ IsObserved c s
-  pub live : IsTrue row.live ↔ IsLive c s
+
+-- what alone reads a signal, its level, and whether an observer is reached from it
+pub record IsStanding (c : List Statement) (s : ℕ) (standing : Standing) : Type 0 where
+  pub lone : standing.lone_reader ≡ lone_reader c s
+  pub level : HasLevel c s standing.level
+  pub live : IsTrue standing.live ↔ IsLive c s
 
 -- the second list goes on where the first ends
 abbrev pub HasMore : {X : Type 0} → List X → List X → Type 0
@@ -61,8 +64,15 @@ abbrev pub AreRows : List Statement → List ℕ → List Reader → List Row �
 AreRows c pins readers rows = (s : ℕ) (row : Row) → slice_get rows s ≡ Some row
     → IsRow c pins readers s row
 
--- the lists are those of the circuit: a row for each signal
-pub record IsFlat (c : List Statement) (pins : List ℕ) (readers : List Reader) (rows : List Row) :
-    Type 0 where
+-- where the first signals stand
+abbrev pub AreStandings : List Statement → List Standing → Type 0
+AreStandings c standings = (s : ℕ) (standing : Standing) → slice_get standings s ≡ Some standing
+    → IsStanding c s standing
+
+-- the lists are those of the circuit: a row for each signal, and where it stands
+pub record IsFlat (c : List Statement) (pins : List ℕ) (readers : List Reader) (rows : List Row)
+    (standings : List Standing) : Type 0 where
   pub count : length rows ≡ length (names c)
   pub numbered : AreRows c pins readers rows
+  pub stand : length standings ≡ length (names c)
+  pub standing : AreStandings c standings

@@ -10,6 +10,7 @@ ghost use Rattle.bench_net.specs.Level.{HasLevel};
 ghost use Rattle.fault_model.specs.Known.{only_gate};
 ghost use Rattle.block_sim.specs.Events.{IsLive, IsObserved};
 ghost use Rattle.block_sim.specs.Flat.{AreLive, AreReaders, HasMore, IsDriver, IsFlat, IsRow};
+ghost use Rattle.block_sim.specs.Flat.{IsStanding};
 ghost use Rattle.block_sim.specs.Forms.{IsFormOf};
 ghost use Rattle.block_sim.specs.Regions.{lone_reader};
 
@@ -42,26 +43,34 @@ struct Driver {
     form: Form,
 }
 
-/// What is known of a signal. The pins of its gate and its readers are parts of the lists of all.
+/// What the simulation asks of a signal each time that it comes to it. The pins of its gate and its
+/// readers are parts of the lists of all. A row has 24 bytes: with the rest of what is known in it,
+/// and places of 8 bytes, it had 56, and most of a simulation's time went into waiting for rows.
 #[derive(Clone, Copy)]
 struct Row {
     /// `None` for a source.
     driver: Option<Driver>,
-    /// The gate of the pin that is all that reads the signal; `None` for a stem.
-    lone_reader: Option<u32>,
     observed: bool,
-    live: bool,
-    level: u32,
-    pins_start: usize,
-    pins_end: usize,
-    readers_start: usize,
-    readers_end: usize,
+    pins_start: u32,
+    pins_end: u32,
+    readers_start: u32,
+    readers_end: u32,
 }
 
-/// The rows of all signals, with their pins and readers.
+/// Where a signal stands in the circuit, which is asked once a class.
+#[derive(Clone, Copy)]
+struct Standing {
+    /// The gate of the pin that is all that reads the signal; `None` for a stem.
+    lone_reader: Option<u32>,
+    level: u32,
+    live: bool,
+}
+
+/// The rows of all signals, with their pins and readers, and where they stand.
 #[derive(Drop)]
 struct Lists {
     rows: Vec<Row>,
+    standings: Vec<Standing>,
     pins: Vec<u32>,
     readers: Vec<Reader>,
 }
@@ -83,7 +92,7 @@ impl Model for FlatCircuit {
     ghost view = { λ flat. flat.circuit };
 
     ghost invariant = { λ flat. IsFlat flat.circuit flat.lists.pins.items
-        flat.lists.readers.items flat.lists.rows.items };
+        flat.lists.readers.items flat.lists.rows.items flat.lists.standings.items };
 }
 
 impl FlatCircuit {
@@ -116,7 +125,7 @@ impl FlatCircuit {
             Some(driver) => Some(Gate {
                 kind: driver.kind,
                 form: driver.form,
-                pins: &self.lists.pins[row.pins_start..row.pins_end],
+                pins: &self.lists.pins[row.pins_start as usize..row.pins_end as usize],
             }),
             None => None,
         }
@@ -130,7 +139,7 @@ impl FlatCircuit {
         ensures { AreReaders self.now signal result.now }
     {
         let row = &self.lists.rows[signal as usize];
-        &self.lists.readers[row.readers_start..row.readers_end]
+        &self.lists.readers[row.readers_start as usize..row.readers_end as usize]
     }
 
     /// The gate of the pin that is the whole fan-out of a signal. `None` for a stem: a signal that
@@ -140,7 +149,7 @@ impl FlatCircuit {
         requires { signal < length (names self.now) }
         ensures { result ≡ lone_reader self.now signal }
     {
-        self.lists.rows[signal as usize].lone_reader
+        self.lists.standings[signal as usize].lone_reader
     }
 
     /// Whether an observer observes a signal.
@@ -158,7 +167,7 @@ impl FlatCircuit {
         requires { signal < length (names self.now) }
         ensures { IsTrue result ↔ IsLive self.now signal }
     {
-        self.lists.rows[signal as usize].live
+        self.lists.standings[signal as usize].live
     }
 
     /// The level of a signal.
@@ -167,29 +176,58 @@ impl FlatCircuit {
         requires { signal < length (names self.now) }
         ensures { HasLevel self.now signal result }
     {
-        self.lists.rows[signal as usize].level
+        self.lists.standings[signal as usize].level
     }
 }
 
 /// The lists of a circuit.
 fn lists_of(alloc: Global, circuit: &Circuit) -> Result<Lists, AllocError>
-    ensures { IfOk result (λ lists.
-        IsFlat circuit.now lists.pins.items lists.readers.items lists.rows.items) }
+    ensures { IfOk result (λ lists. IsFlat circuit.now lists.pins.items lists.readers.items
+        lists.rows.items lists.standings.items) }
 {
     let signals = circuit.signals();
     let live = live_signals(alloc, circuit)?;
     let mut rows = Vec::with_capacity(alloc, signals as usize)?;
+    let mut standings = Vec::with_capacity(alloc, signals as usize)?;
     let mut pins = Vec::new(alloc);
     let mut readers = Vec::new(alloc);
     for signal in 0..signals {
         let row = add_row(circuit, live.as_slice(), signal, &mut pins, &mut readers)?;
         rows.push(row)?;
+        standings.push(standing_of(circuit, live.as_slice(), signal))?;
     }
     Ok(Lists {
         rows,
+        standings,
         pins,
         readers,
     })
+}
+
+/// Where a signal stands.
+fn standing_of(circuit: &Circuit, live: &[bool], signal: u32) -> Standing
+    requires circuit { IsCircuit circuit.now }
+    requires room { length live.now ≡ length (names circuit.now) }
+    requires live { AreLive circuit.now live.now }
+    requires signal { signal < length (names circuit.now) }
+    ensures { IsStanding circuit.now signal result }
+{
+    Standing {
+        lone_reader: only_gate(circuit.sinks_of(signal)),
+        level: circuit.level_of(signal),
+        live: live[signal as usize],
+    }
+}
+
+/// A place in a list as a row has it. No circuit has so many pins that this refuses.
+fn place_of(length: usize) -> Result<u32, AllocError>
+    ensures { IfOk result (λ place. place ≡ length) }
+{
+    if length <= u32::MAX as usize {
+        Ok(length as u32)
+    } else {
+        Err(AllocError)
+    }
 }
 
 /// The row of a signal, whose pins and readers are added behind the others.
@@ -208,20 +246,17 @@ fn add_row(
     ensures pins { IfOk result (λ _. HasMore pins.old.items pins.new.items) }
     ensures readers { IfOk result (λ _. HasMore readers.old.items readers.new.items) }
 {
-    let pins_start = pins.len();
+    let pins_start = place_of(pins.len())?;
     let driver = add_pins(circuit, signal, pins)?;
-    let readers_start = readers.len();
+    let readers_start = place_of(readers.len())?;
     let observed = add_readers(circuit, live, signal, readers)?;
     Ok(Row {
         driver,
-        lone_reader: only_gate(circuit.sinks_of(signal)),
         observed,
-        live: live[signal as usize],
-        level: circuit.level_of(signal),
         pins_start,
-        pins_end: pins.len(),
+        pins_end: place_of(pins.len())?,
         readers_start,
-        readers_end: readers.len(),
+        readers_end: place_of(readers.len())?,
     })
 }
 

@@ -1,5 +1,8 @@
 //! The command line: subcommands, options and their help.
 
+ghost use Rattle.std.specs.Prelude.{◌≡◌, Some, IfSome};
+ghost use Rattle.report.specs.PartText.{model_name};
+
 use clap::{Arg, ArgAction, Command, value_parser};
 use fault_model::Model;
 use report::MAX_WORKERS;
@@ -180,8 +183,11 @@ static MERGE_CHOICES: [Choice; 3] = [Choice::List, Choice::Undetected, Choice::P
 /// The fault models by their names on the command line.
 pub static MODELS: [&str; 3] = ["stuck", "transition", "transition-pairs"];
 
-/// The model of a name among [`MODELS`].
-pub fn model_named(name: &str) -> Option<Model> {
+/// The model of a name among [`MODELS`], and none of any other name.
+pub fn model_named(name: &str) -> Option<Model>
+    ensures named { IfSome result (λ m. name.now ≡ model_name m) }
+    ensures each { (m : Model) → name.now ≡ model_name m → result ≡ Some m }
+{
     match name {
         "stuck" => Some(Model::StuckAt),
         "transition" => Some(Model::Transition),

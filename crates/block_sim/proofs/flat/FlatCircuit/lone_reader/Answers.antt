@@ -1,12 +1,12 @@
 use Rattle.std.proofs.Common.{◌≡◌, ◌<◌, sym, subst, length}
 use Rattle.bench_net.specs.Scan.{names}
 use Rattle.block_sim.specs.Regions.{lone_reader}
-use Rattle.block_sim.proofs.Flats.{row_of}
+use Rattle.block_sim.proofs.Flats.{standing_of}
 use Rattle.block_sim.proofs.flat.FlatCircuit.lone_reader.Goals as goal
 
 pub returns : goal.returns
 returns c =
     let own = c.self.inside in
-    let row = row_of own.circuit own.lists.pins.items own.lists.readers.items own.lists.rows.items c.args.signal c.index.result.now c.self.invariant
+    let standing = standing_of own.circuit own.lists.pins.items own.lists.readers.items own.lists.rows.items own.lists.standings.items c.args.signal c.index.result.now c.self.invariant
     (subst (λ x. c.args.signal < length (names x)) (sym c.self.view_is) c.requires) c.index.ensures in
-    subst (λ x. c.index.result.now.lone_reader ≡ lone_reader x c.args.signal) c.self.view_is row.lone
+    subst (λ x. c.index.result.now.lone_reader ≡ lone_reader x c.args.signal) c.self.view_is standing.lone
