@@ -1,12 +1,20 @@
 -- What contracts see of buckets, and how the chains keep them.
 use Rattle.std.specs.Prelude.{◌≡◌, ◌⊎◌, ℕ, ◌+◌, ◌^◌, ◌<◌, ◌≤◌, List, [], ◌∷◌, length}
-use Rattle.std.specs.Prelude.{slice_index_or}
+use Rattle.std.specs.Prelude.{map, slice_index_or}
 use Rattle.event_queue.specs.Zeros.{zeros}
+use Rattle.event_queue.specs.declared.buckets.Slot.{Slot}
 
 -- for each gate 0, or the level at which it waits and 1; and the number of levels
 pub record Waiting : Type 0 where
   pub at : List ℕ
   pub levels : ℕ
+
+-- where the gates wait, and what comes next in their chains
+abbrev pub all_at : List Slot → List ℕ
+all_at slots = map (λ slot. slot.at) slots
+
+abbrev pub all_next : List Slot → List ℕ
+all_next slots = map (λ slot. slot.next) slots
 
 -- the number stands in the list
 abbrev pub Stands : ℕ → List ℕ → Type 0

@@ -6,35 +6,43 @@ ghost use Rattle.std.specs.Prelude.{length, slice_index_or, slice_set};
 use std::alloc::{AllocError, Global};
 use std::marker::Model;
 
+/// Where a gate waits. Both stand side by side, since a gate that comes or goes takes both.
+#[derive(Clone, Copy)]
+struct Slot {
+    /// 0, or the level at which the gate waits and 1.
+    at: u32,
+    /// The next gate of its chain.
+    next: u32,
+}
+
 /// The gates that wait. A bucket is a chain of gates: its head and each gate's next are a gate's
 /// number and 1, or 0 at the end.
 ///
 /// ```text
-/// heads   level 0: 0   level 1: 4   level 2: 0     the chain of level 1 begins with gate 3,
-/// next    gate 1: 0    gate 3: 2                   goes on with gate 1 and ends there
-/// at      gate 1: 2    gate 3: 2                   both wait at level 1
+/// heads        level 0: 0   level 1: 4   level 2: 0     the chain of level 1 begins with gate 3,
+/// slots  next  gate 1: 0    gate 3: 2                   goes on with gate 1 and ends there
+///        at    gate 1: 2    gate 3: 2                   both wait at level 1
 /// ```
 ///
-/// A gate waits at most once, so it has one place in `next`, and no bucket needs room of its own:
-/// nothing is allocated while gates come and go.
+/// A gate waits at most once, so it has one slot, and no bucket needs room of its own: nothing is
+/// allocated while gates come and go.
 #[derive(Drop)]
 pub struct Buckets {
-    /// For each gate 0, or the level at which it waits and 1.
-    at: Vec<u32>,
-    next: Vec<u32>,
+    slots: Vec<Slot>,
     heads: Vec<u32>,
     waiting: usize,
 }
 
 impl Model for Buckets {
     ghost use Rattle.std.specs.Prelude.{length};
-    ghost use Rattle.event_queue.specs.Buckets.{Waiting, AreBuckets};
+    ghost use Rattle.event_queue.specs.Buckets.{Waiting, AreBuckets, all_at, all_next};
 
     ghost Value = { Waiting };
 
-    ghost view = { λ b. record { at = b.at.items; levels = length b.heads.items } };
+    ghost view = { λ b. record { at = all_at b.slots.items; levels = length b.heads.items } };
 
-    ghost invariant = { λ b. AreBuckets b.at.items b.next.items b.heads.items b.waiting };
+    ghost invariant = { λ b. AreBuckets (all_at b.slots.items) (all_next b.slots.items)
+        b.heads.items b.waiting };
 }
 
 impl Buckets {
@@ -44,12 +52,11 @@ impl Buckets {
         ensures levels { IfOk result (λ b. b.levels ≡ levels) }
         ensures empty { IfOk result (λ b. All (λ at. at ≡ 0) b.at) }
     {
-        let at = vec![in alloc; 0u32; gates as usize]?;
-        let next = vec![in alloc; 0u32; gates as usize]?;
+        let idle = Slot { at: 0, next: 0 };
+        let slots = vec![in alloc; idle; gates as usize]?;
         let heads = vec![in alloc; 0u32; levels as usize]?;
         Ok(Buckets {
-            at,
-            next,
+            slots,
             heads,
             waiting: 0,
         })
@@ -77,7 +84,7 @@ impl Buckets {
         requires { gate < length self.now.at }
         ensures { IsTrue result ↔ (slice_index_or self.now.at gate 0 ≢ 0) }
     {
-        self.at[gate as usize] != 0
+        self.slots[gate as usize].at != 0
     }
 
     /// Lets a gate that did not wait do so, at a level.
@@ -89,10 +96,10 @@ impl Buckets {
         ensures at { self.new.at ≡ slice_set self.old.at gate (level + 1) }
         ensures levels { self.new.levels ≡ self.old.levels }
     {
-        let head = self.heads[level as usize];
-        self.next[gate as usize] = head;
+        let next = self.heads[level as usize];
         self.heads[level as usize] = gate + 1;
-        self.at[gate as usize] = level + 1;
+        let at = level + 1;
+        self.slots[gate as usize] = Slot { at, next };
         self.waiting += 1;
     }
 
@@ -112,9 +119,9 @@ impl Buckets {
             return None;
         }
         let gate = head - 1;
-        let next = self.next[gate as usize];
+        let next = self.slots[gate as usize].next;
         self.heads[level as usize] = next;
-        self.at[gate as usize] = 0;
+        self.slots[gate as usize] = Slot { at: 0, next };
         self.waiting -= 1;
         Some(gate)
     }
