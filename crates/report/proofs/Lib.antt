@@ -21,3 +21,5 @@ pub mod Rowed
 pub mod PartNames
 pub mod PartTold
 pub mod MergedReport
+pub mod FaultParts
+pub mod MergeRefusals

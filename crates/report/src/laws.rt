@@ -1,6 +1,6 @@
 //! The laws of part texts, of their merge and its report, and of the coverage of classes.
 
-ghost use Rattle.std.specs.Prelude.{◌≡◌, ◌<◌, ◌^◌, ℕ, All, List, Option, Some, false, length, map, slice_get};
+ghost use Rattle.std.specs.Prelude.{◌≡◌, ◌<◌, ◌^◌, ◌∷◌, ℕ, All, List, Option, Some, false, length, map, slice_get};
 ghost use Rattle.bench_net.specs.Statement.{Statement};
 ghost use Rattle.bench_net.specs.Circuit.{IsCircuit};
 ghost use Rattle.fault_model.specs.declared.Model.{Model};
@@ -12,8 +12,9 @@ ghost use Rattle.workers.specs.declared.parts.PartVerdict.{PartVerdict};
 ghost use Rattle.workers.specs.Verdict.{AreFirsts};
 ghost use Rattle.report.specs.EndToEnd.{IsReportOf};
 ghost use Rattle.report.specs.Merging.{MergedRun};
-ghost use Rattle.report.specs.WholeMerge.{IsMergeOf, IsSomePartOf};
+ghost use Rattle.report.specs.WholeMerge.{AreAllPartsOf, IsForMemory, IsMergeOf, IsRefusedMerge, IsSomePartOf, IsSomePartToldFrom, PartedRun};
 ghost use Rattle.report.specs.PartText.{IsPartTextOf, PartHead, head_of};
+ghost use Rattle.report.specs.declared.joining.MergeFault.{MergeFault};
 ghost use Rattle.report.specs.declared.part_reader.PartFault.{PartFault};
 ghost use Rattle.report.specs.declared.part_reader.PartFault.TheVariants as fault;
 ghost use Rattle.report.specs.PartReading.{IsPart, IsPartRefusal};
@@ -21,6 +22,7 @@ ghost use Rattle.report.specs.Report.{class_firsts, fault_text, report, report_t
 ghost use Rattle.report.specs.declared.contents.Lines.{Lines};
 
 use bench_net::one_answer;
+use fault_model::laws::{collapsing, stems};
 
 /// A text is the part text of one first line, of one list of faults and of one list of verdicts.
 pub fn one_part_text()
@@ -59,16 +61,28 @@ pub fn part_text_is_read()
         × IsPart bytes (head_of m bench text part parts) faults verdicts }
 {}
 
-/// The report of a merge: where each text is that of a part of the run of one bench text and one
-/// test text, the merge of them all gives the report of these two texts.
+/// The report of a merge. The first text is that of a part of a run, each other that of a part of
+/// this run or of one that the sums tell from it. Where their merge ends well, its report is that
+/// of the run's bench text and test text under its model.
 pub fn merged_report()
-    ensures { (m : Model) (bench text : List ℕ) (parts : ℕ) (first : List ℕ)
-        (others : List (List ℕ)) (run : MergedRun) (lines : Lines) → parts < 2 ^ 32
-        → IsSomePartOf m bench text parts first
-        → All (λ bytes. IsSomePartOf m bench text parts bytes) others
-        → IsMergeOf first others run
-        → IsReportOf m bench text (record { lines = lines; classes = false })
-        (report_text run.faults run.firsts lines) }
+    ensures { (run : PartedRun) (first : List ℕ) (others : List (List ℕ)) (merged : MergedRun)
+        (lines : Lines) → IsSomePartOf run first → All (IsSomePartToldFrom run) others
+        → IsMergeOf first others merged
+        → IsReportOf run.model run.bench run.tests (record { lines = lines; classes = false })
+        (report_text merged.faults merged.firsts lines) }
 {
     one_answer();
+}
+
+/// A merge of the texts of all parts of a run, of each part once and in any order, is refused for
+/// want of memory alone.
+pub fn no_refusal_of_merge()
+    ensures { (run : PartedRun) (first : List ℕ) (others : List (List ℕ)) (refusal : MergeFault)
+        → All (λ bytes. length bytes < 2 ^ 64) (first ∷ others)
+        → AreAllPartsOf run (first ∷ others) → IsRefusedMerge first others refusal
+        → IsForMemory refusal }
+{
+    one_answer();
+    collapsing();
+    stems();
 }

@@ -31,8 +31,8 @@ pub use detected::{detections_text_in, write_detections};
 pub use ending::write_merged;
 pub use joining::MergeFault;
 pub use laws::{
-    class_firsts_are, merged_report, no_refusal_of_part_text, one_part_text, one_report,
-    part_text_is_read,
+    class_firsts_are, merged_report, no_refusal_of_merge, no_refusal_of_part_text, one_part_text,
+    one_report, part_text_is_read,
 };
 pub use merge::Merge;
 pub use merged::Merged;
