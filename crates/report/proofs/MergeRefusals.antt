@@ -1,5 +1,5 @@
 -- A merge of the texts of all parts of a run is refused for want of memory alone.
-use Rattle.std.proofs.Common.{◌≡◌, ◌≢◌, ◌<◌, ◌^◌, ◌+◌, ◌*◌, ◌⊎◌, inl, inr, ℕ, zero, suc, List, [], ◌∷◌, ◌++◌, All, length, get_or, refl, sym, ap, ◌∙◌, subst, Option, Some, arith, lit<, map}
+use Rattle.std.proofs.Common.{◌≡◌, ◌≢◌, ◌<◌, ◌^◌, ◌+◌, ◌*◌, ◌⊎◌, inl, inr, ℕ, zero, suc, List, [], ◌∷◌, ◌++◌, length, get_or, refl, sym, ap, ◌∙◌, subst, Option, Some, arith, lit<, map}
 use Rattle.std.specs.Prelude.{Contains, slice_get}
 use Rattle.std.specs.List.{AllZip}
 use Rattle.std.proofs.lemmas.List.{length-map}
@@ -157,12 +157,12 @@ own_place (x ∷ xs) (suc k) other = own_place xs k other
 
 -- a text of a part is refused to its reader for want of memory alone
 read_refused : (run : PartedRun) (part : ℕ) (bytes : List ℕ) (f : PartFault)
-    → length bytes < 2 ^ 64 → IsPartOf run part bytes → IsPartRefusal bytes f
+    → IsPartOf run part bytes → IsPartRefusal bytes f
     → IsForMemory (fault.Part f)
-read_refused run part bytes f small of r =
+read_refused run part bytes f of r =
     subst (λ x. IsForMemory (fault.Part x))
     (sym (no_refusal bytes (head_in_run run part)
-    (map (fault_text of.text.0.circuit) (faults run.model of.text.0.circuit)) of.text.2.0 f small
+    (map (fault_text of.text.0.circuit) (faults run.model of.text.0.circuit)) of.text.2.0 f
     (told run part bytes of) r)) tt
 
 -- it has the names that are there, and no fault of a part that is there
@@ -184,25 +184,25 @@ no_difference run part c old h names verdicts k known read was fresh (inr both) 
 
 -- a text of a part that isn't there is refused for want of memory alone
 more_refused : (run : PartedRun) (part : ℕ) (bytes : List ℕ) (c : List Statement)
-    (old : MergeState) (f : MergeFault) → length bytes < 2 ^ 64 → IsKnown run c
+    (old : MergeState) (f : MergeFault) → IsKnown run c
     → IsPartOf run part bytes → IsWhole run c old → (Contains old.seen part → ⊥)
     → IsMergeRefusal old bytes f → IsForMemory f
-more_refused run part bytes c old (fault.Part f) small known of was fresh r =
-    read_refused run part bytes f small of r
-more_refused run part bytes c old (fault.Again number) small known of was fresh r =
+more_refused run part bytes c old (fault.Part f) known of was fresh r =
+    read_refused run part bytes f of r
+more_refused run part bytes c old (fault.Again number) known of was fresh r =
     let read = read_told run part bytes c r.0 r.1 r.2 known of r.3 in
     absurd (fresh (subst (Contains old.seen) (ap (λ (h : PartHead). h.part) read.head) r.4))
-more_refused run part bytes c old (fault.Differs line) small known of was fresh r =
+more_refused run part bytes c old (fault.Differs line) known of was fresh r =
     let read = read_told run part bytes c r.0 r.1 r.2 known of r.3 in
     absurd (no_difference run part c old r.0 r.1 r.2 r.4 known read was fresh r.6)
-more_refused run part bytes c old fault.Memory small known of was fresh r = tt
-more_refused run part bytes c old fault.OtherModel small known of was fresh r =
+more_refused run part bytes c old fault.Memory known of was fresh r = tt
+more_refused run part bytes c old fault.OtherModel known of was fresh r =
     let read = read_told run part bytes c r.0 r.1 r.2 known of r.3 in
     absurd (r.4 (ap (λ (h : PartHead). h.model) was.head ∙ sym (ap (λ (h : PartHead). h.model) read.head)))
-more_refused run part bytes c old fault.OtherRule small known of was fresh r =
+more_refused run part bytes c old fault.OtherRule known of was fresh r =
     let read = read_told run part bytes c r.0 r.1 r.2 known of r.3 in
     absurd (r.4 (ap (λ (h : PartHead). h.rule) was.head ∙ sym (ap (λ (h : PartHead). h.rule) read.head)))
-more_refused run part bytes c old fault.OtherInputs small known of was fresh r =
+more_refused run part bytes c old fault.OtherInputs known of was fresh r =
     let read = read_told run part bytes c r.0 r.1 r.2 known of r.3 in
     elim r.4 [
       | inl bench ↦ absurd (bench (ap (λ (h : PartHead). h.bench) was.head
@@ -210,13 +210,13 @@ more_refused run part bytes c old fault.OtherInputs small known of was fresh r =
       | inr tests ↦ absurd (tests (ap (λ (h : PartHead). h.tests) was.head
           ∙ sym (ap (λ (h : PartHead). h.tests) read.head)))
     ]
-more_refused run part bytes c old fault.OtherCount small known of was fresh r =
+more_refused run part bytes c old fault.OtherCount known of was fresh r =
     let read = read_told run part bytes c r.0 r.1 r.2 known of r.3 in
     absurd (r.4 (ap (λ (h : PartHead). h.parts) was.head ∙ sym (ap (λ (h : PartHead). h.parts) read.head)))
-more_refused run part bytes c old (fault.Missing number) small known of was fresh r = absurd r.4
-more_refused run part bytes c old (fault.NoPart line) small known of was fresh r = absurd r.4
-more_refused run part bytes c old fault.NoFault small known of was fresh r = absurd r.4
-more_refused run part bytes c old fault.TooManyFaults small known of was fresh r = absurd r.4
+more_refused run part bytes c old (fault.Missing number) known of was fresh r = absurd r.4
+more_refused run part bytes c old (fault.NoPart line) known of was fresh r = absurd r.4
+more_refused run part bytes c old fault.NoFault known of was fresh r = absurd r.4
+more_refused run part bytes c old fault.TooManyFaults known of was fresh r = absurd r.4
 
 -- the first verdict that is open
 open_place : (firsts : List (Option ℕ)) (rest : List PartVerdict)
@@ -293,41 +293,41 @@ one_less run seen part numbers text texts come = record {
 -- so no refusal comes behind the first text
 behind_refused : (run : PartedRun) (c : List Statement) (numbers : List ℕ)
     (texts : List (List ℕ)) (old : MergeState) (f : MergeFault)
-    → All (λ bytes. length bytes < 2 ^ 64) texts → IsKnown run c → IsCircuit c → 0 < run.parts
+    → IsKnown run c → IsCircuit c → 0 < run.parts
     → 0 < length (faults run.model c) → IsWhole run c old → AreToCome run old.seen numbers texts
     → IsRefusedBehind old texts f → IsForMemory f
-behind_refused run c [] [] old f small known is some any was come r =
+behind_refused run c [] [] old f known is some any was come r =
     end_refused run c old f known is some any was (λ part lt. there part (come.all part lt)) r
   where
     there : (part : ℕ) → Contains old.seen part ⊎ Among part [] → Contains old.seen part
     there part (inl has) = has
     there part (inr bad) = absurd bad
-behind_refused run c [] (text ∷ texts) old f small known is some any was come r = absurd come.each
-behind_refused run c (part ∷ numbers) [] old f small known is some any was come r = absurd come.each
-behind_refused run c (part ∷ numbers) (text ∷ texts) old f small known is some any was come (inl r) =
-    more_refused run part text c old f (small 0 text (omega arith)) known come.each.0 was
+behind_refused run c [] (text ∷ texts) old f known is some any was come r = absurd come.each
+behind_refused run c (part ∷ numbers) [] old f known is some any was come r = absurd come.each
+behind_refused run c (part ∷ numbers) (text ∷ texts) old f known is some any was come (inl r) =
+    more_refused run part text c old f known come.each.0 was
     (come.fresh part (inl refl)) r
-behind_refused run c (part ∷ numbers) (text ∷ texts) old f small known is some any was come (inr r) =
+behind_refused run c (part ∷ numbers) (text ∷ texts) old f known is some any was come (inr r) =
     let now = whole_more run part text c old r.0 known come.each.0 r.1 was in
-    behind_refused run c numbers texts r.0 f (λ k d lt. small (suc k) d (omega (arith, lt))) known is
+    behind_refused run c numbers texts r.0 f known is
     some any now.0
     (subst (λ l. AreToCome run l numbers texts) (sym now.1)
     (one_less run old.seen part numbers text texts come)) r.2
 
 first_refused : (run : PartedRun) (part : ℕ) (bytes : List ℕ) (f : MergeFault)
-    → length bytes < 2 ^ 64 → IsPartOf run part bytes → IsFirstRefusal bytes f → IsForMemory f
-first_refused run part bytes (fault.Part f) small of r = read_refused run part bytes f small of r
-first_refused run part bytes fault.Memory small of r = tt
-first_refused run part bytes (fault.Again number) small of r = absurd r
-first_refused run part bytes (fault.Differs line) small of r = absurd r
-first_refused run part bytes (fault.Missing number) small of r = absurd r
-first_refused run part bytes (fault.NoPart line) small of r = absurd r
-first_refused run part bytes fault.NoFault small of r = absurd r
-first_refused run part bytes fault.TooManyFaults small of r = absurd r
-first_refused run part bytes fault.OtherModel small of r = absurd r
-first_refused run part bytes fault.OtherRule small of r = absurd r
-first_refused run part bytes fault.OtherInputs small of r = absurd r
-first_refused run part bytes fault.OtherCount small of r = absurd r
+    → IsPartOf run part bytes → IsFirstRefusal bytes f → IsForMemory f
+first_refused run part bytes (fault.Part f) of r = read_refused run part bytes f of r
+first_refused run part bytes fault.Memory of r = tt
+first_refused run part bytes (fault.Again number) of r = absurd r
+first_refused run part bytes (fault.Differs line) of r = absurd r
+first_refused run part bytes (fault.Missing number) of r = absurd r
+first_refused run part bytes (fault.NoPart line) of r = absurd r
+first_refused run part bytes fault.NoFault of r = absurd r
+first_refused run part bytes fault.TooManyFaults of r = absurd r
+first_refused run part bytes fault.OtherModel of r = absurd r
+first_refused run part bytes fault.OtherRule of r = absurd r
+first_refused run part bytes fault.OtherInputs of r = absurd r
+first_refused run part bytes fault.OtherCount of r = absurd r
 
 -- each circuit has a fault
 abbrev pub HaveFaults : Type 0
@@ -348,23 +348,23 @@ cover part numbers other (inr later) = inr later
 
 pub merge_refused : OneCircuit → HaveClasses → HaveFaults → (run : PartedRun) (first : List ℕ)
     (others : List (List ℕ)) (f : MergeFault)
-    → All (λ bytes. length bytes < 2 ^ 64) (first ∷ others) → AreAllPartsOf run (first ∷ others)
+    → AreAllPartsOf run (first ∷ others)
     → IsRefusedMerge first others f → IsForMemory f
-merge_refused one classes any run first others f small are r =
+merge_refused one classes any run first others f are r =
     go are.numbers are.each (distinct_from_pairs are.numbers are.once) are.all r
   where
     go : (numbers : List ℕ) → AllZip (IsPartOf run) numbers (first ∷ others) → Distinct numbers
         → HasParts numbers run.parts → IsRefusedMerge first others f → IsForMemory f
     go [] each once all r = absurd each
     go (part ∷ numbers) each once all (inl r) =
-        first_refused run part first f (small 0 first (omega arith)) each.0 r
+        first_refused run part first f each.0 r
     go (part ∷ numbers) each once all (inr r) =
         let c = each.0.text.0.circuit in
         let is : IsCircuit c = each.0.text.1.2.circuit in
         let known : IsKnown run c =
         record { one = one; accepted = each.0.text.1.0; classes = classes c is.well_formed } in
         let begun = whole_first run part first c r.0 known each.0 r.1 in
-        behind_refused run c numbers others r.0 f (λ k d lt. small (suc k) d (omega (arith, lt)))
+        behind_refused run c numbers others r.0 f
         known is (omega (arith, each.0.below)) (any run.model c is) begun.0
         (subst (λ l. AreToCome run l numbers others) (sym begun.1) (record {
           each = each.1;

@@ -1,7 +1,6 @@
 -- The names of a circuit's faults can stand in a part text.
-use Rattle.std.proofs.Common.{◌≡◌, ◌≢◌, ◌<◌, ◌+◌, ◌/◌, ◌%◌, ◌==◌, ℕ, zero, suc, Bool, true, false, List, [], ◌∷◌, ◌++◌, refl, ap, subst, inl, inr, ◌⊎◌, IsTrue, Option, Some, None, arith, lit<, map}
-use Rattle.std.specs.Prelude.{codes, decimal, slice_get, unwrap_or, nat_lt, if◌then◌else◌}
-use Rattle.std.specs.Fmt.{digit_glyph, digits, digits_onto}
+use Rattle.std.proofs.Common.{◌≡◌, ◌≢◌, ◌+◌, ℕ, Bool, true, false, List, [], ◌∷◌, ◌++◌, refl, ap, subst, inl, inr, ◌⊎◌, IsTrue, Option, Some, None, arith, lit<, map}
+use Rattle.std.specs.Prelude.{codes, decimal, slice_get, unwrap_or}
 use Rattle.std.specs.List.{AllZip, list_all}
 use Rattle.std.proofs.lemmas.Bool.{and_parts}
 use Rattle.lists.proofs.Members.{Among, among_append}
@@ -23,6 +22,7 @@ use Rattle.report.specs.Report.{cell_text, defect_text, fault_text, line_text, s
 use Rattle.report.proofs.Cells.{cell_is_named}
 use Rattle.report.proofs.Cuts.{lacks_append}
 use Rattle.report.proofs.PartOnce.{lacks_literal, lacks_test}
+use Rattle.report.proofs.PartWords.{lacks_decimal}
 
 -- a word of a line is made of word bytes
 spelled_word : (l : List ℕ) (tokens : List Token) (w : List ℕ) → Spells l tokens → Among (Word w) tokens → IsTrue (list_all is_word_byte w)
@@ -78,31 +78,6 @@ cell_lacks bench c i accepted = go (slice_get (map (λ qd. qd.0) (cells c)) i) r
     go None e = tt
     go (Some q) e = name_lacks bench c q accepted (cell_is_named c q (at_place (map (λ qd. qd.0) (cells c)) i q e))
 
--- a number of any size has digits alone
-glyph_other : (byte n : ℕ) → byte < 48 → digit_glyph false (n % 10) ≢ byte
-glyph_other byte n low = pick (nat_lt (n % 10) 10)
-  where
-    pick : (t : Bool) → (if t then 48 + n % 10 else 87 + n % 10) ≢ byte
-    pick true e = let same : 48 + n % 10 ≡ byte = e in omega (arith, low, same)
-    pick false e = let same : 87 + n % 10 ≡ byte = e in omega (arith, low, same)
-
-lacks_onto : (byte k n : ℕ) (acc : List ℕ) → byte < 48 → Lacks byte acc → Lacks byte (digits_onto k 10 false n acc)
-lacks_onto byte zero n acc low lacks = lacks
-lacks_onto byte (suc k) n acc low lacks =
-    go (lacks_onto byte k (n / 10) (digit_glyph false (n % 10) ∷ acc) low (glyph_other byte n low, lacks)) (n / 10 == 0)
-  where
-    go : Lacks byte (digits_onto k 10 false (n / 10) (digit_glyph false (n % 10) ∷ acc)) → (t : Bool)
-        → Lacks byte (if t then digit_glyph false (n % 10) ∷ acc else digits_onto k 10 false (n / 10) (digit_glyph false (n % 10) ∷ acc))
-    go more true = (glyph_other byte n low, lacks)
-    go more false = more
-
-digits_onto_none : (n : ℕ) → digits_onto 64 10 false n [] ≡ decimal n
-unfolding digits
-digits_onto_none n = refl
-
-lacks_number : (byte n : ℕ) → byte < 48 → Lacks byte (decimal n)
-lacks_number byte n low = subst (λ ds. Lacks byte ds) (digits_onto_none n) (lacks_onto byte 64 n [] low tt)
-
 -- the name of a line, and what is wrong with it
 line_lacks : (bench : List ℕ) (c : List Statement) (l : Line) → IsAccepted bench c → Lacks 10 (line_text c l)
 unfolding lacks_test
@@ -113,11 +88,11 @@ line_lacks bench c (line.Pin gate pin) accepted =
     (lacks_append 10 (codes "pin " ++ signal_text c gate) (codes " ")
     (lacks_append 10 (codes "pin ") (signal_text c gate) (lacks_literal 10 (codes "pin ") refl) (signal_lacks bench c gate accepted))
     (lacks_literal 10 (codes " ") refl))
-    (lacks_number 10 (pin + 1) (lit< tt))
+    (lacks_decimal 10 (pin + 1) (lit< tt))
 line_lacks bench c (line.Data i) accepted =
     lacks_append 10 (codes "data ") (cell_text c i) (lacks_literal 10 (codes "data ") refl) (cell_lacks bench c i accepted)
 line_lacks bench c (line.Out output) accepted =
-    lacks_append 10 (codes "out ") (decimal (output + 1)) (lacks_literal 10 (codes "out ") refl) (lacks_number 10 (output + 1) (lit< tt))
+    lacks_append 10 (codes "out ") (decimal (output + 1)) (lacks_literal 10 (codes "out ") refl) (lacks_decimal 10 (output + 1) (lit< tt))
 
 defect_lacks : (m : Model) (b : Bool) → Lacks 10 (defect_text m b)
 unfolding lacks_test

@@ -34,8 +34,8 @@ pub fn one_part_text()
 /// A part text is refused for want of memory alone.
 pub fn no_refusal_of_part_text()
     ensures { (text : List ℕ) (h : PartHead) (faults : List (List ℕ))
-        (verdicts : List PartVerdict) (refusal : PartFault) → length text < 2 ^ 64
-        → IsPart text h faults verdicts → IsPartRefusal text refusal → refusal ≡ fault.Memory }
+        (verdicts : List PartVerdict) (refusal : PartFault) → IsPart text h faults verdicts
+        → IsPartRefusal text refusal → refusal ≡ fault.Memory }
 {}
 
 /// The classes that a report counts: the first test of a class is that of each of its faults.
@@ -78,7 +78,6 @@ pub fn merged_report()
 /// want of memory alone.
 pub fn no_refusal_of_merge()
     ensures { (run : PartedRun) (first : List ℕ) (others : List (List ℕ)) (refusal : MergeFault)
-        → All (λ bytes. length bytes < 2 ^ 64) (first ∷ others)
         → AreAllPartsOf run (first ∷ others) → IsRefusedMerge first others refusal
         → IsForMemory refusal }
 {
