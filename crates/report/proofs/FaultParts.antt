@@ -1,8 +1,10 @@
 -- Which part of a run a fault is of, and what the verdicts of parts say of that.
-use Rattle.std.proofs.Common.{◌≡◌, ◌<◌, ◌%◌, ◌⊎◌, inl, inr, ℕ, List, [], ◌∷◌, ◌++◌, refl, sym, ap, ◌∙◌, subst, Some, arith}
+use Rattle.std.proofs.Common.{◌≡◌, ◌<◌, ◌%◌, ◌⊎◌, inl, inr, ℕ, List, [], ◌∷◌, ◌++◌, refl, sym, ap}
+use Rattle.std.proofs.Common.{◌∙◌, subst, Some, arith}
 use Rattle.std.specs.Prelude.{Contains, slice_get}
 use Rattle.std.proofs.Math.Nat.{mod-lt}
-use Rattle.std.proofs.lemmas.List.Elements.{Contains-append_cases, Contains-append_left, Contains-append_right}
+use Rattle.std.proofs.lemmas.List.Elements.{Contains-append_cases, Contains-append_left}
+use Rattle.std.proofs.lemmas.List.Elements.{Contains-append_right}
 use Rattle.lists.proofs.Members.{among, contained}
 use Rattle.lists.proofs.Places.{place_within, within_place}
 use Rattle.bench_net.specs.Statement.{Statement}
@@ -119,7 +121,8 @@ seen_more m c parts seen part f OtherPart OtherPart both old own is =
     subst (TellsSeen m c parts (seen ++ part ∷ []) f) (sym is)
     (λ other has at. go other at (Contains-append_cases seen (part ∷ []) other has))
   where
-    go : (other : ℕ) → IsInPart m c parts other f → Contains seen other ⊎ Contains (part ∷ []) other → ⊥
+    go : (other : ℕ) → IsInPart m c parts other f
+        → Contains seen other ⊎ Contains (part ∷ []) other → ⊥
     go other at (inl before) = old other before at
     go other at (inr now) = own (subst (λ p. IsInPart m c parts p f) (sym (lone part other now)) at)
 seen_more m c parts seen part f (First first) OtherPart both old own is =

@@ -1,9 +1,12 @@
 -- A merge of the texts of all parts of a run is refused for want of memory alone.
-use Rattle.std.proofs.Common.{◌≡◌, ◌≢◌, ◌<◌, ◌^◌, ◌+◌, ◌*◌, ◌⊎◌, inl, inr, ℕ, zero, suc, List, [], ◌∷◌, ◌++◌, length, get_or, refl, sym, ap, ◌∙◌, subst, Option, Some, arith, lit<, map}
+use Rattle.std.proofs.Common.{◌≡◌, ◌≢◌, ◌<◌, ◌^◌, ◌+◌, ◌*◌, ◌⊎◌, inl, inr, ℕ, zero, suc, List, []}
+use Rattle.std.proofs.Common.{◌∷◌, ◌++◌, length, get_or, refl, sym, ap, ◌∙◌, subst, Option, Some}
+use Rattle.std.proofs.Common.{arith, lit<, map}
 use Rattle.std.specs.Prelude.{Contains, slice_get}
 use Rattle.std.specs.List.{AllZip}
 use Rattle.std.proofs.lemmas.List.{length-map}
-use Rattle.std.proofs.lemmas.List.Elements.{Contains-append_cases, Contains-append_left, Contains-append_right}
+use Rattle.std.proofs.lemmas.List.Elements.{Contains-append_cases, Contains-append_left}
+use Rattle.std.proofs.lemmas.List.Elements.{Contains-append_right}
 use Rattle.std.proofs.lemmas.Option.{get_or_from_slice_get, slice_get-get_or, slice_get_within}
 use Rattle.lists.proofs.Members.{Among, among, contained}
 use Rattle.lists.proofs.Distinct.{Distinct, distinct_from_pairs}
@@ -20,12 +23,15 @@ use Rattle.workers.specs.declared.parts.PartVerdict.TheVariants.{First, OtherPar
 use Rattle.report.specs.declared.joining.MergeFault.{MergeFault}
 use Rattle.report.specs.declared.joining.MergeFault.TheVariants as fault
 use Rattle.report.specs.declared.part_reader.PartFault.{PartFault}
-use Rattle.report.specs.Merging.{DifferAt, HasParts, HaveBoth, IsEndRefusal, IsFirstMerged, IsFirstRefusal, IsJoined, IsMerged, IsMergeRefusal, MergeState}
+use Rattle.report.specs.Merging.{DifferAt, HasParts, HaveBoth, IsEndRefusal, IsFirstMerged}
+use Rattle.report.specs.Merging.{IsFirstRefusal, IsJoined, IsMerged, IsMergeRefusal, MergeState}
 use Rattle.report.specs.PartReading.{IsPart, IsPartRefusal}
 use Rattle.report.specs.PartText.{PartHead}
 use Rattle.report.specs.Report.{fault_text}
-use Rattle.report.specs.WholeMerge.{AreAllPartsOf, IsForMemory, IsPartOf, IsRefusedBehind, IsRefusedMerge, PartedRun}
-use Rattle.report.proofs.FaultParts.{TellPart, TellsSeen, one_part_of, part_told, seen_more, seen_one, some_part_of}
+use Rattle.report.specs.WholeMerge.{AreAllPartsOf, IsForMemory, IsPartOf, IsRefusedBehind}
+use Rattle.report.specs.WholeMerge.{IsRefusedMerge, PartedRun}
+use Rattle.report.proofs.FaultParts.{TellPart, TellsSeen, one_part_of, part_told, seen_more}
+use Rattle.report.proofs.FaultParts.{seen_one, some_part_of}
 use Rattle.report.proofs.MergedReport.{OneCircuit, head_in_run, read_as, told}
 use Rattle.report.proofs.PartRefusals.{no_refusal}
 
@@ -198,10 +204,12 @@ more_refused run part bytes c old (fault.Differs line) known of was fresh r =
 more_refused run part bytes c old fault.Memory known of was fresh r = tt
 more_refused run part bytes c old fault.OtherModel known of was fresh r =
     let read = read_told run part bytes c r.0 r.1 r.2 known of r.3 in
-    absurd (r.4 (ap (λ (h : PartHead). h.model) was.head ∙ sym (ap (λ (h : PartHead). h.model) read.head)))
+    absurd (r.4 (ap (λ (h : PartHead). h.model) was.head
+    ∙ sym (ap (λ (h : PartHead). h.model) read.head)))
 more_refused run part bytes c old fault.OtherRule known of was fresh r =
     let read = read_told run part bytes c r.0 r.1 r.2 known of r.3 in
-    absurd (r.4 (ap (λ (h : PartHead). h.rule) was.head ∙ sym (ap (λ (h : PartHead). h.rule) read.head)))
+    absurd (r.4 (ap (λ (h : PartHead). h.rule) was.head
+    ∙ sym (ap (λ (h : PartHead). h.rule) read.head)))
 more_refused run part bytes c old fault.OtherInputs known of was fresh r =
     let read = read_told run part bytes c r.0 r.1 r.2 known of r.3 in
     elim r.4 [
@@ -212,7 +220,8 @@ more_refused run part bytes c old fault.OtherInputs known of was fresh r =
     ]
 more_refused run part bytes c old fault.OtherCount known of was fresh r =
     let read = read_told run part bytes c r.0 r.1 r.2 known of r.3 in
-    absurd (r.4 (ap (λ (h : PartHead). h.parts) was.head ∙ sym (ap (λ (h : PartHead). h.parts) read.head)))
+    absurd (r.4 (ap (λ (h : PartHead). h.parts) was.head
+    ∙ sym (ap (λ (h : PartHead). h.parts) read.head)))
 more_refused run part bytes c old (fault.Missing number) known of was fresh r = absurd r.4
 more_refused run part bytes c old (fault.NoPart line) known of was fresh r = absurd r.4
 more_refused run part bytes c old fault.NoFault known of was fresh r = absurd r.4
@@ -247,7 +256,8 @@ end_refused run c s (fault.NoPart line) known is some any was all r =
     ap (λ (l : List PartVerdict). slice_get l (length r.1.0)) r.1.2 ∙ open_place r.1.0 r.1.1 in
     let low = place_within s.verdicts (length r.1.0) OtherPart at in
     let f = within_place (faults run.model c) (length r.1.0) (omega (arith, low, was.count)) in
-    let has = contained (faults run.model c) f.0 (at_place (faults run.model c) (length r.1.0) f.0 f.1) in
+    let has =
+    contained (faults run.model c) f.0 (at_place (faults run.model c) (length r.1.0) f.0 f.1) in
     let own = some_part_of run.model c run.parts f.0 known.classes is.well_formed some has in
     absurd (was.each (length r.1.0) f.0 OtherPart f.1 at own.0 (all own.0 own.1) own.2)
 end_refused run c s fault.Memory known is some any was all r = tt
@@ -369,6 +379,7 @@ merge_refused one classes any run first others f are r =
         (subst (λ l. AreToCome run l numbers others) (sym begun.1) (record {
           each = each.1;
           once = once.1;
-          fresh = λ other later has. apart part numbers once.0 other later (among (part ∷ []) other has);
+          fresh = λ other later has.
+              apart part numbers once.0 other later (among (part ∷ []) other has);
           all = λ other lt. cover part numbers other (among (part ∷ numbers) other (all other lt));
         })) r.2

@@ -1,8 +1,10 @@
 -- The report of a merge of part texts is that of the texts that the parts are of.
-use Rattle.std.proofs.Common.{◌≡◌, ◌<◌, ℕ, suc, List, [], ◌∷◌, All, length, get_or, refl, sym, ap, ◌∙◌, subst, Option, Some, false, arith, map, append-nil}
+use Rattle.std.proofs.Common.{◌≡◌, ◌<◌, ℕ, suc, List, [], ◌∷◌, All, length, get_or, refl, sym, ap}
+use Rattle.std.proofs.Common.{◌∙◌, subst, Option, Some, false, arith, map, append-nil}
 use Rattle.std.specs.Prelude.{codes, option_map, slice_get}
 use Rattle.std.proofs.lemmas.List.{length-map}
-use Rattle.std.proofs.lemmas.Option.{get_or_from_slice_get, slice_get-get_or, slice_get-map, slice_get_within}
+use Rattle.std.proofs.lemmas.Option.{get_or_from_slice_get, slice_get-get_or, slice_get-map}
+use Rattle.std.proofs.lemmas.Option.{slice_get_within}
 use Rattle.bench_net.specs.Statement.{Statement}
 use Rattle.bench_net.specs.Refusal.{IsAccepted}
 use Rattle.fault_model.specs.declared.Model.{Model}
@@ -18,8 +20,10 @@ use Rattle.workers.specs.Part.{ArePartVerdicts}
 use Rattle.workers.specs.Verdict.{AreFirsts}
 use Rattle.report.specs.declared.contents.Lines.{Lines}
 use Rattle.report.specs.EndToEnd.{IsJobOf, IsReportOf}
-use Rattle.report.specs.Merging.{AreOfOneRun, IsFirstMerged, IsJoined, IsMerged, IsWholeRun, MergedRun, MergeState}
-use Rattle.report.specs.WholeMerge.{AreMerged, IsMergeOf, IsPartOf, IsSomePartOf, IsSomePartToldFrom, IsToldFrom, PartedRun}
+use Rattle.report.specs.Merging.{AreOfOneRun, IsFirstMerged, IsJoined, IsMerged, IsWholeRun}
+use Rattle.report.specs.Merging.{MergedRun, MergeState}
+use Rattle.report.specs.WholeMerge.{AreMerged, IsMergeOf, IsPartOf, IsSomePartOf}
+use Rattle.report.specs.WholeMerge.{IsSomePartToldFrom, IsToldFrom, PartedRun}
 use Rattle.report.specs.PartText.{PartHead, head_of, model_name, sum_text}
 use Rattle.report.specs.PartReading.{IsPart}
 use Rattle.report.specs.Report.{fault_text, report, report_text}
@@ -75,7 +79,8 @@ read_as run part bytes h names verdicts of is =
 
 -- What was put together is true of a circuit and of tests: the first line is that of the run, the
 -- names are those of the circuit's faults, and each first test is the first that detects its fault.
-record IsSound (run : PartedRun) (c : List Statement) (tests : List Test) (s : MergeState) : Type 0 where
+record IsSound (run : PartedRun) (c : List Statement) (tests : List Test)
+    (s : MergeState) : Type 0 where
   pub part : ℕ
   pub head : s.head ≡ head_in_run run part
   pub faults_are : s.faults ≡ map (fault_text c) (faults run.model c)
@@ -93,11 +98,12 @@ sound_first run bytes s of is =
       part = of.0;
       head = same.0;
       faults_are = same.1;
-      count = ap (λ (l : List PartVerdict). length l) same.2 ∙ sym (told run of.0 bytes of.1).lines.same
+      count = ap (λ (l : List PartVerdict). length l) same.2
+          ∙ sym (told run of.0 bytes of.1).lines.same
           ∙ length-map (faults run.model text.0.circuit) (fault_text text.0.circuit);
       each = λ k f first ef ev.
-          first_of_part text.0 run.parts of.0 text.2.0 run.model run.bench run.tests text.1 text.2.1 k f
-          first ef (ap (λ (l : List PartVerdict). slice_get l k) (sym same.2) ∙ ev);
+          first_of_part text.0 run.parts of.0 text.2.0 run.model run.bench run.tests text.1 text.2.1
+          k f first ef (ap (λ (l : List PartVerdict). slice_get l k) (sym same.2) ∙ ev);
     }
 
 -- the first tests of a part, told of the circuit and the tests of the bench text and the test text
@@ -121,16 +127,23 @@ pub job_of_run : (run other : PartedRun) (part to : ℕ) (old head : PartHead) (
 job_of_run run other part to old head job apart is was same of =
     subst (λ t. IsJobOf run.model run.bench t job) (apart.tests tests)
     (subst (λ b. IsJobOf run.model b other.tests job) (apart.bench bench)
-    (subst (λ m. IsJobOf m other.bench other.tests job) (same_model other.model run.model model) of))
+    (subst (λ m. IsJobOf m other.bench other.tests job)
+    (same_model other.model run.model model) of))
   where
     model : model_name other.model ≡ model_name run.model
-    model = ap (λ (h : PartHead). h.model) (sym was) ∙ sym same.model ∙ ap (λ (h : PartHead). h.model) is
+    model =
+        ap (λ (h : PartHead). h.model) (sym was) ∙ sym same.model
+        ∙ ap (λ (h : PartHead). h.model) is
 
     bench : sum_text other.bench ≡ sum_text run.bench
-    bench = ap (λ (h : PartHead). h.bench) (sym was) ∙ sym same.bench ∙ ap (λ (h : PartHead). h.bench) is
+    bench =
+        ap (λ (h : PartHead). h.bench) (sym was) ∙ sym same.bench
+        ∙ ap (λ (h : PartHead). h.bench) is
 
     tests : sum_text other.tests ≡ sum_text run.tests
-    tests = ap (λ (h : PartHead). h.tests) (sym was) ∙ sym same.tests ∙ ap (λ (h : PartHead). h.tests) is
+    tests =
+        ap (λ (h : PartHead). h.tests) (sym was) ∙ sym same.tests
+        ∙ ap (λ (h : PartHead). h.tests) is
 
 -- what one more text says
 sound_more : (run : PartedRun) (bytes : List ℕ) (c : List Statement) (tests : List Test)
@@ -138,7 +151,7 @@ sound_more : (run : PartedRun) (bytes : List ℕ) (c : List Statement) (tests : 
     → ((job : Parts) → IsJobOf run.model run.bench run.tests job → job.tests.tests ≡ tests)
     → IsSomePartToldFrom run bytes → IsMerged old bytes new → IsSound run c tests old
     → IsSound run c tests new
-sound_more run bytes c tests old new one accepted same_tests (other, apart, (part, of)) is was = record {
+sound_more run bytes c tests old new one accepted alike (other, apart, (part, of)) is was = record {
   part = was.part;
   head = is.head_is ∙ was.head;
   faults_are = is.faults_are ∙ was.faults_are;
@@ -146,11 +159,12 @@ sound_more run bytes c tests old new one accepted same_tests (other, apart, (par
   each = λ k f first ef ev.
       let within = slice_get_within new.verdicts k (First first) ev in
       let here = get_or_from_slice_get new.verdicts k (First first) OtherPart ev in
-      let low : k < length (faults run.model c) = omega (arith, within, is.joined.count, was.count) in
+      let low : k < length (faults run.model c) =
+      omega (arith, within, is.joined.count, was.count) in
       joined k f first ef (get_or old.verdicts k OtherPart) (get_or is.verdicts k OtherPart)
       (slice_get-get_or old.verdicts k OtherPart (omega (arith, low, was.count)))
       (slice_get-get_or is.verdicts k OtherPart (omega (arith, low, long)))
-      (subst (λ v. IsJoined (get_or old.verdicts k OtherPart) (get_or is.verdicts k OtherPart) v) here
+      (subst (IsJoined (get_or old.verdicts k OtherPart) (get_or is.verdicts k OtherPart)) here
       (is.joined.each k OtherPart within));
 }
   where
@@ -160,7 +174,9 @@ sound_more run bytes c tests old new one accepted same_tests (other, apart, (par
     same = read_as other part bytes is.head old.faults is.verdicts of is.part
 
     job : IsJobOf run.model run.bench run.tests of.text.0
-    job = job_of_run run other part was.part old.head is.head of.text.0 apart was.head same.0 is.run of.text.1
+    job =
+        job_of_run run other part was.part old.head is.head of.text.0 apart was.head same.0 is.run
+        of.text.1
 
     long : length is.verdicts ≡ length (faults run.model c)
     long =
@@ -172,10 +188,11 @@ sound_more run bytes c tests old new one accepted same_tests (other, apart, (par
         → IsJoined a b (First first) → IsFirst c tests f first
     joined k f first ef OtherPart b ea eb both =
         part_firsts run.model run.bench run.tests of.text.0 other.parts part of.text.2.0 c tests
-        (one run.bench of.text.0.circuit c job.0 accepted) (same_tests of.text.0 job) job of.text.2.1
-        k f first ef
+        (one run.bench of.text.0.circuit c job.0 accepted) (alike of.text.0 job) job
+        of.text.2.1 k f first ef
         (ap (λ (l : List PartVerdict). slice_get l k) (sym same.2) ∙ eb ∙ ap Some (sym both))
-    joined k f first ef (First g) OtherPart ea eb both = was.each k f first ef (ea ∙ ap Some (sym both))
+    joined k f first ef (First g) OtherPart ea eb both =
+        was.each k f first ef (ea ∙ ap Some (sym both))
     joined k f first ef (First g) (First h) ea eb both = absurd both
 
 -- and what more say
@@ -189,7 +206,8 @@ sound_all run c tests [] old new one accepted same_tests all are was =
 sound_all run c tests (bytes ∷ others) old new one accepted same_tests all are was =
     sound_all run c tests others are.0 new one accepted same_tests
     (λ k d lt. all (suc k) d (omega (arith, lt))) are.2
-    (sound_more run bytes c tests old are.0 one accepted same_tests (all 0 bytes (omega arith)) are.1 was)
+    (sound_more run bytes c tests old are.0 one accepted same_tests (all 0 bytes (omega arith))
+    are.1 was)
 
 -- the first tests of a whole run
 firsts_are : (run : PartedRun) (c : List Statement) (tests : List Test) (s : MergeState)
@@ -216,7 +234,8 @@ report_of_merge one run first others merged lines of all is =
     let begun = sound_first run first is.begun of is.first_is in
     let sound = sound_all run c job.tests.tests others is.begun is.all one job_is.0
     (λ other at. at.1.2 ∙ sym job_is.1.2) all is.others_are begun in
-    let bytes : report_text merged.faults merged.firsts lines ≡ report run.model c merged.firsts lines =
+    let bytes : report_text merged.faults merged.firsts lines
+    ≡ report run.model c merged.firsts lines =
     ap (λ l. report_text l merged.firsts lines) (is.whole.faults ∙ sound.faults_are)
     ∙ report_of_texts run.model c merged.firsts lines in (
       c,

@@ -5,7 +5,8 @@ use Rattle.fault_model.specs.declared.Model.{Model}
 use Rattle.report.specs.declared.joining.MergeFault.{MergeFault}
 use Rattle.report.specs.declared.joining.MergeFault.TheVariants as fault
 use Rattle.report.specs.declared.part_reader.PartFault.TheVariants as part_fault
-use Rattle.report.specs.Merging.{HasParts, IsEndRefusal, IsFirstMerged, IsFirstRefusal, IsMerged, IsMergeRefusal, IsWholeRun, MergedRun, MergeState}
+use Rattle.report.specs.Merging.{HasParts, IsEndRefusal, IsFirstMerged, IsFirstRefusal, IsMerged}
+use Rattle.report.specs.Merging.{IsMergeRefusal, IsWholeRun, MergedRun, MergeState}
 use Rattle.report.specs.PartText.{IsPartTextOf, sum_text}
 
 -- a run in parts: under which model, of which bench text and test text, and in how many parts

@@ -1,6 +1,7 @@
 //! The laws of part texts, of their merge and its report, and of the coverage of classes.
 
-ghost use Rattle.std.specs.Prelude.{◌≡◌, ◌<◌, ◌^◌, ◌∷◌, ℕ, All, List, Option, Some, false, length, map, slice_get};
+ghost use Rattle.std.specs.Prelude.{◌≡◌, ◌<◌, ◌^◌, ◌∷◌, ℕ, All, List, Option, Some, false, map};
+ghost use Rattle.std.specs.Prelude.{slice_get};
 ghost use Rattle.bench_net.specs.Statement.{Statement};
 ghost use Rattle.bench_net.specs.Circuit.{IsCircuit};
 ghost use Rattle.fault_model.specs.declared.Model.{Model};
@@ -8,11 +9,14 @@ ghost use Rattle.fault_model.specs.Fault.{Fault, faults};
 ghost use Rattle.fault_model.specs.Collapse.{AreClassesOf, Collapsed, IsClassOf};
 ghost use Rattle.fault_model.specs.Solution.{Test};
 ghost use Rattle.block_sim.specs.First.{IsFirst};
+ghost use Rattle.block_sim.specs.Parts.{Parts};
 ghost use Rattle.workers.specs.declared.parts.PartVerdict.{PartVerdict};
+ghost use Rattle.workers.specs.Part.{ArePartVerdicts};
 ghost use Rattle.workers.specs.Verdict.{AreFirsts};
-ghost use Rattle.report.specs.EndToEnd.{IsReportOf};
+ghost use Rattle.report.specs.EndToEnd.{IsJobOf, IsReportOf};
 ghost use Rattle.report.specs.Merging.{MergedRun};
-ghost use Rattle.report.specs.WholeMerge.{AreAllPartsOf, IsForMemory, IsMergeOf, IsRefusedMerge, IsSomePartOf, IsSomePartToldFrom, PartedRun};
+ghost use Rattle.report.specs.WholeMerge.{AreAllPartsOf, IsForMemory, IsMergeOf, IsRefusedMerge};
+ghost use Rattle.report.specs.WholeMerge.{IsSomePartOf, IsSomePartToldFrom, PartedRun};
 ghost use Rattle.report.specs.PartText.{IsPartTextOf, PartHead, head_of};
 ghost use Rattle.report.specs.declared.joining.MergeFault.{MergeFault};
 ghost use Rattle.report.specs.declared.part_reader.PartFault.{PartFault};
@@ -53,12 +57,15 @@ pub fn one_report()
         → report_text (map (fault_text c) (faults m c)) firsts lines ≡ report m c firsts lines }
 {}
 
-/// What is written as the text of a part is a part text, which a reader takes as what it says.
+/// What is written as the text of a part of a run is a part text. Read, it says which part of what
+/// it is, the names of the circuit's faults, and the verdicts of the run over the part.
 pub fn part_text_is_read()
     ensures { (m : Model) (bench text : List ℕ) (part parts : ℕ) (bytes : List ℕ)
         → part < parts → parts < 2 ^ 32 → IsPartTextOf m bench text part parts bytes
-        → (faults : List (List ℕ)) × (verdicts : List PartVerdict)
-        × IsPart bytes (head_of m bench text part parts) faults verdicts }
+        → (job : Parts) × (verdicts : List PartVerdict) × IsJobOf m bench text job
+        × ArePartVerdicts job parts part verdicts
+        × IsPart bytes (head_of m bench text part parts)
+        (map (fault_text job.circuit) (faults m job.circuit)) verdicts }
 {}
 
 /// The report of a merge. The first text is that of a part of a run, each other that of a part of
