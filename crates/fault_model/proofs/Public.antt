@@ -9,6 +9,7 @@ pub use Rattle.fault_model.proofs.SomeSolution.{solution, solution_solves}
 pub use Rattle.fault_model.proofs.NextFaultLevels.{below_fold, below_greatest}
 pub use Rattle.fault_model.proofs.ListedFaults.{IsOn, branch_among, listed_model, listed_on}
 pub use Rattle.fault_model.proofs.ListedFaults.{same_lines, under_other, under_own}
+pub use Rattle.fault_model.proofs.FaultLines.{faults_within}
 pub use Rattle.fault_model.proofs.LookBack.{classes_detected_same}
 pub use Rattle.fault_model.proofs.PlainPrograms.{bit_within, class_of, first_within, rep}
 pub use Rattle.fault_model.proofs.PlainPrograms.{rep_represents}

@@ -25,7 +25,7 @@ cell_at (c ∷ cs) (r ∷ rs) f (suc i) d e h =
     rest e = cc
 
 -- a cell's q is a name of the circuit
-cell_is_named : (c : List Statement) (q : Name) → Among q (map (λ qd. qd.0) (cells c)) → Among q (names c)
+pub cell_is_named : (c : List Statement) (q : Name) → Among q (map (λ qd. qd.0) (cells c)) → Among q (names c)
 cell_is_named [] q a = absurd a
 cell_is_named (Input m ∷ c) q a = inr (cell_is_named c q a)
 cell_is_named (Output m ∷ c) q a = cell_is_named c q a

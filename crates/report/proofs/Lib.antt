@@ -18,3 +18,8 @@ pub mod Endings
 pub mod Curves
 pub mod Compactions
 pub mod Rowed
+pub mod PartNames
+pub mod PartTold
+pub mod MergedReport
+pub mod FaultParts
+pub mod MergeRefusals

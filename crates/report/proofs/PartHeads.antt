@@ -34,28 +34,28 @@ pub body_of : (h : PartHead) (line : List ℕ) → line ++ codes "\n" ≡ head_l
 body_of h line e = append_cancel_right line (head_body h) (codes "\n") (e ∙ sym (head_line_is h))
 
 -- its numbers have no space
-pub small_part : (h : PartHead) → IsHead h → Lacks 32 (decimal (h.part + 1))
-small_part h ok = lacks_decimal 32 (h.part + 1) (lit< tt) (omega (arith, ok.below, ok.few, lit< {m = 2 ^ 32} {n = 2 ^ 64} tt))
+pub small_part : (h : PartHead) → Lacks 32 (decimal (h.part + 1))
+small_part h = lacks_decimal 32 (h.part + 1) (lit< tt)
 
-pub small_parts : (h : PartHead) → IsHead h → Lacks 32 (decimal h.parts)
-small_parts h ok = lacks_decimal 32 h.parts (lit< tt) (omega (arith, ok.few, lit< {m = 2 ^ 32} {n = 2 ^ 64} tt))
+pub small_parts : (h : PartHead) → Lacks 32 (decimal h.parts)
+small_parts h = lacks_decimal 32 h.parts (lit< tt)
 
 -- the fields of a first line that was given without its line feed
 pub first_field : (h : PartHead) (line word rest : List ℕ) → IsHead h → line ++ codes "\n" ≡ head_line h → Lacks 32 word
     → line ≡ codes "part " ++ (word ++ 32 ∷ rest) → (word ≡ decimal (h.part + 1)) × (rest ≡ of_on h)
-first_field h line word rest ok e lacks f = next_field (codes "part ") word rest (decimal (h.part + 1)) (of_on h) line lacks (small_part h ok) f (body_of h line e)
+first_field h line word rest ok e lacks f = next_field (codes "part ") word rest (decimal (h.part + 1)) (of_on h) line lacks (small_part h) f (body_of h line e)
 
 pub second_field : (h : PartHead) (text word rest : List ℕ) → IsHead h → text ≡ of_on h → Lacks 32 word
     → text ≡ codes "of " ++ (word ++ 32 ∷ rest) → (word ≡ decimal h.parts) × (rest ≡ words_text (words_in_head h))
-second_field h text word rest ok e lacks f = next_field (codes "of ") word rest (decimal h.parts) (words_text (words_in_head h)) text lacks (small_parts h ok) f e
+second_field h text word rest ok e lacks f = next_field (codes "of ") word rest (decimal h.parts) (words_text (words_in_head h)) text lacks (small_parts h) f e
 
 pub no_first : (h : PartHead) (line : List ℕ) → IsHead h → ((word rest : List ℕ) → Lacks 32 word → line ≢ codes "part " ++ (word ++ 32 ∷ rest))
     → line ++ codes "\n" ≢ head_line h
-no_first h line ok none e = none (decimal (h.part + 1)) (of_on h) (small_part h ok) (body_of h line e)
+no_first h line ok none e = none (decimal (h.part + 1)) (of_on h) (small_part h) (body_of h line e)
 
 pub no_second : (h : PartHead) (text : List ℕ) → IsHead h → ((word rest : List ℕ) → Lacks 32 word → text ≢ codes "of " ++ (word ++ 32 ∷ rest))
     → text ≢ of_on h
-no_second h text ok none e = none (decimal h.parts) (words_text (words_in_head h)) (small_parts h ok) e
+no_second h text ok none e = none (decimal h.parts) (words_text (words_in_head h)) (small_parts h) e
 
 -- the first line that was read
 pub head_read : (h : PartHead) (line r1 r2 part parts : List ℕ) → h.part < h.parts → h.parts < 2 ^ 32 → AreWords (words_in_head h)

@@ -1,5 +1,5 @@
 -- The lines of faults in a part text, and its last line.
-use Rattle.std.proofs.Common.{◌≡◌, ◌≢◌, ◌<◌, ◌^◌, ◌+◌, ℕ, List, [], ◌∷◌, ◌++◌, refl, sym, ap, ◌∙◌, append_assoc, append-nil, arith, subst, lit<}
+use Rattle.std.proofs.Common.{◌≡◌, ◌≢◌, ◌<◌, ◌+◌, ℕ, List, [], ◌∷◌, ◌++◌, refl, sym, ap, ◌∙◌, append_assoc, append-nil, arith, subst, lit<}
 use Rattle.std.specs.Prelude.{codes, decimal, Some, None}
 use Rattle.std.proofs.lemmas.List.{append_cancel_right}
 use Rattle.workers.specs.declared.parts.PartVerdict.{PartVerdict}
@@ -11,10 +11,10 @@ use Rattle.report.proofs.Cuts.{cut_last, lacks_left}
 use Rattle.report.proofs.PartWords.{lacks_decimal}
 
 -- a verdict has no space and no line feed
-pub lacks_verdict : (byte : ℕ) (v : PartVerdict) → byte < 45 → IsVerdict v → Lacks byte (verdict_text v)
-lacks_verdict byte (First (Some t)) low ok = lacks_decimal byte t (omega (arith, low)) (omega (arith, ok, lit< {m = 2 ^ 32} {n = 2 ^ 64} tt))
-lacks_verdict byte (First None) low ok = ((λ e. omega (arith, e)), ((λ e. omega (arith, e)), ((λ e. omega (arith, e)), ((λ e. omega (arith, e)), tt))))
-lacks_verdict byte OtherPart low ok = ((λ e. omega (arith, e)), tt)
+pub lacks_verdict : (byte : ℕ) (v : PartVerdict) → byte < 45 → Lacks byte (verdict_text v)
+lacks_verdict byte (First (Some t)) low = lacks_decimal byte t (omega (arith, low))
+lacks_verdict byte (First None) low = ((λ e. omega (arith, e)), ((λ e. omega (arith, e)), ((λ e. omega (arith, e)), ((λ e. omega (arith, e)), tt))))
+lacks_verdict byte OtherPart low = ((λ e. omega (arith, e)), tt)
 
 -- the line of a fault without its line feed
 abbrev pub line_body : List ℕ × PartVerdict → List ℕ
@@ -30,7 +30,7 @@ body_of at line e = append_cancel_right line (line_body at) (codes "\n") (e ∙ 
 pub line_once : (at : List ℕ × PartVerdict) (line name word : List ℕ) → IsLine at → line ++ codes "\n" ≡ verdict_line at
     → IsCutLast 32 line name word → (name ≡ at.0) × (word ≡ verdict_text at.1)
 line_once at line name word ok e cut =
-    cut_last 32 name word at.0 (verdict_text at.1) cut.last (lacks_verdict 32 at.1 (lit< tt) ok.verdict) (sym cut.whole ∙ body_of at line e)
+    cut_last 32 name word at.0 (verdict_text at.1) cut.last (lacks_verdict 32 at.1 (lit< tt)) (sym cut.whole ∙ body_of at line e)
 
 pub line_read : (name word line : List ℕ) (v : PartVerdict) → Lacks 10 line → IsCutLast 32 line name word → ((rest : List ℕ) → name ≢ codes "part " ++ rest)
     → IsVerdict v × (word ≡ verdict_text v) → IsLine (name, v) × (line ++ codes "\n" ≡ verdict_line (name, v))

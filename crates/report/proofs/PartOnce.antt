@@ -1,5 +1,5 @@
 -- A part text is read in one way.
-use Rattle.std.proofs.Common.{◌≡◌, ◌≢◌, ◌<◌, ◌^◌, ◌+◌, ◌==◌, ℕ, Bool, true, false, List, [], ◌∷◌, ◌++◌, length, refl, sym, ap, inl, inr, ◌∙◌, append_assoc, append-nil, arith, subst, lit<}
+use Rattle.std.proofs.Common.{◌≡◌, ◌≢◌, ◌+◌, ◌==◌, ℕ, Bool, true, false, List, [], ◌∷◌, ◌++◌, length, refl, sym, ap, inl, inr, ◌∙◌, append_assoc, append-nil, arith, subst, lit<}
 use Rattle.std.specs.Prelude.{codes, decimal, zip, flat_map, count_by, Some, None, if◌then◌else◌}
 use Rattle.std.specs.List.{AllByRecursion}
 use Rattle.std.proofs.lemmas.List.{append_cancel_left}
@@ -27,9 +27,6 @@ lacks_literal byte (x ∷ xs) e = elim (cases_Bool (x == byte)) [
   | inr other ↦ ((λ same. let bad : true ≡ false = sym (eq-eqb x byte same) ∙ other in cc), lacks_literal byte xs (rw other at e))
 ]
 
-pub low : (n : ℕ) → n < 2 ^ 32 → n < 2 ^ 64
-low n h = omega (arith, h, lit< {m = 2 ^ 32} {n = 2 ^ 64} tt)
-
 -- a field that lacks a byte
 field_without : (byte : ℕ) (name word rest : List ℕ) → Lacks byte name → Lacks byte word → 32 ≢ byte → Lacks byte rest → Lacks byte (name ++ (word ++ 32 ∷ rest))
 field_without byte name word rest p q s r = lacks_append byte name _ p (lacks_append byte word (32 ∷ rest) q (s, r))
@@ -43,9 +40,9 @@ head_lacks h ok =
     let bench = field_without 10 (codes "bench ") h.bench _ (lacks_literal 10 (codes "bench ") refl) ok.bench.one_line blank tests in
     let rule = field_without 10 (codes "rule ") h.rule _ (lacks_literal 10 (codes "rule ") refl) ok.rule.one_line blank bench in
     let model = field_without 10 (codes "model ") h.model _ (lacks_literal 10 (codes "model ") refl) ok.model.one_line blank rule in
-    let parts = field_without 10 (codes "of ") (decimal h.parts) _ (lacks_literal 10 (codes "of ") refl) (lacks_decimal 10 h.parts (lit< tt) (low h.parts ok.few)) blank model in
+    let parts = field_without 10 (codes "of ") (decimal h.parts) _ (lacks_literal 10 (codes "of ") refl) (lacks_decimal 10 h.parts (lit< tt)) blank model in
     field_without 10 (codes "part ") (decimal (h.part + 1)) _ (lacks_literal 10 (codes "part ") refl)
-    (lacks_decimal 10 (h.part + 1) (lit< tt) (omega (arith, ok.below, low h.parts ok.few))) blank parts
+    (lacks_decimal 10 (h.part + 1) (lit< tt)) blank parts
 
 -- words are those of one first line
 pub words_once : (w v : WordTexts) → (Lacks 32 w.model × Lacks 32 w.rule × Lacks 32 w.bench) → (Lacks 32 v.model × Lacks 32 v.rule × Lacks 32 v.bench)
@@ -72,37 +69,37 @@ head_once h k rest more p q e =
     let left : head_line h ++ rest ≡ head_body h ++ 10 ∷ rest = ap (λ l. l ++ rest) (sym (head_line_is h)) ∙ append_assoc (head_body h) (codes "\n") rest in
     let right : head_line k ++ more ≡ head_body k ++ 10 ∷ more = ap (λ l. l ++ more) (sym (head_line_is k)) ∙ append_assoc (head_body k) (codes "\n") more in
     let cut = cut_once 10 (head_body h) rest (head_body k) more (head_lacks h p) (head_lacks k q) (sym left ∙ (e ∙ right)) in
-    let one = next_field (codes "part ") (decimal (h.part + 1)) (of_on h) (decimal (k.part + 1)) (of_on k) (head_body h) (small_part h p) (small_part k q) refl cut.0 in
-    let two = next_field (codes "of ") (decimal h.parts) (words_text (words_in_head h)) (decimal k.parts) (words_text (words_in_head k)) (of_on h) (small_parts h p) (small_parts k q) refl one.1 in
+    let one = next_field (codes "part ") (decimal (h.part + 1)) (of_on h) (decimal (k.part + 1)) (of_on k) (head_body h) (small_part h) (small_part k) refl cut.0 in
+    let two = next_field (codes "of ") (decimal h.parts) (words_text (words_in_head h)) (decimal k.parts) (words_text (words_in_head k)) (of_on h) (small_parts h) (small_parts k) refl one.1 in
     let words = words_once (words_in_head h) (words_in_head k) (p.model.no_space, p.rule.no_space, p.bench.no_space) (q.model.no_space, q.rule.no_space, q.bench.no_space) two.1 in
     let part : h.part + 1 ≡ k.part + 1 = same_number (h.part + 1) (k.part + 1) (decimal (h.part + 1)) (omega (arith, p.below, p.few)) (omega (arith, q.below, q.few)) refl one.0 in
     let parts : h.parts ≡ k.parts = same_number h.parts k.parts (decimal h.parts) p.few q.few refl two.0 in
     (same_head h k (omega (arith, part)) parts words.0 words.1 words.2 words.3, cut.1)
 
 -- a verdict is spelled in one way
-not_none : (t : ℕ) → t < 2 ^ 32 → decimal t ≢ codes "none"
-not_none t small e = (subst (λ l. Lacks 110 l) e (lacks_byte 110 t (λ d h f. omega (arith, f)) (low t small))).0 refl
+not_none : (t : ℕ) → decimal t ≢ codes "none"
+not_none t e = (subst (λ l. Lacks 110 l) e (lacks_byte 110 t (λ d h f. omega (arith, f)))).0 refl
 
-not_dash : (t : ℕ) → t < 2 ^ 32 → decimal t ≢ codes "-"
-not_dash t small e = (subst (λ l. Lacks 45 l) e (lacks_byte 45 t (λ d h f. omega (arith, f)) (low t small))).0 refl
+not_dash : (t : ℕ) → decimal t ≢ codes "-"
+not_dash t e = (subst (λ l. Lacks 45 l) e (lacks_byte 45 t (λ d h f. omega (arith, f)))).0 refl
 
 none_dash : codes "none" ≢ codes "-"
 none_dash e = let bad : length (codes "none") ≡ length (codes "-") = ap (λ l. length l) e in omega (arith, bad)
 
 pub verdict_once : (v w : PartVerdict) → IsVerdict v → IsVerdict w → verdict_text v ≡ verdict_text w → v ≡ w
 verdict_once (First (Some t)) (First (Some u)) p q e = ap (λ n. First (Some n)) (same_number t u (decimal t) p q refl e)
-verdict_once (First (Some t)) (First None) p q e = absurd (not_none t p e)
-verdict_once (First (Some t)) OtherPart p q e = absurd (not_dash t p e)
-verdict_once (First None) (First (Some u)) p q e = absurd (not_none u q (sym e))
+verdict_once (First (Some t)) (First None) p q e = absurd (not_none t e)
+verdict_once (First (Some t)) OtherPart p q e = absurd (not_dash t e)
+verdict_once (First None) (First (Some u)) p q e = absurd (not_none u (sym e))
 verdict_once (First None) (First None) p q e = refl
 verdict_once (First None) OtherPart p q e = absurd (none_dash e)
-verdict_once OtherPart (First (Some u)) p q e = absurd (not_dash u q (sym e))
+verdict_once OtherPart (First (Some u)) p q e = absurd (not_dash u (sym e))
 verdict_once OtherPart (First None) p q e = absurd (none_dash (sym e))
 verdict_once OtherPart OtherPart p q e = refl
 
 -- two texts that begin with the line of a fault begin with the same one
 pub line_lacks : (at : List ℕ × PartVerdict) → IsLine at → Lacks 10 (line_body at)
-line_lacks at ok = lacks_append 10 at.0 _ ok.name.one_line ((λ e. omega (arith, e)), lacks_verdict 10 at.1 (lit< tt) ok.verdict)
+line_lacks at ok = lacks_append 10 at.0 _ ok.name.one_line ((λ e. omega (arith, e)), lacks_verdict 10 at.1 (lit< tt))
 
 pub split_line : (at : List ℕ × PartVerdict) (rest : List ℕ) → verdict_line at ++ rest ≡ line_body at ++ 10 ∷ rest
 split_line at rest = ap (λ l. l ++ rest) (sym (verdict_line_is at)) ∙ append_assoc (line_body at) (codes "\n") rest
@@ -121,7 +118,7 @@ pub line_once : (at to : List ℕ × PartVerdict) (rest more : List ℕ) → IsL
     → (at ≡ to) × (rest ≡ more)
 line_once at to rest more p q e =
     let cut = cut_once 10 (line_body at) rest (line_body to) more (line_lacks at p) (line_lacks to q) (sym (split_line at rest) ∙ (e ∙ split_line to more)) in
-    let parts = cut_last 32 at.0 (verdict_text at.1) to.0 (verdict_text to.1) (lacks_verdict 32 at.1 (lit< tt) p.verdict) (lacks_verdict 32 to.1 (lit< tt) q.verdict) cut.0 in
+    let parts = cut_last 32 at.0 (verdict_text at.1) to.0 (verdict_text to.1) (lacks_verdict 32 at.1 (lit< tt)) (lacks_verdict 32 to.1 (lit< tt)) cut.0 in
     (same_pair at to parts.0 (verdict_once at.1 to.1 p.verdict q.verdict parts.1), cut.1)
 
 -- two bytes don't come first at one place
@@ -156,28 +153,28 @@ before_space (a ∷ b ∷ c ∷ d ∷ f ∷ name) rest more e front =
     absurd (front name is)
 
 -- the line of a fault is no last line
-pub not_end : (at : List ℕ × PartVerdict) (part parts found own : ℕ) (rest more : List ℕ) → IsLine at → part + 1 < 2 ^ 64
+pub not_end : (at : List ℕ × PartVerdict) (part parts found own : ℕ) (rest more : List ℕ) → IsLine at
     → verdict_line at ++ rest ≢ end_line part parts found own ++ more
-not_end at part parts found own rest more ok small e =
+not_end at part parts found own rest more ok e =
     let left : at.0 ++ 32 ∷ (verdict_text at.1 ++ 10 ∷ rest) ≡ verdict_line at ++ rest = simp append_assoc in
     let after : List ℕ = codes "of " ++ (decimal parts ++ (codes ": " ++ (decimal found ++ (codes " of " ++ (decimal own ++ 10 ∷ more))))) in
     let right : end_line part parts found own ++ more ≡ codes "part " ++ (decimal (part + 1) ++ 32 ∷ after) = simp append_assoc in
     let same = before_space at.0 _ _ (left ∙ (e ∙ right)) ok.name.no_end in
-    two_bytes 10 32 (verdict_text at.1) rest (decimal (part + 1)) after (λ f. omega (arith, f)) (lacks_verdict 32 at.1 (lit< tt) ok.verdict)
-    (lacks_decimal 10 (part + 1) (lit< tt) small) same
+    two_bytes 10 32 (verdict_text at.1) rest (decimal (part + 1)) after (λ f. omega (arith, f)) (lacks_verdict 32 at.1 (lit< tt))
+    (lacks_decimal 10 (part + 1) (lit< tt)) same
 
 -- the lines of faults up to a last line are read in one way
-pub lines_once : (ps qs : List (List ℕ × PartVerdict)) (part parts a b c d : ℕ) (rest more : List ℕ) → AllByRecursion IsLine ps → AllByRecursion IsLine qs → part + 1 < 2 ^ 64
+pub lines_once : (ps qs : List (List ℕ × PartVerdict)) (part parts a b c d : ℕ) (rest more : List ℕ) → AllByRecursion IsLine ps → AllByRecursion IsLine qs
     → flat_map verdict_line ps ++ (end_line part parts a b ++ rest) ≡ flat_map verdict_line qs ++ (end_line part parts c d ++ more) → ps ≡ qs
-lines_once [] [] part parts a b c d rest more p q small e = refl
-lines_once [] (y ∷ qs) part parts a b c d rest more p q small e =
-    absurd (not_end y part parts a b _ rest q.0 small (sym (append_assoc (verdict_line y) (flat_map verdict_line qs) (end_line part parts c d ++ more)) ∙ sym e))
-lines_once (x ∷ ps) [] part parts a b c d rest more p q small e =
-    absurd (not_end x part parts c d _ more p.0 small (sym (append_assoc (verdict_line x) (flat_map verdict_line ps) (end_line part parts a b ++ rest)) ∙ e))
-lines_once (x ∷ ps) (y ∷ qs) part parts a b c d rest more p q small e =
+lines_once [] [] part parts a b c d rest more p q e = refl
+lines_once [] (y ∷ qs) part parts a b c d rest more p q e =
+    absurd (not_end y part parts a b _ rest q.0 (sym (append_assoc (verdict_line y) (flat_map verdict_line qs) (end_line part parts c d ++ more)) ∙ sym e))
+lines_once (x ∷ ps) [] part parts a b c d rest more p q e =
+    absurd (not_end x part parts c d _ more p.0 (sym (append_assoc (verdict_line x) (flat_map verdict_line ps) (end_line part parts a b ++ rest)) ∙ e))
+lines_once (x ∷ ps) (y ∷ qs) part parts a b c d rest more p q e =
     let one = line_once x y _ _ p.0 q.0 (sym (append_assoc (verdict_line x) (flat_map verdict_line ps) (end_line part parts a b ++ rest))
     ∙ (e ∙ append_assoc (verdict_line y) (flat_map verdict_line qs) (end_line part parts c d ++ more))) in
-    rw (one.0, lines_once ps qs part parts a b c d rest more p.1 q.1 small one.1) refl
+    rw (one.0, lines_once ps qs part parts a b c d rest more p.1 q.1 one.1) refl
 
 -- lists that are zipped alike are alike
 pub zip_once : {X Y : Type 0} (xs us : List X) (ys vs : List Y) → length xs ≡ length ys → length us ≡ length vs → zip xs ys ≡ zip us vs → (xs ≡ us) × (ys ≡ vs)
@@ -212,6 +209,6 @@ one_part text h k faults others verdicts more p q =
     let right : qs ++ (end_line h.part h.parts c d ++ []) ≡ qs ++ end_line h.part h.parts c d = ap (λ l. qs ++ l) (append-nil _) in
     let other : qs ++ end_line k.part k.parts c d ≡ qs ++ end_line h.part h.parts c d = ap (λ (g : PartHead). qs ++ end_line g.part g.parts c d) (sym head.0) in
     let pairs = lines_once (zip faults verdicts) (zip others more) h.part h.parts a b c d [] [] p.lines.each q.lines.each
-    (omega (arith, p.head.below, low h.parts p.head.few)) (left ∙ (head.1 ∙ (other ∙ sym right))) in
+    (left ∙ (head.1 ∙ (other ∙ sym right))) in
     let lists = zip_once faults others verdicts more p.lines.same q.lines.same pairs in
     (head.0, lists.0, lists.1)

@@ -1,27 +1,52 @@
 -- The words of a part text's first line.
-use Rattle.std.proofs.Common.{◌≡◌, ◌≢◌, ◌<◌, ◌^◌, ◌+◌, ◌%◌, ℕ, true, false, List, ◌∷◌, ◌++◌, sym, ap, ◌∙◌, arith, subst, lit<}
-use Rattle.std.specs.Prelude.{codes, decimal, Option, Some, None, MatchOption}
+use Rattle.std.proofs.Common.{◌≡◌, ◌≢◌, ◌<◌, ◌^◌, ◌+◌, ◌/◌, ◌%◌, ◌==◌, ℕ, zero, suc, Bool, true, false, List, [], ◌∷◌, ◌++◌, refl, sym, ap, ◌∙◌, arith, subst, lit<}
+use Rattle.std.specs.Prelude.{codes, decimal, Option, Some, None, MatchOption, if◌then◌else◌}
+use Rattle.std.specs.Fmt.{digit_glyph, digits, digits_onto}
 use Rattle.std.specs.Borrow.{Bor}
 use Rattle.std.proofs.Math.Dec.{eqb}
-use Rattle.std.proofs.lemmas.Bool.Decides.{Decides-eqb}
+use Rattle.std.proofs.lemmas.Bool.Decides.{Decides-eqb, nat_tests}
 use lib.Pointwise.{pointwise, pointwise_decides}
 use Rattle.std.specs.Str.{IsUtf8}
-use Rattle.std.proofs.lemmas.Fmt.{decimal_by_steps, IsAscii-decimal}
+use Rattle.std.proofs.lemmas.Fmt.{IsAscii-decimal}
 use Rattle.std.proofs.lemmas.Str.{IsUtf8-from_ascii}
 use Rattle.std.proofs.lemmas.List.{append_cancel_left}
 use Rattle.report.specs.Cut.{IsCutFirst, Lacks}
 use Rattle.report.specs.PartReading.{AreWords, WordTexts, words_text}
-use Rattle.report.proofs.Cuts.{cut_once, lacks_append, lacks_left, lacks_right, lacks_not}
+use Rattle.report.proofs.Cuts.{cut_once, lacks_left, lacks_right, lacks_not}
 
--- a number has digits alone
-pub lacks_byte : (byte n : ℕ) → ((d : ℕ) → d < 10 → 48 + d ≢ byte) → n < 2 ^ 64 → Lacks byte (decimal n)
-lacks_byte byte n other small = decimal_by_steps (λ m ds. Lacks byte ds)
-    (λ m h. (other m h, tt))
-    (λ m ds h before. lacks_append byte ds _ before (other (m % 10) (omega arith), tt))
-    n small
+-- a number of any size has digits alone
+glyph_is : (d : ℕ) → d < 10 → digit_glyph false d ≡ 48 + d
+glyph_is d h = grind (arith, nat_tests)
 
-pub lacks_decimal : (byte n : ℕ) → byte < 48 → n < 2 ^ 64 → Lacks byte (decimal n)
-lacks_decimal byte n low small = lacks_byte byte n (λ d h e. omega (arith, e)) small
+lacks_onto : (byte k n : ℕ) (acc : List ℕ) → ((d : ℕ) → d < 10 → 48 + d ≢ byte) → Lacks byte acc
+    → Lacks byte (digits_onto k 10 false n acc)
+lacks_onto byte zero n acc other lacks = lacks
+lacks_onto byte (suc k) n acc other lacks =
+    go glyph
+    (lacks_onto byte k (n / 10) (digit_glyph false (n % 10) ∷ acc) other (glyph, lacks)) (n / 10 == 0)
+  where
+    glyph : digit_glyph false (n % 10) ≢ byte
+    glyph e =
+        let small : n % 10 < 10 = omega arith in
+        other (n % 10) small (sym (glyph_is (n % 10) small) ∙ e)
+
+    go : digit_glyph false (n % 10) ≢ byte
+        → Lacks byte (digits_onto k 10 false (n / 10) (digit_glyph false (n % 10) ∷ acc)) → (t : Bool)
+        → Lacks byte (if t then digit_glyph false (n % 10) ∷ acc
+        else digits_onto k 10 false (n / 10) (digit_glyph false (n % 10) ∷ acc))
+    go last more true = (last, lacks)
+    go last more false = more
+
+digits_onto_none : (n : ℕ) → digits_onto 64 10 false n [] ≡ decimal n
+unfolding digits
+digits_onto_none n = refl
+
+pub lacks_byte : (byte n : ℕ) → ((d : ℕ) → d < 10 → 48 + d ≢ byte) → Lacks byte (decimal n)
+lacks_byte byte n other =
+    subst (λ ds. Lacks byte ds) (digits_onto_none n) (lacks_onto byte 64 n [] other tt)
+
+pub lacks_decimal : (byte n : ℕ) → byte < 48 → Lacks byte (decimal n)
+lacks_decimal byte n low = lacks_byte byte n (λ d h e. omega (arith, e))
 
 pub not_utf8 : (word : List ℕ) (n : ℕ) → n < 2 ^ 32 → word ≡ decimal n → (IsUtf8 word → ⊥) → ⊥
 not_utf8 word n small e bad = bad (subst (λ w. IsUtf8 w) (sym e) (IsUtf8-from_ascii _ (IsAscii-decimal n (omega (arith, small, lit< {m = 2 ^ 32} {n = 2 ^ 64} tt)))))

@@ -1,6 +1,7 @@
-//! The laws of part texts, of their report, and of the coverage of classes.
+//! The laws of part texts, of their merge and its report, and of the coverage of classes.
 
-ghost use Rattle.std.specs.Prelude.{◌≡◌, ◌<◌, ◌^◌, ℕ, List, Option, Some, length, map, slice_get};
+ghost use Rattle.std.specs.Prelude.{◌≡◌, ◌<◌, ◌^◌, ◌∷◌, ℕ, All, List, Option, Some, false, map};
+ghost use Rattle.std.specs.Prelude.{slice_get};
 ghost use Rattle.bench_net.specs.Statement.{Statement};
 ghost use Rattle.bench_net.specs.Circuit.{IsCircuit};
 ghost use Rattle.fault_model.specs.declared.Model.{Model};
@@ -8,14 +9,24 @@ ghost use Rattle.fault_model.specs.Fault.{Fault, faults};
 ghost use Rattle.fault_model.specs.Collapse.{AreClassesOf, Collapsed, IsClassOf};
 ghost use Rattle.fault_model.specs.Solution.{Test};
 ghost use Rattle.block_sim.specs.First.{IsFirst};
+ghost use Rattle.block_sim.specs.Parts.{Parts};
 ghost use Rattle.workers.specs.declared.parts.PartVerdict.{PartVerdict};
+ghost use Rattle.workers.specs.Part.{ArePartVerdicts};
 ghost use Rattle.workers.specs.Verdict.{AreFirsts};
-ghost use Rattle.report.specs.PartText.{PartHead};
+ghost use Rattle.report.specs.EndToEnd.{IsJobOf, IsReportOf};
+ghost use Rattle.report.specs.Merging.{MergedRun};
+ghost use Rattle.report.specs.WholeMerge.{AreAllPartsOf, IsForMemory, IsMergeOf, IsRefusedMerge};
+ghost use Rattle.report.specs.WholeMerge.{IsSomePartOf, IsSomePartToldFrom, PartedRun};
+ghost use Rattle.report.specs.PartText.{IsPartTextOf, PartHead, head_of};
+ghost use Rattle.report.specs.declared.joining.MergeFault.{MergeFault};
 ghost use Rattle.report.specs.declared.part_reader.PartFault.{PartFault};
 ghost use Rattle.report.specs.declared.part_reader.PartFault.TheVariants as fault;
 ghost use Rattle.report.specs.PartReading.{IsPart, IsPartRefusal};
 ghost use Rattle.report.specs.Report.{class_firsts, fault_text, report, report_text};
 ghost use Rattle.report.specs.declared.contents.Lines.{Lines};
+
+use bench_net::one_answer;
+use fault_model::laws::{collapsing, stems};
 
 /// A text is the part text of one first line, of one list of faults and of one list of verdicts.
 pub fn one_part_text()
@@ -27,8 +38,8 @@ pub fn one_part_text()
 /// A part text is refused for want of memory alone.
 pub fn no_refusal_of_part_text()
     ensures { (text : List ℕ) (h : PartHead) (faults : List (List ℕ))
-        (verdicts : List PartVerdict) (refusal : PartFault) → length text < 2 ^ 64
-        → IsPart text h faults verdicts → IsPartRefusal text refusal → refusal ≡ fault.Memory }
+        (verdicts : List PartVerdict) (refusal : PartFault) → IsPart text h faults verdicts
+        → IsPartRefusal text refusal → refusal ≡ fault.Memory }
 {}
 
 /// The classes that a report counts: the first test of a class is that of each of its faults.
@@ -45,3 +56,39 @@ pub fn one_report()
     ensures { (m : Model) (c : List Statement) (firsts : List (Option ℕ)) (lines : Lines)
         → report_text (map (fault_text c) (faults m c)) firsts lines ≡ report m c firsts lines }
 {}
+
+/// What is written as the text of a part of a run is a part text. Read, it says which part of what
+/// it is, the names of the circuit's faults, and the verdicts of the run over the part.
+pub fn part_text_is_read()
+    ensures { (m : Model) (bench text : List ℕ) (part parts : ℕ) (bytes : List ℕ)
+        → part < parts → parts < 2 ^ 32 → IsPartTextOf m bench text part parts bytes
+        → (job : Parts) × (verdicts : List PartVerdict) × IsJobOf m bench text job
+        × ArePartVerdicts job parts part verdicts
+        × IsPart bytes (head_of m bench text part parts)
+        (map (fault_text job.circuit) (faults m job.circuit)) verdicts }
+{}
+
+/// The report of a merge. The first text is that of a part of a run, each other that of a part of
+/// this run or of one that the sums tell from it. Where their merge ends well, its report is that
+/// of the run's bench text and test text under its model.
+pub fn merged_report()
+    ensures { (run : PartedRun) (first : List ℕ) (others : List (List ℕ)) (merged : MergedRun)
+        (lines : Lines) → IsSomePartOf run first → All (IsSomePartToldFrom run) others
+        → IsMergeOf first others merged
+        → IsReportOf run.model run.bench run.tests (record { lines = lines; classes = false })
+        (report_text merged.faults merged.firsts lines) }
+{
+    one_answer();
+}
+
+/// A merge of the texts of all parts of a run, of each part once and in any order, is refused for
+/// want of memory alone.
+pub fn no_refusal_of_merge()
+    ensures { (run : PartedRun) (first : List ℕ) (others : List (List ℕ)) (refusal : MergeFault)
+        → AreAllPartsOf run (first ∷ others) → IsRefusedMerge first others refusal
+        → IsForMemory refusal }
+{
+    one_answer();
+    collapsing();
+    stems();
+}

@@ -30,7 +30,10 @@ pub use curve::{CurvePoint, curve_of, curve_text_in, write_curve};
 pub use detected::{detections_text_in, write_detections};
 pub use ending::write_merged;
 pub use joining::MergeFault;
-pub use laws::{class_firsts_are, no_refusal_of_part_text, one_part_text, one_report};
+pub use laws::{
+    class_firsts_are, merged_report, no_refusal_of_merge, no_refusal_of_part_text, one_part_text,
+    one_report, part_text_is_read,
+};
 pub use merge::Merge;
 pub use merged::Merged;
 pub use output::{Formatted, Out, OutFailed, Plain};

@@ -1,4 +1,4 @@
-use Rattle.std.proofs.Common.{◌∙◌, ◌<◌, ◌^◌, arith, inl, length, refl}
+use Rattle.std.proofs.Common.{◌∙◌, inl, refl}
 use Rattle.report.specs.declared.part_reader.PartFault.TheVariants.{NotAPart, CutOff}
 use Rattle.report.proofs.PartReadings.{bad_head, joined}
 use Rattle.report.proofs.PartRefusals.{no_refusal, read_exactly}
@@ -9,15 +9,12 @@ read_lines-requires-clause-whole c = c.in-Some.ensures.whole ∙ joined _ _ _ c.
 
 pub returns-in_default-clause-only : goal.returns-in_default-clause-only
 returns-in_default-clause-only c = λ h faults verdicts p.
-    let small : length c.args.text.now < 2 ^ 64 = omega arith in
-    no_refusal c.args.text.now h faults verdicts CutOff small p (inl c.in_default.ensures)
+    no_refusal c.args.text.now h faults verdicts CutOff p (inl c.in_default.ensures)
 
 pub returns-in_default-header_of-clause-only : goal.returns-in_default-header_of-clause-only
 returns-in_default-header_of-clause-only c = λ h faults verdicts p.
-    let small : length c.args.text.now < 2 ^ 64 = omega arith in
-    no_refusal c.args.text.now h faults verdicts (NotAPart 1) small p (inl (refl, bad_head _ _ _ c.in-Some.ensures c.in_default-header_of.ensures))
+    no_refusal c.args.text.now h faults verdicts (NotAPart 1) p (inl (refl, bad_head _ _ _ c.in-Some.ensures c.in_default-header_of.ensures))
 
 pub returns-clause-only : goal.returns-clause-only
 returns-clause-only c = λ h faults verdicts p.
-    let small : length c.args.text.now < 2 ^ 64 = omega arith in
-    read_exactly c.args.text.now h faults verdicts c.read_lines.result small c.read_lines.ensures.read c.read_lines.ensures.refused p
+    read_exactly c.args.text.now h faults verdicts c.read_lines.result c.read_lines.ensures.read c.read_lines.ensures.refused p
