@@ -18,3 +18,4 @@ pub mod Endings
 pub mod Curves
 pub mod Compactions
 pub mod Rowed
+pub mod Watching
