@@ -15,11 +15,11 @@ use std::thread::Threads;
 
 /// Does what the arguments of the process ask for, as [`run_words`] does, on the files of the
 /// system, and answers the status. The output has a buffer, which is flushed at the end.
-pub fn run_arguments<R: Env + HasFiles + AllocGlobal + Threads + Wait, W: Write + Drop, E: Out>(
-    rt: &R,
-    out: W,
-    err: &mut E,
-) -> u8
+pub fn run_arguments<
+    R: Env + HasFiles + AllocGlobal + Threads + Wait,
+    W: Write + Drop,
+    E: Out + Send,
+>(rt: &R, out: W, err: &mut E) -> u8
     ensures { result ≤ 3 }
 {
     match read_arguments(rt) {
@@ -42,7 +42,7 @@ fn read_arguments<R: Env + AllocGlobal>(rt: &R) -> Result<Vec<String>, Fault<'st
 }
 
 /// Does what arguments ask for on the files of the system.
-fn run_on_files<R: HasFiles + AllocGlobal + Threads + Wait, W: Write + Drop, E: Out>(
+fn run_on_files<R: HasFiles + AllocGlobal + Threads + Wait, W: Write + Drop, E: Out + Send>(
     rt: &R,
     arguments: &[String],
     out: W,
@@ -62,7 +62,7 @@ fn words_of<'a>(alloc: Global, arguments: &'a [String]) -> Result<Vec<&'a str>, 
 }
 
 /// Does what words ask for on the files of the system, with a buffer before the output.
-fn run_with_buffer<'a, R: HasFiles + AllocGlobal + Threads + Wait, W: Write + Drop, E: Out>(
+fn run_with_buffer<'a, R: HasFiles + AllocGlobal + Threads + Wait, W: Write + Drop, E: Out + Send>(
     rt: &R,
     words: &'a [&'a str],
     out: W,

@@ -1,6 +1,6 @@
 //! Commands: what the words ask for is done.
 
-ghost use Rattle.std.specs.Prelude.{◌≤◌, IfOk, IfSome};
+ghost use Rattle.std.specs.Prelude.{◌<◌, ◌≤◌, IfOk, IfSome};
 ghost use Rattle.command_line.specs.Split.{HasParts};
 
 use crate::check::do_check;
@@ -9,6 +9,7 @@ use crate::curve::do_curve;
 use crate::detected::do_detections;
 use crate::format::{read_format, write_faults_table, write_run_table};
 use crate::options::{MAX_PARTS, Task, command_line, model_named, workers_help};
+use crate::progress::run_watched;
 use crate::responses::do_responses;
 use crate::source::{Source, SourceFault, Stream, is_standard_input};
 use crate::status::{
@@ -29,7 +30,7 @@ use std::thread::Threads;
 /// Does what the words ask for and answers the status: 0 done or helped, 1 a text is refused, 2 the
 /// command line is refused, 3 a file, the output, memory or a thread is refused. `words[0]` is the
 /// program's name. It joins the threads that it starts.
-pub fn run_words<'a, R: Threads + Wait, S: Source, W: Out, E: Out>(
+pub fn run_words<'a, R: Threads + Wait, S: Source, W: Out, E: Out + Send>(
     rt: &R,
     alloc: Global,
     words: &'a [&'a str],
@@ -46,7 +47,7 @@ pub fn run_words<'a, R: Threads + Wait, S: Source, W: Out, E: Out>(
 }
 
 /// The same with the help of `--workers N`.
-fn run_with_help<'a, R: Threads + Wait, S: Source, W: Out, E: Out>(
+fn run_with_help<'a, R: Threads + Wait, S: Source, W: Out, E: Out + Send>(
     rt: &R,
     alloc: Global,
     workers: &'a str,
@@ -67,7 +68,7 @@ fn run_with_help<'a, R: Threads + Wait, S: Source, W: Out, E: Out>(
 }
 
 /// Does what a command line asks for.
-fn run_matched<'a, R: Threads + Wait, S: Source, W: Out, E: Out>(
+fn run_matched<'a, R: Threads + Wait, S: Source, W: Out, E: Out + Send>(
     rt: &R,
     alloc: Global,
     matches: &ArgMatches<'a>,
@@ -101,7 +102,7 @@ fn answer_error<W: Out, E: Out>(error: &Error, out: &mut W, err: &mut E) -> u8
 }
 
 /// Does what the subcommand names.
-fn do_task<'a, R: Threads + Wait, S: Source, W: Out, E: Out>(
+fn do_task<'a, R: Threads + Wait, S: Source, W: Out, E: Out + Send>(
     rt: &R,
     alloc: Global,
     matches: &ArgMatches<'a>,
@@ -115,7 +116,7 @@ fn do_task<'a, R: Threads + Wait, S: Source, W: Out, E: Out>(
     check_streams(alloc, options, files)?;
     match Task::named(name) {
         Some(Task::Check) => do_check(alloc, options, files, out, err),
-        Some(Task::Run) => do_run_or_detections(rt, alloc, options, files, out),
+        Some(Task::Run) => do_run_or_detections(rt, alloc, options, files, out, err),
         Some(Task::Curve) => do_curve(rt, alloc, options, files, out),
         Some(Task::Compact) => do_compact(rt, alloc, options, files, out),
         Some(Task::Responses) => do_responses(alloc, options, files, out),
@@ -269,6 +270,19 @@ fn read_split<'a>(matches: &ArgMatches<'a>) -> Result<Split, Fault<'a>>
     }
 }
 
+/// In how many parts a run that is watched goes, where a number is given. One part alone isn't
+/// watched.
+fn parts_in<'a>(split: Split) -> Result<Option<u32>, Fault<'a>>
+    requires { HasParts split }
+    ensures { IfOk result (λ parts. IfSome parts (λ count. 0 < count)) }
+{
+    match split {
+        Split::Whole => Ok(None),
+        Split::Parts(parts) => Ok(Some(parts)),
+        Split::Part { .. } => Err(Fault::Misused("--progress")),
+    }
+}
+
 /// The part that a text `I/N` names, I from 1.
 fn read_part(text: &str) -> Option<Split>
     ensures { IfSome result HasParts }
@@ -286,26 +300,28 @@ fn read_part(text: &str) -> Option<Split>
 }
 
 /// `run`, or what it is with `--detections`.
-fn do_run_or_detections<'a, R: Threads + Wait, S: Source, W: Out>(
+fn do_run_or_detections<'a, R: Threads + Wait, S: Source, W: Out, E: Out + Send>(
     rt: &R,
     alloc: Global,
     matches: &ArgMatches<'a>,
     files: &mut S,
     out: &mut W,
+    err: &mut E,
 ) -> Result<(), Fault<'a>> {
     match matches.get_one::<u32>("detections") {
         Some(most) => do_detections(rt, alloc, matches, most, files, out),
-        None => do_run(rt, alloc, matches, files, out),
+        None => do_run(rt, alloc, matches, files, out, err),
     }
 }
 
 /// `run`: both files are read before either text is looked at.
-fn do_run<'a, R: Threads + Wait, S: Source, W: Out>(
+fn do_run<'a, R: Threads + Wait, S: Source, W: Out, E: Out + Send>(
     rt: &R,
     alloc: Global,
     matches: &ArgMatches<'a>,
     files: &mut S,
     out: &mut W,
+    err: &mut E,
 ) -> Result<(), Fault<'a>> {
     let Settings {
         model,
@@ -320,6 +336,12 @@ fn do_run<'a, R: Threads + Wait, S: Source, W: Out>(
         let lines = contents.lines;
         return write_run_table(
             rt, alloc, model, &bench, &tests, workers, lines, format, out,
+        );
+    }
+    if matches.get_flag("progress") {
+        let parts = parts_in(split)?;
+        return run_watched(
+            rt, alloc, model, &bench, &tests, parts, workers, contents, out, err,
         );
     }
     let done = match split {

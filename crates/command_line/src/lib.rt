@@ -12,6 +12,7 @@ mod curve;
 mod detected;
 mod format;
 mod options;
+mod progress;
 mod responses;
 mod source;
 mod status;

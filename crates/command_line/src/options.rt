@@ -125,6 +125,7 @@ enum Choice {
     Classes,
     /// The format of a run's list.
     RunFormat,
+    Progress,
     /// The format of the list of faults.
     Format,
     PartTexts,
@@ -134,7 +135,7 @@ enum Choice {
 static CHECK_CHOICES: [Choice; 3] = [Choice::Bench, Choice::TestsIfAny, Choice::Model];
 
 /// The options of `run`.
-static RUN_CHOICES: [Choice; 11] = [
+static RUN_CHOICES: [Choice; 12] = [
     Choice::Bench,
     Choice::Tests,
     Choice::Model,
@@ -146,6 +147,7 @@ static RUN_CHOICES: [Choice; 11] = [
     Choice::Undetected,
     Choice::Classes,
     Choice::RunFormat,
+    Choice::Progress,
 ];
 
 /// The options of `curve`.
@@ -536,6 +538,17 @@ fn run_format_option<'a>(alloc: Global) -> Result<Arg<'a>, AllocError> {
         .conflicts_with("classes")
 }
 
+/// The flag `--progress`.
+fn progress_flag<'a>(alloc: Global) -> Result<Arg<'a>, AllocError> {
+    Arg::new(alloc, "progress")
+        .long("progress")
+        .action(ArgAction::SetTrue)
+        .help("Tell on standard error how far the run is")
+        .conflicts_with("part")?
+        .conflicts_with("detections")?
+        .conflicts_with("format")
+}
+
 /// The files `FILE..` of `merge`.
 fn part_texts<'a>(alloc: Global) -> Arg<'a> {
     Arg::new(alloc, "part texts")
@@ -568,6 +581,7 @@ fn option<'a>(alloc: Global, choice: Choice, workers: &'a str) -> Result<Arg<'a>
         Choice::Classes => classes_flag(alloc),
         Choice::RunFormat => run_format_option(alloc)?,
         Choice::Format => format_option(alloc),
+        Choice::Progress => progress_flag(alloc)?,
         Choice::PartTexts => part_texts(alloc),
     };
     Ok(option)

@@ -23,3 +23,4 @@ pub mod PartTold
 pub mod MergedReport
 pub mod FaultParts
 pub mod MergeRefusals
+pub mod Watching

@@ -1,5 +1,5 @@
 -- From the bytes read to the bytes written.
-use Rattle.std.specs.Prelude.{◌≡◌, ◌⊎◌, ⊤, ℕ, ◌<◌, ◌≤◌, List, length, Option, Result, Ok, Err}
+use Rattle.std.specs.Prelude.{◌≡◌, ◌⊎◌, ⊤, ℕ, ◌<◌, ◌≤◌, List, length, Option, Some, None, Result, Ok, Err}
 use Rattle.bench_net.specs.declared.BenchFault.TheVariants as bench_fault
 use Rattle.bench_net.specs.Statement.{Statement}
 use Rattle.bench_net.specs.Scan.{sources}
@@ -17,6 +17,7 @@ use Rattle.workers.specs.declared.RunFault.TheVariants as run_fault
 use Rattle.workers.specs.declared.RunFault.{RunFault}
 use Rattle.workers.specs.Refused.{IsPartFault, IsPartsFault, IsRunFault, IsScheduleFault}
 use Rattle.workers.specs.Verdict.{AreFirsts}
+use Rattle.workers.specs.Work.{Stops}
 use Rattle.report.specs.declared.text.SimFault.{SimFault}
 use Rattle.report.specs.declared.text.SimFault.TheVariants as fault
 use Rattle.output.specs.Output.{Output, TakesAll, TakesFront}
@@ -128,6 +129,20 @@ IsPartsReportFault m bench text parts workers f =
 abbrev pub IsPartReportFault : Model → List ℕ → List ℕ → ℕ → ℕ → ℕ → SimFault → Type 0
 IsPartReportFault m bench text part parts workers f =
     IsTextFault m bench text workers (λ job. IsPartFault job parts part workers ⊤ (λ _ _ _. ⊥)) f
+
+-- When the report of a run that a gate watches is refused, in so many parts where a number is given:
+-- as that of the run without, but where the gate stopped workers. Then the fault names the class and
+-- the block for which the run in parts waits, and the gate isn't one that lets every piece pass.
+abbrev pub IsWatchedFault : Model → List ℕ → List ℕ → Option ℕ → ℕ → Type 0 → Stops → SimFault → Type 0
+IsWatchedFault m bench text (Some parts) workers passing stops (fault.Run (run_fault.Unfinished class block)) =
+    (job : Parts) × IsJobOf m bench text job
+    × IsPartsFault job parts workers passing stops (run_fault.Unfinished class block)
+IsWatchedFault m bench text (Some parts) workers passing stops f =
+    IsPartsReportFault m bench text parts workers f
+IsWatchedFault m bench text None workers passing stops (fault.Run (run_fault.Unfinished class block)) =
+    (job : Parts) × (parts : ℕ) × IsJobWithin m bench text job
+    × IsPartsFault job parts workers passing stops (run_fault.Unfinished class block)
+IsWatchedFault m bench text None workers passing stops f = IsReportFault m bench text workers f
 
 -- the order text spells moves of so many workers
 abbrev pub HasSomeMoves : List ℕ → ℕ → Type 0

@@ -22,6 +22,8 @@ mod part_reader;
 mod report;
 mod responses;
 mod text;
+mod watch;
+mod watched;
 mod whole;
 
 pub use compacted::compact_text_in;
@@ -45,4 +47,6 @@ pub use text::{
     SimFault, faults_text, faults_text_in, job_of, listing_bytes, report_bytes, schedule_text,
     schedule_text_in, simulate_text, simulate_text_in, simulate_text_in_parts,
 };
-pub use workers::{MAX_WORKERS, RunFault};
+pub use watch::Watch;
+pub use watched::simulate_text_watched;
+pub use workers::{Gate, MAX_WORKERS, OpenGate, RunFault};

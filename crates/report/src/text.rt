@@ -1,6 +1,6 @@
 //! From the bytes of texts to the bytes of the report or the listing.
 
-ghost use Rattle.std.specs.Prelude.{◌≢◌, ◌<◌, ◌≤◌, ⊤, length, Err, IfOk, IfErr, OnOk};
+ghost use Rattle.std.specs.Prelude.{◌≢◌, ◌<◌, ◌≤◌, length, Err, IfOk, IfErr, OnOk};
 ghost use Rattle.bench_net.specs.Refusal.{IsAccepted};
 ghost use Rattle.bench_net.specs.Scan.{sources};
 ghost use Rattle.fault_model.specs.declared.Model.TheVariants as model;
@@ -11,6 +11,7 @@ ghost use Rattle.report.specs.EndToEnd.{WritesOneOf, AreTestsFor, IsReportOf, Is
 
 use crate::contents::Contents;
 use crate::report::{ReportFault, write_listing, write_report};
+use crate::watch::Watch;
 use bench_net::{BenchFault, Circuit, read_bench};
 use block_sim::{Job, JobFault};
 use fault_model::{Model, collapse, list_faults_in};
@@ -170,7 +171,7 @@ pub fn simulate_text_in<R: Threads + Wait, W: Out>(
 {
     let job = job_of(alloc, model, bench, tests)?;
     let parts = parts_for(workers);
-    report_run(rt, alloc, &job, parts, workers, contents, out)
+    report_run(rt, alloc, &job, parts, workers, contents, &OpenGate, out)
 }
 
 /// Reads a circuit and tests for it, and writes the report that [`simulate_text_in`] writes, with
@@ -198,17 +199,19 @@ pub fn simulate_text_in_parts<R: Threads + Wait, W: Out>(
     ensures workers { OnOk result ((0 < workers) × (workers ≤ 64)) }
 {
     let job = job_of_any_size(alloc, model, bench, tests)?;
-    report_run(rt, alloc, &job, parts, workers, contents, out)
+    report_run(rt, alloc, &job, parts, workers, contents, &OpenGate, out)
 }
 
-/// Runs a job in parts by workers in threads of their own, and writes its report.
-fn report_run<R: Threads + Wait, W: Out>(
+/// Runs a job in parts by workers in threads of their own, and writes its report. The gate is told
+/// when the run begins and when all is settled.
+pub(crate) fn report_run<R: Threads + Wait, G: Watch + Sync, W: Out>(
     rt: &R,
     alloc: Global,
     job: &Job,
     parts: u32,
     workers: u32,
     contents: Contents,
+    gate: &G,
     out: &mut W,
 ) -> Result<(), SimFault>
     requires job { BelongTogether job.now }
@@ -216,10 +219,12 @@ fn report_run<R: Threads + Wait, W: Out>(
     ensures written { WritesOneOf (IsReportOfJob job.now contents) result
         (W.seen out.old) (W.seen out.new) }
     ensures refused { IfErr result (IsJobReportFault workers
-        (IsPartsFault job.now parts workers ⊤ (λ _ _ _. ⊥))) }
+        (IsPartsFault job.now parts workers (G.passing gate.now) (G.stops gate.now))) }
     ensures workers { OnOk result ((0 < workers) × (workers ≤ 64)) }
 {
-    let verdicts = run_in_parts(rt, alloc, job, parts, workers, &OpenGate)?;
+    gate.starts(job.classes().count(), job.tests().blocks());
+    let verdicts = run_in_parts(rt, alloc, job, parts, workers, gate)?;
+    gate.ends();
     write_report(job, &verdicts, contents, out)?;
     Ok(())
 }

@@ -4,9 +4,6 @@ use Rattle.report.specs.EndToEnd.{IsReportOf, IsReportOfJob, IsJobReportFault, I
 use Rattle.report.proofs.Runs.{written_as, refused_as, report_of, parts_run_fault}
 use Rattle.report.proofs.text.simulate_text_in.Goals as goal
 
-pub report_run-requires-clause-job : goal.report_run-requires-clause-job
-report_run-requires-clause-job g c = c.in_ok-job.ensures.job.2
-
 pub returns-clause-written : goal.returns-clause-written
 returns-clause-written g c =
     let job = c.in_ok-job.job in

@@ -1,0 +1,66 @@
+-- When the report of a run that a gate watches is refused, by the refusals of its job.
+use Rattle.std.specs.Prelude.{ℕ, List, Some, None}
+use Rattle.fault_model.specs.declared.Model.{Model}
+use Rattle.block_sim.specs.Parts.{Parts}
+use Rattle.workers.specs.declared.RunFault.TheVariants as run_fault
+use Rattle.workers.specs.Refused.{IsPartsFault}
+use Rattle.workers.specs.Work.{Stops}
+use Rattle.report.specs.declared.text.SimFault.{SimFault}
+use Rattle.report.specs.declared.text.SimFault.TheVariants as fault
+use Rattle.report.specs.EndToEnd.{IsJobFault, IsJobOf, IsJobReportFault, IsJobWithin, IsReadFault}
+use Rattle.report.specs.EndToEnd.{IsWatchedFault}
+use Rattle.workers.proofs.Public.{parts_fault}
+
+-- a refused run in parts of a job of the texts
+pub watched_parts : (m : Model) (bench text : List ℕ) (parts workers : ℕ) (passing : Type 0)
+    (stops : Stops) (job : Parts) → IsJobOf m bench text job → (f : SimFault)
+    → IsJobReportFault workers (IsPartsFault job parts workers passing stops) f
+    → IsWatchedFault m bench text (Some parts) workers passing stops f
+watched_parts m bench text parts workers passing stops job is (fault.Run run_fault.NoWorkers) h =
+    (job, is, h)
+watched_parts m bench text parts workers passing stops job is (fault.Run run_fault.TooManyWorkers) h =
+    (job, is, h)
+watched_parts m bench text parts workers passing stops job is (fault.Run (run_fault.NoSuchMove i)) h =
+    (job, is, h)
+watched_parts m bench text parts workers passing stops job is (fault.Run run_fault.TooManyPieces) h =
+    (job, is, h)
+watched_parts m bench text parts workers passing stops job is (fault.Run run_fault.Memory) h =
+    (job, is, h)
+watched_parts m bench text parts workers passing stops job is (fault.Run run_fault.Threads) h =
+    (job, is, h)
+watched_parts m bench text parts workers passing stops job is (fault.Run (run_fault.Unfinished c b)) h =
+    (job, is, h)
+watched_parts m bench text parts workers passing stops job is (fault.Report f) h =
+    (job, is, h.0, h.1)
+watched_parts m bench text parts workers passing stops job is (fault.Bench f) h = absurd h
+watched_parts m bench text parts workers passing stops job is (fault.Tests f) h = absurd h
+watched_parts m bench text parts workers passing stops job is (fault.Order f) h = absurd h
+watched_parts m bench text parts workers passing stops job is (fault.Job f) h = absurd h
+watched_parts m bench text parts workers passing stops job is fault.Memory h = absurd h
+
+-- the same where no number of parts is given, so that the job is within the limit of pieces
+pub watched_whole : (m : Model) (bench text : List ℕ) (parts workers : ℕ) (passing : Type 0)
+    (stops : Stops) (job : Parts) → IsJobWithin m bench text job → (f : SimFault)
+    → IsJobReportFault workers (IsPartsFault job parts workers passing stops) f
+    → IsWatchedFault m bench text None workers passing stops f
+watched_whole m bench text parts workers passing stops job is (fault.Run run_fault.NoWorkers) h =
+    (job, is, parts_fault job parts workers run_fault.NoWorkers h)
+watched_whole m bench text parts workers passing stops job is (fault.Run run_fault.TooManyWorkers) h =
+    (job, is, parts_fault job parts workers run_fault.TooManyWorkers h)
+watched_whole m bench text parts workers passing stops job is (fault.Run (run_fault.NoSuchMove i)) h =
+    (job, is, parts_fault job parts workers (run_fault.NoSuchMove i) h)
+watched_whole m bench text parts workers passing stops job is (fault.Run run_fault.TooManyPieces) h =
+    (job, is, parts_fault job parts workers run_fault.TooManyPieces h)
+watched_whole m bench text parts workers passing stops job is (fault.Run run_fault.Memory) h =
+    (job, is, parts_fault job parts workers run_fault.Memory h)
+watched_whole m bench text parts workers passing stops job is (fault.Run run_fault.Threads) h =
+    (job, is, parts_fault job parts workers run_fault.Threads h)
+watched_whole m bench text parts workers passing stops job is (fault.Run (run_fault.Unfinished c b)) h =
+    (job, parts, is, h)
+watched_whole m bench text parts workers passing stops job is (fault.Report f) h =
+    (job, is, h.0, h.1)
+watched_whole m bench text parts workers passing stops job is (fault.Bench f) h = absurd h
+watched_whole m bench text parts workers passing stops job is (fault.Tests f) h = absurd h
+watched_whole m bench text parts workers passing stops job is (fault.Order f) h = absurd h
+watched_whole m bench text parts workers passing stops job is (fault.Job f) h = absurd h
+watched_whole m bench text parts workers passing stops job is fault.Memory h = absurd h
