@@ -1,5 +1,7 @@
--- The way of a fault to the stem of a region: it leads on from gate to gate, a level higher at each, and a fault at a signal that is not live is not detected.
-use Rattle.std.proofs.Common.{◌≡◌, ◌≢◌, ◌<◌, ◌≤◌, ℕ, ◌+◌, Bool, refl, sym, ◌∙◌, ap, subst, List, map, length, arith, inr, ◌⊎◌}
+-- The way of a fault to the stem of a region: it leads on from gate to gate, a level higher at
+-- each, and a fault at a signal that is not live is not detected.
+use Rattle.std.proofs.Common.{◌≡◌, ◌≢◌, ◌<◌, ◌≤◌, ℕ, ◌+◌, Bool, refl, sym, ◌∙◌, ap, subst, List}
+use Rattle.std.proofs.Common.{map, length, arith, inr, ◌⊎◌}
 use Rattle.std.specs.Prelude.{Contains, Option, Some, None}
 use Rattle.std.specs.Option.{option_map_or}
 use Rattle.bench_net.specs.declared.Kind.{Kind}
@@ -13,7 +15,8 @@ use Rattle.lists.proofs.Places.{at_place, within_place}
 use Rattle.fault_model.specs.declared.Line.TheVariants as line
 use Rattle.fault_model.specs.Fault.{branch}
 use Rattle.fault_model.specs.Solution.{Test, Solves, shows}
-use Rattle.fault_model.proofs.Public.{below_greatest, detection_is_of_any_solution, has_solutions, under_other, observes}
+use Rattle.fault_model.proofs.Public.{below_greatest, detection_is_of_any_solution, has_solutions}
+use Rattle.fault_model.proofs.Public.{under_other, observes}
 use Rattle.block_sim.specs.Events.{IsLive, level_at, observed, through}
 use Rattle.block_sim.specs.Regions.{DetectsFlip, IsStem, LeadsTo, flip, here, lone_reader, onward}
 use Rattle.block_sim.proofs.Entered.{IsFree, same_where}
@@ -22,12 +25,14 @@ use Rattle.block_sim.proofs.Rises.{has_level, level_is, reads_rise}
 use Rattle.block_sim.proofs.Stems.{lone_within}
 
 -- one gate further
-pub leads_further : (c : List Statement) {s r : ℕ} (g : ℕ) → LeadsTo c s r → lone_reader c r ≡ Some g → LeadsTo c s g
+pub leads_further : (c : List Statement) {s r : ℕ} (g : ℕ) → LeadsTo c s r
+    → lone_reader c r ≡ Some g → LeadsTo c s g
 leads_further c g here h = onward h here
 leads_further c g (onward x p) h = onward x (leads_further c g p h)
 
 -- and a level higher
-pub deeper : (c : List Statement) (s g step : ℕ) → IsWellFormed c → s < length (names c) → lone_reader c s ≡ Some g
+pub deeper : (c : List Statement) (s g step : ℕ) → IsWellFormed c → s < length (names c)
+    → lone_reader c s ≡ Some g
     → ((k : ℕ) → HasLevel c s k → step ≤ k) → (k : ℕ) → HasLevel c g k → step + 1 ≤ k
 deeper c s g step well within alone deep k h =
     let low = deep (level_at c h.0 s) (has_level c h.0 s h.2 within) in
@@ -36,7 +41,8 @@ deeper c s g step well within alone deep k h =
     omega (arith, low, up, is)
 
 -- after as many steps as the circuit is deep it has come to the stem
-pub stem_at_depth : (c : List Statement) (depth s step : ℕ) → IsWellFormed c → HasDepth c depth → s < length (names c) → depth ≤ step
+pub stem_at_depth : (c : List Statement) (depth s step : ℕ) → IsWellFormed c → HasDepth c depth
+    → s < length (names c) → depth ≤ step
     → ((k : ℕ) → HasLevel c s k → step ≤ k) → IsStem c s
 stem_at_depth c depth s step well has within long deep = go (lone_reader c s) refl
   where
@@ -45,35 +51,45 @@ stem_at_depth c depth s step well has within long deep = go (lone_reader c s) re
     go (Some g) is = absurd (omega (arith, long, high, most))
       where
         high : step + 1 ≤ level_at c has.0 g
-        high = deeper c s g step well within is deep (level_at c has.0 g) (has_level c has.0 g has.1 (lone_within c well s g is))
+        high = deeper c s g step well within is deep (level_at c has.0 g)
+            (has_level c has.0 g has.1 (lone_within c well s g is))
 
         most : level_at c has.0 g ≤ depth
         most =
             let n = within_place (names c) g (lone_within c well s g is) in
-            let le = below_greatest (map has.0 (names c)) (has.0 n.0) (among_map has.0 (names c) n.0 (at_place (names c) g n.0 n.1)) in
-            let named : level_at c has.0 g ≡ has.0 n.0 = ap (λ (o : Option Name). option_map_or has.0 o 0) n.1 in
+            let le = below_greatest (map has.0 (names c)) (has.0 n.0)
+                (among_map has.0 (names c) n.0 (at_place (names c) g n.0 n.1)) in
+            let named : level_at c has.0 g ≡ has.0 n.0 =
+                ap (λ (o : Option Name). option_map_or has.0 o 0) n.1 in
             omega (arith, le, named, has.2)
 
 -- ---- a signal that is not live
 module _ (c : List Statement) (well : IsWellFormed c) (t : Test) (s : ℕ) (dead : ¬ IsLive c s) where
   -- turned round it changes no live signal, so no observer sees it
-  module _ (bit : Bool) (v w : Name → Bool) (p : Solves c t None v) (q : Solves c t (Some (flip s bit)) w) where
+  module _ (bit : Bool) (v w : Name
+      → Bool) (p : Solves c t None v) (q : Solves c t (Some (flip s bit)) w) where
     away : (m : Name) → IsLive c (signal c m) → line.Stem s ≢ line.Stem (signal c m)
     away m live e = let same : s ≡ signal c m = cc in dead (subst (IsLive c) (sym same) live)
 
-    kept : (m : Name) → Among m (names c) → IsLive c (signal c m) → (v m ≡ w m) ⊎ (IsFree None (signal c m) × IsFree (Some (flip s bit)) (signal c m)
-        × ((kind : Kind) (args : List Name) → Among (Gate m kind args) c → (a : Name) → Among a args → IsLive c (signal c a)))
+    kept : (m : Name) → Among m (names c) → IsLive c (signal c m)
+        → (v m ≡ w m) ⊎ (IsFree None (signal c m) × IsFree (Some (flip s bit)) (signal c m)
+        × ((kind : Kind) (args : List Name) → Among (Gate m kind args) c → (a : Name) → Among a args
+            → IsLive c (signal c a)))
     kept m a live = inr (
       tt,
       (away m live, λ pin e. cc),
       λ kind args stands x h.
-          through (record { name = m; kind = kind; args = args; read = x; gate = contained c (Gate m kind args) stands; number = refl; reads = contained args x h; of = refl }) live,
+          through (record { name = m; kind = kind; args = args; read = x;
+              gate = contained c (Gate m kind args) stands; number = refl;
+              reads = contained args x h; of = refl }) live,
     )
 
-    unseen : (o : Sink × Name) → Contains (observers c) o → shows None v o ≢ shows (Some (flip s bit)) w o → ⊥
+    unseen : (o : Sink × Name) → Contains (observers c) o
+        → shows None v o ≢ shows (Some (flip s bit)) w o → ⊥
     unseen o there differs =
         let it = observes c o well there in
-        let same = same_where c t None (Some (flip s bit)) v w well p q (λ m. IsLive c (signal c m)) kept o.1 (among (names c) o.1 it.named) (observed (o, there, refl)) in
+        let same = same_where c t None (Some (flip s bit)) v w well p q (λ m. IsLive c (signal c m))
+            kept o.1 (among (names c) o.1 it.named) (observed (o, there, refl)) in
         differs (same ∙ sym (under_other (flip s bit) (branch o.0) (w o.1) (it.no_stem s)))
 
   pub dead_flip : DetectsFlip c t s → ⊥

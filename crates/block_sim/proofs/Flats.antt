@@ -1,8 +1,11 @@
 -- Flat lists that grow by a signal at a time, and what a row of them says.
-use Rattle.std.proofs.Common.{◌≡◌, ◌≢◌, ◌<◌, ◌≤◌, ℕ, ◌+◌, ◌-◌, sym, ◌∙◌, ap, subst, List, [], ◌∷◌, ◌++◌, length, zero, suc, arith, inl, inr, ◌⊎◌, take, drop}
-use Rattle.std.specs.Prelude.{All, Contains, Some, None, map, slice_get, slice_index_or, slice_range}
+use Rattle.std.proofs.Common.{◌≡◌, ◌≢◌, ◌<◌, ◌≤◌, ℕ, ◌+◌, ◌-◌, sym, ◌∙◌, ap, subst, List, [], ◌∷◌}
+use Rattle.std.proofs.Common.{◌++◌, length, zero, suc, arith, inl, inr, ◌⊎◌, take, drop}
+use Rattle.std.specs.Prelude.{All, Contains, Some, None, map, slice_get, slice_index_or}
+use Rattle.std.specs.Prelude.{slice_range}
 use Rattle.std.specs.Option.{option_map}
-use Rattle.std.proofs.lemmas.List.{length-append, map-append, take-append-le, drop-append-le, length-drop}
+use Rattle.std.proofs.lemmas.List.{length-append, map-append, take-append-le, drop-append-le}
+use Rattle.std.proofs.lemmas.List.{length-drop}
 use Rattle.std.proofs.lemmas.List.Elements.{All-push, Contains-append_left, Contains-push}
 use Rattle.bench_net.specs.declared.Sink.{Sink}
 use Rattle.bench_net.specs.declared.Sink.TheVariants as sink
@@ -23,61 +26,85 @@ use Rattle.block_sim.proofs.Rows.{pushed_get}
 use Rattle.block_sim.proofs.Woken.{same_gate, at_end}
 
 -- ---- parts of a list
-range_kept : {X : Type 0} (xs ys : List X) (a b : ℕ) → a ≤ b → b ≤ length xs → slice_range (xs ++ ys) a b ≡ slice_range xs a b
+range_kept : {X : Type 0} (xs ys : List X) (a b : ℕ) → a ≤ b → b ≤ length xs
+    → slice_range (xs ++ ys) a b ≡ slice_range xs a b
 range_kept xs ys a b up within =
     let long : length (drop a xs) ≡ length xs - a = length-drop a xs in
-    ap (take (b - a)) (drop-append-le a xs ys (omega (arith, up, within))) ∙ take-append-le (b - a) (drop a xs) ys (omega (arith, long, within))
+    ap (take (b - a)) (drop-append-le a xs ys (omega (arith, up, within)))
+        ∙ take-append-le (b - a) (drop a xs) ys (omega (arith, long, within))
 
 -- ---- the readers of a signal
 -- the live gates among the first sinks stand in the list, each with its level
-pub record AreGathered (c : List Statement) (s : ℕ) (items : List Sink) (i : ℕ) (readers : List Reader) : Type 0 where
-  pub each : All (λ reader. (Reads c reader.gate s × IsLive c reader.gate) × HasLevel c reader.gate reader.level) readers
-  pub all : (gate pin j : ℕ) → j < i → slice_get items j ≡ Some (sink.Pin gate pin) → IsLive c gate → Contains (map (λ reader. reader.gate) readers) gate
+pub record AreGathered (c : List Statement) (s : ℕ) (items : List Sink) (i : ℕ)
+    (readers : List Reader) : Type 0 where
+  pub each : All (λ reader. (Reads c reader.gate s × IsLive c reader.gate)
+      × HasLevel c reader.gate reader.level) readers
+  pub all : (gate pin j : ℕ) → j < i → slice_get items j ≡ Some (sink.Pin gate pin) → IsLive c gate
+      → Contains (map (λ reader. reader.gate) readers) gate
 
 pub gathered_none : (c : List Statement) (s : ℕ) (items : List Sink) → AreGathered c s items 0 []
-gathered_none c s items = record { each = λ k d lt. absurd (omega (arith, lt)); all = λ gate pin j lt. absurd (omega (arith, lt)) }
+gathered_none c s items = record { each = λ k d lt. absurd (omega (arith, lt));
+    all = λ gate pin j lt. absurd (omega (arith, lt)) }
 
-module _ (c : List Statement) (well : IsWellFormed c) (s : ℕ) (n : Name) (named : name_of c s ≡ Some n) (items : List Sink) (are : items ≡ sinks c n) (i : ℕ) (readers : List Reader)
+module _ (c : List Statement) (well : IsWellFormed c) (s : ℕ) (n : Name)
+    (named : name_of c s ≡ Some n) (items : List Sink) (are : items ≡ sinks c n) (i : ℕ)
+    (readers : List Reader)
     (h : AreGathered c s items i readers) where
   -- a sink that is no gate's
-  pub gathered_passed : (k d : Sink) → i < length items → slice_index_or items i d ≡ k → ((gate pin : ℕ) → k ≢ sink.Pin gate pin) → AreGathered c s items (i + 1) readers
+  pub gathered_passed : (k d : Sink) → i < length items → slice_index_or items i d ≡ k
+      → ((gate pin : ℕ) → k ≢ sink.Pin gate pin) → AreGathered c s items (i + 1) readers
   gathered_passed k d lt e isnt = record {
     each = h.each;
     all = λ g p j below is live. go g p j (at_end i j below) is live;
   }
     where
-      go : (g p j : ℕ) → (j < i) ⊎ (j ≡ i) → slice_get items j ≡ Some (sink.Pin g p) → IsLive c g → Contains (map (λ reader. reader.gate) readers) g
+      go : (g p j : ℕ) → (j < i) ⊎ (j ≡ i) → slice_get items j ≡ Some (sink.Pin g p) → IsLive c g
+          → Contains (map (λ reader. reader.gate) readers) g
       go g p j (inl below) is live = h.all g p j below is live
-      go g p j (inr same) is live = absurd (isnt g p (sym (same_gate c well s n named items are i j g p k d lt e same is)))
+      go g p j (inr same) is live =
+          absurd (isnt g p (sym (same_gate c well s n named items are i j g p k d lt e same is)))
 
   -- a gate that is not live
-  pub gathered_dead : (gate pin : ℕ) (d : Sink) → i < length items → slice_index_or items i d ≡ sink.Pin gate pin → ¬ IsLive c gate → AreGathered c s items (i + 1) readers
+  pub gathered_dead : (gate pin : ℕ) (d : Sink) → i < length items
+      → slice_index_or items i d ≡ sink.Pin gate pin → ¬ IsLive c gate
+      → AreGathered c s items (i + 1) readers
   gathered_dead gate pin d lt e dead = record {
     each = h.each;
     all = λ g p j below is live. go g p j (at_end i j below) is live;
   }
     where
-      go : (g p j : ℕ) → (j < i) ⊎ (j ≡ i) → slice_get items j ≡ Some (sink.Pin g p) → IsLive c g → Contains (map (λ reader. reader.gate) readers) g
+      go : (g p j : ℕ) → (j < i) ⊎ (j ≡ i) → slice_get items j ≡ Some (sink.Pin g p) → IsLive c g
+          → Contains (map (λ reader. reader.gate) readers) g
       go g p j (inl below) is live = h.all g p j below is live
       go g p j (inr same) is live =
-          let one : sink.Pin g p ≡ sink.Pin gate pin = same_gate c well s n named items are i j g p (sink.Pin gate pin) d lt e same is in
+          let one : sink.Pin g p ≡ sink.Pin gate pin = same_gate c well s n named items are i j g p
+              (sink.Pin gate pin) d lt e same is in
           let here : g ≡ gate = cc in
           absurd (dead (subst (IsLive c) here live))
 
   -- one gate more
-  pub gathered_more : (gate pin : ℕ) (d : Sink) (reader : Reader) → i < length items → slice_index_or items i d ≡ sink.Pin gate pin → reader.gate ≡ gate
-      → Reads c reader.gate s → IsLive c reader.gate → HasLevel c reader.gate reader.level → AreGathered c s items (i + 1) (readers ++ reader ∷ [])
+  pub gathered_more : (gate pin : ℕ) (d : Sink) (reader : Reader) → i < length items
+      → slice_index_or items i d ≡ sink.Pin gate pin → reader.gate ≡ gate
+      → Reads c reader.gate s → IsLive c reader.gate → HasLevel c reader.gate reader.level
+          → AreGathered c s items (i + 1) (readers ++ reader ∷ [])
   gathered_more gate pin d reader lt e own reads live level = record {
-    each = All-push (λ r. (Reads c r.gate s × IsLive c r.gate) × HasLevel c r.gate r.level) readers reader h.each ((reads, live), level);
-    all = λ g p j below is alive. subst (λ gates. Contains gates g) (sym (map-append (λ r. r.gate) readers (reader ∷ []))) (go g p j (at_end i j below) is alive);
+    each = All-push (λ r. (Reads c r.gate s × IsLive c r.gate) × HasLevel c r.gate r.level) readers
+        reader h.each ((reads, live), level);
+    all = λ g p j below is alive. subst (λ gates. Contains gates g)
+        (sym (map-append (λ r. r.gate) readers (reader ∷ [])))
+        (go g p j (at_end i j below) is alive);
   }
     where
-      go : (g p j : ℕ) → (j < i) ⊎ (j ≡ i) → slice_get items j ≡ Some (sink.Pin g p) → IsLive c g → Contains (map (λ r. r.gate) readers ++ reader.gate ∷ []) g
-      go g p j (inl below) is alive = Contains-append_left (map (λ r. r.gate) readers) (reader.gate ∷ []) g (h.all g p j below is alive)
+      go : (g p j : ℕ) → (j < i) ⊎ (j ≡ i) → slice_get items j ≡ Some (sink.Pin g p) → IsLive c g
+          → Contains (map (λ r. r.gate) readers ++ reader.gate ∷ []) g
+      go g p j (inl below) is alive = Contains-append_left (map (λ r. r.gate) readers)
+          (reader.gate ∷ []) g (h.all g p j below is alive)
       go g p j (inr same) is alive =
-          let one : sink.Pin g p ≡ sink.Pin gate pin = same_gate c well s n named items are i j g p (sink.Pin gate pin) d lt e same is in
+          let one : sink.Pin g p ≡ sink.Pin gate pin = same_gate c well s n named items are i j g p
+              (sink.Pin gate pin) d lt e same is in
           let here : g ≡ gate = cc in
-          subst (Contains (map (λ r. r.gate) readers ++ reader.gate ∷ [])) (own ∙ sym here) (Contains-push (map (λ r. r.gate) readers) reader.gate)
+          subst (Contains (map (λ r. r.gate) readers ++ reader.gate ∷ [])) (own ∙ sym here)
+              (Contains-push (map (λ r. r.gate) readers) reader.gate)
 
   -- all gates
   pub gathered_all : length items ≤ i → AreReaders c s readers
@@ -91,15 +118,23 @@ module _ (c : List Statement) (well : IsWellFormed c) (s : ℕ) (n : Name) (name
   }
 
 -- ---- rows
-pub row_kept : (c : List Statement) (pins more_pins : List ℕ) (readers more_readers : List Reader) (s : ℕ) (row : Row) → HasMore pins more_pins → HasMore readers more_readers
+pub row_kept : (c : List Statement) (pins more_pins : List ℕ) (readers more_readers : List Reader)
+    (s : ℕ) (row : Row) → HasMore pins more_pins → HasMore readers more_readers
     → IsRow c pins readers s row → IsRow c more_pins more_readers s row
 row_kept c pins more_pins readers more_readers s row pins_more readers_more h =
-    let pins_are : slice_range more_pins row.pins_start row.pins_end ≡ slice_range pins row.pins_start row.pins_end =
-    ap (λ l. slice_range l row.pins_start row.pins_end) pins_more.1 ∙ range_kept pins pins_more.0 row.pins_start row.pins_end h.pins_in.0 h.pins_in.1 in
-    let readers_are : slice_range more_readers row.readers_start row.readers_end ≡ slice_range readers row.readers_start row.readers_end =
-    ap (λ l. slice_range l row.readers_start row.readers_end) readers_more.1 ∙ range_kept readers readers_more.0 row.readers_start row.readers_end h.readers_in.0 h.readers_in.1 in
-    let pins_long : length more_pins ≡ length pins + length pins_more.0 = ap length pins_more.1 ∙ length-append pins pins_more.0 in
-    let readers_long : length more_readers ≡ length readers + length readers_more.0 = ap length readers_more.1 ∙ length-append readers readers_more.0 in
+    let pins_are : slice_range more_pins row.pins_start row.pins_end
+        ≡ slice_range pins row.pins_start row.pins_end =
+    ap (λ l. slice_range l row.pins_start row.pins_end) pins_more.1
+        ∙ range_kept pins pins_more.0 row.pins_start row.pins_end h.pins_in.0 h.pins_in.1 in
+    let readers_are : slice_range more_readers row.readers_start row.readers_end
+        ≡ slice_range readers row.readers_start row.readers_end =
+    ap (λ l. slice_range l row.readers_start row.readers_end) readers_more.1
+        ∙ range_kept readers readers_more.0 row.readers_start row.readers_end h.readers_in.0
+        h.readers_in.1 in
+    let pins_long : length more_pins ≡ length pins + length pins_more.0 = ap length pins_more.1
+        ∙ length-append pins pins_more.0 in
+    let readers_long : length more_readers ≡ length readers + length readers_more.0 =
+        ap length readers_more.1 ∙ length-append readers readers_more.0 in
     record {
       pins_in = (h.pins_in.0, omega (arith, h.pins_in.1, pins_long));
       readers_in = (h.readers_in.0, omega (arith, h.readers_in.1, readers_long));
@@ -109,18 +144,26 @@ row_kept c pins more_pins readers more_readers s row pins_more readers_more h =
       observed = h.observed;
     }
 
-pub rows_none : (c : List Statement) (pins : List ℕ) (readers : List Reader) → AreRows c pins readers []
+pub rows_none : (c : List Statement) (pins : List ℕ) (readers : List Reader)
+    → AreRows c pins readers []
 rows_none c pins readers s row at = let bad : None ≡ Some row = at in cc
 
-pub rows_with : (c : List Statement) (pins more_pins : List ℕ) (readers more_readers : List Reader) (rows : List Row) (s : ℕ) (row : Row) → length rows ≡ s
-    → AreRows c pins readers rows → HasMore pins more_pins → HasMore readers more_readers → IsRow c more_pins more_readers s row → AreRows c more_pins more_readers (rows ++ row ∷ [])
-rows_with c pins more_pins readers more_readers rows s row count before pins_more readers_more new t other at = go (pushed_get rows row other t at)
+pub rows_with : (c : List Statement) (pins more_pins : List ℕ) (readers more_readers : List Reader)
+    (rows : List Row) (s : ℕ) (row : Row) → length rows ≡ s
+    → AreRows c pins readers rows → HasMore pins more_pins → HasMore readers more_readers
+        → IsRow c more_pins more_readers s row → AreRows c more_pins more_readers (rows ++ row ∷ [])
+rows_with c pins more_pins readers more_readers rows s row count before pins_more readers_more new t
+    other at = go (pushed_get rows row other t at)
   where
-    go : (slice_get rows t ≡ Some other) ⊎ ((t ≡ length rows) × (row ≡ other)) → IsRow c more_pins more_readers t other
-    go (inl h) = row_kept c pins more_pins readers more_readers t other pins_more readers_more (before t other h)
-    go (inr h) = subst (λ x. IsRow c more_pins more_readers x other) (sym count ∙ sym h.0) (subst (IsRow c more_pins more_readers s) h.1 new)
+    go : (slice_get rows t ≡ Some other) ⊎ ((t ≡ length rows) × (row ≡ other))
+        → IsRow c more_pins more_readers t other
+    go (inl h) = row_kept c pins more_pins readers more_readers t other pins_more readers_more
+        (before t other h)
+    go (inr h) = subst (λ x. IsRow c more_pins more_readers x other) (sym count ∙ sym h.0)
+        (subst (IsRow c more_pins more_readers s) h.1 new)
 
-got : {X : Type 0} (xs : List X) (i : ℕ) (x : X) → i < length xs → x ≡ slice_index_or xs i x → slice_get xs i ≡ Some x
+got : {X : Type 0} (xs : List X) (i : ℕ) (x : X) → i < length xs → x ≡ slice_index_or xs i x
+    → slice_get xs i ≡ Some x
 got [] i x lt e = absurd (omega (arith, lt))
 got (y ∷ xs) zero x lt e = ap Some (sym e)
 got (y ∷ xs) (suc i) x lt e = got xs i x (omega (arith, lt)) e

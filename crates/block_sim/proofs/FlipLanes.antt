@@ -1,6 +1,7 @@
 -- The lanes in which a signal that is turned round is detected, out of one spread that turns it in
 -- lanes of both bits.
-use Rattle.std.proofs.Common.{◌≡◌, ◌<◌, ◌≤◌, ◌+◌, ℕ, refl, sym, ◌∙◌, ap, subst, Bool, true, false, not, List, [], length, arith}
+use Rattle.std.proofs.Common.{◌≡◌, ◌<◌, ◌≤◌, ◌+◌, ℕ, refl, sym, ◌∙◌, ap, subst, Bool, true, false}
+use Rattle.std.proofs.Common.{not, List, [], length, arith}
 use Rattle.std.specs.Prelude.{◌*◌, Some, None, slice_index_or}
 use Rattle.std.proofs.lemmas.Bool.{false≢true}
 use Rattle.bench_net.specs.Statement.{Name, Statement}
@@ -30,12 +31,14 @@ turned_bit : (a l : Bool) → l ≡ true → unlike a l ≡ not a
 turned_bit true l e = ap not e
 turned_bit false l e = e
 
-module _ (c : List Statement) (well : IsWellFormed c) (tests : List Test) (group : ℕ) (good : List ℕ)
+module _ (c : List Statement) (well : IsWellFormed c) (tests : List Test) (group : ℕ)
+    (good : List ℕ)
     (words : AreWords c tests group None good) (s : ℕ) (low : s < length (names c)) where
   pub flip_first : (delta : List ℕ) (lanes : ℕ) → s < length delta
       → IsFirstChange c tests group (flips good s) good lanes delta s lanes
   flip_first delta lanes within =
-      first_on_stem c tests group (flips good s) good lanes delta s lanes well (λ k. refl) within words
+      first_on_stem c tests group (flips good s) good lanes delta s lanes well
+          (λ k. refl) within words
       (λ k lt e. lane_xor (slice_index_or good s 0) lanes k
       ∙ turned_bit (lane (slice_index_or good s 0) k) (lane lanes k) e)
 
@@ -48,7 +51,8 @@ module _ (c : List Statement) (well : IsWellFormed c) (tests : List Test) (group
   number : signal c name.0 ≡ s
   number = signal-name_of c s name.0 well.once name.1 (contained (names c) name.0 here)
 
-  has_bit : (k : ℕ) → k < 128 → HasBit c (test_of tests group k) (line.Stem s) (lane (slice_index_or good s 0) k)
+  has_bit : (k : ℕ) → k < 128 → HasBit c (test_of tests group k) (line.Stem s)
+      (lane (slice_index_or good s 0) k)
   has_bit k lt = (
     lane_bits c good k,
     name.0,
@@ -58,12 +62,16 @@ module _ (c : List Statement) (well : IsWellFormed c) (tests : List Test) (group
   )
 
   -- what the faults that turn it round stir is what it stirs turned round
-  pub flips_stir : (span : Span) (lanes : ℕ) (gates : List ℕ) → group_of span ≡ group → AreInSpan tests span lanes
-      → HasStirredByFlip c tests span s gates → HasStirredIn c tests group lanes (flips good s) gates
+  pub flips_stir : (span : Span) (lanes : ℕ) (gates : List ℕ) → group_of span ≡ group
+      → AreInSpan tests span lanes
+      → HasStirredByFlip c tests span s gates
+          → HasStirredIn c tests group lanes (flips good s) gates
   flips_stir span lanes gates own within all gate h =
       let is : test_of tests group h.0 ≡ h.1 = index_of tests (128 * group + h.0) h.1 [] h.4 in
       let bit = lane (slice_index_or good s 0) h.0 in
-      all gate (128 * group + h.0, h.1, bit, subst (λ g. IsInSpan (length tests) span (128 * g + h.0)) own (within h.0 h.2 h.3), h.4, subst (λ t. HasBit c t (line.Stem s) bit) is (has_bit h.0 h.2), h.5)
+      all gate (128 * group + h.0, h.1, bit,
+          subst (λ g. IsInSpan (length tests) span (128 * g + h.0)) own (within h.0 h.2 h.3), h.4,
+          subst (λ t. HasBit c t (line.Stem s) bit) is (has_bit h.0 h.2), h.5)
 
   pub flip_told : (lanes seen : ℕ) (settled : ℕ → Type 0)
       → AreShown c tests group (flips good s) good lanes settled seen → (one : Followed)
@@ -82,7 +90,8 @@ module _ (c : List Statement) (well : IsWellFormed c) (tests : List Test) (group
           let t = test_of tests group k in
           let u = has_solutions c well t (Some (flips good s k)) in
           let is : Detects c t (flips good s k) =
-          (detection_is_of_any_solution c well (flips good s k) t (lane_bits c good k) u.0 (words k lt) u.1).1
+          (detection_is_of_any_solution c well (flips good s k) t (lane_bits c good k) u.0
+              (words k lt) u.1).1
           (f.1 u.0 u.1) in (
             lane (slice_index_or good s 0) k,
             has_bit k lt,
@@ -102,5 +111,6 @@ module _ (c : List Statement) (well : IsWellFormed c) (tests : List Test) (group
           (subst (λ x. HasBit c t (line.Stem x) d.0) (sym number) d.1) (words k lt) in
           let same : d.0 ≡ lane (slice_index_or good s 0) k =
           sym first ∙ ap (λ x. lane (slice_index_or good x 0) k) number in
-          v.2 ((detection_is_of_any_solution c well (flips good s k) t (lane_bits c good k) v.0 (words k lt)
+          v.2 ((detection_is_of_any_solution c well (flips good s k) t (lane_bits c good k) v.0
+              (words k lt)
           v.1).0 (subst (λ b. Detects c t (flip s b)) same d.2))

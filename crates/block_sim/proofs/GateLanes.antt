@@ -1,5 +1,8 @@
--- A gate on words: in each lane, the folds over the pins' words are the folds over the bits that the pins see.
-use Rattle.std.proofs.Common.{◌≡◌, ◌<◌, ◌≤◌, ℕ, zero, suc, ◌+◌, ◌-◌, ◌≢◌, refl, sym, ◌∙◌, ap, subst, Bool, true, false, not, ◌&&◌, List, [], ◌∷◌, ◌++◌, length, take, arith, inl, inr, ◌⊎◌}
+-- A gate on words: in each lane, the folds over the pins' words are the folds over the bits that
+-- the pins see.
+use Rattle.std.proofs.Common.{◌≡◌, ◌<◌, ◌≤◌, ℕ, zero, suc, ◌+◌, ◌-◌, ◌≢◌, refl, sym, ◌∙◌, ap, subst}
+use Rattle.std.proofs.Common.{Bool, true, false, not, ◌&&◌, List, [], ◌∷◌, ◌++◌, length, take}
+use Rattle.std.proofs.Common.{arith, inl, inr, ◌⊎◌}
 use Rattle.std.specs.Prelude.{Option, map, slice_index_or, bit_and, bit_xor, nat_lt, if◌then◌else◌}
 use Rattle.std.specs.List.{enumerate_from, list_all}
 use Rattle.std.proofs.lemmas.Bool.{cases_eq, lt-ltb}
@@ -15,25 +18,35 @@ use Rattle.block_sim.specs.Words.{lane, overlaid, pin_bits}
 use Rattle.block_sim.proofs.Lanes.{lane_and, lane_xor, lane_zero, lane_ones, unlike}
 
 -- the bit of one pin, and how many pins there are
-pin_at_from : (f : Option Fault) (gate : ℕ) (pins words delta : List ℕ) (k from i : ℕ) → i < length pins
-    → slice_index_or (map (λ at. under f (line.Pin gate at.0) (lane (overlaid words delta at.1) k)) (enumerate_from from pins)) i false
+pin_at_from : (f : Option Fault) (gate : ℕ) (pins words delta : List ℕ) (k from i : ℕ)
+    → i < length pins
+    → slice_index_or (map (λ at. under f (line.Pin gate at.0) (lane (overlaid words delta at.1) k))
+        (enumerate_from from pins)) i false
     ≡ under f (line.Pin gate (from + i)) (lane (overlaid words delta (slice_index_or pins i 0)) k)
 pin_at_from f gate [] words delta k from i lt = absurd (omega (arith, lt))
-pin_at_from f gate (p ∷ pins) words delta k from zero lt = ap (λ pin. under f (line.Pin gate pin) (lane (overlaid words delta p) k)) (omega arith)
+pin_at_from f gate (p ∷ pins) words delta k from zero lt =
+    ap (λ pin. under f (line.Pin gate pin) (lane (overlaid words delta p) k)) (omega arith)
 pin_at_from f gate (p ∷ pins) words delta k from (suc i) lt =
     pin_at_from f gate pins words delta k (from + 1) i (omega (arith, lt))
-    ∙ ap (λ pin. under f (line.Pin gate pin) (lane (overlaid words delta (slice_index_or pins i 0)) k)) (omega arith)
+    ∙ ap (λ pin. under f (line.Pin gate pin)
+        (lane (overlaid words delta (slice_index_or pins i 0)) k)) (omega arith)
 
 pin_at : (f : Option Fault) (gate : ℕ) (pins words delta : List ℕ) (k i : ℕ) → i < length pins
-    → slice_index_or (pin_bits f gate pins words delta k) i false ≡ under f (line.Pin gate i) (lane (overlaid words delta (slice_index_or pins i 0)) k)
-pin_at f gate pins words delta k i lt = pin_at_from f gate pins words delta k 0 i lt ∙ ap (λ pin. under f (line.Pin gate pin) (lane (overlaid words delta (slice_index_or pins i 0)) k)) (omega arith)
+    → slice_index_or (pin_bits f gate pins words delta k) i false ≡ under f (line.Pin gate i)
+        (lane (overlaid words delta (slice_index_or pins i 0)) k)
+pin_at f gate pins words delta k i lt = pin_at_from f gate pins words delta k 0 i lt
+    ∙ ap (λ pin. under f (line.Pin gate pin)
+    (lane (overlaid words delta (slice_index_or pins i 0)) k)) (omega arith)
 
 pins_counted_from : (f : Option Fault) (gate : ℕ) (pins words delta : List ℕ) (k from : ℕ)
-    → length (map (λ at. under f (line.Pin gate at.0) (lane (overlaid words delta at.1) k)) (enumerate_from from pins)) ≡ length pins
+    → length (map (λ at. under f (line.Pin gate at.0) (lane (overlaid words delta at.1) k))
+        (enumerate_from from pins)) ≡ length pins
 pins_counted_from f gate [] words delta k from = refl
-pins_counted_from f gate (p ∷ pins) words delta k from = ap suc (pins_counted_from f gate pins words delta k (from + 1))
+pins_counted_from f gate (p ∷ pins) words delta k from =
+    ap suc (pins_counted_from f gate pins words delta k (from + 1))
 
-pins_counted : (f : Option Fault) (gate : ℕ) (pins words delta : List ℕ) (k : ℕ) → length (pin_bits f gate pins words delta k) ≡ length pins
+pins_counted : (f : Option Fault) (gate : ℕ) (pins words delta : List ℕ) (k : ℕ)
+    → length (pin_bits f gate pins words delta k) ≡ length pins
 pins_counted f gate pins words delta k = pins_counted_from f gate pins words delta k 0
 
 is_odd_push : (bits : List Bool) (b : Bool) → is_odd (bits ++ b ∷ []) ≡ unlike (is_odd bits) b
@@ -58,65 +71,93 @@ turned_there false true = refl
 turned_there false false = refl
 
 -- where a loop from 1 to the last of n pins ends
-pub at_last : (n i : ℕ) → 0 < i → i ≤ n → n - 1 ≤ i → (1 ≤ n - 1 → i ≤ n - 1) → (i ≡ n - 1) ⊎ ((i ≡ 1) × (n - 1 ≡ 0))
+pub at_last : (n i : ℕ) → 0 < i → i ≤ n → n - 1 ≤ i → (1 ≤ n - 1 → i ≤ n - 1)
+    → (i ≡ n - 1) ⊎ ((i ≡ 1) × (n - 1 ≡ 0))
 at_last n i started within passed at = go (cases_eq (n - 1) 0)
   where
     go : (n - 1 ≡ 0) ⊎ (n - 1 ≢ 0) → (i ≡ n - 1) ⊎ ((i ≡ 1) × (n - 1 ≡ 0))
     go (inl none) = inr (omega (arith, none, started, within), none)
     go (inr some) = let le = at (omega (arith, some)) in inl (omega (arith, le, passed))
 
--- In each lane: whether the bits that the first pins see, turned round or not, are all 1, and an odd number of them 1.
-pub record AreFolds (f : Option Fault) (gate : ℕ) (pins words delta : List ℕ) (turn : Bool) (i all odd : ℕ) : Type 0 where
-  pub all_is : (k : ℕ) → k < 128 → lane all k ≡ list_all (λ b. turned turn b) (take i (pin_bits f gate pins words delta k))
+-- In each lane: whether the bits that the first pins see, turned round or not, are all 1, and an
+-- odd number of them 1.
+pub record AreFolds (f : Option Fault) (gate : ℕ) (pins words delta : List ℕ) (turn : Bool)
+    (i all odd : ℕ) : Type 0 where
+  pub all_is : (k : ℕ) → k < 128
+      → lane all k ≡ list_all (λ b. turned turn b) (take i (pin_bits f gate pins words delta k))
   pub odd_is : (k : ℕ) → k < 128 → lane odd k ≡ is_odd (take i (pin_bits f gate pins words delta k))
 
 module _ (f : Option Fault) (gate : ℕ) (pins words delta : List ℕ) where
-  pub folds_none : (turn : Bool) → AreFolds f gate pins words delta turn 0 340282366920938463463374607431768211455 0
+  pub folds_none : (turn : Bool)
+      → AreFolds f gate pins words delta turn 0 340282366920938463463374607431768211455 0
   folds_none turn = record {
     all_is = λ k lt. lane_ones 128 k lt;
     odd_is = λ k lt. lane_zero k;
   }
 
-  pub folds_more : (turn : Bool) (flips i all odd word : ℕ) → i < length pins → ((k : ℕ) → k < 128 → lane flips k ≡ turn) → AreFolds f gate pins words delta turn i all odd
-      → ((k : ℕ) → k < 128 → lane word k ≡ under f (line.Pin gate i) (lane (overlaid words delta (slice_index_or pins i 0)) k))
-      → AreFolds f gate pins words delta turn (i + 1) (bit_and all (bit_xor word flips)) (bit_xor odd word)
+  pub folds_more : (turn : Bool) (flips i all odd word : ℕ) → i < length pins
+      → ((k : ℕ) → k < 128 → lane flips k ≡ turn) → AreFolds f gate pins words delta turn i all odd
+      → ((k : ℕ) → k < 128 → lane word k ≡ under f (line.Pin gate i)
+          (lane (overlaid words delta (slice_index_or pins i 0)) k))
+      → AreFolds f gate pins words delta turn (i + 1) (bit_and all (bit_xor word flips))
+          (bit_xor odd word)
   folds_more turn flips i all odd word lt flip h is = record {
     all_is = λ k below.
         lane_and all (bit_xor word flips) k
-        ∙ (rw (h.all_is k below, lane_xor word flips k, bit k below, flip k below, turned_there (slice_index_or (pin_bits f gate pins words delta k) i false) turn) refl
-        ∙ sym (list_all_more (λ b. turned turn b) (pin_bits f gate pins words delta k) i false (within k)));
+        ∙ (rw (h.all_is k below, lane_xor word flips k, bit k below, flip k below,
+            turned_there (slice_index_or (pin_bits f gate pins words delta k) i false) turn) refl
+        ∙ sym (list_all_more (λ b. turned turn b) (pin_bits f gate pins words delta k) i false
+            (within k)));
     odd_is = λ k below.
         lane_xor odd word k ∙ (rw (h.odd_is k below, bit k below) refl
-        ∙ sym (ap is_odd (take_more (pin_bits f gate pins words delta k) i false (within k)) ∙ is_odd_push (take i (pin_bits f gate pins words delta k)) (slice_index_or (pin_bits f gate pins words delta k) i false)));
+        ∙ sym (ap is_odd (take_more (pin_bits f gate pins words delta k) i false (within k))
+            ∙ is_odd_push (take i (pin_bits f gate pins words delta k))
+            (slice_index_or (pin_bits f gate pins words delta k) i false)));
   }
     where
       within : (k : ℕ) → i < length (pin_bits f gate pins words delta k)
-      within k = let e : length (pin_bits f gate pins words delta k) ≡ length pins = pins_counted f gate pins words delta k in omega (arith, e, lt)
+      within k = let e : length (pin_bits f gate pins words delta k) ≡ length pins =
+          pins_counted f gate pins words delta k in omega (arith, e, lt)
 
-      bit : (k : ℕ) → k < 128 → lane word k ≡ slice_index_or (pin_bits f gate pins words delta k) i false
+      bit : (k : ℕ) → k < 128 → lane word k ≡ slice_index_or (pin_bits f gate pins words delta k) i
+          false
       bit k below = is k below ∙ sym (pin_at f gate pins words delta k i lt)
 
   -- the first pin
-  pub folds_first : (turn : Bool) (flips word : ℕ) → 0 < length pins → ((k : ℕ) → k < 128 → lane flips k ≡ turn)
-      → ((k : ℕ) → k < 128 → lane word k ≡ under f (line.Pin gate 0) (lane (overlaid words delta (slice_index_or pins 0 0)) k))
+  pub folds_first : (turn : Bool) (flips word : ℕ) → 0 < length pins
+      → ((k : ℕ) → k < 128 → lane flips k ≡ turn)
+      → ((k : ℕ) → k < 128 → lane word k ≡ under f (line.Pin gate 0)
+          (lane (overlaid words delta (slice_index_or pins 0 0)) k))
       → AreFolds f gate pins words delta turn 1 (bit_xor word flips) word
   folds_first turn flips word some flip is =
-      let h = folds_more turn flips 0 340282366920938463463374607431768211455 0 word some flip (folds_none turn) is in
+      let h = folds_more turn flips 0 340282366920938463463374607431768211455 0 word some flip
+          (folds_none turn) is in
       record {
-        all_is = λ k lt. sym (lane_and 340282366920938463463374607431768211455 (bit_xor word flips) k ∙ rw (lane_ones 128 k lt) refl) ∙ h.all_is k lt;
+        all_is = λ k lt. sym (lane_and 340282366920938463463374607431768211455
+            (bit_xor word flips) k ∙ rw (lane_ones 128 k lt) refl) ∙ h.all_is k lt;
         odd_is = λ k lt. sym (lane_xor 0 word k ∙ rw (lane_zero k) refl) ∙ h.odd_is k lt;
       }
 
   -- the last pin, which of one pin is the first again
-  pub folds_last : (turn : Bool) (flips i last all odd word other : ℕ) → length pins ≡ last + 1 → ((i ≡ last) ⊎ ((i ≡ 1) × (last ≡ 0))) → ((k : ℕ) → k < 128 → lane flips k ≡ turn)
-      → ((k : ℕ) → k < 128 → lane other k ≡ nat_lt 0 last) → AreFolds f gate pins words delta turn i all odd
-      → ((k : ℕ) → k < 128 → lane word k ≡ under f (line.Pin gate last) (lane (overlaid words delta (slice_index_or pins last 0)) k))
-      → 0 < i → AreFolds f gate pins words delta turn (length pins) (bit_and all (bit_xor word flips)) (bit_xor odd (bit_and word other))
+  pub folds_last : (turn : Bool) (flips i last all odd word other : ℕ) → length pins ≡ last + 1
+      → ((i ≡ last) ⊎ ((i ≡ 1) × (last ≡ 0))) → ((k : ℕ) → k < 128 → lane flips k ≡ turn)
+      → ((k : ℕ) → k < 128 → lane other k ≡ nat_lt 0 last)
+          → AreFolds f gate pins words delta turn i all odd
+      → ((k : ℕ) → k < 128 → lane word k ≡ under f (line.Pin gate last)
+          (lane (overlaid words delta (slice_index_or pins last 0)) k))
+      → 0 < i → AreFolds f gate pins words delta turn (length pins)
+          (bit_and all (bit_xor word flips)) (bit_xor odd (bit_and word other))
   folds_last turn flips i last all odd word other count (inl e) flip others h is more = record {
-    all_is = λ k lt. whole.all_is k lt ∙ ap (λ n. list_all (λ b. turned turn b) (take n (pin_bits f gate pins words delta k))) long;
+    all_is = λ k lt. whole.all_is k lt
+        ∙ ap (λ n. list_all (λ b. turned turn b) (take n (pin_bits f gate pins words delta k)))
+        long;
     odd_is = λ k lt.
-        lane_xor odd (bit_and word other) k ∙ (ap (unlike (lane odd k)) (lane_and word other k ∙ rw (others k lt, some) (all_true (lane word k)))
-        ∙ (sym (lane_xor odd word k) ∙ (whole.odd_is k lt ∙ ap (λ n. is_odd (take n (pin_bits f gate pins words delta k))) long)));
+        lane_xor odd (bit_and word other) k
+            ∙ (ap (unlike (lane odd k)) (lane_and word other k ∙ rw (others k lt,
+            some) (all_true (lane word k)))
+        ∙ (sym (lane_xor odd word k)
+            ∙ (whole.odd_is k lt ∙ ap (λ n. is_odd (take n (pin_bits f gate pins words delta k)))
+            long)));
   }
     where
       long : i + 1 ≡ length pins
@@ -129,13 +170,23 @@ module _ (f : Option Fault) (gate : ℕ) (pins words delta : List ℕ) where
       all_true true = refl
       all_true false = refl
 
-      whole : AreFolds f gate pins words delta turn (i + 1) (bit_and all (bit_xor word flips)) (bit_xor odd word)
-      whole = folds_more turn flips i all odd word (omega (arith, e, count)) flip h (λ k lt. subst (λ j. lane word k ≡ under f (line.Pin gate j) (lane (overlaid words delta (slice_index_or pins j 0)) k)) (sym e) (is k lt))
-  folds_last turn flips i last all odd word other count (inr (one, none)) flip others h is more = record {
-    all_is = λ k lt. lane_and all (bit_xor word flips) k ∙ (rw (h.all_is k lt, same k lt) (twice _) ∙ ap (λ n. list_all (λ b. turned turn b) (take n (pin_bits f gate pins words delta k))) long);
+      whole : AreFolds f gate pins words delta turn (i + 1) (bit_and all (bit_xor word flips))
+          (bit_xor odd word)
+      whole = folds_more turn flips i all odd word (omega (arith, e, count)) flip h
+          (λ k lt. subst (λ j. lane word k ≡ under f (line.Pin gate j)
+          (lane (overlaid words delta (slice_index_or pins j 0)) k)) (sym e) (is k lt))
+  folds_last turn flips i last all odd word other count (inr (one, none)) flip others h is more =
+      record {
+    all_is = λ k lt. lane_and all (bit_xor word flips) k ∙ (rw (h.all_is k lt, same k lt) (twice _)
+        ∙ ap (λ n. list_all (λ b. turned turn b) (take n (pin_bits f gate pins words delta k)))
+        long);
     odd_is = λ k lt.
-        lane_xor odd (bit_and word other) k ∙ (ap (unlike (lane odd k)) (lane_and word other k ∙ rw (others k lt, none) (none_true (lane word k)))
-        ∙ (unlike_false (lane odd k) ∙ (h.odd_is k lt ∙ ap (λ n. is_odd (take n (pin_bits f gate pins words delta k))) long)));
+        lane_xor odd (bit_and word other) k
+            ∙ (ap (unlike (lane odd k)) (lane_and word other k ∙ rw (others k lt,
+            none) (none_true (lane word k)))
+        ∙ (unlike_false (lane odd k)
+            ∙ (h.odd_is k lt ∙ ap (λ n. is_odd (take n (pin_bits f gate pins words delta k)))
+            long)));
   }
     where
       long : i ≡ length pins
@@ -154,29 +205,44 @@ module _ (f : Option Fault) (gate : ℕ) (pins words delta : List ℕ) where
       twice false = refl
 
       only : AreFolds f gate pins words delta turn 1 (bit_xor word flips) word
-      only = folds_first turn flips word (omega (arith, count)) flip (λ k lt. subst (λ j. lane word k ≡ under f (line.Pin gate j) (lane (overlaid words delta (slice_index_or pins j 0)) k)) none (is k lt))
+      only = folds_first turn flips word (omega (arith, count)) flip
+          (λ k lt. subst (λ j. lane word k ≡ under f (line.Pin gate j)
+          (lane (overlaid words delta (slice_index_or pins j 0)) k)) none (is k lt))
 
-      same : (k : ℕ) → k < 128 → lane (bit_xor word flips) k ≡ list_all (λ b. turned turn b) (take i (pin_bits f gate pins words delta k))
-      same k lt = only.all_is k lt ∙ ap (λ n. list_all (λ b. turned turn b) (take n (pin_bits f gate pins words delta k))) (sym one)
+      same : (k : ℕ) → k < 128 → lane (bit_xor word flips) k ≡ list_all (λ b. turned turn b)
+          (take i (pin_bits f gate pins words delta k))
+      same k lt = only.all_is k lt ∙ ap
+          (λ n. list_all (λ b. turned turn b) (take n (pin_bits f gate pins words delta k)))
+          (sym one)
 
   -- and so of all pins
-  whole : (k : ℕ) → take (length pins) (pin_bits f gate pins words delta k) ≡ pin_bits f gate pins words delta k
-  whole k = let e : length (pin_bits f gate pins words delta k) ≡ length pins = pins_counted f gate pins words delta k in take_all (length pins) (pin_bits f gate pins words delta k) (omega (arith, e))
+  whole : (k : ℕ) → take (length pins) (pin_bits f gate pins words delta k)
+      ≡ pin_bits f gate pins words delta k
+  whole k = let e : length (pin_bits f gate pins words delta k) ≡ length pins =
+      pins_counted f gate pins words delta k in
+      take_all (length pins) (pin_bits f gate pins words delta k) (omega (arith, e))
 
-  module _ (turn : Bool) (all odd : ℕ) (h : AreFolds f gate pins words delta turn (length pins) all odd) where
-    pub folds_all : (k : ℕ) → k < 128 → lane all k ≡ list_all (λ b. turned turn b) (pin_bits f gate pins words delta k)
+  module _ (turn : Bool) (all odd : ℕ) (h : AreFolds f gate pins words delta turn
+      (length pins) all odd) where
+    pub folds_all : (k : ℕ) → k < 128
+        → lane all k ≡ list_all (λ b. turned turn b) (pin_bits f gate pins words delta k)
     folds_all k lt = h.all_is k lt ∙ ap (list_all (λ b. turned turn b)) (whole k)
 
     pub folds_odd : (k : ℕ) → k < 128 → lane odd k ≡ is_odd (pin_bits f gate pins words delta k)
     folds_odd k lt = h.odd_is k lt ∙ ap is_odd (whole k)
 
 -- the word of a form
-pub form_lane : (kind : Kind) (form : Form) (bits : List Bool) (all odd core flips k : ℕ) → IsFormOf kind form → lane flips k ≡ form.turns
-    → lane all k ≡ list_all (λ b. turned form.turns_pins b) bits → lane odd k ≡ is_odd bits → ((form.is_xor ≡ true) × (core ≡ odd)) ⊎ ((form.is_xor ≡ false) × (core ≡ all))
+pub form_lane : (kind : Kind) (form : Form) (bits : List Bool) (all odd core flips k : ℕ)
+    → IsFormOf kind form → lane flips k ≡ form.turns
+    → lane all k ≡ list_all (λ b. turned form.turns_pins b) bits → lane odd k ≡ is_odd bits
+        → ((form.is_xor ≡ true) × (core ≡ odd)) ⊎ ((form.is_xor ≡ false) × (core ≡ all))
     → lane (bit_xor core flips) k ≡ value kind bits
 form_lane kind form bits all odd core flips k formed flip all_is odd_is chosen =
-    lane_xor core flips k ∙ (ap (unlike (lane core k)) flip ∙ (turned_there (lane core k) form.turns ∙ (ap (turned form.turns) (go chosen) ∙ formed bits)))
+    lane_xor core flips k ∙ (ap (unlike (lane core k)) flip ∙ (turned_there (lane core k) form.turns
+        ∙ (ap (turned form.turns) (go chosen) ∙ formed bits)))
   where
-    go : ((form.is_xor ≡ true) × (core ≡ odd)) ⊎ ((form.is_xor ≡ false) × (core ≡ all)) → lane core k ≡ (if form.is_xor then is_odd bits else list_all (λ b. turned form.turns_pins b) bits)
+    go : ((form.is_xor ≡ true) × (core ≡ odd)) ⊎ ((form.is_xor ≡ false) × (core ≡ all))
+        → lane core k ≡ (if form.is_xor then is_odd bits else list_all
+        (λ b. turned form.turns_pins b) bits)
     go (inl (xor, e)) = ap (λ w. lane w k) e ∙ (odd_is ∙ rw xor refl)
     go (inr (and, e)) = ap (λ w. lane w k) e ∙ (all_is ∙ rw and refl)

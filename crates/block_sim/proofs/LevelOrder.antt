@@ -1,5 +1,6 @@
 -- The signals in level order: each once, and the pins of a gate before it.
-use Rattle.std.proofs.Common.{◌≡◌, ◌<◌, ◌≤◌, ℕ, zero, suc, ◌+◌, max, refl, sym, ◌∙◌, ap, subst, List, [], ◌∷◌, ◌++◌, length, arith, inl, inr, ◌⊎◌}
+use Rattle.std.proofs.Common.{◌≡◌, ◌<◌, ◌≤◌, ℕ, zero, suc, ◌+◌, max, refl, sym, ◌∙◌, ap, subst}
+use Rattle.std.proofs.Common.{List, [], ◌∷◌, ◌++◌, length, arith, inl, inr, ◌⊎◌}
 use Rattle.std.specs.Prelude.{Contains, Some, map, fold, slice_index_or}
 use Rattle.std.proofs.lemmas.List.{get_or_default}
 use Rattle.std.proofs.lemmas.List.Elements.{Contains-get_or}
@@ -9,7 +10,8 @@ use Rattle.bench_net.specs.Statement.{Name, Statement, Gate}
 use Rattle.bench_net.specs.Scan.{names, signal, sources, inputs, cells}
 use Rattle.bench_net.specs.Circuit.{IsWellFormed}
 use Rattle.bench_net.specs.Level.{AreLevels, HasLevel, IsLevelOrder, GoesBefore, greatest}
-use Rattle.lists.proofs.Members.{Among, among, contained, among_append, among_left, among_right, among_map}
+use Rattle.lists.proofs.Members.{Among, among, contained, among_append, among_left, among_right}
+use Rattle.lists.proofs.Members.{among_map}
 use Rattle.bench_net.proofs.Public.{name_of-signal, read_named}
 use Rattle.lists.proofs.Places.{place_within}
 use Rattle.fault_model.proofs.Public.{Driven, driven, below_fold, defined_among, signal_apart}
@@ -31,7 +33,8 @@ record Spans (n : ℕ) (xs : List ℕ) : Type 0 where
 
 rest_spans : (n : ℕ) (ys zs : List ℕ) → Spans (suc n) (ys ++ n ∷ zs) → Spans n (ys ++ zs)
 rest_spans n ys zs h = record {
-  count = let e : suc (length (ys ++ zs)) ≡ suc n = sym (length_split ys zs n) ∙ h.count in omega (arith, e);
+  count = let e : suc (length (ys ++ zs)) ≡ suc n = sym (length_split ys zs n) ∙ h.count in
+      omega (arith, e);
   each = λ s lt. go s lt (among_append ys (n ∷ zs) s (h.each s (omega (arith, lt))));
 }
   where
@@ -46,7 +49,8 @@ within_span zero [] h x a = absurd a
 within_span zero (y ∷ xs) h x a = let e : suc (length xs) ≡ 0 = h.count in absurd (omega (arith, e))
 within_span (suc n) xs h x a = go (within_span n) (split_at xs n (h.each n (omega arith)))
   where
-    go : ((rest : List ℕ) → Spans n rest → (y : ℕ) → Among y rest → y < n) → (ys zs : List ℕ) × (xs ≡ ys ++ n ∷ zs) → x < suc n
+    go : ((rest : List ℕ) → Spans n rest → (y : ℕ) → Among y rest → y < n)
+        → (ys zs : List ℕ) × (xs ≡ ys ++ n ∷ zs) → x < suc n
     go ih p = by_place (among_append p.0 (n ∷ p.1) x (subst (Among x) p.2 a))
       where
         later : Among x (p.0 ++ p.1) → x < n
@@ -55,50 +59,69 @@ within_span (suc n) xs h x a = go (within_span n) (split_at xs n (h.each n (omeg
         by_place : Among x p.0 ⊎ Among x (n ∷ p.1) → x < suc n
         by_place (inl b) = let lt : x < n = later (among_left p.0 p.1 x b) in omega (arith, lt)
         by_place (inr (inl e)) = omega (arith, e)
-        by_place (inr (inr b)) = let lt : x < n = later (among_right p.0 p.1 x b) in omega (arith, lt)
+        by_place (inr (inr b)) = let lt : x < n = later (among_right p.0 p.1 x b) in
+            omega (arith, lt)
 
-order_spans : (c : List Statement) (order : List ℕ) → IsLevelOrder c order → Spans (length (names c)) order
+order_spans : (c : List Statement) (order : List ℕ) → IsLevelOrder c order
+    → Spans (length (names c)) order
 order_spans c order h = record { count = h.count; each = λ s lt. among order s (h.all s lt) }
 
-pub order_within : (c : List Statement) (order : List ℕ) (i : ℕ) → IsLevelOrder c order → i < length order → slice_index_or order i 0 < length (names c)
-order_within c order i h lt = within_span (length (names c)) order (order_spans c order h) (slice_index_or order i 0) (among order (slice_index_or order i 0) (Contains-get_or order i 0 lt))
+pub order_within : (c : List Statement) (order : List ℕ) (i : ℕ) → IsLevelOrder c order
+    → i < length order → slice_index_or order i 0 < length (names c)
+order_within c order i h lt = within_span (length (names c)) order (order_spans c order h)
+    (slice_index_or order i 0) (among order (slice_index_or order i 0)
+    (Contains-get_or order i 0 lt))
 
 -- ---- pins before gates
 above_start : (ns : List ℕ) (start : ℕ) → start ≤ fold max start ns
 above_start [] start = omega arith
-above_start (n ∷ ns) start = let h : max start n ≤ fold max (max start n) ns = above_start ns (max start n) in omega (arith, h)
+above_start (n ∷ ns) start = let h : max start n ≤ fold max (max start n) ns =
+    above_start ns (max start n) in omega (arith, h)
 
-maps_agree : (f g : Name → ℕ) (ns : List Name) → ((n : Name) → Among n ns → f n ≡ g n) → map f ns ≡ map g ns
+maps_agree : (f g : Name → ℕ) (ns : List Name) → ((n : Name) → Among n ns → f n ≡ g n)
+    → map f ns ≡ map g ns
 maps_agree f g [] same = refl
-maps_agree f g (n ∷ ns) same = rw (same n (inl refl), maps_agree f g ns (λ m a. same m (inr a))) refl
+maps_agree f g (n ∷ ns) same = rw (same n (inl refl),
+    maps_agree f g ns (λ m a. same m (inr a))) refl
 
 module _ (c : List Statement) (well : IsWellFormed c) where
   -- a signal has one level
-  levels_below : (f g : Name → ℕ) → AreLevels c f → AreLevels c g → (bound : ℕ) (n : Name) → well.acyclic.0 n < bound → Among n (names c) → f n ≡ g n
+  levels_below : (f g : Name → ℕ) → AreLevels c f → AreLevels c g → (bound : ℕ) (n : Name)
+      → well.acyclic.0 n < bound → Among n (names c) → f n ≡ g n
   levels_below f g p q zero n lt a = absurd (omega (arith, lt))
   levels_below f g p q (suc bound) n lt a = go (levels_below f g p q bound) (driven c n a)
     where
-      go : ((m : Name) → well.acyclic.0 m < bound → Among m (names c) → f m ≡ g m) → Driven c n → f n ≡ g n
+      go : ((m : Name) → well.acyclic.0 m < bound → Among m (names c) → f m ≡ g m) → Driven c n
+          → f n ≡ g n
       go ih (inl x) =
-          let at : Contains (sources c) n = contained (sources c) n (among_left (inputs c) (map (λ cell. cell.0) (cells c)) n x) in
+          let at : Contains (sources c) n =
+              contained (sources c) n (among_left (inputs c) (map (λ cell. cell.0) (cells c)) n
+              x) in
           p.source n at ∙ sym (q.source n at)
       go ih (inr (inl x)) =
-          let at : Contains (sources c) n = contained (sources c) n (among_right (inputs c) (map (λ cell. cell.0) (cells c)) n x) in
+          let at : Contains (sources c) n =
+              contained (sources c) n (among_right (inputs c) (map (λ cell. cell.0) (cells c)) n
+              x) in
           p.source n at ∙ sym (q.source n at)
       go ih (inr (inr x)) =
           let at : Contains c (Gate n x.0 x.1) = contained c (Gate n x.0 x.1) x.2 in
-          p.gate n x.0 x.1 at ∙ (ap (λ levels. 1 + greatest levels) (maps_agree f g x.1 same) ∙ sym (q.gate n x.0 x.1 at))
+          p.gate n x.0 x.1 at ∙ (ap (λ levels. 1 + greatest levels) (maps_agree f g x.1 same)
+              ∙ sym (q.gate n x.0 x.1 at))
         where
           same : (m : Name) → Among m x.1 → f m ≡ g m
           same m h =
-              let lower : well.acyclic.0 m < well.acyclic.0 n = well.acyclic.1 n m (x.0, x.1, contained c (Gate n x.0 x.1) x.2, contained x.1 m h) in
-              ih m (omega (arith, lt, lower)) (among (names c) m (read_named c (Gate n x.0 x.1) m well x.2 h))
+              let lower : well.acyclic.0 m < well.acyclic.0 n = well.acyclic.1 n m (x.0, x.1,
+                  contained c (Gate n x.0 x.1) x.2, contained x.1 m h) in
+              ih m (omega (arith, lt, lower))
+                  (among (names c) m (read_named c (Gate n x.0 x.1) m well x.2 h))
 
-  pub one_level : (f g : Name → ℕ) (n : Name) → AreLevels c f → AreLevels c g → Among n (names c) → f n ≡ g n
+  pub one_level : (f g : Name → ℕ) (n : Name) → AreLevels c f → AreLevels c g → Among n (names c)
+      → f n ≡ g n
   one_level f g n p q a = levels_below f g p q (suc (well.acyclic.0 n)) n (omega arith) a
 
   -- a signal goes before a gate that reads it, never behind
-  pub not_before : (n a : Name) (kind : Kind) (args : List Name) → Among (Gate n kind args) c → Among a args → GoesBefore c (signal c n) (signal c a) → ⊥
+  pub not_before : (n a : Name) (kind : Kind) (args : List Name) → Among (Gate n kind args) c
+      → Among a args → GoesBefore c (signal c n) (signal c a) → ⊥
   not_before n a kind args gate reads before = go before.0 before.1 before.2 before.3 before.4
     where
       gate_named : Contains (names c) n
@@ -107,7 +130,8 @@ module _ (c : List Statement) (well : IsWellFormed c) where
       pin_named : Contains (names c) a
       pin_named = read_named c (Gate n kind args) a well gate reads
 
-      go : (j k : ℕ) → HasLevel c (signal c n) j → HasLevel c (signal c a) k → (j < k) ⊎ ((j ≡ k) × (signal c n < signal c a)) → ⊥
+      go : (j k : ℕ) → HasLevel c (signal c n) j → HasLevel c (signal c a) k
+          → (j < k) ⊎ ((j ≡ k) × (signal c n < signal c a)) → ⊥
       go j k high low order = by_order order
         where
           is_n : high.1 ≡ n
@@ -120,7 +144,8 @@ module _ (c : List Statement) (well : IsWellFormed c) where
           level_n = ap high.0 (sym is_n) ∙ high.4
 
           level_a : high.0 a ≡ k
-          level_a = one_level high.0 low.0 a high.2 low.2 (among (names c) a pin_named) ∙ (ap low.0 (sym is_a) ∙ low.4)
+          level_a = one_level high.0 low.0 a high.2 low.2 (among (names c) a pin_named)
+              ∙ (ap low.0 (sym is_a) ∙ low.4)
 
           above : high.0 n ≡ 1 + greatest (map high.0 args)
           above = high.2.gate n kind args (contained c (Gate n kind args) gate)
@@ -130,11 +155,14 @@ module _ (c : List Statement) (well : IsWellFormed c) where
 
           by_order : (j < k) ⊎ ((j ≡ k) × (signal c n < signal c a)) → ⊥
           by_order (inl lt) = omega (arith, lt, level_n, level_a, above, most)
-          by_order (inr e) = let same : j ≡ k = e.0 in omega (arith, same, level_n, level_a, above, most)
+          by_order (inr e) = let same : j ≡ k = e.0 in omega (arith, same, level_n, level_a, above,
+              most)
 
   -- in level order the signals that a gate reads stand before it
-  pub pins_before : (order : List ℕ) (i : ℕ) (n a : Name) (kind : Kind) (args : List Name) → IsLevelOrder c order → i < length order
-      → slice_index_or order i 0 ≡ signal c n → Among (Gate n kind args) c → Among a args → (j : ℕ) × (j < i) × (slice_index_or order j 0 ≡ signal c a)
+  pub pins_before : (order : List ℕ) (i : ℕ) (n a : Name) (kind : Kind) (args : List Name)
+      → IsLevelOrder c order → i < length order
+      → slice_index_or order i 0 ≡ signal c n → Among (Gate n kind args) c → Among a args
+          → (j : ℕ) × (j < i) × (slice_index_or order j 0 ≡ signal c a)
   pins_before order i n a kind args h lt at gate reads = go (cases_order place.0 i)
     where
       named : Contains (names c) a
@@ -146,14 +174,20 @@ module _ (c : List Statement) (well : IsWellFormed c) where
       there : slice_index_or order place.0 0 ≡ signal c a
       there = get_or_default order place.0 0 (signal c a) place.1 ∙ place.2
 
-      go : (place.0 ≡ i) ⊎ ((place.0 < i) ⊎ (i < place.0)) → (j : ℕ) × (j < i) × (slice_index_or order j 0 ≡ signal c a)
+      go : (place.0 ≡ i) ⊎ ((place.0 < i) ⊎ (i < place.0))
+          → (j : ℕ) × (j < i) × (slice_index_or order j 0 ≡ signal c a)
       go (inr (inl before)) = (place.0, before, there)
       go (inl e) =
-          let same : signal c n ≡ signal c a = sym at ∙ (ap (λ j. slice_index_or order j 0) (sym e) ∙ there) in
-          let one : n ≡ a = signal_apart c n a (contained (names c) n (defined_among c (Gate n kind args) n gate refl)) named same in
-          let lower : well.acyclic.0 a < well.acyclic.0 n = well.acyclic.1 n a (kind, args, contained c (Gate n kind args) gate, contained args a reads) in
+          let same : signal c n ≡ signal c a = sym at ∙ (ap (λ j. slice_index_or order j 0) (sym e)
+              ∙ there) in
+          let one : n ≡ a = signal_apart c n a
+              (contained (names c) n (defined_among c (Gate n kind args) n gate refl)) named same in
+          let lower : well.acyclic.0 a < well.acyclic.0 n = well.acyclic.1 n a (kind, args,
+              contained c (Gate n kind args) gate, contained args a reads) in
           let equal : well.acyclic.0 n ≡ well.acyclic.0 a = ap well.acyclic.0 one in
           absurd (omega (arith, lower, equal))
       go (inr (inr after)) =
-          let before : GoesBefore c (slice_index_or order i 0) (slice_index_or order place.0 0) = h.ordered i place.0 0 after place.1 in
-          absurd (not_before n a kind args gate reads (subst (GoesBefore c (signal c n)) there (subst (λ s. GoesBefore c s (slice_index_or order place.0 0)) at before)))
+          let before : GoesBefore c (slice_index_or order i 0) (slice_index_or order place.0 0) =
+              h.ordered i place.0 0 after place.1 in
+          absurd (not_before n a kind args gate reads (subst (GoesBefore c (signal c n)) there
+              (subst (λ s. GoesBefore c s (slice_index_or order place.0 0)) at before)))

@@ -15,17 +15,20 @@ use Rattle.fault_model.proofs.Public.{observes, pin_among, pin_reads, signal_apa
 use Rattle.block_sim.specs.Events.{IsObserved, Reads}
 use Rattle.block_sim.specs.Regions.{IsReadBy, PinLaw}
 
-one_pin : (rs : List Sink) (gate : ℕ) → only_gate rs ≡ Some gate → (pin : ℕ) × (rs ≡ sink.Pin gate pin ∷ [])
+one_pin : (rs : List Sink) (gate : ℕ) → only_gate rs ≡ Some gate
+    → (pin : ℕ) × (rs ≡ sink.Pin gate pin ∷ [])
 one_pin [] gate e = let bad : None ≡ Some gate = e in cc
 one_pin (sink.Data i ∷ rs) gate e = let bad : None ≡ Some gate = e in cc
 one_pin (sink.Out i ∷ rs) gate e = let bad : None ≡ Some gate = e in cc
 one_pin (sink.Pin g pin ∷ r ∷ rs) gate e = let bad : None ≡ Some gate = e in cc
-one_pin (sink.Pin g pin ∷ []) gate e = let it : Some g ≡ Some gate = e in let same : g ≡ gate = cc in (pin, ap (λ x. sink.Pin x pin ∷ []) same)
+one_pin (sink.Pin g pin ∷ []) gate e = let it : Some g ≡ Some gate = e in
+    let same : g ≡ gate = cc in (pin, ap (λ x. sink.Pin x pin ∷ []) same)
 
 pub pin_law : (c : List Statement) → IsWellFormed c → PinLaw c
 pin_law c well s g e = go (name_of c s) refl e
   where
-    go : (o : Option Name) → name_of c s ≡ o → only_gate (option_map_or (sinks c) o []) ≡ Some g → IsReadBy c g s
+    go : (o : Option Name) → name_of c s ≡ o → only_gate (option_map_or (sinks c) o []) ≡ Some g
+        → IsReadBy c g s
     go None at e = let bad : None ≡ Some g = e in cc
     go (Some n) at e = record { reads = reads; alone = alone; unobserved = unobserved }
       where
@@ -40,7 +43,8 @@ pin_law c well s g e = go (name_of c s) refl e
 
         reads : Reads c g s
         reads =
-            let r = pin_reads c n g only.0 (subst (λ rs. Among (sink.Pin g only.0) rs) (sym only.1) (inl refl)) in
+            let r = pin_reads c n g only.0 (subst (λ rs. Among (sink.Pin g only.0) rs) (sym only.1)
+                (inl refl)) in
             record {
               name = r.name;
               kind = r.kind;
@@ -63,9 +67,12 @@ pin_law c well s g e = go (name_of c s) refl e
         alone h r =
             let stands = among c (Gate r.name r.kind r.args) r.gate in
             let arg = among r.args r.read r.reads in
-            let same : r.read ≡ n = signal_apart c r.read n (read_named c (Gate r.name r.kind r.args) r.read well stands arg) here (r.of ∙ sym number) in
+            let same : r.read ≡ n = signal_apart c r.read n
+                (read_named c (Gate r.name r.kind r.args) r.read well stands arg) here (r.of
+                ∙ sym number) in
             let place = placed r.args r.read arg in
-            let is = this (sink.Pin (signal c r.name) place.0) (pin_among c r.name n r.kind r.args place.0 stands (place.1 ∙ ap Some same)) in
+            let is = this (sink.Pin (signal c r.name) place.0)
+                (pin_among c r.name n r.kind r.args place.0 stands (place.1 ∙ ap Some same)) in
             let pins : sink.Pin (signal c r.name) place.0 ≡ sink.Pin g only.0 = is in
             let gates : signal c r.name ≡ g = cc in
             sym r.number ∙ gates
@@ -74,4 +81,5 @@ pin_law c well s g e = go (name_of c s) refl e
         unobserved o =
             let h = observes c o.0 well o.1 in
             let same : o.0.1 ≡ n = signal_apart c o.0.1 n h.named here (o.2 ∙ sym number) in
-            h.no_pin g only.0 (this h.reader (subst (λ m. Among h.reader (sinks c m)) same h.among_sinks))
+            h.no_pin g only.0 (this h.reader
+                (subst (λ m. Among h.reader (sinks c m)) same h.among_sinks))

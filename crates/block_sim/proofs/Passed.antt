@@ -1,5 +1,6 @@
 -- A pass in level order: once a signal is passed its word is right, and stays so.
-use Rattle.std.proofs.Common.{◌≡◌, ◌<◌, ◌≤◌, ℕ, ◌+◌, sym, ◌∙◌, subst, List, length, set, arith, inl, inr, ◌⊎◌}
+use Rattle.std.proofs.Common.{◌≡◌, ◌<◌, ◌≤◌, ℕ, ◌+◌, sym, ◌∙◌, subst, List, length, set, arith, inl}
+use Rattle.std.proofs.Common.{inr, ◌⊎◌}
 use Rattle.std.specs.Prelude.{Option, slice_index_or}
 use Rattle.std.proofs.lemmas.Bool.{cases_lt}
 use Rattle.std.proofs.lemmas.List.{get_or_default, get_or-set_same}
@@ -15,16 +16,22 @@ use Rattle.block_sim.proofs.LevelOrder.{order_within, pins_before}
 
 -- the words of the first signals of the order are right
 abbrev pub ArePassed : List Statement → List Test → ℕ → Option Fault → List ℕ → List ℕ → ℕ → Type 0
-ArePassed c tests group f order words i = (j : ℕ) → j < i → IsRight c tests group f (slice_index_or order j 0) (slice_index_or words (slice_index_or order j 0) 0)
+ArePassed c tests group f order words i = (j : ℕ) → j < i
+    → IsRight c tests group f (slice_index_or order j 0)
+    (slice_index_or words (slice_index_or order j 0) 0)
 
-module _ (c : List Statement) (tests : List Test) (group : ℕ) (f : Option Fault) (order : List ℕ) (well : IsWellFormed c) (ordered : IsLevelOrder c order) where
+module _ (c : List Statement) (tests : List Test) (group : ℕ) (f : Option Fault) (order : List ℕ)
+    (well : IsWellFormed c) (ordered : IsLevelOrder c order) where
   -- one signal more
-  pub passed_more : (words : List ℕ) (i word : ℕ) → length (names c) ≤ length words → i < length order → ArePassed c tests group f order words i
-      → IsSignalWord c tests group f words (slice_index_or order i 0) word → ArePassed c tests group f order (set words (slice_index_or order i 0) word) (i + 1)
+  pub passed_more : (words : List ℕ) (i word : ℕ) → length (names c) ≤ length words
+      → i < length order → ArePassed c tests group f order words i
+      → IsSignalWord c tests group f words (slice_index_or order i 0) word
+          → ArePassed c tests group f order (set words (slice_index_or order i 0) word) (i + 1)
   passed_more words i word room lt passed equation j within = go (cases_lt j i)
     where
       inside : slice_index_or order i 0 < length words
-      inside = let h : slice_index_or order i 0 < length (names c) = order_within c order i ordered lt in omega (arith, h, room)
+      inside = let h : slice_index_or order i 0 < length (names c) =
+          order_within c order i ordered lt in omega (arith, h, room)
 
       right : IsRight c tests group f (slice_index_or order i 0) word
       right = right_by_equation c tests group f words (slice_index_or order i 0) word well equation
@@ -32,18 +39,27 @@ module _ (c : List Statement) (tests : List Test) (group : ℕ) (f : Option Faul
           let p = pins_before c well order i n a kind args ordered lt (sym number) gate reads in
           subst (λ s. IsRight c tests group f s (slice_index_or words s 0)) p.2 (passed p.0 p.1))
 
-      go : (j < i) ⊎ (i ≤ j) → IsRight c tests group f (slice_index_or order j 0) (slice_index_or (set words (slice_index_or order i 0) word) (slice_index_or order j 0) 0)
-      go (inl before) = right_kept c tests group f words (slice_index_or order i 0) (slice_index_or order j 0) word inside right (passed j before)
+      go : (j < i) ⊎ (i ≤ j) → IsRight c tests group f (slice_index_or order j 0)
+          (slice_index_or (set words (slice_index_or order i 0) word) (slice_index_or order j 0) 0)
+      go (inl before) = right_kept c tests group f words (slice_index_or order i 0)
+          (slice_index_or order j 0) word inside right (passed j before)
       go (inr after) =
           let same : i ≡ j = omega (arith, within, after) in
-          let here : IsRight c tests group f (slice_index_or order i 0) (slice_index_or (set words (slice_index_or order i 0) word) (slice_index_or order i 0) 0) =
-          subst (IsRight c tests group f (slice_index_or order i 0)) (sym (get_or-set_same words (slice_index_or order i 0) word 0 inside)) right in
-          subst (λ m. IsRight c tests group f (slice_index_or order m 0) (slice_index_or (set words (slice_index_or order i 0) word) (slice_index_or order m 0) 0)) same here
+          let here : IsRight c tests group f (slice_index_or order i 0)
+              (slice_index_or (set words (slice_index_or order i 0) word) (slice_index_or order i 0)
+              0) =
+          subst (IsRight c tests group f (slice_index_or order i 0))
+              (sym (get_or-set_same words (slice_index_or order i 0) word 0 inside)) right in
+          subst (λ m. IsRight c tests group f (slice_index_or order m 0)
+              (slice_index_or (set words (slice_index_or order i 0) word) (slice_index_or order m 0)
+              0)) same here
 
   -- all signals
-  pub passed_all : (words : List ℕ) (i : ℕ) → length order ≤ i → ArePassed c tests group f order words i → AreWords c tests group f words
+  pub passed_all : (words : List ℕ) (i : ℕ) → length order ≤ i
+      → ArePassed c tests group f order words i → AreWords c tests group f words
   passed_all words i le passed = right_in_lanes c tests group f words well
       (λ s lt.
       let at = ordered.all s lt in
       let there : slice_index_or order at.0 0 ≡ s = get_or_default order at.0 0 s at.1 ∙ at.2 in
-      subst (λ m. IsRight c tests group f m (slice_index_or words m 0)) there (passed at.0 (omega (arith, at.1, le))))
+      subst (λ m. IsRight c tests group f m (slice_index_or words m 0)) there
+          (passed at.0 (omega (arith, at.1, le))))

@@ -2,12 +2,14 @@
 use Rattle.std.proofs.Common.{◌≡◌, ℕ, zero, suc, ap, List, [], ◌∷◌}
 use Rattle.std.specs.Prelude.{Some, None, map, slice_get, slice_index_or, unwrap_or}
 
-pub index_of : {X : Type 0} (xs : List X) (i : ℕ) (x d : X) → slice_get xs i ≡ Some x → slice_index_or xs i d ≡ x
+pub index_of : {X : Type 0} (xs : List X) (i : ℕ) (x d : X) → slice_get xs i ≡ Some x
+    → slice_index_or xs i d ≡ x
 index_of [] i x d e = let bad : None ≡ Some x = e in cc
 index_of (y ∷ xs) zero x d e = ap (λ o. unwrap_or o x) e
 index_of (y ∷ xs) (suc i) x d e = index_of xs i x d e
 
-pub mapped_at : {X : Type 0} (h : X → ℕ) (xs : List X) (i : ℕ) (x : X) → slice_get xs i ≡ Some x → slice_index_or (map h xs) i 0 ≡ h x
+pub mapped_at : {X : Type 0} (h : X → ℕ) (xs : List X) (i : ℕ) (x : X) → slice_get xs i ≡ Some x
+    → slice_index_or (map h xs) i 0 ≡ h x
 mapped_at h [] i x e = let bad : None ≡ Some x = e in cc
 mapped_at h (y ∷ xs) zero x e = ap h (ap (λ o. unwrap_or o x) e)
 mapped_at h (y ∷ xs) (suc i) x e = mapped_at h xs i x e

@@ -1,4 +1,5 @@
--- Lemmas on outcomes, representatives and stems: there is a true table, each outcome is one, each test detects or doesn't, each class has one stem.
+-- Lemmas on outcomes, representatives and stems: there is a true table, each outcome is one, each
+-- test detects or doesn't, each class has one stem.
 -- Proofs of the crates above cite these alone.
 pub use Rattle.block_sim.proofs.LawOfTable.{least_is_first}
 pub use Rattle.block_sim.proofs.TrueTable.{one_outcome, true_table, which_detect}

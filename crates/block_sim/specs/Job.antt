@@ -13,7 +13,8 @@ abbrev pub AreFaultFree : List Statement → List Test → List (List ℕ) → T
 AreFaultFree c tests rows = (group : ℕ) (row : List ℕ) → slice_get rows group ≡ Some row
     → (length row ≡ length (names c)) × AreWords c tests group None row
 
--- The parts belong together, the rows are the fault-free words of all groups, and each class has its
+-- The parts belong together, the rows are the fault-free words of all groups, and each class has
+-- its
 -- stem and a next class.
 pub record IsJob (parts : Parts) (rows : List (List ℕ)) (class_stems next : List ℕ) : Type 0 where
   pub together : BelongTogether parts

@@ -1,5 +1,6 @@
 -- The responses of a circuit to tests.
-use Rattle.std.specs.Prelude.{◌≡◌, ℕ, Bool, List, map, length, Some, None, slice_get, slice_index_or}
+use Rattle.std.specs.Prelude.{◌≡◌, ℕ, Bool, List, map, length, Some, None, slice_get}
+use Rattle.std.specs.Prelude.{slice_index_or}
 use Rattle.bench_net.specs.Statement.{Name, Statement}
 use Rattle.bench_net.specs.Scan.{observers}
 use Rattle.fault_model.specs.Solution.{Test, Solves, shows}

@@ -41,5 +41,6 @@ next_kept slots i before after is same =
     map-set_same (λ one. one.next) slots i after before (same ∙ ap (λ one. one.next) (sym is))
 
 -- slots that are all alike
-pub all_idle : (slots : List Slot) → All (λ slot. slot.at ≡ 0) slots → All (λ at. at ≡ 0) (all_at slots)
+pub all_idle : (slots : List Slot) → All (λ slot. slot.at ≡ 0) slots
+    → All (λ at. at ≡ 0) (all_at slots)
 all_idle slots each = All-map (λ at. at ≡ 0) (λ slot. slot.at) slots each

@@ -1,5 +1,6 @@
 -- The workers of a run, and the handles of their threads.
-use Rattle.std.proofs.Common.{◌≡◌, ◌<◌, ◌⊎◌, inl, inr, ℕ, zero, suc, List, [], ◌∷◌, map, length, get_or, All, refl, sym, ap, ◌∙◌, subst, arith}
+use Rattle.std.proofs.Common.{◌≡◌, ◌<◌, ◌⊎◌, inl, inr, ℕ, zero, suc, List, [], ◌∷◌, map, length}
+use Rattle.std.proofs.Common.{get_or, All, refl, sym, ap, ◌∙◌, subst, arith}
 use Rattle.std.proofs.lemmas.List.{length-map}
 use Rattle.block_sim.specs.Parts.{Parts}
 use Rattle.block_sim.specs.Simulation.{Serves}
@@ -10,24 +11,32 @@ use Rattle.workers.specs.Chosen.{Chosen}
 use Rattle.workers.specs.declared.threads.Worker.{Worker}
 use Rattle.workers.specs.Work.{HasRested, IsStopped, Returns, Stops, stops_over}
 
-get_map : {A B : Type 0} (f : A → B) (xs : List A) (k : ℕ) (d : A) → f (get_or xs k d) ≡ get_or (map f xs) k (f d)
+get_map : {A B : Type 0} (f : A → B) (xs : List A) (k : ℕ) (d : A)
+    → f (get_or xs k d) ≡ get_or (map f xs) k (f d)
 get_map f [] k d = refl
 get_map f (x ∷ xs) zero d = refl
 get_map f (x ∷ xs) (suc k) d = get_map f xs k d
 
 -- how many workers there are
-pub workers_count : (ws : List Worker) (p : Place) → map (λ (w : Worker). w.seat) ws ≡ newcomers p → length ws ≡ p.shape.workers
+pub workers_count : (ws : List Worker) (p : Place) → map (λ (w : Worker). w.seat) ws ≡ newcomers p
+    → length ws ≡ p.shape.workers
 workers_count ws p e =
-    sym (length-map ws (λ (w : Worker). w.seat)) ∙ ap (λ (l : List Sitter). length l) e ∙ length-map-below (newcomer p) p.shape.workers
+    sym (length-map ws (λ (w : Worker). w.seat)) ∙ ap (λ (l : List Sitter). length l) e
+        ∙ length-map-below (newcomer p) p.shape.workers
 
 -- each has its newcomer's seat
-pub seat_at : (ws : List Worker) (p : Place) (k : ℕ) (d : Worker) → map (λ (w : Worker). w.seat) ws ≡ newcomers p → k < length ws → (get_or ws k d).seat ≡ newcomer p k
+pub seat_at : (ws : List Worker) (p : Place) (k : ℕ) (d : Worker)
+    → map (λ (w : Worker). w.seat) ws ≡ newcomers p → k < length ws
+    → (get_or ws k d).seat ≡ newcomer p k
 seat_at ws p k d e lt =
     let n = workers_count ws p e in
-    get_map (λ (w : Worker). w.seat) ws k d ∙ ap (λ (l : List Sitter). get_or l k d.seat) e ∙ get_or-map-below (newcomer p) p.shape.workers k d.seat (omega arith)
+    get_map (λ (w : Worker). w.seat) ws k d ∙ ap (λ (l : List Sitter). get_or l k d.seat) e
+        ∙ get_or-map-below (newcomer p) p.shape.workers k d.seat (omega arith)
 
 -- and its simulation serves the job
-pub serves_at : (ws : List Worker) (job : Parts) (k : ℕ) (d : Worker) → All (λ (w : Worker). Serves w.simulation job) ws → k < length ws → Serves (get_or ws k d).simulation job
+pub serves_at : (ws : List Worker) (job : Parts) (k : ℕ) (d : Worker)
+    → All (λ (w : Worker). Serves w.simulation job) ws → k < length ws
+    → Serves (get_or ws k d).simulation job
 serves_at ws job k d all lt = all k d lt
 
 -- a seat of a newcomer is the newcomer of its own number
@@ -35,16 +44,21 @@ pub own_newcomer : (p : Place) (n : ℕ) (a : Sitter) → a ≡ newcomer p n →
 own_newcomer p n a e = e ∙ ap (newcomer p) (ap (λ (x : Sitter). x.worker) (sym e))
 
 -- what became of a seat, under other names of the same
-pub returns_along : (j j' : Parts) (o o' : Chosen) (p p' : Place) (w w' : ℕ) (P P' : Type 0) (S S' : Stops) (a a' : Sitter) → j ≡ j' → o ≡ o' → p ≡ p' → w ≡ w' → (P' → P)
-    → ((u k b : ℕ) → S u k b → S' u k b) → a ≡ a' → Returns j o p w P S a → Returns j' o' p' w' P' S' a'
+pub returns_along : (j j' : Parts) (o o' : Chosen) (p p' : Place) (w w' : ℕ) (P P' : Type 0)
+    (S S' : Stops) (a a' : Sitter) → j ≡ j' → o ≡ o' → p ≡ p' → w ≡ w' → (P' → P)
+    → ((u k b : ℕ) → S u k b → S' u k b) → a ≡ a' → Returns j o p w P S a
+        → Returns j' o' p' w' P' S' a'
 returns_along j j' o o' p p' w w' P P' S S' a a' e d f h q t s r =
     subst (λ x. Returns x o' p' w' P' S' a') e
     (subst (λ x. Returns j x p' w' P' S' a') d
     (subst (λ x. Returns j o x w' P' S' a') f
     (subst (λ x. Returns j o p x P' S' a') h
     (subst (λ x. Returns j o p w P' S' x) s
-    (record { place_is = r.place_is; worker_is = r.worker_is; legal = r.legal; truly = r.truly; rested = λ x. r.rested (q x); ended = stopped r.ended })))))
+    (record { place_is = r.place_is; worker_is = r.worker_is; legal = r.legal; truly = r.truly;
+        rested = λ x. r.rested (q x); ended = stopped r.ended })))))
   where
-    stopped : HasRested a ⊎ IsStopped p.shape (stops_over o S) w a.seen → HasRested a ⊎ IsStopped p.shape (stops_over o S') w a.seen
+    stopped : HasRested a ⊎ IsStopped p.shape (stops_over o S) w a.seen
+        → HasRested a ⊎ IsStopped p.shape (stops_over o S') w a.seen
     stopped (inl x) = inl x
-    stopped (inr x) = inr (x.0, x.1, t w (o.class_at (class_of p.shape x.0)) (block_of p.shape x.0) x.2)
+    stopped (inr x) = inr (x.0, x.1,
+        t w (o.class_at (class_of p.shape x.0)) (block_of p.shape x.0) x.2)

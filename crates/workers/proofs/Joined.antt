@@ -1,5 +1,7 @@
 -- The runs of parts, one part after another.
-use Rattle.std.proofs.Common.{◌≡◌, ◌<◌, ◌≤◌, ◌+◌, ◌⊎◌, inl, inr, true, false, ℕ, List, [], ◌∷◌, ◌++◌, length, Option, Some, None, refl, sym, ap, ◌∙◌, subst, arith, length-append}
+use Rattle.std.proofs.Common.{◌≡◌, ◌<◌, ◌≤◌, ◌+◌, ◌⊎◌, inl, inr, true, false, ℕ, List, [], ◌∷◌}
+use Rattle.std.proofs.Common.{◌++◌, length, Option, Some, None, refl, sym, ap, ◌∙◌, subst, arith}
+use Rattle.std.proofs.Common.{length-append}
 use Rattle.std.specs.Prelude.{slice_get, slice_range, nat_lt, if◌then◌else◌}
 use Rattle.std.proofs.lemmas.Bool.{cases_lt}
 use Rattle.std.proofs.lemmas.Option.{slice_get_within}
@@ -13,18 +15,21 @@ use Rattle.workers.specs.declared.alone.Stop.{Stop}
 use Rattle.workers.specs.declared.alone.Waiting.{Waiting}
 use Rattle.workers.specs.declared.ranks.Ranked.{Ranked}
 use Rattle.workers.specs.declared.taken.Done.{Done}
-use Rattle.workers.specs.Alone.{AreFoundByPart, AreFoundUpTo, AreRunsOf, HasEnded, IsDone, IsLowest, IsOpenIn, IsStopAt, PartRun, PartsWaitFor, WaitsIn, lower_of}
+use Rattle.workers.specs.Alone.{AreFoundByPart, AreFoundUpTo, AreRunsOf, HasEnded, IsDone, IsLowest}
+use Rattle.workers.specs.Alone.{IsOpenIn, IsStopAt, PartRun, PartsWaitFor, WaitsIn, lower_of}
 use Rattle.workers.specs.Part.{ArePartOf}
 use Rattle.workers.specs.Rank.{IsCutOf, IsStart}
 use Rattle.workers.specs.Verdict.{AreClassFirsts}
 use Rattle.workers.specs.Work.{Stops}
 use Rattle.workers.proofs.Collected.{kept, last_of}
-use Rattle.workers.proofs.Partition.{FirstsUpTo, firsts_all, firsts_more, firsts_none, part_list, start_le, start_none}
+use Rattle.workers.proofs.Partition.{FirstsUpTo, firsts_all, firsts_more, firsts_none, part_list}
+use Rattle.workers.proofs.Partition.{start_le, start_none}
 use Rattle.workers.proofs.Ranking.{pushed}
 use Rattle.workers.proofs.Solo.{done_high, lowest_along, lowest_join}
 
 -- a part has one start
-pub one_start : (ranked : List Ranked) (part a b : ℕ) → IsStart ranked part a → IsStart ranked part b → a ≤ b
+pub one_start : (ranked : List Ranked) (part a b : ℕ) → IsStart ranked part a
+    → IsStart ranked part b → a ≤ b
 one_start ranked part a b from to = go (cases_lt b a)
   where
     go : (b < a) ⊎ (a ≤ b) → a ≤ b
@@ -36,19 +41,25 @@ one_start ranked part a b from to = go (cases_lt b a)
     go (inr x) = x
 
 -- where all blocks are done the first tests are found
-pub firsts_found : (job : Parts) (classes : List ℕ) (firsts : List (Option ℕ)) → BelongTogether job → AreFoundUpTo job classes 0 (blocks (length job.tests.tests)) firsts
+pub firsts_found : (job : Parts) (classes : List ℕ) (firsts : List (Option ℕ)) → BelongTogether job
+    → AreFoundUpTo job classes 0 (blocks (length job.tests.tests)) firsts
     → AreClassFirsts job.list.model job.circuit job.tests.tests classes firsts
 firsts_found job classes firsts b found = record {
   count = found.count;
   first = λ k class f first ec of ef.
       let table = true_table job.list.model job.circuit job.tests.tests b.circuit.well_formed in
-      let least_is = found.each table.0 table.1 k class first ec ef ∙ ap (λ n. least table.0 n class) (done_high 0 (blocks (length job.tests.tests)) k (omega arith)) in
+      let least_is = found.each table.0 table.1 k class first ec ef
+          ∙ ap (λ n. least table.0 n class) (done_high 0 (blocks (length job.tests.tests)) k
+          (omega arith)) in
       subst (IsFirst job.circuit job.tests.tests f) (sym least_is)
-      (least_is_first job.list.model job.circuit job.tests.tests table.0 b.circuit.well_formed b.circuit.arities table.1 f class of);
+      (least_is_first job.list.model job.circuit job.tests.tests table.0 b.circuit.well_formed
+          b.circuit.arities table.1 f class of);
 }
 
 -- a worker that leaves no class open was not stopped
-pub not_stopped : (job : Parts) (classes : List ℕ) (worker : ℕ) (S : Stops) (stop : Option Stop) (firsts : List (Option ℕ)) → HasEnded job classes worker S stop firsts → IsLowest (IsOpenIn job classes stop) None → stop ≡ None
+pub not_stopped : (job : Parts) (classes : List ℕ) (worker : ℕ) (S : Stops) (stop : Option Stop)
+    (firsts : List (Option ℕ)) → HasEnded job classes worker S stop firsts
+    → IsLowest (IsOpenIn job classes stop) None → stop ≡ None
 not_stopped job classes worker S None firsts e none = refl
 not_stopped job classes worker S (Some stop) firsts e none =
     let at = e.0 in
@@ -62,14 +73,16 @@ not_stopped job classes worker S (Some stop) firsts e none =
     }))
 
 -- and one that was not stopped leaves none
-pub none_open : (job : Parts) (classes : List ℕ) (lowest : Option Waiting) → IsLowest (IsOpenIn job classes None) lowest → lowest ≡ None
+pub none_open : (job : Parts) (classes : List ℕ) (lowest : Option Waiting)
+    → IsLowest (IsOpenIn job classes None) lowest → lowest ≡ None
 none_open job classes None is = refl
 none_open job classes (Some w) is = absurd is.0
 
 -- ---- all parts
 
 -- what the first so many parts are together
-pub record IsGathered (job : Parts) (ranked : List Ranked) (classes : List ℕ) (parts workers : ℕ) (passing : Type 0) (stops : Stops) (part : ℕ)
+pub record IsGathered (job : Parts) (ranked : List Ranked) (classes : List ℕ) (parts workers : ℕ)
+    (passing : Type 0) (stops : Stops) (part : ℕ)
     (firsts : List (Option ℕ)) (lowest : Option Waiting) : Type 0 where
   pub start : ℕ
   pub begins : IsStart ranked part start
@@ -80,7 +93,8 @@ pub record IsGathered (job : Parts) (ranked : List Ranked) (classes : List ℕ) 
   pub found : lowest ≡ None → FirstsUpTo job classes start firsts
 
 -- of no part
-pub gathered_none : (job : Parts) (ranked : List Ranked) (classes : List ℕ) (parts workers : ℕ) (P : Type 0) (S : Stops) (firsts : List (Option ℕ)) → firsts ≡ []
+pub gathered_none : (job : Parts) (ranked : List Ranked) (classes : List ℕ) (parts workers : ℕ)
+    (P : Type 0) (S : Stops) (firsts : List (Option ℕ)) → firsts ≡ []
     → IsGathered job ranked classes parts workers P S 0 firsts None
 gathered_none job ranked classes parts workers P S firsts empty = record {
   start = 0;
@@ -103,64 +117,89 @@ lower_none (Some v) (Some w) e = pick (nat_lt w.class v.class) e
     pick false bad = absurd (cc)
 
 -- one run more
-runs_more : (job : Parts) (parts workers part : ℕ) (S : Stops) (runs : List PartRun) (run : PartRun) → AreRunsOf job parts workers S part runs → ArePartOf job parts part run.classes → run.worker < workers
-    → ((stop : Stop) → run.stop ≡ Some stop → IsStopAt job run.classes run.worker S stop) → AreRunsOf job parts workers S (part + 1) (runs ++ run ∷ [])
+runs_more : (job : Parts) (parts workers part : ℕ) (S : Stops) (runs : List PartRun) (run : PartRun)
+    → AreRunsOf job parts workers S part runs → ArePartOf job parts part run.classes
+    → run.worker < workers
+    → ((stop : Stop) → run.stop ≡ Some stop → IsStopAt job run.classes run.worker S stop)
+        → AreRunsOf job parts workers S (part + 1) (runs ++ run ∷ [])
 runs_more job parts workers part S runs run was own low stopped = record {
   count = omega (arith, was.count, length-append runs (run ∷ []));
   each = λ k x at. go k x (pushed runs run x k at);
 }
   where
     go : (k : ℕ) (x : PartRun) → (slice_get runs k ≡ Some x) ⊎ ((k ≡ length runs) × (run ≡ x))
-        → ArePartOf job parts k x.classes × (x.worker < workers) × ((stop : Stop) → x.stop ≡ Some stop → IsStopAt job x.classes x.worker S stop)
+        → ArePartOf job parts k x.classes × (x.worker < workers) × ((stop : Stop)
+            → x.stop ≡ Some stop → IsStopAt job x.classes x.worker S stop)
     go k x (inl h) = was.each k x h
     go k x (inr h) =
-        subst (λ (r : PartRun). ArePartOf job parts k r.classes × (r.worker < workers) × ((stop : Stop) → r.stop ≡ Some stop → IsStopAt job r.classes r.worker S stop)) h.1
+        subst (λ (r : PartRun). ArePartOf job parts k r.classes × (r.worker < workers)
+            × ((stop : Stop) → r.stop ≡ Some stop → IsStopAt job r.classes r.worker S stop)) h.1
         (subst (λ n. ArePartOf job parts n run.classes) (sym (h.0 ∙ was.count)) own, low, stopped)
 
 -- what waits in one run more
-waits_more : (job : Parts) (runs : List PartRun) (run : PartRun) (lowest own : Option Waiting) → IsLowest (WaitsIn job runs) lowest → IsLowest (IsOpenIn job run.classes run.stop) own
+waits_more : (job : Parts) (runs : List PartRun) (run : PartRun) (lowest own : Option Waiting)
+    → IsLowest (WaitsIn job runs) lowest → IsLowest (IsOpenIn job run.classes run.stop) own
     → IsLowest (WaitsIn job (runs ++ run ∷ [])) (lower_of lowest own)
 waits_more job runs run lowest own was is =
-    lowest_along (λ c b. WaitsIn job runs c b ⊎ IsOpenIn job run.classes run.stop c b) (WaitsIn job (runs ++ run ∷ [])) (lower_of lowest own) (λ c b x. to c b x) (λ c b x. from c b x (pushed runs run x.1 x.0 x.2))
+    lowest_along (λ c b. WaitsIn job runs c b ⊎ IsOpenIn job run.classes run.stop c b)
+        (WaitsIn job (runs ++ run ∷ [])) (lower_of lowest own) (λ c b x. to c b x)
+        (λ c b x. from c b x (pushed runs run x.1 x.0 x.2))
     (lowest_join (WaitsIn job runs) (IsOpenIn job run.classes run.stop) lowest own was is)
   where
-    to : (c b : ℕ) → WaitsIn job runs c b ⊎ IsOpenIn job run.classes run.stop c b → WaitsIn job (runs ++ run ∷ []) c b
+    to : (c b : ℕ) → WaitsIn job runs c b ⊎ IsOpenIn job run.classes run.stop c b
+        → WaitsIn job (runs ++ run ∷ []) c b
     to c b (inl x) = (x.0, x.1, kept runs (run ∷ []) x.0 x.1 x.2, x.3)
     to c b (inr x) = (length runs, run, last_of runs run, x)
 
-    from : (c b : ℕ) (x : WaitsIn job (runs ++ run ∷ []) c b) → (slice_get runs x.0 ≡ Some x.1) ⊎ ((x.0 ≡ length runs) × (run ≡ x.1)) → WaitsIn job runs c b ⊎ IsOpenIn job run.classes run.stop c b
+    from : (c b : ℕ) (x : WaitsIn job (runs ++ run ∷ []) c b) → (slice_get runs x.0 ≡ Some x.1)
+        ⊎ ((x.0 ≡ length runs) × (run ≡ x.1))
+        → WaitsIn job runs c b ⊎ IsOpenIn job run.classes run.stop c b
     from c b x (inl h) = inl (x.0, x.1, h, x.3)
-    from c b x (inr h) = inr (subst (λ (r : PartRun). IsOpenIn job r.classes r.stop c b) (sym h.1) x.3)
+    from c b x (inr h) = inr (subst (λ (r : PartRun). IsOpenIn job r.classes r.stop c b)
+        (sym h.1) x.3)
 
 -- a worker that was stopped was so where its gate may
-stopped_there : (job : Parts) (classes : List ℕ) (worker : ℕ) (S : Stops) (stop : Option Stop) (firsts : List (Option ℕ)) → HasEnded job classes worker S stop firsts
+stopped_there : (job : Parts) (classes : List ℕ) (worker : ℕ) (S : Stops) (stop : Option Stop)
+    (firsts : List (Option ℕ)) → HasEnded job classes worker S stop firsts
     → (at : Stop) → stop ≡ Some at → IsStopAt job classes worker S at
 stopped_there job classes worker S None firsts e at is = absurd (cc)
-stopped_there job classes worker S (Some stop) firsts e at is = let same : stop ≡ at = cc in subst (IsStopAt job classes worker S) same e.0
+stopped_there job classes worker S (Some stop) firsts e at is = let same : stop ≡ at = cc in
+    subst (IsStopAt job classes worker S) same e.0
 
 -- one that was not has found the first tests
-not_stopped_found : (job : Parts) (classes : List ℕ) (worker : ℕ) (S : Stops) (stop : Option Stop) (firsts : List (Option ℕ)) → BelongTogether job → HasEnded job classes worker S stop firsts
+not_stopped_found : (job : Parts) (classes : List ℕ) (worker : ℕ) (S : Stops) (stop : Option Stop)
+    (firsts : List (Option ℕ)) → BelongTogether job → HasEnded job classes worker S stop firsts
     → stop ≡ None → AreClassFirsts job.list.model job.circuit job.tests.tests classes firsts
 not_stopped_found job classes worker S None firsts b e is = firsts_found job classes firsts b e
 not_stopped_found job classes worker S (Some stop) firsts b e is = absurd (cc)
 
 -- of one part more
-pub gathered_more : (job : Parts) (ranked : List Ranked) (classes : List ℕ) (parts workers worker : ℕ) (P : Type 0) (S : Stops) (part : ℕ) (firsts : List (Option ℕ)) (lowest : Option Waiting) (done : Done)
-    → BelongTogether job → IsCutOf job parts ranked classes → worker < workers → done.part ≡ part → IsDone job ranked classes worker P S done
-    → IsGathered job ranked classes parts workers P S part firsts lowest → IsGathered job ranked classes parts workers P S (part + 1) (firsts ++ done.firsts.items) (lower_of lowest done.waiting)
-gathered_more job ranked classes parts workers worker P S part firsts lowest done b cut low is d was = record {
+pub gathered_more : (job : Parts) (ranked : List Ranked) (classes : List ℕ)
+    (parts workers worker : ℕ) (P : Type 0) (S : Stops) (part : ℕ) (firsts : List (Option ℕ))
+    (lowest : Option Waiting) (done : Done)
+    → BelongTogether job → IsCutOf job parts ranked classes → worker < workers → done.part ≡ part
+        → IsDone job ranked classes worker P S done
+    → IsGathered job ranked classes parts workers P S part firsts lowest
+        → IsGathered job ranked classes parts workers P S (part + 1) (firsts ++ done.firsts.items)
+        (lower_of lowest done.waiting)
+gathered_more job ranked classes parts workers worker P S part firsts lowest done b cut low is d
+    was = record {
   start = d.end;
   begins = ends;
   runs = was.runs ++ run ∷ [];
-  are = runs_more job parts workers part S was.runs run was.are (part_list job parts part d.start d.end ranked classes cut begins ends) low (stopped_there job own worker S d.stop done.firsts.items d.ended);
+  are = runs_more job parts workers part S was.runs run was.are
+      (part_list job parts part d.start d.end ranked classes cut begins ends) low
+      (stopped_there job own worker S d.stop done.firsts.items d.ended);
   is_lowest = waits_more job was.runs run lowest done.waiting was.is_lowest d.lowest;
   passed = λ p.
       let all = subst (λ s. IsLowest (IsOpenIn job own s) done.waiting) (d.passed p) d.lowest in
       ap (λ l. lower_of l done.waiting) (was.passed p) ∙ none_open job own done.waiting all;
   found = λ e.
       let none = lower_none lowest done.waiting e in
-      let stop = not_stopped job own worker S d.stop done.firsts.items d.ended (subst (IsLowest (IsOpenIn job own d.stop)) none.1 d.lowest) in
-      firsts_more job classes d.start d.end firsts done.firsts.items (start_le ranked part d.start d.end begins ends)
+      let stop = not_stopped job own worker S d.stop done.firsts.items d.ended
+          (subst (IsLowest (IsOpenIn job own d.stop)) none.1 d.lowest) in
+      firsts_more job classes d.start d.end firsts done.firsts.items
+          (start_le ranked part d.start d.end begins ends)
       (subst (λ s. FirstsUpTo job classes s firsts) same (was.found none.0))
       (not_stopped_found job own worker S d.stop done.firsts.items b d.ended stop);
 }
@@ -178,37 +217,59 @@ gathered_more job ranked classes parts workers worker P S part firsts lowest don
     ends = subst (λ n. IsStart ranked (n + 1) d.end) is d.ends
 
     same : was.start ≡ d.start
-    same = let x = one_start ranked part was.start d.start was.begins begins in let y = one_start ranked part d.start was.start begins was.begins in omega (arith, x, y)
+    same = let x = one_start ranked part was.start d.start was.begins begins in
+        let y = one_start ranked part d.start was.start begins was.begins in omega (arith, x, y)
 
 -- what was found in a part, whether it stood in the table or a worker more ran it
-pub found_there : (job : Parts) (ranked : List Ranked) (classes : List ℕ) (workers number : ℕ) (P : Type 0) (S : Stops) (table : List (Option Done)) (part : ℕ) (place : Option Done) (done : Done)
-    → AreFoundByPart job ranked classes workers P S table → slice_get table part ≡ Some place → number < workers
+pub found_there : (job : Parts) (ranked : List Ranked) (classes : List ℕ) (workers number : ℕ)
+    (P : Type 0) (S : Stops) (table : List (Option Done)) (part : ℕ) (place : Option Done)
+    (done : Done)
+    → AreFoundByPart job ranked classes workers P S table → slice_get table part ≡ Some place
+        → number < workers
     → (place ≡ Some done) ⊎ ((done.part ≡ part) × IsDone job ranked classes number P S done)
-    → (done.part ≡ part) × (worker : ℕ) × (worker < workers) × IsDone job ranked classes worker P S done
-found_there job ranked classes workers number P S table part place done found at low (inl e) = found.each part done (at ∙ ap Some e)
-found_there job ranked classes workers number P S table part place done found at low (inr x) = (x.0, number, low, x.1)
+    → (done.part ≡ part) × (worker : ℕ) × (worker < workers)
+        × IsDone job ranked classes worker P S done
+found_there job ranked classes workers number P S table part place done found at low (inl e) =
+    found.each part done (at ∙ ap Some e)
+found_there job ranked classes workers number P S table part place done found at low (inr x) = (x.0,
+    number, low, x.1)
 
 -- of all parts: the first tests of all classes
-pub gathered_all : (job : Parts) (ranked : List Ranked) (classes : List ℕ) (parts workers : ℕ) (P : Type 0) (S : Stops) (part : ℕ) (firsts : List (Option ℕ)) (lowest : Option Waiting) → 0 < parts → IsCutOf job parts ranked classes
-    → part ≡ parts → lowest ≡ None → IsGathered job ranked classes parts workers P S part firsts lowest → AreClassFirsts job.list.model job.circuit job.tests.tests classes firsts
-gathered_all job ranked classes parts workers P S part firsts lowest some cut full none was = firsts_all job parts part was.start ranked classes firsts some cut full was.begins (was.found none)
+pub gathered_all : (job : Parts) (ranked : List Ranked) (classes : List ℕ) (parts workers : ℕ)
+    (P : Type 0) (S : Stops) (part : ℕ) (firsts : List (Option ℕ)) (lowest : Option Waiting)
+    → 0 < parts → IsCutOf job parts ranked classes
+    → part ≡ parts → lowest ≡ None
+        → IsGathered job ranked classes parts workers P S part firsts lowest
+        → AreClassFirsts job.list.model job.circuit job.tests.tests classes firsts
+gathered_all job ranked classes parts workers P S part firsts lowest some cut full none was =
+    firsts_all job parts part was.start ranked classes firsts some cut full was.begins
+    (was.found none)
 
 -- a class that waits in a run is one of the job's, and so is its block
-open_within : (job : Parts) (parts part : ℕ) (classes : List ℕ) (stop : Option Stop) (class block : ℕ) → ArePartOf job parts part classes → IsOpenIn job classes stop class block
+open_within : (job : Parts) (parts part : ℕ) (classes : List ℕ) (stop : Option Stop)
+    (class block : ℕ) → ArePartOf job parts part classes → IsOpenIn job classes stop class block
     → (class < length job.classes.representative) × (block < blocks (length job.tests.tests))
 open_within job parts part classes None class block own x = absurd x
-open_within job parts part classes (Some stop) class block own x = ((own.each x.place class x.at).0, x.within)
+open_within job parts part classes (Some stop) class block own x = ((own.each x.place class x.at).0,
+    x.within)
 
 -- or the lowest class that waits
-pub gathered_waits : (job : Parts) (ranked : List Ranked) (classes : List ℕ) (parts workers : ℕ) (P : Type 0) (S : Stops) (part : ℕ) (firsts : List (Option ℕ)) (lowest : Option Waiting) (class block : ℕ)
-    → part ≡ parts → lowest ≡ Some (record { class = class; block = block }) → IsGathered job ranked classes parts workers P S part firsts lowest
-    → (class < length job.classes.representative) × (block < blocks (length job.tests.tests)) × (P → ⊥) × PartsWaitFor job parts workers S class block
+pub gathered_waits : (job : Parts) (ranked : List Ranked) (classes : List ℕ) (parts workers : ℕ)
+    (P : Type 0) (S : Stops) (part : ℕ) (firsts : List (Option ℕ)) (lowest : Option Waiting)
+    (class block : ℕ)
+    → part ≡ parts → lowest ≡ Some (record { class = class; block = block })
+        → IsGathered job ranked classes parts workers P S part firsts lowest
+    → (class < length job.classes.representative) × (block < blocks (length job.tests.tests))
+        × (P → ⊥) × PartsWaitFor job parts workers S class block
 gathered_waits job ranked classes parts workers P S part firsts lowest class block full is was =
     let low = subst (IsLowest (WaitsIn job was.runs)) is was.is_lowest in
     let x = low.0 in
-    let within = open_within job parts x.0 x.1.classes x.1.stop class block (was.are.each x.0 x.1 x.2).0 x.3 in (
+    let within = open_within job parts x.0 x.1.classes x.1.stop class block
+        (was.are.each x.0 x.1 x.2).0 x.3 in (
       within.0,
       within.1,
-      λ p. let e = was.passed p in let bad : Some (record { class = class; block = block }) ≡ None = sym is ∙ e in absurd (cc),
-      record { runs = was.runs; are = subst (λ n. AreRunsOf job parts workers S n was.runs) full was.are; lowest = low },
+      λ p. let e = was.passed p in let bad : Some (record { class = class; block = block }) ≡ None =
+          sym is ∙ e in absurd (cc),
+      record { runs = was.runs; are = subst (λ n. AreRunsOf job parts workers S n was.runs) full
+          was.are; lowest = low },
     )

@@ -32,7 +32,8 @@ pub record AreRanked (job : Parts) (parts : ℕ) (ranked : List Ranked) : Type 0
       → slice_get ranked k ≡ Some b → RanksBefore a b
 
 -- the same, beside the numbers of the classes in the same order
-pub record IsCutOf (job : Parts) (parts : ℕ) (ranked : List Ranked) (classes : List ℕ) : Type 0 where
+pub record IsCutOf (job : Parts) (parts : ℕ) (ranked : List Ranked) (classes : List ℕ) : Type 0
+    where
   pub ranked_are : AreRanked job parts ranked
   pub classes_are : classes ≡ map (λ at. at.class) ranked
 

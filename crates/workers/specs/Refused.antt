@@ -46,7 +46,8 @@ IsScheduleFault pieces workers moves Memory =
 IsScheduleFault pieces workers moves fault = IsWorkersFault workers fault
 
 -- When a run in threads over chosen classes is refused: for its number of workers, then for their
--- pieces, and then for want of memory or of a thread. One whose gate always lets pass finishes; else the fault names the class
+-- pieces, and then for want of memory or of a thread. One whose gate always lets pass finishes;
+-- else the fault names the class
 -- and the block of the job for which the run waits.
 abbrev pub IsRunFaultOver : Parts → Chosen → ℕ → Type 0 → Stops → RunFault → Type 0
 IsRunFaultOver job chosen workers passing stops TooManyPieces = (0 < workers) × (workers ≤ 64)

@@ -135,7 +135,8 @@ pub record IsOfHistory (job : Parts) (workers : ℕ) (v : VerdictList) : Type 0 
   pub skipped : v.skipped ≡ count_by is_skipped (states_of (shape_for job workers) history)
 
 -- A run over chosen classes that its gate stopped waits for this class and block of the job: so
--- says some legal history of a ledger of these classes, whose reports are true, of pieces that could
+-- says some legal history of a ledger of these classes, whose reports are true, of pieces that
+-- could
 -- not be dropped, and at whose end each worker was stopped, or all pieces are claimed.
 pub record WaitsFor (job : Parts) (chosen : Chosen) (workers : ℕ) (stops : Stops)
     (class block : ℕ) : Type 0 where

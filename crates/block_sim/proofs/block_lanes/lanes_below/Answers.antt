@@ -1,4 +1,5 @@
-use Rattle.std.proofs.Common.{◌≡◌, ◌<◌, ◌≤◌, ◌^◌, ◌*◌, ◌%◌, ◌-◌, ℕ, sym, ◌∙◌, ap, arith, inl, inr, ◌⊎◌}
+use Rattle.std.proofs.Common.{◌≡◌, ◌<◌, ◌≤◌, ◌^◌, ◌*◌, ◌%◌, ◌-◌, ℕ, sym, ◌∙◌, ap, arith, inl, inr}
+use Rattle.std.proofs.Common.{◌⊎◌}
 use Rattle.std.specs.Prelude.{nat_lt, ◌==◌}
 use Rattle.std.proofs.lemmas.Bool.{cases_lt, lt-ltb, le-ltb}
 use Rattle.std.proofs.lemmas.Nat.{pow_below}
@@ -20,5 +21,6 @@ returns-then-size-eq128 c = λ k lt. lane_ones 128 k lt ∙ sym (lt-ltb k c.args
 pub returns-else-size-eq128 : goal.returns-else-size-eq128
 returns-else-size-eq128 c = λ k lt.
     let fits : 2 ^ c.args.size < 2 ^ 128 = pow_below c.args.size 128 (omega arith) in
-    let same : 1 * 2 ^ c.args.size % 340282366920938463463374607431768211456 ≡ 2 ^ c.args.size = omega arith in
+    let same : 1 * 2 ^ c.args.size % 340282366920938463463374607431768211456 ≡ 2 ^ c.args.size =
+        omega arith in
     ap (λ x. lane (x - 1) k) same ∙ masked c.args.size k

@@ -5,11 +5,14 @@ use Rattle.bench_net.specs.declared.Sink.TheVariants as sink
 use Rattle.bench_net.specs.Scan.{names}
 use Rattle.lists.proofs.Places.{within_place}
 use Rattle.block_sim.specs.declared.flat.Reader.{Reader}
-use Rattle.block_sim.proofs.Flats.{gathered_none, gathered_passed, gathered_dead, gathered_more, gathered_all}
+use Rattle.block_sim.proofs.Flats.{gathered_none, gathered_passed, gathered_dead, gathered_more}
+use Rattle.block_sim.proofs.Flats.{gathered_all}
 use Rattle.block_sim.proofs.Readers.{reader_within}
-use Rattle.block_sim.proofs.Woken.{HasObserver, observer_none, sink_gate, observer_passed, observer_found, observer_all}
+use Rattle.block_sim.proofs.Woken.{HasObserver, observer_none, sink_gate, observer_passed}
+use Rattle.block_sim.proofs.Woken.{observer_found, observer_all}
 use Rattle.block_sim.proofs.flat.add_readers.Goals as goal
-use Rattle.block_sim.proofs.flat.add_readers.Goals.{in-Pin+else-not-live-gate+in_ok-push-in-Pin, in-Data, in-Out}
+use Rattle.block_sim.proofs.flat.add_readers.Goals.{in-Pin+else-not-live-gate+in_ok-push-in-Pin}
+use Rattle.block_sim.proofs.flat.add_readers.Goals.{in-Data, in-Out}
 
 pub loop-sink-init : goal.loop-sink-init
 loop-sink-init c = record {
@@ -23,14 +26,20 @@ pub level_of-level-requires : goal.level_of-level-requires
 level_of-level-requires c =
     let circuit = c.args.circuit.now in
     let n = within_place (names circuit) c.args.signal c.requires.signal in
-    let reads = sink_gate circuit c.requires.circuit.well_formed c.args.signal n.0 n.1 c.sinks_of-sink-items.result.now (c.sinks_of-sink-items.ensures n.0 n.1) c.loop-sink.sink-index c.in-Pin.gate c.in-Pin.pin (sink.Pin 0 0) c.loop-sink-test.true c.in-Pin.is in
+    let reads = sink_gate circuit c.requires.circuit.well_formed c.args.signal n.0 n.1
+        c.sinks_of-sink-items.result.now (c.sinks_of-sink-items.ensures n.0 n.1)
+        c.loop-sink.sink-index c.in-Pin.gate c.in-Pin.pin (sink.Pin 0 0) c.loop-sink-test.true
+        c.in-Pin.is in
     reader_within circuit c.in-Pin.gate c.args.signal reads
 
 pub bounds-live-gate : goal.bounds-live-gate
 bounds-live-gate c =
     let circuit = c.args.circuit.now in
     let n = within_place (names circuit) c.args.signal c.requires.signal in
-    let reads = sink_gate circuit c.requires.circuit.well_formed c.args.signal n.0 n.1 c.sinks_of-sink-items.result.now (c.sinks_of-sink-items.ensures n.0 n.1) c.loop-sink.sink-index c.in-Pin.gate c.in-Pin.pin (sink.Pin 0 0) c.loop-sink-test.true c.in-Pin.is in
+    let reads = sink_gate circuit c.requires.circuit.well_formed c.args.signal n.0 n.1
+        c.sinks_of-sink-items.result.now (c.sinks_of-sink-items.ensures n.0 n.1)
+        c.loop-sink.sink-index c.in-Pin.gate c.in-Pin.pin (sink.Pin 0 0) c.loop-sink-test.true
+        c.in-Pin.is in
     let lt = reader_within circuit c.in-Pin.gate c.args.signal reads in
     omega (arith, lt, c.requires.room)
 
@@ -44,13 +53,19 @@ loop-sink-preserved-then-not-live-gate c =
     let are = c.sinks_of-sink-items.ensures n.0 n.1 in
     let i = c.loop-sink.sink-index in
     let gate = c.in-Pin.gate in
-    let reads = sink_gate circuit well s n.0 n.1 items are i gate c.in-Pin.pin (sink.Pin 0 0) c.loop-sink-test.true c.in-Pin.is in
+    let reads = sink_gate circuit well s n.0 n.1 items are i gate c.in-Pin.pin
+        (sink.Pin 0 0) c.loop-sink-test.true c.in-Pin.is in
     record {
       more = c.loop-sink.invariant.more;
       is = c.loop-sink.invariant.is;
-      gathered = gathered_dead circuit well s n.0 n.1 items are i c.loop-sink.invariant.more c.loop-sink.invariant.gathered gate c.in-Pin.pin (sink.Pin 0 0) c.loop-sink-test.true c.in-Pin.is
-          (λ live. false≢true (sym c.if-not-live-gate.true ∙ (c.requires.live gate (reader_within circuit gate s reads)).1 live));
-      observer = observer_passed circuit well s n.0 n.1 items are i gate c.in-Pin.pin (sink.Pin 0 0) c.loop-sink.observed c.loop-sink-test.true c.in-Pin.is c.loop-sink.invariant.observer;
+      gathered = gathered_dead circuit well s n.0 n.1 items are i c.loop-sink.invariant.more
+          c.loop-sink.invariant.gathered gate c.in-Pin.pin (sink.Pin 0 0) c.loop-sink-test.true
+          c.in-Pin.is
+          (λ live. false≢true (sym c.if-not-live-gate.true
+              ∙ (c.requires.live gate (reader_within circuit gate s reads)).1 live));
+      observer = observer_passed circuit well s n.0 n.1 items are i gate c.in-Pin.pin
+          (sink.Pin 0 0) c.loop-sink.observed c.loop-sink-test.true c.in-Pin.is
+          c.loop-sink.invariant.observer;
     }
 
 pub loop-sink-preserved : goal.loop-sink-preserved
@@ -66,31 +81,46 @@ loop-sink-preserved c =
     let before = c.loop-sink.invariant.gathered in
     elim c.match-sink.branch [
       | in-Pin+else-not-live-gate+in_ok-push-in-Pin w ↦
-          let reads = sink_gate circuit well s n.0 n.1 items are i w.in-Pin.gate w.in-Pin.pin (sink.Pin 0 0) c.loop-sink-test.true w.in-Pin.is in
+          let reads = sink_gate circuit well s n.0 n.1 items are i w.in-Pin.gate w.in-Pin.pin
+              (sink.Pin 0 0) c.loop-sink-test.true w.in-Pin.is in
           let reader : Reader = record { gate = w.in-Pin.gate; level = w.level_of-level.result } in
           record {
             more = more ++ reader ∷ [];
-            is = ap (λ r. r.items) w.readers-is ∙ (w.in_ok-push-in-Pin.ensures.items ∙ (ap (λ l. l ++ reader ∷ []) c.loop-sink.invariant.is ∙ append_assoc c.args.readers.now.items more (reader ∷ [])));
-            gathered = gathered_more circuit well s n.0 n.1 items are i more before w.in-Pin.gate w.in-Pin.pin (sink.Pin 0 0) reader c.loop-sink-test.true w.in-Pin.is refl reads
-                ((c.requires.live w.in-Pin.gate (reader_within circuit w.in-Pin.gate s reads)).0 w.if-not-live-gate.false) w.level_of-level.ensures;
+            is = ap (λ r. r.items) w.readers-is ∙ (w.in_ok-push-in-Pin.ensures.items
+                ∙ (ap (λ l. l ++ reader ∷ []) c.loop-sink.invariant.is
+                ∙ append_assoc c.args.readers.now.items more (reader ∷ [])));
+            gathered = gathered_more circuit well s n.0 n.1 items are i more before w.in-Pin.gate
+                w.in-Pin.pin (sink.Pin 0 0) reader c.loop-sink-test.true w.in-Pin.is refl reads
+                ((c.requires.live w.in-Pin.gate (reader_within circuit w.in-Pin.gate s reads)).0
+                    w.if-not-live-gate.false) w.level_of-level.ensures;
             observer = subst (HasObserver circuit s items (i + 1)) (sym w.observed-is)
-                (observer_passed circuit well s n.0 n.1 items are i w.in-Pin.gate w.in-Pin.pin (sink.Pin 0 0) c.loop-sink.observed c.loop-sink-test.true w.in-Pin.is c.loop-sink.invariant.observer);
+                (observer_passed circuit well s n.0 n.1 items are i w.in-Pin.gate w.in-Pin.pin
+                    (sink.Pin 0 0) c.loop-sink.observed c.loop-sink-test.true w.in-Pin.is
+                    c.loop-sink.invariant.observer);
           }
       | in-Data w ↦
-          let isnt : (gate pin : ℕ) → sink.Data w.in-Data.cell ≢ sink.Pin gate pin = λ gate pin e. cc in
+          let isnt : (gate pin : ℕ) → sink.Data w.in-Data.cell ≢ sink.Pin gate pin =
+              λ gate pin e. cc in
           record {
             more = more;
             is = ap (λ r. r.items) w.readers-is ∙ c.loop-sink.invariant.is;
-            gathered = gathered_passed circuit well s n.0 n.1 items are i more before (sink.Data w.in-Data.cell) (sink.Pin 0 0) c.loop-sink-test.true w.in-Data.is isnt;
-            observer = subst (HasObserver circuit s items (i + 1)) (sym w.observed-is) (observer_found circuit well s n.0 n.1 items are i (sink.Data w.in-Data.cell) (sink.Pin 0 0) c.loop-sink-test.true w.in-Data.is isnt);
+            gathered = gathered_passed circuit well s n.0 n.1 items are i more before
+                (sink.Data w.in-Data.cell) (sink.Pin 0 0) c.loop-sink-test.true w.in-Data.is isnt;
+            observer = subst (HasObserver circuit s items (i + 1)) (sym w.observed-is)
+                (observer_found circuit well s n.0 n.1 items are i (sink.Data w.in-Data.cell)
+                (sink.Pin 0 0) c.loop-sink-test.true w.in-Data.is isnt);
           }
       | in-Out w ↦
-          let isnt : (gate pin : ℕ) → sink.Out w.in-Out.output ≢ sink.Pin gate pin = λ gate pin e. cc in
+          let isnt : (gate pin : ℕ) → sink.Out w.in-Out.output ≢ sink.Pin gate pin =
+              λ gate pin e. cc in
           record {
             more = more;
             is = ap (λ r. r.items) w.readers-is ∙ c.loop-sink.invariant.is;
-            gathered = gathered_passed circuit well s n.0 n.1 items are i more before (sink.Out w.in-Out.output) (sink.Pin 0 0) c.loop-sink-test.true w.in-Out.is isnt;
-            observer = subst (HasObserver circuit s items (i + 1)) (sym w.observed-is) (observer_found circuit well s n.0 n.1 items are i (sink.Out w.in-Out.output) (sink.Pin 0 0) c.loop-sink-test.true w.in-Out.is isnt);
+            gathered = gathered_passed circuit well s n.0 n.1 items are i more before
+                (sink.Out w.in-Out.output) (sink.Pin 0 0) c.loop-sink-test.true w.in-Out.is isnt;
+            observer = subst (HasObserver circuit s items (i + 1)) (sym w.observed-is)
+                (observer_found circuit well s n.0 n.1 items are i (sink.Out w.in-Out.output)
+                (sink.Pin 0 0) c.loop-sink-test.true w.in-Out.is isnt);
           }
     ]
 
@@ -100,13 +130,17 @@ returns-clause-readers c =
     let n = within_place (names circuit) c.args.signal c.requires.signal in (
       c.loop-sink.invariant.more,
       c.loop-sink.invariant.is,
-      gathered_all circuit c.requires.circuit.well_formed c.args.signal n.0 n.1 c.sinks_of-sink-items.result.now (c.sinks_of-sink-items.ensures n.0 n.1)
-          c.loop-sink.sink-index c.loop-sink.invariant.more c.loop-sink.invariant.gathered c.loop-sink-test.false,
+      gathered_all circuit c.requires.circuit.well_formed c.args.signal n.0 n.1
+          c.sinks_of-sink-items.result.now (c.sinks_of-sink-items.ensures n.0 n.1)
+          c.loop-sink.sink-index c.loop-sink.invariant.more c.loop-sink.invariant.gathered
+              c.loop-sink-test.false,
     )
 
 pub returns-clause-observed : goal.returns-clause-observed
 returns-clause-observed c =
     let circuit = c.args.circuit.now in
     let n = within_place (names circuit) c.args.signal c.requires.signal in
-    observer_all circuit c.requires.circuit.well_formed c.args.signal n.0 n.1 c.sinks_of-sink-items.result.now (c.sinks_of-sink-items.ensures n.0 n.1) c.loop-sink.sink-index
+    observer_all circuit c.requires.circuit.well_formed c.args.signal n.0 n.1
+        c.sinks_of-sink-items.result.now (c.sinks_of-sink-items.ensures n.0 n.1)
+        c.loop-sink.sink-index
     c.loop-sink.observed c.loop-sink-test.false c.loop-sink.invariant.observer

@@ -3,4 +3,5 @@ use Rattle.block_sim.proofs.Carried.{is_gate_there}
 use Rattle.block_sim.proofs.look_back.pin_signal.Goals as goal
 
 pub unreachable-requires : goal.unreachable-requires
-unreachable-requires c = is_gate_there c.args.circuit.now c.args.gate c.args.pin c.requires.named.0 c.requires.named.1 (sym c.in-None.ensures.gate)
+unreachable-requires c = is_gate_there c.args.circuit.now c.args.gate c.args.pin c.requires.named.0
+    c.requires.named.1 (sym c.in-None.ensures.gate)

@@ -1,4 +1,5 @@
-use Rattle.std.proofs.Common.{◌≡◌, ◌<◌, ℕ, refl, sym, ◌∙◌, ap, Bool, true, false, ◌||◌, inl, inr, ◌⊎◌, arith}
+use Rattle.std.proofs.Common.{◌≡◌, ◌<◌, ℕ, refl, sym, ◌∙◌, ap, Bool, true, false, ◌||◌, inl, inr}
+use Rattle.std.proofs.Common.{◌⊎◌, arith}
 use Rattle.std.specs.Prelude.{Contains, Some, bit_or, slice_get, slice_index_or}
 use Rattle.std.proofs.lemmas.Bool.{false≢true, or_left, or_right}
 use Rattle.std.proofs.lemmas.List.{get_or_default}
@@ -29,22 +30,29 @@ loop-one-preserved c = record {
     here : Followed
     here = slice_index_or c.args.followed.now c.loop-one.one-index none
 
-    go : (i : ℕ) (one : Followed) (k : ℕ) → slice_get c.args.followed.now i ≡ Some one → lane one.lanes k ≡ true
-        → (i < c.loop-one.one-index) ⊎ (i ≡ c.loop-one.one-index) → lane (bit_or c.loop-one.lanes here.lanes) k ≡ true
+    go : (i : ℕ) (one : Followed) (k : ℕ) → slice_get c.args.followed.now i ≡ Some one
+        → lane one.lanes k ≡ true
+        → (i < c.loop-one.one-index) ⊎ (i ≡ c.loop-one.one-index)
+            → lane (bit_or c.loop-one.lanes here.lanes) k ≡ true
     go i one k at own (inl less) = lane_or c.loop-one.lanes here.lanes k
-        ∙ or_left (lane c.loop-one.lanes k) (lane here.lanes k) (c.loop-one.invariant.all i one k less at own)
+        ∙ or_left (lane c.loop-one.lanes k) (lane here.lanes k)
+            (c.loop-one.invariant.all i one k less at own)
     go i one k at own (inr same) =
-        let is : here ≡ one = ap (λ x. slice_index_or c.args.followed.now x none) (sym same) ∙ index_of c.args.followed.now i one none at in
+        let is : here ≡ one = ap (λ x. slice_index_or c.args.followed.now x none) (sym same)
+            ∙ index_of c.args.followed.now i one none at in
         lane_or c.loop-one.lanes here.lanes k
         ∙ or_right (lane c.loop-one.lanes k) (lane here.lanes k) (ap (λ x. lane x.lanes k) is ∙ own)
 
-    which : (k : ℕ) (b : Bool) → lane c.loop-one.lanes k ≡ b → lane (bit_or c.loop-one.lanes here.lanes) k ≡ true
+    which : (k : ℕ) (b : Bool) → lane c.loop-one.lanes k ≡ b
+        → lane (bit_or c.loop-one.lanes here.lanes) k ≡ true
         → (one : Followed) × Contains c.args.followed.now one × (lane one.lanes k ≡ true)
     which k true e wanted = c.loop-one.invariant.only k e
     which k false e wanted = (
       here,
-      (c.loop-one.one-index, c.loop-one-test.true, get_or_default c.args.followed.now c.loop-one.one-index here none c.loop-one-test.true),
-      ap (λ b. b || lane here.lanes k) (sym e) ∙ (sym (lane_or c.loop-one.lanes here.lanes k) ∙ wanted),
+      (c.loop-one.one-index, c.loop-one-test.true,
+          get_or_default c.args.followed.now c.loop-one.one-index here none c.loop-one-test.true),
+      ap (λ b. b || lane here.lanes k) (sym e) ∙ (sym (lane_or c.loop-one.lanes here.lanes k)
+          ∙ wanted),
     )
 
 pub returns-clause-all : goal.returns-clause-all

@@ -14,8 +14,10 @@ use Rattle.block_sim.proofs.region.arrive.Goals as goal
 pub returns-then-not-is_live-clause-come : goal.returns-then-not-is_live-clause-come
 returns-then-not-is_live-clause-come c = λ tests group f words come k lt asked.
     let circuit = c.args.view.circuit.now in (
-      λ d. absurd (dead_flip circuit c.requires.view.circuit.well_formed (test_of tests group k) c.args.from.signal
-          (λ live. false≢true (sym c.if-not-is_live.true ∙ c.is_live.ensures.1 live)) ((come k lt asked).0 d).1),
+      λ d. absurd (dead_flip circuit c.requires.view.circuit.well_formed (test_of tests group k)
+          c.args.from.signal
+          (λ live. false≢true (sym c.if-not-is_live.true ∙ c.is_live.ensures.1 live))
+              ((come k lt asked).0 d).1),
       λ b. absurd (false≢true (sym (lane_zero k) ∙ b.0)),
     )
 
@@ -32,10 +34,14 @@ loop-step-init c = record {
 }
 
 pub cross-lanes-requires-clause-room : goal.cross-lanes-requires-clause-room
-cross-lanes-requires-clause-room c = large_enough c.args.view.circuit.now c.args.changes.now c.loop-step.changes c.requires.room c.loop-step.invariant.room
+cross-lanes-requires-clause-room c =
+    large_enough c.args.view.circuit.now c.args.changes.now c.loop-step.changes c.requires.room
+    c.loop-step.invariant.room
 
 pub cross-lanes-requires-clause-read : goal.cross-lanes-requires-clause-read
-cross-lanes-requires-clause-read c = pin_law c.args.view.circuit.now c.requires.view.circuit.well_formed c.loop-step.at.signal c.in-Some.gate (sym c.in-Some.ensures)
+cross-lanes-requires-clause-read c =
+    pin_law c.args.view.circuit.now c.requires.view.circuit.well_formed c.loop-step.at.signal
+    c.in-Some.gate (sym c.in-Some.ensures)
 
 pub loop-step-preserved : goal.loop-step-preserved
 loop-step-preserved c =
@@ -45,18 +51,21 @@ loop-step-preserved c =
     let next = c.cross-lanes.ensures in
     let alone = sym c.in-Some.ensures in
     record {
-      room = large_on c.args.changes.now c.loop-step.changes c.cross-lanes.new.changes last.room next.room;
+      room = large_on c.args.changes.now c.loop-step.changes c.cross-lanes.new.changes last.room
+          next.room;
       clear = next.clear;
       grown = omega (arith, last.grown, next.grown);
       within = lone_within circuit well c.loop-step.at.signal c.in-Some.gate alone;
       leads = leads_further circuit c.in-Some.gate last.leads alone;
-      deep = deeper circuit c.loop-step.at.signal c.in-Some.gate c.loop-step._step well last.within alone last.deep;
+      deep = deeper circuit c.loop-step.at.signal c.in-Some.gate c.loop-step._step well last.within
+          alone last.deep;
       left = λ r chain.
           let before = last.left r chain in
           let now = one_less circuit c.in-Some.gate chain.1 alone before.0 in
           let one = next.counted in
           (now.0, omega (arith, before.1, now.1, one));
-      come = λ tests group f words come. next.come tests group f words (last.come tests group f words come);
+      come = λ tests group f words come. next.come tests group f words
+          (last.come tests group f words come);
     }
 
 pub returns-in-None-clause-stem : goal.returns-in-None-clause-stem
@@ -68,15 +77,20 @@ returns-after-loop-step-clause-stem c = λ some.
     let circuit = c.args.view.circuit.now in
     let last = c.loop-step.invariant in (
       last.leads,
-      stem_at_depth circuit c.depth-step-end.result c.loop-step.at.signal c.loop-step._step c.requires.view.circuit.well_formed
-          (subst (λ x. HasDepth x c.depth-step-end.result) c.circuit.ensures c.depth-step-end.ensures) last.within c.loop-step-test.false last.deep,
+      stem_at_depth circuit c.depth-step-end.result c.loop-step.at.signal c.loop-step._step
+          c.requires.view.circuit.well_formed
+          (subst (λ x. HasDepth x c.depth-step-end.result) c.circuit.ensures
+              c.depth-step-end.ensures) last.within c.loop-step-test.false last.deep,
     )
 
 pub returns-after-loop-step-clause-counted : goal.returns-after-loop-step-clause-counted
-returns-after-loop-step-clause-counted c = λ way w. let left = c.loop-step.invariant.left w.0 w.1 in omega (arith, left.1, w.2)
+returns-after-loop-step-clause-counted c = λ way w. let left = c.loop-step.invariant.left w.0 w.1 in
+    omega (arith, left.1, w.2)
 
 pub returns-then-at-eq0-clause-counted : goal.returns-then-at-eq0-clause-counted
-returns-then-at-eq0-clause-counted c = λ way w. let left = c.loop-step.invariant.left w.0 w.1 in omega (arith, left.1, w.2)
+returns-then-at-eq0-clause-counted c = λ way w. let left = c.loop-step.invariant.left w.0 w.1 in
+    omega (arith, left.1, w.2)
 
 pub returns-in-None-clause-counted : goal.returns-in-None-clause-counted
-returns-in-None-clause-counted c = λ way w. let left = c.loop-step.invariant.left w.0 w.1 in omega (arith, left.1, w.2)
+returns-in-None-clause-counted c = λ way w. let left = c.loop-step.invariant.left w.0 w.1 in
+    omega (arith, left.1, w.2)

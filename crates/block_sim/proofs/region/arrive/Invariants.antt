@@ -18,8 +18,11 @@ invariant-loop-step l = record {
   within : l.at.signal < length (names l.view.circuit.now);
   leads : LeadsTo l.view.circuit.now l.fn.from.signal l.at.signal;
   deep : (k : ℕ) → HasLevel l.view.circuit.now l.at.signal k → l._step ≤ k;
-  left : (r : ℕ) (chain : IsStemOf l.view.circuit.now r l.fn.from.signal) → (more : LeadsTo l.view.circuit.now l.at.signal r)
+  left : (r : ℕ) (chain : IsStemOf l.view.circuit.now r l.fn.from.signal)
+      → (more : LeadsTo l.view.circuit.now l.at.signal r)
       × (l.changes.evaluations + steps more ≤ l.fn.changes.evaluations + steps chain.0);
-  come : (tests : List Test) (group : ℕ) (f : Fault) → AreWords l.view.circuit.now tests group None l.view.good.now
-      → HasCome l.view.circuit.now tests group f l.view.lanes l.fn.from.signal l.fn.from.lanes → HasCome l.view.circuit.now tests group f l.view.lanes l.at.signal l.at.lanes;
+  come : (tests : List Test) (group : ℕ) (f : Fault)
+      → AreWords l.view.circuit.now tests group None l.view.good.now
+      → HasCome l.view.circuit.now tests group f l.view.lanes l.fn.from.signal l.fn.from.lanes
+          → HasCome l.view.circuit.now tests group f l.view.lanes l.at.signal l.at.lanes;
 }

@@ -30,9 +30,12 @@ returns-clause-told c = λ tests group words one there.
     let lanes = c.all_lanes-lanes.result in
     let seen = c.spread.result in
     let within : s < length delta = omega (arith, c.requires.signal, c.requires.room.overlay) in
-    let first = flip_first circuit well tests group good words s c.requires.signal delta lanes within in
-    flip_told circuit well tests group good words s c.requires.signal lanes seen (HaveHits followed seen)
-    (c.spread.ensures.shown tests group (flips good s) first) one (λ k own. c.all_lanes-lanes.ensures.all one k there own)
+    let first = flip_first circuit well tests group good words s c.requires.signal delta lanes
+        within in
+    flip_told circuit well tests group good words s c.requires.signal lanes seen
+        (HaveHits followed seen)
+    (c.spread.ensures.shown tests group (flips good s) first) one
+        (λ k own. c.all_lanes-lanes.ensures.all one k there own)
     (λ k settled own. settled one there own)
 
 pub returns-clause-counted : goal.returns-clause-counted
@@ -45,8 +48,13 @@ returns-clause-counted c = λ tests span gates words inside stirred.
     let delta = c.args.changes.now.overlay in
     let lanes = c.all_lanes-lanes.result in
     let within : s < length delta = omega (arith, c.requires.signal, c.requires.room.overlay) in
-    let first = flip_first circuit well tests group good words s c.requires.signal delta lanes within in
-    let within : AreInSpan tests span lanes = λ k lt own. (let one = c.all_lanes-lanes.ensures.only k own in inside one.0 one.1 k lt one.2) in
-    let le = c.spread.ensures.counted tests group (flips good s) gates first (λ k lt own. (within k lt own).listed)
-    (flips_stir circuit well tests group good words s c.requires.signal span lanes gates refl within stirred) in
+    let first = flip_first circuit well tests group good words s c.requires.signal delta lanes
+        within in
+    let within : AreInSpan tests span lanes =
+        λ k lt own. (let one = c.all_lanes-lanes.ensures.only k own in
+        inside one.0 one.1 k lt one.2) in
+    let le = c.spread.ensures.counted tests group (flips good s) gates first
+        (λ k lt own. (within k lt own).listed)
+    (flips_stir circuit well tests group good words s c.requires.signal span lanes gates refl within
+        stirred) in
     omega (arith, le)

@@ -16,7 +16,9 @@ add_row-requires-clause-room c =
 
 pub loop-lane-preserved : goal.loop-lane-preserved
 loop-lane-preserved c = record {
-  rows = lane_more c.args.rows.now.tests c.loop-lane.rows.tests c.add_row.new.rows.tests c.args.observed.now c.args.words.now c.read_lane.new.row c.loop-lane.lane
-      c.loop-lane.invariant.rows (ap (λ t. t.tests) c.in_ok-add_row.ensures.added) c.read_lane.ensures;
+  rows = lane_more c.args.rows.now.tests c.loop-lane.rows.tests c.add_row.new.rows.tests
+      c.args.observed.now c.args.words.now c.read_lane.new.row c.loop-lane.lane
+      c.loop-lane.invariant.rows (ap (λ t. t.tests) c.in_ok-add_row.ensures.added)
+          c.read_lane.ensures;
   width = c.in_ok-add_row.ensures.width ∙ c.loop-lane.invariant.width;
 }

@@ -11,7 +11,8 @@ invariant-loop-step l = record {
   within : l.class < length l.job.classes.representative;
   memos : AreTrueBut l.job l.followed.items l.memos;
   counted : (way : ℕ → ℕ) → AreWays l.job way
-      → l.changes.evaluations + known_ways way l.span.first l.fn.memos ≤ l.fn.changes.evaluations + known_ways way l.span.first l.memos;
+      → l.changes.evaluations + known_ways way l.span.first l.fn.memos ≤ l.fn.changes.evaluations
+          + known_ways way l.span.first l.memos;
   followed : AreFollowed l.job l.span l.stem l.followed.items;
   kept : (one : Followed) → Contains l.fn.followed.items one → Contains l.followed.items one;
   capacity : vec_capacity l.followed ≡ vec_capacity l.fn.followed;

@@ -7,7 +7,8 @@ use Rattle.block_sim.proofs.spread.below_hits.Given as goal
 
 abbrev pub invariant-loop-one : goal.invariant-loop-one
 invariant-loop-one l = record {
-  below : (k : ℕ) → k < 128 → lane l.below k ≡ true → (one : Followed) × Contains l.followed one × IsOpen one l.seen k;
+  below : (k : ℕ) → k < 128 → lane l.below k ≡ true → (one : Followed) × Contains l.followed one
+      × IsOpen one l.seen k;
   rest : (k : ℕ) → k < 128 → lane l.below k ≡ false → (i : ℕ) (one : Followed) → i < l.one-index
       → slice_get l.followed i ≡ Some one → HasHit one l.seen k;
 }

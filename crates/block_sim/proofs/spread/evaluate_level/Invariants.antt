@@ -10,7 +10,8 @@ invariant-loop-gate l = record {
   room : IsAsLarge l.fn.changes l.changes;
   settled : LeavesSettled l.extent l.view.lanes l.fn.found.kept l.fn.found.seen
       → LeavesSettled l.extent l.view.lanes l.found.kept l.found.seen;
-  leads : Leads l.view.circuit.now l.view.good.now l.view.lanes (moment l.fn.changes l.level l.fn.found.kept l.fn.found.seen)
+  leads : Leads l.view.circuit.now l.view.good.now l.view.lanes
+      (moment l.fn.changes l.level l.fn.found.kept l.fn.found.seen)
       (moment l.changes l.level l.found.kept l.found.seen);
 }
 

@@ -9,6 +9,7 @@ returns-clause-lanes c =
     let told = c.told-word.ensures.told in (
       told.0,
       told.1,
-      decided_lanes job.circuit job.tests.tests c.args.block told.0 (IsSettled WholeBlock c.told-word.result) c.told-word.result c.block_word.result told.2
+      decided_lanes job.circuit job.tests.tests c.args.block told.0
+          (IsSettled WholeBlock c.told-word.result) c.told-word.result c.block_word.result told.2
           c.block_word.ensures (λ k never. never),
     )

@@ -10,5 +10,6 @@ use Rattle.workers.proofs.classes.class_firsts.Given as goal
 abbrev pub invariant-loop-class : goal.invariant-loop-class
 invariant-loop-class l = record {
   count : vec_len l.firsts ≡ l.class;
-  each : (h : History) → IsLegal l.closed.shape h → l.closed ≡ closed_face l.closed.shape h → l.firsts.items ≡ map (λ k. settled_at (status l.closed.shape h k)) (below l.class);
+  each : (h : History) → IsLegal l.closed.shape h → l.closed ≡ closed_face l.closed.shape h
+      → l.firsts.items ≡ map (λ k. settled_at (status l.closed.shape h k)) (below l.class);
 }

@@ -6,5 +6,6 @@ use Rattle.workers.proofs.parts.firsts_of_faults.Given as goal
 abbrev pub invariant-loop-fault : goal.invariant-loop-fault
 invariant-loop-fault l = record {
   count : vec_len l.firsts ≡ l.fault;
-  each : l.firsts.items ≡ map (λ class. first_in (get_or l.by_class class OtherPart)) (take l.fault l.job.classes.class_of);
+  each : l.firsts.items ≡ map (λ class. first_in (get_or l.by_class class OtherPart))
+      (take l.fault l.job.classes.class_of);
 }

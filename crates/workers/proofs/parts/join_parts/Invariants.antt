@@ -11,5 +11,6 @@ invariant-loop-place g l = record {
   left : l.part + into_iter_len l.place-iterator ≡ l.fn.parts;
   number : l.member.number ≡ 0;
   serves : Serves l.member.simulation l.job;
-  gathered : IsGathered l.job l.cut.ranked.items l.cut.classes.items l.fn.parts l.fn.workers (g.G.Gate.passing l.gate) (g.G.Gate.stops l.gate) l.part l.firsts.items l.lowest;
+  gathered : IsGathered l.job l.cut.ranked.items l.cut.classes.items l.fn.parts l.fn.workers
+      (g.G.Gate.passing l.gate) (g.G.Gate.stops l.gate) l.part l.firsts.items l.lowest;
 }

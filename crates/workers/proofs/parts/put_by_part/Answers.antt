@@ -5,18 +5,27 @@ use Rattle.workers.proofs.parts.put_by_part.Goals as goal
 
 pub loop-done-preserved-then-part-len : goal.loop-done-preserved-then-part-len
 loop-done-preserved-then-part-len c = record {
-  order = append_assoc c.loop-done.yielded (c.in-Some.done ∷ []) (into_iter_items c.next.new.self) ∙ ap (λ l. c.loop-done.yielded ++ l) (sym c.in-Some.ensures.steps.0) ∙ c.loop-done.invariant.order;
-  put = put_more c.args.table.items c.loop-done.yielded c.loop-done.table.items c.in-Some.done c.loop-done.invariant.put;
+  order = append_assoc c.loop-done.yielded (c.in-Some.done ∷ []) (into_iter_items c.next.new.self)
+      ∙ ap (λ l. c.loop-done.yielded ++ l) (sym c.in-Some.ensures.steps.0)
+      ∙ c.loop-done.invariant.order;
+  put = put_more c.args.table.items c.loop-done.yielded c.loop-done.table.items c.in-Some.done
+      c.loop-done.invariant.put;
 }
 
 pub loop-done-preserved-then-part-len-2 : goal.loop-done-preserved-then-part-len-2
 loop-done-preserved-then-part-len-2 c = record {
-  order = append_assoc c.loop-done.yielded (c.in-Some.done ∷ []) (into_iter_items c.next.new.self) ∙ ap (λ l. c.loop-done.yielded ++ l) (sym c.in-Some.ensures.steps.0) ∙ c.loop-done.invariant.order;
-  put = put_more c.args.table.items c.loop-done.yielded c.loop-done.table.items c.in-Some.done c.loop-done.invariant.put;
+  order = append_assoc c.loop-done.yielded (c.in-Some.done ∷ []) (into_iter_items c.next.new.self)
+      ∙ ap (λ l. c.loop-done.yielded ++ l) (sym c.in-Some.ensures.steps.0)
+      ∙ c.loop-done.invariant.order;
+  put = put_more c.args.table.items c.loop-done.yielded c.loop-done.table.items c.in-Some.done
+      c.loop-done.invariant.put;
 }
 
 pub loop-done-preserved : goal.loop-done-preserved
 loop-done-preserved c = record {
-  order = append_assoc c.loop-done.yielded (c.in-Some.done ∷ []) (into_iter_items c.next.new.self) ∙ ap (λ l. c.loop-done.yielded ++ l) (sym c.in-Some.ensures.steps.0) ∙ c.loop-done.invariant.order;
-  put = put_past c.args.table.items c.loop-done.yielded c.loop-done.table.items c.in-Some.done c.loop-done.invariant.put;
+  order = append_assoc c.loop-done.yielded (c.in-Some.done ∷ []) (into_iter_items c.next.new.self)
+      ∙ ap (λ l. c.loop-done.yielded ++ l) (sym c.in-Some.ensures.steps.0)
+      ∙ c.loop-done.invariant.order;
+  put = put_past c.args.table.items c.loop-done.yielded c.loop-done.table.items c.in-Some.done
+      c.loop-done.invariant.put;
 }

@@ -12,6 +12,7 @@ abbrev pub invariant-loop-worker : goal.invariant-loop-worker
 invariant-loop-worker l = record {
   shape : l.ledger.shape ≡ l.fn.ledger.shape;
   serves : Serves l.simulation l.job;
-  done : (table : Table) (h : History) → IsTableOf l.job table → IsLegal l.fn.ledger.shape h → l.fn.ledger ≡ face l.fn.ledger.shape h
+  done : (table : Table) (h : History) → IsTableOf l.job table → IsLegal l.fn.ledger.shape h
+      → l.fn.ledger ≡ face l.fn.ledger.shape h
       → Done table l.fn.ledger.shape h (take l.worker-index l.moves) l.ledger l.skipped l.changed;
 }

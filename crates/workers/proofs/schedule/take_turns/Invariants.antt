@@ -12,7 +12,8 @@ abbrev pub invariant-turns : goal.invariant-turns
 invariant-turns l = record {
   shape : l.ledger.shape ≡ l.fn.ledger.shape;
   serves : Serves l.simulation l.job;
-  turned : (table : Table) (h : History) → IsTableOf l.job table → IsLegal l.fn.ledger.shape h → l.fn.ledger ≡ face l.fn.ledger.shape h
+  turned : (table : Table) (h : History) → IsTableOf l.job table → IsLegal l.fn.ledger.shape h
+      → l.fn.ledger ≡ face l.fn.ledger.shape h
       → Turned table l.fn.ledger.shape h l.ledger l.skipped;
 }
 

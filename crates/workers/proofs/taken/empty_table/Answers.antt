@@ -7,6 +7,8 @@ use Rattle.workers.proofs.taken.empty_table.Goals as goal
 pub loop-part-preserved : goal.loop-part-preserved
 loop-part-preserved c = record {
   count = c.in_ok-push.ensures.len ∙ ap (λ n. n + 1) c.loop-part.invariant.count;
-  none = All-same (λ (at : Option Done). IfSome at (λ _. ⊥)) c.push.new.self.items _ c.in_ok-push.ensures.items
-      (All-push (λ (at : Option Done). IfSome at (λ _. ⊥)) c.loop-part.table.items None c.loop-part.invariant.none tt);
+  none = All-same (λ (at : Option Done). IfSome at (λ _. ⊥)) c.push.new.self.items _
+      c.in_ok-push.ensures.items
+      (All-push (λ (at : Option Done). IfSome at (λ _. ⊥)) c.loop-part.table.items None
+          c.loop-part.invariant.none tt);
 }

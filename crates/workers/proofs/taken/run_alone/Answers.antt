@@ -5,20 +5,29 @@ use Rattle.workers.proofs.Taking.{none_found, own_within}
 use Rattle.workers.proofs.taken.run_alone.Goals as goal
 
 pub between-own-requires-clause-order : goal.between-own-requires-clause-order
-between-own-requires-clause-order g c = start_le c.args.cut.now.ranked.items c.args.part c.start_of-start.result c.start_of-end.result c.start_of-start.ensures c.start_of-end.ensures
+between-own-requires-clause-order g c =
+    start_le c.args.cut.now.ranked.items c.args.part c.start_of-start.result c.start_of-end.result
+    c.start_of-start.ensures c.start_of-end.ensures
 
 pub between-own-requires-clause-within : goal.between-own-requires-clause-within
 between-own-requires-clause-within g c =
-    start_within c.args.job.now c.requires.cut.0 (c.args.part + 1) c.start_of-end.result c.args.cut.now.ranked.items c.args.cut.now.classes.items c.requires.cut.2 c.start_of-end.ensures
+    start_within c.args.job.now c.requires.cut.0 (c.args.part + 1) c.start_of-end.result
+        c.args.cut.now.ranked.items c.args.cut.now.classes.items c.requires.cut.2
+        c.start_of-end.ensures
 
 pub run_list-requires-clause-classes : goal.run_list-requires-clause-classes
 run_list-requires-clause-classes g c =
-    subst (All (λ class. class < length c.args.job.now.classes.representative)) (sym c.between-own.ensures)
-    (own_within c.args.job.now c.requires.cut.0 c.args.part c.start_of-start.result c.start_of-end.result c.args.cut.now.ranked.items c.args.cut.now.classes.items c.requires.cut.2 c.start_of-start.ensures
+    subst (All (λ class. class < length c.args.job.now.classes.representative))
+        (sym c.between-own.ensures)
+    (own_within c.args.job.now c.requires.cut.0 c.args.part c.start_of-start.result
+        c.start_of-end.result c.args.cut.now.ranked.items c.args.cut.now.classes.items
+        c.requires.cut.2 c.start_of-start.ensures
     c.start_of-end.ensures)
 
 pub run_list-requires-clause-none : goal.run_list-requires-clause-none
 run_list-requires-clause-none g c =
     let sized = c.in_ok-firsts.firsts.ok.0 in
-    subst (AreFoundUpTo c.args.job.now c.between-own.result.now 0 0) (sym c.as_mut_slice-found.ensures.value)
-    (none_found c.args.job.now c.between-own.result.now c.in_ok-firsts.firsts.items (omega (arith, sized, c.in_ok-firsts.ensures.count)) c.in_ok-firsts.ensures.none)
+    subst (AreFoundUpTo c.args.job.now c.between-own.result.now 0 0)
+        (sym c.as_mut_slice-found.ensures.value)
+    (none_found c.args.job.now c.between-own.result.now c.in_ok-firsts.firsts.items (omega (arith,
+        sized, c.in_ok-firsts.ensures.count)) c.in_ok-firsts.ensures.none)

@@ -12,9 +12,16 @@ loop-seat-preserved c =
     let pushed = c.in_ok-push.ensures.items in
     let w : Worker = record { seat = c.in-Some.seat; simulation = c.in_ok-simulation.simulation } in
     record {
-      order = append_assoc c.loop-seat.yielded (c.in-Some.seat ∷ []) (into_iter_items c.next.new.self) ∙ ap (λ l. c.loop-seat.yielded ++ l) (sym c.in-Some.ensures.steps.0) ∙ was.order;
-      seats = ap (map (λ (x : Worker). x.seat)) pushed ∙ map-append (λ (x : Worker). x.seat) c.loop-seat.workers.items (w ∷ []) ∙ ap (λ l. l ++ c.in-Some.seat ∷ []) was.seats;
+      order = append_assoc c.loop-seat.yielded (c.in-Some.seat ∷ [])
+          (into_iter_items c.next.new.self)
+          ∙ ap (λ l. c.loop-seat.yielded ++ l) (sym c.in-Some.ensures.steps.0) ∙ was.order;
+      seats = ap (map (λ (x : Worker). x.seat)) pushed
+          ∙ map-append (λ (x : Worker). x.seat) c.loop-seat.workers.items (w ∷ [])
+          ∙ ap (λ l. l ++ c.in-Some.seat ∷ []) was.seats;
       fits = subst (All (λ (x : Worker). Serves x.simulation c.args.job.now)) (sym pushed)
-          (All-append (λ (x : Worker). Serves x.simulation c.args.job.now) c.loop-seat.workers.items (w ∷ []) was.fits
-          (All-cons (λ (x : Worker). Serves x.simulation c.args.job.now) w [] c.in_ok-simulation.ensures.serves (All-nil (λ (x : Worker). Serves x.simulation c.args.job.now))));
+          (All-append (λ (x : Worker). Serves x.simulation c.args.job.now) c.loop-seat.workers.items
+              (w ∷ []) was.fits
+          (All-cons (λ (x : Worker). Serves x.simulation c.args.job.now) w []
+              c.in_ok-simulation.ensures.serves
+              (All-nil (λ (x : Worker). Serves x.simulation c.args.job.now))));
     }

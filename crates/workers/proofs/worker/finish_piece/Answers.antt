@@ -5,24 +5,41 @@ use Rattle.workers.proofs.Works.{dropped, missed, then_reported, then_taken}
 use Rattle.workers.proofs.worker.finish_piece.Goals as goal
 
 pub returns-in-Ok-clause-works : goal.returns-in-Ok-clause-works
-returns-in-Ok-clause-works g c = (dropped c.args.job.now (g.C.Chosen.chosen c.args.classes.now) c.args.seat.now c.drop_piece.new.seat _ c.in-Ok.ensures.accepted).0
+returns-in-Ok-clause-works g c =
+    (dropped c.args.job.now (g.C.Chosen.chosen c.args.classes.now) c.args.seat.now
+    c.drop_piece.new.seat _ c.in-Ok.ensures.accepted).0
 
 pub unreachable-requires : goal.unreachable-requires
 unreachable-requires g c =
     let a = c.args.seat.now in
     let b = c.drop_piece.new.seat in
-    let found : FindsNoHit a b = missed c.args.job.now (g.C.Chosen.chosen c.args.classes.now) a b c.args.ledger.now c.args.class c.args.block c.requires.place c.requires.sitter c.requires.shape c.requires.range.0 c.requires.piece
-    c.in-Err.field-0 c.in-Err.ensures.refusal (λ e. c.in-Err.ensures.nothing_held (ap Err e)) (λ e. c.in-Err.ensures.no_earlier_hit (ap Err e)) in
-    let truth = subst (λ k. IsTrueOutcome c.args.job.now.list.model c.args.job.now.circuit c.args.job.now.tests.tests k c.args.block c.outcome_of-outcome.result) c.class_at.ensures c.outcome_of-outcome.ensures.outcome in
-    then_taken c.args.job.now (g.C.Chosen.chosen c.args.classes.now) a b c.args.ledger.now c.args.class c.args.block c.requires.place c.requires.sitter c.requires.shape c.requires.range.0 c.requires.piece
-    c.report.new.seat c.outcome_of-outcome.result found truth c.in_default.field-0 c.in_default.ensures.refused
+    let found : FindsNoHit a b = missed c.args.job.now (g.C.Chosen.chosen c.args.classes.now) a b
+        c.args.ledger.now c.args.class c.args.block c.requires.place c.requires.sitter
+        c.requires.shape c.requires.range.0 c.requires.piece
+    c.in-Err.field-0 c.in-Err.ensures.refusal (λ e. c.in-Err.ensures.nothing_held (ap Err e))
+        (λ e. c.in-Err.ensures.no_earlier_hit (ap Err e)) in
+    let truth = subst (λ k. IsTrueOutcome c.args.job.now.list.model c.args.job.now.circuit
+        c.args.job.now.tests.tests k c.args.block c.outcome_of-outcome.result) c.class_at.ensures
+        c.outcome_of-outcome.ensures.outcome in
+    then_taken c.args.job.now (g.C.Chosen.chosen c.args.classes.now) a b c.args.ledger.now
+        c.args.class c.args.block c.requires.place c.requires.sitter c.requires.shape
+        c.requires.range.0 c.requires.piece
+    c.report.new.seat c.outcome_of-outcome.result found truth c.in_default.field-0
+        c.in_default.ensures.refused
 
 pub returns-clause-works : goal.returns-clause-works
 returns-clause-works g c =
     let a = c.args.seat.now in
     let b = c.drop_piece.new.seat in
-    let found : FindsNoHit a b = missed c.args.job.now (g.C.Chosen.chosen c.args.classes.now) a b c.args.ledger.now c.args.class c.args.block c.requires.place c.requires.sitter c.requires.shape c.requires.range.0 c.requires.piece
-    c.in-Err.field-0 c.in-Err.ensures.refusal (λ e. c.in-Err.ensures.nothing_held (ap Err e)) (λ e. c.in-Err.ensures.no_earlier_hit (ap Err e)) in
-    let truth = subst (λ k. IsTrueOutcome c.args.job.now.list.model c.args.job.now.circuit c.args.job.now.tests.tests k c.args.block c.outcome_of-outcome.result) c.class_at.ensures c.outcome_of-outcome.ensures.outcome in
-    then_reported c.args.job.now (g.C.Chosen.chosen c.args.classes.now) a b c.args.ledger.now c.args.class c.args.block c.requires.place c.requires.sitter c.requires.shape c.requires.range.0 c.requires.piece
+    let found : FindsNoHit a b = missed c.args.job.now (g.C.Chosen.chosen c.args.classes.now) a b
+        c.args.ledger.now c.args.class c.args.block c.requires.place c.requires.sitter
+        c.requires.shape c.requires.range.0 c.requires.piece
+    c.in-Err.field-0 c.in-Err.ensures.refusal (λ e. c.in-Err.ensures.nothing_held (ap Err e))
+        (λ e. c.in-Err.ensures.no_earlier_hit (ap Err e)) in
+    let truth = subst (λ k. IsTrueOutcome c.args.job.now.list.model c.args.job.now.circuit
+        c.args.job.now.tests.tests k c.args.block c.outcome_of-outcome.result) c.class_at.ensures
+        c.outcome_of-outcome.ensures.outcome in
+    then_reported c.args.job.now (g.C.Chosen.chosen c.args.classes.now) a b c.args.ledger.now
+        c.args.class c.args.block c.requires.place c.requires.sitter c.requires.shape
+        c.requires.range.0 c.requires.piece
     c.report.new.seat c.outcome_of-outcome.result found truth _ c.in-Ok-report.ensures.accepted

@@ -1,4 +1,5 @@
-use Rattle.std.proofs.Common.{◌≡◌, ◌<◌, ◌≤◌, ◌+◌, ◌++◌, ℕ, List, length, refl, subst, sym, ◌∙◌, ap, true, false, arith, take, drop}
+use Rattle.std.proofs.Common.{◌≡◌, ◌<◌, ◌≤◌, ◌+◌, ◌++◌, ℕ, List, length, refl, subst, sym, ◌∙◌, ap}
+use Rattle.std.proofs.Common.{true, false, arith, take, drop}
 use Rattle.std.specs.Prelude.{slice_index_or}
 use Rattle.std.proofs.lemmas.Bool.{false≢true}
 use Rattle.std.proofs.Math.Seq.{take-append_seam}
@@ -24,54 +25,73 @@ pub returns-in-Some-clause-outcome : goal.returns-in-Some-clause-outcome
 returns-in-Some-clause-outcome c =
     let served = subst (λ v. Serves v c.args.job.now) (sym c.self.view_is) c.requires.serves in
     let memos = c.self.inside.memos.items in
-    let low : c.args.class < length memos = (let count = served.outcomes.count in omega (arith, c.requires.class, count)) in
+    let low : c.args.class < length memos = (let count = served.outcomes.count in
+        omega (arith, c.requires.class, count)) in
     let is = get_or_read memos _ _ low c.index.ensures Nothing in
-    c.in-Some.ensures.truth c.args.job.now c.args.class (subst (IsTrueMemo c.args.job.now c.args.class) (sym is) (served.outcomes.each c.args.class))
+    c.in-Some.ensures.truth c.args.job.now c.args.class
+        (subst (IsTrueMemo c.args.job.now c.args.class) (sym is)
+        (served.outcomes.each c.args.class))
 
 pub follow_alone-requires-clause-room : goal.follow_alone-requires-clause-room
 follow_alone-requires-clause-room c =
     let served = subst (λ v. Serves v c.args.job.now) (sym c.self.view_is) c.requires.serves in
-    room_at_rest c.args.job.now c.self.inside.changes c.flat-circuit.ensures.together.circuit.well_formed c.self.invariant served.room
+    room_at_rest c.args.job.now c.self.inside.changes
+        c.flat-circuit.ensures.together.circuit.well_formed c.self.invariant served.room
 
 pub find_out_region-seen-requires-clause-room : goal.find_out_region-seen-requires-clause-room
 find_out_region-seen-requires-clause-room c =
     let served = subst (λ v. Serves v c.args.job.now) (sym c.self.view_is) c.requires.serves in
     large_enough c.args.job.now.circuit c.self.inside.changes c.follow_alone.new.changes
-    (room_at_rest c.args.job.now c.self.inside.changes c.flat-circuit.ensures.together.circuit.well_formed c.self.invariant served.room) c.follow_alone.ensures.room
+    (room_at_rest c.args.job.now c.self.inside.changes
+        c.flat-circuit.ensures.together.circuit.well_formed c.self.invariant served.room)
+        c.follow_alone.ensures.room
 
 pub follow_alone-requires-clause-span : goal.follow_alone-requires-clause-span
-follow_alone-requires-clause-span c = subst (λ (t : TestList). IsSpan (length t.tests) c.from-span.result) c.tests.ensures.part c.from-span.ensures.span
+follow_alone-requires-clause-span c =
+    subst (λ (t : TestList). IsSpan (length t.tests) c.from-span.result) c.tests.ensures.part
+    c.from-span.ensures.span
 
 pub find_out_region-seen-requires-clause-span : goal.find_out_region-seen-requires-clause-span
-find_out_region-seen-requires-clause-span c = subst (λ (t : TestList). IsSpan (length t.tests) c.from-span.result) c.tests.ensures.part c.from-span.ensures.span
+find_out_region-seen-requires-clause-span c =
+    subst (λ (t : TestList). IsSpan (length t.tests) c.from-span.result) c.tests.ensures.part
+    c.from-span.ensures.span
 
 pub of-memo-requires : goal.of-memo-requires
 of-memo-requires c =
-    record { told = (c.args.job.now, c.args.class, subst (λ (t : TestList). IsSpan (length t.tests) c.from-span.result) c.tests.ensures.part c.from-span.ensures.span, c.in-Known.ensures.approach) }
+    record { told = (c.args.job.now, c.args.class,
+        subst (λ (t : TestList). IsSpan (length t.tests) c.from-span.result) c.tests.ensures.part
+        c.from-span.ensures.span, c.in-Known.ensures.approach) }
 
 pub first_outcome-requires-clause-truth : goal.first_outcome-requires-clause-truth
 first_outcome-requires-clause-truth c =
-    let is = subst (λ (t : TestList). IsSpan (length t.tests) c.from-span.result) c.tests.ensures.part c.from-span.ensures.span in
-    (c.args.job.now, c.args.class, c.of-memo.ensures.truth c.args.job.now c.args.class is c.in-Known.ensures.approach)
+    let is = subst (λ (t : TestList). IsSpan (length t.tests) c.from-span.result)
+        c.tests.ensures.part c.from-span.ensures.span in
+    (c.args.job.now, c.args.class,
+        c.of-memo.ensures.truth c.args.job.now c.args.class is c.in-Known.ensures.approach)
 
 pub first_outcome-requires-clause-known : goal.first_outcome-requires-clause-known
-first_outcome-requires-clause-known c = subst (λ b. is_on b c.of-memo.result ≡ true) c.from-span.ensures.first c.of-memo.ensures.known
+first_outcome-requires-clause-known c =
+    subst (λ b. is_on b c.of-memo.result ≡ true) c.from-span.ensures.first c.of-memo.ensures.known
 
 pub returns-in-Known-clause-outcome : goal.returns-in-Known-clause-outcome
 returns-in-Known-clause-outcome c =
-    let is = subst (λ (t : TestList). IsSpan (length t.tests) c.from-span.result) c.tests.ensures.part c.from-span.ensures.span in
-    c.first_outcome.ensures c.args.job.now c.args.class (c.of-memo.ensures.truth c.args.job.now c.args.class is c.in-Known.ensures.approach)
+    let is = subst (λ (t : TestList). IsSpan (length t.tests) c.from-span.result)
+        c.tests.ensures.part c.from-span.ensures.span in
+    c.first_outcome.ensures c.args.job.now c.args.class
+        (c.of-memo.ensures.truth c.args.job.now c.args.class is c.in-Known.ensures.approach)
 
 pub of-requires : goal.of-requires
 of-requires c =
     let job = c.args.job.now in
-    let is = subst (λ (t : TestList). IsSpan (length t.tests) c.from-span.result) c.tests.ensures.part c.from-span.ensures.span in
+    let is = subst (λ (t : TestList). IsSpan (length t.tests) c.from-span.result)
+        c.tests.ensures.part c.from-span.ensures.span in
     record {
       told = (
         job,
         c.args.class,
         is,
-        arrived_first job c.from-span.result c.in-Stem.at.signal c.args.class c.in-Stem.at.lanes c.find_out_region-seen.result
+        arrived_first job c.from-span.result c.in-Stem.at.signal c.args.class c.in-Stem.at.lanes
+            c.find_out_region-seen.result
             c.in-Stem.ensures.approach.1 c.find_out_region-seen.ensures.told,
       );
     }
@@ -79,22 +99,28 @@ of-requires c =
 pub first_outcome-requires-in-Stem-clause-truth : goal.first_outcome-requires-in-Stem-clause-truth
 first_outcome-requires-in-Stem-clause-truth c =
     let job = c.args.job.now in
-    let is = subst (λ (t : TestList). IsSpan (length t.tests) c.from-span.result) c.tests.ensures.part c.from-span.ensures.span in (
+    let is = subst (λ (t : TestList). IsSpan (length t.tests) c.from-span.result)
+        c.tests.ensures.part c.from-span.ensures.span in (
       job,
       c.args.class,
-      c.of.ensures.truth job c.args.class is (arrived_first job c.from-span.result c.in-Stem.at.signal c.args.class c.in-Stem.at.lanes c.find_out_region-seen.result
+      c.of.ensures.truth job c.args.class is
+          (arrived_first job c.from-span.result c.in-Stem.at.signal c.args.class c.in-Stem.at.lanes
+          c.find_out_region-seen.result
           c.in-Stem.ensures.approach.1 c.find_out_region-seen.ensures.told),
     )
 
 pub first_outcome-requires-in-Stem-clause-known : goal.first_outcome-requires-in-Stem-clause-known
-first_outcome-requires-in-Stem-clause-known c = subst (λ b. is_on b c.of.result ≡ true) c.from-span.ensures.first c.of.ensures.known
+first_outcome-requires-in-Stem-clause-known c =
+    subst (λ b. is_on b c.of.result ≡ true) c.from-span.ensures.first c.of.ensures.known
 
 pub returns-in-Stem-clause-outcome : goal.returns-in-Stem-clause-outcome
 returns-in-Stem-clause-outcome c =
     let job = c.args.job.now in
-    let is = subst (λ (t : TestList). IsSpan (length t.tests) c.from-span.result) c.tests.ensures.part c.from-span.ensures.span in
+    let is = subst (λ (t : TestList). IsSpan (length t.tests) c.from-span.result)
+        c.tests.ensures.part c.from-span.ensures.span in
     c.first_outcome-in-Stem.ensures job c.args.class (c.of.ensures.truth job c.args.class is
-    (arrived_first job c.from-span.result c.in-Stem.at.signal c.args.class c.in-Stem.at.lanes c.find_out_region-seen.result
+    (arrived_first job c.from-span.result c.in-Stem.at.signal c.args.class c.in-Stem.at.lanes
+        c.find_out_region-seen.result
     c.in-Stem.ensures.approach.1 c.find_out_region-seen.ensures.told))
 
 pub returns-in-Known-clause-serves : goal.returns-in-Known-clause-serves
@@ -104,9 +130,12 @@ returns-in-Known-clause-serves c =
     let low : c.args.class < length c.self.inside.memos.items =
     (let count = served.outcomes.count in omega (arith, c.requires.class, count)) in
     record {
-      room = subst (λ n. length (names job.circuit) ≤ n) (sym c.follow_alone.ensures.room.overlay) served.room;
-      outcomes = memo_kept job c.self.inside.memos.items c.args.class c.of-memo.result served.outcomes low (c.of-memo.ensures.truth job c.args.class
-          (subst (λ (t : TestList). IsSpan (length t.tests) c.from-span.result) c.tests.ensures.part c.from-span.ensures.span) c.in-Known.ensures.approach);
+      room = subst (λ n. length (names job.circuit) ≤ n) (sym c.follow_alone.ensures.room.overlay)
+          served.room;
+      outcomes = memo_kept job c.self.inside.memos.items c.args.class c.of-memo.result
+          served.outcomes low (c.of-memo.ensures.truth job c.args.class
+          (subst (λ (t : TestList). IsSpan (length t.tests) c.from-span.result) c.tests.ensures.part
+              c.from-span.ensures.span) c.in-Known.ensures.approach);
       followed = served.followed;
     }
 
@@ -115,12 +144,15 @@ find_out_region-seen-requires-clause-idle c =
     let job = c.args.job.now in
     let served = subst (λ v. Serves v job) (sym c.self.view_is) c.requires.serves in
     let memos = c.self.inside.memos.items in
-    let low : c.args.class < length memos = (let count = served.outcomes.count in omega (arith, c.requires.class, count)) in
+    let low : c.args.class < length memos = (let count = served.outcomes.count in
+        omega (arith, c.requires.class, count)) in
     let is = get_or_read memos _ _ low c.index.ensures Nothing in
-    subst (λ b. is_on b (slice_index_or c.deref_mut.result.now c.args.class Nothing) ≡ false) (sym c.from-span.ensures.first)
+    subst (λ b. is_on b (slice_index_or c.deref_mut.result.now c.args.class Nothing) ≡ false)
+        (sym c.from-span.ensures.first)
     (ap (λ l. is_on c.args.block (slice_index_or l c.args.class Nothing)) c.deref_mut.ensures.value
     ∙ (ap (is_on c.args.block) (sym is)
-    ∙ c.on.ensures.none job c.args.class (subst (IsTrueMemo job c.args.class) (sym is) (served.outcomes.each c.args.class)) c.in_default.is))
+    ∙ c.on.ensures.none job c.args.class (subst (IsTrueMemo job c.args.class) (sym is)
+        (served.outcomes.each c.args.class)) c.in_default.is))
 
 pub returns-in-Known-clause-counted : goal.returns-in-Known-clause-counted
 returns-in-Known-clause-counted c = λ way stem gates ways at stirred.
@@ -129,14 +161,20 @@ returns-in-Known-clause-counted c = λ way stem gates ways at stirred.
     let class = c.args.class in
     let served = subst (λ v. Serves v job) (sym c.self.view_is) c.requires.serves in
     let memos = c.self.inside.memos.items in
-    let low : class < length memos = (let count = served.outcomes.count in omega (arith, c.requires.class, count)) in
+    let low : class < length memos = (let count = served.outcomes.count in
+        omega (arith, c.requires.class, count)) in
     let is = get_or_read memos _ _ low c.index.ensures Nothing in
     let idle : is_on block (slice_index_or memos class Nothing) ≡ false = ap (is_on block) (sym is)
-    ∙ c.on.ensures.none job class (subst (IsTrueMemo job class) (sym is) (served.outcomes.each class)) c.in_default.is in
+    ∙ c.on.ensures.none job class
+        (subst (IsTrueMemo job class) (sym is) (served.outcomes.each class)) c.in_default.is in
     let own = c.follow_alone.ensures.counted (way class) (ways class c.requires.class) in
-    let more = known_more way block memos class c.of-memo.result low (subst (λ b. is_on b c.of-memo.result ≡ true) c.from-span.ensures.first c.of-memo.ensures.known) idle in
-    let before : known_ways way block memos ≡ known_ways way block c.args.self.now.memos = ap (λ v. known_ways way block v.memos) c.self.view_is in
-    let from : c.self.inside.changes.evaluations ≡ c.args.self.now.evaluations = ap (λ v. v.evaluations) c.self.view_is in
+    let more = known_more way block memos class c.of-memo.result low
+        (subst (λ b. is_on b c.of-memo.result ≡ true) c.from-span.ensures.first
+        c.of-memo.ensures.known) idle in
+    let before : known_ways way block memos ≡ known_ways way block c.args.self.now.memos =
+        ap (λ v. known_ways way block v.memos) c.self.view_is in
+    let from : c.self.inside.changes.evaluations ≡ c.args.self.now.evaluations =
+        ap (λ v. v.evaluations) c.self.view_is in
     omega (arith, own, more, before, from)
 
 pub returns-in-Stem-clause-counted : goal.returns-in-Stem-clause-counted
@@ -148,21 +186,32 @@ returns-in-Stem-clause-counted c = λ way stem gates ways at stirred.
     let memos = c.self.inside.memos.items in
     let found = c.find_out_region-seen.new.memos in
     let same : c.in-Stem.at.signal ≡ stem =
-    one_class_stem job.list.model job.circuit class c.in-Stem.at.signal stem (c.in-Stem.ensures.stem c.in-Stem.at refl) at in
+    one_class_stem job.list.model job.circuit class c.in-Stem.at.signal stem
+        (c.in-Stem.ensures.stem c.in-Stem.at refl) at in
     let own = c.follow_alone.ensures.counted (way class) (ways class c.requires.class) in
     let span = c.from-span.result in
-    let is = subst (λ (t : TestList). IsSpan (length t.tests) span) c.tests.ensures.part c.from-span.ensures.span in
+    let is = subst (λ (t : TestList). IsSpan (length t.tests) span) c.tests.ensures.part
+        c.from-span.ensures.span in
     let found_all = c.find_out_region-seen.ensures.counted way gates ways
-    (stirred_wider job.circuit job.tests.tests span block c.in-Stem.at.signal gates is c.from-span.ensures.first c.from-span.ensures.alone
-    (subst (λ s. HasStirredByFlip job.circuit job.tests.tests (span_from block) s gates) (sym same) stirred)) in
-    let all = subst (λ b. c.find_out_region-seen.new.changes.evaluations + known_ways way b c.deref_mut.result.now + way class
-    ≤ c.follow_alone.new.changes.evaluations + known_ways way b found + length gates) c.from-span.ensures.first found_all in
+    (stirred_wider job.circuit job.tests.tests span block c.in-Stem.at.signal gates is
+        c.from-span.ensures.first c.from-span.ensures.alone
+    (subst (λ s. HasStirredByFlip job.circuit job.tests.tests (span_from block) s gates)
+        (sym same) stirred)) in
+    let all = subst (λ b. c.find_out_region-seen.new.changes.evaluations
+        + known_ways way b c.deref_mut.result.now + way class
+    ≤ c.follow_alone.new.changes.evaluations + known_ways way b found + length gates)
+        c.from-span.ensures.first found_all in
     let long : length found ≡ c.self.inside.memos.len =
-    (let a = c.find_out_region-seen.ensures.memos.count in let b = served.outcomes.count in omega (arith, a, b)) in
-    let after = ap (known_ways way block) (written c.self.inside.memos.len found (drop (length found) memos) long) in
-    let before : known_ways way block memos ≡ known_ways way block c.args.self.now.memos = ap (λ v. known_ways way block v.memos) c.self.view_is in
-    let from : c.self.inside.changes.evaluations ≡ c.args.self.now.evaluations = ap (λ v. v.evaluations) c.self.view_is in
-    let lent : known_ways way block c.deref_mut.result.now ≡ known_ways way block memos = ap (known_ways way block) c.deref_mut.ensures.value in
+    (let a = c.find_out_region-seen.ensures.memos.count in let b = served.outcomes.count in
+        omega (arith, a, b)) in
+    let after = ap (known_ways way block)
+        (written c.self.inside.memos.len found (drop (length found) memos) long) in
+    let before : known_ways way block memos ≡ known_ways way block c.args.self.now.memos =
+        ap (λ v. known_ways way block v.memos) c.self.view_is in
+    let from : c.self.inside.changes.evaluations ≡ c.args.self.now.evaluations =
+        ap (λ v. v.evaluations) c.self.view_is in
+    let lent : known_ways way block c.deref_mut.result.now ≡ known_ways way block memos =
+        ap (known_ways way block) c.deref_mut.ensures.value in
     omega (arith, own, all, after, before, lent, from)
 
 pub returns-in-Known-clause-again : goal.returns-in-Known-clause-again
@@ -172,11 +221,14 @@ returns-in-Known-clause-again c = λ known.
     let class = c.args.class in
     let served = subst (λ v. Serves v job) (sym c.self.view_is) c.requires.serves in
     let memos = c.self.inside.memos.items in
-    let low : class < length memos = (let count = served.outcomes.count in omega (arith, c.requires.class, count)) in
+    let low : class < length memos = (let count = served.outcomes.count in
+        omega (arith, c.requires.class, count)) in
     let is = get_or_read memos _ _ low c.index.ensures Nothing in
     let idle : is_on block (slice_index_or memos class Nothing) ≡ false = ap (is_on block) (sym is)
-    ∙ c.on.ensures.none job class (subst (IsTrueMemo job class) (sym is) (served.outcomes.each class)) c.in_default.is in
-    let now : is_on block (slice_index_or memos class Nothing) ≡ true = ap (λ v. is_on block (slice_index_or v.memos class Nothing)) c.self.view_is ∙ known in
+    ∙ c.on.ensures.none job class
+        (subst (IsTrueMemo job class) (sym is) (served.outcomes.each class)) c.in_default.is in
+    let now : is_on block (slice_index_or memos class Nothing) ≡ true =
+        ap (λ v. is_on block (slice_index_or v.memos class Nothing)) c.self.view_is ∙ known in
     absurd (false≢true (sym idle ∙ now))
 
 pub returns-in-Stem-clause-again : goal.returns-in-Stem-clause-again
@@ -186,9 +238,12 @@ returns-in-Stem-clause-again c = λ known.
     let class = c.args.class in
     let served = subst (λ v. Serves v job) (sym c.self.view_is) c.requires.serves in
     let memos = c.self.inside.memos.items in
-    let low : class < length memos = (let count = served.outcomes.count in omega (arith, c.requires.class, count)) in
+    let low : class < length memos = (let count = served.outcomes.count in
+        omega (arith, c.requires.class, count)) in
     let is = get_or_read memos _ _ low c.index.ensures Nothing in
     let idle : is_on block (slice_index_or memos class Nothing) ≡ false = ap (is_on block) (sym is)
-    ∙ c.on.ensures.none job class (subst (IsTrueMemo job class) (sym is) (served.outcomes.each class)) c.in_default.is in
-    let now : is_on block (slice_index_or memos class Nothing) ≡ true = ap (λ v. is_on block (slice_index_or v.memos class Nothing)) c.self.view_is ∙ known in
+    ∙ c.on.ensures.none job class
+        (subst (IsTrueMemo job class) (sym is) (served.outcomes.each class)) c.in_default.is in
+    let now : is_on block (slice_index_or memos class Nothing) ≡ true =
+        ap (λ v. is_on block (slice_index_or v.memos class Nothing)) c.self.view_is ∙ known in
     absurd (false≢true (sym idle ∙ now))

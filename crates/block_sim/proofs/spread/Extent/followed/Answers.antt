@@ -9,10 +9,12 @@ use Rattle.block_sim.proofs.spread.Extent.followed.Goals as goal
 
 pub returns-in-FirstHits-clause-within : goal.returns-in-FirstHits-clause-within
 returns-in-FirstHits-clause-within c = λ k lt e.
-    left_of (lane c.args.lanes k) (lane c.below_hits.result k) (sym (lane_and c.args.lanes c.below_hits.result k) ∙ e)
+    left_of (lane c.args.lanes k) (lane c.below_hits.result k)
+        (sym (lane_and c.args.lanes c.below_hits.result k) ∙ e)
 
 pub returns-in-FirstHits-clause-rest : goal.returns-in-FirstHits-clause-rest
-returns-in-FirstHits-clause-rest c = λ k lt own out. subst (λ x. IsSettled x c.args.seen k) (sym c.in-FirstHits.is)
+returns-in-FirstHits-clause-rest c = λ k lt own out. subst (λ x. IsSettled x c.args.seen k)
+    (sym c.in-FirstHits.is)
     (c.below_hits.ensures.rest k lt (out_of c.args.lanes c.below_hits.result k own out))
 
 pub returns-in-FirstHits-clause-below : goal.returns-in-FirstHits-clause-below

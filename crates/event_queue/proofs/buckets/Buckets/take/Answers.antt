@@ -18,7 +18,8 @@ returns-then-head-eq0-clause-none c =
     c.index-head.ensures 0 in omega (arith, e, c.if-head-eq0.true)) in (
       refl,
       λ gate. subst (λ w. slice_index_or w.at gate 0 ≡ c.args.level + 1 → ⊥) c.self.view_is
-          (none_waits (all_at c.self.inside.slots.items) (all_next c.self.inside.slots.items) c.self.inside.heads.items
+          (none_waits (all_at c.self.inside.slots.items) (all_next c.self.inside.slots.items)
+              c.self.inside.heads.items
           c.self.inside.waiting c.args.level c.self.invariant low empty gate),
     )
 
