@@ -11,7 +11,8 @@ ghost use Rattle.fault_model.specs.Solution.{Test};
 ghost use Rattle.patterns.specs.declared.Outcome.{Outcome};
 ghost use Rattle.patterns.specs.Least.{Table};
 ghost use Rattle.block_sim.specs.First.{IsTrueOutcome, IsTrueTable, LeastIsFirst};
-ghost use Rattle.block_sim.specs.Regions.{FaultLaw, LanesLaw, LeadLaw, ObserverLaw, OneClassStemLaw};
+ghost use Rattle.block_sim.specs.Regions.{FaultLaw, LanesLaw, LeadLaw, ObserverLaw};
+ghost use Rattle.block_sim.specs.Regions.{OneClassStemLaw};
 ghost use Rattle.block_sim.specs.Regions.{OneStemLaw, PinLaw, RegionLaw, SomeClassStemLaw};
 ghost use Rattle.block_sim.specs.Regions.{SomeStemLaw, StemLaw, StepLaw};
 ghost use Rattle.block_sim.specs.Ways.{OneWayLaw, SomeWayLaw};
@@ -51,8 +52,8 @@ pub fn class_ways()
 
 /// Faults share what lies behind the stem of a fan-out-free region: a signal that one gate alone
 /// reads is detected turned round exactly where the gate passes that on and is detected turned
-/// round itself, and a fault is detected exactly where it alters its first signal and that is detected
-/// turned round.
+/// round itself, and a fault is detected exactly where it alters its first signal and that is
+/// detected turned round.
 pub fn regions()
     ensures pin { (c : List Statement) → IsWellFormed c → PinLaw c }
     ensures one_stem { (c : List Statement) → OneStemLaw c }

@@ -11,7 +11,8 @@ ghost use Rattle.block_sim.specs.Regions.{IsStemOfClass, TellsFirstFlips};
 ghost use Rattle.block_sim.specs.Parts.{Parts};
 ghost use Rattle.block_sim.specs.Spans.{IsSpan, group_of, span_from};
 ghost use Rattle.block_sim.specs.Simulation.{AreFollowed, AreTrueBut, AreTrueMemos, HasArrived};
-ghost use Rattle.block_sim.specs.Simulation.{IsApproach, IsOutcomeIn, IsTrueMemo, Serves, TellsFirstIn};
+ghost use Rattle.block_sim.specs.Simulation.{IsApproach, IsOutcomeIn, IsTrueMemo, Serves};
+ghost use Rattle.block_sim.specs.Simulation.{TellsFirstIn};
 ghost use Rattle.block_sim.specs.Ways.{AreWays, HasStirredByFlip, IsWayOfClass, is_on, known_ways};
 
 use crate::changes::Changes;
@@ -235,7 +236,8 @@ fn find_out_region(
     requires region { IsStemOfClass job.now.list.model job.now.circuit own.class stem }
     requires idle { is_on span.first (slice_index_or memos.old own.class Memo.Nothing) ≡ false }
     requires capacity { 0 < vec_capacity followed.old }
-    ensures told { TellsFirstFlips job.now.circuit job.now.tests.tests (group_of span) own.lanes stem result }
+    ensures told { TellsFirstFlips job.now.circuit job.now.tests.tests (group_of span) own.lanes
+        stem result }
     ensures memos { AreTrueMemos job.now memos.new }
     ensures counted { (way : ℕ → ℕ) (gates : List ℕ) → AreWays job.now way
         → HasStirredByFlip job.now.circuit job.now.tests.tests span stem gates
@@ -401,7 +403,8 @@ fn flip_stem(job: &Job, span: Span, stem: u32, followed: &[Followed], changes: &
     requires stem { stem < length (names job.now.circuit) }
     requires followed { AreFollowed job.now span stem followed.now }
     ensures told { (one : Followed) → Contains followed.now one
-        → TellsFirstFlips job.now.circuit job.now.tests.tests (group_of span) one.lanes stem result }
+        → TellsFirstFlips job.now.circuit job.now.tests.tests (group_of span) one.lanes stem
+        result }
     ensures counted { (gates : List ℕ)
         → HasStirredByFlip job.now.circuit job.now.tests.tests span stem gates
         → changes.new.evaluations ≤ changes.old.evaluations + length gates }

@@ -14,7 +14,8 @@ ghost use Rattle.fault_model.specs.Solution.{is_odd, value, under};
 ghost use Rattle.patterns.specs.Tests.{IsWord, blocks};
 ghost use Rattle.block_sim.specs.Spans.{groups};
 ghost use Rattle.block_sim.specs.Forms.{IsFormOf, turned};
-ghost use Rattle.block_sim.specs.Words.{lane, overlaid, pin_bits, AreWords, IsGroupWord, IsSignalWord};
+ghost use Rattle.block_sim.specs.Words.{lane, overlaid, pin_bits, AreWords, IsGroupWord};
+ghost use Rattle.block_sim.specs.Words.{IsSignalWord};
 ghost use Rattle.block_sim.specs.Stuck.{fault_of};
 
 use crate::block_lanes::{group_word, in_each_lane};

@@ -19,9 +19,9 @@ struct Case {
     wanted: Wanted,
 }
 
-/// Three tests detect all faults of an AND gate, `11` the most of them; the five blocks of the first
-/// round have all four tests for nearly every seed. The bits of the buffer, xoshiro256++ of seed 3,
-/// begin with 100101: both changes are there with the test before each.
+/// Three tests detect all faults of an AND gate, `11` the most of them; the five blocks of the
+/// first round have all four tests for nearly every seed. The bits of the buffer, xoshiro256++ of
+/// seed 3, begin with 100101: both changes are there with the test before each.
 static CASES: [Case; 6] = [
     Case {
         line: "faultgen --bench bench",

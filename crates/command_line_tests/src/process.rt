@@ -1,5 +1,5 @@
-//! Runs on the arguments of a process: files that can't be had, and an output that refuses its bytes
-//! or its flush.
+//! Runs on the arguments of a process: files that can't be had, and an output that refuses its
+//! bytes or its flush.
 
 use crate::screen::Screen;
 use command_line::run_arguments;

@@ -1,6 +1,7 @@
 //! Which tests of a list are the first to detect some fault.
 
-ghost use Rattle.std.specs.Prelude.{◌≡◌, ℕ, ◌+◌, ◌<◌, ◌≤◌, ◌||◌, ⊤, false, IfErr, IfOk, OnOk, length, slice_index_or};
+ghost use Rattle.std.specs.Prelude.{◌≡◌, ℕ, ◌+◌, ◌<◌, ◌≤◌, ◌||◌, ⊤, false, IfErr, IfOk, OnOk};
+ghost use Rattle.std.specs.Prelude.{length, slice_index_or};
 ghost use Rattle.compaction.specs.Compaction.{finds, is_first};
 ghost use Rattle.compaction.specs.Marks.{AreFinding};
 ghost use Rattle.workers.specs.Refused.{IsRunFault};

@@ -1,6 +1,7 @@
 //! Lists of tests that are made of the tests of a list.
 
-ghost use Rattle.std.specs.Prelude.{◌≡◌, ◌+◌, ◌<◌, ◌≤◌, ◌++◌, ◌∷◌, [], IfOk, OnOk, length, slice_index_or};
+ghost use Rattle.std.specs.Prelude.{◌≡◌, ◌+◌, ◌<◌, ◌≤◌, ◌++◌, ◌∷◌, [], IfOk, OnOk, length};
+ghost use Rattle.std.specs.Prelude.{slice_index_or};
 ghost use Rattle.std.specs.List.{ReversedBelow};
 ghost use Rattle.compaction.specs.Compaction.{marked};
 ghost use Rattle.patterns.specs.Tests.{IsTestList, max_tests};

@@ -42,8 +42,8 @@ pub(crate) enum Fault<'a> {
 pub(crate) const NO_MEMORY: Fault<'static> = Fault::Sim(SimFault::Memory);
 
 /// Does what the words ask for, and answers the status: 0 done or helped, 1 the circuit is refused,
-/// 2 the command line is refused, 3 a file, the output, memory or a thread is refused. `words[0]` is
-/// the program's name. The tests go to `out`, and their coverage line to `err`.
+/// 2 the command line is refused, 3 a file, the output, memory or a thread is refused. `words[0]`
+/// is the program's name. The tests go to `out`, and their coverage line to `err`.
 pub fn run_words<'a, R: Threads + Wait, S: Source, W: Out, E: Out>(
     rt: &R,
     alloc: Global,

@@ -142,7 +142,8 @@ impl<R: Threads + Wait> Written<'_, R> {
         }
     }
 
-    /// Whether the call may be refused so: for want of memory, and of a thread where it starts some.
+    /// Whether the call may be refused so: for want of memory, and of a thread where it starts
+    /// some.
     fn is_want(&self, fault: SimFault) -> bool {
         match self.call {
             TextCall::Schedule | TextCall::Faults | TextCall::Responses => is_want(fault),

@@ -1,6 +1,7 @@
 //! The end of a merge: which part is missing, which fault is of no part, and the report.
 
-ghost use Rattle.std.specs.Prelude.{◌≡◌, ◌<◌, ◌^◌, [], ◌∷◌, ◌++◌, Contains, IfErr, IfOk, MatchOption, OnOk, length, map, zip};
+ghost use Rattle.std.specs.Prelude.{◌≡◌, ◌<◌, ◌^◌, [], ◌∷◌, ◌++◌, Contains, IfErr, IfOk};
+ghost use Rattle.std.specs.Prelude.{MatchOption, OnOk, length, map, zip};
 ghost use Rattle.std.specs.List.{flat_map};
 ghost use Rattle.output.specs.Output.{Writes};
 ghost use Rattle.workers.specs.declared.parts.PartVerdict.TheVariants.{First};

@@ -1,6 +1,7 @@
 //! What the texts of parts have to share, and their verdicts put together.
 
-ghost use Rattle.std.specs.Prelude.{◌≡◌, ◌≢◌, ◌+◌, ◌<◌, [], ◌∷◌, ◌++◌, ℕ, true, false, length, slice_get, Contains, IfErr, IfOk, IfNone, IfSome, OnOk};
+ghost use Rattle.std.specs.Prelude.{◌≡◌, ◌≢◌, ◌+◌, ◌<◌, [], ◌∷◌, ◌++◌, ℕ, true, false, length};
+ghost use Rattle.std.specs.Prelude.{slice_get, Contains, IfErr, IfOk, IfNone, IfSome, OnOk};
 ghost use Rattle.report.specs.PartReading.{head_in, texts_in};
 ghost use Rattle.report.specs.Merging.{AreJoined, AreOfOneRun, DifferAt, HaveBoth, IsOtherRun};
 

@@ -21,7 +21,8 @@ pub struct Merge<'a> {
 
 impl<'a> Merge<'a> {
     ghost use Rattle.std.specs.Prelude.{IfErr, IfOk};
-    ghost use Rattle.report.specs.Merging.{IsEndRefusal, IsFirstMerged, IsFirstRefusal, IsMerged, IsMergeRefusal, IsWholeRun, run_of, state_of};
+    ghost use Rattle.report.specs.Merging.{IsEndRefusal, IsFirstMerged, IsFirstRefusal, IsMerged};
+    ghost use Rattle.report.specs.Merging.{IsMergeRefusal, IsWholeRun, run_of, state_of};
 
     /// What the text of one part says. The text is kept in use for the names of the faults.
     pub fn of(alloc: Global, text: &'a [u8]) -> Result<Merge<'a>, MergeFault>

@@ -1,10 +1,13 @@
 //! The reader of part texts.
 
-ghost use Rattle.std.specs.Prelude.{◌≡◌, ◌≢◌, ◌+◌, ◌<◌, ◌^◌, ◌∷◌, ◌++◌, ℕ, List, [], OnOk, true, false, IfErr, IfOk, MatchOption, MatchResult, codes, decimal};
+ghost use Rattle.std.specs.Prelude.{◌≡◌, ◌≢◌, ◌+◌, ◌<◌, ◌^◌, ◌∷◌, ◌++◌, ℕ, List, [], OnOk, true};
+ghost use Rattle.std.specs.Prelude.{false, IfErr, IfOk, MatchOption, MatchResult, codes, decimal};
 ghost use Rattle.workers.specs.declared.parts.PartVerdict.{PartVerdict};
 ghost use Rattle.report.specs.Cut.{Lacks};
 ghost use Rattle.report.specs.PartText.{PartHead, head_line, verdict_line, verdict_text};
-ghost use Rattle.report.specs.PartReading.{AreWords, IsHead, IsLine, IsPart, IsPartRefusal, IsNoFaultLine, IsVerdict, WordTexts, end_of, head_in, texts_in, words_in, words_text};
+ghost use Rattle.report.specs.PartReading.{AreWords, IsHead, IsLine, IsPart, IsPartRefusal};
+ghost use Rattle.report.specs.PartReading.{IsNoFaultLine, IsVerdict, WordTexts, end_of, head_in};
+ghost use Rattle.report.specs.PartReading.{texts_in, words_in, words_text};
 
 use crate::cut::{cut_first, cut_last, is_joined, strip};
 use crate::part::{count_found, count_own};

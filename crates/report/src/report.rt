@@ -1,14 +1,18 @@
 //! The texts that the program writes: the report of a run, and the listing of faults and classes.
 
-ghost use Rattle.std.specs.Prelude.{◌≡◌, ◌<◌, ◌*◌, ◌/◌, ◌++◌, [], codes, length, slice_get, Some, is_some, zip, decimal, if◌then◌else◌};
+ghost use Rattle.std.specs.Prelude.{◌≡◌, ◌<◌, ◌*◌, ◌/◌, ◌++◌, [], codes, length, slice_get, Some};
+ghost use Rattle.std.specs.Prelude.{is_some, zip, decimal, if◌then◌else◌};
 ghost use Rattle.std.specs.List.{flat_map};
 ghost use Rattle.bench_net.specs.Scan.{cells};
 ghost use Rattle.fault_model.specs.Fault.{Fault, faults};
 ghost use Rattle.fault_model.specs.Collapse.{AreClassesOf};
 ghost use Rattle.output.specs.Output.{Writes};
 ghost use Rattle.workers.specs.Verdict.{detected};
-ghost use Rattle.report.specs.Report.{IsLineOf, cell_text, first_line, class_line, line_text, defect_text, fault_text, fault_lines, wanted_line, report, listing};
-ghost use Rattle.report.specs.Report.{class_coverage_line, class_firsts, coverage_of, first_at, whole_report};
+ghost use Rattle.report.specs.Report.{IsLineOf, cell_text, first_line, class_line, line_text};
+ghost use Rattle.report.specs.Report.{defect_text, fault_text, fault_lines, wanted_line, report};
+ghost use Rattle.report.specs.Report.{listing};
+ghost use Rattle.report.specs.Report.{class_coverage_line, class_firsts, coverage_of, first_at};
+ghost use Rattle.report.specs.Report.{whole_report};
 
 use crate::contents::{Contents, Lines};
 use bench_net::Circuit;

@@ -7,7 +7,12 @@ ghost use Rattle.fault_model.specs.declared.Model.TheVariants as model;
 ghost use Rattle.patterns.specs.Tests.{HasTests, max_pieces};
 ghost use Rattle.block_sim.specs.Parts.{BelongTogether, piece_count};
 ghost use Rattle.workers.specs.Refused.{IsPartsFault};
-ghost use Rattle.report.specs.EndToEnd.{WritesOneOf, AreTestsFor, IsReportOf, IsReportFault, IsScheduleTextFault, HasSomeMoves, IsListingOf, IsListingFault, IsJobOf, IsJobFor, IsJobFault, IsInputFault, IsPiecesFault, IsReportOfJob, IsJobReportFault, IsPartsReportFault, IsReadFault, IsScheduleReportFault};
+ghost use Rattle.report.specs.EndToEnd.{WritesOneOf, AreTestsFor, IsReportOf, IsReportFault};
+ghost use Rattle.report.specs.EndToEnd.{IsScheduleTextFault, HasSomeMoves, IsListingOf};
+ghost use Rattle.report.specs.EndToEnd.{IsListingFault, IsJobOf, IsJobFor, IsJobFault};
+ghost use Rattle.report.specs.EndToEnd.{IsInputFault, IsPiecesFault, IsReportOfJob};
+ghost use Rattle.report.specs.EndToEnd.{IsJobReportFault, IsPartsReportFault, IsReadFault};
+ghost use Rattle.report.specs.EndToEnd.{IsScheduleReportFault};
 
 use crate::contents::Contents;
 use crate::report::{ReportFault, write_listing, write_report};

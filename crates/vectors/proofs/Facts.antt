@@ -1,6 +1,8 @@
--- The relations at the worked circuits: texts that are accepted, lists that are well-formed or stuck, solutions, detected faults.
+-- The relations at the worked circuits: texts that are accepted, lists that are well-formed or
+-- stuck, solutions, detected faults.
 use Rattle.std.proofs.Common.{lit≤, arith}
-use Rattle.std.specs.Prelude.{◌≡◌, ◌<◌, ℕ, zero, suc, true, false, List, [], ◌∷◌, map, codes, refl, Some, None, bytes_eq}
+use Rattle.std.specs.Prelude.{◌≡◌, ◌<◌, ℕ, zero, suc, true, false, List, [], ◌∷◌, map, codes, refl}
+use Rattle.std.specs.Prelude.{Some, None, bytes_eq}
 use Rattle.std.specs.List.{position_or_len}
 use Rattle.bench_net.specs.declared.Sink.TheVariants as sink
 use Rattle.bench_net.specs.declared.BenchFault.TheVariants.{Syntax}
@@ -15,8 +17,10 @@ use Rattle.fault_model.specs.declared.Line.TheVariants as line
 use Rattle.fault_model.specs.Solution.{Solves, Detects}
 use Rattle.fault_model.specs.Collapse.{Represents}
 use Rattle.fault_model.proofs.Public.{bit_within, rep_represents, solves, detects}
-use Rattle.vectors.proofs.Bench.{c17_text, inverter_loop_text, scan_cell_text, self_cell, odd_spelling}
-use Rattle.vectors.proofs.Circuits.{c17, inverter_loop, buffer, output_and_inverter, xor_of_one, scan_cell, cell_of_itself, cycle_with_tail}
+use Rattle.vectors.proofs.Bench.{c17_text, inverter_loop_text, scan_cell_text, self_cell}
+use Rattle.vectors.proofs.Bench.{odd_spelling}
+use Rattle.vectors.proofs.Circuits.{c17, inverter_loop, buffer, output_and_inverter, xor_of_one}
+use Rattle.vectors.proofs.Circuits.{scan_cell, cell_of_itself, cycle_with_tail}
 
 abbrev number_in : List Name → Name → ℕ
 number_in order n = position_or_len (bytes_eq n) order
@@ -39,11 +43,13 @@ buffer_well_formed = odd_spelling.accepted.3
 
 -- a line by hand: the tokens of ` a )` and the comment
 by_hand : Spells (codes "(a # x") (Open ∷ Word (codes "a") ∷ [])
-by_hand = ([], codes "a # x", refl, refl, tt, tt, ([], codes " # x", refl, refl, ((λ e. cc), refl), tt, (codes " ", codes "# x", refl, refl, refl)))
+by_hand = ([], codes "a # x", refl, refl, tt, tt, ([], codes " # x", refl, refl, ((λ e. cc), refl),
+    tt, (codes " ", codes "# x", refl, refl, refl)))
 
 -- the last line is at fault, and it is the lowest
 unclosed : IsRefused (codes "INPUT(a") (Syntax 1)
-unclosed = (lit≤ tt, ((codes "INPUT(a", refl, λ s h. let e : None ≡ Some s = complete_states (codes "INPUT(a") s h in cc), lower))
+unclosed = (lit≤ tt, ((codes "INPUT(a", refl,
+    λ s h. let e : None ≡ Some s = complete_states (codes "INPUT(a") s h in cc), lower))
   where
     lower : (k : ℕ) → k < 1 → ¬ IsSyntaxFault (codes "INPUT(a") k
     lower zero h f = let e : None ≡ Some f.0 = f.1 in cc
@@ -51,36 +57,47 @@ unclosed = (lit≤ tt, ((codes "INPUT(a", refl, λ s h. let e : None ≡ Some s 
 
 -- b is fed by the cycle of c and d
 fed_by_cycle : IsStuck cycle_with_tail (codes "b")
-fed_by_cycle = (is_in (codes "b" ∷ codes "c" ∷ codes "d" ∷ []), stuck cycle_with_tail (codes "b" ∷ codes "c" ∷ codes "d" ∷ []) refl, refl)
+fed_by_cycle = (is_in (codes "b" ∷ codes "c" ∷ codes "d" ∷ []),
+    stuck cycle_with_tail (codes "b" ∷ codes "c" ∷ codes "d" ∷ []) refl, refl)
 
 -- the fault-free values of c17 under 11111
-c17_values : map (bit_within 4 c17 (true ∷ true ∷ true ∷ true ∷ true ∷ []) None) (codes "G10" ∷ codes "G11" ∷ codes "G16" ∷ codes "G19" ∷ codes "G22" ∷ codes "G23" ∷ [])
+c17_values : map (bit_within 4 c17 (true ∷ true ∷ true ∷ true ∷ true ∷ []) None)
+    (codes "G10" ∷ codes "G11" ∷ codes "G16" ∷ codes "G19" ∷ codes "G22" ∷ codes "G23" ∷ [])
     ≡ false ∷ false ∷ true ∷ true ∷ true ∷ false ∷ []
 c17_values = refl
 
-c17_solution : Solves c17 (true ∷ true ∷ true ∷ true ∷ true ∷ []) None (bit_within 4 c17 (true ∷ true ∷ true ∷ true ∷ true ∷ []) None)
+c17_solution : Solves c17 (true ∷ true ∷ true ∷ true ∷ true ∷ []) None
+    (bit_within 4 c17 (true ∷ true ∷ true ∷ true ∷ true ∷ []) None)
 c17_solution = solves _ _ _ _ refl
 
--- a stem of a source, a branch, a cell's stem, a data pin, an output's branch, and a pin of an exclusive or
-c17_stem : Detects c17 (true ∷ true ∷ true ∷ true ∷ true ∷ []) (record { model = StuckAt; line = line.Stem 0; stuck = false })
+-- a stem of a source, a branch, a cell's stem, a data pin, an output's branch, and a pin of an
+-- exclusive or
+c17_stem : Detects c17 (true ∷ true ∷ true ∷ true ∷ true ∷ []) (record { model = StuckAt;
+    line = line.Stem 0; stuck = false })
 c17_stem = detects 4 _ _ _ refl refl refl
 
-c17_branch : Detects c17 (true ∷ true ∷ true ∷ true ∷ true ∷ []) (record { model = StuckAt; line = line.Pin 7 1; stuck = true })
+c17_branch : Detects c17 (true ∷ true ∷ true ∷ true ∷ true ∷ []) (record { model = StuckAt;
+    line = line.Pin 7 1; stuck = true })
 c17_branch = detects 4 _ _ _ refl refl refl
 
-cell_stem : Detects inverter_loop (false ∷ []) (record { model = StuckAt; line = line.Stem 0; stuck = true })
+cell_stem : Detects inverter_loop (false ∷ []) (record { model = StuckAt; line = line.Stem 0;
+    stuck = true })
 cell_stem = detects 4 _ _ _ refl refl refl
 
-data_pin : Detects scan_cell (true ∷ true ∷ []) (record { model = StuckAt; line = line.Data 0; stuck = false })
+data_pin : Detects scan_cell (true ∷ true ∷ []) (record { model = StuckAt; line = line.Data 0;
+    stuck = false })
 data_pin = detects 4 _ _ _ refl refl refl
 
-output_branch : Detects output_and_inverter (false ∷ []) (record { model = StuckAt; line = line.Out 0; stuck = true })
+output_branch : Detects output_and_inverter (false ∷ []) (record { model = StuckAt;
+    line = line.Out 0; stuck = true })
 output_branch = detects 4 _ _ _ refl refl refl
 
-xor_pin : Detects xor_of_one (false ∷ []) (record { model = StuckAt; line = line.Pin 1 1; stuck = true })
+xor_pin : Detects xor_of_one (false ∷ []) (record { model = StuckAt; line = line.Pin 1 1;
+    stuck = true })
 xor_pin = detects 4 _ _ _ refl refl refl
 
--- the sinks of a name that an output and a gate pin read: the pin goes first though its line comes later
+-- the sinks of a name that an output and a gate pin read: the pin goes first though its line comes
+-- later
 output_and_inverter_sinks : sinks output_and_inverter (codes "a") ≡ sink.Pin 1 0 ∷ sink.Out 0 ∷ []
 output_and_inverter_sinks = refl
 
@@ -92,5 +109,7 @@ scan_cell_sinks : sinks scan_cell (codes "y") ≡ sink.Data 0 ∷ sink.Out 0 ∷
 scan_cell_sinks = refl
 
 -- the chain of `stem G6 sa0` in c17 ends at `stem G11 sa1`
-c17_chain : Represents c17 (record { model = StuckAt; line = line.Stem 3; stuck = false }) (record { model = StuckAt; line = line.Stem 6; stuck = true })
-c17_chain = rep_represents 13 c17 (record { model = StuckAt; line = line.Stem 3; stuck = false }) refl
+c17_chain : Represents c17 (record { model = StuckAt; line = line.Stem 3; stuck = false })
+    (record { model = StuckAt; line = line.Stem 6; stuck = true })
+c17_chain = rep_represents 13 c17 (record { model = StuckAt; line = line.Stem 3; stuck = false })
+    refl

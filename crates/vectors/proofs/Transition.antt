@@ -1,5 +1,7 @@
--- Transition faults at the worked circuits: classes and first tests by the plain program, and the relations.
-use Rattle.std.specs.Prelude.{◌≡◌, ◌==◌, ℕ, true, false, List, [], ◌∷◌, ◌++◌, map, length, codes, refl, replicate, Option, Some, None}
+-- Transition faults at the worked circuits: classes and first tests by the plain program, and the
+-- relations.
+use Rattle.std.specs.Prelude.{◌≡◌, ◌==◌, ℕ, true, false, List, [], ◌∷◌, ◌++◌, map, length, codes}
+use Rattle.std.specs.Prelude.{refl, replicate, Option, Some, None}
 use Rattle.bench_net.specs.Statement.{Statement}
 use Rattle.fault_model.specs.declared.Line.TheVariants as line
 use Rattle.fault_model.specs.declared.Model.TheVariants.{Transition}
@@ -23,24 +25,29 @@ classes c = map (class_of c) (faults Transition c)
 and_of_two_classes : classes and_of_two ≡ 0 ∷ 1 ∷ 2 ∷ 3 ∷ 4 ∷ 5 ∷ []
 and_of_two_classes = refl
 
-and_of_two_firsts : firsts and_of_two (rows (codes "00" ∷ codes "01" ∷ codes "10" ∷ codes "11" ∷ [])) ≡ None ∷ None ∷ Some 3 ∷ Some 2 ∷ Some 3 ∷ None ∷ []
+and_of_two_firsts : firsts and_of_two
+    (rows (codes "00" ∷ codes "01" ∷ codes "10" ∷ codes "11" ∷ []))
+    ≡ None ∷ None ∷ Some 3 ∷ Some 2 ∷ Some 3 ∷ None ∷ []
 and_of_two_firsts = refl
 
 buffer_classes : classes buffer ≡ 0 ∷ 1 ∷ 0 ∷ 1 ∷ []
 buffer_classes = refl
 
-buffer_firsts : firsts buffer (rows (codes "0" ∷ codes "1" ∷ codes "0" ∷ [])) ≡ Some 1 ∷ Some 2 ∷ Some 1 ∷ Some 2 ∷ []
+buffer_firsts : firsts buffer (rows (codes "0" ∷ codes "1" ∷ codes "0" ∷ []))
+    ≡ Some 1 ∷ Some 2 ∷ Some 1 ∷ Some 2 ∷ []
 buffer_firsts = refl
 
 -- over the end of a block
-buffer_longer : firsts buffer (replicate 64 (false ∷ []) ++ (true ∷ []) ∷ []) ≡ Some 64 ∷ None ∷ Some 64 ∷ None ∷ []
+buffer_longer : firsts buffer (replicate 64 (false ∷ []) ++ (true ∷ []) ∷ [])
+    ≡ Some 64 ∷ None ∷ Some 64 ∷ None ∷ []
 buffer_longer = refl
 
 -- over an inverter a slow rise goes with a slow fall
 output_and_inverter_classes : classes output_and_inverter ≡ 0 ∷ 1 ∷ 5 ∷ 4 ∷ 2 ∷ 3 ∷ 4 ∷ 5 ∷ []
 output_and_inverter_classes = refl
 
-output_and_inverter_firsts : firsts output_and_inverter (rows (codes "0" ∷ codes "1" ∷ [])) ≡ Some 1 ∷ None ∷ Some 1 ∷ None ∷ Some 1 ∷ None ∷ None ∷ Some 1 ∷ []
+output_and_inverter_firsts : firsts output_and_inverter (rows (codes "0" ∷ codes "1" ∷ []))
+    ≡ Some 1 ∷ None ∷ Some 1 ∷ None ∷ Some 1 ∷ None ∷ None ∷ Some 1 ∷ []
 output_and_inverter_firsts = refl
 
 c17_faults : length (faults Transition c17) ≡ 34
@@ -66,9 +73,12 @@ carried_out : carried output_and_inverter (line.Out 0) ≡ Some (codes "a")
 carried_out = refl
 
 -- a pin, slow to rise, at the relation: test 1 after test 0
-pin_slow : DetectsAt output_and_inverter ((false ∷ []) ∷ (true ∷ []) ∷ []) (record { model = Transition; line = line.Pin 1 0; stuck = false }) 1
-pin_slow = slow_at 4 output_and_inverter ((false ∷ []) ∷ (true ∷ []) ∷ []) (line.Pin 1 0) false 0 (false ∷ []) (true ∷ []) refl refl refl refl refl refl refl
+pin_slow : DetectsAt output_and_inverter ((false ∷ []) ∷ (true ∷ []) ∷ [])
+    (record { model = Transition; line = line.Pin 1 0; stuck = false }) 1
+pin_slow = slow_at 4 output_and_inverter ((false ∷ []) ∷ (true ∷ []) ∷ []) (line.Pin 1 0) false 0
+    (false ∷ []) (true ∷ []) refl refl refl refl refl refl refl
 
 -- the first test detects none
-none_at_first : (tests : List Test) → ¬ DetectsAt buffer tests (record { model = Transition; line = line.Stem 0; stuck = false }) 0
+none_at_first : (tests : List Test)
+    → ¬ DetectsAt buffer tests (record { model = Transition; line = line.Stem 0; stuck = false }) 0
 none_at_first tests d = d.3

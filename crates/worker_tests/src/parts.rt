@@ -66,9 +66,9 @@ fn c17_is_cut_by_region(rt: HostRuntime) -> Result<(), Fail> {
 }
 
 /// The number of the stem of each class of C17, by the class's number. The representatives are G1
-/// sa1, G2 sa1, G3 sa0 and sa1, pin 2 of G10 sa1, pin 1 of G11 sa1, G6 sa1, G7 sa1, G10 sa1, G11 sa0
-/// and sa1, pin 2 of G16 sa1, pin 1 of G19 sa1, G16 sa0 and sa1, pin 2 of G22 sa1, pin 1 of G23 sa1,
-/// G19 sa1, G22 sa0 and sa1, and G23 sa0 and sa1.
+/// sa1, G2 sa1, G3 sa0 and sa1, pin 2 of G10 sa1, pin 1 of G11 sa1, G6 sa1, G7 sa1, G10 sa1, G11
+/// sa0 and sa1, pin 2 of G16 sa1, pin 1 of G19 sa1, G16 sa0 and sa1, pin 2 of G22 sa1, pin 1 of G23
+/// sa1, G19 sa1, G22 sa0 and sa1, and G23 sa0 and sa1.
 const C17_CLASS_STEMS: [u32; 22] = [
     9, 7, 2, 2, 9, 6, 6, 10, 9, 6, 6, 7, 10, 7, 7, 9, 10, 10, 9, 9, 10, 10,
 ];

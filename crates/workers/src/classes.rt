@@ -29,8 +29,8 @@ use std::thread::Threads;
 /// Gives for each class of the list, in its order, the first test that detects the faults of the
 /// class, or none.
 ///
-/// It is refused as [`crate::run`] is, for the pieces of the list; [`RunFault::Unfinished`] names the
-/// class by its number in the job, the first in the list that isn't settled.
+/// It is refused as [`crate::run`] is, for the pieces of the list; [`RunFault::Unfinished`] names
+/// the class by its number in the job, the first in the list that isn't settled.
 pub fn run_classes<G: Gate + Sync, R: Threads + Wait>(
     rt: &R,
     alloc: Global,

@@ -133,7 +133,8 @@ fn first_in(verdict: PartVerdict) -> Option<u32>
 /// for each fault of the list, before collapsing, the first test that detects it, or none, where
 /// its class is of the part, and else that it is of another part.
 ///
-/// It is refused as [`crate::run_classes`] is for the classes of the part, whose pieces alone count.
+/// It is refused as [`crate::run_classes`] is for the classes of the part, whose pieces alone
+/// count.
 pub fn run_part<G: Gate + Sync, R: Threads + Wait>(
     rt: &R,
     alloc: Global,

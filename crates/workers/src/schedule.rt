@@ -146,10 +146,10 @@ fn check_moves(workers: u32, moves: &[u32]) -> Result<(), RunFault>
 ///
 /// It is refused, in this order, with [`RunFault::NoWorkers`], with [`RunFault::TooManyWorkers`]
 /// above 64 workers, with [`RunFault::NoSuchMove`] and the least index of a move of a worker that
-/// isn't below the number of workers, before any move is made, with [`RunFault::TooManyPieces`] above
-/// [`patterns::MAX_PIECES`] pieces, which a job of [`Job::new`] hasn't, and with
-/// [`RunFault::Memory`].
-/// Beside the ledger, a simulation and the verdicts it takes a word for each worker.
+/// isn't below the number of workers, before any move is made, with [`RunFault::TooManyPieces`]
+/// above [`patterns::MAX_PIECES`] pieces, which a job of [`Job::new`] hasn't, and with
+/// [`RunFault::Memory`]. Beside the ledger, a simulation and the verdicts it takes a word for each
+/// worker.
 pub fn run_schedule(
     alloc: Global,
     job: &Job,
@@ -189,8 +189,8 @@ fn workers_in_order(alloc: Global, workers: u32) -> Result<Vec<u32>, AllocError>
     Ok(everyone)
 }
 
-/// A new ledger of a job that has no more pieces than a ledger takes, so that it is refused for want
-/// of memory alone.
+/// A new ledger of a job that has no more pieces than a ledger takes, so that it is refused for
+/// want of memory alone.
 fn open_ledger(alloc: Global, job: &Job, workers: u32) -> Result<Ledger, RunFault>
     requires workers { (0 < workers) × (workers ≤ 64) }
     requires few { job_pieces job.now ≤ max_pieces }

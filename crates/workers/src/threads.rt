@@ -179,10 +179,10 @@ fn share_ledger<C: Chosen>(
 ///
 /// It is refused, in this order, with [`RunFault::NoWorkers`], with [`RunFault::TooManyWorkers`]
 /// above 64 workers, with [`RunFault::TooManyPieces`] above [`patterns::MAX_PIECES`] pieces, which
-/// a job of [`Job::new`] hasn't, and with [`RunFault::Memory`] or [`RunFault::Threads`] where memory
-/// or the start of a thread was refused; the threads that were started are joined first. Where the gate
-/// stopped workers and not all classes are settled it is [`RunFault::Unfinished`]. The job is
-/// unchanged, and can be run again.
+/// a job of [`Job::new`] hasn't, and with [`RunFault::Memory`] or [`RunFault::Threads`] where
+/// memory or the start of a thread was refused; the threads that were started are joined first.
+/// Where the gate stopped workers and not all classes are settled it is [`RunFault::Unfinished`].
+/// The job is unchanged, and can be run again.
 ///
 /// The ledger, a simulation for each worker and the room of the verdicts are there before the
 /// first claim, and the workers take no memory.
