@@ -1,5 +1,6 @@
 -- What accepted texts give: a circuit, and a job.
-use Rattle.std.proofs.Common.{◌≡◌, ◌<◌, ◌≤◌, ℕ, get_or, arith, refl, sym, ap, subst, List, length, inl, inr, ◌⊎◌, ◌∙◌}
+use Rattle.std.proofs.Common.{◌≡◌, ◌<◌, ◌≤◌, ℕ, get_or, arith, refl, sym, ap, subst, List, length}
+use Rattle.std.proofs.Common.{inl, inr, ◌⊎◌, ◌∙◌}
 use Rattle.std.specs.Prelude.{Option, Some, Result, Err, ◌↔◌, nat_le, position}
 use Rattle.std.proofs.lemmas.Bool.{leb-true}
 use Rattle.std.proofs.lemmas.List.Elements.{All-get_or}
@@ -62,7 +63,9 @@ verdicts_counted job firsts together are =
     are.count ∙ sym (ap (λ l. length l.list) together.list)
 
 -- a job is refused for its pieces, or for want of memory
-pub job_refused : (J P : Type 0) (f : JobFault) → (◌≡◌ {A = Result J JobFault} (Err f) (Err job_fault.TooManyPieces) ↔ P) → (f ≡ job_fault.Memory) ⊎ P
+pub job_refused : (J P : Type 0) (f : JobFault)
+    → (◌≡◌ {A = Result J JobFault} (Err f) (Err job_fault.TooManyPieces) ↔ P)
+    → (f ≡ job_fault.Memory) ⊎ P
 job_refused J P job_fault.TooManyPieces h = inr (h.0 refl)
 job_refused J P job_fault.Memory h = inl refl
 
@@ -82,7 +85,8 @@ pub schedule_fault : (m : Model) (bench text order : List ℕ) (workers : ℕ) (
     (moves : List ℕ) (f : RunFault) → IsJobWithin m bench text job → HasMoves order workers moves
     → IsScheduleFault (piece_count job) workers moves f
     → IsScheduleTextFault m bench text order workers (fault.Run f)
-schedule_fault m bench text order workers job moves (run_fault.NoSuchMove index) within has refused =
+schedule_fault m bench text order workers job moves (run_fault.NoSuchMove index) within has refused
+    =
     no_other_worker order workers index moves has refused.2
 schedule_fault m bench text order workers job moves run_fault.NoWorkers within has refused =
     (job, moves, within, has, refused)
@@ -94,5 +98,6 @@ schedule_fault m bench text order workers job moves run_fault.Memory within has 
     (job, moves, within, has, refused)
 schedule_fault m bench text order workers job moves run_fault.Threads within has refused =
     absurd refused
-schedule_fault m bench text order workers job moves (run_fault.Unfinished class block) within has refused =
+schedule_fault m bench text order workers job moves (run_fault.Unfinished class block) within has
+    refused =
     absurd refused

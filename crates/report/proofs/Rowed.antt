@@ -6,7 +6,8 @@ use Rattle.report.specs.EndToEnd.{IsInputFault}
 use Rattle.report.specs.Responses.{AreInputs, AreResponsesOf, IsResponsesFault}
 
 -- a fault of the texts is one of the responses
-pub input_fault : (bench text : List ℕ) (f : SimFault) → IsInputFault bench text f → IsResponsesFault bench text f
+pub input_fault : (bench text : List ℕ) (f : SimFault) → IsInputFault bench text f
+    → IsResponsesFault bench text f
 input_fault bench text (fault.Bench f) h = h
 input_fault bench text (fault.Tests f) h = h
 input_fault bench text (fault.Order f) h = absurd h
@@ -16,5 +17,6 @@ input_fault bench text (fault.Report f) h = absurd h
 input_fault bench text fault.Memory h = tt
 
 -- responses are of texts that are accepted
-pub are_inputs : (bench text bytes : List ℕ) → AreResponsesOf bench text bytes → AreInputs bench text
+pub are_inputs : (bench text bytes : List ℕ) → AreResponsesOf bench text bytes
+    → AreInputs bench text
 are_inputs bench text bytes h = (h.0, h.1, h.3, h.4)

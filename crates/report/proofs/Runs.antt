@@ -12,7 +12,9 @@ use Rattle.workers.specs.Verdict.{AreFirsts}
 use Rattle.output.specs.Output.{Output}
 use Rattle.report.specs.declared.text.SimFault.{SimFault}
 use Rattle.report.specs.declared.text.SimFault.TheVariants as fault
-use Rattle.report.specs.EndToEnd.{WritesOneOf, IsJobOf, IsJobWithin, IsReportOf, IsReportOfJob, IsReportFault, IsRunReportFault, IsJobReportFault, IsTextFault, IsScheduleReportFault, IsScheduleTextFault}
+use Rattle.report.specs.EndToEnd.{WritesOneOf, IsJobOf, IsJobWithin, IsReportOf, IsReportOfJob}
+use Rattle.report.specs.EndToEnd.{IsReportFault, IsRunReportFault, IsJobReportFault, IsTextFault}
+use Rattle.report.specs.EndToEnd.{IsScheduleReportFault, IsScheduleTextFault}
 use Rattle.report.specs.declared.contents.Contents.{Contents}
 use Rattle.report.specs.Report.{whole_report}
 use Rattle.report.proofs.Accepted.{schedule_fault}
@@ -42,7 +44,8 @@ pub report_of : (m : Model) (bench text : List ℕ) (contents : Contents) (job :
 report_of m bench text contents job is bytes of_job =
     let are = subst (λ k. AreFirsts k job.circuit job.tests.tests of_job.0) is.3 of_job.1 in
     let classes = subst (λ k. AreClassesOf k job.circuit job.classes) is.3 is.2.classes in
-    (job.circuit, job.tests, job.classes, of_job.0, is.0, is.1, classes, are, of_job.2 ∙ ap (λ k. whole_report k job.circuit job.classes of_job.0 contents) is.3)
+    (job.circuit, job.tests, job.classes, of_job.0, is.0, is.1, classes, are,
+        of_job.2 ∙ ap (λ k. whole_report k job.circuit job.classes of_job.0 contents) is.3)
 
 pub job_run_fault : (m : Model) (bench text : List ℕ) (workers : ℕ) (job : Parts)
     → IsJobWithin m bench text job → (f : SimFault) → IsRunReportFault job workers f

@@ -13,8 +13,10 @@ use Rattle.report.specs.Curve.{point_line}
 use Rattle.report.proofs.KnownLines.{model_known}
 
 -- a fault of the list by its line, its bit and the model of the list
-pub fault_by_parts : (m : Model) (c : List Statement) (fs : List Fault) (i : ℕ) (f : Fault) (l : Line) (bit : Bool) (said : List ℕ)
-    → fs ≡ faults m c → slice_get fs i ≡ Some f → IfSome (slice_get fs i) (λ f. l ≡ f.line) → IfSome (slice_get fs i) (λ f. bit ≡ f.stuck)
+pub fault_by_parts : (m : Model) (c : List Statement) (fs : List Fault) (i : ℕ) (f : Fault)
+    (l : Line) (bit : Bool) (said : List ℕ)
+    → fs ≡ faults m c → slice_get fs i ≡ Some f → IfSome (slice_get fs i) (λ f. l ≡ f.line)
+        → IfSome (slice_get fs i) (λ f. bit ≡ f.stuck)
     → said ≡ defect_text m bit → line_text c l ++ said ≡ fault_text c f
 fault_by_parts m c fs i f l bit said list at line_is bit_is said_is =
     let own_line : l ≡ f.line = rw at at line_is in
@@ -23,9 +25,14 @@ fault_by_parts m c fs i f l bit said list at line_is bit_is said_is =
     rw (said_is, own_line, own_bit, ← own_model) refl
 
 -- a coverage line from its numbers, given as texts
-pub coverage_text : (found total : ℕ) (counted a b whole tens ones : List ℕ) → a ≡ decimal found → b ≡ decimal total
-    → whole ≡ decimal (10000 * found / total / 100) → tens ≡ decimal (10000 * found / total % 100 / 10) → ones ≡ decimal (10000 * found / total % 100 % 10)
-    → a ++ (codes " of " ++ (b ++ (counted ++ (codes " (" ++ (whole ++ (codes "." ++ (tens ++ (ones ++ (codes "%)\n" ++ [])))))))))
+pub coverage_text : (found total : ℕ) (counted a b whole tens ones : List ℕ) → a ≡ decimal found
+    → b ≡ decimal total
+    → whole ≡ decimal (10000 * found / total / 100)
+        → tens ≡ decimal (10000 * found / total % 100 / 10)
+        → ones ≡ decimal (10000 * found / total % 100 % 10)
+    → a
+        ++ (codes " of " ++ (b ++ (counted
+        ++ (codes " (" ++ (whole ++ (codes "." ++ (tens ++ (ones ++ (codes "%)\n" ++ [])))))))))
     ≡ coverage_of counted found total
 coverage_text found total counted a b whole tens ones e f g h i =
     let small : 10000 * found / total % 100 / 10 < 10 = omega arith in
@@ -33,9 +40,14 @@ coverage_text found total counted a b whole tens ones e f g h i =
     rw (e, f, g, h, i, decimal_digit _ small, decimal_digit _ last) (simp append_assoc)
 
 -- the line of a point from its numbers, given as texts
-pub point_text : (total : ℕ) (point : CurvePoint) (a b whole tens ones : List ℕ) → a ≡ decimal point.test → b ≡ decimal point.detected
-    → whole ≡ decimal (10000 * point.detected / total / 100) → tens ≡ decimal (10000 * point.detected / total % 100 / 10) → ones ≡ decimal (10000 * point.detected / total % 100 % 10)
-    → a ++ (codes " " ++ (b ++ (codes " " ++ (whole ++ (codes "." ++ (tens ++ (ones ++ (codes "\n" ++ []))))))))
+pub point_text : (total : ℕ) (point : CurvePoint) (a b whole tens ones : List ℕ)
+    → a ≡ decimal point.test → b ≡ decimal point.detected
+    → whole ≡ decimal (10000 * point.detected / total / 100)
+        → tens ≡ decimal (10000 * point.detected / total % 100 / 10)
+        → ones ≡ decimal (10000 * point.detected / total % 100 % 10)
+    → a
+        ++ (codes " " ++ (b ++ (codes " "
+        ++ (whole ++ (codes "." ++ (tens ++ (ones ++ (codes "\n" ++ []))))))))
     ≡ point_line total point
 point_text total point a b whole tens ones e f g h i =
     let small : 10000 * point.detected / total % 100 / 10 < 10 = omega arith in
@@ -44,5 +56,6 @@ point_text total point a b whole tens ones e f g h i =
 
 -- the last line of the listing from its numbers, given as texts
 pub counts_text : (faults classes : ℕ) (a b : List ℕ) → a ≡ decimal faults → b ≡ decimal classes
-    → a ++ (codes " faults in " ++ (b ++ (codes " classes\n" ++ []))) ≡ decimal faults ++ codes " faults in " ++ decimal classes ++ codes " classes\n"
+    → a ++ (codes " faults in " ++ (b ++ (codes " classes\n" ++ []))) ≡ decimal faults
+        ++ codes " faults in " ++ decimal classes ++ codes " classes\n"
 counts_text faults classes a b e f = rw (e, f) (simp append_assoc)

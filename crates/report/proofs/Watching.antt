@@ -18,17 +18,21 @@ pub watched_parts : (m : Model) (bench text : List ℕ) (parts workers : ℕ) (p
     → IsWatchedFault m bench text (Some parts) workers passing stops f
 watched_parts m bench text parts workers passing stops job is (fault.Run run_fault.NoWorkers) h =
     (job, is, h)
-watched_parts m bench text parts workers passing stops job is (fault.Run run_fault.TooManyWorkers) h =
+watched_parts m bench text parts workers passing stops job is (fault.Run run_fault.TooManyWorkers) h
+    =
     (job, is, h)
-watched_parts m bench text parts workers passing stops job is (fault.Run (run_fault.NoSuchMove i)) h =
+watched_parts m bench text parts workers passing stops job is (fault.Run (run_fault.NoSuchMove i)) h
+    =
     (job, is, h)
-watched_parts m bench text parts workers passing stops job is (fault.Run run_fault.TooManyPieces) h =
+watched_parts m bench text parts workers passing stops job is (fault.Run run_fault.TooManyPieces) h
+    =
     (job, is, h)
 watched_parts m bench text parts workers passing stops job is (fault.Run run_fault.Memory) h =
     (job, is, h)
 watched_parts m bench text parts workers passing stops job is (fault.Run run_fault.Threads) h =
     (job, is, h)
-watched_parts m bench text parts workers passing stops job is (fault.Run (run_fault.Unfinished c b)) h =
+watched_parts m bench text parts workers passing stops job is (fault.Run (run_fault.Unfinished c b))
+    h =
     (job, is, h)
 watched_parts m bench text parts workers passing stops job is (fault.Report f) h =
     (job, is, h.0, h.1)
@@ -45,17 +49,21 @@ pub watched_whole : (m : Model) (bench text : List ℕ) (parts workers : ℕ) (p
     → IsWatchedFault m bench text None workers passing stops f
 watched_whole m bench text parts workers passing stops job is (fault.Run run_fault.NoWorkers) h =
     (job, is, parts_fault job parts workers run_fault.NoWorkers h)
-watched_whole m bench text parts workers passing stops job is (fault.Run run_fault.TooManyWorkers) h =
+watched_whole m bench text parts workers passing stops job is (fault.Run run_fault.TooManyWorkers) h
+    =
     (job, is, parts_fault job parts workers run_fault.TooManyWorkers h)
-watched_whole m bench text parts workers passing stops job is (fault.Run (run_fault.NoSuchMove i)) h =
+watched_whole m bench text parts workers passing stops job is (fault.Run (run_fault.NoSuchMove i)) h
+    =
     (job, is, parts_fault job parts workers (run_fault.NoSuchMove i) h)
-watched_whole m bench text parts workers passing stops job is (fault.Run run_fault.TooManyPieces) h =
+watched_whole m bench text parts workers passing stops job is (fault.Run run_fault.TooManyPieces) h
+    =
     (job, is, parts_fault job parts workers run_fault.TooManyPieces h)
 watched_whole m bench text parts workers passing stops job is (fault.Run run_fault.Memory) h =
     (job, is, parts_fault job parts workers run_fault.Memory h)
 watched_whole m bench text parts workers passing stops job is (fault.Run run_fault.Threads) h =
     (job, is, parts_fault job parts workers run_fault.Threads h)
-watched_whole m bench text parts workers passing stops job is (fault.Run (run_fault.Unfinished c b)) h =
+watched_whole m bench text parts workers passing stops job is (fault.Run (run_fault.Unfinished c b))
+    h =
     (job, parts, is, h)
 watched_whole m bench text parts workers passing stops job is (fault.Report f) h =
     (job, is, h.0, h.1)

@@ -1,5 +1,6 @@
 -- The curve of a run: how many faults are detected up to each test.
-use Rattle.std.specs.Prelude.{◌≡◌, ⊤, ℕ, nat_le, Bool, false, List, ◌++◌, map, filter, flat_map, length, Option, Some, None, count_by, codes, decimal, if◌then◌else◌}
+use Rattle.std.specs.Prelude.{◌≡◌, ⊤, ℕ, nat_le, Bool, false, List, ◌++◌, map, filter, flat_map}
+use Rattle.std.specs.Prelude.{length, Option, Some, None, count_by, codes, decimal, if◌then◌else◌}
 use Rattle.bench_net.specs.Statement.{Statement}
 use Rattle.bench_net.specs.Scan.{sources}
 use Rattle.bench_net.specs.Refusal.{IsAccepted}

@@ -1,5 +1,6 @@
 -- The text of how many tests detect each fault.
-use Rattle.std.specs.Prelude.{◌≡◌, ℕ, Bool, List, [], ◌++◌, count_by, codes, decimal, flat_map, if◌then◌else◌, length, nat_le, zip}
+use Rattle.std.specs.Prelude.{◌≡◌, ℕ, Bool, List, [], ◌++◌, count_by, codes, decimal, flat_map}
+use Rattle.std.specs.Prelude.{if◌then◌else◌, length, nat_le, zip}
 use Rattle.bench_net.specs.Statement.{Statement}
 use Rattle.bench_net.specs.Refusal.{IsAccepted}
 use Rattle.bench_net.specs.Scan.{sources}
@@ -25,7 +26,8 @@ detection_report m c most counts list =
     (if list then flat_map (count_line c) (zip (faults m c) counts) else [])
     ++ coverage_line (reached most counts) (length counts)
 
--- the bytes are this report of a bench text and a test text under a model: each fault has the number
+-- the bytes are this report of a bench text and a test text under a model: each fault has the
+-- number
 -- of tests that detect it, of which so many are counted at most
 abbrev pub IsDetectionReportOf : Model → List ℕ → List ℕ → ℕ → Bool → List ℕ → Type 0
 IsDetectionReportOf m bench text most list bytes = (c : List Statement) × (tests : TestList)

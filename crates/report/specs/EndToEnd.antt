@@ -1,5 +1,6 @@
 -- From the bytes read to the bytes written.
-use Rattle.std.specs.Prelude.{◌≡◌, ◌⊎◌, ⊤, ℕ, ◌<◌, ◌≤◌, List, length, Option, Some, None, Result, Ok, Err}
+use Rattle.std.specs.Prelude.{◌≡◌, ◌⊎◌, ⊤, ℕ, ◌<◌, ◌≤◌, List, length, Option, Some, None, Result}
+use Rattle.std.specs.Prelude.{Ok, Err}
 use Rattle.bench_net.specs.declared.BenchFault.TheVariants as bench_fault
 use Rattle.bench_net.specs.Statement.{Statement}
 use Rattle.bench_net.specs.Scan.{sources}
@@ -112,9 +113,11 @@ abbrev pub IsReadFault : List ℕ → List ℕ → SimFault → Type 0
 IsReadFault bench text fault.Memory = ⊤
 IsReadFault bench text f = IsInputFault bench text f
 
--- When each fault of a text comes whose run is refused so: those of the two texts, then those of the
+-- When each fault of a text comes whose run is refused so: those of the two texts, then those of
+-- the
 -- run, then an output that takes nothing more. No number of pieces is looked at before the run.
-abbrev pub IsTextFault : Model → List ℕ → List ℕ → ℕ → (Parts → RunFault → Type 0) → SimFault → Type 0
+abbrev pub IsTextFault : Model → List ℕ → List ℕ → ℕ → (Parts → RunFault → Type 0) → SimFault
+    → Type 0
 IsTextFault m bench text workers IsFault (fault.Run f) =
     (job : Parts) × IsJobOf m bench text job × IsFault job f
 IsTextFault m bench text workers IsFault (fault.Report f) =
@@ -130,16 +133,21 @@ abbrev pub IsPartReportFault : Model → List ℕ → List ℕ → ℕ → ℕ �
 IsPartReportFault m bench text part parts workers f =
     IsTextFault m bench text workers (λ job. IsPartFault job parts part workers ⊤ (λ _ _ _. ⊥)) f
 
--- When the report of a run that a gate watches is refused, in so many parts where a number is given:
--- as that of the run without, but where the gate stopped workers. Then the fault names the class and
+-- When the report of a run that a gate watches is refused, in so many parts where a number is
+-- given:
+-- as that of the run without, but where the gate stopped workers. Then the fault names the class
+-- and
 -- the block for which the run in parts waits, and the gate isn't one that lets every piece pass.
-abbrev pub IsWatchedFault : Model → List ℕ → List ℕ → Option ℕ → ℕ → Type 0 → Stops → SimFault → Type 0
-IsWatchedFault m bench text (Some parts) workers passing stops (fault.Run (run_fault.Unfinished class block)) =
+abbrev pub IsWatchedFault : Model → List ℕ → List ℕ → Option ℕ → ℕ → Type 0 → Stops → SimFault
+    → Type 0
+IsWatchedFault m bench text (Some parts) workers passing stops
+    (fault.Run (run_fault.Unfinished class block)) =
     (job : Parts) × IsJobOf m bench text job
     × IsPartsFault job parts workers passing stops (run_fault.Unfinished class block)
 IsWatchedFault m bench text (Some parts) workers passing stops f =
     IsPartsReportFault m bench text parts workers f
-IsWatchedFault m bench text None workers passing stops (fault.Run (run_fault.Unfinished class block)) =
+IsWatchedFault m bench text None workers passing stops
+    (fault.Run (run_fault.Unfinished class block)) =
     (job : Parts) × (parts : ℕ) × IsJobWithin m bench text job
     × IsPartsFault job parts workers passing stops (run_fault.Unfinished class block)
 IsWatchedFault m bench text None workers passing stops f = IsReportFault m bench text workers f

@@ -1,5 +1,6 @@
 -- Part texts that are put together.
-use Rattle.std.specs.Prelude.{◌≡◌, ◌≢◌, ◌⊎◌, ◌<◌, ◌≤◌, ◌^◌, ℕ, ◌+◌, List, [], ◌∷◌, ◌++◌, map, length, slice_get, slice_index_or as get_or, Contains, Option}
+use Rattle.std.specs.Prelude.{◌≡◌, ◌≢◌, ◌⊎◌, ◌<◌, ◌≤◌, ◌^◌, ℕ, ◌+◌, List, [], ◌∷◌, ◌++◌, map}
+use Rattle.std.specs.Prelude.{length, slice_get, slice_index_or as get_or, Contains, Option}
 use Rattle.workers.specs.declared.parts.PartVerdict.{PartVerdict}
 use Rattle.workers.specs.declared.parts.PartVerdict.TheVariants.{First, OtherPart}
 use Rattle.report.specs.declared.merge.Merge.{Merge}
@@ -31,7 +32,8 @@ pub record AreJoined (verdicts others both : List PartVerdict) : Type 0 where
 
 -- both parts have the fault at this place
 abbrev pub HaveBoth : List PartVerdict → List PartVerdict → ℕ → Type 0
-HaveBoth verdicts others k = (get_or verdicts k OtherPart ≢ OtherPart) × (get_or others k OtherPart ≢ OtherPart)
+HaveBoth verdicts others k = (get_or verdicts k OtherPart ≢ OtherPart)
+    × (get_or others k OtherPart ≢ OtherPart)
 
 -- lists of faults differ first at this place, where one of them may end
 pub record DifferAt (faults others : List (List ℕ)) (k : ℕ) : Type 0 where
@@ -119,7 +121,8 @@ pub record IsWholeRun (old : MergeState) (new : MergedRun) : Type 0 where
   pub faults : new.faults ≡ old.faults
   pub verdicts : old.verdicts ≡ map First new.firsts
 
--- When first tests are refused to verdicts: for the first fault of no part, which the line of a part
+-- When first tests are refused to verdicts: for the first fault of no part, which the line of a
+-- part
 -- text names, or for want of memory.
 abbrev pub IsOpenRefusal : List PartVerdict → MergeFault → Type 0
 IsOpenRefusal verdicts (fault.NoPart line) = (firsts : List (Option ℕ)) × (rest : List PartVerdict)
@@ -128,7 +131,8 @@ IsOpenRefusal verdicts fault.Memory = Unit {0}
 IsOpenRefusal verdicts _ = ⊥
 
 -- When what was put together is not that of a whole run: for the lowest part that isn't there, then
--- for the first fault that is of no part, and then for a number of faults that is none of a circuit.
+-- for the first fault that is of no part, and then for a number of faults that is none of a
+-- circuit.
 -- Want of memory may come in place of any other but the first.
 abbrev pub IsEndRefusal : MergeState → MergeFault → Type 0
 IsEndRefusal s (fault.Missing number) = (part : ℕ) × (number ≡ part + 1) × (part < s.head.parts)

@@ -1,5 +1,6 @@
 -- What a part text says, and when a text is none.
-use Rattle.std.specs.Prelude.{◌≡◌, ◌≢◌, ◌⊎◌, ◌<◌, ◌^◌, ℕ, ◌+◌, List, ◌∷◌, ◌++◌, map, zip, flat_map, length, count_by, codes, Some, None}
+use Rattle.std.specs.Prelude.{◌≡◌, ◌≢◌, ◌⊎◌, ◌<◌, ◌^◌, ℕ, ◌+◌, List, ◌∷◌, ◌++◌, map, zip, flat_map}
+use Rattle.std.specs.Prelude.{length, count_by, codes, Some, None}
 use Rattle.std.specs.List.{AllByRecursion}
 use denote.Ref.{Bor}
 use Rattle.workers.specs.declared.parts.PartVerdict.{PartVerdict}
@@ -9,7 +10,8 @@ use Rattle.report.specs.declared.part_reader.Words.{Words}
 use Rattle.report.specs.declared.part_reader.PartFault.{PartFault}
 use Rattle.report.specs.declared.part_reader.PartFault.TheVariants as fault
 use Rattle.report.specs.Cut.{Lacks}
-use Rattle.report.specs.PartText.{PartHead, head_line, verdict_line, end_line, part_text, is_found, is_own}
+use Rattle.report.specs.PartText.{PartHead, head_line, verdict_line, end_line, part_text, is_found}
+use Rattle.report.specs.PartText.{is_own}
 
 -- a word has no space and no line feed
 pub record IsWord (word : List ℕ) : Type 0 where

@@ -1,5 +1,7 @@
 -- The texts of the report and of the listing.
-use Rattle.std.specs.Prelude.{⊤, ℕ, ◌<◌, ◌+◌, ◌*◌, ◌/◌, ◌%◌, Bool, true, false, List, [], ◌∷◌, ◌++◌, length, map, zip, flat_map, Option, Some, None, if◌then◌else◌, is_none, slice_get, slice_index_or, unwrap_or, codes, decimal}
+use Rattle.std.specs.Prelude.{⊤, ℕ, ◌<◌, ◌+◌, ◌*◌, ◌/◌, ◌%◌, Bool, true, false, List, [], ◌∷◌, ◌++◌}
+use Rattle.std.specs.Prelude.{length, map, zip, flat_map, Option, Some, None, if◌then◌else◌}
+use Rattle.std.specs.Prelude.{is_none, slice_get, slice_index_or, unwrap_or, codes, decimal}
 use Rattle.bench_net.specs.Statement.{Statement}
 use Rattle.bench_net.specs.Scan.{names, name_of, cells}
 use Rattle.fault_model.specs.declared.Line.{Line}

@@ -8,4 +8,5 @@ use Rattle.report.proofs.ending.put_names.Given as goal
 
 -- the lines of the faults so far were taken whole
 abbrev pub invariant-loop-place : goal.invariant-loop-place
-invariant-loop-place g l = TakesAll (g.W.Out.seen l.initial.out) (g.W.Out.seen l.out) (flat_map (wanted_name l.lines) (take l.place (zip (texts_in l.faults) l.firsts)))
+invariant-loop-place g l = TakesAll (g.W.Out.seen l.initial.out) (g.W.Out.seen l.out)
+    (flat_map (wanted_name l.lines) (take l.place (zip (texts_in l.faults) l.firsts)))

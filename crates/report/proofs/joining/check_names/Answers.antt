@@ -3,10 +3,13 @@ use Rattle.report.proofs.Merges.{names_all, names_end, names_more}
 use Rattle.report.proofs.joining.check_names.Goals as goal
 
 pub loop-place-preserved : goal.loop-place-preserved
-loop-place-preserved c = names_more _ _ _ _ (omega arith) (omega arith) c.loop-place.invariant (c.if-not-is_same.ensures.yes refl)
+loop-place-preserved c = names_more _ _ _ _ (omega arith) (omega arith) c.loop-place.invariant
+    (c.if-not-is_same.ensures.yes refl)
 
 pub returns-then-faults-others-clause-same : goal.returns-then-faults-others-clause-same
-returns-then-faults-others-clause-same c = names_all _ _ _ (omega (arith, c.if-faults-others.true)) (omega arith) c.loop-place.invariant
+returns-then-faults-others-clause-same c = names_all _ _ _ (omega (arith, c.if-faults-others.true))
+    (omega arith) c.loop-place.invariant
 
 pub returns-else-faults-others-clause-refused : goal.returns-else-faults-others-clause-refused
-returns-else-faults-others-clause-refused c = (c.min-both.result, refl, names_end _ _ _ _ (omega arith) c.loop-place.invariant (omega arith) (omega arith))
+returns-else-faults-others-clause-refused c = (c.min-both.result, refl,
+    names_end _ _ _ _ (omega arith) c.loop-place.invariant (omega arith) (omega arith))

@@ -13,7 +13,9 @@ returns-in_err-verdict c = rw c.from_residual-in_err-verdict.ensures (λ at ok e
     c.in_err-verdict.ensures at.1 ok.verdict (line_once at _ _ _ ok e c.in_ok-name.ensures).1)
 
 pub returns-in-Some : goal.returns-in-Some
-returns-in-Some c = λ at ok e. ok.name.no_end _ (sym (line_once at _ _ _ ok e c.in_ok-name.ensures).0 ∙ c.in-Some.ensures)
+returns-in-Some c = λ at ok e. ok.name.no_end _
+    (sym (line_once at _ _ _ ok e c.in_ok-name.ensures).0 ∙ c.in-Some.ensures)
 
 pub returns-in-None : goal.returns-in-None
-returns-in-None c = line_read _ _ _ _ c.requires c.in_ok-name.ensures c.in-None.ensures c.in_ok-verdict.ensures
+returns-in-None c = line_read _ _ _ _ c.requires c.in_ok-name.ensures c.in-None.ensures
+    c.in_ok-verdict.ensures

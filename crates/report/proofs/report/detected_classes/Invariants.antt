@@ -5,4 +5,5 @@ use Rattle.report.proofs.report.detected_classes.Given as goal
 
 -- the classes so far that are detected
 abbrev pub invariant-loop-class : goal.invariant-loop-class
-invariant-loop-class l = (l.found ≡ count_by is_some (take l.class (class_firsts l.classes l.verdicts.firsts))) × (l.found ≤ l.class)
+invariant-loop-class l = (l.found ≡ count_by is_some
+    (take l.class (class_firsts l.classes l.verdicts.firsts))) × (l.found ≤ l.class)

@@ -1,5 +1,6 @@
 use Rattle.block_sim.specs.Parts.{piece_count}
-use Rattle.report.specs.EndToEnd.{IsReportOf, IsReportOfJob, IsScheduleReportFault, IsScheduleTextFault}
+use Rattle.report.specs.EndToEnd.{IsReportOf, IsReportOfJob, IsScheduleReportFault}
+use Rattle.report.specs.EndToEnd.{IsScheduleTextFault}
 use Rattle.report.proofs.Accepted.{job_of_texts}
 use Rattle.report.proofs.Runs.{written_as, refused_as, report_of, moves_fault}
 use Rattle.report.proofs.text.schedule_text_in.Goals as goal
@@ -10,18 +11,25 @@ report_schedule-requires g c = c.in_ok-job.ensures.job.2
 pub returns-clause-written : goal.returns-clause-written
 returns-clause-written g c =
     let job = c.in_ok-job.job in
-    let made = job_of_texts c.args.model c.args.bench.now c.args.tests.now c.in_ok-circuit.circuit c.in_ok-circuit.tests job
+    let made = job_of_texts c.args.model c.args.bench.now c.args.tests.now c.in_ok-circuit.circuit
+        c.in_ok-circuit.tests job
     c.in_ok-circuit.ensures.circuit c.in_ok-circuit.ensures.tests c.in_ok-job.ensures.job in
-    written_as (IsReportOfJob job c.args.contents) (IsReportOf c.args.model c.args.bench.now c.args.tests.now c.args.contents)
-    c.report_schedule.result _ _ (report_of c.args.model c.args.bench.now c.args.tests.now c.args.contents job made) c.report_schedule.ensures.written
+    written_as (IsReportOfJob job c.args.contents)
+        (IsReportOf c.args.model c.args.bench.now c.args.tests.now c.args.contents)
+    c.report_schedule.result _ _ (report_of c.args.model c.args.bench.now c.args.tests.now
+        c.args.contents job made) c.report_schedule.ensures.written
 
 pub returns-clause-refused : goal.returns-clause-refused
 returns-clause-refused g c =
     let job = c.in_ok-job.job in
-    let made = job_of_texts c.args.model c.args.bench.now c.args.tests.now c.in_ok-circuit.circuit c.in_ok-circuit.tests job
+    let made = job_of_texts c.args.model c.args.bench.now c.args.tests.now c.in_ok-circuit.circuit
+        c.in_ok-circuit.tests job
     c.in_ok-circuit.ensures.circuit c.in_ok-circuit.ensures.tests c.in_ok-job.ensures.job in
     let moves = c.in_ok-moves.moves.items in
-    refused_as (IsScheduleReportFault (piece_count job) moves c.args.workers) (IsScheduleTextFault c.args.model c.args.bench.now c.args.tests.now c.args.order.now c.args.workers)
+    refused_as (IsScheduleReportFault (piece_count job) moves c.args.workers)
+        (IsScheduleTextFault c.args.model c.args.bench.now c.args.tests.now c.args.order.now
+        c.args.workers)
     c.report_schedule.result
-    (moves_fault c.args.model c.args.bench.now c.args.tests.now c.args.order.now c.args.workers job moves (made, c.in_ok-job.ensures.few) c.in_ok-moves.ensures.moves)
+    (moves_fault c.args.model c.args.bench.now c.args.tests.now c.args.order.now c.args.workers job
+        moves (made, c.in_ok-job.ensures.few) c.in_ok-moves.ensures.moves)
     (rw (c.deref.ensures.value) at c.report_schedule.ensures.refused)

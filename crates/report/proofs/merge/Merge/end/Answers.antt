@@ -22,7 +22,8 @@ pub returns-then-is_empty-clause-refused : goal.returns-then-is_empty-clause-ref
 returns-then-is_empty-clause-refused c =
     let at = rw (c.as_slice.ensures.value) at c.in_default.ensures in
     let verdicts = rw (c.as_slice-2.ensures.value) at c.in_ok-firsts.ensures.firsts in
-    (at, no_verdict _ _ _ verdicts (omega (arith, c.in_ok-firsts.firsts.ok.0)) (sym c.if-is_empty.ensures))
+    (at, no_verdict _ _ _ verdicts (omega (arith, c.in_ok-firsts.firsts.ok.0))
+        (sym c.if-is_empty.ensures))
 
 pub returns-then-len-clause-refused : goal.returns-then-len-clause-refused
 returns-then-len-clause-refused c =
