@@ -11,72 +11,81 @@ use std::sync::atomic::{AtomicU64, Ordering};
 use std::sync::{Mutex, Wait};
 use std::thread::Threads;
 
-/// One class in so many is watched, by its number: a note of each piece would cost more than some
-/// pieces do. It is a prime, so that of cells that are all alike not the same class is watched.
-const EVERY: u32 = 61;
+/// One piece in so many is watched: that of a class and a block whose numbers leave the same. A note
+/// of each piece would cost more than some pieces do.
+const EVERY: u32 = 64;
 
-/// How many pieces of watched classes worker 0 passes from one look at the figure to the next.
-const BETWEEN: u32 = 4096;
+/// How many watched pieces worker 0 passes from one look at the figure to the next. They stand for
+/// 3,200,000 pieces, which take a tenth of a second where pieces take little.
+const BETWEEN: u64 = 50_000;
 
-/// What a worker alone knows of the classes that are watched.
-#[derive(Clone, Copy)]
-struct Work {
-    /// The pieces of the parts that it has run.
-    done: u64,
-    /// The classes that it has seen of the part that it runs.
-    classes: u64,
-    /// The block at which it is.
-    block: u32,
-}
-
-impl Work {
-    /// Takes note of a class on a block, of so many blocks, and gives the number of pieces that are
-    /// settled. A worker goes over the classes of a part block after block, so block 0 after
-    /// another is that of a new part.
-    fn note(&mut self, block: u32, blocks: u64) -> u64 {
-        if block == 0 && self.block > 0 {
-            self.done = self
-                .done
-                .saturating_add(self.classes.saturating_mul(blocks));
-            self.classes = 0;
-        }
-        if block == 0 {
-            self.classes = self.classes.saturating_add(1);
-        }
-        self.block = block;
-        let settled = self.classes.saturating_mul(u64::from(block.max(1)));
-        self.done.saturating_add(settled)
-    }
-}
-
-/// The place of a worker, with room behind it, so that no two workers write to one line of a cache.
+/// What a worker knows of its work, as one piece in so many has it. It alone writes here, and there
+/// is room behind, so that no two workers write to one line of a cache.
 #[derive(Drop)]
 struct Place {
+    /// The pieces that it has settled.
     settled: AtomicU64,
-    work: Mutex<Work>,
-    _room: [u64; 12],
+    /// Those of the parts that it has run.
+    done: AtomicU64,
+    /// The classes of the part that it runs: those that are watched at block 0, where it comes to
+    /// all of them.
+    classes: AtomicU64,
+    /// The block at which it is.
+    block: AtomicU64,
+    /// The watched pieces that it has passed.
+    passed: AtomicU64,
+    _room: [u64; 11],
 }
 
 impl Place {
     fn new() -> Place {
-        let work = Work {
-            done: 0,
-            classes: 0,
-            block: 0,
-        };
         Place {
             settled: AtomicU64::new(0),
-            work: Mutex::new(work),
-            _room: [0; 12],
+            done: AtomicU64::new(0),
+            classes: AtomicU64::new(0),
+            block: AtomicU64::new(0),
+            passed: AtomicU64::new(0),
+            _room: [0; 11],
         }
     }
 
-    /// Takes note of a class on a block, of so many blocks.
-    fn note(&self, block: u32, blocks: u64) {
-        if let Some(mut work) = self.work.try_lock() {
-            let settled = work.note(block, blocks);
-            self.settled.store(settled, Ordering::SeqCst);
+    /// Takes note of a piece on a block, of so many blocks. A worker goes over the classes of a part
+    /// block after block, so block 0 after another is that of a new part.
+    fn note(&self, block: u64, blocks: &AtomicU64) {
+        let before = self.block.load(Ordering::SeqCst);
+        if block > 0 && block == before {
+            return;
         }
+        if block == 0 && before > 0 {
+            self.end_part(blocks.load(Ordering::SeqCst));
+        }
+        if block == 0 {
+            self.classes.fetch_add(1, Ordering::SeqCst);
+        }
+        self.block.store(block, Ordering::SeqCst);
+        let part = self
+            .classes
+            .load(Ordering::SeqCst)
+            .saturating_mul(block.max(1));
+        let done = self.done.load(Ordering::SeqCst);
+        self.settled
+            .store(done.saturating_add(part), Ordering::SeqCst);
+    }
+
+    /// Counts all pieces of the part as settled.
+    fn end_part(&self, blocks: u64) {
+        let part = self
+            .classes
+            .swap(0, Ordering::SeqCst)
+            .saturating_mul(blocks);
+        let done = self.done.load(Ordering::SeqCst);
+        self.done.store(done.saturating_add(part), Ordering::SeqCst);
+    }
+
+    /// Whether it has passed enough for another look at the figure.
+    fn is_time(&self) -> bool {
+        let before = self.passed.fetch_add(1, Ordering::SeqCst);
+        before % BETWEEN == BETWEEN - 1
     }
 }
 
@@ -85,8 +94,6 @@ impl Place {
 struct Pen<'a, E> {
     err: &'a mut E,
     alloc: Global,
-    /// The pieces of watched classes that worker 0 has passed since the last look.
-    passed: u32,
     /// The figure that was drawn last.
     percent: u64,
     /// Whether a line stands that has no end.
@@ -98,20 +105,9 @@ impl<'a, E: Out> Pen<'a, E> {
         Pen {
             err,
             alloc,
-            passed: 0,
             percent: 0,
             open: false,
         }
-    }
-
-    /// Whether worker 0 has passed enough for a look.
-    fn is_time(&mut self) -> bool {
-        self.passed = self.passed.saturating_add(1);
-        if self.passed < BETWEEN {
-            return false;
-        }
-        self.passed = 0;
-        true
     }
 
     /// Draws how many of the pieces are settled, where the figure is another than before.
@@ -167,9 +163,8 @@ fn percent_of(settled: u64, pieces: u64) -> u64 {
     settled.saturating_mul(100) / pieces.max(1)
 }
 
-/// A gate that lets every piece pass, and draws how many are settled. The pieces of watched classes
-/// are counted, and stand for the others. Each worker counts in a place of its own, and worker 0
-/// draws.
+/// A gate that lets every piece pass, and draws how many are settled, as the watched ones have it.
+/// Each worker counts in a place of its own, and worker 0 draws.
 #[derive(Drop)]
 pub(crate) struct Progress<'a, E> {
     places: Vec<Place>,
@@ -208,7 +203,7 @@ impl<'a, E: Out> Progress<'a, E> {
         pen.into_inner().end_line();
     }
 
-    /// How many pieces are settled, as the watched classes have it.
+    /// How many pieces are settled, of so many.
     fn settled(&self, pieces: u64) -> u64 {
         let mut settled = 0u64;
         for place in &self.places {
@@ -217,13 +212,23 @@ impl<'a, E: Out> Progress<'a, E> {
         settled.saturating_mul(u64::from(EVERY)).min(pieces)
     }
 
-    /// Draws how far the run is, where it is time.
-    fn look(&self) {
-        if let Some(mut pen) = self.pen.try_lock() {
-            if pen.is_time() {
-                let pieces = self.pieces.load(Ordering::SeqCst);
-                pen.draw(self.settled(pieces), pieces);
+    /// Takes note of a watched piece. It stands apart, so that the others cost a comparison alone.
+    #[inline(never)]
+    fn note(&self, worker: u32, block: u32) {
+        if let Some(place) = self.places.get(worker as usize) {
+            place.note(u64::from(block), &self.blocks);
+            if worker == 0 && place.is_time() {
+                self.look();
             }
+        }
+    }
+
+    /// Draws how far the run is.
+    fn look(&self) {
+        let pieces = self.pieces.load(Ordering::SeqCst);
+        let settled = self.settled(pieces);
+        if let Some(mut pen) = self.pen.try_lock() {
+            pen.draw(settled, pieces);
         }
     }
 }
@@ -234,15 +239,10 @@ impl<E: Out> Gate for Progress<'_, E> {
     ghost stops = { λ _ _ _ _. ⊥ };
 
     fn pass(&self, worker: u32, class: u32, block: u32) -> bool {
-        if class % EVERY != 0 {
+        if class % EVERY != block % EVERY {
             return true;
         }
-        if let Some(place) = self.places.get(worker as usize) {
-            place.note(block, self.blocks.load(Ordering::SeqCst));
-        }
-        if worker == 0 {
-            self.look();
-        }
+        self.note(worker, block);
         true
     }
 }

@@ -26,6 +26,8 @@ mod parts;
 #[cfg(test)]
 mod process;
 #[cfg(test)]
+mod progress;
+#[cfg(test)]
 mod rows;
 #[cfg(test)]
 mod screen;

@@ -10,11 +10,11 @@ use std::thread::Threads;
 
 /// So many copies of a part, and what stands before them and after them.
 #[derive(Clone, Copy)]
-struct Long {
-    before: &'static str,
-    part: &'static str,
-    count: u32,
-    after: &'static str,
+pub struct Long {
+    pub before: &'static str,
+    pub part: &'static str,
+    pub count: u32,
+    pub after: &'static str,
 }
 
 /// A command line on files past a limit, and the words of the refusal.
@@ -132,7 +132,7 @@ static LONG_RUNS: [Past; 4] = [
 ];
 
 /// The text of a file that is long.
-fn spelled(alloc: Global, long: &Long) -> Result<String, AllocError> {
+pub fn spelled(alloc: Global, long: &Long) -> Result<String, AllocError> {
     let mut text = String::from_str(alloc, long.before)?;
     for _ in 0..long.count {
         text.push_str(long.part)?;

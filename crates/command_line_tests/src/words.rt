@@ -14,7 +14,7 @@ pub static MISSING: [&str; 9] = [
 ];
 
 /// Command lines that the program refuses, and what it says of each.
-pub static MISUSED: [(&str, &str); 40] = [
+pub static MISUSED: [(&str, &str); 43] = [
     ("faultsim", "Usage"),
     ("faultsim simulate", "simulate"),
     ("faultsim run --bench bench", "--tests <FILE>"),
@@ -145,12 +145,24 @@ pub static MISUSED: [(&str, &str); 40] = [
         "faultsim run --bench bench --tests tests --format csv --parts 2",
         "--format",
     ),
+    (
+        "faultsim run --bench bench --tests tests --progress --part 1/2",
+        "--progress",
+    ),
+    (
+        "faultsim run --bench bench --tests tests --progress --detections 2",
+        "--progress",
+    ),
+    (
+        "faultsim run --bench bench --tests tests --progress --format csv",
+        "--progress",
+    ),
 ];
 
 /// What help tells: the version, each option with the name of its value, the defaults, the range of
 /// the workers, a worked example and the status. The outputs of the examples are cases of their
 /// own.
-pub static HELP: [(&str, &str); 36] = [
+pub static HELP: [(&str, &str); 37] = [
     ("faultsim --version", "faultsim 0.2.0\n"),
     ("faultsim --help", "6 of 6 (100.00%)"),
     ("faultsim help run", "--bench <FILE>"),
@@ -186,5 +198,6 @@ pub static HELP: [(&str, &str); 36] = [
     ("faultsim run -h", "none where no test detects it"),
     ("faultsim run --help", "uncollapsed"),
     ("faultsim run --help", "text, csv, json"),
+    ("faultsim run -h", "--progress"),
     ("faultsim check --help", "did you mean NOT?"),
 ];

@@ -1,0 +1,166 @@
+//! The option `--progress`: what it draws on standard error, and that it changes nothing else.
+
+use crate::commands::C17_FILES;
+use crate::limits::{Long, spelled};
+use crate::screen::{Answer, Screen, Texts, Wanted, answers, run_between, run_on};
+use std::alloc::{AllocError, Global};
+use std::fmt::Write;
+use std::sync::Wait;
+use std::test::Fail;
+use std::thread::Threads;
+use worked_circuits::C17_TEXT as C17;
+
+const RUN: &str = "faultsim run --bench bench --tests tests";
+
+/// What is drawn last of C17, which has 22 classes, on one block of tests.
+const ALL_OF_C17: &str = "\r22 of 22 pieces, 100%\n";
+
+/// Options that go with `--progress`.
+static OPTIONS: [&str; 5] = [
+    "--workers 4",
+    "--workers 1 --list",
+    "--undetected --classes",
+    "--parts 3 --workers 2",
+    "--parts 65",
+];
+
+/// Whether two answers are the same but for standard error.
+fn is_same(first: &Answer, second: &Answer) -> bool {
+    first.status == second.status && first.out.text() == second.out.text()
+}
+
+/// Whether a run of C17 with these options draws its last line, and without `--progress` nothing.
+fn draws_last<R: AllocGlobal + Threads + Wait>(rt: &R, options: &str) -> Result<bool, AllocError> {
+    let line = format!(in rt.alloc(); "{RUN} {options}")?;
+    let watched = format!(in rt.alloc(); "{line} --progress")?;
+    let plain = run_on(rt, &line, C17_FILES, Screen::new(rt.alloc()))?;
+    let told = run_on(rt, &watched, C17_FILES, Screen::new(rt.alloc()))?;
+    Ok(
+        is_same(&plain, &told)
+            && plain.status == 0
+            && plain.err.text().is_empty()
+            && told.err.text() == ALL_OF_C17.as_bytes(),
+    )
+}
+
+#[test]
+fn last_line_is_drawn_with_the_flag_alone(rt: HostRuntime) -> Result<(), Fail> {
+    for options in &OPTIONS {
+        assert!(rt; draws_last(&rt, options)?, "{options}");
+    }
+    Ok(())
+}
+
+/// Whether a run of C17 answers the same where standard error takes so many bytes.
+fn stays_the_same<R: AllocGlobal + Threads + Wait>(
+    rt: &R,
+    limit: usize,
+) -> Result<bool, AllocError> {
+    let line = format!(in rt.alloc(); "{RUN} --progress")?;
+    let (out, err) = (
+        Screen::new(rt.alloc()),
+        Screen::cut(rt.alloc(), limit, 4096),
+    );
+    let told = run_between(rt, &line, C17_FILES, out, err)?;
+    Ok(
+        told.status == 0
+            && told.out.text() == b"14 of 34 (41.17%)\n".as_slice()
+            && ALL_OF_C17.as_bytes().get(..limit) == Some(told.err.text()),
+    )
+}
+
+#[test]
+fn failing_standard_error_changes_nothing(rt: HostRuntime) -> Result<(), Fail> {
+    for limit in [0, 1, 22] {
+        assert!(rt; stays_the_same(&rt, limit)?, "{limit}");
+    }
+    Ok(())
+}
+
+/// Test texts of C17, and what is to come.
+static TEXTS: [(&str, Wanted); 2] = [
+    (
+        "",
+        Wanted {
+            stdout: "0 of 34 (0.00%)\n",
+            stderr: "\r0 of 0 pieces, 100%\n",
+            status: 0,
+        },
+    ),
+    (
+        "1\n",
+        Wanted {
+            stdout: "",
+            stderr: "faultsim: tests line 1: wrong width\n",
+            status: 1,
+        },
+    ),
+];
+
+#[test]
+fn no_tests_are_all_and_a_refused_text_draws_nothing(rt: HostRuntime) -> Result<(), Fail> {
+    let line = format!(in rt.alloc(); "{RUN} --progress")?;
+    for (tests, wanted) in &TEXTS {
+        let files = Texts {
+            bench: C17,
+            tests,
+            order: "",
+        };
+        assert!(rt; answers(&rt, &line, files, *wanted)?, "{tests}");
+    }
+    Ok(())
+}
+
+#[test]
+fn the_line_ends_before_a_refusal(rt: HostRuntime) -> Result<(), Fail> {
+    let line = format!(in rt.alloc(); "{RUN} --progress")?;
+    let told = run_on(&rt, &line, C17_FILES, Screen::cut(rt.alloc(), 0, 4096))?;
+    let wanted = b"\r22 of 22 pieces, 100%\nfaultsim: cannot write\n".as_slice();
+    assert!(rt; told.err.text() == wanted && told.status == 3);
+    Ok(())
+}
+
+/// 3,199 gates that no output observes: of each its pin and itself are of the same two classes. With
+/// the input's that makes 6,400 classes, and no test detects one.
+fn many_buffers(alloc: Global) -> Result<String, Fail> {
+    let mut text = String::from_str(alloc, "INPUT(a)\n")?;
+    for number in 0..3199 {
+        write!(text, "g{number} = BUFF(a)\n")?;
+    }
+    Ok(text)
+}
+
+/// As many tests as there may be: 1,024 blocks.
+const MANY: Long = Long {
+    before: "",
+    part: "0\n",
+    count: 65_536,
+    after: "",
+};
+
+/// What one worker draws of all that: of 6,400 pieces of a block 100 are watched, so it looks when
+/// it comes to the ends of block 499 and of block 999.
+const DRAWN: &str = "\
+    \r3193600 of 6553600 pieces, 48%\
+    \r6393600 of 6553600 pieces, 97%\
+    \r6553600 of 6553600 pieces, 100%\n\
+    ";
+
+#[test]
+fn a_long_run_draws_line_over_line(rt: HostRuntime) -> Result<(), Fail> {
+    let bench = many_buffers(rt.alloc())?;
+    let tests = spelled(rt.alloc(), &MANY)?;
+    let files = Texts {
+        bench: &bench,
+        tests: &tests,
+        order: "",
+    };
+    let wanted = Wanted {
+        stdout: "0 of 12798 (0.00%)\n",
+        stderr: DRAWN,
+        status: 0,
+    };
+    let line = format!(in rt.alloc(); "{RUN} --workers 1 --progress")?;
+    assert!(rt; answers(&rt, &line, files, wanted)?);
+    Ok(())
+}
