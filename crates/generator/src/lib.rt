@@ -22,8 +22,8 @@ ghost use Rattle.generator.specs.Generated.{HasFewRows, HasJob, IsGeneratorFault
 use crate::best::best_tests;
 use crate::search::search;
 pub use arguments::run_arguments;
-pub use command::run_words;
 use bench_net::one_answer;
+pub use command::run_words;
 use fault_model::Model;
 use patterns::laws::one_answer_of_tests;
 use patterns::write_tests;

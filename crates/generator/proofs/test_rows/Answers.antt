@@ -17,5 +17,8 @@ returns-clause-job g c =
     text_has_job c.args.settings.model c.args.bench.now c.in_ok-write_tests.field-0.items job best
     is.0 is.2 is.3
     (c.in_ok-best.ensures.width ∙ c.in_ok-found.ensures.width) c.width-width.ensures.tests few
-    (c.in_ok-write_tests.ensures.read (omega (arith, c.in_ok-best.ensures.width,
-    c.in_ok-found.ensures.some)))
+    (c.in_ok-write_tests.ensures.read (omega (
+      arith,
+      c.in_ok-best.ensures.width,
+      c.in_ok-found.ensures.some,
+    )))
