@@ -1,1 +1,3 @@
 mod Left
+mod Pieces
+mod Texts

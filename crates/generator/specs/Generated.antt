@@ -1,16 +1,31 @@
 -- What a generator gives, and when it is refused.
-use Rattle.std.specs.Prelude.{◌≡◌, ◌⊎◌, ⊤, ℕ, ◌<◌, ◌≤◌, Bool, List, Option, filter, is_none, length, map, zip}
+use Rattle.std.specs.Prelude.{◌≡◌, ◌⊎◌, ⊤, ℕ, ◌*◌, ◌<◌, ◌≤◌, Bool, List, Option, filter, is_none}
+use Rattle.std.specs.Prelude.{length, map, zip}
 use Rattle.bench_net.specs.declared.BenchFault.TheVariants as bench_fault
 use Rattle.bench_net.specs.Refusal.{IsRefused}
+use Rattle.fault_model.specs.declared.Model.{Model}
 use Rattle.patterns.specs.Making.{test_text}
+use Rattle.patterns.specs.Tests.{blocks, max_pieces}
+use Rattle.patterns.specs.declared.TestFault.TheVariants as test_fault
+use Rattle.block_sim.specs.declared.job.JobFault.TheVariants as job_fault
+use Rattle.block_sim.specs.Parts.{Parts}
 use Rattle.workers.specs.declared.RunFault.{RunFault}
 use Rattle.workers.specs.declared.RunFault.TheVariants.{NoWorkers, TooManyWorkers, Memory, Threads}
 use Rattle.report.specs.declared.text.SimFault.{SimFault}
 use Rattle.report.specs.declared.text.SimFault.TheVariants as fault
+use Rattle.report.specs.EndToEnd.{IsJobWithin}
 
 -- the text is that of at most so many tests
 abbrev pub HasFewRows : ℕ → List ℕ → Type 0
 HasFewRows most text = (tests : List (List Bool)) × (text ≡ test_text tests) × (length tests ≤ most)
+
+-- the two texts have a job under the model, within the limit of pieces
+abbrev pub HasJob : Model → List ℕ → List ℕ → Type 0
+HasJob m bench text = (job : Parts) × IsJobWithin m bench text job
+
+-- so many classes on the blocks of so many tests are within the limit of pieces
+abbrev pub AreFewPieces : ℕ → ℕ → Type 0
+AreFewPieces classes tests = classes * blocks tests ≤ max_pieces
 
 -- of classes, given with the first test that detects each, those that no test detects
 abbrev pub undetected : List ℕ → List (Option ℕ) → List ℕ
@@ -26,16 +41,17 @@ IsSearchFault workers Memory = (0 < workers) × (workers ≤ 64)
 IsSearchFault workers Threads = (0 < workers) × (workers ≤ 64)
 IsSearchFault workers _ = ⊥
 
--- When each fault of the search comes. Want of memory may come any time; a job is refused for that,
--- or where a round makes too many pieces.
+-- When each fault of the search comes. Want of memory may come any time, and a job is refused for
+-- that alone: no round makes too many pieces.
 abbrev pub IsWorkFault : ℕ → SimFault → Type 0
 IsWorkFault workers (fault.Run f) = IsSearchFault workers f
-IsWorkFault workers (fault.Job f) = ⊤
+IsWorkFault workers (fault.Job f) = f ≡ job_fault.Memory
 IsWorkFault workers fault.Memory = ⊤
 IsWorkFault workers _ = ⊥
 
--- the same of the generator, which reads the bench text before it searches
+-- the same of the generator, which reads the bench text before it searches; its own test text is
+-- refused for want of memory alone
 abbrev pub IsGeneratorFault : List ℕ → ℕ → SimFault → Type 0
 IsGeneratorFault bench workers (fault.Bench f) = (f ≡ bench_fault.Memory) ⊎ IsRefused bench f
-IsGeneratorFault bench workers (fault.Tests f) = ⊤
+IsGeneratorFault bench workers (fault.Tests f) = f ≡ test_fault.Memory
 IsGeneratorFault bench workers f = IsWorkFault workers f

@@ -104,7 +104,7 @@ fn make_tests<'a, R: Threads + Wait, S: Source, W: Out, E: Out>(
 
 /// The settings that a command line names.
 fn read_settings<'a>(matches: &ArgMatches<'a>) -> Result<Settings, Fault<'a>> {
-    let Some(model) = matches.get_str("model").and_then(model_named) else {
+    let Some(model) = matches.get_str("model").and_then(|name| model_named(name)) else {
         return Err(Fault::Misused("--model"));
     };
     let Some(seed) = matches.get_one::<u64>("seed") else {

@@ -20,7 +20,9 @@ pub(crate) fn keep_tests(
     kept: &mut Tests,
 ) -> Result<(), AllocError>
     requires classes { All (λ class. class < length job.now.classes.representative) classes.now }
+    requires few { length kept.old.tests ≤ room }
     ensures width { kept.new.width ≡ kept.old.width }
+    ensures few { length kept.new.tests ≤ room }
 {
     let needed = needed_tests(alloc, job, classes, firsts)?;
     let pairs = job.faults().model() != Model::StuckAt;

@@ -17,13 +17,15 @@ mod search;
 ghost use Rattle.std.specs.Prelude.{◌<◌, ◌≤◌, IfErr, IfOk, OnOk, false};
 ghost use Rattle.report.specs.EndToEnd.{IsReportOf};
 ghost use Rattle.report.specs.declared.contents.Lines.TheVariants.{Omitted};
-ghost use Rattle.generator.specs.Generated.{HasFewRows, IsGeneratorFault};
+ghost use Rattle.generator.specs.Generated.{HasFewRows, HasJob, IsGeneratorFault};
 
 use crate::best::best_tests;
 use crate::search::search;
 pub use arguments::run_arguments;
+use bench_net::one_answer;
 pub use command::run_words;
 use fault_model::Model;
+use patterns::laws::one_answer_of_tests;
 use patterns::write_tests;
 use report::{Contents, Lines, SimFault, job_of, report_bytes};
 use std::alloc::Global;
@@ -73,6 +75,9 @@ pub fn generate<R: Threads + Wait>(
     ensures workers { OnOk result ((0 < settings.workers) × (settings.workers ≤ 64)) }
     ensures refused { IfErr result (IsGeneratorFault bench.now settings.workers) }
 {
+    // Laws: the report reads the circuit and the tests that were read and written before.
+    one_answer();
+    one_answer_of_tests();
     let tests = test_rows(rt, alloc, bench, settings)?;
     let contents = Contents {
         lines: Lines::Omitted,
@@ -83,7 +88,7 @@ pub fn generate<R: Threads + Wait>(
     Ok(Generated { tests, coverage })
 }
 
-/// The text of tests for the circuit of a bench text.
+/// The text of tests for the circuit of a bench text, within the limit of pieces.
 fn test_rows<R: Threads + Wait>(
     rt: &R,
     alloc: Global,
@@ -91,10 +96,12 @@ fn test_rows<R: Threads + Wait>(
     settings: Settings,
 ) -> Result<Vec<u8>, SimFault>
     ensures few { IfOk result (λ text. HasFewRows settings.most text.items) }
+    ensures job { IfOk result (λ text. HasJob settings.model bench.now text.items) }
     ensures refused { IfErr result (IsGeneratorFault bench.now settings.workers) }
 {
     let mut job = job_of(alloc, settings.model, bench, b"")?;
     let found = search(rt, alloc, &mut job, settings)?;
     let best = best_tests(rt, alloc, &mut job, found, settings)?;
+    let _width = best.width();
     Ok(write_tests(alloc, &best)?)
 }

@@ -1,10 +1,10 @@
 //! Rounds of random tests, and the classes that are left.
 
-ghost use Rattle.std.specs.Prelude.{◌≡◌, ◌<◌, ◌≤◌, All, IfErr, IfOk, OnOk, length};
+ghost use Rattle.std.specs.Prelude.{◌≡◌, ◌*◌, ◌<◌, ◌≤◌, All, IfErr, IfOk, OnOk, length};
 ghost use Rattle.bench_net.specs.Scan.{sources};
-ghost use Rattle.patterns.specs.Tests.{IsTestList, max_pieces};
+ghost use Rattle.patterns.specs.Tests.{IsTestList, max_pieces, max_tests};
 ghost use Rattle.block_sim.specs.Parts.{piece_count};
-ghost use Rattle.generator.specs.Generated.{IsWorkFault, undetected};
+ghost use Rattle.generator.specs.Generated.{AreFewPieces, IsWorkFault, undetected};
 
 use crate::Settings;
 use crate::keeping::keep_tests;
@@ -32,7 +32,12 @@ pub(crate) fn search<R: Threads + Wait>(
     job: &mut Job,
     settings: Settings,
 ) -> Result<Tests, SimFault>
-    ensures width { IfOk result (λ kept. kept.width ≡ length (sources job.new.circuit)) }
+    ensures classes { job.new.classes ≡ job.old.classes }
+    ensures circuit { job.new.circuit ≡ job.old.circuit }
+    ensures some { IfOk result (λ kept. 1 ≤ kept.width) }
+    ensures width { IfOk result (λ kept. kept.width ≡ length (sources job.old.circuit)) }
+    ensures pieces { IfOk result (λ kept.
+        AreFewPieces (length job.old.classes.representative) (length kept.tests)) }
     ensures refused { IfErr result (IsWorkFault settings.workers) }
 {
     let mut rng = SmallRng::seed_from_u64(settings.seed);
@@ -60,7 +65,10 @@ pub(crate) fn search<R: Threads + Wait>(
 }
 
 /// How many tests a job takes.
-fn room_of(job: &Job) -> u32 {
+fn room_of(job: &Job) -> u32
+    ensures limit { result ≤ max_tests }
+    ensures pieces { AreFewPieces (length job.now.classes.representative) result }
+{
     let blocks = MAX_PIECES / job.classes().count().max(1);
     BLOCK_SIZE * blocks.min(MAX_TESTS / BLOCK_SIZE)
 }
@@ -86,10 +94,12 @@ fn take_random_tests(
     blocks: u32,
     rng: &mut SmallRng,
 ) -> Result<(), JobFault>
-    requires { blocks ≤ 1024 }
+    requires limit { blocks ≤ 1024 }
+    requires pieces { AreFewPieces (length job.old.classes.representative) (64 * blocks) }
     ensures classes { job.new.classes ≡ job.old.classes }
     ensures circuit { job.new.circuit ≡ job.old.circuit }
     ensures few { OnOk result (piece_count job.new ≤ max_pieces) }
+    ensures refused { IfErr result (λ fault. fault ≡ JobFault.Memory) }
 {
     let tests = random_tests(alloc, job.circuit().sources(), blocks, rng)?;
     job.set_tests(alloc, tests)
@@ -105,6 +115,7 @@ fn random_tests(
     requires { blocks ≤ 1024 }
     ensures list { IfOk result (λ tests. IsTestList tests) }
     ensures width { IfOk result (λ tests. tests.width ≡ width) }
+    ensures count { IfOk result (λ tests. length tests.tests ≡ 64 * blocks) }
 {
     let count = width as usize * blocks as usize;
     let mut words = Vec::with_capacity(alloc, count)?;

@@ -1,6 +1,4 @@
-use Rattle.std.proofs.Common.{◌≡◌, ◌<◌, ℕ, List, All, length, sym, ap, subst, ◌∙◌, arith}
-use Rattle.bench_net.specs.Scan.{sources}
-use Rattle.bench_net.specs.Statement.{Statement}
+use Rattle.std.proofs.Common.{◌<◌, ℕ, List, All, length, sym, ap, subst, ◌∙◌, arith}
 use Rattle.fault_model.specs.Collapse.{Collapsed}
 use Rattle.generator.proofs.Left.{left_few, left_within}
 use Rattle.generator.proofs.search.search.Goals.{then-len, else-len}
@@ -18,11 +16,20 @@ loop-round-preserved g c =
     let less = left_few before firsts in
     let is = ap (λ (l : List ℕ). length l) c.in_ok-still.ensures in
     let same = ap (λ (l : List ℕ). length l) c.deref-in-loop-round-3.ensures.value in
-    let own : All (λ x. x < n) c.loop-round.left.items = subst (λ m. All (λ (x : ℕ). x < m) c.loop-round.left.items) (sym number) was.within in
-    let shared : All (λ x. x < n) before = subst (λ (xs : List ℕ). All (λ x. x < n) xs) (sym c.deref-in-loop-round-3.ensures.value) own in
+    let own : All (λ x. x < n) c.loop-round.left.items =
+    subst (λ m. All (λ (x : ℕ). x < m) c.loop-round.left.items) (sym number) was.within in
+    let shared : All (λ x. x < n) before =
+    subst (λ (xs : List ℕ). All (λ x. x < n) xs) (sym c.deref-in-loop-round-3.ensures.value) own in
     record {
+      circuit = c.take_random_tests.ensures.circuit ∙ was.circuit;
+      classes = classes ∙ was.classes;
       few = omega (arith, number, less, is, same, was.few);
-      within = subst (λ (xs : List ℕ). All (λ x. x < n) xs) (sym c.in_ok-still.ensures) (left_within n before firsts shared);
-      width = c.keep_tests.ensures.width ∙ was.width ∙ ap (λ (s : List Statement). length (sources s)) (sym c.take_random_tests.ensures.circuit);
-      quiet = elim c.if-len.branch [ then-len w ↦ omega (arith, w.quiet-is) | else-len w ↦ omega (arith, w.quiet-is, c.if-quiet-ge-QUIET_BLOCKS.false, c.min-blocks.ensures) ];
+      within = subst (λ (xs : List ℕ). All (λ x. x < n) xs) (sym c.in_ok-still.ensures)
+          (left_within n before firsts shared);
+      width = c.keep_tests.ensures.width ∙ was.width;
+      kept = c.keep_tests.ensures.few;
+      quiet = elim c.if-len.branch [
+        | then-len w ↦ omega (arith, w.quiet-is)
+        | else-len w ↦ omega (arith, w.quiet-is, c.if-quiet-ge-QUIET_BLOCKS.false, c.min-blocks.ensures)
+      ];
     }

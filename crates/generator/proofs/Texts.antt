@@ -1,0 +1,122 @@
+-- Texts that have a job within the limit of pieces are refused for want of memory alone.
+use Rattle.std.proofs.Common.{◌≡◌, ◌≢◌, ℕ, ◌*◌, ◌<◌, ◌≤◌, List, length}
+use Rattle.std.proofs.Common.{refl, sym, ap, subst, ◌∙◌, ⊎_elim, arith}
+use Rattle.std.specs.Prelude.{slice_get, ⊤}
+use Rattle.std.proofs.lemmas.List.{length-map}
+use Rattle.bench_net.specs.Statement.{Statement}
+use Rattle.bench_net.specs.Scan.{sources}
+use Rattle.bench_net.specs.Refusal.{IsAccepted}
+use Rattle.fault_model.specs.declared.Model.{Model}
+use Rattle.fault_model.specs.Fault.{faults}
+use Rattle.fault_model.specs.Collapse.{Collapsed, AreClassesOf}
+use Rattle.patterns.specs.Tests.{TestList, HasTests, IsTestList, IsTestRefusal, blocks, max_pieces}
+use Rattle.patterns.specs.declared.TestFault.{TestFault}
+use Rattle.patterns.specs.declared.TestFault.TheVariants as test_fault
+use Rattle.block_sim.specs.declared.job.JobFault.TheVariants as job_fault
+use Rattle.block_sim.specs.Parts.{Parts, BelongTogether, piece_count, with_tests}
+use Rattle.workers.specs.declared.RunFault.{RunFault}
+use Rattle.workers.specs.declared.RunFault.TheVariants as run_fault
+use Rattle.workers.specs.Refused.{IsRunFault}
+use Rattle.report.specs.declared.report.ReportFault.{ReportFault}
+use Rattle.report.specs.declared.text.SimFault.{SimFault}
+use Rattle.report.specs.declared.text.SimFault.TheVariants as fault
+use Rattle.report.specs.EndToEnd.{IsJobOf, IsReportFault}
+use Rattle.generator.specs.Generated.{AreFewPieces, HasJob, IsGeneratorFault, IsSearchFault}
+
+-- the laws of texts: a bench text is one circuit, and a text with tests is not refused
+abbrev pub OneCircuit : Type 0
+OneCircuit = (text : List ℕ) (c d : List Statement) → IsAccepted text c → IsAccepted text d → c ≡ d
+
+abbrev pub NotBoth : Type 0
+NotBoth = (text : List ℕ) (width : ℕ) (t : TestList) (f : TestFault) → HasTests text width t
+    → ¬ IsTestRefusal text width f
+
+-- a job has as many classes as any of its circuit
+same_number : (m : Model) (c : List Statement) (classes others : Collapsed)
+    → AreClassesOf m c classes → AreClassesOf m c others
+    → length classes.representative ≡ length others.representative
+same_number m c classes others are also =
+    sym (length-map classes.representative (slice_get (faults m c)))
+    ∙ ap length (are.representative ∙ sym also.representative)
+    ∙ length-map others.representative (slice_get (faults m c))
+
+-- all jobs of two texts have as many pieces
+same_pieces : OneCircuit → (m : Model) (bench text : List ℕ) (job other : Parts)
+    → IsJobOf m bench text job → IsJobOf m bench text other → piece_count job ≡ piece_count other
+same_pieces one_circuit m bench text job other is also =
+    let same : job.circuit ≡ other.circuit = one_circuit bench _ _ is.0 also.0 in
+    let first : AreClassesOf m job.circuit job.classes =
+    subst (λ x. AreClassesOf x job.circuit job.classes) is.3 is.2.classes in
+    let second : AreClassesOf m job.circuit other.classes =
+    subst (λ x. AreClassesOf m x other.classes) (sym same)
+    (subst (λ x. AreClassesOf x other.circuit other.classes) also.3 also.2.classes) in
+    let number = same_number m job.circuit job.classes other.classes first second in
+    let tests : length job.tests.tests ≡ length other.tests.tests =
+    ap length (is.1.2 ∙ sym also.1.2) in
+    ap (λ n. n * blocks (length job.tests.tests)) number
+    ∙ ap (λ n. length other.classes.representative * blocks n) tests
+
+-- a run of a job within the limit of pieces is refused as a run of the search is
+run_refused : (job : Parts) (workers : ℕ) (f : RunFault) → piece_count job ≤ max_pieces
+    → IsRunFault job workers ⊤ (λ _ _ _. ⊥) f → IsSearchFault workers f
+run_refused job workers run_fault.NoWorkers few is = is
+run_refused job workers run_fault.TooManyWorkers few is = is
+run_refused job workers (run_fault.NoSuchMove index) few is = absurd is
+run_refused job workers run_fault.TooManyPieces few is = absurd (omega (arith, few, is.2))
+run_refused job workers run_fault.Memory few is = is
+run_refused job workers run_fault.Threads few is = is
+run_refused job workers (run_fault.Unfinished class block) few is = absurd (is.4 tt)
+
+-- texts that have a job within the limit of pieces are refused as the search is
+pub report_refused : OneCircuit → NotBoth → (m : Model) (bench text : List ℕ) (workers : ℕ)
+    (f : SimFault) → HasJob m bench text → ((g : ReportFault) → f ≢ fault.Report g)
+    → IsReportFault m bench text workers f → IsGeneratorFault bench workers f
+report_refused one_circuit not_both m bench text workers (fault.Bench f) has unwritten is = is
+report_refused one_circuit not_both m bench text workers (fault.Tests f) (job, within) unwritten
+    (c, accepted, why) =
+    let same : job.circuit ≡ c = one_circuit bench _ _ within.0.0 accepted in
+    ⊎_elim (λ (e : f ≡ test_fault.Memory). e)
+    (λ (refused : IsTestRefusal text (length (sources c)) f).
+    absurd (not_both text (length (sources c)) job.tests f
+    (subst (λ x. HasTests text (length (sources x)) job.tests) same within.0.1) refused))
+    why
+report_refused one_circuit not_both m bench text workers (fault.Order f) has unwritten is =
+    absurd is
+report_refused one_circuit not_both m bench text workers (fault.Job f) (job, within) unwritten
+    is =
+    ⊎_elim (λ (e : f ≡ job_fault.Memory). e)
+    (λ (many : (other : Parts) × IsJobOf m bench text other × (max_pieces < piece_count other)).
+    let same = same_pieces one_circuit m bench text job many.0 within.0 many.1 in
+    absurd (omega (arith, same, within.1, many.2)))
+    is
+report_refused one_circuit not_both m bench text workers (fault.Run f) has unwritten
+    (job, within, is) =
+    run_refused job workers f within.1 is
+report_refused one_circuit not_both m bench text workers (fault.Report f) has unwritten is =
+    absurd (unwritten f refl)
+report_refused one_circuit not_both m bench text workers fault.Memory has unwritten is = is
+
+-- the tests that a job may take in place of its own, and their text, have a job
+pub text_has_job : (m : Model) (bench text : List ℕ) (job : Parts) (best : TestList)
+    → IsAccepted bench job.circuit → BelongTogether job → job.list.model ≡ m
+    → best.width ≡ length (sources job.circuit) → IsTestList best
+    → AreFewPieces (length job.classes.representative) (length best.tests)
+    → HasTests text best.width best → HasJob m bench text
+text_has_job m bench text job best accepted fit of_model width list few own = (
+  with_tests job best,
+  (
+    (
+      accepted,
+      subst (λ n. HasTests text n best) width own,
+      record {
+        circuit = fit.circuit;
+        list = fit.list;
+        classes = fit.classes;
+        tests = list;
+        width = width;
+      },
+      of_model,
+    ),
+    few,
+  ),
+)
