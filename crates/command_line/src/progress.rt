@@ -110,6 +110,11 @@ impl<'a, E: Out> Pen<'a, E> {
         }
     }
 
+    /// Draws that no piece is settled yet.
+    fn draw_first(&mut self, pieces: u64) {
+        self.put(0, pieces, 0, "");
+    }
+
     /// Draws how many of the pieces are settled, where the figure is another than before.
     fn draw(&mut self, settled: u64, pieces: u64) {
         let percent = percent_of(settled, pieces);
@@ -252,6 +257,9 @@ impl<E: Out> Watch for Progress<'_, E> {
         let pieces = u64::from(classes) * u64::from(blocks);
         self.pieces.store(pieces, Ordering::SeqCst);
         self.blocks.store(u64::from(blocks), Ordering::SeqCst);
+        if let Some(mut pen) = self.pen.try_lock() {
+            pen.draw_first(pieces);
+        }
     }
 
     fn ends(&self) {
