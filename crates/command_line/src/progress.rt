@@ -50,13 +50,13 @@ impl Place {
     }
 
     /// Takes note of a piece on a block, of so many blocks. A worker goes over the classes of a part
-    /// block after block, so block 0 after another is that of a new part.
+    /// block after block, so a block before the last is that of a new part.
     fn note(&self, block: u64, blocks: &AtomicU64) {
         let before = self.block.load(Ordering::SeqCst);
         if block > 0 && block == before {
             return;
         }
-        if block == 0 && before > 0 {
+        if block < before {
             self.end_part(blocks.load(Ordering::SeqCst));
         }
         if block == 0 {
