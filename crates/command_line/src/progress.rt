@@ -50,13 +50,13 @@ impl Place {
     }
 
     /// Takes note of a piece on a block, of so many blocks. A worker goes over the classes of a part
-    /// block after block, so block 0 after another is that of a new part.
+    /// block after block, so a block before the last is that of a new part.
     fn note(&self, block: u64, blocks: &AtomicU64) {
         let before = self.block.load(Ordering::SeqCst);
         if block > 0 && block == before {
             return;
         }
-        if block == 0 && before > 0 {
+        if block < before {
             self.end_part(blocks.load(Ordering::SeqCst));
         }
         if block == 0 {
@@ -108,6 +108,11 @@ impl<'a, E: Out> Pen<'a, E> {
             percent: 0,
             open: false,
         }
+    }
+
+    /// Draws that no piece is settled yet.
+    fn draw_first(&mut self, pieces: u64) {
+        self.put(0, pieces, 0, "");
     }
 
     /// Draws how many of the pieces are settled, where the figure is another than before.
@@ -252,6 +257,9 @@ impl<E: Out> Watch for Progress<'_, E> {
         let pieces = u64::from(classes) * u64::from(blocks);
         self.pieces.store(pieces, Ordering::SeqCst);
         self.blocks.store(u64::from(blocks), Ordering::SeqCst);
+        if let Some(mut pen) = self.pen.try_lock() {
+            pen.draw_first(pieces);
+        }
     }
 
     fn ends(&self) {

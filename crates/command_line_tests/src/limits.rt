@@ -76,7 +76,7 @@ static LONG_BENCHES: [Past; 3] = [
 
 /// A gate of many pins. Each of the 8,191 pins, the source and the gate have two faults: 16,386
 /// classes, of which 16,384 are of the gate's region.
-const WIDE: Long = Long {
+pub const WIDE: Long = Long {
     before: "INPUT(a)\nz = XOR(a",
     part: ",a",
     count: 8_190,

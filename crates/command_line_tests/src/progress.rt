@@ -1,7 +1,7 @@
 //! The option `--progress`: what it draws on standard error, and that it changes nothing else.
 
 use crate::commands::C17_FILES;
-use crate::limits::{Long, spelled};
+use crate::limits::{Long, WIDE, spelled};
 use crate::screen::{Answer, Screen, Texts, Wanted, answers, run_between, run_on};
 use std::alloc::{AllocError, Global};
 use std::fmt::Write;
@@ -12,8 +12,8 @@ use worked_circuits::C17_TEXT as C17;
 
 const RUN: &str = "faultsim run --bench bench --tests tests";
 
-/// What is drawn last of C17, which has 22 classes, on one block of tests.
-const ALL_OF_C17: &str = "\r22 of 22 pieces, 100%\n";
+/// What is drawn of C17, which has 22 classes, on one block of tests.
+const ALL_OF_C17: &str = "\r0 of 22 pieces, 0%\r22 of 22 pieces, 100%\n";
 
 /// Options that go with `--progress`.
 static OPTIONS: [&str; 5] = [
@@ -29,8 +29,8 @@ fn is_same(first: &Answer, second: &Answer) -> bool {
     first.status == second.status && first.out.text() == second.out.text()
 }
 
-/// Whether a run of C17 with these options draws its last line, and without `--progress` nothing.
-fn draws_last<R: AllocGlobal + Threads + Wait>(rt: &R, options: &str) -> Result<bool, AllocError> {
+/// Whether a run of C17 with these options draws its first line and its last, and without `--progress` nothing.
+fn draws_both<R: AllocGlobal + Threads + Wait>(rt: &R, options: &str) -> Result<bool, AllocError> {
     let line = format!(in rt.alloc(); "{RUN} {options}")?;
     let watched = format!(in rt.alloc(); "{line} --progress")?;
     let plain = run_on(rt, &line, C17_FILES, Screen::new(rt.alloc()))?;
@@ -44,9 +44,9 @@ fn draws_last<R: AllocGlobal + Threads + Wait>(rt: &R, options: &str) -> Result<
 }
 
 #[test]
-fn last_line_is_drawn_with_the_flag_alone(rt: HostRuntime) -> Result<(), Fail> {
+fn lines_are_drawn_with_the_flag_alone(rt: HostRuntime) -> Result<(), Fail> {
     for options in &OPTIONS {
-        assert!(rt; draws_last(&rt, options)?, "{options}");
+        assert!(rt; draws_both(&rt, options)?, "{options}");
     }
     Ok(())
 }
@@ -71,7 +71,7 @@ fn stays_the_same<R: AllocGlobal + Threads + Wait>(
 
 #[test]
 fn failing_standard_error_changes_nothing(rt: HostRuntime) -> Result<(), Fail> {
-    for limit in [0, 1, 22] {
+    for limit in [0, 1, 22, 40] {
         assert!(rt; stays_the_same(&rt, limit)?, "{limit}");
     }
     Ok(())
@@ -83,7 +83,7 @@ static TEXTS: [(&str, Wanted); 2] = [
         "",
         Wanted {
             stdout: "0 of 34 (0.00%)\n",
-            stderr: "\r0 of 0 pieces, 100%\n",
+            stderr: "\r0 of 0 pieces, 0%\r0 of 0 pieces, 100%\n",
             status: 0,
         },
     ),
@@ -112,11 +112,11 @@ fn no_tests_are_all_and_a_refused_text_draws_nothing(rt: HostRuntime) -> Result<
 }
 
 #[test]
-fn the_line_ends_before_a_refusal(rt: HostRuntime) -> Result<(), Fail> {
+fn the_last_line_ends_before_a_refusal(rt: HostRuntime) -> Result<(), Fail> {
     let line = format!(in rt.alloc(); "{RUN} --progress")?;
     let told = run_on(&rt, &line, C17_FILES, Screen::cut(rt.alloc(), 0, 4096))?;
-    let wanted = b"\r22 of 22 pieces, 100%\nfaultsim: cannot write\n".as_slice();
-    assert!(rt; told.err.text() == wanted && told.status == 3);
+    let wanted = format!(in rt.alloc(); "{ALL_OF_C17}faultsim: cannot write\n")?;
+    assert!(rt; told.err.text() == wanted.as_bytes() && told.status == 3);
     Ok(())
 }
 
@@ -141,10 +141,30 @@ const MANY: Long = Long {
 /// What one worker draws of all that: of 6,400 pieces of a block 100 are watched, so it looks when
 /// it comes to the ends of block 499 and of block 999.
 const DRAWN: &str = "\
+    \r0 of 6553600 pieces, 0%\
     \r3193600 of 6553600 pieces, 48%\
     \r6393600 of 6553600 pieces, 97%\
     \r6553600 of 6553600 pieces, 100%\n\
     ";
+
+#[test]
+fn a_line_that_stands_is_ended_before_a_refusal(rt: HostRuntime) -> Result<(), Fail> {
+    let bench = spelled(rt.alloc(), &WIDE)?;
+    let tests = spelled(rt.alloc(), &MANY)?;
+    let files = Texts {
+        bench: &bench,
+        tests: &tests,
+        order: "",
+    };
+    let wanted = Wanted {
+        stdout: "",
+        stderr: "\r0 of 16779264 pieces, 0%\nfaultsim: more than 16777216 pieces\n",
+        status: 1,
+    };
+    let line = format!(in rt.alloc(); "{RUN} --parts 1 --progress")?;
+    assert!(rt; answers(&rt, &line, files, wanted)?);
+    Ok(())
+}
 
 #[test]
 fn a_long_run_draws_line_over_line(rt: HostRuntime) -> Result<(), Fail> {

@@ -7,7 +7,7 @@ use Rattle.workers.specs.Refused.{IsPartsFault}
 use Rattle.workers.specs.Work.{Stops}
 use Rattle.report.specs.declared.text.SimFault.{SimFault}
 use Rattle.report.specs.declared.text.SimFault.TheVariants as fault
-use Rattle.report.specs.EndToEnd.{IsJobFault, IsJobOf, IsJobReportFault, IsJobWithin, IsReadFault}
+use Rattle.report.specs.EndToEnd.{IsJobOf, IsJobReportFault, IsJobWithin}
 use Rattle.report.specs.EndToEnd.{IsWatchedFault}
 use Rattle.workers.proofs.Public.{parts_fault}
 
