@@ -29,7 +29,8 @@ fn is_same(first: &Answer, second: &Answer) -> bool {
     first.status == second.status && first.out.text() == second.out.text()
 }
 
-/// Whether a run of C17 with these options draws its first line and its last, and without `--progress` nothing.
+/// Whether a run of C17 with these options draws its first line and its last, and without
+/// `--progress` nothing.
 fn draws_both<R: AllocGlobal + Threads + Wait>(rt: &R, options: &str) -> Result<bool, AllocError> {
     let line = format!(in rt.alloc(); "{RUN} {options}")?;
     let watched = format!(in rt.alloc(); "{line} --progress")?;
