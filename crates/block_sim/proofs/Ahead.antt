@@ -30,7 +30,7 @@ pub count_le : (p q : ℕ → Bool) (xs : List ℕ) → ((x : ℕ) → q x ≡ t
 count_le p q [] h = omega arith
 count_le p q (x ∷ xs) h =
     let a = count_cons p x xs in let b = count_cons q x xs in let w = weight_le (p x) (q x) (h x) in
-        let rest = count_le p q xs h in
+    let rest = count_le p q xs h in
     omega (arith, a, b, w, rest)
 
 pub count_less : (p q : ℕ → Bool) (g : ℕ) (xs : List ℕ) → ((x : ℕ) → q x ≡ true → p x ≡ true)
@@ -43,7 +43,7 @@ count_less p q g (x ∷ xs) h is isnt (inl e) =
     omega (arith, m, n, one, none, rest)
 count_less p q g (x ∷ xs) h is isnt (inr a) =
     let m = count_cons p x xs in let n = count_cons q x xs in let w = weight_le (p x) (q x) (h x) in
-        let rest = count_less p q g xs h is isnt a in
+    let rest = count_less p q g xs h is isnt a in
     omega (arith, m, n, w, rest)
 
 waits_true : (x : ℕ) → x ≢ 0 → not (x == 0) ≡ true
@@ -80,9 +80,9 @@ pub ahead_taken : (lv : ℕ → ℕ) (at : List ℕ) (level g : ℕ) (gates : Li
     → count_by (is_ahead lv (set at g 0) level) gates + 1 ≤ count_by (is_ahead lv at level) gates
 ahead_taken lv at level g gates within here waits listed =
     count_less (is_ahead lv at level) (is_ahead lv (set at g 0) level) g gates kept
-        (ahead_waits lv at level g waits)
+    (ahead_waits lv at level g waits)
     (rw (get_or-set_same at g 0 0 within, le-ltb level (lv g) (omega (arith, here))) refl)
-        (among gates g listed)
+    (among gates g listed)
   where
     kept : (x : ℕ) → is_ahead lv (set at g 0) level x ≡ true → is_ahead lv at level x ≡ true
     kept x e = go (ahead_cases lv (set at g 0) level x e) (cases_eq x g)
@@ -107,8 +107,8 @@ ahead_woken c lv before after level s gates above woken =
       where
         go : (level < lv x) ⊎ (slice_index_or after x 0 ≢ 0)
             → (slice_index_or after x 0 ≡ slice_index_or before x 0)
-                ⊎ ((Reads c x s × IsLive c x) × (slice_index_or before x 0 ≡ 0)
-                × (slice_index_or after x 0 ≡ lv x + 1)) → is_ahead lv before level x ≡ true
+            ⊎ ((Reads c x s × IsLive c x) × (slice_index_or before x 0 ≡ 0)
+            × (slice_index_or after x 0 ≡ lv x + 1)) → is_ahead lv before level x ≡ true
         go (inl lt) w = ahead_above lv before level x lt
         go (inr ne) (inl same) = ahead_waits lv before level x (λ h. ne (same ∙ h))
         go (inr ne) (inr w) = ahead_above lv before level x (above x w.0.0)
@@ -145,7 +145,7 @@ pub count_taken : (at : List ℕ) (g now : ℕ) → g < length at → slice_inde
 count_taken at g now within e =
     let h = sum_by-set (λ x. weight (x == now + 1)) at g 0 0 within in
     let one : weight (slice_index_or at g 0 == now + 1) ≡ 1 =
-        ap weight (eq-eqb (slice_index_or at g 0) (now + 1) e) in
+    ap weight (eq-eqb (slice_index_or at g 0) (now + 1) e) in
     let none : weight (0 == now + 1) ≡ 0 = ap weight (not_eq (0 == now + 1) refl) in
     omega (arith, h, one, none)
   where
@@ -157,7 +157,7 @@ count_taken at g now within e =
 pub waiting_less : (lv : ℕ → ℕ) (at taken new : List ℕ) (g now : ℕ) → g < length at
     → slice_index_or at g 0 ≡ now + 1 → taken ≡ set at g 0 → lv g ≡ now → length new ≡ length taken
     → ((r : ℕ) → (slice_index_or new r 0 ≡ slice_index_or taken r 0)
-        ⊎ ((lv g < lv r) × (slice_index_or new r 0 ≡ lv r + 1)))
+    ⊎ ((lv g < lv r) × (slice_index_or new r 0 ≡ lv r + 1)))
     → count_by (λ x. x == now + 1) new < count_by (λ x. x == now + 1) at
 waiting_less lv at taken new g now within e is here long woken =
     let less = count_taken at g now within e in
@@ -186,7 +186,7 @@ count_at_most p (x ∷ xs) = let a = count_cons p x xs in let w = weight_one (p 
 pub count_one : (g : ℕ) (xs : List ℕ) → Contains xs g → 0 < count_by (λ x. x == g) xs
 count_one g xs at =
     let less = count_less (λ x. x == g) (λ x. false) g xs (λ x e. absurd (false≢true e))
-        (eq-eqb g g refl) refl (among xs g at) in omega (arith, less)
+    (eq-eqb g g refl) refl (among xs g at) in omega (arith, less)
 
 -- one that is taken, of the level or not
 pub ahead_skipped : (lv : ℕ → ℕ) (at : List ℕ) (level g : ℕ) (gates : List ℕ) → g < length at

@@ -58,9 +58,9 @@ stem_at_depth c depth s step well has within long deep = go (lone_reader c s) re
         most =
             let n = within_place (names c) g (lone_within c well s g is) in
             let le = below_greatest (map has.0 (names c)) (has.0 n.0)
-                (among_map has.0 (names c) n.0 (at_place (names c) g n.0 n.1)) in
+            (among_map has.0 (names c) n.0 (at_place (names c) g n.0 n.1)) in
             let named : level_at c has.0 g ≡ has.0 n.0 =
-                ap (λ (o : Option Name). option_map_or has.0 o 0) n.1 in
+            ap (λ (o : Option Name). option_map_or has.0 o 0) n.1 in
             omega (arith, le, named, has.2)
 
 -- ---- a signal that is not live
@@ -74,14 +74,21 @@ module _ (c : List Statement) (well : IsWellFormed c) (t : Test) (s : ℕ) (dead
     kept : (m : Name) → Among m (names c) → IsLive c (signal c m)
         → (v m ≡ w m) ⊎ (IsFree None (signal c m) × IsFree (Some (flip s bit)) (signal c m)
         × ((kind : Kind) (args : List Name) → Among (Gate m kind args) c → (a : Name) → Among a args
-            → IsLive c (signal c a)))
+        → IsLive c (signal c a)))
     kept m a live = inr (
       tt,
       (away m live, λ pin e. cc),
       λ kind args stands x h.
-          through (record { name = m; kind = kind; args = args; read = x;
-              gate = contained c (Gate m kind args) stands; number = refl;
-              reads = contained args x h; of = refl }) live,
+          through (record {
+            name = m;
+            kind = kind;
+            args = args;
+            read = x;
+            gate = contained c (Gate m kind args) stands;
+            number = refl;
+            reads = contained args x h;
+            of = refl;
+          }) live,
     )
 
     unseen : (o : Sink × Name) → Contains (observers c) o
@@ -89,7 +96,7 @@ module _ (c : List Statement) (well : IsWellFormed c) (t : Test) (s : ℕ) (dead
     unseen o there differs =
         let it = observes c o well there in
         let same = same_where c t None (Some (flip s bit)) v w well p q (λ m. IsLive c (signal c m))
-            kept o.1 (among (names c) o.1 it.named) (observed (o, there, refl)) in
+        kept o.1 (among (names c) o.1 it.named) (observed (o, there, refl)) in
         differs (same ∙ sym (under_other (flip s bit) (branch o.0) (w o.1) (it.no_stem s)))
 
   pub dead_flip : DetectsFlip c t s → ⊥

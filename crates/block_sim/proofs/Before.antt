@@ -28,7 +28,7 @@ down_first w =
     let parts : w / 2 ^ 127 * 2 ^ 127 + w % 2 ^ 127 ≡ w = omega arith in
     let few : w % 2 ^ 127 < 2 ^ 127 = omega arith in
     ap (λ x. x == 1) (sym (bit_at_cat_high (w / 2 ^ 127) 127 (w % 2 ^ 127) 127 few (omega arith))
-        ∙ ap (λ x. bit_at x 127) parts)
+    ∙ ap (λ x. bit_at x 127) parts)
 
 down_later : (w k : ℕ) → w < 2 ^ 128 → lane (w / 2 ^ 127) (suc k) ≡ false
 down_later w k fits = let few : w / 2 ^ 127 < 2 ^ 1 = omega (arith, fits) in

@@ -35,17 +35,20 @@ lane_same word k d e = ap (λ x. lane (bit_xor word x) k) e
 pins_from : (c : List Statement) (f : Option Fault) (words delta : List ℕ) (gate k from : ℕ)
     (args : List Name) → ((s : ℕ) → slice_index_or delta s 0 ≡ 0)
     → map (λ at. under f (line.Pin gate at.0) (lane (overlaid words delta at.1) k))
-        (enumerate_from from (map (signal c) args))
+    (enumerate_from from (map (signal c) args))
     ≡ map (λ at. sees f (lane_bits c words k) (line.Pin gate at.0) at.1) (enumerate_from from args)
 pins_from c f words delta gate k from [] clear = refl
 pins_from c f words delta gate k from (a ∷ args) clear =
-    rw (lane_same (slice_index_or words (signal c a) 0) k (slice_index_or delta (signal c a) 0)
-        (clear (signal c a)), pins_from c f words delta gate k (from + 1) args clear) refl
+    rw (
+      lane_same (slice_index_or words (signal c a) 0) k (slice_index_or delta (signal c a) 0)
+          (clear (signal c a)),
+      pins_from c f words delta gate k (from + 1) args clear,
+    ) refl
 
 pub pins_named : (c : List Statement) (f : Option Fault) (words delta : List ℕ) (gate k : ℕ)
     (args : List Name) → ((s : ℕ) → slice_index_or delta s 0 ≡ 0)
     → pin_bits f gate (map (signal c) args) words delta k ≡ pins_see f (lane_bits c words k) gate
-        args
+    args
 pins_named c f words delta gate k args clear = pins_from c f words delta gate k 0 args clear
 
 -- what agrees with a solution on every signal is one
@@ -58,9 +61,9 @@ solves_like c t f v w well same known = record {
       same n (defined_among c (Gate n kind args) n (among c (Gate n kind args) at) refl)
       ∙ (known.gate n kind args at
       ∙ ap (λ bits. under f (line.Stem (signal c n)) (value kind bits))
-          (pins_agree f w v (signal c n) 0 args
+      (pins_agree f w v (signal c n) 0 args
       (λ m h. sym (same m (among (names c) m (read_named c (Gate n kind args) m well
-          (among c (Gate n kind args) at) h))))));
+      (among c (Gate n kind args) at) h))))));
 }
 
 module _ (c : List Statement) (tests : List Test) (group : ℕ) (f : Option Fault) where
@@ -74,7 +77,7 @@ module _ (c : List Statement) (tests : List Test) (group : ℕ) (f : Option Faul
   pub right_by_equation : (words : List ℕ) (s word : ℕ) → IsWellFormed c
       → IsSignalWord c tests group f words s word
       → ((n a : Name) (kind : Kind) (args : List Name) → signal c n ≡ s → Among (Gate n kind args) c
-          → Among a args → IsRight (signal c a) (slice_index_or words (signal c a) 0))
+      → Among a args → IsRight (signal c a) (slice_index_or words (signal c a) 0))
       → IsRight s word
   right_by_equation words s word well equation pins n k v named lt solves =
       go (driven c n (at_place (names c) s n named))
@@ -92,7 +95,7 @@ module _ (c : List Statement) (tests : List Test) (group : ℕ) (f : Option Faul
       by_gate kind args a =
           equation.gate n kind args k lt number (contained c (Gate n kind args) a)
           ∙ (ap (λ bits. under f (line.Stem s) (value kind bits))
-              (pins_agree f (lane_bits c words k) v s 0 args same)
+          (pins_agree f (lane_bits c words k) v s 0 args same)
           ∙ sym (rw (← number) (solves.gate n kind args (contained c (Gate n kind args) a))))
         where
           same : (m : Name) → Among m args → lane_bits c words k m ≡ v m
@@ -110,17 +113,17 @@ module _ (c : List Statement) (tests : List Test) (group : ℕ) (f : Option Faul
       → AreWords c tests group f words
   right_in_lanes words well right k lt =
       solves_like c (test_of tests group k) f (lane_bits c words k)
-          (solution c (test_of tests group k) f well) well same
-          (solution_solves c (test_of tests group k) f well)
+      (solution c (test_of tests group k) f well) well same
+      (solution_solves c (test_of tests group k) f well)
     where
       same : (n : Name) → Among n (names c)
           → lane_bits c words k n ≡ solution c (test_of tests group k) f well n
       same n a =
           let named : name_of c (signal c n) ≡ Some n =
-              name_of-signal c n (contained (names c) n a) in
+          name_of-signal c n (contained (names c) n a) in
           right (signal c n) (place_within (names c) (signal c n) n named) n k
-              (solution c (test_of tests group k) f well) named lt
-              (solution_solves c (test_of tests group k) f well)
+          (solution c (test_of tests group k) f well) named lt
+          (solution_solves c (test_of tests group k) f well)
 
   -- a right word that is written leaves the right ones right
   pub right_kept : (words : List ℕ) (s t word : ℕ) → s < length words → IsRight s word

@@ -72,8 +72,8 @@ module _ (c : List Statement) (level : Name
               let m = mapped_from level h.1 (greatest (map level h.1)) a in
               let at : level m.0 ≡ greatest (map level h.1) = m.2 in
               ih m.0 (omega (arith, at, is, lt))
-                  (among (names c) m.0 (read_named c (Gate n h.0 h.1) m.0 well h.2 m.1)) q some
-                  (omega (arith, at, is, less))
+              (among (names c) m.0 (read_named c (Gate n h.0 h.1) m.0 well h.2 m.1)) q some
+              (omega (arith, at, is, less))
 
       go : ((m : Name) → level m < bound → Among m (names c) → (p : ℕ) → 0 < p → p ≤ level m
           → HasOne p) → (q < level n) ⊎ (level n ≤ q) → HasOne q
@@ -89,11 +89,13 @@ module _ (c : List Statement) (level : Name
       each : (q : ℕ) → q < level n → list_any (λ x. q == x) (map (λ m. level m - 1) (names c))
           ≡ true
       each q lt =
-          let m = each_level (suc (level n)) n (omega arith) a (q + 1) (omega arith) (omega (arith,
-              lt)) in
+          let m = each_level (suc (level n)) n (omega arith) a (q + 1) (omega arith) (omega (
+            arith,
+            lt,
+          )) in
           let at : level m.0 - 1 ≡ q = (let e : level m.0 ≡ q + 1 = m.2 in omega (arith, e)) in
           any_of (map (λ m. level m - 1) (names c)) q
-              (rw (← at) (among_map (λ m. level m - 1) (names c) m.0 m.1))
+          (rw (← at) (among_map (λ m. level m - 1) (names c) m.0 m.1))
 
 -- a level is at most the number of signals
 pub level_within : (c : List Statement) (s k : ℕ) → IsWellFormed c → HasLevel c s k

@@ -79,7 +79,7 @@ module _ (c : List Statement) (t : Test) (f g : Option Fault) (v w : Name
         by_source off_f off_g h =
             let at = placed (sources c) m h in
             p.source at.0 m at.1 ∙ (free_stem f (signal c m) _ off_f
-                ∙ sym (q.source at.0 m at.1 ∙ free_stem g (signal c m) _ off_g))
+            ∙ sym (q.source at.0 m at.1 ∙ free_stem g (signal c m) _ off_g))
 
         go : ((x : Name) → well.acyclic.0 x < bound → Among x (names c) → P x → v x ≡ w x)
             → Follows m → Driven c m → v m ≡ w m
@@ -93,16 +93,20 @@ module _ (c : List Statement) (t : Test) (f g : Option Fault) (v w : Name
             p.gate m x.0 x.1 at
             ∙ (free_stem f (signal c m) _ h.0
             ∙ (ap (value x.0) (free_pins f v (signal c m) 0 x.1 h.0
-                ∙ (map_alike v w x.1 same ∙ sym (free_pins g w (signal c m) 0 x.1 h.1)))
+            ∙ (map_alike v w x.1 same ∙ sym (free_pins g w (signal c m) 0 x.1 h.1)))
             ∙ sym (q.gate m x.0 x.1 at ∙ free_stem g (signal c m) _ h.1)))
           where
             same : (a : Name) → Among a x.1 → v a ≡ w a
             same a b =
-                let up = well.acyclic.1 m a (x.0, x.1, contained c (Gate m x.0 x.1) x.2,
-                    contained x.1 a b) in
+                let up = well.acyclic.1 m a (
+                  x.0,
+                  x.1,
+                  contained c (Gate m x.0 x.1) x.2,
+                  contained x.1 a b,
+                ) in
                 ih a (omega (arith, lt, up))
-                    (among (names c) a (read_named c (Gate m x.0 x.1) a well x.2 b))
-                    (h.2 x.0 x.1 x.2 a b)
+                (among (names c) a (read_named c (Gate m x.0 x.1) a well x.2 b))
+                (h.2 x.0 x.1 x.2 a b)
 
     pub same_where : (m : Name) → Among m (names c) → P m → v m ≡ w m
     same_where m a has = below_same (suc (well.acyclic.0 m)) m (omega arith) a has
@@ -145,8 +149,8 @@ module _ (c : List Statement) (well : IsWellFormed c) (l : Line) (e : Enters c l
           let stems : line.Stem (signal c on.0) ≡ line.Stem (signal c a) = sym on.1 ∙ same in
           let number : signal c a ≡ signal c on.0 = cc in
           let is : a ≡ on.0 = signal_apart c a on.0
-              (read_named c (Gate x kind args) a well stands h)
-              (contained (names c) on.0 (arg_named on.0 on.2.reads)) number in
+          (read_named c (Gate x kind args) a well stands h)
+          (contained (names c) on.0 (arg_named on.0 on.2.reads)) number in
           other (on.2.alone x kind args stands (subst (λ n. Among n args) is h))
       go (inr on) = let bad : line.Pin (signal c e.name) on.0 ≡ line.Stem (signal c a) = sym on.1
           ∙ same in cc
@@ -161,7 +165,7 @@ module _ (c : List Statement) (well : IsWellFormed c) (l : Line) (e : Enters c l
           let stems : line.Stem (signal c on.0) ≡ line.Stem (signal c o.1) = sym on.1 ∙ same in
           let number : signal c o.1 ≡ signal c on.0 = cc in
           on.2.unobserved o there (signal_apart c o.1 on.0 (observes c o well there).named
-              (contained (names c) on.0 (arg_named on.0 on.2.reads)) number)
+          (contained (names c) on.0 (arg_named on.0 on.2.reads)) number)
       stem same (inr on) = let bad : line.Pin (signal c e.name) on.0 ≡ line.Stem (signal c o.1) =
           sym on.1 ∙ same in cc
 
@@ -199,13 +203,19 @@ module _ (c : List Statement) (t : Test) (f : Fault) (g : Option Fault) (v w : N
 
           below : (kind : Kind) (args : List Name) → Among (Gate m kind args) c → (x : Name)
               → Among x args → IsOutside x
-          below kind args stands x b = (args_away c well f.line e m x kind args stands b other,
-              low h.1)
+          below kind args stands x b = (
+            args_away c well f.line e m x kind args stands b other,
+            low h.1,
+          )
             where
               low : (well.acyclic.0 m < well.acyclic.0 e.name) ⊎ (v e.name ≡ w e.name)
                   → (well.acyclic.0 x < well.acyclic.0 e.name) ⊎ (v e.name ≡ w e.name)
-              low (inl lt) = let up = well.acyclic.1 m x (kind, args,
-                  contained c (Gate m kind args) stands, contained args x b) in
+              low (inl lt) = let up = well.acyclic.1 m x (
+                kind,
+                args,
+                contained c (Gate m kind args) stands,
+                contained args x b,
+              ) in
                   inl (omega (arith, lt, up))
               low (inr same) = inr same
 
@@ -219,5 +229,5 @@ module _ (c : List Statement) (t : Test) (f : Fault) (g : Option Fault) (v w : N
   shows_alike o there same off =
       let far = unobserved c well f.line e o there in
       under_other f (branch o.0) (v o.1) far.1
-          ∙ (outside o.1 (among (names c) o.1 (observes c o well there).named) far.0 (inr same)
-          ∙ sym (off (w o.1)))
+      ∙ (outside o.1 (among (names c) o.1 (observes c o well there).named) far.0 (inr same)
+      ∙ sym (off (w o.1)))

@@ -51,7 +51,7 @@ gate_at c s kind pins e = go (definition c s) refl e
         let first : n ∷ [] ≡ p.0 ∷ [] = p.1 in
         let same : p.0 ≡ n = ap (λ l. slice_index_or l 0 n) (sym first) in
         let one_kind : other ≡ kind =
-            ap (λ (o : Option (Kind × List ℕ)). (unwrap_or o (kind, pins)).0) e in
+        ap (λ (o : Option (Kind × List ℕ)). (unwrap_or o (kind, pins)).0) e in
         record {
           name = n;
           args = args;
@@ -67,7 +67,7 @@ pub among_signals : (c : List Statement) (args : List Name) (p : ℕ)
 among_signals c [] p each a = absurd a
 among_signals c (m ∷ args) p each (inl e) =
     let lt : signal c m < length (names c) = place_within (names c) (signal c m) m
-        (name_of-signal c m (each m (inl refl))) in omega (arith, lt, e)
+    (name_of-signal c m (each m (inl refl))) in omega (arith, lt, e)
 among_signals c (m ∷ args) p each (inr a) = among_signals c args p (λ b h. each b (inr h)) a
 
 pub pins_within : (c : List Statement) (s : ℕ) (kind : Kind) (pins : List ℕ) → IsWellFormed c
@@ -78,19 +78,19 @@ pins_within c s kind pins well e = go (gate_at c s kind pins e)
     go g i d lt = among_signals c g.args (slice_index_or pins i d)
         (λ a h. read_named c (Gate g.name kind g.args) a well g.stands h)
         (subst (Among (slice_index_or pins i d)) (sym g.reads)
-            (among pins (slice_index_or pins i d) (Contains-get_or pins i d lt)))
+        (among pins (slice_index_or pins i d) (Contains-get_or pins i d lt)))
 
 -- what one statement reads, and what all observe, is within the limit on sinks
 read_counted : (c : List Statement) (st : Statement) → Among st c → length (read st) ≤ sink_count c
 read_counted [] st a = absurd a
 read_counted (x ∷ c) st (inl e) =
     let whole : length (flat_map read (x ∷ c)) ≡ length (read x) + length (flat_map read c) =
-        length-append (read x) (flat_map read c) in
+    length-append (read x) (flat_map read c) in
     let same : length (read x) ≡ length (read st) = ap (λ y. length (read y)) e in
     omega (arith, whole, same)
 read_counted (x ∷ c) st (inr a) =
     let whole : length (flat_map read (x ∷ c)) ≡ length (read x) + length (flat_map read c) =
-        length-append (read x) (flat_map read c) in
+    length-append (read x) (flat_map read c) in
     let h : length (read st) ≤ length (flat_map read c) = read_counted c st a in
     omega (arith, whole, h)
 
@@ -102,7 +102,7 @@ pins_few c s kind pins circuit e = go (gate_at c s kind pins e)
     go g =
         let h : length g.args ≤ sink_count c = read_counted c (Gate g.name kind g.args) g.stands in
         let same : length pins ≡ length g.args = ap length (sym g.reads)
-            ∙ length-map g.args (signal c) in
+        ∙ length-map g.args (signal c) in
         omega (arith, h, same, circuit.sinks)
 
 -- a gate has a pin
@@ -123,9 +123,9 @@ pins_some c s kind pins circuit e = go (gate_at c s kind pins e)
     go : GateAt c s kind pins → 0 < length pins
     go g =
         let h : 0 < length g.args = arity_some kind g.args
-            (circuit.arities g.name kind g.args (contained c (Gate g.name kind g.args) g.stands)) in
+        (circuit.arities g.name kind g.args (contained c (Gate g.name kind g.args) g.stands)) in
         let same : length pins ≡ length g.args = ap length (sym g.reads)
-            ∙ length-map g.args (signal c) in
+        ∙ length-map g.args (signal c) in
         omega (arith, h, same)
 
 module _ (c : List Statement) (s : ℕ) (well : IsWellFormed c) (within : s < length (names c)) where
@@ -151,12 +151,12 @@ module _ (c : List Statement) (s : ℕ) (well : IsWellFormed c) (within : s < le
           by (inr (inl x)) = found (among_right (inputs c) (map (λ cell. cell.0) (cells c)) at.0 x)
           by (inr (inr x)) =
               let number : signal c at.0 ≡ s = signal-name_of c s at.0 well.once at.1
-                  (contained (names c) at.0 (at_place (names c) s at.0 at.1)) in
+              (contained (names c) at.0 (at_place (names c) s at.0 at.1)) in
               let defined : definition c (signal c at.0) ≡ Some (Gate at.0 x.0 x.1) =
-                  definition-signal c (Gate at.0 x.0 x.1) at.0 well
-                  (contained c (Gate at.0 x.0 x.1) x.2) refl in
+              definition-signal c (Gate at.0 x.0 x.1) at.0 well
+              (contained c (Gate at.0 x.0 x.1) x.2) refl in
               let gate : gate_of c s ≡ Some (x.0, map (signal c) x.1) =
-                  ap (λ k. gate_of c k) (sym number) ∙ ap (gate_line c) defined in
+              ap (λ k. gate_of c k) (sym number) ∙ ap (gate_line c) defined in
               absurd (nothing (x.0, map (signal c) x.1) (sym none ∙ gate))
 
 lane_number : (word k : ℕ) (b : Bool) → bit_at word k ≡ as_number b → lane word k ≡ b
@@ -175,9 +175,9 @@ module _ (c : List Statement) (tests : List Test) (group : ℕ) (f : Option Faul
         (taken i (at ∙ sym named) k lt));
     gate = λ n kind args k lt number at.
         let defined : definition c (signal c n) ≡ Some (Gate n kind args) =
-            definition-signal c (Gate n kind args) n well at refl in
+        definition-signal c (Gate n kind args) n well at refl in
         let gate : gate_of c s ≡ Some (kind, map (signal c) args) =
-            ap (λ k. gate_of c k) (sym number) ∙ ap (gate_line c) defined in
+        ap (λ k. gate_of c k) (sym number) ∙ ap (gate_line c) defined in
         absurd (nothing (kind, map (signal c) args) (sym none ∙ gate));
   }
 
@@ -191,20 +191,20 @@ module _ (c : List Statement) (tests : List Test) (group : ℕ) (f : Option Faul
         absurd (no_source n named (source_definition c n well (at_place (sources c) i n at)));
     gate = λ n other args k lt number at.
         let defined : definition c (signal c n) ≡ Some (Gate n other args) =
-            definition-signal c (Gate n other args) n well at refl in
+        definition-signal c (Gate n other args) n well at refl in
         let gate : gate_of c s ≡ Some (other, map (signal c) args) =
-            ap (λ k. gate_of c k) (sym number) ∙ ap (gate_line c) defined in
+        ap (λ k. gate_of c k) (sym number) ∙ ap (gate_line c) defined in
         let pair : (kind, pins) ≡ (other, map (signal c) args) = ap (λ o. unwrap_or o (kind, pins))
-            (sym e ∙ gate) in
+        (sym e ∙ gate) in
         shown k lt ∙ ap (under f (line.Stem s)) (valued k lt
-            ∙ (ap (λ p. value p.0 (pin_bits f s p.1 words delta k)) pair
-            ∙ ap (value other) (pins_named c f words delta s k args clear)));
+        ∙ (ap (λ p. value p.0 (pin_bits f s p.1 words delta k)) pair
+        ∙ ap (value other) (pins_named c f words delta s k args clear)));
   }
     where
       no_source : (n : Name) → name_of c s ≡ Some n → IsSource (definition c (signal c n)) → ⊥
       no_source n named source =
           let number : signal c n ≡ s = signal-name_of c s n well.once named
-              (contained (names c) n (at_place (names c) s n named)) in
+          (contained (names c) n (at_place (names c) s n named)) in
           go (definition c s) (subst (λ k. IsSource (definition c k)) number source) e
         where
           go : (o : Option Statement) → IsSource o → gate_line c o ≡ Some (kind, pins) → ⊥

@@ -65,11 +65,12 @@ module _ (c : List Statement) (well : IsWellFormed c) (tests : List Test) (group
       there d =
           let h = stem_there c well (test_of tests group k) f n a own d in
           let v = altered c well (test_of tests group k) f n (lane_bits c good k) h.0.faulty a h.0
-              (words k lt) h.0.solves_faulty in
+          (words k lt) h.0.solves_faulty in
           let stuck = stem_stuck c well (test_of tests group k) f h.0.faulty n h.0.solves_faulty a
-              own in
-          ((is k lt).1 (in_lanes, λ e. not_itself (lane_bits c good k n) (e ∙ (sym stuck ∙ v))),
-              subst (DetectsFlip c (test_of tests group k)) number h.1)
+          own in (
+            (is k lt).1 (in_lanes, λ e. not_itself (lane_bits c good k n) (e ∙ (sym stuck ∙ v))),
+            subst (DetectsFlip c (test_of tests group k)) number h.1,
+          )
 
       back : lane turned k ≡ true → DetectsFlip c (test_of tests group k) s
           → Detects c (test_of tests group k) f
@@ -86,15 +87,15 @@ module _ (c : List Statement) (well : IsWellFormed c) (tests : List Test) (group
                 ∙ stem_stuck c well (test_of tests group k) f w.0 n w.1 a own);
           } in
           stem_back c well (test_of tests group k) f n a own alters
-              (subst (DetectsFlip c (test_of tests group k)) (sym number) d)
+          (subst (DetectsFlip c (test_of tests group k)) (sym number) d)
 
   -- and one on a pin to the gate in those in which the gate's word differs
   module _ (m : Model) (at : Contains (faults m c) f) (gate pin : ℕ)
       (on : f.line ≡ line.Pin gate pin) (kind : Kind) (pins delta : List ℕ) (diff : ℕ)
       (is_gate : gate_of c gate ≡ Some (kind, pins)) (clear : All (λ x. x ≡ 0) delta)
       (valued : (k : ℕ) → k < 128 → lane lanes k ≡ true
-          → lane (bit_xor (slice_index_or good gate 0) diff) k ≡ value kind
-          (pin_bits (Some f) gate pins good delta k)) where
+      → lane (bit_xor (slice_index_or good gate 0) diff) k ≡ value kind
+      (pin_bits (Some f) gate pins good delta k)) where
     module _ (e : Enters c f.line) (number : signal c e.name ≡ gate) (k : ℕ) (lt : k < 128)
         (in_lanes : lane lanes k ≡ true) where
       named : Among e.name (names c)
@@ -105,39 +106,43 @@ module _ (c : List Statement) (well : IsWellFormed c) (tests : List Test) (group
           → unlike (lane_bits c good k e.name) (lane diff k) ≡ v e.name
       faulty_is v q =
           let off : f.line ≢ line.Stem (signal c e.name) =
-              λ stems. (let bad : line.Pin gate pin ≡ line.Stem (signal c e.name) = sym on
-              ∙ stems in cc) in
+          λ stems. (let bad : line.Pin gate pin ≡ line.Stem (signal c e.name) = sym on
+          ∙ stems in cc) in
           let pair : (kind, pins) ≡ (e.kind, map (signal c) e.args) =
-              ap (λ (o : Option (Kind × List ℕ)). unwrap_or o (kind, pins)) (sym is_gate
-              ∙ equated.gate_named c e.name e.kind e.args gate well number
-              (contained c (Gate e.name e.kind e.args) e.stands)) in
+          ap (λ (o : Option (Kind × List ℕ)). unwrap_or o (kind, pins)) (sym is_gate
+          ∙ equated.gate_named c e.name e.kind e.args gate well number
+          (contained c (Gate e.name e.kind e.args) e.stands)) in
           ap (λ x. unlike (lane (slice_index_or good x 0) k) (lane diff k)) number
           ∙ (sym (lane_xor (slice_index_or good gate 0) diff k)
           ∙ (valued k lt in_lanes
           ∙ (ap (λ p. value p.0 (pin_bits (Some f) gate p.1 good delta k)) pair
           ∙ (ap (value e.kind) (pins_named c (Some f) good delta gate k e.args
-              (λ x. index_zero delta x clear))
+          (λ x. index_zero delta x clear))
           ∙ (ap (λ g. value e.kind (pins_see (Some f) (lane_bits c good k) g e.args)) (sym number)
           ∙ (ap (value e.kind) (pins_agree (Some f) (lane_bits c good k) v
-              (signal c e.name) 0 e.args same)
+          (signal c e.name) 0 e.args same)
           ∙ sym (q.gate e.name e.kind e.args (contained c (Gate e.name e.kind e.args) e.stands)
-              ∙ under_other f (line.Stem (signal c e.name)) _ off)))))))
+          ∙ under_other f (line.Stem (signal c e.name)) _ off)))))))
         where
           same : (a : Name) → Among a e.args → lane_bits c good k a ≡ v a
           same a h =
-              let low = well.acyclic.1 e.name a (e.kind, e.args,
-                  contained c (Gate e.name e.kind e.args) e.stands, contained e.args a h) in
+              let low = well.acyclic.1 e.name a (
+                e.kind,
+                e.args,
+                contained c (Gate e.name e.kind e.args) e.stands,
+                contained e.args a h,
+              ) in
               sym (outside c (test_of tests group k) f None v (lane_bits c good k) well e q
-                  (words k lt) (λ x b ne. tt) a (arg_named c well f.line e a h)
+              (words k lt) (λ x b ne. tt) a (arg_named c well f.line e a h)
               (λ stems. (let bad : line.Pin gate pin ≡ line.Stem (signal c a) = sym on ∙ stems in
-                  cc)) (inl low))
+              cc)) (inl low))
 
       there : Detects c (test_of tests group k) f
           → (lane diff k ≡ true) × DetectsFlip c (test_of tests group k) gate
       there d =
           let h = entered_there c well (test_of tests group k) f e d in
           let v = altered c well (test_of tests group k) f e.name (lane_bits c good k) h.0.faulty
-              named h.0 (words k lt) h.0.solves_faulty in (
+          named h.0 (words k lt) h.0.solves_faulty in (
             unlike_differs (lane_bits c good k e.name) (lane diff k) (h.0.faulty e.name)
                 (faulty_is h.0.faulty h.0.solves_faulty)
                 (λ same. not_itself (lane_bits c good k e.name) (same ∙ v)),
@@ -159,7 +164,7 @@ module _ (c : List Statement) (well : IsWellFormed c) (tests : List Test) (group
                 (faulty_is w.0 w.1) turned;
           } in
           entered_back c well (test_of tests group k) f e alters
-              (subst (DetectsFlip c (test_of tests group k)) (sym number) d)
+          (subst (DetectsFlip c (test_of tests group k)) (sym number) d)
 
     pub pin_come : HasCome c tests group f lanes gate diff
     pin_come k lt in_lanes =
@@ -170,12 +175,19 @@ module _ (c : List Statement) (well : IsWellFormed c) (tests : List Test) (group
   pub observer_told : (m : Model) (turned : ℕ) (n : Name) → Contains (faults m c) f
       → start_of f.line ≡ None → carried c f.line ≡ Some n
       → ((k : ℕ) → k < 128 → Decides (lane turned k) ((lane lanes k ≡ true)
-          × (lane_bits c good k n ≢ f.stuck))) → (k : ℕ) → k < 128
+      × (lane_bits c good k n ≢ f.stuck))) → (k : ℕ) → k < 128
       → Decides (lane turned k) ((lane lanes k ≡ true) × Detects c (test_of tests group k) f)
   observer_told m turned n at none carries is k lt = (
-    λ e. (let d = (is k lt).0 e in
-        (d.0, law.1 (lane_bits c good k, n, words k lt, carries,
-        turned_of f.stuck (lane_bits c good k n) (λ same. d.1 (sym same))))),
+    λ e. (let d = (is k lt).0 e in (
+      d.0,
+      law.1 (
+        lane_bits c good k,
+        n,
+        words k lt,
+        carries,
+        turned_of f.stuck (lane_bits c good k n) (λ same. d.1 (sym same)),
+      ),
+    )),
     λ h. (is k lt).1 (h.0, other (law.0 h.1)),
   )
     where
@@ -189,7 +201,7 @@ module _ (c : List Statement) (well : IsWellFormed c) (tests : List Test) (group
       other b same =
           let one : b.1 ≡ n = ap (λ o. unwrap_or o n) (sym b.3 ∙ carries) in
           let bits = agree c (test_of tests group k) None (lane_bits c good k) b.0 well
-              (words k lt) b.2 n named in
+          (words k lt) b.2 n named in
           not_itself f.stuck (sym same ∙ (bits ∙ (ap b.0 (sym one) ∙ b.4)))
         where
           named : Contains (names c) n
@@ -203,5 +215,5 @@ module _ (c : List Statement) (well : IsWellFormed c) (tests : List Test) (group
     λ e. absurd (false≢true (sym (lane_zero k) ∙ e)),
     λ h. (let v = shown.clear k lt h.0 (lane_zero k) (λ bad. bad) in
         absurd (v.2 ((detection_is_of_any_solution c well f (test_of tests group k)
-            (lane_bits c good k) v.0 (words k lt) v.1).0 h.1))),
+        (lane_bits c good k) v.0 (words k lt) v.1).0 h.1))),
   )

@@ -55,9 +55,9 @@ alike false false h = absurd (h refl)
 pub told_of_shown : (c : List Statement) (tests : List Test) (span : Span) (r : Fault)
     (good : List ℕ) (lanes seen : ℕ)
     → IsWellFormed c → AreWords c tests (group_of span) None good → AreLanesFor tests span c r lanes
-        → (settled : ℕ → Type 0)
+    → (settled : ℕ → Type 0)
     → AreShown c tests (group_of span) (λ _. r) good lanes settled seen
-        → AreTold c tests span r settled seen
+    → AreTold c tests span r settled seen
 told_of_shown c tests span r good lanes seen well words decides settled h =
     told_of_lanes c tests span r lanes seen decides settled found clear
   where
@@ -65,16 +65,18 @@ told_of_shown c tests span r good lanes seen well words decides settled h =
         → (lane lanes k ≡ true) × Detects c (test_of tests (group_of span) k) r
     found k lt e =
         let f = h.found k lt e in
-        let u = has_solutions c well (test_of tests (group_of span) k) (Some r) in
-        (f.0, (detection_is_of_any_solution c well r (test_of tests (group_of span) k)
-            (lane_bits c good k) u.0 (words k lt) u.1).1 (f.1 u.0 u.1))
+        let u = has_solutions c well (test_of tests (group_of span) k) (Some r) in (
+          f.0,
+          (detection_is_of_any_solution c well r (test_of tests (group_of span) k)
+              (lane_bits c good k) u.0 (words k lt) u.1).1 (f.1 u.0 u.1),
+        )
 
     clear : (k : ℕ) → k < 128 → lane lanes k ≡ true → lane seen k ≡ false → (settled k → ⊥)
         → Detects c (test_of tests (group_of span) k) r → ⊥
     clear k lt in_lanes unseen unsettled d =
         let v = h.clear k lt in_lanes unseen unsettled in
         v.2 ((detection_is_of_any_solution c well r (test_of tests (group_of span) k)
-            (lane_bits c good k) v.0 (words k lt) v.1).0 d)
+        (lane_bits c good k) v.0 (words k lt) v.1).0 d)
 
 -- ---- what was seen
 module _ (c : List Statement) (tests : List Test) (group : ℕ) (f : ℕ
@@ -84,7 +86,7 @@ module _ (c : List Statement) (tests : List Test) (group : ℕ) (f : ℕ
   pub shown_from : (settled : ℕ → Type 0) (seen : ℕ) → ((g s : ℕ) → Reads c g s → lv s < lv g)
       → ((s : ℕ) → slice_index_or at s 0 ≡ 0)
       → ((o : Sink × Name) (k : ℕ) → Contains (observers c) o → (f k).line ≢ branch o.0)
-          → AreSeen c delta mask seen
+      → AreSeen c delta mask seen
       → ((k : ℕ) → k < 128 → lane lanes k ≡ true → lane mask k ≡ false → settled k)
       → AreShown c tests group f good lanes settled seen
   shown_from settled seen rises idle off are out = record {
@@ -93,13 +95,13 @@ module _ (c : List Statement) (tests : List Test) (group : ℕ) (f : ℕ
     clear = λ k lt in_lanes none unsettled.
         let m = followed k lt in_lanes unsettled (lane mask k) refl in
         let u = has_solutions c well (test_of tests group k) (Some (f k)) in
-            (u.0, u.1, λ a. unseen k lt m none u.0 u.1 a.0 a.1 a.2);
+        (u.0, u.1, λ a. unseen k lt m none u.0 u.1 a.0 a.1 a.2);
   }
     where
       shown : (k : ℕ) (v : Name → Bool) (o : Sink × Name) → Contains (observers c) o
           → v o.1 ≡ bits_of c good delta k o.1
           → shows (Some (f k)) v o ≡ unlike (lane (slice_index_or good (signal c o.1) 0) k)
-              (lane (slice_index_or delta (signal c o.1) 0) k)
+          (lane (slice_index_or delta (signal c o.1) 0) k)
       shown k v o there is = under_other (f k) (branch o.0) (v o.1) (off o k there)
           ∙ (is ∙ lane_xor (slice_index_or good (signal c o.1) 0)
           (slice_index_or delta (signal c o.1) 0) k)
@@ -107,14 +109,17 @@ module _ (c : List Statement) (tests : List Test) (group : ℕ) (f : ℕ
       found : (k : ℕ) → k < 128 → (s : ℕ) → lane (slice_index_or delta s 0) k ≡ true
           → (o : Sink × Name) → Contains (observers c) o → signal c o.1 ≡ s
           → (v : Name → Bool) → Solves c (test_of tests group k) (Some (f k)) v
-              → IsApart c (f k) good k v
+          → IsApart c (f k) good k v
       found k lt s differs o there number v solves =
           let here : lane (slice_index_or delta (signal c o.1) 0) k ≡ true =
-              ap (λ x. lane (slice_index_or delta x 0) k) number ∙ differs in
-          let is = h.right s k lt differs o.1 v (observes c o well there).named number solves in
-          (o, there, λ e. turned (lane (slice_index_or good (signal c o.1) 0) k)
-              (lane (slice_index_or delta (signal c o.1) 0) k) here (e
-              ∙ shown k v o there (sym is)))
+          ap (λ x. lane (slice_index_or delta x 0) k) number ∙ differs in
+          let is = h.right s k lt differs o.1 v (observes c o well there).named number solves in (
+            o,
+            there,
+            λ e. turned (lane (slice_index_or good (signal c o.1) 0) k)
+                (lane (slice_index_or delta (signal c o.1) 0) k) here (e
+                ∙ shown k v o there (sym is)),
+          )
 
       followed : (k : ℕ) → k < 128 → lane lanes k ≡ true → (settled k → ⊥) → (m : Bool)
           → lane mask k ≡ m → lane mask k ≡ true
@@ -127,34 +132,39 @@ module _ (c : List Statement) (tests : List Test) (group : ℕ) (f : ℕ
           → Contains (observers c) o → bits_of c good delta k o.1 ≡ v o.1
       settled_bit k lt m v solves o there =
           right_by_now c (Counts c lv start) (counts_closed c lv start rises) tests group f good
-              mask delta at h.balanced lv (lv (signal c o.1)) well rises
+          mask delta at h.balanced lv (lv (signal c o.1)) well rises
           (λ g waits. absurd (waits (idle g))) k lt m v solves o.1
-              (among (names c) o.1 (observes c o well there).named)
-              (inl (observed (o, there, refl))) (omega arith) (idle (signal c o.1))
+          (among (names c) o.1 (observes c o well there).named)
+          (inl (observed (o, there, refl))) (omega arith) (idle (signal c o.1))
 
       unseen : (k : ℕ) → k < 128 → lane mask k ≡ true → lane seen k ≡ false → (v : Name → Bool)
           → Solves c (test_of tests group k) (Some (f k)) v
           → (o : Sink × Name) → Contains (observers c) o
-              → shows None (lane_bits c good k) o ≢ shows (Some (f k)) v o → ⊥
+          → shows None (lane_bits c good k) o ≢ shows (Some (f k)) v o → ⊥
       unseen k lt m none v solves o there differ =
           let same = sym (settled_bit k lt m v solves o there) in
           let here = alike (lane (slice_index_or good (signal c o.1) 0) k)
-              (lane (slice_index_or delta (signal c o.1) 0) k)
-              (λ e. differ (e ∙ sym (shown k v o there same))) in
+          (lane (slice_index_or delta (signal c o.1) 0) k)
+          (λ e. differ (e ∙ sym (shown k v o there same))) in
           false≢true (sym none ∙ are.shown (signal c o.1) k lt m (o, there, refl) here)
 
   -- a gate that reads a signal that differs is stirred
   pub touched_stirred : (g s : ℕ) → AreWords c tests group None good → AreInGroup tests group lanes
       → ((t k : ℕ) → t ≢ start → IsElsewhere (f k) t) → ((a b : ℕ) → Reads c a b → lv b < lv a)
-          → Reads c g s → slice_index_or delta s 0 ≢ 0 → IsStirredIn c tests group lanes f g
+      → Reads c g s → slice_index_or delta s 0 ≢ 0 → IsStirredIn c tests group lanes f g
   touched_stirred g s words sized elsewhere rises r ne =
       let d = h.some s ne in
       let own = h.inside s d.0 d.1 d.2 in
       let place = within_place tests (128 * group + d.0) (sized d.0 d.1 own) in
       let same : test_of tests group d.0 ≡ place.0 =
-          index_of tests (128 * group + d.0) place.0 [] place.1 in
-      (d.0, place.0, d.1, own, place.1,
-          subst (λ t. IsStirredBy c t (f d.0) g) same (stirred d.0 d.1 d.2))
+      index_of tests (128 * group + d.0) place.0 [] place.1 in (
+        d.0,
+        place.0,
+        d.1,
+        own,
+        place.1,
+        subst (λ t. IsStirredBy c t (f d.0) g) same (stirred d.0 d.1 d.2),
+      )
     where
       off : (k : ℕ) → IsElsewhere (f k) g
       off k = elsewhere g k (λ e. let up = rises g s r in let from = h.after_start s ne in
@@ -168,11 +178,11 @@ module _ (c : List Statement) (tests : List Test) (group : ℕ) (f : ℕ
       stirred k lt differs =
           let u = has_solutions c well (test_of tests group k) (Some (f k)) in
           let named : Contains (names c) r.read =
-              read_named c (Gate r.name r.kind r.args) r.read well (among c _ r.gate)
-              (among r.args r.read r.reads) in
+          read_named c (Gate r.name r.kind r.args) r.read well (among c _ r.gate)
+          (among r.args r.read r.reads) in
           let is = h.right s k lt differs r.read u.0 named r.of u.1 in
           let here : lane (slice_index_or delta (signal c r.read) 0) k ≡ true =
-              ap (λ x. lane (slice_index_or delta x 0) k) r.of ∙ differs in
+          ap (λ x. lane (slice_index_or delta x 0) k) r.of ∙ differs in
           record {
             fault_free = lane_bits c good k;
             faulty = u.0;
@@ -190,13 +200,13 @@ module _ (c : List Statement) (tests : List Test) (group : ℕ) (f : ℕ
                 (lane (slice_index_or delta (signal c r.read) 0) k) here
                 (e ∙ (under_other (f k) (line.Pin g pin.0) (u.0 r.read) ((off k).pin pin.0)
                 ∙ (sym is ∙ lane_xor (slice_index_or good (signal c r.read) 0)
-                    (slice_index_or delta (signal c r.read) 0) k)));
+                (slice_index_or delta (signal c r.read) 0) k)));
           }
 
   pub stirred_touched : (gates : List ℕ) → AreWords c tests group None good
       → AreInGroup tests group lanes
       → ((t k : ℕ) → t ≢ start → IsElsewhere (f k) t) → ((a b : ℕ) → Reads c a b → lv b < lv a)
-          → HasStirredIn c tests group lanes f gates → HasTouched c delta gates
+      → HasStirredIn c tests group lanes f gates → HasTouched c delta gates
   stirred_touched gates words sized elsewhere rises all g s r ne =
       all g (touched_stirred g s words sized elsewhere rises r ne)
 
@@ -212,15 +222,18 @@ pub shown_unchanged : (c : List Statement) (tests : List Test) (group : ℕ) (f 
     → Fault) (good : List ℕ) (lanes : ℕ) (delta : List ℕ) (start diff : ℕ) (settled : ℕ → Type 0)
     → IsWellFormed c
     → ((t : ℕ) → slice_index_or delta t 0 ≡ 0) → start < length delta → diff ≡ 0
-        → IsFirstChange c tests group f good lanes delta start diff
-        → AreShown c tests group f good lanes settled 0
+    → IsFirstChange c tests group f good lanes delta start diff
+    → AreShown c tests group f good lanes settled 0
 shown_unchanged c tests group f good lanes delta start diff settled well clear within none first =
     record {
-  found = λ k lt e. absurd (false≢true (sym (lane_zero k) ∙ e));
-  clear = λ k lt in_lanes unseen unsettled. (bits_of c good (set delta start diff) k,
-      balanced_solves c (λ s. Unit {0}) tests group f good lanes (set delta start diff) [] k well
-      (λ s. tt) (λ s. refl) balanced lt in_lanes, unapart k);
-}
+      found = λ k lt e. absurd (false≢true (sym (lane_zero k) ∙ e));
+      clear = λ k lt in_lanes unseen unsettled. (
+        bits_of c good (set delta start diff) k,
+        balanced_solves c (λ s. Unit {0}) tests group f good lanes (set delta start diff) [] k well
+            (λ s. tt) (λ s. refl) balanced lt in_lanes,
+        unapart k,
+      );
+    }
   where
     still : (t : ℕ) → slice_index_or (set delta start diff) t 0 ≡ 0
     still t = go (cases_eq t start)
@@ -246,4 +259,4 @@ shown_unchanged c tests group f good lanes delta start diff settled well clear w
         a.2 (sym (under_other (f k) (branch a.0.0) (bits_of c good (set delta start diff) k a.0.1)
         (first.unobserved a.0 k a.1)
         ∙ lane_same (slice_index_or good (signal c a.0.1) 0) k
-            (slice_index_or (set delta start diff) (signal c a.0.1) 0) (still (signal c a.0.1))))
+        (slice_index_or (set delta start diff) (signal c a.0.1) 0) (still (signal c a.0.1))))

@@ -35,14 +35,14 @@ count_apart : (p q : ℕ → Bool) (xs : List ℕ) → ((x : ℕ) → p x ≡ tr
 count_apart p q [] h = omega arith
 count_apart p q (x ∷ xs) h =
     let a = sum_by-cons (λ y. weight (p y)) x xs in let b = sum_by-cons (λ y. weight (q y)) x xs in
-        let w = apart (p x) (q x) (h x) in let rest = count_apart p q xs h in
+    let w = apart (p x) (q x) (h x) in let rest = count_apart p q xs h in
     omega (arith, a, b, w, rest)
 
 module _ (c : List Statement) (tests : List Test) (group : ℕ) (f : ℕ
     → Fault) (good : List ℕ) (lanes : ℕ) (lv : ℕ → ℕ) (start : ℕ) (well : IsWellFormed c)
     (rises : (g s : ℕ) → Reads c g s → lv s < lv g)
     (delta at after : List ℕ) (idle : (t : ℕ)
-        → slice_index_or at t 0 ≡ 0) (woken : AreWoken c lv start at after) where
+    → slice_index_or at t 0 ≡ 0) (woken : AreWoken c lv start at after) where
   which : (r : ℕ) → slice_index_or after r 0 ≢ 0 → (Reads c r start × IsLive c r)
       × (slice_index_or after r 0 ≡ lv r + 1)
   which r ne = go (woken.only r)
@@ -67,12 +67,12 @@ module _ (c : List Statement) (tests : List Test) (group : ℕ) (f : ℕ
   pub spreading_first : (diff : ℕ) → AreWords c tests group None good
       → ((t : ℕ) → slice_index_or delta t 0 ≡ 0) → ((t k : ℕ) → t ≢ start → IsElsewhere (f k) t)
       → ((k : ℕ) → k < 128 → lane lanes k ≡ true
-          → HasEquation c (test_of tests group k) (Some (f k))
-          (bits_of c good (set delta start diff) k) start)
+      → HasEquation c (test_of tests group k) (Some (f k))
+      (bits_of c good (set delta start diff) k) start)
       → start < length delta → diff ≢ 0 → (k : ℕ) × (k < 128) × (lane diff k ≡ true)
-          → ((k : ℕ) → k < 128 → lane diff k ≡ true → lane lanes k ≡ true)
+      → ((k : ℕ) → k < 128 → lane diff k ≡ true → lane lanes k ≡ true)
       → IsSpreading c tests group f good lanes lv start lanes (set delta start diff) after
-          (lv start)
+      (lv start)
   spreading_first diff words clear off holds within differs a_lane in_lanes = record {
     balanced = balanced_now;
     narrow = λ k lt e. e;
@@ -112,16 +112,22 @@ module _ (c : List Statement) (tests : List Test) (group : ℕ) (f : ℕ
 
       at_start : (s k : ℕ) → lane (slice_index_or (set delta start diff) s 0) k ≡ true
           → (s ≡ start) ⊎ (s ≢ start) → (s ≡ start) × (lane diff k ≡ true)
-      at_start s k e (inl same) = (same, ap (λ d. lane d k) (sym new_at)
-          ∙ (ap (λ x. lane (slice_index_or (set delta start diff) x 0) k) (sym same) ∙ e))
+      at_start s k e (inl same) = (
+        same,
+        ap (λ d. lane d k) (sym new_at)
+            ∙ (ap (λ x. lane (slice_index_or (set delta start diff) x 0) k) (sym same) ∙ e),
+      )
       at_start s k e (inr other) = absurd
           (false≢true (sym (lane_zero k) ∙ (ap (λ d. lane d k) (sym (kept s other)) ∙ e)))
 
       some : (s : ℕ) → slice_index_or (set delta start diff) s 0 ≢ 0 → (s ≡ start) ⊎ (s ≢ start)
           → (k : ℕ) × (k < 128) × (lane (slice_index_or (set delta start diff) s 0) k ≡ true)
-      some s ne (inl same) = (a_lane.0, a_lane.1,
-          ap (λ x. lane (slice_index_or (set delta start diff) x 0) a_lane.0) same
-          ∙ (ap (λ d. lane d a_lane.0) new_at ∙ a_lane.2))
+      some s ne (inl same) = (
+        a_lane.0,
+        a_lane.1,
+        ap (λ x. lane (slice_index_or (set delta start diff) x 0) a_lane.0) same
+            ∙ (ap (λ d. lane d a_lane.0) new_at ∙ a_lane.2),
+      )
       some s ne (inr other) = absurd (ne (kept s other))
 
       idle_here : slice_index_or after start 0 ≡ 0
@@ -139,7 +145,7 @@ module _ (c : List Statement) (tests : List Test) (group : ℕ) (f : ℕ
           let is : signal c n ≡ start = number ∙ e.0 in
           let low : lv (signal c n) ≡ lv start = ap lv is in
           right_by_now c (Counts c lv start) (counts_closed c lv start rises) tests group f good
-              lanes (set delta start diff) after balanced_now lv (lv start) well rises not_below k
-              lt (in_lanes k lt e.1) v solves n (among (names c) n named)
+          lanes (set delta start diff) after balanced_now lv (lv start) well rises not_below k
+          lt (in_lanes k lt e.1) v solves n (among (names c) n named)
           (inr (omega (arith, low))) (omega (arith, low)) (ap (λ x. slice_index_or after x 0) is
-              ∙ idle_here)
+          ∙ idle_here)

@@ -31,7 +31,7 @@ range_kept : {X : Type 0} (xs ys : List X) (a b : ℕ) → a ≤ b → b ≤ len
 range_kept xs ys a b up within =
     let long : length (drop a xs) ≡ length xs - a = length-drop a xs in
     ap (take (b - a)) (drop-append-le a xs ys (omega (arith, up, within)))
-        ∙ take-append-le (b - a) (drop a xs) ys (omega (arith, long, within))
+    ∙ take-append-le (b - a) (drop a xs) ys (omega (arith, long, within))
 
 -- ---- the readers of a signal
 -- the live gates among the first sinks stand in the list, each with its level
@@ -43,8 +43,10 @@ pub record AreGathered (c : List Statement) (s : ℕ) (items : List Sink) (i : �
       → Contains (map (λ reader. reader.gate) readers) gate
 
 pub gathered_none : (c : List Statement) (s : ℕ) (items : List Sink) → AreGathered c s items 0 []
-gathered_none c s items = record { each = λ k d lt. absurd (omega (arith, lt));
-    all = λ gate pin j lt. absurd (omega (arith, lt)) }
+gathered_none c s items = record {
+  each = λ k d lt. absurd (omega (arith, lt));
+  all = λ gate pin j lt. absurd (omega (arith, lt));
+}
 
 module _ (c : List Statement) (well : IsWellFormed c) (s : ℕ) (n : Name)
     (named : name_of c s ≡ Some n) (items : List Sink) (are : items ≡ sinks c n) (i : ℕ)
@@ -78,7 +80,7 @@ module _ (c : List Statement) (well : IsWellFormed c) (s : ℕ) (n : Name)
       go g p j (inl below) is live = h.all g p j below is live
       go g p j (inr same) is live =
           let one : sink.Pin g p ≡ sink.Pin gate pin = same_gate c well s n named items are i j g p
-              (sink.Pin gate pin) d lt e same is in
+          (sink.Pin gate pin) d lt e same is in
           let here : g ≡ gate = cc in
           absurd (dead (subst (IsLive c) here live))
 
@@ -86,7 +88,7 @@ module _ (c : List Statement) (well : IsWellFormed c) (s : ℕ) (n : Name)
   pub gathered_more : (gate pin : ℕ) (d : Sink) (reader : Reader) → i < length items
       → slice_index_or items i d ≡ sink.Pin gate pin → reader.gate ≡ gate
       → Reads c reader.gate s → IsLive c reader.gate → HasLevel c reader.gate reader.level
-          → AreGathered c s items (i + 1) (readers ++ reader ∷ [])
+      → AreGathered c s items (i + 1) (readers ++ reader ∷ [])
   gathered_more gate pin d reader lt e own reads live level = record {
     each = All-push (λ r. (Reads c r.gate s × IsLive c r.gate) × HasLevel c r.gate r.level) readers
         reader h.each ((reads, live), level);
@@ -101,10 +103,10 @@ module _ (c : List Statement) (well : IsWellFormed c) (s : ℕ) (n : Name)
           (reader.gate ∷ []) g (h.all g p j below is alive)
       go g p j (inr same) is alive =
           let one : sink.Pin g p ≡ sink.Pin gate pin = same_gate c well s n named items are i j g p
-              (sink.Pin gate pin) d lt e same is in
+          (sink.Pin gate pin) d lt e same is in
           let here : g ≡ gate = cc in
           subst (Contains (map (λ r. r.gate) readers ++ reader.gate ∷ [])) (own ∙ sym here)
-              (Contains-push (map (λ r. r.gate) readers) reader.gate)
+          (Contains-push (map (λ r. r.gate) readers) reader.gate)
 
   -- all gates
   pub gathered_all : length items ≤ i → AreReaders c s readers
@@ -123,18 +125,18 @@ pub row_kept : (c : List Statement) (pins more_pins : List ℕ) (readers more_re
     → IsRow c pins readers s row → IsRow c more_pins more_readers s row
 row_kept c pins more_pins readers more_readers s row pins_more readers_more h =
     let pins_are : slice_range more_pins row.pins_start row.pins_end
-        ≡ slice_range pins row.pins_start row.pins_end =
+    ≡ slice_range pins row.pins_start row.pins_end =
     ap (λ l. slice_range l row.pins_start row.pins_end) pins_more.1
-        ∙ range_kept pins pins_more.0 row.pins_start row.pins_end h.pins_in.0 h.pins_in.1 in
+    ∙ range_kept pins pins_more.0 row.pins_start row.pins_end h.pins_in.0 h.pins_in.1 in
     let readers_are : slice_range more_readers row.readers_start row.readers_end
-        ≡ slice_range readers row.readers_start row.readers_end =
+    ≡ slice_range readers row.readers_start row.readers_end =
     ap (λ l. slice_range l row.readers_start row.readers_end) readers_more.1
-        ∙ range_kept readers readers_more.0 row.readers_start row.readers_end h.readers_in.0
-        h.readers_in.1 in
+    ∙ range_kept readers readers_more.0 row.readers_start row.readers_end h.readers_in.0
+    h.readers_in.1 in
     let pins_long : length more_pins ≡ length pins + length pins_more.0 = ap length pins_more.1
-        ∙ length-append pins pins_more.0 in
+    ∙ length-append pins pins_more.0 in
     let readers_long : length more_readers ≡ length readers + length readers_more.0 =
-        ap length readers_more.1 ∙ length-append readers readers_more.0 in
+    ap length readers_more.1 ∙ length-append readers readers_more.0 in
     record {
       pins_in = (h.pins_in.0, omega (arith, h.pins_in.1, pins_long));
       readers_in = (h.readers_in.0, omega (arith, h.readers_in.1, readers_long));
@@ -151,7 +153,7 @@ rows_none c pins readers s row at = let bad : None ≡ Some row = at in cc
 pub rows_with : (c : List Statement) (pins more_pins : List ℕ) (readers more_readers : List Reader)
     (rows : List Row) (s : ℕ) (row : Row) → length rows ≡ s
     → AreRows c pins readers rows → HasMore pins more_pins → HasMore readers more_readers
-        → IsRow c more_pins more_readers s row → AreRows c more_pins more_readers (rows ++ row ∷ [])
+    → IsRow c more_pins more_readers s row → AreRows c more_pins more_readers (rows ++ row ∷ [])
 rows_with c pins more_pins readers more_readers rows s row count before pins_more readers_more new t
     other at = go (pushed_get rows row other t at)
   where

@@ -38,7 +38,7 @@ module _ (c : List Statement) (well : IsWellFormed c) (tests : List Test) (group
       → IsFirstChange c tests group (flips good s) good lanes delta s lanes
   flip_first delta lanes within =
       first_on_stem c tests group (flips good s) good lanes delta s lanes well
-          (λ k. refl) within words
+      (λ k. refl) within words
       (λ k lt e. lane_xor (slice_index_or good s 0) lanes k
       ∙ turned_bit (lane (slice_index_or good s 0) k) (lane lanes k) e)
 
@@ -65,13 +65,19 @@ module _ (c : List Statement) (well : IsWellFormed c) (tests : List Test) (group
   pub flips_stir : (span : Span) (lanes : ℕ) (gates : List ℕ) → group_of span ≡ group
       → AreInSpan tests span lanes
       → HasStirredByFlip c tests span s gates
-          → HasStirredIn c tests group lanes (flips good s) gates
+      → HasStirredIn c tests group lanes (flips good s) gates
   flips_stir span lanes gates own within all gate h =
       let is : test_of tests group h.0 ≡ h.1 = index_of tests (128 * group + h.0) h.1 [] h.4 in
       let bit = lane (slice_index_or good s 0) h.0 in
-      all gate (128 * group + h.0, h.1, bit,
-          subst (λ g. IsInSpan (length tests) span (128 * g + h.0)) own (within h.0 h.2 h.3), h.4,
-          subst (λ t. HasBit c t (line.Stem s) bit) is (has_bit h.0 h.2), h.5)
+      all gate (
+        128 * group + h.0,
+        h.1,
+        bit,
+        subst (λ g. IsInSpan (length tests) span (128 * g + h.0)) own (within h.0 h.2 h.3),
+        h.4,
+        subst (λ t. HasBit c t (line.Stem s) bit) is (has_bit h.0 h.2),
+        h.5,
+      )
 
   pub flip_told : (lanes seen : ℕ) (settled : ℕ → Type 0)
       → AreShown c tests group (flips good s) good lanes settled seen → (one : Followed)
@@ -91,7 +97,7 @@ module _ (c : List Statement) (well : IsWellFormed c) (tests : List Test) (group
           let u = has_solutions c well t (Some (flips good s k)) in
           let is : Detects c t (flips good s k) =
           (detection_is_of_any_solution c well (flips good s k) t (lane_bits c good k) u.0
-              (words k lt) u.1).1
+          (words k lt) u.1).1
           (f.1 u.0 u.1) in (
             lane (slice_index_or good s 0) k,
             has_bit k lt,
@@ -112,5 +118,5 @@ module _ (c : List Statement) (well : IsWellFormed c) (tests : List Test) (group
           let same : d.0 ≡ lane (slice_index_or good s 0) k =
           sym first ∙ ap (λ x. lane (slice_index_or good x 0) k) number in
           v.2 ((detection_is_of_any_solution c well (flips good s k) t (lane_bits c good k) v.0
-              (words k lt)
+          (words k lt)
           v.1).0 (subst (λ b. Detects c t (flip s b)) same d.2))

@@ -58,18 +58,24 @@ pub solves_alike : (c : List Statement) (t : Test) (f g : Fault) (v : Name → B
     → f.stuck ≡ g.stuck → Solves c t (Some f) v → Solves c t (Some g) v
 solves_alike c t f g v on stuck p =
     let other : Solves c t (Some (record { model = g.model; line = f.line; stuck = f.stuck })) v =
-        record { source = p.source; gate = p.gate } in
+    record { source = p.source; gate = p.gate } in
     let there : Solves c t (Some (record { model = g.model; line = g.line; stuck = f.stuck })) v =
-        subst (λ (l : Line). Solves c t
-        (Some (record { model = g.model; line = l; stuck = f.stuck })) v) on other in
+    subst (λ (l : Line). Solves c t
+    (Some (record { model = g.model; line = l; stuck = f.stuck })) v) on other in
     subst (λ (b : Bool). Solves c t (Some (record { model = g.model; line = g.line; stuck = b })) v)
-        stuck there
+    stuck there
 
 pub detects_alike : (c : List Statement) (t : Test) (f g : Fault) → f.line ≡ g.line
     → f.stuck ≡ g.stuck → Detects c t f → Detects c t g
-detects_alike c t f g on stuck d =
-    (d.0, d.1, d.2, d.3, solves_alike c t f g d.1 on stuck d.4, d.5,
-        λ e. d.6 (e ∙ sym (under_alike f g (branch d.2.0) (d.1 d.2.1) on stuck)))
+detects_alike c t f g on stuck d = (
+  d.0,
+  d.1,
+  d.2,
+  d.3,
+  solves_alike c t f g d.1 on stuck d.4,
+  d.5,
+  λ e. d.6 (e ∙ sym (under_alike f g (branch d.2.0) (d.1 d.2.1) on stuck)),
+)
 
 module _ (c : List Statement) (well : IsWellFormed c) where
   pub stem_stuck : (t : Test) (f : Fault) (v : Name → Bool) (n : Name) → Solves c t (Some f) v
@@ -96,7 +102,7 @@ module _ (c : List Statement) (well : IsWellFormed c) where
       → HasBit c t (line.Stem (signal c n)) b → Solves c t None u → u n ≡ b
   bit_is t n b u a h p =
       agree c t None u h.0 well p h.2 n (contained (names c) n a)
-          ∙ (ap h.0 (sym (one_name h.1 n a h.3)) ∙ h.4)
+      ∙ (ap h.0 (sym (one_name h.1 n a h.3)) ∙ h.4)
 
   pub altered : (t : Test) (f : Fault) (n : Name) (u v : Name → Bool) → Among n (names c)
       → Alters c t f (signal c n) → Solves c t None u → Solves c t (Some f) v → v n ≡ not (u n)
@@ -140,11 +146,11 @@ module _ (c : List Statement) (well : IsWellFormed c) where
             let h = flip (signal c e.name) (d.0 e.name) in
             let w = has_solutions c well t (Some h) in
             let same : d.1 e.name ≡ w.0 e.name = turned
-                ∙ sym (stem_stuck t h w.0 e.name w.1 gate_is refl) in
+            ∙ sym (stem_stuck t h w.0 e.name w.1 gate_is refl) in
             let shown : shows (Some f) d.1 d.2 ≡ shows (Some h) w.0 d.2 =
             shows_alike c t f (Some h) d.1 w.0 well e d.4 w.1
-                (λ m a ne. flip_free e.name (d.0 e.name) m gate_is a ne) d.2 d.5 same
-                (flip_off (signal c e.name) (d.0 e.name) d.2 d.5) in
+            (λ m a ne. flip_free e.name (d.0 e.name) m gate_is a ne) d.2 d.5 same
+            (flip_off (signal c e.name) (d.0 e.name) d.2 d.5) in
             let alters : Alters c t f (signal c e.name) = record {
               fault_free = d.0;
               faulty = d.1;
@@ -153,9 +159,14 @@ module _ (c : List Statement) (well : IsWellFormed c) where
               solves_faulty = d.4;
               named = named e.name gate_is;
               differs = λ is. not_itself (d.0 e.name) (is ∙ turned);
-            } in
-            (alters, (d.0 e.name, (d.0, e.name, d.3, named e.name gate_is, refl),
-                (d.0, w.0, d.2, d.3, w.1, d.5, λ is. d.6 (is ∙ sym shown))))
+            } in (
+              alters,
+              (
+                d.0 e.name,
+                (d.0, e.name, d.3, named e.name gate_is, refl),
+                (d.0, w.0, d.2, d.3, w.1, d.5, λ is. d.6 (is ∙ sym shown)),
+              ),
+            )
 
     pub entered_back : Alters c t f (signal c e.name) → DetectsFlip c t (signal c e.name)
         → Detects c t f
@@ -167,11 +178,11 @@ module _ (c : List Statement) (well : IsWellFormed c) where
         let same : h.faulty e.name ≡ w e.name =
         altered t f e.name u h.faulty gate_is h d.2.3 h.solves_faulty
         ∙ (ap not (bit_is t e.name b u gate_is d.1 d.2.3)
-            ∙ sym (stem_stuck t g w e.name d.2.4 gate_is refl)) in
+        ∙ sym (stem_stuck t g w e.name d.2.4 gate_is refl)) in
         let shown : shows (Some f) h.faulty d.2.2 ≡ shows (Some g) w d.2.2 =
         shows_alike c t f (Some g) h.faulty w well e h.solves_faulty d.2.4
-            (λ m a ne. flip_free e.name b m gate_is a ne) d.2.2 d.2.5 same
-            (flip_off (signal c e.name) b d.2.2 d.2.5) in
+        (λ m a ne. flip_free e.name b m gate_is a ne) d.2.2 d.2.5 same
+        (flip_off (signal c e.name) b d.2.2 d.2.5) in
         (u, h.faulty, d.2.2, d.2.3, h.solves_faulty, d.2.5, λ is. d.2.6 (is ∙ shown))
 
   -- ---- a fault on the stem of a name
@@ -208,10 +219,10 @@ module _ (c : List Statement) (well : IsWellFormed c) where
         go (inl same) =
             let h = observes c d.2 well d.5 in
             let there : d.1 d.2.1 ≡ d.0 d.2.1 = same_where c t (Some f) None d.1 d.0 well d.4 d.3
-                (λ m. Unit {0}) (step (sym same)) d.2.1 (among (names c) d.2.1 h.named) tt in
+            (λ m. Unit {0}) (step (sym same)) d.2.1 (among (names c) d.2.1 h.named) tt in
             let shown : shows (Some f) d.1 d.2 ≡ d.0 d.2.1 =
-                under_other f (branch d.2.0) (d.1 d.2.1) (λ e. h.no_stem (signal c n) (sym on ∙ e))
-                ∙ there in
+            under_other f (branch d.2.0) (d.1 d.2.1) (λ e. h.no_stem (signal c n) (sym on ∙ e))
+            ∙ there in
             absurd (d.6 (sym shown))
         go (inr turned) =
             let stuck : f.stuck ≡ not (d.0 n) = sym (stem_stuck t f d.1 n d.4 a on) ∙ turned in
@@ -223,17 +234,22 @@ module _ (c : List Statement) (well : IsWellFormed c) where
               solves_faulty = d.4;
               named = named n a;
               differs = λ is. not_itself (d.0 n) (is ∙ turned);
-            } in
-            (alters, (d.0 n, (d.0, n, d.3, named n a, refl),
-                detects_alike c t f (flip (signal c n) (d.0 n)) on stuck d))
+            } in (
+              alters,
+              (
+                d.0 n,
+                (d.0, n, d.3, named n a, refl),
+                detects_alike c t f (flip (signal c n) (d.0 n)) on stuck d,
+              ),
+            )
 
     pub stem_back : Alters c t f (signal c n) → DetectsFlip c t (signal c n) → Detects c t f
     stem_back h d =
         let u = d.2.0 in
         let stuck : not d.0 ≡ f.stuck =
         ap not (sym (bit_is t n d.0 u a d.1 d.2.3))
-            ∙ (sym (altered t f n u h.faulty a h d.2.3 h.solves_faulty)
-            ∙ stem_stuck t f h.faulty n h.solves_faulty a on) in
+        ∙ (sym (altered t f n u h.faulty a h d.2.3 h.solves_faulty)
+        ∙ stem_stuck t f h.faulty n h.solves_faulty a on) in
         detects_alike c t (flip (signal c n) d.0) f (sym on) stuck d.2
 
 -- ---- the lines that a gate enters by
@@ -282,17 +298,29 @@ stem_enters c g s well h =
       reads = reads;
       alone = λ x kind others at a.
           signal_apart c x r.name (contained (names c) x
-              (defined_among c (Gate x kind others) x at refl))
-              (contained (names c) r.name (defined_among c (Gate r.name r.kind r.args) r.name stands
-              refl))
-          (h.alone (signal c x) (record { name = x; kind = kind; args = others; read = r.read;
-              gate = contained c (Gate x kind others) at; number = refl;
-              reads = contained others r.read a; of = r.of }) ∙ sym r.number);
+          (defined_among c (Gate x kind others) x at refl))
+          (contained (names c) r.name (defined_among c (Gate r.name r.kind r.args) r.name stands
+          refl))
+          (h.alone (signal c x) (record {
+            name = x;
+            kind = kind;
+            args = others;
+            read = r.read;
+            gate = contained c (Gate x kind others) at;
+            number = refl;
+            reads = contained others r.read a;
+            of = r.of;
+          }) ∙ sym r.number);
       unobserved = λ o there is. h.unobserved (o, there, ap (signal c) is ∙ r.of);
     } in
     record {
-      enters = record { name = r.name; kind = r.kind; args = r.args; stands = stands;
-          on = inl (r.read, ap line.Stem (sym r.of), only) };
+      enters = record {
+        name = r.name;
+        kind = r.kind;
+        args = r.args;
+        stands = stands;
+        on = inl (r.read, ap line.Stem (sym r.of), only);
+      };
       number = r.number;
       read = r.read;
       of = r.of;
@@ -302,49 +330,53 @@ stem_enters c g s well h =
 -- ---- what a gate passes on
 module _ (c : List Statement) (well : IsWellFormed c) (t : Test) (s : ℕ)
     (e : Enters c (line.Stem s)) (read : Name) (of : signal c read ≡ s) (reads : Among read e.args)
-    where
-  rises : (a : Name) → Among a e.args → well.acyclic.0 a < well.acyclic.0 e.name
-  rises a h = well.acyclic.1 e.name a (e.kind, e.args,
-      contained c (Gate e.name e.kind e.args) e.stands, contained e.args a h)
+  where
+    rises : (a : Name) → Among a e.args → well.acyclic.0 a < well.acyclic.0 e.name
+    rises a h = well.acyclic.1 e.name a (
+      e.kind,
+      e.args,
+      contained c (Gate e.name e.kind e.args) e.stands,
+      contained e.args a h,
+    )
 
-  module _ (u v : Name → Bool) (b : Bool) (p : Solves c t None u)
-      (q : Solves c t (Some (flip s b)) v) (is : u read ≡ b) where
-    -- what the gate reads is as without the fault, but for the signal that is turned round
-    arg_turned : (a : Name) → Among a e.args → v a ≡ turned_at c s u a
-    arg_turned a h = go (signal c a == s) refl
-      where
-        here : Among a (names c)
-        here = arg_named c well (line.Stem s) e a h
+    module _ (u v : Name → Bool) (b : Bool) (p : Solves c t None u)
+        (q : Solves c t (Some (flip s b)) v) (is : u read ≡ b) where
+      -- what the gate reads is as without the fault, but for the signal that is turned round
+      arg_turned : (a : Name) → Among a e.args → v a ≡ turned_at c s u a
+      arg_turned a h = go (signal c a == s) refl
+        where
+          here : Among a (names c)
+          here = arg_named c well (line.Stem s) e a h
 
-        go : (x : Bool) → (signal c a == s) ≡ x → v a ≡ (if x then not (u a) else u a)
-        go true same =
-            let number : signal c a ≡ s = eqb-true (signal c a) s same in
-            let one : a ≡ read = signal_apart c a read (contained (names c) a here)
-                (contained (names c) read (arg_named c well (line.Stem s) e read reads)) (number
-                ∙ sym of) in
-            stem_stuck c well t (flip s b) v a q here (ap line.Stem (sym number))
-                ∙ ap not (sym is ∙ ap u (sym one))
-        go false other =
-            let low = rises a h in
-            outside c t (flip s b) None v u well e q p (λ m x ne. tt) a here
-            (λ stems. (let h : line.Stem s ≡ line.Stem (signal c a) = stems in
-                let number : signal c a ≡ s = cc in let yes = eq-eqb (signal c a) s number in
-                let bad : true ≡ false = sym yes ∙ other in cc))
-            (inl low)
+          go : (x : Bool) → (signal c a == s) ≡ x → v a ≡ (if x then not (u a) else u a)
+          go true same =
+              let number : signal c a ≡ s = eqb-true (signal c a) s same in
+              let one : a ≡ read = signal_apart c a read (contained (names c) a here)
+              (contained (names c) read (arg_named c well (line.Stem s) e read reads)) (number
+              ∙ sym of) in
+              stem_stuck c well t (flip s b) v a q here (ap line.Stem (sym number))
+              ∙ ap not (sym is ∙ ap u (sym one))
+          go false other =
+              let low = rises a h in
+              outside c t (flip s b) None v u well e q p (λ m x ne. tt) a here
+              (λ stems. (let h : line.Stem s ≡ line.Stem (signal c a) = stems in
+              let number : signal c a ≡ s = cc in let yes = eq-eqb (signal c a) s number in
+              let bad : true ≡ false = sym yes ∙ other in cc))
+              (inl low)
 
-    pub gate_turned : v e.name ≡ value e.kind (map (turned_at c s u) e.args)
-    gate_turned =
-        let off : IsFree (Some (flip s b)) (signal c e.name) = (
-          λ stems. (let h : line.Stem s ≡ line.Stem (signal c e.name) = stems in
-              let number : signal c read ≡ signal c e.name = of ∙ cc in
-              let one : read ≡ e.name = signal_apart c read e.name
-                  (contained (names c) read (arg_named c well (line.Stem s) e read reads))
-                  (contained (names c) e.name (gate_named c well (line.Stem s) e)) number in
-              let same = ap well.acyclic.0 one in let low = rises read reads in
-                  absurd (omega (arith, low, same))),
-          λ pin pins. (let h : line.Stem s ≡ line.Pin (signal c e.name) pin = pins in cc),
-        ) in
-        q.gate e.name e.kind e.args (contained c (Gate e.name e.kind e.args) e.stands)
-        ∙ (free_stem (Some (flip s b)) (signal c e.name) _ off
-        ∙ ap (value e.kind) (free_pins (Some (flip s b)) v (signal c e.name) 0 e.args off
-            ∙ map_alike v (turned_at c s u) e.args arg_turned))
+      pub gate_turned : v e.name ≡ value e.kind (map (turned_at c s u) e.args)
+      gate_turned =
+          let off : IsFree (Some (flip s b)) (signal c e.name) = (
+            λ stems. (let h : line.Stem s ≡ line.Stem (signal c e.name) = stems in
+                let number : signal c read ≡ signal c e.name = of ∙ cc in
+                let one : read ≡ e.name = signal_apart c read e.name
+                (contained (names c) read (arg_named c well (line.Stem s) e read reads))
+                (contained (names c) e.name (gate_named c well (line.Stem s) e)) number in
+                let same = ap well.acyclic.0 one in let low = rises read reads in
+                absurd (omega (arith, low, same))),
+            λ pin pins. (let h : line.Stem s ≡ line.Pin (signal c e.name) pin = pins in cc),
+          ) in
+          q.gate e.name e.kind e.args (contained c (Gate e.name e.kind e.args) e.stands)
+          ∙ (free_stem (Some (flip s b)) (signal c e.name) _ off
+          ∙ ap (value e.kind) (free_pins (Some (flip s b)) v (signal c e.name) 0 e.args off
+          ∙ map_alike v (turned_at c s u) e.args arg_turned))

@@ -21,7 +21,7 @@ use Rattle.block_sim.proofs.Lanes.{lane_and, lane_xor, lane_zero, lane_ones, unl
 pin_at_from : (f : Option Fault) (gate : ℕ) (pins words delta : List ℕ) (k from i : ℕ)
     → i < length pins
     → slice_index_or (map (λ at. under f (line.Pin gate at.0) (lane (overlaid words delta at.1) k))
-        (enumerate_from from pins)) i false
+    (enumerate_from from pins)) i false
     ≡ under f (line.Pin gate (from + i)) (lane (overlaid words delta (slice_index_or pins i 0)) k)
 pin_at_from f gate [] words delta k from i lt = absurd (omega (arith, lt))
 pin_at_from f gate (p ∷ pins) words delta k from zero lt =
@@ -29,18 +29,18 @@ pin_at_from f gate (p ∷ pins) words delta k from zero lt =
 pin_at_from f gate (p ∷ pins) words delta k from (suc i) lt =
     pin_at_from f gate pins words delta k (from + 1) i (omega (arith, lt))
     ∙ ap (λ pin. under f (line.Pin gate pin)
-        (lane (overlaid words delta (slice_index_or pins i 0)) k)) (omega arith)
+    (lane (overlaid words delta (slice_index_or pins i 0)) k)) (omega arith)
 
 pin_at : (f : Option Fault) (gate : ℕ) (pins words delta : List ℕ) (k i : ℕ) → i < length pins
     → slice_index_or (pin_bits f gate pins words delta k) i false ≡ under f (line.Pin gate i)
-        (lane (overlaid words delta (slice_index_or pins i 0)) k)
+    (lane (overlaid words delta (slice_index_or pins i 0)) k)
 pin_at f gate pins words delta k i lt = pin_at_from f gate pins words delta k 0 i lt
     ∙ ap (λ pin. under f (line.Pin gate pin)
     (lane (overlaid words delta (slice_index_or pins i 0)) k)) (omega arith)
 
 pins_counted_from : (f : Option Fault) (gate : ℕ) (pins words delta : List ℕ) (k from : ℕ)
     → length (map (λ at. under f (line.Pin gate at.0) (lane (overlaid words delta at.1) k))
-        (enumerate_from from pins)) ≡ length pins
+    (enumerate_from from pins)) ≡ length pins
 pins_counted_from f gate [] words delta k from = refl
 pins_counted_from f gate (p ∷ pins) words delta k from =
     ap suc (pins_counted_from f gate pins words delta k (from + 1))
@@ -98,21 +98,26 @@ module _ (f : Option Fault) (gate : ℕ) (pins words delta : List ℕ) where
   pub folds_more : (turn : Bool) (flips i all odd word : ℕ) → i < length pins
       → ((k : ℕ) → k < 128 → lane flips k ≡ turn) → AreFolds f gate pins words delta turn i all odd
       → ((k : ℕ) → k < 128 → lane word k ≡ under f (line.Pin gate i)
-          (lane (overlaid words delta (slice_index_or pins i 0)) k))
+      (lane (overlaid words delta (slice_index_or pins i 0)) k))
       → AreFolds f gate pins words delta turn (i + 1) (bit_and all (bit_xor word flips))
-          (bit_xor odd word)
+      (bit_xor odd word)
   folds_more turn flips i all odd word lt flip h is = record {
     all_is = λ k below.
         lane_and all (bit_xor word flips) k
-        ∙ (rw (h.all_is k below, lane_xor word flips k, bit k below, flip k below,
-            turned_there (slice_index_or (pin_bits f gate pins words delta k) i false) turn) refl
+        ∙ (rw (
+          h.all_is k below,
+          lane_xor word flips k,
+          bit k below,
+          flip k below,
+          turned_there (slice_index_or (pin_bits f gate pins words delta k) i false) turn,
+        ) refl
         ∙ sym (list_all_more (λ b. turned turn b) (pin_bits f gate pins words delta k) i false
-            (within k)));
+        (within k)));
     odd_is = λ k below.
         lane_xor odd word k ∙ (rw (h.odd_is k below, bit k below) refl
         ∙ sym (ap is_odd (take_more (pin_bits f gate pins words delta k) i false (within k))
-            ∙ is_odd_push (take i (pin_bits f gate pins words delta k))
-            (slice_index_or (pin_bits f gate pins words delta k) i false)));
+        ∙ is_odd_push (take i (pin_bits f gate pins words delta k))
+        (slice_index_or (pin_bits f gate pins words delta k) i false)));
   }
     where
       within : (k : ℕ) → i < length (pin_bits f gate pins words delta k)
@@ -127,11 +132,11 @@ module _ (f : Option Fault) (gate : ℕ) (pins words delta : List ℕ) where
   pub folds_first : (turn : Bool) (flips word : ℕ) → 0 < length pins
       → ((k : ℕ) → k < 128 → lane flips k ≡ turn)
       → ((k : ℕ) → k < 128 → lane word k ≡ under f (line.Pin gate 0)
-          (lane (overlaid words delta (slice_index_or pins 0 0)) k))
+      (lane (overlaid words delta (slice_index_or pins 0 0)) k))
       → AreFolds f gate pins words delta turn 1 (bit_xor word flips) word
   folds_first turn flips word some flip is =
       let h = folds_more turn flips 0 340282366920938463463374607431768211455 0 word some flip
-          (folds_none turn) is in
+      (folds_none turn) is in
       record {
         all_is = λ k lt. sym (lane_and 340282366920938463463374607431768211455
             (bit_xor word flips) k ∙ rw (lane_ones 128 k lt) refl) ∙ h.all_is k lt;
@@ -142,22 +147,24 @@ module _ (f : Option Fault) (gate : ℕ) (pins words delta : List ℕ) where
   pub folds_last : (turn : Bool) (flips i last all odd word other : ℕ) → length pins ≡ last + 1
       → ((i ≡ last) ⊎ ((i ≡ 1) × (last ≡ 0))) → ((k : ℕ) → k < 128 → lane flips k ≡ turn)
       → ((k : ℕ) → k < 128 → lane other k ≡ nat_lt 0 last)
-          → AreFolds f gate pins words delta turn i all odd
+      → AreFolds f gate pins words delta turn i all odd
       → ((k : ℕ) → k < 128 → lane word k ≡ under f (line.Pin gate last)
-          (lane (overlaid words delta (slice_index_or pins last 0)) k))
+      (lane (overlaid words delta (slice_index_or pins last 0)) k))
       → 0 < i → AreFolds f gate pins words delta turn (length pins)
-          (bit_and all (bit_xor word flips)) (bit_xor odd (bit_and word other))
+      (bit_and all (bit_xor word flips)) (bit_xor odd (bit_and word other))
   folds_last turn flips i last all odd word other count (inl e) flip others h is more = record {
     all_is = λ k lt. whole.all_is k lt
         ∙ ap (λ n. list_all (λ b. turned turn b) (take n (pin_bits f gate pins words delta k)))
         long;
     odd_is = λ k lt.
         lane_xor odd (bit_and word other) k
-            ∙ (ap (unlike (lane odd k)) (lane_and word other k ∙ rw (others k lt,
-            some) (all_true (lane word k)))
+        ∙ (ap (unlike (lane odd k)) (lane_and word other k ∙ rw (
+          others k lt,
+          some,
+        ) (all_true (lane word k)))
         ∙ (sym (lane_xor odd word k)
-            ∙ (whole.odd_is k lt ∙ ap (λ n. is_odd (take n (pin_bits f gate pins words delta k)))
-            long)));
+        ∙ (whole.odd_is k lt ∙ ap (λ n. is_odd (take n (pin_bits f gate pins words delta k)))
+        long)));
   }
     where
       long : i + 1 ≡ length pins
@@ -177,17 +184,20 @@ module _ (f : Option Fault) (gate : ℕ) (pins words delta : List ℕ) where
           (lane (overlaid words delta (slice_index_or pins j 0)) k)) (sym e) (is k lt))
   folds_last turn flips i last all odd word other count (inr (one, none)) flip others h is more =
       record {
-    all_is = λ k lt. lane_and all (bit_xor word flips) k ∙ (rw (h.all_is k lt, same k lt) (twice _)
-        ∙ ap (λ n. list_all (λ b. turned turn b) (take n (pin_bits f gate pins words delta k)))
-        long);
-    odd_is = λ k lt.
-        lane_xor odd (bit_and word other) k
-            ∙ (ap (unlike (lane odd k)) (lane_and word other k ∙ rw (others k lt,
-            none) (none_true (lane word k)))
-        ∙ (unlike_false (lane odd k)
+        all_is = λ k lt. lane_and all (bit_xor word flips) k
+            ∙ (rw (h.all_is k lt, same k lt) (twice _)
+            ∙ ap (λ n. list_all (λ b. turned turn b) (take n (pin_bits f gate pins words delta k)))
+            long);
+        odd_is = λ k lt.
+            lane_xor odd (bit_and word other) k
+            ∙ (ap (unlike (lane odd k)) (lane_and word other k ∙ rw (
+              others k lt,
+              none,
+            ) (none_true (lane word k)))
+            ∙ (unlike_false (lane odd k)
             ∙ (h.odd_is k lt ∙ ap (λ n. is_odd (take n (pin_bits f gate pins words delta k)))
             long)));
-  }
+      }
     where
       long : i ≡ length pins
       long = omega (arith, one, none, count)
@@ -235,11 +245,11 @@ module _ (f : Option Fault) (gate : ℕ) (pins words delta : List ℕ) where
 pub form_lane : (kind : Kind) (form : Form) (bits : List Bool) (all odd core flips k : ℕ)
     → IsFormOf kind form → lane flips k ≡ form.turns
     → lane all k ≡ list_all (λ b. turned form.turns_pins b) bits → lane odd k ≡ is_odd bits
-        → ((form.is_xor ≡ true) × (core ≡ odd)) ⊎ ((form.is_xor ≡ false) × (core ≡ all))
+    → ((form.is_xor ≡ true) × (core ≡ odd)) ⊎ ((form.is_xor ≡ false) × (core ≡ all))
     → lane (bit_xor core flips) k ≡ value kind bits
 form_lane kind form bits all odd core flips k formed flip all_is odd_is chosen =
     lane_xor core flips k ∙ (ap (unlike (lane core k)) flip ∙ (turned_there (lane core k) form.turns
-        ∙ (ap (turned form.turns) (go chosen) ∙ formed bits)))
+    ∙ (ap (turned form.turns) (go chosen) ∙ formed bits)))
   where
     go : ((form.is_xor ≡ true) × (core ≡ odd)) ⊎ ((form.is_xor ≡ false) × (core ≡ all))
         → lane core k ≡ (if form.is_xor then is_odd bits else list_all

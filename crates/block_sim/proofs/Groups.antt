@@ -14,7 +14,7 @@ use Rattle.block_sim.proofs.Steps.{left_of, right_of}
 pub joined_words : (tests : List Test) (group source low high word : ℕ)
     → IsWord tests (2 * group) source low → IsWord tests (2 * group + 1) source high
     → ((k : ℕ) → k < 64 → bit_at word k ≡ bit_at low k)
-        → ((k : ℕ) → k < 64 → bit_at word (64 + k) ≡ bit_at high k)
+    → ((k : ℕ) → k < 64 → bit_at word (64 + k) ≡ bit_at high k)
     → IsGroupWord tests group source word
 joined_words tests group source low high word first second is_low is_high k lt = go (cases_lt k 64)
   where
@@ -27,7 +27,7 @@ joined_words tests group source low high word first second is_low is_high k lt =
         let back : k ≡ 64 + (k - 64) = omega (arith, up) in
         let place : 64 * (2 * group + 1) + (k - 64) ≡ 128 * group + k = omega (arith, up) in
         ap (bit_at word) back ∙ (is_high (k - 64) few
-            ∙ (second (k - 64) few ∙ ap (λ t. as_number (bit tests t source)) place))
+        ∙ (second (k - 64) few ∙ ap (λ t. as_number (bit tests t source)) place))
 
 -- lanes below a number, without those below another
 pub lanes_between : (low high from to k : ℕ) → high < 2 ^ 128 → k < 128 → lane low k ≡ nat_lt k to
@@ -44,9 +44,11 @@ lanes_between low high from to k fits lt is_low is_high = (there, back)
 
     there : lane (bit_and low (bit_not w128 high)) k ≡ true → (from ≤ k) × (k < to)
     there e =
-        let all = sym (lane_and low (bit_not w128 high) k) ∙ e in
-        (up (cases_lt k from) (sym turned ∙ right_of (lane low k) (lane (bit_not w128 high) k) all),
-            ltb-true k to (sym is_low ∙ left_of (lane low k) (lane (bit_not w128 high) k) all))
+        let all = sym (lane_and low (bit_not w128 high) k) ∙ e in (
+          up (cases_lt k from) (sym turned
+              ∙ right_of (lane low k) (lane (bit_not w128 high) k) all),
+          ltb-true k to (sym is_low ∙ left_of (lane low k) (lane (bit_not w128 high) k) all),
+        )
       where
         up : (k < from) ⊎ (from ≤ k) → not (nat_lt k from) ≡ true → from ≤ k
         up (inl below) e = absurd (false≢true (sym (ap not (lt-ltb k from below)) ∙ e))

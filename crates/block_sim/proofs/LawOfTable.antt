@@ -24,17 +24,20 @@ use Rattle.block_sim.specs.First.{IsFirst, IsOutcome, IsTrueOutcome, IsTrueTable
 outcome_too : (c : List Statement) (tests : List Test) (f r : Fault) (block : ℕ) (o : Outcome)
     → ((t : ℕ) → DetectsAt c tests f t → DetectsAt c tests r t)
     → ((t : ℕ) → DetectsAt c tests r t → DetectsAt c tests f t) → IsOutcome c tests r block o
-        → IsOutcome c tests f block o
+    → IsOutcome c tests f block o
 outcome_too c tests f r block Clear to from h = λ k lt d. h k lt (to (64 * block + k) d)
-outcome_too c tests f r block (Hit k) to from h = (h.0, from (64 * block + k) h.1,
-    λ lower lt d. h.2 lower lt (to (64 * block + lower) d))
+outcome_too c tests f r block (Hit k) to from h = (
+  h.0,
+  from (64 * block + k) h.1,
+  λ lower lt d. h.2 lower lt (to (64 * block + lower) d),
+)
 
 pub true_of_class : (m : Model) (c : List Statement) (tests : List Test) (f : Fault)
     (class block : ℕ) (o : Outcome) → IsWellFormed c → HaveArities c → IsClassOf m c f class
     → IsTrueOutcome m c tests class block o → IsOutcome c tests f block o
 true_of_class m c tests f class block o well arities of h =
     outcome_too c tests f h.0 block o
-        (λ t. (classes_detected_same c well arities f h.0 tests t both).0)
+    (λ t. (classes_detected_same c well arities f h.0 tests t both).0)
     (λ t. (classes_detected_same c well arities f h.0 tests t both).1) h.2
   where
     both : AreEquivalent c f h.0
@@ -54,7 +57,7 @@ detects_within c tests f t d = place_within tests t d.0 d.1
 in_block : (c : List Statement) (tests : List Test) (f : Fault) (block t : ℕ) → 64 * block ≤ t
     → DetectsAt c tests f t
     → ((k : ℕ) → k < size_of (length tests) block → DetectsAt c tests f (64 * block + k) → ⊥)
-        → 64 * (block + 1) ≤ t
+    → 64 * (block + 1) ≤ t
 in_block c tests f block t after d none = go (cases_lt t (64 * (block + 1)))
   where
     go : (t < 64 * (block + 1)) ⊎ (64 * (block + 1) ≤ t) → 64 * (block + 1) ≤ t
@@ -68,7 +71,7 @@ in_block c tests f block t after d none = go (cases_lt t (64 * (block + 1)))
 one_more : (c : List Statement) (tests : List Test) (f : Fault) (block : ℕ) (o : Outcome)
     (outcomes : List Outcome) → IsOutcome c tests f block o
     → IsFirstFrom c tests f (block + 1) (first_hit (block + 1) outcomes)
-        → IsFirstFrom c tests f block (first_hit block (o ∷ outcomes))
+    → IsFirstFrom c tests f block (first_hit block (o ∷ outcomes))
 one_more c tests f block (Hit k) outcomes h later = (
   h.1,
   λ earlier after lt d.
@@ -80,8 +83,10 @@ one_more c tests f block Clear outcomes h later = go (first_hit (block + 1) outc
     go : (first : Option ℕ) → IsFirstFrom c tests f (block + 1) first
         → IsFirstFrom c tests f block first
     go None none = λ t after d. none t (in_block c tests f block t after d h) d
-    go (Some t) first = (first.0,
-        λ earlier after lt d. first.1 earlier (in_block c tests f block earlier after d h) lt d)
+    go (Some t) first = (
+      first.0,
+      λ earlier after lt d. first.1 earlier (in_block c tests f block earlier after d h) lt d,
+    )
 
 module _ (m : Model) (c : List Statement) (tests : List Test) (table : Table)
     (well : IsWellFormed c) (arities : HaveArities c) (each : IsTrueTable m c tests table)
@@ -97,7 +102,7 @@ module _ (m : Model) (c : List Statement) (tests : List Test) (table : Table)
       omega (arith, e, after, lt)
   from_block (suc count) block e =
       one_more c tests f block (table class block) (map (table class) (from_up (block + 1) count))
-          (outcome_of block (omega (arith, e))) (from_block count (block + 1) (omega (arith, e)))
+      (outcome_of block (omega (arith, e))) (from_block count (block + 1) (omega (arith, e)))
 
   least_first : IsFirst c tests f (least table (blocks (length tests)) class)
   least_first = go (least table (blocks (length tests)) class)

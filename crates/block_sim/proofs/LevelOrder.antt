@@ -81,8 +81,10 @@ above_start (n ∷ ns) start = let h : max start n ≤ fold max (max start n) ns
 maps_agree : (f g : Name → ℕ) (ns : List Name) → ((n : Name) → Among n ns → f n ≡ g n)
     → map f ns ≡ map g ns
 maps_agree f g [] same = refl
-maps_agree f g (n ∷ ns) same = rw (same n (inl refl),
-    maps_agree f g ns (λ m a. same m (inr a))) refl
+maps_agree f g (n ∷ ns) same = rw (
+  same n (inl refl),
+  maps_agree f g ns (λ m a. same m (inr a)),
+) refl
 
 module _ (c : List Statement) (well : IsWellFormed c) where
   -- a signal has one level
@@ -95,25 +97,29 @@ module _ (c : List Statement) (well : IsWellFormed c) where
           → f n ≡ g n
       go ih (inl x) =
           let at : Contains (sources c) n =
-              contained (sources c) n (among_left (inputs c) (map (λ cell. cell.0) (cells c)) n
-              x) in
+          contained (sources c) n (among_left (inputs c) (map (λ cell. cell.0) (cells c)) n
+          x) in
           p.source n at ∙ sym (q.source n at)
       go ih (inr (inl x)) =
           let at : Contains (sources c) n =
-              contained (sources c) n (among_right (inputs c) (map (λ cell. cell.0) (cells c)) n
-              x) in
+          contained (sources c) n (among_right (inputs c) (map (λ cell. cell.0) (cells c)) n
+          x) in
           p.source n at ∙ sym (q.source n at)
       go ih (inr (inr x)) =
           let at : Contains c (Gate n x.0 x.1) = contained c (Gate n x.0 x.1) x.2 in
           p.gate n x.0 x.1 at ∙ (ap (λ levels. 1 + greatest levels) (maps_agree f g x.1 same)
-              ∙ sym (q.gate n x.0 x.1 at))
+          ∙ sym (q.gate n x.0 x.1 at))
         where
           same : (m : Name) → Among m x.1 → f m ≡ g m
           same m h =
-              let lower : well.acyclic.0 m < well.acyclic.0 n = well.acyclic.1 n m (x.0, x.1,
-                  contained c (Gate n x.0 x.1) x.2, contained x.1 m h) in
+              let lower : well.acyclic.0 m < well.acyclic.0 n = well.acyclic.1 n m (
+                x.0,
+                x.1,
+                contained c (Gate n x.0 x.1) x.2,
+                contained x.1 m h,
+              ) in
               ih m (omega (arith, lt, lower))
-                  (among (names c) m (read_named c (Gate n x.0 x.1) m well x.2 h))
+              (among (names c) m (read_named c (Gate n x.0 x.1) m well x.2 h))
 
   pub one_level : (f g : Name → ℕ) (n : Name) → AreLevels c f → AreLevels c g → Among n (names c)
       → f n ≡ g n
@@ -155,14 +161,20 @@ module _ (c : List Statement) (well : IsWellFormed c) where
 
           by_order : (j < k) ⊎ ((j ≡ k) × (signal c n < signal c a)) → ⊥
           by_order (inl lt) = omega (arith, lt, level_n, level_a, above, most)
-          by_order (inr e) = let same : j ≡ k = e.0 in omega (arith, same, level_n, level_a, above,
-              most)
+          by_order (inr e) = let same : j ≡ k = e.0 in omega (
+            arith,
+            same,
+            level_n,
+            level_a,
+            above,
+            most,
+          )
 
   -- in level order the signals that a gate reads stand before it
   pub pins_before : (order : List ℕ) (i : ℕ) (n a : Name) (kind : Kind) (args : List Name)
       → IsLevelOrder c order → i < length order
       → slice_index_or order i 0 ≡ signal c n → Among (Gate n kind args) c → Among a args
-          → (j : ℕ) × (j < i) × (slice_index_or order j 0 ≡ signal c a)
+      → (j : ℕ) × (j < i) × (slice_index_or order j 0 ≡ signal c a)
   pins_before order i n a kind args h lt at gate reads = go (cases_order place.0 i)
     where
       named : Contains (names c) a
@@ -179,15 +191,19 @@ module _ (c : List Statement) (well : IsWellFormed c) where
       go (inr (inl before)) = (place.0, before, there)
       go (inl e) =
           let same : signal c n ≡ signal c a = sym at ∙ (ap (λ j. slice_index_or order j 0) (sym e)
-              ∙ there) in
+          ∙ there) in
           let one : n ≡ a = signal_apart c n a
-              (contained (names c) n (defined_among c (Gate n kind args) n gate refl)) named same in
-          let lower : well.acyclic.0 a < well.acyclic.0 n = well.acyclic.1 n a (kind, args,
-              contained c (Gate n kind args) gate, contained args a reads) in
+          (contained (names c) n (defined_among c (Gate n kind args) n gate refl)) named same in
+          let lower : well.acyclic.0 a < well.acyclic.0 n = well.acyclic.1 n a (
+            kind,
+            args,
+            contained c (Gate n kind args) gate,
+            contained args a reads,
+          ) in
           let equal : well.acyclic.0 n ≡ well.acyclic.0 a = ap well.acyclic.0 one in
           absurd (omega (arith, lower, equal))
       go (inr (inr after)) =
           let before : GoesBefore c (slice_index_or order i 0) (slice_index_or order place.0 0) =
-              h.ordered i place.0 0 after place.1 in
+          h.ordered i place.0 0 after place.1 in
           absurd (not_before n a kind args gate reads (subst (GoesBefore c (signal c n)) there
-              (subst (λ s. GoesBefore c s (slice_index_or order place.0 0)) at before)))
+          (subst (λ s. GoesBefore c s (slice_index_or order place.0 0)) at before)))

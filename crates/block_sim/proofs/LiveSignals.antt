@@ -73,8 +73,10 @@ module _ (c : List Statement) (well : IsWellFormed c) (s : ℕ) (n : Name)
   -- all sinks
   pub dead_all : (i : ℕ) → length items ≤ i → AreDead c items i → IsLive c s → ⊥
   dead_all i le h (observed o) =
-      let none : HasObserver c s items i false = record { some = λ e. absurd (false≢true e);
-          none = λ isnt j lt. let it = h.each j lt in (it.0, it.1, it.2) } in
+      let none : HasObserver c s items i false = record {
+        some = λ e. absurd (false≢true e);
+        none = λ isnt j lt. let it = h.each j lt in (it.0, it.1, it.2);
+      } in
       false≢true ((observer_all c well s n named items are i false le none).1 o)
   dead_all i le h (through {g = g} reads live) =
       let p = read_sink c well s n named g reads in
@@ -92,52 +94,52 @@ LiveFrom c order live place = (i : ℕ) → place ≤ i → i < length order
     → IsLiveAt c live (slice_index_or order i 0)
 
 module _ (c : List Statement) (well : IsWellFormed c) (order : List ℕ) (is : IsLevelOrder c order)
-    where
-  -- it is known of the gates that read the next one
-  pub readers_known : (live : List Bool) (place g : ℕ) → 0 < place → place ≤ length order
-      → LiveFrom c order live place → Reads c g (slice_index_or order (place - 1) 0)
-      → IsLiveAt c live g
-  readers_known live place g some low known r =
-      let there = is.all g (reader_within c g (slice_index_or order (place - 1) 0) r) in
-      let at : slice_index_or order there.0 0 ≡ g = get_or_default order there.0 0 g there.1
-          ∙ there.2 in
-      let lt = behind c well order is (place - 1) there.0 g (omega (arith, some, low)) there.1 at
-          r in
-      subst (IsLiveAt c live) at (known there.0 (omega (arith, lt)) there.1)
+  where
+    -- it is known of the gates that read the next one
+    pub readers_known : (live : List Bool) (place g : ℕ) → 0 < place → place ≤ length order
+        → LiveFrom c order live place → Reads c g (slice_index_or order (place - 1) 0)
+        → IsLiveAt c live g
+    readers_known live place g some low known r =
+        let there = is.all g (reader_within c g (slice_index_or order (place - 1) 0) r) in
+        let at : slice_index_or order there.0 0 ≡ g = get_or_default order there.0 0 g there.1
+        ∙ there.2 in
+        let lt = behind c well order is (place - 1) there.0 g (omega (arith, some, low)) there.1 at
+        r in
+        subst (IsLiveAt c live) at (known there.0 (omega (arith, lt)) there.1)
 
-  pub live_more : (live : List Bool) (place : ℕ) (now : Bool) → 0 < place → place ≤ length order
-      → length live ≡ length (names c) → LiveFrom c order live place
-      → IsTrue now ↔ IsLive c (slice_index_or order (place - 1) 0)
-          → LiveFrom c order (set live (slice_index_or order (place - 1) 0) now) (place - 1)
-  live_more live place now some low room known found i from inside =
-      go (cases_eq (slice_index_or order i 0) (slice_index_or order (place - 1) 0))
-    where
-      inner : slice_index_or order (place - 1) 0 < length live
-      inner = let lt = order_within c order (place - 1) is (omega (arith, some, low)) in
-          omega (arith, lt, room)
+    pub live_more : (live : List Bool) (place : ℕ) (now : Bool) → 0 < place → place ≤ length order
+        → length live ≡ length (names c) → LiveFrom c order live place
+        → IsTrue now ↔ IsLive c (slice_index_or order (place - 1) 0)
+        → LiveFrom c order (set live (slice_index_or order (place - 1) 0) now) (place - 1)
+    live_more live place now some low room known found i from inside =
+        go (cases_eq (slice_index_or order i 0) (slice_index_or order (place - 1) 0))
+      where
+        inner : slice_index_or order (place - 1) 0 < length live
+        inner = let lt = order_within c order (place - 1) is (omega (arith, some, low)) in
+            omega (arith, lt, room)
 
-      new : List Bool
-      new = set live (slice_index_or order (place - 1) 0) now
+        new : List Bool
+        new = set live (slice_index_or order (place - 1) 0) now
 
-      go : (slice_index_or order i 0 ≡ slice_index_or order (place - 1) 0)
-          ⊎ (slice_index_or order i 0 ≢ slice_index_or order (place - 1) 0)
-          → IsLiveAt c new (slice_index_or order i 0)
-      go (inl same) = subst (IsLiveAt c new) (sym same)
-          (subst (λ b. IsTrue b ↔ IsLive c (slice_index_or order (place - 1) 0))
-              (sym (get_or-set_same live (slice_index_or order (place - 1) 0) now false inner))
-              found)
-      go (inr other) = subst (λ b. IsTrue b ↔ IsLive c (slice_index_or order i 0))
-          (sym (get_or-set_other live (slice_index_or order (place - 1) 0)
-          (slice_index_or order i 0) now false other))
-          (known i (later (cases_eq i (place - 1))) inside)
-        where
-          later : (i ≡ place - 1) ⊎ (i ≢ place - 1) → place ≤ i
-          later (inl same) = absurd (other (ap (λ x. slice_index_or order x 0) same))
-          later (inr ne) = omega (arith, from, ne, some)
+        go : (slice_index_or order i 0 ≡ slice_index_or order (place - 1) 0)
+            ⊎ (slice_index_or order i 0 ≢ slice_index_or order (place - 1) 0)
+            → IsLiveAt c new (slice_index_or order i 0)
+        go (inl same) = subst (IsLiveAt c new) (sym same)
+            (subst (λ b. IsTrue b ↔ IsLive c (slice_index_or order (place - 1) 0))
+            (sym (get_or-set_same live (slice_index_or order (place - 1) 0) now false inner))
+            found)
+        go (inr other) = subst (λ b. IsTrue b ↔ IsLive c (slice_index_or order i 0))
+            (sym (get_or-set_other live (slice_index_or order (place - 1) 0)
+            (slice_index_or order i 0) now false other))
+            (known i (later (cases_eq i (place - 1))) inside)
+          where
+            later : (i ≡ place - 1) ⊎ (i ≢ place - 1) → place ≤ i
+            later (inl same) = absurd (other (ap (λ x. slice_index_or order x 0) same))
+            later (inr ne) = omega (arith, from, ne, some)
 
-  pub live_all : (live : List Bool) → LiveFrom c order live 0 → AreLive c live
-  live_all live known s lt =
-      let there = is.all s lt in
-      let at : slice_index_or order there.0 0 ≡ s = get_or_default order there.0 0 s there.1
-          ∙ there.2 in
-      subst (IsLiveAt c live) at (known there.0 (omega arith) there.1)
+    pub live_all : (live : List Bool) → LiveFrom c order live 0 → AreLive c live
+    live_all live known s lt =
+        let there = is.all s lt in
+        let at : slice_index_or order there.0 0 ≡ s = get_or_default order there.0 0 s there.1
+        ∙ there.2 in
+        subst (IsLiveAt c live) at (known there.0 (omega arith) there.1)

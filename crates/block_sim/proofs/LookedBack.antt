@@ -25,8 +25,8 @@ use Rattle.block_sim.proofs.Lanes.{lane_and, lane_not, lane_ones}
 pub lane_has_bit : (c : List Statement) (tests : List Test) (group k : ℕ) (row : List ℕ) (l : Line)
     (n : Name) (bit : Bool) → IsWellFormed c → AreWords c tests group None row → k < 128
     → carried c l ≡ Some n → Contains (names c) n
-        → (lane (slice_index_or row (signal c n) 0) k ≡ bit) ↔ HasBit c (test_of tests group k) l
-        bit
+    → (lane (slice_index_or row (signal c n) 0) k ≡ bit) ↔ HasBit c (test_of tests group k) l
+    bit
 lane_has_bit c tests group k row l n bit well words lt at named = (there, back)
   where
     there : lane (slice_index_or row (signal c n) 0) k ≡ bit
@@ -38,13 +38,13 @@ lane_has_bit c tests group k row l n bit well words lt at named = (there, back)
         let same : h.1 ≡ n = ap (λ o. unwrap_or o n) (sym h.3 ∙ at) in
         let own : h.0 n ≡ bit = subst (λ x. h.0 x ≡ bit) same h.4 in
         agree c (test_of tests group k) None (lane_bits c row k) h.0 well (words k lt) h.2 n named
-            ∙ own
+        ∙ own
 
 -- a word of a group without a fault is that of its signal
 pub fault_free_word : (c : List Statement) (tests : List Test) (group s : ℕ) (row : List ℕ)
     → IsWellFormed c → AreWords c tests group None row
     → (k : ℕ) (n : Name) (v : Name → Bool) → k < 128 → name_of c s ≡ Some n
-        → Solves c (test_of tests group k) None v → lane (slice_index_or row s 0) k ≡ v n
+    → Solves c (test_of tests group k) None v → lane (slice_index_or row s 0) k ≡ v n
 fault_free_word c tests group s row well words k n v lt at solves =
     let named = contained (names c) n (at_place (names c) s n at) in
     let number = signal-name_of c s n well.once at named in
@@ -55,14 +55,14 @@ fault_free_word c tests group s row well words k n v lt at solves =
 pub fault_free_lane : (c : List Statement) (tests : List Test) (block s : ℕ) (row : List ℕ)
     (word : ℕ) → IsWellFormed c → AreWords c tests (block / 2) None row
     → ((k j : ℕ) → k < 64 → 64 * block + k ≡ 128 * (block / 2) + j
-        → lane word k ≡ lane (slice_index_or row s 0) j)
+    → lane word k ≡ lane (slice_index_or row s 0) j)
     → IsFaultFreeWord c tests block s word
 fault_free_lane c tests block s row word well words half k n v lt at solves =
     let j = 64 * block + k - 128 * (block / 2) in
     let place : 64 * block + k ≡ 128 * (block / 2) + j = omega arith in
     half k j lt place
     ∙ fault_free_word c tests (block / 2) s row well words j n v (omega (arith, lt)) at
-        (subst (λ t. Solves c (slice_index_or tests t []) None v) place solves)
+    (subst (λ t. Solves c (slice_index_or tests t []) None v) place solves)
 
 and_false : (b : Bool) → (b && false) ≡ false
 and_false true = refl
@@ -99,37 +99,41 @@ pub bits_before : (c : List Statement) (tests : List Test) (group k t number up 
     (n : Name) (bit : Bool) → IsWellFormed c → k < 128 → suc t ≡ 128 * group + k
     → carried c l ≡ Some n → Contains (names c) n → number ≡ signal c n
     → (here : List ℕ) → AreWords c tests group None here
-        → ((j : ℕ) → j < 127 → lane up (suc j) ≡ lane (slice_index_or here number 0) j)
+    → ((j : ℕ) → j < 127 → lane up (suc j) ≡ lane (slice_index_or here number 0) j)
     → ((b : ℕ) → suc b ≡ group → (row : List ℕ) × AreWords c tests b None row
-        × (lane up 0 ≡ lane (slice_index_or row number 0) 127))
+    × (lane up 0 ≡ lane (slice_index_or row number 0) 127))
     → (lane up k ≡ bit) ↔ HasBit c (slice_index_or tests t []) l bit
 bits_before c tests group (suc j) t number up l n bit well lt e at named is here words later first =
     let lower : j < 127 = omega (arith, lt) in
     let there : 128 * group + j ≡ t = omega (arith, e) in
     let same : lane up (suc j) ≡ lane (slice_index_or here (signal c n) 0) j = later j lower
-        ∙ ap (λ s. lane (slice_index_or here s 0) j) is in
+    ∙ ap (λ s. lane (slice_index_or here s 0) j) is in
     let bits = lane_has_bit c tests group j here l n bit well words (omega (arith, lt)) at named in
     subst (λ x. (lane up (suc j) ≡ bit) ↔ HasBit c (slice_index_or tests x []) l bit) there
-        (λ h. bits.0 (sym same ∙ h), λ h. same ∙ bits.1 h)
+    (λ h. bits.0 (sym same ∙ h), λ h. same ∙ bits.1 h)
 bits_before c tests zero zero t number up l n bit well lt e at named is here words later first =
     absurd (omega (arith, e))
 bits_before c tests (suc b) zero t number up l n bit well lt e at named is here words later first =
     let last = first b refl in
     let there : 128 * b + 127 ≡ t = omega (arith, e) in
     let same : lane up 0 ≡ lane (slice_index_or last.0 (signal c n) 0) 127 = last.2
-        ∙ ap (λ s. lane (slice_index_or last.0 s 0) 127) is in
+    ∙ ap (λ s. lane (slice_index_or last.0 s 0) 127) is in
     let bits = lane_has_bit c tests b 127 last.0 l n bit well last.1 (omega arith) at named in
     subst (λ x. (lane up 0 ≡ bit) ↔ HasBit c (slice_index_or tests x []) l bit) there
-        (λ h. bits.0 (sym same ∙ h), λ h. same ∙ bits.1 h)
+    (λ h. bits.0 (sym same ∙ h), λ h. same ∙ bits.1 h)
 
 -- the lanes that fit are those with the bit that the line is slow to leave
 pub fits_where : (bit : Bool) (before fits k : ℕ) → before < 2 ^ 128 → k < 128
     → ((bit ≡ true) × (fits ≡ before)) ⊎ ((bit ≡ false) × (fits ≡ bit_not w128 before))
     → (lane fits k ≡ true) ↔ (lane before k ≡ bit)
-fits_where bit before fits k few lt (inl h) = (λ e. ap (λ x. lane x k) (sym h.1) ∙ (e ∙ sym h.0),
-    λ e. ap (λ x. lane x k) h.1 ∙ (e ∙ h.0))
-fits_where bit before fits k few lt (inr h) = (λ e. turned (lane before k) (sym turn ∙ e) ∙ sym h.0,
-    λ e. turn ∙ ap not (e ∙ h.0))
+fits_where bit before fits k few lt (inl h) = (
+  λ e. ap (λ x. lane x k) (sym h.1) ∙ (e ∙ sym h.0),
+  λ e. ap (λ x. lane x k) h.1 ∙ (e ∙ h.0),
+)
+fits_where bit before fits k few lt (inr h) = (
+  λ e. turned (lane before k) (sym turn ∙ e) ∙ sym h.0,
+  λ e. turn ∙ ap not (e ∙ h.0),
+)
   where
     turn : lane fits k ≡ not (lane before k)
     turn = ap (λ x. lane x k) h.1 ∙ lane_not before k few lt
@@ -141,7 +145,7 @@ fits_where bit before fits k few lt (inr h) = (λ e. turned (lane before k) (sym
 module _ (c : List Statement) (tests : List Test) (group k before fits : ℕ) (l : Line) (bit : Bool)
     (lt : k < 128) (listed : 128 * group + k < length tests)
     (told : (t : ℕ) → suc t ≡ 128 * group + k
-        → (lane before k ≡ bit) ↔ HasBit c (slice_index_or tests t []) l bit)
+    → (lane before k ≡ bit) ↔ HasBit c (slice_index_or tests t []) l bit)
     (fit : (lane fits k ≡ true) ↔ (lane before k ≡ bit)) where
   -- where there is a test before
   fits_look_back : 0 < 128 * group + k
@@ -153,8 +157,11 @@ module _ (c : List Statement) (tests : List Test) (group k before fits : ℕ) (l
       go zero e up = absurd (omega (arith, up))
       go (suc t) e up =
           let bits = told t (sym e) in
-          let looks = looks_at c tests l bit t (128 * group + k) (sym e) (omega (arith, listed,
-              e)) in
+          let looks = looks_at c tests l bit t (128 * group + k) (sym e) (omega (
+            arith,
+            listed,
+            e,
+          )) in
           (λ h. looks.0 (bits.0 (fit.0 h)), λ h. fit.1 (bits.1 (looks.1 h)))
 
   -- in the first group lane 0 has none
@@ -173,16 +180,17 @@ module _ (c : List Statement) (tests : List Test) (group k before fits : ℕ) (l
       go zero e =
           let first : 128 * group + k ≡ 0 = omega (arith, none, e) in
           let clear : lane (bit_and fits 340282366920938463463374607431768211454) k ≡ false =
-              masked false (ap (lane 340282366920938463463374607431768211454) e)
-              ∙ and_false (lane fits k) in
-          (λ h. absurd (false≢true (sym clear ∙ h)),
-              λ h. absurd (subst (IsInitialized c tests l bit) first h))
+          masked false (ap (lane 340282366920938463463374607431768211454) e)
+          ∙ and_false (lane fits k) in (
+            λ h. absurd (false≢true (sym clear ∙ h)),
+            λ h. absurd (subst (IsInitialized c tests l bit) first h),
+          )
       go (suc j) e =
           let same : lane (bit_and fits 340282366920938463463374607431768211454) k ≡ lane fits k =
-              masked true (ap (lane 340282366920938463463374607431768211454) e
-              ∙ later_ones j (omega (arith, lt, e))) ∙ and_true (lane fits k) in
+          masked true (ap (lane 340282366920938463463374607431768211454) e
+          ∙ later_ones j (omega (arith, lt, e))) ∙ and_true (lane fits k) in
           subst (λ b. Decides b (IsInitialized c tests l bit (128 * group + k))) (sym same)
-              (fits_look_back (omega (arith, e)))
+          (fits_look_back (omega (arith, e)))
 
   -- and the mask leaves out just this one
   pub masked_look_back : (mask : ℕ)
@@ -195,6 +203,6 @@ module _ (c : List Statement) (tests : List Test) (group k before fits : ℕ) (l
   masked_look_back mask (inr h) =
       let same : lane (bit_and fits mask) k ≡ lane fits k =
       lane_and fits mask k ∙ (ap (λ x. lane fits k && lane x k) h.1
-          ∙ (ap (λ x. lane fits k && x) (lane_ones 128 k lt) ∙ and_true (lane fits k))) in
+      ∙ (ap (λ x. lane fits k && x) (lane_ones 128 k lt) ∙ and_true (lane fits k))) in
       subst (λ b. Decides b (IsInitialized c tests l bit (128 * group + k))) (sym same)
-          (fits_look_back (omega (arith, h.0)))
+      (fits_look_back (omega (arith, h.0)))

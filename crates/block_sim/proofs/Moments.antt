@@ -70,11 +70,11 @@ module _ (c : List Statement) (good : List ℕ) (lanes : ℕ) where
   pub leads_narrower : (delta at : List ℕ) (evaluations level kept seen narrow : ℕ)
       → ((k : ℕ) → k < 128 → lane narrow k ≡ true → lane kept k ≡ true)
       → Leads c good lanes (moment_of delta at evaluations level kept seen)
-          (moment_of delta at evaluations level narrow seen)
+      (moment_of delta at evaluations level narrow seen)
   leads_narrower delta at evaluations level kept seen narrow within = record {
     spreading = λ case h.
         spreading_narrower c case.tests case.group case.fault good lanes (level_at c case.level)
-            case.start kept delta at level narrow within h;
+        case.start kept delta at level narrow within h;
     counted = λ case gates h all. omega arith;
     seen = seen_narrower c delta kept seen narrow within;
     more = λ s ne. ne;
@@ -85,13 +85,13 @@ module _ (c : List Statement) (good : List ℕ) (lanes : ℕ) where
   pub leads_higher : (delta at now : List ℕ) (evaluations level kept seen : ℕ) → now ≡ at
       → ((g : ℕ) → slice_index_or at g 0 ≢ level + 1)
       → Leads c good lanes (moment_of delta at evaluations level kept seen)
-          (moment_of delta now evaluations (level + 1) kept seen)
+      (moment_of delta now evaluations (level + 1) kept seen)
   leads_higher delta at now evaluations level kept seen same none =
       subst (λ x. Leads c good lanes (moment_of delta at evaluations level kept seen)
-          (moment_of delta x evaluations (level + 1) kept seen)) (sym same) (record {
+      (moment_of delta x evaluations (level + 1) kept seen)) (sym same) (record {
         spreading = λ case h.
             level_done c case.tests case.group case.fault good lanes (level_at c case.level)
-                case.start kept delta at level none h;
+            case.start kept delta at level none h;
         counted = λ case gates h all. let less =
             ahead_higher (level_at c case.level) at level gates in omega (arith, less);
         seen = λ h. h;
@@ -103,7 +103,7 @@ module _ (c : List Statement) (good : List ℕ) (lanes : ℕ) where
   pub leads_taken : (delta at taken : List ℕ) (evaluations level kept seen gate : ℕ) (n : Moment)
       → taken ≡ set at gate 0 → slice_index_or at gate 0 ≡ level + 1
       → Leads c good lanes (moment_of delta (slice_set taken gate (level + 1)) evaluations level
-          kept seen) n → Leads c good lanes (moment_of delta at evaluations level kept seen) n
+      kept seen) n → Leads c good lanes (moment_of delta at evaluations level kept seen) n
   leads_taken delta at taken evaluations level kept seen gate n is waits h =
       subst (λ x. Leads c good lanes (moment_of delta x evaluations level kept seen) n) back h
     where
@@ -115,19 +115,19 @@ module _ (c : List Statement) (good : List ℕ) (lanes : ℕ) where
   pub leads_skipped : (delta at : List ℕ) (evaluations level kept seen gate : ℕ) → gate < length at
       → slice_index_or at gate 0 ≡ 0 → kept ≡ 0
       → Leads c good lanes (moment_of delta (slice_set at gate (level + 1)) evaluations level kept
-          seen) (moment_of delta at evaluations level kept (bit_or seen 0))
+      seen) (moment_of delta at evaluations level kept (bit_or seen 0))
   leads_skipped delta at evaluations level kept seen gate in_at waits none = record {
     spreading = λ case h.
         let lv = level_at c case.level in
         subst (λ x. IsSpreading c case.tests case.group case.fault good lanes lv case.start kept
-            delta x level) back
+        delta x level) back
         (spreading_skipped c case.tests case.group case.fault good lanes lv case.start kept delta
-            taken_at level gate in_taken
+        taken_at level gate in_taken
         (λ k e. false≢true (sym (lane_of_zero kept k none) ∙ e)) h);
     counted = λ case gates h all.
         let lv = level_at c case.level in
         let less = subst (λ x. ahead lv x level gates ≤ ahead lv taken_at level gates) back
-            (ahead_skipped lv taken_at level gate gates in_taken) in
+        (ahead_skipped lv taken_at level gate gates in_taken) in
         omega (arith, less);
     seen = seen_like c delta kept seen (bit_or seen 0) (with_none seen);
     more = λ s ne. ne;
@@ -148,93 +148,98 @@ module _ (c : List Statement) (good : List ℕ) (lanes : ℕ) where
       (in_at : gate < length at) (in_delta : gate < length delta) (waits : slice_index_or at gate 0
       ≡ 0)
       (grown : before ≤ after) (one : after ≤ before + 1) (kind : Kind) (pins : List ℕ)
-          (is : gate_of c gate ≡ Some (kind, pins)) (word : ℕ)
+      (is : gate_of c gate ≡ Some (kind, pins)) (word : ℕ)
       (valued : (k : ℕ) → k < 128 → lane word k ≡ value kind (pin_bits None gate pins good delta k))
-          where
-    abbrev taken_at : List ℕ
-    taken_at = slice_set at gate (level + 1)
+    where
+      abbrev taken_at : List ℕ
+      taken_at = slice_set at gate (level + 1)
 
-    in_taken : gate < length taken_at
-    in_taken = omega (arith, in_at, length-set at gate (level + 1))
+      in_taken : gate < length taken_at
+      in_taken = omega (arith, in_at, length-set at gate (level + 1))
 
-    taken : slice_index_or taken_at gate 0 ≡ level + 1
-    taken = get_or-set_same at gate (level + 1) 0 in_at
+      taken : slice_index_or taken_at gate 0 ≡ level + 1
+      taken = get_or-set_same at gate (level + 1) 0 in_at
 
-    back : slice_set taken_at gate 0 ≡ at
-    back = restored at gate level waits
+      back : slice_set taken_at gate 0 ≡ at
+      back = restored at gate level waits
 
-    -- its word is what it was
-    pub leads_same : ((k : ℕ) → k < 128 → lane kept k ≡ true
-        → lane (slice_index_or good gate 0) k ≡ lane word k)
-        → Leads c good lanes (moment_of delta (slice_set at gate (level + 1)) before level kept
-            seen) (moment_of delta at after level kept (bit_or seen 0))
-    leads_same same = record {
-      spreading = λ case h.
-          let lv = level_at c case.level in
-          subst (λ x. IsSpreading c case.tests case.group case.fault good lanes lv case.start kept
-              delta x level) back
-          (evaluated_same c case.tests case.group case.fault good lanes lv case.start kept well
-              (reads_rise c case.level well case.levels) case.elsewhere
-          delta taken_at level gate h taken in_taken in_delta kind pins is word valued same);
-      counted = λ case gates h all.
-          let lv = level_at c case.level in
-          let less = subst (λ x. ahead lv x level gates + 1 ≤ ahead lv taken_at level gates) back
-          (ahead_same c case.tests case.group case.fault good lanes lv case.start kept well
-              (reads_rise c case.level well case.levels) case.elsewhere
-          delta taken_at level gate h taken in_taken in_delta kind pins is word valued gates all) in
-          omega (arith, less, one);
-      seen = seen_like c delta kept seen (bit_or seen 0) (with_none seen);
-      more = λ s ne. ne;
-      grown = grown;
-    }
+      -- its word is what it was
+      pub leads_same : ((k : ℕ) → k < 128 → lane kept k ≡ true
+          → lane (slice_index_or good gate 0) k ≡ lane word k)
+          → Leads c good lanes (moment_of delta (slice_set at gate (level + 1)) before level kept
+          seen) (moment_of delta at after level kept (bit_or seen 0))
+      leads_same same = record {
+        spreading = λ case h.
+            let lv = level_at c case.level in
+            subst (λ x. IsSpreading c case.tests case.group case.fault good lanes lv case.start kept
+            delta x level) back
+            (evaluated_same c case.tests case.group case.fault good lanes lv case.start kept well
+            (reads_rise c case.level well case.levels) case.elsewhere
+            delta taken_at level gate h taken in_taken in_delta kind pins is word valued same);
+        counted = λ case gates h all.
+            let lv = level_at c case.level in
+            let less = subst (λ x. ahead lv x level gates + 1 ≤ ahead lv taken_at level gates) back
+            (ahead_same c case.tests case.group case.fault good lanes lv case.start kept well
+            (reads_rise c case.level well case.levels) case.elsewhere
+            delta taken_at level gate h taken in_taken in_delta kind pins is word valued gates
+            all) in
+            omega (arith, less, one);
+        seen = seen_like c delta kept seen (bit_or seen 0) (with_none seen);
+        more = λ s ne. ne;
+        grown = grown;
+      }
 
-    -- its signal changes, and the readers of that wait
-    pub leads_changed : (diff shown : ℕ) (now new : List ℕ) → slice_index_or delta gate 0 ≡ 0
-        → now ≡ set delta gate diff → diff ≢ 0 → (k : ℕ) × (k < 128) × (lane diff k ≡ true)
-        → ((k : ℕ) → k < 128 → lane diff k ≡ true → lane kept k ≡ true)
-        → ((k : ℕ) → k < 128 → lane kept k ≡ true
-            → lane (bit_xor (slice_index_or good gate 0) diff) k ≡ lane word k)
-        → ((level : Name → ℕ) → AreLevels c level → AreWoken c (level_at c level) gate at new)
-        → ((k : ℕ) → k < 128 → Decides (lane shown k) (IsObserved c gate × (lane diff k ≡ true)))
-        → Leads c good lanes (moment_of delta (slice_set at gate (level + 1)) before level kept
-            seen) (moment_of now new after level kept (bit_or seen shown))
-    leads_changed diff shown now new clear is_now differs a_lane in_kept changed woken observed =
-        subst (λ x. Leads c good lanes (moment_of delta (slice_set at gate (level + 1)) before level
-            kept seen) (moment_of x new after level kept (bit_or seen shown))) (sym is_now)
-            (record {
-          spreading = λ case h.
-              evaluated_changed c case.tests case.group case.fault good lanes
-                  (level_at c case.level) case.start kept well
-                  (reads_rise c case.level well case.levels) case.elsewhere
-              delta taken_at level gate h taken in_taken in_delta kind pins is word valued diff new
-                  differs a_lane in_kept changed (woken_now case);
-          counted = λ case gates h all.
-              let less = ahead_changed c case.tests case.group case.fault good lanes
-                  (level_at c case.level) case.start kept well
-                  (reads_rise c case.level well case.levels) case.elsewhere
-              delta taken_at level gate h taken in_taken in_delta kind pins is word valued diff new
-                  differs a_lane in_kept changed (woken_now case) gates all in
-              omega (arith, less, one);
-          seen = seen_changed c delta kept seen gate diff shown clear in_delta observed;
-          more = more;
-          grown = grown;
-        })
-      where
-        woken_now : (case : Case c) → AreWoken c (level_at c case.level) gate
-            (set taken_at gate 0) new
-        woken_now case = subst (λ b. AreWoken c (level_at c case.level) gate b new) (sym back)
-            (woken case.level case.levels)
+      -- its signal changes, and the readers of that wait
+      pub leads_changed : (diff shown : ℕ) (now new : List ℕ) → slice_index_or delta gate 0 ≡ 0
+          → now ≡ set delta gate diff → diff ≢ 0 → (k : ℕ) × (k < 128) × (lane diff k ≡ true)
+          → ((k : ℕ) → k < 128 → lane diff k ≡ true → lane kept k ≡ true)
+          → ((k : ℕ) → k < 128 → lane kept k ≡ true
+          → lane (bit_xor (slice_index_or good gate 0) diff) k ≡ lane word k)
+          → ((level : Name → ℕ) → AreLevels c level → AreWoken c (level_at c level) gate at new)
+          → ((k : ℕ) → k < 128 → Decides (lane shown k) (IsObserved c gate × (lane diff k ≡ true)))
+          → Leads c good lanes (moment_of delta (slice_set at gate (level + 1)) before level kept
+          seen) (moment_of now new after level kept (bit_or seen shown))
+      leads_changed diff shown now new clear is_now differs a_lane in_kept changed woken observed =
+          subst (λ x. Leads c good lanes
+          (moment_of delta (slice_set at gate (level + 1)) before level
+          kept seen) (moment_of x new after level kept (bit_or seen shown))) (sym is_now)
+          (record {
+            spreading = λ case h.
+                evaluated_changed c case.tests case.group case.fault good lanes
+                (level_at c case.level) case.start kept well
+                (reads_rise c case.level well case.levels) case.elsewhere
+                delta taken_at level gate h taken in_taken in_delta kind pins is word valued diff
+                new
+                differs a_lane in_kept changed (woken_now case);
+            counted = λ case gates h all.
+                let less = ahead_changed c case.tests case.group case.fault good lanes
+                (level_at c case.level) case.start kept well
+                (reads_rise c case.level well case.levels) case.elsewhere
+                delta taken_at level gate h taken in_taken in_delta kind pins is word valued diff
+                new
+                differs a_lane in_kept changed (woken_now case) gates all in
+                omega (arith, less, one);
+            seen = seen_changed c delta kept seen gate diff shown clear in_delta observed;
+            more = more;
+            grown = grown;
+          })
+        where
+          woken_now : (case : Case c) → AreWoken c (level_at c case.level) gate
+              (set taken_at gate 0) new
+          woken_now case = subst (λ b. AreWoken c (level_at c case.level) gate b new) (sym back)
+              (woken case.level case.levels)
 
-        more : (s : ℕ) → slice_index_or delta s 0 ≢ 0 → slice_index_or (set delta gate diff) s 0 ≢ 0
-        more s ne e =
-            let other : s ≢ gate = λ same. ne (ap (λ x. slice_index_or delta x 0) same ∙ clear) in
-            ne (sym (get_or-set_other delta gate s diff 0 other) ∙ e)
+          more : (s : ℕ) → slice_index_or delta s 0 ≢ 0
+              → slice_index_or (set delta gate diff) s 0 ≢ 0
+          more s ne e =
+              let other : s ≢ gate = λ same. ne (ap (λ x. slice_index_or delta x 0) same ∙ clear) in
+              ne (sym (get_or-set_other delta gate s diff 0 other) ∙ e)
 
 -- ---- the first moment, after the first change of a fault
 abbrev pub case_of : (c : List Statement) (tests : List Test) (group : ℕ) (f : ℕ
     → Fault) (good : List ℕ) (lanes : ℕ) (delta : List ℕ) (start diff : ℕ)
     → IsFirstChange c tests group f good lanes delta start diff → (level : Name → ℕ)
-        → AreLevels c level → Case c
+    → AreLevels c level → Case c
 case_of c tests group f good lanes delta start diff first level levels = record {
   tests = tests;
   group = group;
@@ -249,35 +254,35 @@ module _ (c : List Statement) (tests : List Test) (group : ℕ) (f : ℕ
     → Fault) (good : List ℕ) (lanes : ℕ) (before after : Changes) (start diff : ℕ)
     (well : IsWellFormed c)
     (first : IsFirstChange c tests group f good lanes before.overlay start diff) (level : Name
-        → ℕ) (levels : AreLevels c level)
+    → ℕ) (levels : AreLevels c level)
     (clear : IsClear before) (woken : (level : Name → ℕ) → AreLevels c level
-        → AreWoken c (level_at c level) start before.buckets.at after.buckets.at)
+    → AreWoken c (level_at c level) start before.buckets.at after.buckets.at)
     (now : ℕ) (here : level_at c level start ≡ now) (kept seen : ℕ) where
   pub first_spreads : after.overlay ≡ set before.overlay start diff → start < length before.overlay
       → diff ≢ 0 → (k : ℕ) × (k < 128) × (lane diff k ≡ true)
       → ((k : ℕ) → k < 128 → lane diff k ≡ true → lane lanes k ≡ true)
-          → ((k : ℕ) → k < 128 → lane kept k ≡ true → lane lanes k ≡ true)
+      → ((k : ℕ) → k < 128 → lane kept k ≡ true → lane lanes k ≡ true)
       → Spreads c good lanes (case_of c tests group f good lanes before.overlay start diff first
-          level levels) (moment after now kept seen)
+      level levels) (moment after now kept seen)
   first_spreads changed within differs a_lane in_lanes narrow =
       spreading_narrower c tests group f good lanes (level_at c level) start lanes after.overlay
-          after.buckets.at now kept narrow
+      after.buckets.at now kept narrow
       (subst (λ x. IsSpreading c tests group f good lanes (level_at c level) start lanes x
-          after.buckets.at now) (sym changed)
+      after.buckets.at now) (sym changed)
       (subst (IsSpreading c tests group f good lanes (level_at c level) start lanes
-          (set before.overlay start diff) after.buckets.at) here
+      (set before.overlay start diff) after.buckets.at) here
       (spreading_first c tests group f good lanes (level_at c level) start well
-          (reads_rise c level well levels) before.overlay before.buckets.at after.buckets.at
+      (reads_rise c level well levels) before.overlay before.buckets.at after.buckets.at
       (λ t. index_zero before.buckets.at t clear.gates) (woken level levels) diff first.words
-          (λ t. index_zero before.overlay t clear.words) first.elsewhere first.first within differs
-          a_lane in_lanes)))
+      (λ t. index_zero before.overlay t clear.words) first.elsewhere first.first within differs
+      a_lane in_lanes)))
 
   pub first_left : (gates : List ℕ)
       → left c (case_of c tests group f good lanes before.overlay start diff first level levels)
-          (moment after now kept seen) gates + count_by (λ g. g == start) gates ≤ length gates
+      (moment after now kept seen) gates + count_by (λ g. g == start) gates ≤ length gates
   first_left gates =
       let few = count_first c tests group f good lanes (level_at c level) start well
-          (reads_rise c level well levels) before.overlay before.buckets.at after.buckets.at
+      (reads_rise c level well levels) before.overlay before.buckets.at after.buckets.at
       (λ t. index_zero before.buckets.at t clear.gates) (woken level levels) gates in
       let same = ap (λ x. ahead (level_at c level) after.buckets.at x gates) here in
       omega (arith, few, same)
@@ -288,13 +293,13 @@ pub first_seen : (c : List Statement) (lanes : ℕ) (before after : Changes)
     → after.overlay ≡ set before.overlay start diff → start < length before.overlay
     → ((k : ℕ) → k < 128 → Decides (lane seen k) (IsObserved c start × (lane diff k ≡ true)))
     → ((k : ℕ) → k < 128 → lane kept k ≡ true → lane lanes k ≡ true)
-        → AreSeen c after.overlay kept seen
+    → AreSeen c after.overlay kept seen
 first_seen c lanes before after start diff seen kept rest changed within shown narrow =
     seen_narrower c after.overlay lanes seen kept narrow
-        (subst (λ x. AreSeen c x lanes seen) (sym changed)
+    (subst (λ x. AreSeen c x lanes seen) (sym changed)
     (seen_like c (set before.overlay start diff) lanes (bit_or 0 seen) seen (from_none seen)
     (seen_changed c before.overlay lanes 0 start diff seen (clear start) within shown
-        (seen_first c before.overlay lanes clear))))
+    (seen_first c before.overlay lanes clear))))
   where
     clear : (t : ℕ) → slice_index_or before.overlay t 0 ≡ 0
     clear t = index_zero before.overlay t rest.words
@@ -303,16 +308,18 @@ first_seen c lanes before after start diff seen kept rest changed within shown n
 pub taken_now : (c : List Statement) (good : List ℕ) (lanes : ℕ) (well : IsWellFormed c)
     (case : Case c) (at : List ℕ) (level kept seen gate : ℕ) (t : Changes)
     → Spreads c good lanes case (moment_of t.overlay at t.evaluations level kept seen)
-        → gate < length at → slice_index_or at gate 0 ≡ level + 1 → t.buckets.at ≡ set at gate 0
-        → IsTaken c t gate
+    → gate < length at → slice_index_or at gate 0 ≡ level + 1 → t.buckets.at ≡ set at gate 0
+    → IsTaken c t gate
 taken_now c good lanes well case at level kept seen gate t h in_at is taken =
     let waits : slice_index_or at gate 0 ≢ 0 = (λ e. omega (arith, e, is)) in
     let by = h.touched gate waits in
     let r = by.1 in
     record {
       within = reader_within c gate by.0 r;
-      driven = ((r.kind, map (signal c) r.args),
-          gate_named c r.name r.kind r.args gate well r.number r.gate);
+      driven = (
+        (r.kind, map (signal c) r.args),
+        gate_named c r.name r.kind r.args gate well r.number r.gate,
+      );
       waits = ap (λ x. slice_index_or x gate 0) taken ∙ get_or-set_same at gate 0 0 in_at;
       clear = h.waits_clear gate waits;
     }
@@ -321,7 +328,7 @@ taken_now c good lanes well case at level kept seen gate t h in_at is taken =
 pub taken_here : (c : List Statement) (good : List ℕ) (lanes : ℕ) (case : Case c)
     (delta at : List ℕ) (evaluations level kept seen gate : ℕ)
     → Spreads c good lanes case (moment_of delta at evaluations level kept seen)
-        → slice_index_or at gate 0 ≡ level + 1 → level_at c case.level gate ≡ level
+    → slice_index_or at gate 0 ≡ level + 1 → level_at c case.level gate ≡ level
 taken_here c good lanes case delta at evaluations level kept seen gate h is = let e =
     h.at_level gate (λ none. omega (arith, none, is)) in omega (arith, e, is)
 

@@ -44,7 +44,7 @@ pin_law c well s g e = go (name_of c s) refl e
         reads : Reads c g s
         reads =
             let r = pin_reads c n g only.0 (subst (λ rs. Among (sink.Pin g only.0) rs) (sym only.1)
-                (inl refl)) in
+            (inl refl)) in
             record {
               name = r.name;
               kind = r.kind;
@@ -68,11 +68,11 @@ pin_law c well s g e = go (name_of c s) refl e
             let stands = among c (Gate r.name r.kind r.args) r.gate in
             let arg = among r.args r.read r.reads in
             let same : r.read ≡ n = signal_apart c r.read n
-                (read_named c (Gate r.name r.kind r.args) r.read well stands arg) here (r.of
-                ∙ sym number) in
+            (read_named c (Gate r.name r.kind r.args) r.read well stands arg) here (r.of
+            ∙ sym number) in
             let place = placed r.args r.read arg in
             let is = this (sink.Pin (signal c r.name) place.0)
-                (pin_among c r.name n r.kind r.args place.0 stands (place.1 ∙ ap Some same)) in
+            (pin_among c r.name n r.kind r.args place.0 stands (place.1 ∙ ap Some same)) in
             let pins : sink.Pin (signal c r.name) place.0 ≡ sink.Pin g only.0 = is in
             let gates : signal c r.name ≡ g = cc in
             sym r.number ∙ gates
@@ -82,4 +82,4 @@ pin_law c well s g e = go (name_of c s) refl e
             let h = observes c o.0 well o.1 in
             let same : o.0.1 ≡ n = signal_apart c o.0.1 n h.named here (o.2 ∙ sym number) in
             h.no_pin g only.0 (this h.reader
-                (subst (λ m. Among h.reader (sinks c m)) same h.among_sinks))
+            (subst (λ m. Among h.reader (sinks c m)) same h.among_sinks))

@@ -30,11 +30,11 @@ module _ (c : List Statement) (tests : List Test) (span : Span) (f : Fault) (lan
         let d = (decides k lt).0 h.0 in
         let at = within_place tests (128 * group_of span + k) d.0.listed in
         let same : test_of tests (group_of span) k ≡ at.0 =
-            index_of tests (128 * group_of span + k) at.0 [] at.1 in
+        index_of tests (128 * group_of span + k) at.0 [] at.1 in
         (d.0, (at.0, at.1, subst (λ t. Detects c t f) same h.1, d.1));
     clear = λ k lt own none d.
         let same : test_of tests (group_of span) k ≡ d.0 =
-            index_of tests (128 * group_of span + k) d.0 [] d.1 in
+        index_of tests (128 * group_of span + k) d.0 [] d.1 in
         clear k lt ((decides k lt).1 (own, d.3)) none (subst (λ t. Detects c t f) (sym same) d.2);
   }
 
@@ -43,15 +43,18 @@ module _ (c : List Statement) (tests : List Test) (span : Span) (f : Fault) (wor
   -- no test of a block detects the fault before which no lane is 1
   pub clear_before : (block : ℕ) → span.first ≤ block → block ≤ span.last
       → ((j : ℕ) → 128 * group_of span + j < 64 * block + 64 → lane word j ≡ false)
-          → IsOutcome c tests f block Clear
+      → IsOutcome c tests f block Clear
   clear_before block from to none k few d =
       let le : k < min 64 (length tests - 64 * block) = few in
       let one = is_span.one_group in
       let place : 128 * group_of span + (64 * block + k - 128 * group_of span) ≡ 64 * block + k =
-          omega (arith, from) in
+      omega (arith, from) in
       first.clear (64 * block + k - 128 * group_of span) (omega (arith, from, to, le, one))
-      (record { from = omega (arith, from, place); to = omega (arith, to, le, place);
-          listed = omega (arith, le, place) })
+      (record {
+        from = omega (arith, from, place);
+        to = omega (arith, to, le, place);
+        listed = omega (arith, le, place);
+      })
       (λ j low. none j (omega (arith, low, le, place)))
       (subst (DetectsAt c tests f) (sym place) d)
 
@@ -73,11 +76,19 @@ module _ (c : List Statement) (tests : List Test) (span : Span) (f : Fault) (wor
           subst (DetectsAt c tests f) place h.1,
           λ lower low d.
               let there : 128 * group_of span + (k - (test - lower)) ≡ 64 * block + lower =
-                  omega (arith, place, low, few, from) in
+              omega (arith, place, low, few, from) in
               first.clear (k - (test - lower)) (omega (arith, lt))
-              (record { from = omega (arith, from, place, there, low, few);
-                  to = omega (arith, to, place, there, low); listed = omega (arith, listed, place,
-                  there, low) })
+              (record {
+                from = omega (arith, from, place, there, low, few);
+                to = omega (arith, to, place, there, low);
+                listed = omega (
+                  arith,
+                  listed,
+                  place,
+                  there,
+                  low,
+                );
+              })
               (λ j le. least j (omega (arith, le, low, place, there)))
               (subst (DetectsAt c tests f) (sym there) d),
         ),

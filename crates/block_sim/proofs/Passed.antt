@@ -26,7 +26,7 @@ module _ (c : List Statement) (tests : List Test) (group : ℕ) (f : Option Faul
   pub passed_more : (words : List ℕ) (i word : ℕ) → length (names c) ≤ length words
       → i < length order → ArePassed c tests group f order words i
       → IsSignalWord c tests group f words (slice_index_or order i 0) word
-          → ArePassed c tests group f order (set words (slice_index_or order i 0) word) (i + 1)
+      → ArePassed c tests group f order (set words (slice_index_or order i 0) word) (i + 1)
   passed_more words i word room lt passed equation j within = go (cases_lt j i)
     where
       inside : slice_index_or order i 0 < length words
@@ -46,13 +46,13 @@ module _ (c : List Statement) (tests : List Test) (group : ℕ) (f : Option Faul
       go (inr after) =
           let same : i ≡ j = omega (arith, within, after) in
           let here : IsRight c tests group f (slice_index_or order i 0)
-              (slice_index_or (set words (slice_index_or order i 0) word) (slice_index_or order i 0)
-              0) =
+          (slice_index_or (set words (slice_index_or order i 0) word) (slice_index_or order i 0)
+          0) =
           subst (IsRight c tests group f (slice_index_or order i 0))
-              (sym (get_or-set_same words (slice_index_or order i 0) word 0 inside)) right in
+          (sym (get_or-set_same words (slice_index_or order i 0) word 0 inside)) right in
           subst (λ m. IsRight c tests group f (slice_index_or order m 0)
-              (slice_index_or (set words (slice_index_or order i 0) word) (slice_index_or order m 0)
-              0)) same here
+          (slice_index_or (set words (slice_index_or order i 0) word) (slice_index_or order m 0)
+          0)) same here
 
   -- all signals
   pub passed_all : (words : List ℕ) (i : ℕ) → length order ≤ i
@@ -62,4 +62,4 @@ module _ (c : List Statement) (tests : List Test) (group : ℕ) (f : Option Faul
       let at = ordered.all s lt in
       let there : slice_index_or order at.0 0 ≡ s = get_or_default order at.0 0 s at.1 ∙ at.2 in
       subst (λ m. IsRight c tests group f m (slice_index_or words m 0)) there
-          (passed at.0 (omega (arith, at.1, le))))
+      (passed at.0 (omega (arith, at.1, le))))

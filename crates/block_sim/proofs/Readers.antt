@@ -20,28 +20,37 @@ module _ (c : List Statement) (well : IsWellFormed c) (s : ℕ) (n : Name)
   pub sink_reads : (gate pin : ℕ) → Among (sink.Pin gate pin) (sinks c n) → Reads c gate s
   sink_reads gate pin a =
       let p = pin_reads c n gate pin a in
-      record { name = p.name; kind = p.kind; args = p.args; read = n;
-          gate = contained c (Gate p.name p.kind p.args) p.stands; number = p.number;
-          reads = contained p.args n (at_place p.args pin n p.reads); of = number }
+      record {
+        name = p.name;
+        kind = p.kind;
+        args = p.args;
+        read = n;
+        gate = contained c (Gate p.name p.kind p.args) p.stands;
+        number = p.number;
+        reads = contained p.args n (at_place p.args pin n p.reads);
+        of = number;
+      }
 
   pub read_sink : (g : ℕ) → Reads c g s → (pin : ℕ) × Among (sink.Pin g pin) (sinks c n)
   read_sink g r =
       let a = among c (Gate r.name r.kind r.args) r.gate in
       let in_names = read_named c (Gate r.name r.kind r.args) r.read well a
-          (among r.args r.read r.reads) in
+      (among r.args r.read r.reads) in
       let is : Some r.read ≡ Some n = sym (name_of-signal c r.read in_names)
-          ∙ (ap (name_of c) r.of ∙ named) in
+      ∙ (ap (name_of c) r.of ∙ named) in
       let same : r.read ≡ n = ap (λ (o : Option Name). unwrap_or o n) is in
-      let p = placed r.args n (subst (λ m. Among m r.args) same (among r.args r.read r.reads)) in
-      (p.0, subst (λ x. Among (sink.Pin x p.0) (sinks c n)) r.number
-          (pin_among c r.name n r.kind r.args p.0 a p.1))
+      let p = placed r.args n (subst (λ m. Among m r.args) same (among r.args r.read r.reads)) in (
+        p.0,
+        subst (λ x. Among (sink.Pin x p.0) (sinks c n)) r.number
+            (pin_among c r.name n r.kind r.args p.0 a p.1),
+      )
 
 pub reader_within : (c : List Statement) (g s : ℕ) → Reads c g s → g < length (names c)
 reader_within c g s r =
     let a = defined_among c (Gate r.name r.kind r.args) r.name
-        (among c (Gate r.name r.kind r.args) r.gate) refl in
+    (among c (Gate r.name r.kind r.args) r.gate) refl in
     let lt : signal c r.name < length (names c) = place_within (names c) (signal c r.name) r.name
-        (name_of-signal c r.name (contained (names c) r.name a)) in
+    (name_of-signal c r.name (contained (names c) r.name a)) in
     omega (arith, lt, r.number)
 
 -- no gate reads itself
@@ -49,11 +58,11 @@ pub no_loop : (c : List Statement) (g : ℕ) → IsWellFormed c → Reads c g g 
 no_loop c g well r =
     let gate = among c (Gate r.name r.kind r.args) r.gate in
     let own = contained (names c) r.name
-        (defined_among c (Gate r.name r.kind r.args) r.name gate refl) in
+    (defined_among c (Gate r.name r.kind r.args) r.name gate refl) in
     let read = read_named c (Gate r.name r.kind r.args) r.read well gate
-        (among r.args r.read r.reads) in
+    (among r.args r.read r.reads) in
     let same : r.name ≡ r.read = signal_apart c r.name r.read own read (r.number ∙ sym r.of) in
     let lower : well.acyclic.0 r.read < well.acyclic.0 r.name =
-        well.acyclic.1 r.name r.read (r.kind, r.args, r.gate, r.reads) in
+    well.acyclic.1 r.name r.read (r.kind, r.args, r.gate, r.reads) in
     let equal : well.acyclic.0 r.name ≡ well.acyclic.0 r.read = ap well.acyclic.0 same in
     omega (arith, lower, equal)

@@ -65,11 +65,11 @@ module _ (c : List Statement) (well : IsWellFormed c) (t : Test) (s g : ℕ)
           let u = a.0.fault_free in
           let v = a.0.faulty in
           let is = bit_is c well t read d.0 u read_here (subst (λ x. HasBit c t (line.Stem x) d.0)
-              (sym of) d.1) a.0.solves in
+          (sym of) d.1) a.0.solves in
           let gives = gate_turned c well t s e read of reads u v d.0 a.0.solves a.0.solves_faulty
-              is in
+          is in
           let turned = altered c well t (flip s d.0) e.name u v gate_here a.0 a.0.solves
-              a.0.solves_faulty in
+          a.0.solves_faulty in
           record {
             bits = u;
             name = e.name;
@@ -82,9 +82,12 @@ module _ (c : List Statement) (well : IsWellFormed c) (t : Test) (s g : ℕ)
           }
 
   step_back : Passes c t s g → DetectsFlip c t g → DetectsFlip c t s
-  step_back p d = ((p.bits read), (p.bits, read, p.solves, read_at, refl),
-      entered_back c well t (flip s (p.bits read)) e alters
-      (subst (DetectsFlip c t) (sym number) d))
+  step_back p d = (
+    (p.bits read),
+    (p.bits, read, p.solves, read_at, refl),
+    entered_back c well t (flip s (p.bits read)) e alters
+        (subst (DetectsFlip c t) (sym number) d),
+  )
     where
       read_at : name_of c s ≡ Some read
       read_at = subst (λ x. name_of c x ≡ Some read) of
@@ -104,12 +107,12 @@ module _ (c : List Statement) (well : IsWellFormed c) (t : Test) (s g : ℕ)
       differs : value e.kind (map (turned_at c s p.bits) e.args) ≢ p.bits e.name
       differs is =
           let same : Gate p.name p.kind p.args ≡ Gate e.name e.kind e.args =
-              ap (λ o. unwrap_or o (Gate p.name p.kind p.args)) gates in
+          ap (λ o. unwrap_or o (Gate p.name p.kind p.args)) gates in
           let kinds : p.kind ≡ e.kind = cc in
           let args : p.args ≡ e.args = cc in
           p.differs (ap (λ k. value k (map (turned_at c s p.bits) p.args)) kinds
-              ∙ (ap (λ x. value e.kind (map (turned_at c s p.bits) x)) args
-              ∙ (is ∙ ap p.bits (sym one))))
+          ∙ (ap (λ x. value e.kind (map (turned_at c s p.bits) x)) args
+          ∙ (is ∙ ap p.bits (sym one))))
 
       w : (v : Name → Bool) × Solves c t (Some (flip s (p.bits read))) v
       w = has_solutions c well t (Some (flip s (p.bits read)))
@@ -141,8 +144,10 @@ region_there c t well (onward {s = s} {g = g} h p) d =
 region_back : (c : List Statement) (t : Test) {s r : ℕ} → IsWellFormed c → Arrives c t s r
     → DetectsFlip c t r → DetectsFlip c t s
 region_back c t well there d = d
-region_back c t well (over {s = s} {g = g} h p rest) d = (step_law c well t s g h).1 (p,
-    region_back c t well rest d)
+region_back c t well (over {s = s} {g = g} h p rest) d = (step_law c well t s g h).1 (
+  p,
+  region_back c t well rest d,
+)
 
 pub region_law : (c : List Statement) → IsWellFormed c → RegionLaw c
 region_law c well t s r runs = (region_there c t well runs, λ p. region_back c t well p.0 p.1)
@@ -177,12 +182,12 @@ fault_law c well m f t s at = go f.line refl
         let n = stem_named m c f k well at on in
         let here : f.line ≡ line.Stem (signal c n.0) = on ∙ ap line.Stem (sym n.2) in
         subst (λ x. Detects c t f ↔ (Alters c t f x × DetectsFlip c t x)) (n.2 ∙ same)
-            (stem_there c well t f n.0 n.1 here, λ h. stem_back c well t f n.0 n.1 here h.0 h.1)
+        (stem_there c well t f n.0 n.1 here, λ h. stem_back c well t f n.0 n.1 here h.0 h.1)
     go (line.Pin gate pin) on is =
         let same : gate ≡ s = ap (λ o. unwrap_or o s) is in
         let e = pin_enters m c f gate pin at on in
         subst (λ x. Detects c t f ↔ (Alters c t f x × DetectsFlip c t x)) (e.1 ∙ same)
-            (entered_there c well t f e.0, λ h. entered_back c well t f e.0 h.0 h.1)
+        (entered_there c well t f e.0, λ h. entered_back c well t f e.0 h.0 h.1)
     go (line.Data i) on is = let bad : None ≡ Some s = is in cc
     go (line.Out i) on is = let bad : None ≡ Some s = is in cc
 
@@ -202,15 +207,19 @@ stem_law c well m f t s at on = subst (λ x. Alters c t f x ↔ HasBit c t f.lin
     there_is : Alters c t f (signal c n.0) → HasBit c t f.line (not f.stuck)
     there_is a =
         let turned = altered c well t f n.0 a.fault_free a.faulty n.1 a a.solves a.solves_faulty in
-        let stuck = stem_stuck c well t f a.faulty n.0 a.solves_faulty n.1 own in
-        (a.fault_free, n.0, a.solves, ap (carried c) own ∙ named,
-            not_back (a.faulty n.0) (a.fault_free n.0) turned ∙ ap not stuck)
+        let stuck = stem_stuck c well t f a.faulty n.0 a.solves_faulty n.1 own in (
+          a.fault_free,
+          n.0,
+          a.solves,
+          ap (carried c) own ∙ named,
+          not_back (a.faulty n.0) (a.fault_free n.0) turned ∙ ap not stuck,
+        )
 
     back_is : HasBit c t f.line (not f.stuck) → Alters c t f (signal c n.0)
     back_is h =
         let w = has_solutions c well t (Some f) in
         let bit = bit_is c well t n.0 (not f.stuck) h.0 n.1
-            (subst (λ l. HasBit c t l (not f.stuck)) own h) h.2 in
+        (subst (λ l. HasBit c t l (not f.stuck)) own h) h.2 in
         record {
           fault_free = h.0;
           faulty = w.0;
@@ -237,11 +246,11 @@ observer_carries c o at = go (among_append
     go (inl h) =
         let p = mapped_from (λ at. (sink.Out at.0, at.1)) (enumerate_from 0 (outputs c)) o h in
         subst (λ (x : Sink × Name). carried c (branch x.0) ≡ Some x.1) p.2
-            (numbered_at (outputs c) p.0 p.1)
+        (numbered_at (outputs c) p.0 p.1)
     go (inr h) =
         let p = mapped_from (λ at. (sink.Data at.0, at.1.1)) (enumerate_from 0 (cells c)) o h in
         subst (λ (x : Sink × Name). carried c (branch x.0) ≡ Some x.1) p.2
-            (ap (option_map (λ qd. qd.1)) (numbered_at (cells c) p.0 p.1))
+        (ap (option_map (λ qd. qd.1)) (numbered_at (cells c) p.0 p.1))
 
 module _ (c : List Statement) (well : IsWellFormed c) (f : Fault) (t : Test)
     (is : start_of f.line ≡ None) where
@@ -281,8 +290,15 @@ module _ (c : List Statement) (well : IsWellFormed c) (f : Fault) (t : Test)
       w = has_solutions c well t (Some f)
 
       at : (k : Sink) → f.line ≡ branch k → Contains (observers c) (k, h.1) → Detects c t f
-      at k own there_is = (h.0, w.0, (k, h.1), h.2, w.1, there_is,
-          λ x. not_itself f.stuck (sym (under_own f (branch k) (w.0 h.1) own) ∙ (sym x ∙ h.4)))
+      at k own there_is = (
+        h.0,
+        w.0,
+        (k, h.1),
+        h.2,
+        w.1,
+        there_is,
+        λ x. not_itself f.stuck (sym (under_own f (branch k) (w.0 h.1) own) ∙ (sym x ∙ h.4)),
+      )
 
       go : (l : Line) → f.line ≡ l → start_of l ≡ None → Detects c t f
       go (line.Stem s) on none = let bad : Some s ≡ None = none in cc

@@ -30,7 +30,7 @@ found_at find (x ∷ xs) (y ∷ ys) (suc i) k e at =
 pub representative_at : (m : Model) (c : List Statement) (classes : Collapsed) (class k : ℕ)
     → AreClassesOf m c classes → slice_get classes.representative class ≡ Some k
     → (r : Fault) × (slice_get (faults m c) k ≡ Some r)
-        × (slice_get (representatives m c) class ≡ Some r)
+    × (slice_get (representatives m c) class ≡ Some r)
 representative_at m c classes class k are at =
     found_at (slice_get (faults m c)) classes.representative (representatives m c) class k
     are.representative at
@@ -56,18 +56,23 @@ pub fault_is : (m : Model) (c : List Statement) (list : FaultList) (classes : Co
     (class k : ℕ) (own : Model) (l : Line) (bit : Bool) → AreClassesOf m c classes
     → list ≡ fault_list m c
     → slice_get classes.representative class ≡ Some k → own ≡ m
-        → IfSome (slice_get list.list k) (λ f. l ≡ f.line)
-        → IfSome (slice_get list.list k) (λ f. bit ≡ f.stuck)
+    → IfSome (slice_get list.list k) (λ f. l ≡ f.line)
+    → IfSome (slice_get list.list k) (λ f. bit ≡ f.stuck)
     → (slice_get (representatives m c) class ≡ Some (record { model = own; line = l; stuck = bit }))
-        × Contains (faults own c) (record { model = own; line = l; stuck = bit })
+    × Contains (faults own c) (record { model = own; line = l; stuck = bit })
 fault_is m c list classes class k own l bit are e at same p q =
     let found = representative_at m c classes class k are at in
     let here : Contains (faults m c) found.0 =
-        contained (faults m c) found.0 (at_place (faults m c) k found.0 found.1) in
+    contained (faults m c) found.0 (at_place (faults m c) k found.0 found.1) in
     let read : Some found.0 ≡ Some (record { model = own; line = l; stuck = bit }) =
     fault_read own (slice_get list.list k) l bit found.0 (ap (λ x. slice_get x.list k) e ∙ found.1)
-        (same ∙ sym (listed_model m c found.0 here)) p q in
+    (same ∙ sym (listed_model m c found.0 here)) p q in
     let one : found.0 ≡ record { model = own; line = l; stuck = bit } =
-        ap (λ o. unwrap_or o found.0) read in
-    (found.2 ∙ read, subst (λ x. Contains (faults x c) (record { model = own; line = l;
-        stuck = bit })) (sym same) (subst (Contains (faults m c)) one here))
+    ap (λ o. unwrap_or o found.0) read in (
+      found.2 ∙ read,
+      subst (λ x. Contains (faults x c) (record {
+        model = own;
+        line = l;
+        stuck = bit;
+      })) (sym same) (subst (Contains (faults m c)) one here),
+    )

@@ -46,11 +46,11 @@ pub observed_are : (c : List Statement)
     ++ map (λ (qd : Name × Name). signal c qd.1) (cells c)
 observed_are c =
     map-append (λ (o : Sink × Name). signal c o.1)
-        (map (λ at. (sink.Out at.0, at.1)) (enumerate_from 0 (outputs c)))
-        (map (λ at. (sink.Data at.0, at.1.1)) (enumerate_from 0 (cells c)))
+    (map (λ at. (sink.Out at.0, at.1)) (enumerate_from 0 (outputs c)))
+    (map (λ at. (sink.Data at.0, at.1.1)) (enumerate_from 0 (cells c)))
     ∙ (ap (λ xs. xs ++ map (λ (o : Sink × Name). signal c o.1)
-        (map (λ at. (sink.Data at.0, at.1.1)) (enumerate_from 0 (cells c))))
-        (outputs_numbered c 0 (outputs c))
+    (map (λ at. (sink.Data at.0, at.1.1)) (enumerate_from 0 (cells c))))
+    (outputs_numbered c 0 (outputs c))
     ∙ ap (λ xs. map (signal c) (outputs c) ++ xs) (cells_numbered c 0 (cells c)))
 
 -- the second numbers of pairs
@@ -64,7 +64,7 @@ seconds {X} h g (x ∷ xs) [] p q e =
     let bad : ◌≡◌ {A = List (ℕ × ℕ)} ((g x, h x) ∷ map (λ x. (g x, h x)) xs) [] = e in cc
 seconds {X} h g (x ∷ xs) (y ∷ ps) p q e =
     let is : ◌≡◌ {A = List (ℕ × ℕ)} ((g x, h x) ∷ map (λ x. (g x, h x)) xs)
-        ((p y, q y) ∷ map (λ qd. (p qd, q qd)) ps) = e in
+    ((p y, q y) ∷ map (λ qd. (p qd, q qd)) ps) = e in
     let tails : map {B = ℕ × ℕ} (λ x. (g x, h x)) xs ≡ map (λ qd. (p qd, q qd)) ps = cc in
     let heads : ◌≡◌ {A = ℕ × ℕ} (g x, h x) (p y, q y) = cc in
     let head : h x ≡ q y = ap (λ (pair : ℕ × ℕ). pair.1) heads in
@@ -100,24 +100,24 @@ observed_named c o well a = well.all_defined o.1
         let p = mapped_from (λ at. (sink.Out at.0, at.1)) (enumerate_from 0 (outputs c)) o h in
         let it : (sink.Out p.0.0, p.0.1) ≡ o = p.2 in
         subst (λ (x : Sink × Name). Among x.1 (flat_map read c)) it
-            (output_read c p.0.1 (at_place (outputs c) p.0.0 p.0.1
-            (numbered_at (outputs c) p.0 p.1)))
+        (output_read c p.0.1 (at_place (outputs c) p.0.0 p.0.1
+        (numbered_at (outputs c) p.0 p.1)))
     go (inr h) =
         let p = mapped_from (λ at. (sink.Data at.0, at.1.1)) (enumerate_from 0 (cells c)) o h in
         let it : (sink.Data p.0.0, p.0.1.1) ≡ o = p.2 in
         subst (λ (x : Sink × Name). Among x.1 (flat_map read c)) it
-            (cell_read c p.0.1 (at_place (cells c) p.0.0 p.0.1 (numbered_at (cells c) p.0 p.1)))
+        (cell_read c p.0.1 (at_place (cells c) p.0.0 p.0.1 (numbered_at (cells c) p.0 p.1)))
 
 pub observed_within : (c : List Statement) (signals : List ℕ) → IsWellFormed c
     → signals ≡ map (λ (o : Sink × Name). signal c o.1) (observers c)
     → All (λ s. s < length (names c)) signals
 observed_within c signals well is i d lt =
     let at : Among (get_or signals i d) (map (λ (o : Sink × Name). signal c o.1) (observers c)) =
-        subst (Among (get_or signals i d)) is
-        (among signals (get_or signals i d) (Contains-get_or signals i d lt)) in
+    subst (Among (get_or signals i d)) is
+    (among signals (get_or signals i d) (Contains-get_or signals i d lt)) in
     let p = mapped_from (λ (o : Sink × Name). signal c o.1) (observers c) (get_or signals i d) at in
     let within : signal c p.0.1 < length (names c) = place_within (names c) (signal c p.0.1) p.0.1
-        (name_of-signal c p.0.1 (observed_named c p.0 well p.1)) in
+    (name_of-signal c p.0.1 (observed_named c p.0 well p.1)) in
     let same : signal c p.0.1 ≡ get_or signals i d = p.2 in
     omega (arith, within, same)
 
@@ -129,7 +129,7 @@ observed_counted (Output m ∷ c) = let h = observed_counted c in omega (arith, 
 observed_counted (Gate m kind args ∷ c) =
     let h = observed_counted c in
     let whole : length (flat_map read (Gate m kind args ∷ c)) ≡ length args
-        + length (flat_map read c) = length-append args (flat_map read c) in
+    + length (flat_map read c) = length-append args (flat_map read c) in
     omega (arith, h, whole)
 observed_counted (Dff q d ∷ c) = let h = observed_counted c in omega (arith, h)
 
@@ -139,9 +139,9 @@ pub observed_few : (c : List Statement) (signals : List ℕ) → IsCircuit c
 observed_few c signals circuit is =
     let counted = observed_counted c in
     let long : length signals ≡ length (map (signal c) (outputs c))
-        + length (map (λ (qd : Name × Name). signal c qd.1) (cells c)) = ap length is
-        ∙ length-append (map (signal c) (outputs c)) (map (λ (qd : Name × Name). signal c qd.1)
-        (cells c)) in
+    + length (map (λ (qd : Name × Name). signal c qd.1) (cells c)) = ap length is
+    ∙ length-append (map (signal c) (outputs c)) (map (λ (qd : Name × Name). signal c qd.1)
+    (cells c)) in
     let first = length-map (outputs c) (signal c) in
     let second = length-map (cells c) (λ (qd : Name × Name). signal c qd.1) in
     omega (arith, counted, long, first, second, circuit.sinks)
@@ -155,11 +155,11 @@ pub lane_row_is : (observed words : List ℕ) (row : List Bool) (k : ℕ) → le
     → row ≡ lane_row observed words k
 lane_row_is observed words row k long each =
     same_lists row (lane_row observed words k) (long
-        ∙ sym (length-map observed (λ s. lane (slice_index_or words s 0) k)))
+    ∙ sym (length-map observed (λ s. lane (slice_index_or words s 0) k)))
     (λ i d lt.
     let within : i < length observed = omega (arith, lt, long) in
     each i d within ∙ sym (get_or-map (λ s. lane (slice_index_or words s 0) k) observed i 0 d
-        within))
+    within))
 
 -- the row of one lane more
 pub lane_more : (first rows more : List (List Bool)) (observed words : List ℕ) (row : List Bool)
@@ -170,7 +170,7 @@ lane_more first rows more observed words row k before pushed is =
     let lanes = map (lane_row observed words) (below k) in
     pushed ∙ (ap (λ rs. rs ++ row ∷ []) before ∙ (append_assoc first lanes (row ∷ [])
     ∙ ap (λ rs. first ++ rs) (ap (λ r. lanes ++ r ∷ []) is
-        ∙ sym (map-range_with_len_more (lane_row observed words) 0 k k (omega arith)))))
+    ∙ sym (map-range_with_len_more (lane_row observed words) 0 k k (omega arith)))))
 
 -- a list of observers, by what each of them gives
 same_row : (os : List (Sink × Name)) (p : Sink × Name → ℕ) (g : ℕ → Bool) (h : Sink × Name → Bool)
@@ -183,17 +183,17 @@ same_row (o ∷ os) p g h each = ap (λ b. b ∷ map g (map p os)) (each o (inl 
 pub row_shows : (c : List Statement) (tests : List Test) (group k : ℕ) (words observed : List ℕ)
     (test : Test) (v : Name → Bool) → IsWellFormed c → AreWords c tests group None words → k < 128
     → observed ≡ map (λ (o : Sink × Name). signal c o.1) (observers c)
-        → slice_get tests (128 * group + k) ≡ Some test → Solves c test None v
+    → slice_get tests (128 * group + k) ≡ Some test → Solves c test None v
     → lane_row observed words k ≡ map (shows None v) (observers c)
 row_shows c tests group k words observed test v well are lt is at solves =
     let own : test_of tests group k ≡ test =
-        get_or_from_slice_get tests (128 * group + k) test [] at in
+    get_or_from_slice_get tests (128 * group + k) test [] at in
     let solved = subst (λ t. Solves c t None (lane_bits c words k)) own (are k lt) in
     ap (λ xs. lane_row xs words k) is
     ∙ same_row (observers c) (λ (o : Sink × Name). signal c o.1)
-        (λ s. lane (slice_index_or words s 0) k) (shows None v)
+    (λ s. lane (slice_index_or words s 0) k) (shows None v)
     (λ o a. agree c test None (lane_bits c words k) v well solved solves o.1
-        (observed_named c o well a))
+    (observed_named c o well a))
 
 -- the rows of the first tests
 pub record AreFirstResponses (c : List Statement) (tests : List Test) (n : ℕ)
@@ -204,17 +204,19 @@ pub record AreFirstResponses (c : List Statement) (tests : List Test) (n : ℕ)
 
 pub none_yet : (c : List Statement) (tests : List Test) (rows : List (List Bool)) (n : ℕ)
     → rows ≡ [] → n ≡ 0 → AreFirstResponses c tests n rows
-none_yet c tests rows n e z = record { count = ap length e ∙ sym z;
-    each = λ t test v lt at solves. absurd (omega (arith, lt, z)) }
+none_yet c tests rows n e z = record {
+  count = ap length e ∙ sym z;
+  each = λ t test v lt at solves. absurd (omega (arith, lt, z));
+}
 
 -- the rows of one group more
 pub group_more : (c : List Statement) (tests : List Test) (group n m size : ℕ)
     (rows more : List (List Bool)) (words observed : List ℕ) → IsWellFormed c
     → AreWords c tests group None words
     → observed ≡ map (λ (o : Sink × Name). signal c o.1) (observers c) → n ≡ 128 * group
-        → size ≤ 128 → m ≡ n + size
+    → size ≤ 128 → m ≡ n + size
     → more ≡ rows ++ map (lane_row observed words) (below size) → AreFirstResponses c tests n rows
-        → AreFirstResponses c tests m more
+    → AreFirstResponses c tests m more
 group_more c tests group n m size rows more words observed well are is starts few ends same before =
     record { count = counted; each = each }
   where
@@ -236,20 +238,23 @@ group_more c tests group n m size rows more words observed well are is starts fe
         go (inl low) =
             whole (map (shows None v) (observers c)) (ap (λ rs. get_or rs t []) same
             ∙ (get_or_append_left rows (map (lane_row observed words) (below size)) [] t
-                (omega (arith, before.count, low))
+            (omega (arith, before.count, low))
             ∙ get_or_from_slice_get rows t (map (shows None v) (observers c)) []
-                (before.each t test v low at solves)))
+            (before.each t test v low at solves)))
         go (inr high) =
             let place : length rows + (t - n) ≡ t = omega (arith, before.count, high) in
             let number : 128 * group + (t - n) ≡ t = omega (arith, starts, high) in
             let small : t - n < size = omega (arith, ends, lt, high) in
             let own : slice_get tests (128 * group + (t - n)) ≡ Some test =
-                subst (λ i. slice_get tests i ≡ Some test) (sym number) at in
+            subst (λ i. slice_get tests i ≡ Some test) (sym number) at in
             whole (map (shows None v) (observers c)) (ap (λ rs. get_or rs t []) same
             ∙ (ap (λ i. get_or (rows ++ map (lane_row observed words) (below size)) i [])
-                (sym place)
+            (sym place)
             ∙ (get_or-append-add rows (map (lane_row observed words) (below size)) (t - n) []
             ∙ (get_or-map-range_with_len (lane_row observed words) 0 size (t - n) (t - n) [] small
-                (omega arith)
-            ∙ row_shows c tests group (t - n) words observed test v well are (omega (arith, small,
-                few)) is own solves))))
+            (omega arith)
+            ∙ row_shows c tests group (t - n) words observed test v well are (omega (
+              arith,
+              small,
+              few,
+            )) is own solves))))

@@ -23,7 +23,7 @@ module _ (c : List Statement) (counts : ℕ → Type 0) (closed : (g s : ℕ) �
   module _ (lv : ℕ → ℕ) (level : ℕ) (well : IsWellFormed c) (rises : (g s : ℕ) → Reads c g s
       → lv s < lv g) (not_below : (g : ℕ) → slice_index_or at g 0 ≢ 0 → level ≤ lv g)
       (k : ℕ) (lt : k < 128) (in_mask : lane mask k ≡ true) (v : Name
-          → Bool) (solves : Solves c (test_of tests group k) (Some (f k)) v) where
+      → Bool) (solves : Solves c (test_of tests group k) (Some (f k)) v) where
     idle_below : (s : ℕ) → lv s < level → slice_index_or at s 0 ≡ 0
     idle_below s low = go (cases_eq (slice_index_or at s 0) 0)
       where
@@ -35,7 +35,7 @@ module _ (c : List Statement) (counts : ℕ → Type 0) (closed : (g s : ℕ) �
     right_here : (n : Name) → Among n (names c) → counts (signal c n)
         → slice_index_or at (signal c n) 0 ≡ 0
         → ((a : Name) → Reads c (signal c n) (signal c a) → Among a (names c)
-            → bits_of c good delta k a ≡ v a) → bits_of c good delta k n ≡ v n
+        → bits_of c good delta k a ≡ v a) → bits_of c good delta k n ≡ v n
     right_here n a is_counted idle below = go (driven c n a)
       where
         equation : HasEquation c (test_of tests group k) (Some (f k)) (bits_of c good delta k)
@@ -53,10 +53,18 @@ module _ (c : List Statement) (counts : ℕ → Type 0) (closed : (g s : ℕ) �
             let gate = contained c (Gate n x.0 x.1) x.2 in
             equation.gate n x.0 x.1 refl gate
             ∙ (ap (λ bits. under (Some (f k)) (line.Stem (signal c n)) (value x.0 bits))
-                (pins_agree (Some (f k)) (bits_of c good delta k) v (signal c n) 0 x.1
-            (λ m h. below m (record { name = n; kind = x.0; args = x.1; read = m; gate = gate;
-                number = refl; reads = contained x.1 m h; of = refl })
-                (among (names c) m (read_named c (Gate n x.0 x.1) m well x.2 h))))
+            (pins_agree (Some (f k)) (bits_of c good delta k) v (signal c n) 0 x.1
+            (λ m h. below m (record {
+              name = n;
+              kind = x.0;
+              args = x.1;
+              read = m;
+              gate = gate;
+              number = refl;
+              reads = contained x.1 m h;
+              of = refl;
+            })
+            (among (names c) m (read_named c (Gate n x.0 x.1) m well x.2 h))))
             ∙ sym (solves.gate n x.0 x.1 gate))
 
     below_bound : (bound : ℕ) (n : Name) → Among n (names c) → counts (signal c n)
@@ -65,8 +73,8 @@ module _ (c : List Statement) (counts : ℕ → Type 0) (closed : (g s : ℕ) �
     below_bound (suc bound) n a is_counted low under_level =
         right_here n a is_counted (idle_below (signal c n) under_level)
         (λ m r in_names. let up = rises (signal c n) (signal c m) r in
-            below_bound bound m in_names (closed (signal c n) (signal c m) r is_counted)
-            (omega (arith, up, low)) (omega (arith, up, under_level)))
+        below_bound bound m in_names (closed (signal c n) (signal c m) r is_counted)
+        (omega (arith, up, low)) (omega (arith, up, under_level)))
 
     -- every signal that counts, of this level or a lower one, and does not wait has its true bit
     pub right_by_now : (n : Name) → Among n (names c) → counts (signal c n)
@@ -74,5 +82,5 @@ module _ (c : List Statement) (counts : ℕ → Type 0) (closed : (g s : ℕ) �
         → bits_of c good delta k n ≡ v n
     right_by_now n a is_counted low idle = right_here n a is_counted idle
         (λ m r in_names. let up = rises (signal c n) (signal c m) r in
-            below_bound level m in_names (closed (signal c n) (signal c m) r is_counted)
-            (omega (arith, up, low)) (omega (arith, up, low)))
+        below_bound level m in_names (closed (signal c n) (signal c m) r is_counted)
+        (omega (arith, up, low)) (omega (arith, up, low)))

@@ -23,14 +23,14 @@ pub reads_rise : (c : List Statement) (level : Name → ℕ) → IsWellFormed c 
 reads_rise c level well are g s r =
     let gate = among c (Gate r.name r.kind r.args) r.gate in
     let up = level_named c level r.name g
-        (contained (names c) r.name (defined_among c (Gate r.name r.kind r.args) r.name gate refl))
-        r.number in
+    (contained (names c) r.name (defined_among c (Gate r.name r.kind r.args) r.name gate refl))
+    r.number in
     let low = level_named c level r.read s
-        (read_named c (Gate r.name r.kind r.args) r.read well gate (among r.args r.read r.reads))
-        r.of in
+    (read_named c (Gate r.name r.kind r.args) r.read well gate (among r.args r.read r.reads))
+    r.of in
     let above = are.gate r.name r.kind r.args r.gate in
     let most = below_greatest (map level r.args) (level r.read)
-        (among_map level r.args r.read (among r.args r.read r.reads)) in
+    (among_map level r.args r.read (among r.args r.read r.reads)) in
     omega (arith, up, low, above, most)
 
 -- whichever levels are taken, a signal has the level that it has
@@ -38,7 +38,7 @@ pub level_is : (c : List Statement) (level : Name → ℕ) (g k : ℕ) → IsWel
     → AreLevels c level → HasLevel c g k → level_at c level g ≡ k
 level_is c level g k well are h =
     ap (λ (o : Option Name). option_map_or level o 0) h.3
-        ∙ (one_level c well level h.0 h.1 are h.2 (at_place (names c) g h.1 h.3) ∙ h.4)
+    ∙ (one_level c well level h.0 h.1 are h.2 (at_place (names c) g h.1 h.3) ∙ h.4)
 
 -- a signal has the level that it has by its number
 pub has_level : (c : List Statement) (level : Name → ℕ) (g : ℕ) → AreLevels c level

@@ -30,14 +30,15 @@ pushed_get {X} (z ∷ xs) x y (suc i) e = go (pushed_get xs x y i e)
 pub rows_more : (c : List Statement) (tests : List Test) (rows : List (List ℕ)) (row : List ℕ)
     (group : ℕ) → length rows ≡ group → AreFaultFree c tests rows
     → length row ≡ length (names c) → AreWords c tests group None row
-        → AreFaultFree c tests (rows ++ row ∷ [])
+    → AreFaultFree c tests (rows ++ row ∷ [])
 rows_more c tests rows row group count before room words b r at = go (pushed_get rows row r b at)
   where
     go : (slice_get rows b ≡ Some r) ⊎ ((b ≡ length rows) × (row ≡ r))
         → (length r ≡ length (names c)) × AreWords c tests b None r
     go (inl h) = before b r h
     go (inr h) =
-        let same : group ≡ b = sym count ∙ sym h.0 in
-        (ap length (sym h.1) ∙ room,
-            subst (λ n. AreWords c tests n None r) same
-            (subst (AreWords c tests group None) h.1 words))
+        let same : group ≡ b = sym count ∙ sym h.0 in (
+          ap length (sym h.1) ∙ room,
+          subst (λ n. AreWords c tests n None r) same
+              (subst (AreWords c tests group None) h.1 words),
+        )

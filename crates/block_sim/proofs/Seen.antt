@@ -26,7 +26,7 @@ seen_first c delta mask clear = record {
 pub seen_changed : (c : List Statement) (delta : List ℕ) (mask seen g diff shown : ℕ)
     → slice_index_or delta g 0 ≡ 0 → g < length delta
     → ((k : ℕ) → k < 128 → Decides (lane shown k) (IsObserved c g × (lane diff k ≡ true)))
-        → AreSeen c delta mask seen → AreSeen c (set delta g diff) mask (bit_or seen shown)
+    → AreSeen c delta mask seen → AreSeen c (set delta g diff) mask (bit_or seen shown)
 seen_changed c delta mask seen g diff shown clear within is h = record {
   found = λ k lt e. found k lt (or_cases (lane seen k) (lane shown k) (sym (lane_or seen shown k)
       ∙ e));
@@ -42,10 +42,13 @@ seen_changed c delta mask seen g diff shown clear within is h = record {
     found : (k : ℕ) → k < 128 → (lane seen k ≡ true) ⊎ (lane shown k ≡ true)
         → (s : ℕ) × IsObserved c s × (lane (slice_index_or (set delta g diff) s 0) k ≡ true)
     found k lt (inl e) =
-        let s = h.found k lt e in
-        (s.0, s.1, ap (λ d. lane d k)
-            (kept s.0 (λ same. none_in_zero (slice_index_or delta s.0 0) k
-            (ap (λ x. slice_index_or delta x 0) same ∙ clear) s.2)) ∙ s.2)
+        let s = h.found k lt e in (
+          s.0,
+          s.1,
+          ap (λ d. lane d k)
+              (kept s.0 (λ same. none_in_zero (slice_index_or delta s.0 0) k
+              (ap (λ x. slice_index_or delta x 0) same ∙ clear) s.2)) ∙ s.2,
+        )
     found k lt (inr e) = let d = (is k lt).0 e in (g, d.0, ap (λ x. lane x k) at ∙ d.1)
 
     seen_now : (s k : ℕ) → k < 128 → lane mask k ≡ true → IsObserved c s
@@ -53,7 +56,7 @@ seen_changed c delta mask seen g diff shown clear within is h = record {
         → (lane seen k || lane shown k) ≡ true
     seen_now s k lt m o e (inl same) =
         let here : lane diff k ≡ true = ap (λ d. lane d k) (sym at)
-            ∙ (ap (λ x. lane (slice_index_or (set delta g diff) x 0) k) (sym same) ∙ e) in
+        ∙ (ap (λ x. lane (slice_index_or (set delta g diff) x 0) k) (sym same) ∙ e) in
         or_right (lane seen k) (lane shown k) ((is k lt).1 (subst (IsObserved c) same o, here))
     seen_now s k lt m o e (inr other) = or_left (lane seen k) (lane shown k)
         (h.shown s k lt m o (ap (λ d. lane d k) (sym (kept s other)) ∙ e))

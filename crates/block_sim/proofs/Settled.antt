@@ -27,7 +27,7 @@ settled_more (FirstHits followed) seen more k h = λ one at own.
 pub settled_on : (extent : Extent) (lanes kept narrow seen more : ℕ)
     → LeavesSettled extent lanes kept seen
     → ((k : ℕ) → k < 128 → lane kept k ≡ true → lane narrow k ≡ false
-        → IsSettled extent (bit_or seen more) k)
+    → IsSettled extent (bit_or seen more) k)
     → LeavesSettled extent lanes narrow (bit_or seen more)
 settled_on extent lanes kept narrow seen more before out k lt in_lanes left = go (lane kept k) refl
   where
@@ -52,23 +52,29 @@ seen_not false never = refl
 
 module _ (one : Followed) (seen low k : ℕ) (small : bit_and one.lanes seen < 2 ^ 128) (lt : k < 128)
     (is : (j : ℕ) → j < 128 → lane low j ≡ nat_lt j (trailing_zeros w128 (bit_and one.lanes seen)))
-        where
-  -- the lanes below the least that was seen
-  pub open_of : lane (bit_and one.lanes low) k ≡ true → IsOpen one seen k
-  open_of e = (left_of (lane one.lanes k) (lane low k) (sym (lane_and one.lanes low k) ∙ e), unseen)
-    where
-      unseen : (j : ℕ) → j ≤ k → lane one.lanes j ≡ true → lane seen j ≡ false
-      unseen j le own = seen_not (lane seen j)
-          (λ at. false≢true (sym (left_behind one.lanes (bit_and one.lanes seen)
-          low j k small lt is le (lane_and one.lanes seen j
-              ∙ and_from (lane one.lanes j) (lane seen j) own at)) ∙ e))
+  where
+    -- the lanes below the least that was seen
+    pub open_of : lane (bit_and one.lanes low) k ≡ true → IsOpen one seen k
+    open_of e = (
+      left_of (lane one.lanes k) (lane low k) (sym (lane_and one.lanes low k) ∙ e),
+      unseen,
+    )
+      where
+        unseen : (j : ℕ) → j ≤ k → lane one.lanes j ≡ true → lane seen j ≡ false
+        unseen j le own = seen_not (lane seen j)
+            (λ at. false≢true (sym (left_behind one.lanes (bit_and one.lanes seen)
+            low j k small lt is le (lane_and one.lanes seen j
+            ∙ and_from (lane one.lanes j) (lane seen j) own at)) ∙ e))
 
-  pub hit_of : lane (bit_and one.lanes low) k ≡ false → HasHit one seen k
-  hit_of out own =
-      let j = left_out one.lanes (bit_and one.lanes seen) low k small lt is own out in
-      let both = sym (lane_and one.lanes seen j.0) ∙ j.2 in
-      (j.0, j.1, left_of (lane one.lanes j.0) (lane seen j.0) both,
-          only_lanes one.lanes seen j.0 j.2)
+    pub hit_of : lane (bit_and one.lanes low) k ≡ false → HasHit one seen k
+    hit_of out own =
+        let j = left_out one.lanes (bit_and one.lanes seen) low k small lt is own out in
+        let both = sym (lane_and one.lanes seen j.0) ∙ j.2 in (
+          j.0,
+          j.1,
+          left_of (lane one.lanes j.0) (lane seen j.0) both,
+          only_lanes one.lanes seen j.0 j.2,
+        )
 
 or_none : (a b : Bool) → (a || b) ≡ false → (a ≡ false) × (b ≡ false)
 or_none true b e = absurd (false≢true (sym e))
@@ -78,40 +84,43 @@ or_none false b e = (refl, e)
 module _ (followed : List Followed) (i : ℕ) (one : Followed) (at : slice_get followed i ≡ Some one)
     (below seen low : ℕ) (small : bit_and one.lanes seen < 2 ^ 128)
     (is : (j : ℕ) → j < 128 → lane low j ≡ nat_lt j (trailing_zeros w128 (bit_and one.lanes seen)))
-        where
-  abbrev SomeOpen : ℕ → ℕ → Type 0
-  SomeOpen word k = lane word k ≡ true → (x : Followed) × Contains followed x × IsOpen x seen k
+  where
+    abbrev SomeOpen : ℕ → ℕ → Type 0
+    SomeOpen word k = lane word k ≡ true → (x : Followed) × Contains followed x × IsOpen x seen k
 
-  abbrev AllHit : ℕ → ℕ → ℕ → Type 0
-  AllHit word count k = lane word k ≡ false → (j : ℕ) (x : Followed) → j < count
-      → slice_get followed j ≡ Some x → HasHit x seen k
+    abbrev AllHit : ℕ → ℕ → ℕ → Type 0
+    AllHit word count k = lane word k ≡ false → (j : ℕ) (x : Followed) → j < count
+        → slice_get followed j ≡ Some x → HasHit x seen k
 
-  pub one_open : (k : ℕ) → k < 128 → SomeOpen below k
-      → SomeOpen (bit_or below (bit_and one.lanes low)) k
-  one_open k lt before e =
-      go (or_cases (lane below k) (lane (bit_and one.lanes low) k)
-          (sym (lane_or below (bit_and one.lanes low) k) ∙ e))
-    where
-      go : (lane below k ≡ true) ⊎ (lane (bit_and one.lanes low) k ≡ true)
-          → (x : Followed) × Contains followed x × IsOpen x seen k
-      go (inl h) = before h
-      go (inr h) = (one, contained followed one (at_place followed i one at),
-          open_of one seen low k small lt is h)
+    pub one_open : (k : ℕ) → k < 128 → SomeOpen below k
+        → SomeOpen (bit_or below (bit_and one.lanes low)) k
+    one_open k lt before e =
+        go (or_cases (lane below k) (lane (bit_and one.lanes low) k)
+        (sym (lane_or below (bit_and one.lanes low) k) ∙ e))
+      where
+        go : (lane below k ≡ true) ⊎ (lane (bit_and one.lanes low) k ≡ true)
+            → (x : Followed) × Contains followed x × IsOpen x seen k
+        go (inl h) = before h
+        go (inr h) = (
+          one,
+          contained followed one (at_place followed i one at),
+          open_of one seen low k small lt is h,
+        )
 
-  pub one_hit : (k : ℕ) → k < 128 → AllHit below i k
-      → AllHit (bit_or below (bit_and one.lanes low)) (i + 1) k
-  one_hit k lt before e j x le there = go (at_end i j le)
-    where
-      none : (lane below k ≡ false) × (lane (bit_and one.lanes low) k ≡ false)
-      none = or_none (lane below k) (lane (bit_and one.lanes low) k)
-          (sym (lane_or below (bit_and one.lanes low) k) ∙ e)
+    pub one_hit : (k : ℕ) → k < 128 → AllHit below i k
+        → AllHit (bit_or below (bit_and one.lanes low)) (i + 1) k
+    one_hit k lt before e j x le there = go (at_end i j le)
+      where
+        none : (lane below k ≡ false) × (lane (bit_and one.lanes low) k ≡ false)
+        none = or_none (lane below k) (lane (bit_and one.lanes low) k)
+            (sym (lane_or below (bit_and one.lanes low) k) ∙ e)
 
-      go : (j < i) ⊎ (j ≡ i) → HasHit x seen k
-      go (inl less) = before none.0 j x less there
-      go (inr same) =
-          let own : one ≡ x = ap (λ o. unwrap_or o one) (sym at
-              ∙ (ap (slice_get followed) (sym same) ∙ there)) in
-          subst (λ y. HasHit y seen k) own (hit_of one seen low k small lt is none.1)
+        go : (j < i) ⊎ (j ≡ i) → HasHit x seen k
+        go (inl less) = before none.0 j x less there
+        go (inr same) =
+            let own : one ≡ x = ap (λ o. unwrap_or o one) (sym at
+            ∙ (ap (slice_get followed) (sym same) ∙ there)) in
+            subst (λ y. HasHit y seen k) own (hit_of one seen low k small lt is none.1)
 
 -- ---- what both words have
 pub out_of : (lanes low k : ℕ) → lane lanes k ≡ true → lane (bit_and lanes low) k ≡ false

@@ -35,7 +35,7 @@ arrived_first job span stem class word seen a told = (
   subst (λ w. TellsFirst job.circuit job.tests.tests span a.0 (bit_and w seen)) (sym a.6)
       (lanes_law job.circuit job.tests.tests span a.0 stem a.1 a.2 seen a.4 a.5
       (subst (λ w. TellsFirstFlips job.circuit job.tests.tests (group_of span) w stem seen) a.6
-          told)),
+      told)),
 )
 
 -- one memo more
@@ -58,7 +58,7 @@ memo_kept job memos class memo before within is = record {
 pub memo_kept_but : (job : Parts) (followed : List Followed) (memos : List Memo) (class : ℕ)
     (memo : Memo) → AreTrueBut job followed memos
     → class < length memos → IsTrueMemo job class memo
-        → AreTrueBut job followed (set memos class memo)
+    → AreTrueBut job followed (set memos class memo)
 memo_kept_but job followed memos class memo before within is = record {
   count = length-set memos class memo ∙ before.count;
   each = λ x. go x (cases_eq x class);
@@ -78,7 +78,7 @@ pub memo_waits : (job : Parts) (followed : List Followed) (memos : List Memo) (o
     (memo : Memo)
     → length memos ≡ length job.classes.representative
     → ((class : ℕ) → IsTrueMemo job class (slice_index_or memos class Nothing)
-        ⊎ IsFollowed followed class)
+    ⊎ IsFollowed followed class)
     → AreTrueBut job (followed ++ one ∷ []) (set memos one.class memo)
 memo_waits job followed memos one memo count each = record {
   count = length-set memos one.class memo ∙ count;
@@ -88,14 +88,22 @@ memo_waits job followed memos one memo count each = record {
     more : (x : ℕ) → IsTrueMemo job x (slice_index_or memos x Nothing) ⊎ IsFollowed followed x
         → IsTrueMemo job x (slice_index_or memos x Nothing) ⊎ IsFollowed (followed ++ one ∷ []) x
     more x (inl h) = inl h
-    more x (inr h) = inr (h.0, contained (followed ++ one ∷ []) h.0
-        (among_left followed (one ∷ []) h.0 (among followed h.0 h.1)), h.2)
+    more x (inr h) = inr (
+      h.0,
+      contained (followed ++ one ∷ []) h.0
+          (among_left followed (one ∷ []) h.0 (among followed h.0 h.1)),
+      h.2,
+    )
 
     go : (x : ℕ) → (x ≡ one.class) ⊎ (x ≢ one.class)
         → IsTrueMemo job x (slice_index_or (set memos one.class memo) x Nothing)
-            ⊎ IsFollowed (followed ++ one ∷ []) x
-    go x (inl same) = inr (one, contained (followed ++ one ∷ []) one
-        (among_right followed (one ∷ []) one (inl refl)), sym same)
+        ⊎ IsFollowed (followed ++ one ∷ []) x
+    go x (inl same) = inr (
+      one,
+      contained (followed ++ one ∷ []) one
+          (among_right followed (one ∷ []) one (inl refl)),
+      sym same,
+    )
     go x (inr other) = subst (λ m. IsTrueMemo job x m ⊎ IsFollowed (followed ++ one ∷ []) x)
         (sym (get_or-set_other memos one.class x memo Nothing other)) (more x (each x))
 
@@ -120,7 +128,7 @@ followed_more job span stem followed one before within at x there =
     go (inl h) = before x (contained followed x h)
     go (inr (inl same)) =
         subst (λ (y : Followed). (y.class < length job.classes.representative)
-            × HasArrived job span stem y.class y.lanes)
+        × HasArrived job span stem y.class y.lanes)
         same (within, at)
     go (inr (inr bad)) = absurd bad
 

@@ -47,12 +47,12 @@ module _ (c : List Statement) (tests : List Test) (group : ℕ) (f : ℕ
   module _ (well : IsWellFormed c) (rises : (g s : ℕ) → Reads c g s
       → lv s < lv g) (elsewhere : (t k : ℕ) → t ≢ start → IsElsewhere (f k) t)
       (delta at : List ℕ) (level g : ℕ)
-          (h : IsSpreading c tests group f good lanes lv start mask delta at level)
-          (taken : slice_index_or at g 0 ≡ level + 1) (in_at : g < length at)
-          (in_delta : g < length delta)
+      (h : IsSpreading c tests group f good lanes lv start mask delta at level)
+      (taken : slice_index_or at g 0 ≡ level + 1) (in_at : g < length at)
+      (in_delta : g < length delta)
       (kind : Kind) (pins : List ℕ) (is : gate_of c g ≡ Some (kind, pins)) (word : ℕ)
-          (valued : (k : ℕ) → k < 128
-          → lane word k ≡ value kind (pin_bits None g pins good delta k)) where
+      (valued : (k : ℕ) → k < 128
+      → lane word k ≡ value kind (pin_bits None g pins good delta k)) where
     waits : slice_index_or at g 0 ≢ 0
     waits e = omega (arith, e, taken)
 
@@ -69,7 +69,7 @@ module _ (c : List Statement) (tests : List Test) (group : ℕ) (f : ℕ
     not_start : g ≢ start
     not_start e =
         let by = h.touched g waits in let up = rises g by.0 by.1 in
-            let from = h.after_start by.0 by.2 in
+        let from = h.after_start by.0 by.2 in
         let same : lv g ≡ lv start = ap lv e in omega (arith, up, from, same)
 
     still_waits : (t : ℕ) → slice_index_or (set at g 0) t 0 ≢ 0
@@ -109,7 +109,7 @@ module _ (c : List Statement) (tests : List Test) (group : ℕ) (f : ℕ
         × (lane diff k ≡ true)) (in_mask : (k : ℕ) → k < 128 → lane diff k ≡ true
         → lane mask k ≡ true)
         (changed : (k : ℕ) → k < 128 → lane mask k ≡ true
-            → lane (bit_xor (slice_index_or good g 0) diff) k ≡ lane word k)
+        → lane (bit_xor (slice_index_or good g 0) diff) k ≡ lane word k)
         (woken : AreWoken c lv g (set at g 0) after) where
       new_at : slice_index_or (set delta g diff) g 0 ≡ diff
       new_at = get_or-set_same delta g diff 0 in_delta
@@ -127,7 +127,7 @@ module _ (c : List Statement) (tests : List Test) (group : ℕ) (f : ℕ
       ahead_changed gates all =
           let less = ahead_same gates (λ r s reads ne. all r s reads (grown s ne)) in
           let no_more = ahead_woken c lv (set at g 0) after level g gates (λ r reads. let up =
-              rises r g reads in let l = here in omega (arith, up, l)) woken in
+          rises r g reads in let l = here in omega (arith, up, l)) woken in
           omega (arith, less, no_more)
 
       -- a gate that waits did so before, or reads the gate
@@ -170,7 +170,7 @@ module _ (c : List Statement) (tests : List Test) (group : ℕ) (f : ℕ
               rises delta at g h.balanced (λ k. elsewhere g k not_start) kind pins is word valued
               diff after in_delta
               (λ t is_counted reads. reader_live c lv start rises g t from_start is_counted reads)
-                  changed woken
+              changed woken
 
           at_level : (t : ℕ) → slice_index_or after t 0 ≢ 0 → slice_index_or after t 0 ≡ lv t + 1
           at_level t ne = go (which t ne)
@@ -210,13 +210,13 @@ module _ (c : List Statement) (tests : List Test) (group : ℕ) (f : ℕ
               go (inr r) =
                   let up = rises t g r.0.0 in let l = here in
                   kept_at t (λ e. let same : lv t ≡ lv g = ap lv e in omega (arith, up, same))
-                      ∙ h.above_clear t (omega (arith, up, l))
+                  ∙ h.above_clear t (omega (arith, up, l))
 
           after_start : (s : ℕ) → slice_index_or (set delta g diff) s 0 ≢ 0 → (s ≡ g) ⊎ (s ≢ g)
               → lv start ≤ lv s
           after_start s ne (inl e) =
               let by = h.touched g waits in let up = rises g by.0 by.1 in
-                  let from = h.after_start by.0 by.2 in
+              let from = h.after_start by.0 by.2 in
               let same : lv s ≡ lv g = ap lv e in omega (arith, up, from, same)
           after_start s ne (inr other) = h.after_start s (λ e. ne (kept_at s other ∙ e))
 
@@ -233,9 +233,12 @@ module _ (c : List Statement) (tests : List Test) (group : ℕ) (f : ℕ
 
           some : (s : ℕ) → slice_index_or (set delta g diff) s 0 ≢ 0 → (s ≡ g) ⊎ (s ≢ g)
               → (k : ℕ) × (k < 128) × (lane (slice_index_or (set delta g diff) s 0) k ≡ true)
-          some s ne (inl same) = (a_lane.0, a_lane.1,
-              ap (λ x. lane (slice_index_or (set delta g diff) x 0) a_lane.0) same
-              ∙ (ap (λ d. lane d a_lane.0) new_at ∙ a_lane.2))
+          some s ne (inl same) = (
+            a_lane.0,
+            a_lane.1,
+            ap (λ x. lane (slice_index_or (set delta g diff) x 0) a_lane.0) same
+                ∙ (ap (λ d. lane d a_lane.0) new_at ∙ a_lane.2),
+          )
           some s ne (inr other) = let k = h.some s (λ e. ne (kept_at s other ∙ e)) in
               (k.0, k.1, ap (λ d. lane d k.0) (kept_at s other) ∙ k.2)
 
@@ -255,50 +258,50 @@ module _ (c : List Statement) (tests : List Test) (group : ℕ) (f : ℕ
               let low : lv (signal c n) ≡ lv g = ap lv is in
               let at_level : lv (signal c n) ≤ level = (let l = here in omega (arith, low, l)) in
               right_by_now c (Counts c lv start) (counts_closed c lv start rises) tests group f good
-                  mask (set delta g diff) after balanced_now lv level well rises not_below k lt
-                  (in_mask k lt (here_diff s k same e)) v solves n (among (names c) n named)
+              mask (set delta g diff) after balanced_now lv level well rises not_below k lt
+              (in_mask k lt (here_diff s k same e)) v solves n (among (names c) n named)
               (inl (subst (IsLive c) (sym is) (h.live g waits))) at_level
-                  (ap (λ x. slice_index_or after x 0) is ∙ idle_here)
+              (ap (λ x. slice_index_or after x 0) is ∙ idle_here)
           right s k lt e (inr other) n v named number solves =
               sym (word_other good delta g diff (signal c n) k (λ x. other (sym number ∙ x)))
               ∙ h.right s k lt (ap (λ d. lane d k) (sym (kept_at s other))
-                  ∙ e) n v named number solves
+              ∙ e) n v named number solves
 
 -- fewer lanes are followed
 pub spreading_narrower : (c : List Statement) (tests : List Test) (group : ℕ) (f : ℕ
     → Fault) (good : List ℕ) (lanes : ℕ) (lv : ℕ → ℕ) (start mask : ℕ) (delta at : List ℕ)
     (level narrow : ℕ)
     → ((k : ℕ) → k < 128 → lane narrow k ≡ true → lane mask k ≡ true)
-        → IsSpreading c tests group f good lanes lv start mask delta at level
-        → IsSpreading c tests group f good lanes lv start narrow delta at level
+    → IsSpreading c tests group f good lanes lv start mask delta at level
+    → IsSpreading c tests group f good lanes lv start narrow delta at level
 spreading_narrower c tests group f good lanes lv start mask delta at level narrow within h =
     record {
-  balanced = λ s k is_counted idle lt e. h.balanced s k is_counted idle lt (within k lt e);
-  narrow = λ k lt e. h.narrow k lt (within k lt e);
-  at_level = h.at_level;
-  not_below = h.not_below;
-  live = h.live;
-  touched = h.touched;
-  waits_clear = h.waits_clear;
-  above_clear = h.above_clear;
-  after_start = h.after_start;
-  inside = h.inside;
-  some = h.some;
-  right = h.right;
-}
+      balanced = λ s k is_counted idle lt e. h.balanced s k is_counted idle lt (within k lt e);
+      narrow = λ k lt e. h.narrow k lt (within k lt e);
+      at_level = h.at_level;
+      not_below = h.not_below;
+      live = h.live;
+      touched = h.touched;
+      waits_clear = h.waits_clear;
+      above_clear = h.above_clear;
+      after_start = h.after_start;
+      inside = h.inside;
+      some = h.some;
+      right = h.right;
+    }
 
 -- what waits anew lies above the signal that it reads
 pub woken_above : (c : List Statement) (lv : ℕ → ℕ) (g : ℕ) (before after : List ℕ)
     → ((a b : ℕ) → Reads c a b → lv b < lv a) → AreWoken c lv g before after
     → (r : ℕ) → (slice_index_or after r 0 ≡ slice_index_or before r 0)
-        ⊎ ((lv g < lv r) × (slice_index_or after r 0 ≡ lv r + 1))
+    ⊎ ((lv g < lv r) × (slice_index_or after r 0 ≡ lv r + 1))
 woken_above c lv g before after rises woken r = go (woken.only r)
   where
     go : (slice_index_or after r 0 ≡ slice_index_or before r 0)
         ⊎ ((Reads c r g × IsLive c r) × (slice_index_or before r 0 ≡ 0)
         × (slice_index_or after r 0 ≡ lv r + 1))
         → (slice_index_or after r 0 ≡ slice_index_or before r 0)
-            ⊎ ((lv g < lv r) × (slice_index_or after r 0 ≡ lv r + 1))
+        ⊎ ((lv g < lv r) × (slice_index_or after r 0 ≡ lv r + 1))
     go (inl e) = inl e
     go (inr w) = inr (rises r g w.0.0, w.2)
 
@@ -307,8 +310,8 @@ pub spreading_skipped : (c : List Statement) (tests : List Test) (group : ℕ) (
     → Fault) (good : List ℕ) (lanes : ℕ) (lv : ℕ → ℕ) (start mask : ℕ) (delta at : List ℕ)
     (level g : ℕ) → g < length at
     → ((k : ℕ) → lane mask k ≡ true → ⊥)
-        → IsSpreading c tests group f good lanes lv start mask delta at level
-        → IsSpreading c tests group f good lanes lv start mask delta (set at g 0) level
+    → IsSpreading c tests group f good lanes lv start mask delta at level
+    → IsSpreading c tests group f good lanes lv start mask delta (set at g 0) level
 spreading_skipped c tests group f good lanes lv start mask delta at level g in_at none h = record {
   balanced = λ s k is_counted idle lt e. absurd (none k e);
   narrow = h.narrow;

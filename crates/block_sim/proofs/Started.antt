@@ -68,18 +68,30 @@ observer_carries c o at = go (among_append
 pub output_observed : (c : List Statement) (i : ℕ) (n : Name) → carried c (line.Out i) ≡ Some n
     → Contains (observers c) (sink.Out i, n)
 output_observed c i n e =
-    contained (observers c) (sink.Out i,
-        n) (among_left _ _ (sink.Out i,
-        n) (among_map (λ at. (sink.Out at.0, at.1)) (enumerate_from 0 (outputs c)) (i,
-        n) (among_numbered (outputs c) i n e)))
+    contained (observers c) (
+      sink.Out i,
+      n,
+    ) (among_left _ _ (
+      sink.Out i,
+      n,
+    ) (among_map (λ at. (sink.Out at.0, at.1)) (enumerate_from 0 (outputs c)) (
+      i,
+      n,
+    ) (among_numbered (outputs c) i n e)))
 
 pub cell_observed : (c : List Statement) (i : ℕ) (q n : Name) → slice_get (cells c) i ≡ Some (q, n)
     → Contains (observers c) (sink.Data i, n)
 cell_observed c i q n e =
-    contained (observers c) (sink.Data i,
-        n) (among_right _ _ (sink.Data i,
-        n) (among_map (λ at. (sink.Data at.0, at.1.1)) (enumerate_from 0 (cells c)) (i,
-        (q, n)) (among_numbered (cells c) i (q, n) e)))
+    contained (observers c) (
+      sink.Data i,
+      n,
+    ) (among_right _ _ (
+      sink.Data i,
+      n,
+    ) (among_map (λ at. (sink.Data at.0, at.1.1)) (enumerate_from 0 (cells c)) (
+      i,
+      (q, n),
+    ) (among_numbered (cells c) i (q, n) e)))
 
 some_mapped : {X Y : Type 0} (h : X → Y) (o : Option X) (y : Y) → option_map h o ≡ Some y
     → (x : X) × (o ≡ Some x) × (h x ≡ y)
@@ -108,14 +120,14 @@ module _ (c : List Statement) (tests : List Test) (group : ℕ) (f : Fault) (goo
     pins_from : (s from : ℕ) (args : List Name) → ((i : ℕ) (a : Name) → slice_get args i ≡ Some a
         → f.line ≡ line.Pin s (from + i) → lane_bits c good k a ≡ f.stuck)
         → map (λ at. sees None (lane_bits c good k) (line.Pin s at.0) at.1)
-            (enumerate_from from args) ≡ map (λ at. sees (Some f) (lane_bits c good k)
-            (line.Pin s at.0) at.1) (enumerate_from from args)
+        (enumerate_from from args) ≡ map (λ at. sees (Some f) (lane_bits c good k)
+        (line.Pin s at.0) at.1) (enumerate_from from args)
     pins_from s from [] same = refl
     pins_from s from (a ∷ args) same =
         let first = under_same f (line.Pin s from) (lane_bits c good k a)
-            (λ own. same 0 a refl (own ∙ ap (line.Pin s) (omega arith))) in
+        (λ own. same 0 a refl (own ∙ ap (line.Pin s) (omega arith))) in
         let rest = pins_from s (from + 1) args (λ i b at own. same (suc i) b at (own
-            ∙ ap (line.Pin s) (omega arith))) in
+        ∙ ap (line.Pin s) (omega arith))) in
         rw (first, rest) refl
 
     unmoved : Solves c (test_of tests group k) (Some f) (lane_bits c good k)
@@ -123,19 +135,19 @@ module _ (c : List Statement) (tests : List Test) (group : ℕ) (f : Fault) (goo
       source = λ i m at.
           let plain = (words k lt).source i m at in
           plain ∙ sym (under_same f (line.Stem (signal c m)) _ (λ own. sym plain
-              ∙ on_stem m (source_named c m (at_place (sources c) i m at)) own));
+          ∙ on_stem m (source_named c m (at_place (sources c) i m at)) own));
       gate = λ m kind args at.
           let a = among c (Gate m kind args) at in
           let plain = (words k lt).gate m kind args at in
           let defined : definition c (signal c m) ≡ Some (Gate m kind args) =
-              definition-signal c (Gate m kind args) m well at refl in
+          definition-signal c (Gate m kind args) m well at refl in
           let pins = pins_from (signal c m) 0 args (λ i b here own. stuck_name b (sym here
-              ∙ (ap (λ o. argument o i) (sym defined)
-              ∙ (ap (carried c) (sym (own ∙ ap (line.Pin (signal c m)) (omega arith)))
-              ∙ carries)))) in
+          ∙ (ap (λ o. argument o i) (sym defined)
+          ∙ (ap (carried c) (sym (own ∙ ap (line.Pin (signal c m)) (omega arith)))
+          ∙ carries)))) in
           let now = plain ∙ ap (value kind) pins in
           now ∙ sym (under_same f (line.Stem (signal c m)) _ (λ own. sym now
-              ∙ on_stem m (defined_among c (Gate m kind args) m a refl) own));
+          ∙ on_stem m (defined_among c (Gate m kind args) m a refl) own));
     }
 
     unapart : IsApart c f good k (lane_bits c good k) → ⊥
@@ -175,9 +187,14 @@ module _ (c : List Statement) (tests : List Test) (group : ℕ) (f : Fault) (goo
     pub shown_at_observer : (o : Sink) → branch o ≡ f.line → Contains (observers c) (o, n)
         → AreShown c tests group (λ _. f) good lanes settled turned
     shown_at_observer o own there = record {
-      found = λ k lt e. let d = (is k lt).0 e in
-          (d.0, λ v solves. ((o, n), there,
-          λ same. d.1 (same ∙ under_own f (branch o) (v n) (sym own))));
+      found = λ k lt e. let d = (is k lt).0 e in (
+        d.0,
+        λ v solves. (
+          (o, n),
+          there,
+          λ same. d.1 (same ∙ under_own f (branch o) (v n) (sym own)),
+        ),
+      );
       clear = λ k lt in_lanes out _. cleared k lt in_lanes out;
     }
 
@@ -185,13 +202,13 @@ module _ (c : List Statement) (tests : List Test) (group : ℕ) (f : Fault) (goo
     pub pin_stirred : (k g pin : ℕ) → k < 128 → f.line ≡ line.Pin g pin
         → AreInGroup tests group lanes → lane turned k ≡ true
         → (name : Name) (kind : Kind) (args : List Name) → Contains c (Gate name kind args)
-            → signal c name ≡ g → slice_get args pin ≡ Some n
-            → IsStirredIn c tests group lanes (λ _. f) g
+        → signal c name ≡ g → slice_get args pin ≡ Some n
+        → IsStirredIn c tests group lanes (λ _. f) g
     pin_stirred k g pin lt on sized e name kind args stands number at =
         let d = (is k lt).0 e in
         let place = within_place tests (128 * group + k) (sized k lt d.0) in
         let same : test_of tests group k ≡ place.0 =
-            index_of tests (128 * group + k) place.0 [] place.1 in
+        index_of tests (128 * group + k) place.0 [] place.1 in
         let u = has_solutions c well (test_of tests group k) (Some f) in
         let stirred : IsStirredBy c (test_of tests group k) f g = record {
           fault_free = lane_bits c good k;
@@ -219,9 +236,9 @@ unobserved c f l well on off o there e = off o there (sym on ∙ e)
 pub first_on_stem : (c : List Statement) (tests : List Test) (group : ℕ) (f : ℕ
     → Fault) (good : List ℕ) (lanes : ℕ) (delta : List ℕ) (start diff : ℕ) → IsWellFormed c
     → ((k : ℕ) → (f k).line ≡ line.Stem start) → start < length delta
-        → AreWords c tests group None good
+    → AreWords c tests group None good
     → ((k : ℕ) → k < 128 → lane lanes k ≡ true
-        → lane (bit_xor (slice_index_or good start 0) diff) k ≡ (f k).stuck)
+    → lane (bit_xor (slice_index_or good start 0) diff) k ≡ (f k).stuck)
     → IsFirstChange c tests group f good lanes delta start diff
 first_on_stem c tests group f good lanes delta start diff well on within words now = record {
   words = words;
@@ -245,57 +262,57 @@ first_on_stem c tests group f good lanes delta start diff well on within words n
     here k lt in_lanes n number =
         ap (λ s. lane (overlaid good (set delta start diff) s) k) number
         ∙ (ap (λ d. lane (bit_xor (slice_index_or good start 0) d) k)
-            (get_or-set_same delta start diff 0 within) ∙ now k lt in_lanes)
+        (get_or-set_same delta start diff 0 within) ∙ now k lt in_lanes)
 
 pub first_on_pin : (c : List Statement) (tests : List Test) (group : ℕ) (f : Fault) (good : List ℕ)
     (lanes : ℕ) (delta : List ℕ) (start pin diff : ℕ) (kind : Kind) (pins : List ℕ)
     → IsWellFormed c → AreWords c tests group None good → f.line ≡ line.Pin start pin
-        → start < length delta → (Reads c start start → ⊥) → gate_of c start ≡ Some (kind, pins)
+    → start < length delta → (Reads c start start → ⊥) → gate_of c start ≡ Some (kind, pins)
     → ((k : ℕ) → k < 128 → lane lanes k ≡ true
-        → lane (bit_xor (slice_index_or good start 0) diff) k ≡ value kind
-        (pin_bits (Some f) start pins good delta k))
+    → lane (bit_xor (slice_index_or good start 0) diff) k ≡ value kind
+    (pin_bits (Some f) start pins good delta k))
     → IsFirstChange c tests group (λ _. f) good lanes delta start diff
 first_on_pin c tests group f good lanes delta start pin diff kind pins well words on within loop is
     now = record {
-  words = words;
-  elsewhere = λ t k ne. record {
-    stem = λ e. let same : line.Pin start pin ≡ line.Stem t = sym on ∙ e in cc;
-    pin = λ p e. let same : line.Pin start pin ≡ line.Pin t p = sym on ∙ e in
-        let is : start ≡ t = cc in ne (sym is);
-  };
-  unobserved = λ o k. unobserved c f (line.Pin start pin) well on
-      (λ p there. (observes c p well there).no_pin_line start pin) o;
-  first = λ k lt in_lanes. equation_of c (test_of tests group k) (Some f) good delta
-      (set delta start diff) start k kind pins well loop is
-      (λ s ne. word_other good delta start diff s k ne)
-      (ap (λ d. lane (bit_xor (slice_index_or good start 0) d) k)
+      words = words;
+      elsewhere = λ t k ne. record {
+        stem = λ e. let same : line.Pin start pin ≡ line.Stem t = sym on ∙ e in cc;
+        pin = λ p e. let same : line.Pin start pin ≡ line.Pin t p = sym on ∙ e in
+            let is : start ≡ t = cc in ne (sym is);
+      };
+      unobserved = λ o k. unobserved c f (line.Pin start pin) well on
+          (λ p there. (observes c p well there).no_pin_line start pin) o;
+      first = λ k lt in_lanes. equation_of c (test_of tests group k) (Some f) good delta
+          (set delta start diff) start k kind pins well loop is
+          (λ s ne. word_other good delta start diff s k ne)
+          (ap (λ d. lane (bit_xor (slice_index_or good start 0) d) k)
           (get_or-set_same delta start diff 0 within)
-      ∙ (now k lt in_lanes ∙ sym (under_other f (line.Stem start) _
+          ∙ (now k lt in_lanes ∙ sym (under_other f (line.Stem start) _
           (λ e. let same : line.Pin start pin ≡ line.Stem start = sym on ∙ e in cc))));
-}
+    }
 
 -- the same out of the word of the signal that the line carries
 pub stem_change : (c : List Statement) (tests : List Test) (group : ℕ) (f : Fault) (good : List ℕ)
     (lanes : ℕ) (delta : List ℕ) (start number word : ℕ) → IsWellFormed c
     → AreWords c tests group None good
     → f.line ≡ line.Stem start → start < length delta → number ≡ start
-        → ((k : ℕ) → k < 128 → lane word k ≡ f.stuck)
+    → ((k : ℕ) → k < 128 → lane word k ≡ f.stuck)
     → IsFirstChange c tests group (λ _. f) good lanes delta start
-        (bit_and (bit_xor word (slice_index_or good number 0)) lanes)
+    (bit_and (bit_xor word (slice_index_or good number 0)) lanes)
 stem_change c tests group f good lanes delta start number word well words on within same stuck =
     subst (λ x. IsFirstChange c tests group (λ _. f) good lanes delta start
-        (bit_and (bit_xor word (slice_index_or good x 0)) lanes)) (sym same)
+    (bit_and (bit_xor word (slice_index_or good x 0)) lanes)) (sym same)
     (first_on_stem c tests group (λ _. f) good lanes delta start
-        (bit_and (bit_xor word (slice_index_or good start 0)) lanes) well (λ _. on) within words
+    (bit_and (bit_xor word (slice_index_or good start 0)) lanes) well (λ _. on) within words
     (λ k lt in_lanes. changed_to word (slice_index_or good start 0) lanes k in_lanes ∙ stuck k lt))
 
 -- the lanes in which the code sees the line turned
 pub turned_is : (c : List Statement) (f : Fault) (good : List ℕ) (lanes number word : ℕ) (n : Name)
     → number ≡ signal c n → ((k : ℕ) → k < 128 → lane word k ≡ f.stuck)
     → (k : ℕ) → k < 128 → Decides
-        (lane (bit_and (bit_xor word (slice_index_or good number 0)) lanes) k)
-        ((lane lanes k ≡ true) × (lane_bits c good k n ≢ f.stuck))
+    (lane (bit_and (bit_xor word (slice_index_or good number 0)) lanes) k)
+    ((lane lanes k ≡ true) × (lane_bits c good k n ≢ f.stuck))
 turned_is c f good lanes number word n is stuck k lt =
     subst (λ x. Decides (lane (bit_and (bit_xor word (slice_index_or good number 0)) lanes) k)
-        ((lane lanes k ≡ true) × (lane (slice_index_or good x 0) k ≢ f.stuck))) is
+    ((lane lanes k ≡ true) × (lane (slice_index_or good x 0) k ≢ f.stuck))) is
     (turned_lanes word (slice_index_or good number 0) lanes k f.stuck (stuck k lt))

@@ -54,7 +54,7 @@ one_class_stem m c class r q a b =
     let faults : Some b.0 ≡ Some a.0 = sym b.1 ∙ a.1 in
     let same : b.0 ≡ a.0 = cc in
     let ways : Some b.2.0 ≡ Some a.2.0 = sym b.2.1 ∙ (ap (λ (f : Fault). way_from c f.line) same
-        ∙ a.2.1) in
+    ∙ a.2.1) in
     let one : b.2.0 ≡ a.2.0 = cc in
     one_stem_law c a.2.0 r q a.2.2 (subst (IsStemOf c q) one b.2.2)
 
@@ -75,11 +75,11 @@ module _ (c : List Statement) (well : IsWellFormed c) where
   above s g r =
       let gate = among c _ r.gate in
       let low : number s ≡ well.acyclic.0 r.read = level_named c well.acyclic.0 r.read s
-          (read_named c _ r.read well gate (among r.args r.read r.reads)) r.of in
+      (read_named c _ r.read well gate (among r.args r.read r.reads)) r.of in
       let high : number g ≡ well.acyclic.0 r.name = level_named c well.acyclic.0 r.name g
-          (contained (names c) r.name (defined_among c _ r.name gate refl)) r.number in
+      (contained (names c) r.name (defined_among c _ r.name gate refl)) r.number in
       let lower : well.acyclic.0 r.read < well.acyclic.0 r.name =
-          well.acyclic.1 r.name r.read (r.kind, r.args, r.gate, r.reads) in
+      well.acyclic.1 r.name r.read (r.kind, r.args, r.gate, r.reads) in
       omega (arith, low, high, lower)
 
   some_from : (fuel s : ℕ) → s < length (names c)
@@ -122,10 +122,16 @@ module _ (c : List Statement) (well : IsWellFormed c) where
           → (s : ℕ) × (way_from c l ≡ Some s) × (s < length (names c))
       go (line.Stem r) n e named = (r, refl, place_within (names c) r n e)
       go (line.Pin g p) n e named = (g, refl, gate_within c g p n e)
-      go (line.Data cell) n e named = (signal c n, ap (option_map (signal c)) e,
-          place_within (names c) (signal c n) n (name_of-signal c n named))
-      go (line.Out o) n e named = (signal c n, ap (option_map (signal c)) e,
-          place_within (names c) (signal c n) n (name_of-signal c n named))
+      go (line.Data cell) n e named = (
+        signal c n,
+        ap (option_map (signal c)) e,
+        place_within (names c) (signal c n) n (name_of-signal c n named),
+      )
+      go (line.Out o) n e named = (
+        signal c n,
+        ap (option_map (signal c)) e,
+        place_within (names c) (signal c n) n (name_of-signal c n named),
+      )
 
 pub some_stem_law : (c : List Statement) → IsWellFormed c → SomeStemLaw c
 some_stem_law c well s lt = some_stem c well s lt
@@ -137,7 +143,7 @@ pub class_has_stem : (m : Model) (c : List Statement) → IsWellFormed c → Som
 class_has_stem m c well class lt =
     let f = within_place (representatives m c) class lt in
     let listed = contained (faults m c) f.0
-        (filtered_from _ (faults m c) f.0 (at_place (representatives m c) class f.0 f.1)).0 in
+    (filtered_from _ (faults m c) f.0 (at_place (representatives m c) class f.0 f.1)).0 in
     let way = way_of c well m f.0 listed in
     let stem = some_stem c well way.0 way.2 in
     (stem.0, stem.1, (f.0, f.1, (way.0, way.1, stem.2)))
@@ -149,80 +155,81 @@ StemsFrom c order stems place = (i : ℕ) → place ≤ i → i < length order
     → HasStem c stems (slice_index_or order i 0)
 
 module _ (c : List Statement) (well : IsWellFormed c) (order : List ℕ) (is : IsLevelOrder c order)
-    where
-  -- a gate stands behind what it reads
-  pub behind : (p k g : ℕ) → p < length order → k < length order → slice_index_or order k 0 ≡ g
-      → Reads c g (slice_index_or order p 0) → p < k
-  behind p k g within inside at r = go (cases_order p k)
-    where
-      go : (p ≡ k) ⊎ ((p < k) ⊎ (k < p)) → p < k
-      go (inl same) = absurd (no_loop c g well
-          (subst (Reads c g) (ap (λ i. slice_index_or order i 0) same ∙ at) r))
-      go (inr (inl lt)) = lt
-      go (inr (inr before)) =
-          let wrong : GoesBefore c (slice_index_or order k 0) (slice_index_or order p 0) =
-              is.ordered k p 0 before within in
-          let moved : GoesBefore c (signal c r.name) (signal c r.read) =
-              subst (λ x. GoesBefore c x (signal c r.read)) (at ∙ sym r.number)
-              (subst (GoesBefore c (slice_index_or order k 0)) (sym r.of) wrong) in
-          absurd (not_before c well r.name r.read r.kind r.args (among c _ r.gate)
-              (among r.args r.read r.reads) moved)
+  where
+    -- a gate stands behind what it reads
+    pub behind : (p k g : ℕ) → p < length order → k < length order → slice_index_or order k 0 ≡ g
+        → Reads c g (slice_index_or order p 0) → p < k
+    behind p k g within inside at r = go (cases_order p k)
+      where
+        go : (p ≡ k) ⊎ ((p < k) ⊎ (k < p)) → p < k
+        go (inl same) = absurd (no_loop c g well
+            (subst (Reads c g) (ap (λ i. slice_index_or order i 0) same ∙ at) r))
+        go (inr (inl lt)) = lt
+        go (inr (inr before)) =
+            let wrong : GoesBefore c (slice_index_or order k 0) (slice_index_or order p 0) =
+            is.ordered k p 0 before within in
+            let moved : GoesBefore c (signal c r.name) (signal c r.read) =
+            subst (λ x. GoesBefore c x (signal c r.read)) (at ∙ sym r.number)
+            (subst (GoesBefore c (slice_index_or order k 0)) (sym r.of) wrong) in
+            absurd (not_before c well r.name r.read r.kind r.args (among c _ r.gate)
+            (among r.args r.read r.reads) moved)
 
-  -- so its stem is known
-  pub reader_known : (stems : List ℕ) (place g : ℕ) → 0 < place → place ≤ length order
-      → StemsFrom c order stems place
-      → lone_reader c (slice_index_or order (place - 1) 0) ≡ Some g → HasStem c stems g
-  reader_known stems place g some low known h =
-      let there = is.all g (lone_within c well (slice_index_or order (place - 1) 0) g h) in
-      let at : slice_index_or order there.0 0 ≡ g = get_or_default order there.0 0 g there.1
-          ∙ there.2 in
-      let lt = behind (place - 1) there.0 g (omega (arith, some, low)) there.1 at
-          (pin_law c well (slice_index_or order (place - 1) 0) g h).reads in
-      subst (HasStem c stems) at (known there.0 (omega (arith, lt)) there.1)
+    -- so its stem is known
+    pub reader_known : (stems : List ℕ) (place g : ℕ) → 0 < place → place ≤ length order
+        → StemsFrom c order stems place
+        → lone_reader c (slice_index_or order (place - 1) 0) ≡ Some g → HasStem c stems g
+    reader_known stems place g some low known h =
+        let there = is.all g (lone_within c well (slice_index_or order (place - 1) 0) g h) in
+        let at : slice_index_or order there.0 0 ≡ g = get_or_default order there.0 0 g there.1
+        ∙ there.2 in
+        let lt = behind (place - 1) there.0 g (omega (arith, some, low)) there.1 at
+        (pin_law c well (slice_index_or order (place - 1) 0) g h).reads in
+        subst (HasStem c stems) at (known there.0 (omega (arith, lt)) there.1)
 
-  pub stems_more : (stems : List ℕ) (place stem : ℕ) → 0 < place → place ≤ length order
-      → length stems ≡ length (names c) → StemsFrom c order stems place
-      → stem < length (names c) → IsStemOf c stem (slice_index_or order (place - 1) 0)
-          → StemsFrom c order (set stems (slice_index_or order (place - 1) 0) stem) (place - 1)
-  stems_more stems place stem some low room known within now i from inside =
-      go (cases_eq (slice_index_or order i 0) (slice_index_or order (place - 1) 0))
-    where
-      inner : slice_index_or order (place - 1) 0 < length stems
-      inner = let lt = order_within c order (place - 1) is (omega (arith, some, low)) in
-          omega (arith, lt, room)
+    pub stems_more : (stems : List ℕ) (place stem : ℕ) → 0 < place → place ≤ length order
+        → length stems ≡ length (names c) → StemsFrom c order stems place
+        → stem < length (names c) → IsStemOf c stem (slice_index_or order (place - 1) 0)
+        → StemsFrom c order (set stems (slice_index_or order (place - 1) 0) stem) (place - 1)
+    stems_more stems place stem some low room known within now i from inside =
+        go (cases_eq (slice_index_or order i 0) (slice_index_or order (place - 1) 0))
+      where
+        inner : slice_index_or order (place - 1) 0 < length stems
+        inner = let lt = order_within c order (place - 1) is (omega (arith, some, low)) in
+            omega (arith, lt, room)
 
-      go : (slice_index_or order i 0 ≡ slice_index_or order (place - 1) 0)
-          ⊎ (slice_index_or order i 0 ≢ slice_index_or order (place - 1) 0)
-          → HasStem c (set stems (slice_index_or order (place - 1) 0) stem)
-              (slice_index_or order i 0)
-      go (inl same) = subst (HasStem c (set stems (slice_index_or order (place - 1) 0) stem))
-          (sym same)
-          (subst (λ x. (x < length (names c)) × IsStemOf c x (slice_index_or order (place - 1) 0))
-              (sym (get_or-set_same stems (slice_index_or order (place - 1) 0) stem 0 inner))
-              (within, now))
-      go (inr other) = subst (λ x. (x < length (names c)) × IsStemOf c x (slice_index_or order i 0))
-          (sym (get_or-set_other stems (slice_index_or order (place - 1) 0)
-          (slice_index_or order i 0) stem 0 other))
-          (known i (by (cases_order (place - 1) i)) inside)
-        where
-          by : (place - 1 ≡ i) ⊎ ((place - 1 < i) ⊎ (i < place - 1)) → place ≤ i
-          by (inl e) = absurd (other (ap (λ x. slice_index_or order x 0) (sym e)))
-          by (inr (inl lt)) = omega (arith, lt)
-          by (inr (inr gt)) = absurd (omega (arith, gt, from))
+        go : (slice_index_or order i 0 ≡ slice_index_or order (place - 1) 0)
+            ⊎ (slice_index_or order i 0 ≢ slice_index_or order (place - 1) 0)
+            → HasStem c (set stems (slice_index_or order (place - 1) 0) stem)
+            (slice_index_or order i 0)
+        go (inl same) = subst (HasStem c (set stems (slice_index_or order (place - 1) 0) stem))
+            (sym same)
+            (subst (λ x. (x < length (names c)) × IsStemOf c x (slice_index_or order (place - 1) 0))
+            (sym (get_or-set_same stems (slice_index_or order (place - 1) 0) stem 0 inner))
+            (within, now))
+        go (inr other) = subst (λ x. (x < length (names c))
+            × IsStemOf c x (slice_index_or order i 0))
+            (sym (get_or-set_other stems (slice_index_or order (place - 1) 0)
+            (slice_index_or order i 0) stem 0 other))
+            (known i (by (cases_order (place - 1) i)) inside)
+          where
+            by : (place - 1 ≡ i) ⊎ ((place - 1 < i) ⊎ (i < place - 1)) → place ≤ i
+            by (inl e) = absurd (other (ap (λ x. slice_index_or order x 0) (sym e)))
+            by (inr (inl lt)) = omega (arith, lt)
+            by (inr (inr gt)) = absurd (omega (arith, gt, from))
 
-  pub stems_all : (stems : List ℕ) → StemsFrom c order stems 0 → (s : ℕ) → s < length (names c)
-      → HasStem c stems s
-  stems_all stems known s lt =
-      let there = is.all s lt in
-      subst (HasStem c stems) (get_or_default order there.0 0 s there.1 ∙ there.2)
-          (known there.0 (omega arith) there.1)
+    pub stems_all : (stems : List ℕ) → StemsFrom c order stems 0 → (s : ℕ) → s < length (names c)
+        → HasStem c stems s
+    stems_all stems known s lt =
+        let there = is.all s lt in
+        subst (HasStem c stems) (get_or_default order there.0 0 s there.1 ∙ there.2)
+        (known there.0 (omega arith) there.1)
 
 -- ---- the stems of classes
 module _ (m : Model) (c : List Statement) (well : IsWellFormed c) (list : FaultList)
     (classes : Collapsed) (class k : ℕ) (l : Line) (are : AreClassesOf m c classes)
     (same : list ≡ fault_list m c)
     (at : slice_get classes.representative class ≡ Some k)
-        (on : IfSome (slice_get list.list k) (λ f. l ≡ f.line)) where
+    (on : IfSome (slice_get list.list k) (λ f. l ≡ f.line)) where
   found : (r : Fault) × (slice_get (faults m c) k ≡ Some r)
       × (slice_get (representatives m c) class ≡ Some r)
   found = representative_at m c classes class k are at
@@ -254,5 +261,7 @@ stems_push m c stems class r count known within now x q at = go (pushed_get stem
     go : (slice_get stems x ≡ Some q) ⊎ ((x ≡ length stems) × (r ≡ q)) → (q < length (names c))
         × IsStemOfClass m c x q
     go (inl h) = known x q h
-    go (inr h) = subst (λ y. (y < length (names c)) × IsStemOfClass m c x y) h.1 (within,
-        subst (λ y. IsStemOfClass m c y r) (sym count ∙ sym h.0) now)
+    go (inr h) = subst (λ y. (y < length (names c)) × IsStemOfClass m c x y) h.1 (
+      within,
+      subst (λ y. IsStemOfClass m c y r) (sym count ∙ sym h.0) now,
+    )

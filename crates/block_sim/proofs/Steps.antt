@@ -29,8 +29,8 @@ pub no_change : (word good lanes k : ℕ) → bit_and (bit_xor word good) lanes 
     → lane lanes k ≡ true → lane good k ≡ lane word k
 no_change word good lanes k e in_lanes = equal (lane word k) (lane good k) (lane lanes k)
     (ap (λ b. b && lane lanes k) (sym (lane_xor word good k))
-        ∙ (sym (lane_and (bit_xor word good) lanes k) ∙ (ap (λ d. lane d k) e ∙ lane_zero k)))
-        in_lanes
+    ∙ (sym (lane_and (bit_xor word good) lanes k) ∙ (ap (λ d. lane d k) e ∙ lane_zero k)))
+    in_lanes
 
 pub left_of : (a b : Bool) → (a && b) ≡ true → a ≡ true
 left_of true b e = refl
@@ -56,7 +56,7 @@ pub changed_to : (word good lanes k : ℕ) → lane lanes k ≡ true
 changed_to word good lanes k in_lanes =
     lane_xor good (bit_and (bit_xor word good) lanes) k
     ∙ (ap (unlike (lane good k)) (lane_and (bit_xor word good) lanes k
-        ∙ ap (λ b. b && lane lanes k) (lane_xor word good k))
+    ∙ ap (λ b. b && lane lanes k) (lane_xor word good k))
     ∙ turned (lane word k) (lane good k) (lane lanes k) in_lanes)
 
 -- a word that is not 0 has a lane
@@ -77,8 +77,8 @@ left_out lanes seen low k within lt is in_lanes out = go (cases_lt k (trailing_z
         → (j : ℕ) × (j ≤ k) × (lane seen j ≡ true)
     go (inl below) z =
         let kept : lane (bit_and lanes low) k ≡ true = lane_and lanes low k
-            ∙ both (lane lanes k) (lane low k) in_lanes (is k lt
-            ∙ lt-ltb k (trailing_zeros w128 seen) below) in
+        ∙ both (lane lanes k) (lane low k) in_lanes (is k lt
+        ∙ lt-ltb k (trailing_zeros w128 seen) below) in
         absurd (false≢true (sym out ∙ kept))
       where
         both : (a b : Bool) → a ≡ true → b ≡ true → (a && b) ≡ true
@@ -87,8 +87,10 @@ left_out lanes seen low k within lt is in_lanes out = go (cases_lt k (trailing_z
     go (inr above) (inl zero_is) = let all : trailing_zeros w128 seen ≡ 128 =
         ap (trailing_zeros w128) zero_is ∙ trailing_of_zero 128 in
         absurd (omega (arith, above, all, lt))
-    go (inr above) (inr ne) = let found = bit_at-trailing_zeros w128 seen (omega (arith,
-        ne)) within in (trailing_zeros w128 seen, above, ap (λ x. x == 1) found.1)
+    go (inr above) (inr ne) = let found = bit_at-trailing_zeros w128 seen (omega (
+      arith,
+      ne,
+    )) within in (trailing_zeros w128 seen, above, ap (λ x. x == 1) found.1)
 
 -- the lanes, of those that are asked for, in which a word is not one bit
 pub turned_lanes : (word good lanes k : ℕ) (b : Bool) → lane word k ≡ b

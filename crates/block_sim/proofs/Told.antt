@@ -34,20 +34,20 @@ module _ (c : List Statement) (tests : List Test) (span : Span) (f : Fault) (lan
         let d = (decides k lt).0 h.0 in
         let at = within_place tests (128 * group_of span + k) d.0.listed in
         let same : test_of tests (group_of span) k ≡ at.0 =
-            index_of tests (128 * group_of span + k) at.0 [] at.1 in
+        index_of tests (128 * group_of span + k) at.0 [] at.1 in
         (d.0, (at.0, at.1, subst (λ t. Detects c t f) same h.1, d.1));
     clear = λ k lt own unseen unsettled d.
         let same : test_of tests (group_of span) k ≡ d.0 =
-            index_of tests (128 * group_of span + k) d.0 [] d.1 in
+        index_of tests (128 * group_of span + k) d.0 [] d.1 in
         clear k lt ((decides k lt).1 (own, d.3)) unseen unsettled
-            (subst (λ t. Detects c t f) (sym same) d.2);
+        (subst (λ t. Detects c t f) (sym same) d.2);
   }
 
 module _ (c : List Statement) (tests : List Test) (block : ℕ) (f : Fault) (settled : ℕ
     → Type 0) (word own : ℕ)
     (told : AreTold c tests (one_block block) f settled word)
     (half : (k j : ℕ) → k < 64 → 64 * block + k ≡ 128 * (block / 2) + j
-        → lane own k ≡ lane word j) where
+    → lane own k ≡ lane word j) where
   -- a lane of the block, in the word of its group
   abbrev place : ℕ → ℕ
   place k = 64 * block + k - 128 * (block / 2)
@@ -66,7 +66,7 @@ module _ (c : List Statement) (tests : List Test) (block : ℕ) (f : Fault) (set
       × DetectsAt c tests f (64 * block + k)
   found k lt e =
       subst (λ t. IsInSpan (length tests) (one_block block) t × DetectsAt c tests f t)
-          (sym (at_place k))
+      (sym (at_place k))
       (told.found (place k) (low k lt) (sym (same k lt) ∙ e))
 
   clear : (k : ℕ) → k < 64 → lane own k ≡ false → (settled (place k) → ⊥)
@@ -75,8 +75,11 @@ module _ (c : List Statement) (tests : List Test) (block : ℕ) (f : Fault) (set
       let listed = place_within tests (64 * block + k) d.0 d.1 in
       let here = at_place k in
       told.clear (place k) (low k lt)
-      (record { from = omega (arith, here); to = omega (arith, here, lt);
-          listed = omega (arith, here, listed) })
+      (record {
+        from = omega (arith, here);
+        to = omega (arith, here, lt);
+        listed = omega (arith, here, listed);
+      })
       (sym (same k lt) ∙ e) unsettled (subst (DetectsAt c tests f) here d)
 
   within_word : (k : ℕ) → k < size_of (length tests) block → k < 64
@@ -89,10 +92,12 @@ module _ (c : List Statement) (tests : List Test) (block : ℕ) (f : Fault) (set
       let from = (told.found j (let up = low k lt in omega (arith, up, le)) e).0.from in
       let here = at_place k in
       let there : 64 * block + (128 * (block / 2) + j - 64 * block) ≡ 128 * (block / 2) + j =
-          omega (arith, from) in
-      let down : 128 * (block / 2) + j - 64 * block ≤ k = omega (arith, here, le, from) in
-      (128 * (block / 2) + j - 64 * block, down,
-          half (128 * (block / 2) + j - 64 * block) j (omega (arith, down, lt)) there ∙ e)
+      omega (arith, from) in
+      let down : 128 * (block / 2) + j - 64 * block ≤ k = omega (arith, here, le, from) in (
+        128 * (block / 2) + j - 64 * block,
+        down,
+        half (128 * (block / 2) + j - 64 * block) j (omega (arith, down, lt)) there ∙ e,
+      )
 
   -- where lanes are settled only at and above one that is 1, the least is the outcome
   pub outcome_of_lanes : ((k : ℕ) → k < 128 → settled k → (j : ℕ) × (j ≤ k) × (lane word j ≡ true))
@@ -101,7 +106,7 @@ module _ (c : List Statement) (tests : List Test) (block : ℕ) (f : Fault) (set
       let lt = within_word k few in
       clear k lt (none k lt)
       (λ x. let j = ends (place k) (low k lt) x in let i = seen_below k j.0 lt j.1 j.2 in
-          false≢true (sym (none i.0 (omega (arith, i.1, lt))) ∙ i.2)) d
+      false≢true (sym (none i.0 (omega (arith, i.1, lt))) ∙ i.2)) d
   outcome_of_lanes ends (Hit k) least =
       let d = found k least.0 least.1 in
       let listed = d.0.listed in
@@ -112,8 +117,8 @@ module _ (c : List Statement) (tests : List Test) (block : ℕ) (f : Fault) (set
             let in_word : lower < 64 = omega (arith, lt, bound) in
             clear lower in_word (least.2 lower lt)
             (λ x. let j = ends (place lower) (low lower in_word) x in
-                let i = seen_below lower j.0 in_word j.1 j.2 in
-                false≢true (sym (least.2 i.0 (omega (arith, i.1, lt))) ∙ i.2)) e,
+            let i = seen_below lower j.0 in_word j.1 j.2 in
+            false≢true (sym (least.2 i.0 (omega (arith, i.1, lt))) ∙ i.2)) e,
       )
 
   -- where none is settled, the word says of each lane whether its test detects the fault
@@ -136,5 +141,10 @@ stirred_on_block c tests block f lanes gates within all gate h =
     let listed = own.listed in
     let k = 128 * (block / 2) + h.0 - 64 * block in
     let place : 128 * (block / 2) + h.0 ≡ 64 * block + k = omega (arith, from) in
-    all gate (k, h.1, omega (arith, to, listed, from),
-        subst (λ t. slice_get tests t ≡ Some h.1) place h.4, h.5)
+    all gate (
+      k,
+      h.1,
+      omega (arith, to, listed, from),
+      subst (λ t. slice_get tests t ≡ Some h.1) place h.4,
+      h.5,
+    )

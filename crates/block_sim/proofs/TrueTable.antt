@@ -139,11 +139,13 @@ module _ (c : List Statement) (tests : List Test) (well : IsWellFormed c) where
   outcome_from : (m : Model) (f : Fault) (b n k : ℕ) → Contains (faults m c) f
       → k + n ≡ size_of (length tests) b
       → ((lower : ℕ) → lower < k → DetectsAt c tests f (64 * b + lower) → ⊥)
-          → (o : Outcome) × IsOutcome c tests f b o
+      → (o : Outcome) × IsOutcome c tests f b o
   outcome_from m f b zero k listed e none = (Clear, λ j lt d. none j (omega (arith, e, lt)) d)
   outcome_from m f b (suc n) k listed e none =
-      go (at_or m f (64 * b + k) listed) (λ not. outcome_from m f b n (k + 1) listed (omega (arith,
-      e)) (more not))
+      go (at_or m f (64 * b + k) listed) (λ not. outcome_from m f b n (k + 1) listed (omega (
+        arith,
+        e,
+      )) (more not))
     where
       more : (DetectsAt c tests f (64 * b + k) → ⊥) → (lower : ℕ) → lower < k + 1
           → DetectsAt c tests f (64 * b + lower) → ⊥
@@ -165,23 +167,26 @@ module _ (c : List Statement) (tests : List Test) (well : IsWellFormed c) where
       → slice_get (representatives m c) class ≡ Some r → Contains (faults m c) r
   class_listed m r class at =
       contained (faults m c) r (filtered_from (λ f. is_none (next c f)) (faults m c) r
-          (at_place (representatives m c) class r at)).0
+      (at_place (representatives m c) class r at)).0
 
   abbrev class_outcome : (m : Model) (class block : ℕ) → (o : Option Fault)
       → slice_get (representatives m c) class ≡ o → Outcome
   class_outcome m class block None at = Clear
   class_outcome m class block (Some r) at =
       (outcome_from m r block (size_of (length tests) block) 0 (class_listed m r class at)
-          (omega arith) (λ lower lt d. absurd (omega (arith, lt)))).0
+      (omega arith) (λ lower lt d. absurd (omega (arith, lt)))).0
 
   class_true : (m : Model) (class block : ℕ) (r : Fault) (o : Option Fault)
       (at : slice_get (representatives m c) class ≡ o)
       → slice_get (representatives m c) class ≡ Some r
       → IsTrueOutcome m c tests class block (class_outcome m class block o at)
   class_true m class block r None at is = let bad : None ≡ Some r = sym at ∙ is in absurd (cc)
-  class_true m class block r (Some f) at is =
-      (f, at, (outcome_from m f block (size_of (length tests) block) 0 (class_listed m f class at)
-          (omega arith) (λ lower lt d. absurd (omega (arith, lt)))).1)
+  class_true m class block r (Some f) at is = (
+    f,
+    at,
+    (outcome_from m f block (size_of (length tests) block) 0 (class_listed m f class at)
+        (omega arith) (λ lower lt d. absurd (omega (arith, lt)))).1,
+  )
 
 -- which tests detect the representative of a class
 pub which_detect : (m : Model) (c : List Statement) (tests : List Test) (class : ℕ) (r : Fault)

@@ -47,7 +47,7 @@ one_way c here p here l = refl
 one_way c here p (onward {g = g} h y) l = let bad : None ≡ Some g = sym p ∙ h in cc
 one_way c (onward {g = g} h x) p y l =
     let rest = one_less c g l h y in let same = one_way c x p rest.0 l in let more = rest.1 in
-        omega (arith, same, more)
+    omega (arith, same, more)
 
 one_signal_way : (c : List Statement) (s n k : ℕ) → IsWay c s n → IsWay c s k → n ≡ k
 one_signal_way c s n k a b = sym a.2 ∙ (one_way c a.1.0 a.1.1 b.1.0 b.1.1 ∙ b.2)
@@ -74,7 +74,7 @@ some_line_way c r (line.Stem s) h =
 some_line_way c r (line.Pin gate pin) h =
     let from : Some gate ≡ Some h.0 = h.1 in let same : gate ≡ h.0 = cc in
     let chain = subst (IsStemOf c r) (sym same) h.2 in
-        (steps chain.0 + 1, (steps chain.0, (r, chain, refl), refl))
+    (steps chain.0 + 1, (steps chain.0, (r, chain, refl), refl))
 some_line_way c r (line.Data cell) h = (0, refl)
 some_line_way c r (line.Out output) h = (0, refl)
 
@@ -87,8 +87,10 @@ class_has_way m c well class lt =
 
 -- the first of some blocks is one of them
 pub between_first : (first last : ℕ) → first ≤ last → is_between first last first ≡ true
-between_first first last le = rw (lt-ltb first (first + 1) (omega arith),
-    lt-ltb first (last + 1) (omega (arith, le))) refl
+between_first first last le = rw (
+  lt-ltb first (first + 1) (omega arith),
+  lt-ltb first (last + 1) (omega (arith, le)),
+) refl
 
 -- ---- one memo more
 enumerate_set : (n : ℕ) (memos : List Memo) (i : ℕ) (memo : Memo)
@@ -100,7 +102,7 @@ enumerate_set n (m ∷ memos) zero memo = let e : n ≡ n + 0 = omega arith in
 enumerate_set n (m ∷ memos) (suc i) memo =
     let e : n + 1 + i ≡ n + suc i = omega arith in
     ap (λ l. (n, m) ∷ l) (enumerate_set (n + 1) memos i memo
-        ∙ ap (λ x. set (enumerate_from (n + 1) memos) i (x, memo)) e)
+    ∙ ap (λ x. set (enumerate_from (n + 1) memos) i (x, memo)) e)
 
 module _ (way : ℕ → ℕ) (block : ℕ) (memos : List Memo) (class : ℕ) (memo : Memo)
     (within : class < length memos) where
@@ -110,23 +112,29 @@ module _ (way : ℕ → ℕ) (block : ℕ) (memos : List Memo) (class : ℕ) (me
   abbrev before : Memo
   before = slice_index_or memos class Nothing
 
-  moved : known_ways way block (set memos class memo) + one (class,
-      before) ≡ known_ways way block memos + one (class, memo)
+  moved : known_ways way block (set memos class memo) + one (
+    class,
+    before,
+  ) ≡ known_ways way block memos + one (class, memo)
   moved =
       let zero : 0 + class ≡ class = omega arith in
       let long = length-enumerate_from 0 memos in
       let list = set (enumerate_from 0 memos) class (class, memo) in
       let sums : sum_by one list + one (slice_index_or (enumerate_from 0 memos) class (0, Nothing))
-          ≡ known_ways way block memos + one (class, memo) =
-      sum_by-set one (enumerate_from 0 memos) class (class, memo) (0,
-          Nothing) (omega (arith, within, long)) in
-      let at : one (slice_index_or (enumerate_from 0 memos) class (0, Nothing)) ≡ one (class,
-          before) =
+      ≡ known_ways way block memos + one (class, memo) =
+      sum_by-set one (enumerate_from 0 memos) class (class, memo) (
+        0,
+        Nothing,
+      ) (omega (arith, within, long)) in
+      let at : one (slice_index_or (enumerate_from 0 memos) class (0, Nothing)) ≡ one (
+        class,
+        before,
+      ) =
       ap one (get_or-enumerate_from 0 memos class (0, Nothing) within)
-          ∙ ap (λ x. one (x, before)) zero in
+      ∙ ap (λ x. one (x, before)) zero in
       let all : known_ways way block (set memos class memo) ≡ sum_by one list =
       ap (sum_by one) (enumerate_set 0 memos class memo)
-          ∙ ap (λ x. sum_by one (set (enumerate_from 0 memos) class (x, memo))) zero in
+      ∙ ap (λ x. sum_by one (set (enumerate_from 0 memos) class (x, memo))) zero in
       omega (arith, sums, at, all)
 
   module _ (is : is_on block memo ≡ true) where
@@ -162,21 +170,32 @@ span_within tests span block is first alone = go (cases_lt block 2)
     go (inl lt) =
         let own = alone lt in
         subst (λ b. span.last ≤ (if b then block else block / 2 * 2 + 1)) (sym (lt-ltb block 2 lt))
-            (omega (arith, own))
+        (omega (arith, own))
     go (inr le) =
         let one = is.one_group in
         subst (λ b. span.last ≤ (if b then block else block / 2 * 2 + 1)) (sym (le-ltb block 2 le))
-            (omega (arith, one, first))
+        (omega (arith, one, first))
 
 -- and stirs no more gates than they do
 pub stirred_wider : (c : List Statement) (tests : List Test) (span : Span) (block s : ℕ)
     (gates : List ℕ) → IsSpan (length tests) span → span.first ≡ block
     → (block < 2 → span.last ≡ block) → HasStirredByFlip c tests (span_from block) s gates
-        → HasStirredByFlip c tests span s gates
+    → HasStirredByFlip c tests span s gates
 stirred_wider c tests span block s gates is first alone all gate h =
     let own = h.3 in
     let from = own.from in
     let to = own.to in
     let last = span_within (length tests) span block is first alone in
-    all gate (h.0, h.1, h.2, record { from = omega (arith, from, first);
-        to = omega (arith, to, last); listed = own.listed }, h.4, h.5, h.6)
+    all gate (
+      h.0,
+      h.1,
+      h.2,
+      record {
+        from = omega (arith, from, first);
+        to = omega (arith, to, last);
+        listed = own.listed;
+      },
+      h.4,
+      h.5,
+      h.6,
+    )

@@ -43,7 +43,7 @@ pub record HasWoken (c : List Statement) (s : ℕ) (items : List Reader) (i : �
   pub only : (level : Name → ℕ) → AreLevels c level → (r : ℕ)
       → (slice_index_or at r 0 ≡ slice_index_or before r 0)
       ⊎ ((Reads c r s × IsLive c r) × (slice_index_or before r 0 ≡ 0)
-          × (slice_index_or at r 0 ≡ level_at c level r + 1))
+      × (slice_index_or at r 0 ≡ level_at c level r + 1))
 
 -- whether some of the first sinks is an observer's
 pub record HasObserver (c : List Statement) (s : ℕ) (items : List Sink) (i : ℕ)
@@ -54,12 +54,16 @@ pub record HasObserver (c : List Statement) (s : ℕ) (items : List Sink) (i : �
 
 pub woken_none : (c : List Statement) (s : ℕ) (items : List Reader) (at : List ℕ)
     → HasWoken c s items 0 at at
-woken_none c s items at = record { readers = λ j reader lt. absurd (omega (arith, lt));
-    only = λ level are r. inl refl }
+woken_none c s items at = record {
+  readers = λ j reader lt. absurd (omega (arith, lt));
+  only = λ level are r. inl refl;
+}
 
 pub observer_none : (c : List Statement) (s : ℕ) (items : List Sink) → HasObserver c s items 0 false
-observer_none c s items = record { some = λ e. absurd (false≢true e);
-    none = λ e j lt. absurd (omega (arith, lt)) }
+observer_none c s items = record {
+  some = λ e. absurd (false≢true e);
+  none = λ e j lt. absurd (omega (arith, lt));
+}
 
 pub at_end : (i j : ℕ) → j < i + 1 → (j < i) ⊎ (j ≡ i)
 at_end i j lt = go (cases_eq j i)
@@ -90,7 +94,7 @@ module _ (c : List Statement) (well : IsWellFormed c) (s : ℕ) (items : List Re
         readers j reader (inl below) is = h.readers j reader below is
         readers j reader (inr same) is =
             let here : own ≡ reader = sym is_own
-                ∙ index_of items i reader d (ap (slice_get items) (sym same) ∙ is) in
+            ∙ index_of items i reader d (ap (slice_get items) (sym same) ∙ is) in
             subst (λ (r : Reader). slice_index_or at r.gate 0 ≢ 0) here waits
 
     has : (Reads c own.gate s × IsLive c own.gate) × HasLevel c own.gate own.level
@@ -120,22 +124,25 @@ module _ (c : List Statement) (well : IsWellFormed c) (s : ℕ) (items : List Re
         readers j reader (inl below) is = stays reader.gate (h.readers j reader below is)
         readers j reader (inr same) is =
             let one : own ≡ reader = sym is_own
-                ∙ index_of items i reader d (ap (slice_get items) (sym same) ∙ is) in
-            subst (λ (r : Reader). slice_index_or after r.gate 0 ≢ 0) one (λ z. omega (arith, z,
-                here))
+            ∙ index_of items i reader d (ap (slice_get items) (sym same) ∙ is) in
+            subst (λ (r : Reader). slice_index_or after r.gate 0 ≢ 0) one (λ z. omega (
+              arith,
+              z,
+              here,
+            ))
 
         only : (levels : Name → ℕ) → AreLevels c levels → (r : ℕ) → (r ≡ own.gate) ⊎ (r ≢ own.gate)
             → (slice_index_or after r 0 ≡ slice_index_or before r 0)
             ⊎ ((Reads c r s × IsLive c r) × (slice_index_or before r 0 ≡ 0)
-                × (slice_index_or after r 0 ≡ level_at c levels r + 1))
+            × (slice_index_or after r 0 ≡ level_at c levels r + 1))
         only levels are_levels r (inl same) =
             let reads : Reads c r s × IsLive c r = subst (λ x. Reads c x s × IsLive c x)
-                (sym same) has.0 in
+            (sym same) has.0 in
             let old : slice_index_or at r 0 ≡ 0 = ap (λ x. slice_index_or at x 0) same ∙ idle in
             let now : slice_index_or after r 0 ≡ own.level + 1 =
-                ap (λ x. slice_index_or after x 0) same ∙ here in
+            ap (λ x. slice_index_or after x 0) same ∙ here in
             let up : level_at c levels r ≡ own.level = ap (level_at c levels) same
-                ∙ level_is c levels own.gate own.level well are_levels has.1 in
+            ∙ level_is c levels own.gate own.level well are_levels has.1 in
             inr (reads, was old (h.only levels are_levels r), now ∙ ap (λ x. x + 1) (sym up))
           where
             was : slice_index_or at r 0 ≡ 0 → (slice_index_or at r 0 ≡ slice_index_or before r 0)
@@ -153,8 +160,8 @@ module _ (c : List Statement) (well : IsWellFormed c) (s : ℕ) (items : List Re
                 ⊎ ((Reads c r s × IsLive c r) × (slice_index_or before r 0 ≡ 0)
                 × (slice_index_or at r 0 ≡ level_at c levels r + 1))
                 → (slice_index_or after r 0 ≡ slice_index_or before r 0)
-                    ⊎ ((Reads c r s × IsLive c r) × (slice_index_or before r 0 ≡ 0)
-                    × (slice_index_or after r 0 ≡ level_at c levels r + 1))
+                ⊎ ((Reads c r s × IsLive c r) × (slice_index_or before r 0 ≡ 0)
+                × (slice_index_or after r 0 ≡ level_at c levels r + 1))
             go (inl e) = inl (kept ∙ e)
             go (inr w) = inr (w.0, w.1, kept ∙ w.2)
 
@@ -165,12 +172,15 @@ module _ (c : List Statement) (well : IsWellFormed c) (s : ℕ) (items : List Re
   woken_all i before later level le are_levels h = record {
     readers = λ r reads live.
         let there = are.all r reads live in
-        let within : there.0 < length items = omega (arith, there.1,
-            length-map items (λ (reader : Reader). reader.gate)) in
+        let within : there.0 < length items = omega (
+          arith,
+          there.1,
+          length-map items (λ (reader : Reader). reader.gate),
+        ) in
         let at = within_place items there.0 within in
         let same : at.0.gate ≡ r = sym (gate_at items there.0 r at.0 at.1) ∙ there.2 in
         subst (λ g. slice_index_or later g 0 ≢ 0) same
-            (h.readers there.0 at.0 (omega (arith, within, le)) at.1);
+        (h.readers there.0 at.0 (omega (arith, within, le)) at.1);
     only = h.only level are_levels;
   }
 
@@ -210,8 +220,12 @@ module _ (c : List Statement) (well : IsWellFormed c) (s : ℕ) (n : Name)
       go : observed ≡ false → (j : ℕ) → (j < i) ⊎ (j ≡ i) → (gate : ℕ) × (pin : ℕ)
           × (slice_get items j ≡ Some (sink.Pin gate pin))
       go isnt j (inl below) = h.none isnt j below
-      go isnt j (inr same) = (gate, pin, ap (slice_get items) same
-          ∙ listed i (sink.Pin gate pin) d lt e)
+      go isnt j (inr same) = (
+        gate,
+        pin,
+        ap (slice_get items) same
+            ∙ listed i (sink.Pin gate pin) d lt e,
+      )
 
   observed_at : (k : Sink) → Among k (sinks c n) → ((gate pin : ℕ) → k ≢ sink.Pin gate pin)
       → IsObserved c s
@@ -220,8 +234,11 @@ module _ (c : List Statement) (well : IsWellFormed c) (s : ℕ) (n : Name)
       let r = data_reads c n i a in
       let p = placed (cells c) (r.q, n) (cell_among c r.q n r.stands) in
       ((sink.Data p.0, n), cell_observed c p.0 r.q n p.1, number)
-  observed_at (sink.Out i) a isnt = ((sink.Out i, n), output_observed c i n (out_reads c n i a),
-      number)
+  observed_at (sink.Out i) a isnt = (
+    (sink.Out i, n),
+    output_observed c i n (out_reads c n i a),
+    number,
+  )
 
   pub observer_found : (i : ℕ) (k d : Sink) → i < length items → slice_index_or items i d ≡ k
       → ((gate pin : ℕ) → k ≢ sink.Pin gate pin) → HasObserver c s items (i + 1) true
@@ -240,11 +257,11 @@ module _ (c : List Statement) (well : IsWellFormed c) (s : ℕ) (n : Name)
       never o =
           let w = observes c o.0 well o.1 in
           let is : Some o.0.1 ≡ Some n = sym (name_of-signal c o.0.1 w.named)
-              ∙ (ap (name_of c) o.2 ∙ named) in
+          ∙ (ap (name_of c) o.2 ∙ named) in
           let same : o.0.1 ≡ n = cc in
           let there = placed items w.reader
-              (subst (Among w.reader) (sym are)
-              (subst (λ m. Among w.reader (sinks c m)) same w.among_sinks)) in
+          (subst (Among w.reader) (sym are)
+          (subst (λ m. Among w.reader (sinks c m)) same w.among_sinks)) in
           let lt = place_within items there.0 w.reader there.1 in
           let pin = h.none refl there.0 (omega (arith, lt, le)) in
           let one : Some w.reader ≡ Some (sink.Pin pin.0 pin.1) = sym there.1 ∙ pin.2 in

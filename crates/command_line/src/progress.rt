@@ -11,8 +11,8 @@ use std::sync::atomic::{AtomicU64, Ordering};
 use std::sync::{Mutex, Wait};
 use std::thread::Threads;
 
-/// One piece in so many is watched: that of a class and a block whose numbers leave the same. A note
-/// of each piece would cost more than some pieces do.
+/// One piece in so many is watched: that of a class and a block whose numbers leave the same. A
+/// note of each piece would cost more than some pieces do.
 const EVERY: u32 = 64;
 
 /// How many watched pieces worker 0 passes from one look at the figure to the next. They stand for
@@ -49,8 +49,8 @@ impl Place {
         }
     }
 
-    /// Takes note of a piece on a block, of so many blocks. A worker goes over the classes of a part
-    /// block after block, so a block before the last is that of a new part.
+    /// Takes note of a piece on a block, of so many blocks. A worker goes over the classes of a
+    /// part block after block, so a block before the last is that of a new part.
     fn note(&self, block: u64, blocks: &AtomicU64) {
         let before = self.block.load(Ordering::SeqCst);
         if block > 0 && block == before {

@@ -121,8 +121,8 @@ fn the_last_line_ends_before_a_refusal(rt: HostRuntime) -> Result<(), Fail> {
     Ok(())
 }
 
-/// 3,199 gates that no output observes: of each its pin and itself are of the same two classes. With
-/// the input's that makes 6,400 classes, and no test detects one.
+/// 3,199 gates that no output observes: of each its pin and itself are of the same two classes.
+/// With the input's that makes 6,400 classes, and no test detects one.
 fn many_buffers(alloc: Global) -> Result<String, Fail> {
     let mut text = String::from_str(alloc, "INPUT(a)\n")?;
     for number in 0..3199 {

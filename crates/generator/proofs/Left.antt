@@ -20,9 +20,9 @@ pub left_within : (n : ℕ) (xs : List ℕ) (fs : List (Option ℕ)) → All (λ
     → All (λ x. x < n) (undetected xs fs)
 left_within n xs fs all =
     All-map (λ x. x < n) (λ (at : ℕ × Option ℕ). at.0) (filter (λ (at : ℕ × Option ℕ). is_none at.1)
-        (zip xs fs))
+    (zip xs fs))
     (All-filter (λ (at : ℕ × Option ℕ). is_none at.1) (λ at. at.0 < n) (zip xs fs)
-        (within_zip n xs fs all))
+    (within_zip n xs fs all))
 
 pub left_few : (xs : List ℕ) (fs : List (Option ℕ)) → length (undetected xs fs) ≤ length xs
 left_few xs fs =

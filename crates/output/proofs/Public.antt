@@ -57,8 +57,8 @@ pub flat_map_taken : {X : Type 0} (f : X → List ℕ) (xs : List X) (i : ℕ) (
     → flat_map f (take (i + 1) xs) ≡ flat_map f (take i xs) ++ y
 flat_map_taken f xs i d y h e =
     rw e (ap (λ l. flat_map f l) (take_more xs i d h)
-        ∙ (flat_map-append f (take i xs) (get_or xs i d ∷ [])
-        ∙ rw (append-nil (f (get_or xs i d))) refl))
+    ∙ (flat_map-append f (take i xs) (get_or xs i d ∷ [])
+    ∙ rw (append-nil (f (get_or xs i d))) refl))
 
 pub stopped_after : (x y : List ℕ) (a b c : Output) → TakesAll a b x → TakesFront b c y
     → TakesFront a c (x ++ y)

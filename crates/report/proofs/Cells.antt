@@ -11,21 +11,25 @@ use Rattle.bench_net.proofs.Public.{name_of-signal}
 -- what a list of stored cells has at a place where the cells of the circuit have q
 pub cell_at : (cs : List (Name × Name)) (rs : List ScanCell) (f : Name → ℕ) (i : ℕ) (d : ScanCell)
     → map {B = ℕ × ℕ} (λ cell. (cell.q, cell.d)) rs ≡ map (λ cell. (f cell.0, f cell.1)) cs
-        → i < length cs
+    → i < length cs
     → (q : Name) × (slice_get (map (λ qd. qd.0) cs) i ≡ Some q) × ((slice_index_or rs i d).q ≡ f q)
-        × Among q (map (λ qd. qd.0) cs)
+    × Among q (map (λ qd. qd.0) cs)
 cell_at [] rs f i d e h = absurd (omega (arith, h))
 cell_at (c ∷ cs) [] f i d e h = cc
 cell_at (c ∷ cs) (r ∷ rs) f zero d e h = (c.0, refl, ap (λ p. p.0) (first e), inl refl)
   where
-    first : (r.q, r.d) ∷ map {B = ℕ × ℕ} (λ cell. (cell.q, cell.d)) rs ≡ (f c.0,
-        f c.1) ∷ map (λ cell. (f cell.0, f cell.1)) cs → ◌≡◌ {A = ℕ × ℕ} (r.q, r.d) (f c.0, f c.1)
+    first : (r.q, r.d) ∷ map {B = ℕ × ℕ} (λ cell. (cell.q, cell.d)) rs ≡ (
+      f c.0,
+      f c.1,
+    ) ∷ map (λ cell. (f cell.0, f cell.1)) cs → ◌≡◌ {A = ℕ × ℕ} (r.q, r.d) (f c.0, f c.1)
     first e = cc
 cell_at (c ∷ cs) (r ∷ rs) f (suc i) d e h =
     let p = cell_at cs rs f i d (rest e) (omega (arith, h)) in (p.0, p.1, p.2, inr p.3)
   where
-    rest : (r.q, r.d) ∷ map {B = ℕ × ℕ} (λ cell. (cell.q, cell.d)) rs ≡ (f c.0,
-        f c.1) ∷ map (λ cell. (f cell.0, f cell.1)) cs
+    rest : (r.q, r.d) ∷ map {B = ℕ × ℕ} (λ cell. (cell.q, cell.d)) rs ≡ (
+      f c.0,
+      f c.1,
+    ) ∷ map (λ cell. (f cell.0, f cell.1)) cs
         → map {B = ℕ × ℕ} (λ cell. (cell.q, cell.d)) rs ≡ map (λ cell. (f cell.0, f cell.1)) cs
     rest e = cc
 
@@ -50,5 +54,5 @@ pub cell_signal : (c : List Statement) (q : Name) → Among q (map (λ qd. qd.0)
     → (signal c q < length (names c)) × (name_of c (signal c q) ≡ Some q)
 cell_signal c q a =
     let e : name_of c (signal c q) ≡ Some q =
-        name_of-signal c q (contained (names c) q (cell_is_named c q a)) in
-        (within (names c) (signal c q) q e, e)
+    name_of-signal c q (contained (names c) q (cell_is_named c q a)) in
+    (within (names c) (signal c q) q e, e)

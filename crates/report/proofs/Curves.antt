@@ -55,14 +55,25 @@ pub below_more : (firsts : List (Option ℕ)) (t : ℕ)
     → found_below firsts (t + 1) ≡ found_below firsts t + news_at firsts t
 below_more [] t = refl
 below_more (x ∷ xs) t =
-    omega (arith, below_more xs t, one_more t x, count_cons (is_below (t + 1)) x xs,
-        count_cons (is_below t) x xs, count_cons (is_first t) x xs)
+    omega (
+      arith,
+      below_more xs t,
+      one_more t x,
+      count_cons (is_below (t + 1)) x xs,
+      count_cons (is_below t) x xs,
+      count_cons (is_first t) x xs,
+    )
 
 pub found_by_is : (firsts : List (Option ℕ)) (t : ℕ)
     → found_by firsts t ≡ found_below firsts (t + 1)
 found_by_is [] t = refl
-found_by_is (x ∷ xs) t = omega (arith, found_by_is xs t, one_by t x,
-    count_cons (is_found_by t) x xs, count_cons (is_below (t + 1)) x xs)
+found_by_is (x ∷ xs) t = omega (
+  arith,
+  found_by_is xs t,
+  one_by t x,
+  count_cons (is_found_by t) x xs,
+  count_cons (is_below (t + 1)) x xs,
+)
 
 pub below_none : (firsts : List (Option ℕ)) → found_below firsts 0 ≡ 0
 below_none [] = refl
@@ -114,7 +125,7 @@ curve_last firsts t =
     ap (λ l. map (point_at firsts) (filter (finds firsts) l)) (tests_more t)
     ∙ (ap (λ l. map (point_at firsts) l) (filter-append (finds firsts) (below t) (t ∷ []))
     ∙ map-append (point_at firsts) (filter (finds firsts) (below t))
-        (filter (finds firsts) (t ∷ [])))
+    (filter (finds firsts) (t ∷ [])))
 
 pub curve_point : (firsts : List (Option ℕ)) (t : ℕ) → finds firsts t ≡ true
     → curve (t + 1) firsts ≡ curve t firsts ++ point_at firsts t ∷ []
@@ -137,8 +148,8 @@ pub news_more : (firsts : List (Option ℕ)) (t i : ℕ) (first : Option ℕ)
 news_more firsts t i first at =
     let lt : i < length firsts = place_within firsts i first at in
     sum_by_more (λ x. cond (is_first t x) 1 0) firsts i first lt
-        ∙ ap (λ x. news_at (take i firsts) t + counts_at t x)
-        (get_or_from_slice_get firsts i first first at)
+    ∙ ap (λ x. news_at (take i firsts) t + counts_at t x)
+    (get_or_from_slice_get firsts i first first at)
 
 -- what is left of a vector whose slice was written over
 pub written_over : (n : ℕ) (new old : List ℕ) → n ≡ length new → take n (new ++ old) ≡ new
@@ -147,9 +158,15 @@ written_over n new old e = ap (λ k. take k (new ++ old)) e ∙ take-append_seam
 -- the curve of a job of texts is that of the texts
 pub curve_of_texts : (m : Model) (bench text : List ℕ) (job : Parts) → IsJobOf m bench text job
     → (bytes : List ℕ) → IsCurveOfJob job bytes → IsCurveOf m bench text bytes
-curve_of_texts m bench text job is bytes of_job =
-    (job.circuit, job.tests, of_job.0, is.0, is.1,
-        subst (λ k. AreFirsts k job.circuit job.tests.tests of_job.0) is.3 of_job.1, of_job.2)
+curve_of_texts m bench text job is bytes of_job = (
+  job.circuit,
+  job.tests,
+  of_job.0,
+  is.0,
+  is.1,
+  subst (λ k. AreFirsts k job.circuit job.tests.tests of_job.0) is.3 of_job.1,
+  of_job.2,
+)
 
 pub curve_fault : (m : Model) (bench text : List ℕ) (workers : ℕ) (job : Parts)
     → IsJobWithin m bench text job → (f : SimFault) → IsCurveFault job workers f

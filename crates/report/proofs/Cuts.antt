@@ -10,8 +10,10 @@ use Rattle.report.specs.Cut.{IsCutFirst, IsCutLast, Lacks}
 pub lacks_from : (byte : ℕ) (text : List ℕ) → ((k : ℕ) → k < length text → get_or text k 0 ≢ byte)
     → Lacks byte text
 lacks_from byte [] each = tt
-lacks_from byte (b ∷ text) each = (each 0 (omega arith),
-    lacks_from byte text (λ k h. each (suc k) (omega (arith, h))))
+lacks_from byte (b ∷ text) each = (
+  each 0 (omega arith),
+  lacks_from byte text (λ k h. each (suc k) (omega (arith, h))),
+)
 
 pub lacks_append : (byte : ℕ) (xs ys : List ℕ) → Lacks byte xs → Lacks byte ys
     → Lacks byte (xs ++ ys)
@@ -34,7 +36,7 @@ lacks_not byte (x ∷ xs) ys p = lacks_not byte xs ys p.1
 -- the place of the first such byte
 pub cut_at_first : (byte : ℕ) (text : List ℕ) (at : ℕ) → at < length text → get_or text at 0 ≡ byte
     → ((k : ℕ) → k < at → get_or text k 0 ≢ byte)
-        → IsCutFirst byte text (take at text) (drop (at + 1) text)
+    → IsCutFirst byte text (take at text) (drop (at + 1) text)
 cut_at_first byte text at within here before = record {
   whole = rw (add-one) (subst (λ b. text ≡ take at text ++ b ∷ drop (suc at) text) here
       (split_at text at 0 within));
@@ -46,14 +48,17 @@ cut_at_first byte text at within here before = record {
 -- the place of the last such byte
 pub cut_at_last : (byte : ℕ) (text : List ℕ) (at : ℕ) → at < length text → get_or text at 0 ≡ byte
     → ((k : ℕ) → at + 1 ≤ k → k < length text → get_or text k 0 ≢ byte)
-        → IsCutLast byte text (take at text) (drop (at + 1) text)
+    → IsCutLast byte text (take at text) (drop (at + 1) text)
 cut_at_last byte text at within here after = record {
   whole = rw (add-one) (subst (λ b. text ≡ take at text ++ b ∷ drop (suc at) text) here
       (split_at text at 0 within));
   last = lacks_from byte (drop (at + 1) text) (λ k h.
       let e = get_or-drop (at + 1) text k 0 in
-      rw (get_or-drop (at + 1) text k 0) (after (at + 1 + k) (omega arith) (omega (arith, h,
-          length-drop (at + 1) text))));
+      rw (get_or-drop (at + 1) text k 0) (after (at + 1 + k) (omega arith) (omega (
+        arith,
+        h,
+        length-drop (at + 1) text,
+      ))));
 }
 
 -- the first such byte is at one place
@@ -74,10 +79,10 @@ pub cut_last : (byte : ℕ) (xs ys us vs : List ℕ) → Lacks byte ys → Lacks
 cut_last byte [] ys [] vs p q e = (refl, cc)
 cut_last byte [] ys (u ∷ us) vs p q e =
     let tail : ys ≡ us ++ byte ∷ vs = cc in
-        absurd (lacks_not byte us vs (subst (λ t. Lacks byte t) tail p))
+    absurd (lacks_not byte us vs (subst (λ t. Lacks byte t) tail p))
 cut_last byte (x ∷ xs) ys [] vs p q e =
     let tail : xs ++ byte ∷ ys ≡ vs = cc in
-        absurd (lacks_not byte xs ys (subst (λ t. Lacks byte t) (sym tail) q))
+    absurd (lacks_not byte xs ys (subst (λ t. Lacks byte t) (sym tail) q))
 cut_last byte (x ∷ xs) ys (u ∷ us) vs p q e =
     let head : x ≡ u = cc in
     let tail : xs ++ byte ∷ ys ≡ us ++ byte ∷ vs = cc in

@@ -19,24 +19,37 @@ use Rattle.report.proofs.Zips.{zipped_by}
 pub open_fault : (vs : List PartVerdict) (firsts : List (Option ℕ)) (n : ℕ) (z : PartVerdict)
     → n < length vs → map First firsts ≡ take n vs → get_or vs n z ≡ OtherPart
     → (fs : List (Option ℕ)) × (rest : List PartVerdict) × (vs ≡ map First fs ++ OtherPart ∷ rest)
-        × (n + 2 ≡ length fs + 2)
+    × (n + 2 ≡ length fs + 2)
 open_fault vs firsts n z h front here =
     let rest : List PartVerdict = drop (suc n) vs in
     let whole : vs ≡ map First firsts ++ OtherPart ∷ rest = split_at vs n z h
-        ∙ (ap (λ v. take n vs ++ v ∷ rest) here ∙ ap (λ l. l ++ OtherPart ∷ rest) (sym front)) in
-    (firsts, rest, whole, omega (arith, length-map firsts First, ap (λ l. length l) front,
-        length-take-le n vs))
+    ∙ (ap (λ v. take n vs ++ v ∷ rest) here ∙ ap (λ l. l ++ OtherPart ∷ rest) (sym front)) in (
+      firsts,
+      rest,
+      whole,
+      omega (
+        arith,
+        length-map firsts First,
+        ap (λ l. length l) front,
+        length-take-le n vs,
+      ),
+    )
 
 -- a name and the first test that goes with it, as their lists have them
 pub name_at : (fs : List (Bor (List ℕ))) (firsts : List (Option ℕ)) (n : ℕ) (z : Bor (List ℕ))
     (y : Option ℕ) → n < length fs → n < length firsts
     → (n < length (zip (texts_in fs) firsts))
-        × (((get_or fs n z).now, get_or firsts n y) ≡ get_or (zip (texts_in fs) firsts) n (z.now,
-        y))
+    × (((get_or fs n z).now, get_or firsts n y) ≡ get_or (zip (texts_in fs) firsts) n (
+      z.now,
+      y,
+    ))
 name_at fs firsts n z y h k =
     let name : slice_get (texts_in fs) n ≡ Some (get_or fs n z).now =
-    slice_get-get_or (texts_in fs) n z.now (omega (arith, h,
-        length-map fs (λ (t : Bor (List ℕ)). t.now)))
+    slice_get-get_or (texts_in fs) n z.now (omega (
+      arith,
+      h,
+      length-map fs (λ (t : Bor (List ℕ)). t.now),
+    ))
     ∙ ap (λ t. Some t) (get_or-map (λ (t : Bor (List ℕ)). t.now) fs n z z.now h) in
     zipped_by (texts_in fs) firsts n _ _ (z.now, y) name (slice_get-get_or firsts n y k)
 

@@ -46,8 +46,8 @@ sink_within : (c : List Statement) (n : Name) (k : Sink) → Among k (sinks c n)
     → IsLineOf c (branch k)
 sink_within c n (sink.Pin gate pin) a =
     let p = pin_reads c n gate pin a in
-        subst (λ g. g < length (names c)) p.number
-        (number_within c p.name (defined_among c (Gate p.name p.kind p.args) p.name p.stands refl))
+    subst (λ g. g < length (names c)) p.number
+    (number_within c p.name (defined_among c (Gate p.name p.kind p.args) p.name p.stands refl))
 sink_within c n (sink.Data i) a = let p = data_reads c n i a in
     subst (λ j. j < length (cells c)) p.place (cell_within c p.q (among_cells c p.q n p.stands))
 sink_within c n (sink.Out output) a = tt
@@ -69,8 +69,8 @@ line_known m c fs i l list h e =
     let at = within_place fs i h in
     let own : l ≡ at.0.line = rw (at.1) at e in
     subst (λ x. IsLineOf c x) (sym own)
-        (listed_line m c at.0 (subst (λ xs. Contains xs at.0) list
-        (contained fs at.0 (at_place fs i at.0 at.1))))
+    (listed_line m c at.0 (subst (λ xs. Contains xs at.0) list
+    (contained fs at.0 (at_place fs i at.0 at.1))))
 
 -- and its model is that of the list
 pub model_known : (m : Model) (c : List Statement) (fs : List Fault) (i : ℕ) (f : Fault)

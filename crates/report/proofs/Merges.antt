@@ -22,19 +22,24 @@ pub record AreJoinedTo (verdicts others both : List PartVerdict) (n : ℕ) : Typ
 pub names_more : (fs os : List (Bor (List ℕ))) (n : ℕ) (z : Bor (List ℕ)) → n < length fs
     → n < length os
     → ((i : ℕ) (d : List ℕ) → i < n → get_or (texts_in fs) i d ≡ get_or (texts_in os) i d)
-        → (get_or fs n z).now ≡ (get_or os n z).now
+    → (get_or fs n z).now ≡ (get_or os n z).now
     → (i : ℕ) (d : List ℕ) → i < n + 1 → get_or (texts_in fs) i d ≡ get_or (texts_in os) i d
 names_more fs os n z p q each e i d h =
     let P : ℕ → Type 0 = λ k. (d : List ℕ) → get_or (texts_in fs) k d ≡ get_or (texts_in os) k d in
     below_more P n (λ k low d. each k d low)
     (λ d. get_or-map (λ (t : Bor (List ℕ)). t.now) fs n z d p
-        ∙ (e ∙ sym (get_or-map (λ (t : Bor (List ℕ)). t.now) os n z d q))) i h d
+    ∙ (e ∙ sym (get_or-map (λ (t : Bor (List ℕ)). t.now) os n z d q))) i h d
 
 ends : (a b : ℕ) → (a ≤ b) ⊎ (b ≤ a)
 ends zero b = inl (omega arith)
 ends (suc a) zero = inr (omega arith)
-ends (suc a) (suc b) = elim (ends a b) [ inl h ↦ inl (omega (arith, h)) | inr h ↦ inr (omega (arith,
-    h)) ]
+ends (suc a) (suc b) = elim (ends a b) [
+  | inl h ↦ inl (omega (arith, h))
+  | inr h ↦ inr (omega (
+    arith,
+    h,
+  ))
+]
 
 slice_get_none : {X : Type 0} (xs : List X) (k : ℕ) → slice_get xs k ≡ None → length xs ≤ k
 slice_get_none [] k e = omega arith
@@ -44,7 +49,7 @@ slice_get_none (x ∷ xs) (suc k) e = omega (arith, slice_get_none xs k e)
 -- names that are the same at each place are the same
 pub names_all : (fs os : List (Bor (List ℕ))) (n : ℕ) → length fs ≡ length os → length fs ≤ n
     → ((i : ℕ) (d : List ℕ) → i < n → get_or (texts_in fs) i d ≡ get_or (texts_in os) i d)
-        → texts_in fs ≡ texts_in os
+    → texts_in fs ≡ texts_in os
 names_all fs os n same all each =
     ext_get_or [] (texts_in fs) (texts_in os) (length-map fs _ ∙ (same ∙ sym (length-map os _)))
     (λ i h. each i [] (omega (arith, h, all, length-map fs (λ (t : Bor (List ℕ)). t.now))))
@@ -52,7 +57,7 @@ names_all fs os n same all each =
 -- where one list ends and the other doesn't, they differ
 pub names_end : (fs os : List (Bor (List ℕ))) (n k : ℕ) → k ≤ n
     → ((i : ℕ) (d : List ℕ) → i < n → get_or (texts_in fs) i d ≡ get_or (texts_in os) i d)
-        → length fs ≢ length os → k ≡ min (length fs) (length os)
+    → length fs ≢ length os → k ≡ min (length fs) (length os)
     → DifferAt (texts_in fs) (texts_in os) k
 names_end fs os n k low each other least = record {
   same = λ i d h. each i d (omega (arith, h, low));
@@ -81,7 +86,7 @@ pub fresh_of : (xs ys : List ℕ) (x : ℕ) → ys ≡ xs
     → ((k d : ℕ) → 0 ≤ k → k < length ys → eqb (get_or ys k d) x ≡ false) → Contains xs x → ⊥
 fresh_of xs ys x same none at =
     let bad : true ≡ false = sym (eq-eqb (get_or ys at.0 x) x (ap (λ l. get_or l at.0 x) same
-        ∙ at.2))
+    ∙ at.2))
     ∙ none at.0 x (omega arith) (omega (arith, at.1, ap (λ l. length l) same)) in cc
 
 -- joined verdicts as a vector holds them
@@ -90,5 +95,5 @@ pub joined_items : (a b ws as_were bs rest : List PartVerdict) (n : ℕ) → Are
     → AreJoined as_were bs (take n (ws ++ rest))
 joined_items a b ws as_were bs rest n joined e f len =
     let whole : take n (ws ++ rest) ≡ ws = ap (λ m. take m (ws ++ rest)) len
-        ∙ take-append_seam ws rest in
+    ∙ take-append_seam ws rest in
     rw (whole, ← e, ← f) joined

@@ -14,7 +14,7 @@ pub same_number : (m n : ℕ) (word : List ℕ) → m < 2 ^ 32 → n < 2 ^ 32 �
     → word ≡ decimal n → m ≡ n
 same_number m n word p q e f =
     let more : 2 ^ 32 < 2 ^ 64 = lit< tt in
-        decimal_injective m n (omega (arith, p, more)) (omega (arith, q, more)) (sym e ∙ f)
+    decimal_injective m n (omega (arith, p, more)) (omega (arith, q, more)) (sym e ∙ f)
 
 -- the words of a first line from the model on
 abbrev pub words_in_head : PartHead → WordTexts
@@ -54,7 +54,7 @@ first_field h line word rest ok e lacks f =
 pub second_field : (h : PartHead) (text word rest : List ℕ) → IsHead h → text ≡ of_on h
     → Lacks 32 word
     → text ≡ codes "of " ++ (word ++ 32 ∷ rest) → (word ≡ decimal h.parts)
-        × (rest ≡ words_text (words_in_head h))
+    × (rest ≡ words_text (words_in_head h))
 second_field h text word rest ok e lacks f = next_field (codes "of ") word rest (decimal h.parts)
     (words_text (words_in_head h)) text lacks (small_parts h) f e
 
@@ -72,12 +72,18 @@ no_second h text ok none e = none (decimal h.parts) (words_text (words_in_head h
 pub head_read : (h : PartHead) (line r1 r2 part parts : List ℕ) → h.part < h.parts
     → h.parts < 2 ^ 32 → AreWords (words_in_head h)
     → line ≡ codes "part " ++ (part ++ 32 ∷ r1) → r1 ≡ codes "of " ++ (parts ++ 32 ∷ r2)
-        → r2 ≡ words_text (words_in_head h)
+    → r2 ≡ words_text (words_in_head h)
     → part ≡ decimal (h.part + 1) → parts ≡ decimal h.parts
-        → IsHead h × (line ++ codes "\n" ≡ head_line h)
+    → IsHead h × (line ++ codes "\n" ≡ head_line h)
 head_read h line r1 r2 part parts below few words e1 e2 e3 p q =
     let body : line ≡ head_body h = e1 ∙ rw (p, e2, q, e3) refl in (
-      record { below = below; few = few; model = words.model; rule = words.rule;
-          bench = words.bench; tests = words.tests },
+      record {
+        below = below;
+        few = few;
+        model = words.model;
+        rule = words.rule;
+        bench = words.bench;
+        tests = words.tests;
+      },
       ap (λ l. l ++ codes "\n") body ∙ head_line_is h,
     )

@@ -28,8 +28,10 @@ unfolding lacks_test
 lacks_literal byte [] e = tt
 lacks_literal byte (x ∷ xs) e = elim (cases_Bool (x == byte)) [
   | inl met ↦ let bad : false ≡ true = rw met at e in cc
-  | inr other ↦ ((λ same. let bad : true ≡ false = sym (eq-eqb x byte same) ∙ other in cc),
-      lacks_literal byte xs (rw other at e))
+  | inr other ↦ (
+    (λ same. let bad : true ≡ false = sym (eq-eqb x byte same) ∙ other in cc),
+    lacks_literal byte xs (rw other at e),
+  )
 ]
 
 -- a field that lacks a byte
@@ -44,31 +46,31 @@ unfolding lacks_test
 head_lacks h ok =
     let blank : 32 ≢ 10 = λ e. omega (arith, e) in
     let tests = lacks_append 10 (codes "tests ") h.tests (lacks_literal 10 (codes "tests ") refl)
-        ok.tests.one_line in
+    ok.tests.one_line in
     let bench = field_without 10 (codes "bench ") h.bench _ (lacks_literal 10 (codes "bench ") refl)
-        ok.bench.one_line blank tests in
+    ok.bench.one_line blank tests in
     let rule = field_without 10 (codes "rule ") h.rule _ (lacks_literal 10 (codes "rule ") refl)
-        ok.rule.one_line blank bench in
+    ok.rule.one_line blank bench in
     let model = field_without 10 (codes "model ") h.model _ (lacks_literal 10 (codes "model ") refl)
-        ok.model.one_line blank rule in
+    ok.model.one_line blank rule in
     let parts = field_without 10 (codes "of ") (decimal h.parts) _
-        (lacks_literal 10 (codes "of ") refl) (lacks_decimal 10 h.parts (lit< tt)) blank model in
+    (lacks_literal 10 (codes "of ") refl) (lacks_decimal 10 h.parts (lit< tt)) blank model in
     field_without 10 (codes "part ") (decimal (h.part + 1)) _
-        (lacks_literal 10 (codes "part ") refl)
+    (lacks_literal 10 (codes "part ") refl)
     (lacks_decimal 10 (h.part + 1) (lit< tt)) blank parts
 
 -- words are those of one first line
 pub words_once : (w v : WordTexts) → (Lacks 32 w.model × Lacks 32 w.rule × Lacks 32 w.bench)
     → (Lacks 32 v.model × Lacks 32 v.rule × Lacks 32 v.bench)
     → words_text w ≡ words_text v → (w.model ≡ v.model) × (w.rule ≡ v.rule) × (w.bench ≡ v.bench)
-        × (w.tests ≡ v.tests)
+    × (w.tests ≡ v.tests)
 words_once w v p q e =
     let m = next_field (codes "model ") w.model (rule_on w) v.model (rule_on v)
-        (words_text w) p.0 q.0 refl e in
+    (words_text w) p.0 q.0 refl e in
     let r = next_field (codes "rule ") w.rule (bench_on w) v.rule (bench_on v)
-        (rule_on w) p.1 q.1 refl m.1 in
+    (rule_on w) p.1 q.1 refl m.1 in
     let b = next_field (codes "bench ") w.bench (codes "tests " ++ w.tests) v.bench (codes "tests "
-        ++ v.tests) (bench_on w) p.2 q.2 refl r.1 in
+    ++ v.tests) (bench_on w) p.2 q.2 refl r.1 in
     (m.0, r.0, b.0, append_cancel_left (codes "tests ") w.tests v.tests b.1)
 
 made : ℕ → ℕ → List ℕ → List ℕ → List ℕ → List ℕ → PartHead
@@ -87,23 +89,29 @@ pub head_once : (h k : PartHead) (rest more : List ℕ) → IsHead h → IsHead 
     → head_line h ++ rest ≡ head_line k ++ more → (h ≡ k) × (rest ≡ more)
 head_once h k rest more p q e =
     let left : head_line h ++ rest ≡ head_body h ++ 10 ∷ rest =
-        ap (λ l. l ++ rest) (sym (head_line_is h)) ∙ append_assoc (head_body h) (codes "\n") rest in
+    ap (λ l. l ++ rest) (sym (head_line_is h)) ∙ append_assoc (head_body h) (codes "\n") rest in
     let right : head_line k ++ more ≡ head_body k ++ 10 ∷ more =
-        ap (λ l. l ++ more) (sym (head_line_is k)) ∙ append_assoc (head_body k) (codes "\n") more in
+    ap (λ l. l ++ more) (sym (head_line_is k)) ∙ append_assoc (head_body k) (codes "\n") more in
     let cut = cut_once 10 (head_body h) rest (head_body k) more (head_lacks h p) (head_lacks k q)
-        (sym left ∙ (e ∙ right)) in
+    (sym left ∙ (e ∙ right)) in
     let one = next_field (codes "part ") (decimal (h.part + 1)) (of_on h) (decimal (k.part + 1))
-        (of_on k) (head_body h) (small_part h) (small_part k) refl cut.0 in
+    (of_on k) (head_body h) (small_part h) (small_part k) refl cut.0 in
     let two = next_field (codes "of ") (decimal h.parts) (words_text (words_in_head h))
-        (decimal k.parts) (words_text (words_in_head k)) (of_on h) (small_parts h)
-        (small_parts k) refl one.1 in
-    let words = words_once (words_in_head h) (words_in_head k) (p.model.no_space, p.rule.no_space,
-        p.bench.no_space) (q.model.no_space, q.rule.no_space, q.bench.no_space) two.1 in
+    (decimal k.parts) (words_text (words_in_head k)) (of_on h) (small_parts h)
+    (small_parts k) refl one.1 in
+    let words = words_once (words_in_head h) (words_in_head k) (
+      p.model.no_space,
+      p.rule.no_space,
+      p.bench.no_space,
+    ) (q.model.no_space, q.rule.no_space, q.bench.no_space) two.1 in
     let part : h.part + 1 ≡ k.part + 1 = same_number (h.part + 1) (k.part + 1)
-        (decimal (h.part + 1)) (omega (arith, p.below, p.few)) (omega (arith, q.below,
-        q.few)) refl one.0 in
+    (decimal (h.part + 1)) (omega (arith, p.below, p.few)) (omega (
+      arith,
+      q.below,
+      q.few,
+    )) refl one.0 in
     let parts : h.parts ≡ k.parts = same_number h.parts k.parts (decimal h.parts) p.few q.few refl
-        two.0 in
+    two.0 in
     (same_head h k (omega (arith, part)) parts words.0 words.1 words.2 words.3, cut.1)
 
 -- a verdict is spelled in one way
@@ -132,8 +140,10 @@ verdict_once OtherPart OtherPart p q e = refl
 
 -- two texts that begin with the line of a fault begin with the same one
 pub line_lacks : (at : List ℕ × PartVerdict) → IsLine at → Lacks 10 (line_body at)
-line_lacks at ok = lacks_append 10 at.0 _ ok.name.one_line ((λ e. omega (arith, e)),
-    lacks_verdict 10 at.1 (lit< tt))
+line_lacks at ok = lacks_append 10 at.0 _ ok.name.one_line (
+  (λ e. omega (arith, e)),
+  lacks_verdict 10 at.1 (lit< tt),
+)
 
 pub split_line : (at : List ℕ × PartVerdict) (rest : List ℕ)
     → verdict_line at ++ rest ≡ line_body at ++ 10 ∷ rest
@@ -155,9 +165,9 @@ pub line_once : (at to : List ℕ × PartVerdict) (rest more : List ℕ) → IsL
     → (at ≡ to) × (rest ≡ more)
 line_once at to rest more p q e =
     let cut = cut_once 10 (line_body at) rest (line_body to) more (line_lacks at p)
-        (line_lacks to q) (sym (split_line at rest) ∙ (e ∙ split_line to more)) in
+    (line_lacks to q) (sym (split_line at rest) ∙ (e ∙ split_line to more)) in
     let parts = cut_last 32 at.0 (verdict_text at.1) to.0 (verdict_text to.1)
-        (lacks_verdict 32 at.1 (lit< tt)) (lacks_verdict 32 to.1 (lit< tt)) cut.0 in
+    (lacks_verdict 32 at.1 (lit< tt)) (lacks_verdict 32 to.1 (lit< tt)) cut.0 in
     (same_pair at to parts.0 (verdict_once at.1 to.1 p.verdict q.verdict parts.1), cut.1)
 
 -- two bytes don't come first at one place
@@ -198,7 +208,7 @@ before_space (a ∷ b ∷ c ∷ []) rest more e front =
 before_space (a ∷ b ∷ c ∷ d ∷ []) rest more e front = cc
 before_space (a ∷ b ∷ c ∷ d ∷ f ∷ name) rest more e front =
     let is : a ∷ b ∷ c ∷ d ∷ f ∷ name ≡ codes "part "
-        ++ name = first_five a b c d f 112 97 114 116 32 (name ++ 32 ∷ rest) more name e in
+    ++ name = first_five a b c d f 112 97 114 116 32 (name ++ 32 ∷ rest) more name e in
     absurd (front name is)
 
 -- the line of a fault is no last line
@@ -207,37 +217,37 @@ pub not_end : (at : List ℕ × PartVerdict) (part parts found own : ℕ) (rest 
     → verdict_line at ++ rest ≢ end_line part parts found own ++ more
 not_end at part parts found own rest more ok e =
     let left : at.0 ++ 32 ∷ (verdict_text at.1 ++ 10 ∷ rest) ≡ verdict_line at
-        ++ rest = simp append_assoc in
+    ++ rest = simp append_assoc in
     let after : List ℕ = codes "of "
-        ++ (decimal parts ++ (codes ": "
-        ++ (decimal found ++ (codes " of " ++ (decimal own ++ 10 ∷ more))))) in
+    ++ (decimal parts ++ (codes ": "
+    ++ (decimal found ++ (codes " of " ++ (decimal own ++ 10 ∷ more))))) in
     let right : end_line part parts found own ++ more ≡ codes "part "
-        ++ (decimal (part + 1) ++ 32 ∷ after) = simp append_assoc in
+    ++ (decimal (part + 1) ++ 32 ∷ after) = simp append_assoc in
     let same = before_space at.0 _ _ (left ∙ (e ∙ right)) ok.name.no_end in
     two_bytes 10 32 (verdict_text at.1) rest (decimal (part + 1)) after (λ f. omega (arith, f))
-        (lacks_verdict 32 at.1 (lit< tt))
+    (lacks_verdict 32 at.1 (lit< tt))
     (lacks_decimal 10 (part + 1) (lit< tt)) same
 
 -- the lines of faults up to a last line are read in one way
 pub lines_once : (ps qs : List (List ℕ × PartVerdict)) (part parts a b c d : ℕ) (rest more : List ℕ)
     → AllByRecursion IsLine ps → AllByRecursion IsLine qs
     → flat_map verdict_line ps ++ (end_line part parts a b ++ rest) ≡ flat_map verdict_line qs
-        ++ (end_line part parts c d ++ more) → ps ≡ qs
+    ++ (end_line part parts c d ++ more) → ps ≡ qs
 lines_once [] [] part parts a b c d rest more p q e = refl
 lines_once [] (y ∷ qs) part parts a b c d rest more p q e =
     absurd (not_end y part parts a b _ rest q.0
-        (sym (append_assoc (verdict_line y) (flat_map verdict_line qs) (end_line part parts c d
-        ++ more)) ∙ sym e))
+    (sym (append_assoc (verdict_line y) (flat_map verdict_line qs) (end_line part parts c d
+    ++ more)) ∙ sym e))
 lines_once (x ∷ ps) [] part parts a b c d rest more p q e =
     absurd (not_end x part parts c d _ more p.0
-        (sym (append_assoc (verdict_line x) (flat_map verdict_line ps) (end_line part parts a b
-        ++ rest)) ∙ e))
+    (sym (append_assoc (verdict_line x) (flat_map verdict_line ps) (end_line part parts a b
+    ++ rest)) ∙ e))
 lines_once (x ∷ ps) (y ∷ qs) part parts a b c d rest more p q e =
     let one = line_once x y _ _ p.0 q.0
-        (sym (append_assoc (verdict_line x) (flat_map verdict_line ps) (end_line part parts a b
-        ++ rest))
+    (sym (append_assoc (verdict_line x) (flat_map verdict_line ps) (end_line part parts a b
+    ++ rest))
     ∙ (e ∙ append_assoc (verdict_line y) (flat_map verdict_line qs) (end_line part parts c d
-        ++ more))) in
+    ++ more))) in
     rw (one.0, lines_once ps qs part parts a b c d rest more p.1 q.1 one.1) refl
 
 -- lists that are zipped alike are alike
@@ -257,14 +267,14 @@ zip_once {X} {Y} (x ∷ xs) (u ∷ us) (y ∷ ys) (v ∷ vs) p q e =
     let one : x ≡ u = ap (λ (t : X × Y). t.0) head in
     let two : y ≡ v = ap (λ (t : X × Y). t.1) head in
     let rest = zip_once xs us ys vs (omega (arith, p)) (omega (arith, q))
-        (cons_tail at to (zip xs ys) (zip us vs) e) in
+    (cons_tail at to (zip xs ys) (zip us vs) e) in
     (rw (one, rest.0) refl, rw (two, rest.1) refl)
 
 -- a part text is that of one first line, one list of faults and one of verdicts
 pub one_part : (text : List ℕ) (h k : PartHead) (faults others : List (List ℕ))
     (verdicts more : List PartVerdict)
     → IsPart text h faults verdicts → IsPart text k others more → (h ≡ k) × (faults ≡ others)
-        × (verdicts ≡ more)
+    × (verdicts ≡ more)
 one_part text h k faults others verdicts more p q =
     let head = head_once h k _ _ p.head q.head (sym p.whole ∙ q.whole) in
     let a : ℕ = count_by is_found verdicts in
@@ -274,13 +284,13 @@ one_part text h k faults others verdicts more p q =
     let ps : List ℕ = flat_map verdict_line (zip faults verdicts) in
     let qs : List ℕ = flat_map verdict_line (zip others more) in
     let left : ps ++ (end_line h.part h.parts a b ++ []) ≡ ps ++ end_line h.part h.parts a b =
-        ap (λ l. ps ++ l) (append-nil _) in
+    ap (λ l. ps ++ l) (append-nil _) in
     let right : qs ++ (end_line h.part h.parts c d ++ []) ≡ qs ++ end_line h.part h.parts c d =
-        ap (λ l. qs ++ l) (append-nil _) in
+    ap (λ l. qs ++ l) (append-nil _) in
     let other : qs ++ end_line k.part k.parts c d ≡ qs ++ end_line h.part h.parts c d =
-        ap (λ (g : PartHead). qs ++ end_line g.part g.parts c d) (sym head.0) in
+    ap (λ (g : PartHead). qs ++ end_line g.part g.parts c d) (sym head.0) in
     let pairs = lines_once (zip faults verdicts) (zip others more) h.part h.parts a b c d [] []
-        p.lines.each q.lines.each
+    p.lines.each q.lines.each
     (left ∙ (head.1 ∙ (other ∙ sym right))) in
     let lists = zip_once faults others verdicts more p.lines.same q.lines.same pairs in
     (head.0, lists.0, lists.1)

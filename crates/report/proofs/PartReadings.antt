@@ -33,14 +33,17 @@ joined line after text e = let assoc : (line ++ codes "\n") ++ after ≡ line ++
 -- behind the first line
 pub begun_none : (text : List ℕ) (h : PartHead) (rest : List ℕ) → IsHead h
     → text ≡ head_line h ++ rest → IsBegun text h [] [] rest
-begun_none text h rest ok e = record { head = ok; lines = record { same = refl; each = tt };
-    whole = e }
+begun_none text h rest ok e = record {
+  head = ok;
+  lines = record { same = refl; each = tt };
+  whole = e;
+}
 
 -- one more line of a fault
 pub begun_more : (text : List ℕ) (h : PartHead) (faults : List (List ℕ))
     (verdicts : List PartVerdict) (rest line after name : List ℕ) (v : PartVerdict)
     → IsBegun text h faults verdicts rest → rest ≡ line ++ 10 ∷ after → IsLine (name, v)
-        → line ++ codes "\n" ≡ verdict_line (name, v)
+    → line ++ codes "\n" ≡ verdict_line (name, v)
     → IsBegun text h (faults ++ name ∷ []) (verdicts ++ v ∷ []) after
 begun_more text h faults verdicts rest line after name v begun cut ok e =
     let pairs = zip_more faults verdicts name v begun.lines.same in
@@ -48,9 +51,9 @@ begun_more text h faults verdicts rest line after name v begun cut ok e =
     let one : List ℕ = verdict_line (name, v) in
     let assoc : (lines ++ one) ++ after ≡ lines ++ (one ++ after) = append_assoc lines one after in
     let grown : flat_map verdict_line (zip (faults ++ name ∷ []) (verdicts ++ v ∷ [])) ≡ lines
-        ++ one =
+    ++ one =
     ap (λ l. flat_map verdict_line l) pairs
-        ∙ (flat_map-append verdict_line (zip faults verdicts) ((name, v) ∷ [])
+    ∙ (flat_map-append verdict_line (zip faults verdicts) ((name, v) ∷ [])
     ∙ ap (λ l. lines ++ l) (append-nil one)) in
     record {
       head = begun.head;
@@ -62,14 +65,14 @@ begun_more text h faults verdicts rest line after name v begun cut ok e =
       };
       whole = begun.whole ∙ ap (λ l. head_line h ++ l)
           (ap (λ l. lines ++ l) (cut ∙ joined line after one e)
-              ∙ (sym assoc ∙ ap (λ l. l ++ after) (sym grown)));
+          ∙ (sym assoc ∙ ap (λ l. l ++ after) (sym grown)));
     }
 
 -- behind the last line
 pub begun_end : (text : List ℕ) (h : PartHead) (faults : List (List ℕ))
     (verdicts : List PartVerdict) (rest line after : List ℕ)
     → IsBegun text h faults verdicts rest → rest ≡ line ++ 10 ∷ after
-        → line ++ codes "\n" ≡ end_of h verdicts
+    → line ++ codes "\n" ≡ end_of h verdicts
     → IsBegun text h faults verdicts (end_of h verdicts ++ after)
 begun_end text h faults verdicts rest line after begun cut e = record {
   head = begun.head;
@@ -81,7 +84,7 @@ begun_end text h faults verdicts rest line after begun cut e = record {
 pub part_of : (text : List ℕ) (h : PartHead) (faults : List (List ℕ)) (verdicts : List PartVerdict)
     (after : List ℕ)
     → IsBegun text h faults verdicts (end_of h verdicts ++ after) → length after ≡ 0
-        → IsPart text h faults verdicts
+    → IsPart text h faults verdicts
 part_of text h faults verdicts [] begun e = record {
   head = begun.head;
   lines = begun.lines;
@@ -93,7 +96,7 @@ part_of text h faults verdicts (b ∷ after) begun e = absurd (omega (arith, e))
 pub has_more : (text : List ℕ) (h : PartHead) (faults : List (List ℕ)) (verdicts : List PartVerdict)
     (after : List ℕ)
     → IsBegun text h faults verdicts (end_of h verdicts ++ after) → 0 < length after
-        → HasMore text (length faults)
+    → HasMore text (length faults)
 has_more text h faults verdicts after begun some = record {
   head = h;
   faults = faults;
@@ -108,7 +111,7 @@ has_more text h faults verdicts after begun some = record {
 pub bad_line : (text : List ℕ) (h : PartHead) (faults : List (List ℕ)) (verdicts : List PartVerdict)
     (rest line after : List ℕ)
     → IsBegun text h faults verdicts rest → IsCutFirst 10 rest line after → IsNoFaultLine line
-        → line ++ codes "\n" ≢ end_of h verdicts
+    → line ++ codes "\n" ≢ end_of h verdicts
     → IsBadLine text (length faults)
 bad_line text h faults verdicts rest line after begun cut none last = record {
   head = h;
@@ -137,8 +140,13 @@ cut_lines text h faults verdicts rest begun lacks = record {
 
 pub bad_head : (text line more : List ℕ) → IsCutFirst 10 text line more
     → ((h : PartHead) → IsHead h → line ++ codes "\n" ≢ head_line h) → IsBadHead text
-bad_head text line more cut bad = record { line = line; more = more; whole = cut.whole;
-    one_line = cut.first; bad = bad }
+bad_head text line more cut bad = record {
+  line = line;
+  more = more;
+  whole = cut.whole;
+  one_line = cut.first;
+  bad = bad;
+}
 
 -- What a loop over the lines knows: the lines so far and the rest, and the number of the next line.
 pub record Reading (text : List ℕ) (h : PartHead) (faults : List (List ℕ))
@@ -162,16 +170,21 @@ pub reading_more : (text : List ℕ) (h : PartHead) (faults more : List (List �
     (verdicts others : List PartVerdict) (rest line after name : List ℕ) (v : PartVerdict)
     (number : ℕ)
     → Reading text h faults verdicts rest number → IsCutFirst 10 rest line after
-        → IsLine (name, v) × (line ++ codes "\n" ≡ verdict_line (name, v))
+    → IsLine (name, v) × (line ++ codes "\n" ≡ verdict_line (name, v))
     → more ≡ faults ++ name ∷ [] → others ≡ verdicts ++ v ∷ []
-        → Reading text h more others after (number + 1)
+    → Reading text h more others after (number + 1)
 reading_more text h faults more verdicts others rest line after name v number reading cut is e f =
     rw (e, f) (record {
-  begun = begun_more text h faults verdicts rest line after name v reading.begun cut.whole is.0
-      is.1;
-  number_is = omega (arith, reading.number_is, length-append faults (name ∷ []));
-  room = omega (arith, reading.room, ap (λ l. length l) cut.whole, length-append line (10 ∷ after));
-})
+      begun = begun_more text h faults verdicts rest line after name v reading.begun cut.whole is.0
+          is.1;
+      number_is = omega (arith, reading.number_is, length-append faults (name ∷ []));
+      room = omega (
+        arith,
+        reading.room,
+        ap (λ l. length l) cut.whole,
+        length-append line (10 ∷ after),
+      );
+    })
 
 pub shorter : (rest line after : List ℕ) → rest ≡ line ++ 10 ∷ after → length after < length rest
 shorter rest line after e = omega (arith, ap (λ l. length l) e, length-append line (10 ∷ after))

@@ -14,7 +14,7 @@ use Rattle.report.specs.PartText.{PartHead, head_line, part_line, verdict_line}
 pub head_text : (h : PartHead) (part parts : List ℕ) → part ≡ decimal (h.part + 1)
     → parts ≡ decimal h.parts
     → codes "part " ++ (part ++ (codes " of "
-        ++ (parts ++ (codes " model " ++ (h.model ++ (codes " rule " ++ (h.rule
+    ++ (parts ++ (codes " model " ++ (h.model ++ (codes " rule " ++ (h.rule
     ++ (codes " bench " ++ (h.bench ++ (codes " tests " ++ (h.tests ++ (codes "\n" ++ []))))))))))))
     ≡ head_line h
 head_text h part parts e f = rw (e, f) (simp append_assoc)
@@ -22,7 +22,7 @@ head_text h part parts e f = rw (e, f) (simp append_assoc)
 -- the lines of a circuit's faults are those of their texts
 pub lines_of_texts : (c : List Statement) (fs : List Fault) (verdicts : List PartVerdict)
     → flat_map (part_line c) (zip fs verdicts) ≡ flat_map verdict_line
-        (zip (map (fault_text c) fs) verdicts)
+    (zip (map (fault_text c) fs) verdicts)
 lines_of_texts c [] verdicts = refl
 lines_of_texts c (f ∷ fs) [] = refl
 lines_of_texts c (f ∷ fs) (v ∷ verdicts) =
@@ -32,15 +32,15 @@ lines_of_texts c (f ∷ fs) (v ∷ verdicts) =
 pub lines_of_model : (m : Model) (c : List Statement) (fs : List Fault)
     (verdicts : List PartVerdict) → fs ≡ faults m c
     → flat_map (part_line c) (zip fs verdicts) ≡ flat_map verdict_line
-        (zip (map (fault_text c) (faults m c)) verdicts)
+    (zip (map (fault_text c) (faults m c)) verdicts)
 lines_of_model m c fs verdicts list =
     lines_of_texts c fs verdicts ∙ ap
-        (λ l. flat_map verdict_line (zip (map (fault_text c) l) verdicts)) list
+    (λ l. flat_map verdict_line (zip (map (fault_text c) l) verdicts)) list
 
 -- the same of the lines of a report
 names_of_texts : (c : List Statement) (lines : Lines) (fs : List Fault) (firsts : List (Option ℕ))
     → flat_map (wanted_name lines) (zip (map (fault_text c) fs) firsts)
-        ≡ flat_map (wanted_line lines c) (zip fs firsts)
+    ≡ flat_map (wanted_line lines c) (zip fs firsts)
 names_of_texts c lines [] firsts = refl
 names_of_texts c lines (f ∷ fs) [] = refl
 names_of_texts c lines (f ∷ fs) (first ∷ firsts) = ap (λ l. wanted_line lines c (f, first)

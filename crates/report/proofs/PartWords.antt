@@ -25,7 +25,7 @@ lacks_onto byte zero n acc other lacks = lacks
 lacks_onto byte (suc k) n acc other lacks =
     go glyph
     (lacks_onto byte k (n / 10) (digit_glyph false (n % 10) ∷ acc) other (glyph, lacks))
-        (n / 10 == 0)
+    (n / 10 == 0)
   where
     glyph : digit_glyph false (n % 10) ≢ byte
     glyph e =
@@ -34,7 +34,7 @@ lacks_onto byte (suc k) n acc other lacks =
 
     go : digit_glyph false (n % 10) ≢ byte
         → Lacks byte (digits_onto k 10 false (n / 10) (digit_glyph false (n % 10) ∷ acc))
-            → (t : Bool)
+        → (t : Bool)
         → Lacks byte (if t then digit_glyph false (n % 10) ∷ acc
         else digits_onto k 10 false (n / 10) (digit_glyph false (n % 10) ∷ acc))
     go last more true = (last, lacks)
@@ -54,8 +54,11 @@ lacks_decimal byte n low = lacks_byte byte n (λ d h e. omega (arith, e))
 pub not_utf8 : (word : List ℕ) (n : ℕ) → n < 2 ^ 32 → word ≡ decimal n → (IsUtf8 word → ⊥) → ⊥
 not_utf8 word n small e bad = bad
     (subst (λ w. IsUtf8 w) (sym e)
-    (IsUtf8-from_ascii _ (IsAscii-decimal n (omega (arith, small,
-    lit< {m = 2 ^ 32} {n = 2 ^ 64} tt)))))
+    (IsUtf8-from_ascii _ (IsAscii-decimal n (omega (
+      arith,
+      small,
+      lit< {m = 2 ^ 32} {n = 2 ^ 64} tt,
+    )))))
 
 -- texts that compare as different are
 pub differs : (s t : List ℕ) → s ≡ t → pointwise eqb s t ≡ false → ⊥
@@ -115,9 +118,9 @@ after_bench w text bench rest ok e lacks f =
 
 pub words_read : (w : WordTexts) (text r1 r2 r3 : List ℕ) → Lacks 10 text
     → Lacks 32 w.model × (text ≡ codes "model " ++ (w.model ++ 32 ∷ r1))
-        → Lacks 32 w.rule × (r1 ≡ codes "rule " ++ (w.rule ++ 32 ∷ r2))
+    → Lacks 32 w.rule × (r1 ≡ codes "rule " ++ (w.rule ++ 32 ∷ r2))
     → Lacks 32 w.bench × (r2 ≡ codes "bench " ++ (w.bench ++ 32 ∷ r3))
-        → r3 ≡ codes "tests " ++ w.tests → Lacks 32 w.tests
+    → r3 ≡ codes "tests " ++ w.tests → Lacks 32 w.tests
     → AreWords w × (text ≡ words_text w)
 words_read w text r1 r2 r3 line m r b t last =
     let p1 = field_lacks 10 (codes "model ") w.model r1 text line m.1 in

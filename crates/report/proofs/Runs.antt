@@ -43,9 +43,17 @@ pub report_of : (m : Model) (bench text : List ℕ) (contents : Contents) (job :
     → IsReportOf m bench text contents bytes
 report_of m bench text contents job is bytes of_job =
     let are = subst (λ k. AreFirsts k job.circuit job.tests.tests of_job.0) is.3 of_job.1 in
-    let classes = subst (λ k. AreClassesOf k job.circuit job.classes) is.3 is.2.classes in
-    (job.circuit, job.tests, job.classes, of_job.0, is.0, is.1, classes, are,
-        of_job.2 ∙ ap (λ k. whole_report k job.circuit job.classes of_job.0 contents) is.3)
+    let classes = subst (λ k. AreClassesOf k job.circuit job.classes) is.3 is.2.classes in (
+      job.circuit,
+      job.tests,
+      job.classes,
+      of_job.0,
+      is.0,
+      is.1,
+      classes,
+      are,
+      of_job.2 ∙ ap (λ k. whole_report k job.circuit job.classes of_job.0 contents) is.3,
+    )
 
 pub job_run_fault : (m : Model) (bench text : List ℕ) (workers : ℕ) (job : Parts)
     → IsJobWithin m bench text job → (f : SimFault) → IsRunReportFault job workers f

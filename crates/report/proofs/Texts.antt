@@ -16,7 +16,7 @@ use Rattle.report.proofs.KnownLines.{model_known}
 pub fault_by_parts : (m : Model) (c : List Statement) (fs : List Fault) (i : ℕ) (f : Fault)
     (l : Line) (bit : Bool) (said : List ℕ)
     → fs ≡ faults m c → slice_get fs i ≡ Some f → IfSome (slice_get fs i) (λ f. l ≡ f.line)
-        → IfSome (slice_get fs i) (λ f. bit ≡ f.stuck)
+    → IfSome (slice_get fs i) (λ f. bit ≡ f.stuck)
     → said ≡ defect_text m bit → line_text c l ++ said ≡ fault_text c f
 fault_by_parts m c fs i f l bit said list at line_is bit_is said_is =
     let own_line : l ≡ f.line = rw at at line_is in
@@ -28,11 +28,11 @@ fault_by_parts m c fs i f l bit said list at line_is bit_is said_is =
 pub coverage_text : (found total : ℕ) (counted a b whole tens ones : List ℕ) → a ≡ decimal found
     → b ≡ decimal total
     → whole ≡ decimal (10000 * found / total / 100)
-        → tens ≡ decimal (10000 * found / total % 100 / 10)
-        → ones ≡ decimal (10000 * found / total % 100 % 10)
+    → tens ≡ decimal (10000 * found / total % 100 / 10)
+    → ones ≡ decimal (10000 * found / total % 100 % 10)
     → a
-        ++ (codes " of " ++ (b ++ (counted
-        ++ (codes " (" ++ (whole ++ (codes "." ++ (tens ++ (ones ++ (codes "%)\n" ++ [])))))))))
+    ++ (codes " of " ++ (b ++ (counted
+    ++ (codes " (" ++ (whole ++ (codes "." ++ (tens ++ (ones ++ (codes "%)\n" ++ [])))))))))
     ≡ coverage_of counted found total
 coverage_text found total counted a b whole tens ones e f g h i =
     let small : 10000 * found / total % 100 / 10 < 10 = omega arith in
@@ -43,11 +43,11 @@ coverage_text found total counted a b whole tens ones e f g h i =
 pub point_text : (total : ℕ) (point : CurvePoint) (a b whole tens ones : List ℕ)
     → a ≡ decimal point.test → b ≡ decimal point.detected
     → whole ≡ decimal (10000 * point.detected / total / 100)
-        → tens ≡ decimal (10000 * point.detected / total % 100 / 10)
-        → ones ≡ decimal (10000 * point.detected / total % 100 % 10)
+    → tens ≡ decimal (10000 * point.detected / total % 100 / 10)
+    → ones ≡ decimal (10000 * point.detected / total % 100 % 10)
     → a
-        ++ (codes " " ++ (b ++ (codes " "
-        ++ (whole ++ (codes "." ++ (tens ++ (ones ++ (codes "\n" ++ []))))))))
+    ++ (codes " " ++ (b ++ (codes " "
+    ++ (whole ++ (codes "." ++ (tens ++ (ones ++ (codes "\n" ++ []))))))))
     ≡ point_line total point
 point_text total point a b whole tens ones e f g h i =
     let small : 10000 * point.detected / total % 100 / 10 < 10 = omega arith in
@@ -57,5 +57,5 @@ point_text total point a b whole tens ones e f g h i =
 -- the last line of the listing from its numbers, given as texts
 pub counts_text : (faults classes : ℕ) (a b : List ℕ) → a ≡ decimal faults → b ≡ decimal classes
     → a ++ (codes " faults in " ++ (b ++ (codes " classes\n" ++ []))) ≡ decimal faults
-        ++ codes " faults in " ++ decimal classes ++ codes " classes\n"
+    ++ codes " faults in " ++ decimal classes ++ codes " classes\n"
 counts_text faults classes a b e f = rw (e, f) (simp append_assoc)

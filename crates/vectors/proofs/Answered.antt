@@ -17,13 +17,13 @@ use Rattle.vectors.proofs.Listings.{tests, text}
 shown : (t : Test) (v : Name → Bool) → Solves scan_cell t None v
     → map (shows None v) (observers scan_cell)
     ≡ value And (slice_index_or t 0 false ∷ slice_index_or t 1 false ∷ []) ∷ value And
-        (slice_index_or t 0 false ∷ slice_index_or t 1 false ∷ []) ∷ []
+    (slice_index_or t 0 false ∷ slice_index_or t 1 false ∷ []) ∷ []
 shown t v s =
     let a : v (codes "a") ≡ slice_index_or t 0 false = s.source 0 (codes "a") refl in
     let q : v (codes "q") ≡ slice_index_or t 1 false = s.source 1 (codes "q") refl in
     let y : v (codes "y") ≡ value And (v (codes "a") ∷ v (codes "q") ∷ []) =
     s.gate (codes "y") And (codes "a" ∷ codes "q" ∷ [])
-        (contained scan_cell _ (inr (inr (inr (inl refl))))) in
+    (contained scan_cell _ (inr (inr (inr (inl refl))))) in
     rw (y, a, q) refl
 
 abbrev three : List Test

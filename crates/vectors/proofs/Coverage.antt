@@ -20,10 +20,12 @@ abbrev classes : Collapsed
 classes = record { class_of = 2 ∷ 0 ∷ 2 ∷ 1 ∷ 2 ∷ 3 ∷ []; representative = 1 ∷ 3 ∷ 4 ∷ 5 ∷ [] }
 
 undetected_and_classes : whole_report StuckAt and_of_two classes
-    (firsts (codes "00" ∷ codes "01" ∷ codes "11" ∷ [])) (record { lines = Undetected;
-    classes = true })
+    (firsts (codes "00" ∷ codes "01" ∷ codes "11" ∷ [])) (record {
+      lines = Undetected;
+      classes = true;
+    })
     ≡ text (codes "stem b sa1 none" ∷ codes "5 of 6 (83.33%)" ∷ codes
-        "3 of 4 classes (75.00%)" ∷ [])
+    "3 of 4 classes (75.00%)" ∷ [])
 unfolding digits
 undetected_and_classes = refl
 
@@ -33,6 +35,6 @@ four_firsts = firsts (codes "00" ∷ codes "01" ∷ codes "01" ∷ codes "11" �
 
 curve_of_and : curve_text (curve 4 four_firsts) four_firsts
     ≡ text (codes "0 1 16.66" ∷ codes "1 2 33.33" ∷ codes "3 5 83.33" ∷ codes
-        "5 of 6 (83.33%)" ∷ [])
+    "5 of 6 (83.33%)" ∷ [])
 unfolding digits
 curve_of_and = refl

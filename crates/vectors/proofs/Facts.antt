@@ -43,13 +43,37 @@ buffer_well_formed = odd_spelling.accepted.3
 
 -- a line by hand: the tokens of ` a )` and the comment
 by_hand : Spells (codes "(a # x") (Open ∷ Word (codes "a") ∷ [])
-by_hand = ([], codes "a # x", refl, refl, tt, tt, ([], codes " # x", refl, refl, ((λ e. cc), refl),
-    tt, (codes " ", codes "# x", refl, refl, refl)))
+by_hand = (
+  [],
+  codes "a # x",
+  refl,
+  refl,
+  tt,
+  tt,
+  (
+    [],
+    codes " # x",
+    refl,
+    refl,
+    ((λ e. cc), refl),
+    tt,
+    (codes " ", codes "# x", refl, refl, refl),
+  ),
+)
 
 -- the last line is at fault, and it is the lowest
 unclosed : IsRefused (codes "INPUT(a") (Syntax 1)
-unclosed = (lit≤ tt, ((codes "INPUT(a", refl,
-    λ s h. let e : None ≡ Some s = complete_states (codes "INPUT(a") s h in cc), lower))
+unclosed = (
+  lit≤ tt,
+  (
+    (
+      codes "INPUT(a",
+      refl,
+      λ s h. let e : None ≡ Some s = complete_states (codes "INPUT(a") s h in cc,
+    ),
+    lower,
+  ),
+)
   where
     lower : (k : ℕ) → k < 1 → ¬ IsSyntaxFault (codes "INPUT(a") k
     lower zero h f = let e : None ≡ Some f.0 = f.1 in cc
@@ -57,8 +81,11 @@ unclosed = (lit≤ tt, ((codes "INPUT(a", refl,
 
 -- b is fed by the cycle of c and d
 fed_by_cycle : IsStuck cycle_with_tail (codes "b")
-fed_by_cycle = (is_in (codes "b" ∷ codes "c" ∷ codes "d" ∷ []),
-    stuck cycle_with_tail (codes "b" ∷ codes "c" ∷ codes "d" ∷ []) refl, refl)
+fed_by_cycle = (
+  is_in (codes "b" ∷ codes "c" ∷ codes "d" ∷ []),
+  stuck cycle_with_tail (codes "b" ∷ codes "c" ∷ codes "d" ∷ []) refl,
+  refl,
+)
 
 -- the fault-free values of c17 under 11111
 c17_values : map (bit_within 4 c17 (true ∷ true ∷ true ∷ true ∷ true ∷ []) None)
@@ -72,28 +99,46 @@ c17_solution = solves _ _ _ _ refl
 
 -- a stem of a source, a branch, a cell's stem, a data pin, an output's branch, and a pin of an
 -- exclusive or
-c17_stem : Detects c17 (true ∷ true ∷ true ∷ true ∷ true ∷ []) (record { model = StuckAt;
-    line = line.Stem 0; stuck = false })
+c17_stem : Detects c17 (true ∷ true ∷ true ∷ true ∷ true ∷ []) (record {
+  model = StuckAt;
+  line = line.Stem 0;
+  stuck = false;
+})
 c17_stem = detects 4 _ _ _ refl refl refl
 
-c17_branch : Detects c17 (true ∷ true ∷ true ∷ true ∷ true ∷ []) (record { model = StuckAt;
-    line = line.Pin 7 1; stuck = true })
+c17_branch : Detects c17 (true ∷ true ∷ true ∷ true ∷ true ∷ []) (record {
+  model = StuckAt;
+  line = line.Pin 7 1;
+  stuck = true;
+})
 c17_branch = detects 4 _ _ _ refl refl refl
 
-cell_stem : Detects inverter_loop (false ∷ []) (record { model = StuckAt; line = line.Stem 0;
-    stuck = true })
+cell_stem : Detects inverter_loop (false ∷ []) (record {
+  model = StuckAt;
+  line = line.Stem 0;
+  stuck = true;
+})
 cell_stem = detects 4 _ _ _ refl refl refl
 
-data_pin : Detects scan_cell (true ∷ true ∷ []) (record { model = StuckAt; line = line.Data 0;
-    stuck = false })
+data_pin : Detects scan_cell (true ∷ true ∷ []) (record {
+  model = StuckAt;
+  line = line.Data 0;
+  stuck = false;
+})
 data_pin = detects 4 _ _ _ refl refl refl
 
-output_branch : Detects output_and_inverter (false ∷ []) (record { model = StuckAt;
-    line = line.Out 0; stuck = true })
+output_branch : Detects output_and_inverter (false ∷ []) (record {
+  model = StuckAt;
+  line = line.Out 0;
+  stuck = true;
+})
 output_branch = detects 4 _ _ _ refl refl refl
 
-xor_pin : Detects xor_of_one (false ∷ []) (record { model = StuckAt; line = line.Pin 1 1;
-    stuck = true })
+xor_pin : Detects xor_of_one (false ∷ []) (record {
+  model = StuckAt;
+  line = line.Pin 1 1;
+  stuck = true;
+})
 xor_pin = detects 4 _ _ _ refl refl refl
 
 -- the sinks of a name that an output and a gate pin read: the pin goes first though its line comes

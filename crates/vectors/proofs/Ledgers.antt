@@ -26,13 +26,13 @@ claims_of = Call.Claim 0 ∷ Call.Claim 1 ∷ Call.Claim 2 ∷ Call.Claim 3 ∷ 
 -- three pieces are held
 settles_early : replies (shape_of 1 512 8) []
     (claims_of ++ Call.Report 5 (outcome.Hit 3) ∷ Call.Drop 7 ∷ Call.Report 2
-        (outcome.Hit 0) ∷ Call.Report 0 outcome.Clear ∷ Call.Status 0
+    (outcome.Hit 0) ∷ Call.Report 0 outcome.Clear ∷ Call.Status 0
     ∷ Call.Report 1 outcome.Clear ∷ Call.Status 0 ∷ Call.Finished ∷ [])
     ≡ Claimed (Piece 0 0) ∷ Claimed (Piece 0 1) ∷ Claimed (Piece 0 2) ∷ Claimed
-        (Piece 0 3) ∷ Claimed (Piece 0 4) ∷ Claimed (Piece 0 5) ∷ Claimed (Piece 0 6) ∷ Claimed
-        (Piece 0 7)
+    (Piece 0 3) ∷ Claimed (Piece 0 4) ∷ Claimed (Piece 0 5) ∷ Claimed (Piece 0 6) ∷ Claimed
+    (Piece 0 7)
     ∷ Done ∷ Done ∷ Done ∷ Done ∷ Status (Waiting 1) ∷ Done ∷ Status (Settled (Some 128)) ∷ Finish
-        finish_is.Finished ∷ []
+    finish_is.Finished ∷ []
 unfolding claims_of
 settles_early = refl
 
@@ -46,11 +46,11 @@ no_drop_before = refl
 -- the refusals, each without effect
 refusals : replies (shape_of 1 64 1) []
     (Call.Report 0 outcome.Clear ∷ Call.Claim 0 ∷ Call.Claim 0 ∷ Call.Claim 1 ∷ Call.Report 0
-        (outcome.Hit 64) ∷ Call.Drop 0 ∷ Call.Report 0 outcome.Clear ∷ Call.Claim 0 ∷ Call.Status
-        0 ∷ Call.Finished ∷ [])
+    (outcome.Hit 64) ∷ Call.Drop 0 ∷ Call.Report 0 outcome.Clear ∷ Call.Claim 0 ∷ Call.Status
+    0 ∷ Call.Finished ∷ [])
     ≡ Refused NothingHeld ∷ Claimed (Piece 0 0) ∷ Refused Holding ∷ Refused NoSuchWorker ∷ Refused
-        BadOutcome ∷ Refused NoEarlierHit ∷ Done ∷ Claimed Exhausted ∷ Status
-        (Settled None) ∷ Finish finish_is.Finished ∷ []
+    BadOutcome ∷ Refused NoEarlierHit ∷ Done ∷ Claimed Exhausted ∷ Status
+    (Settled None) ∷ Finish finish_is.Finished ∷ []
 refusals = refl
 
 -- claims are exhausted, and the class still waits
@@ -60,9 +60,9 @@ not_finished = refl
 
 dropped : replies (shape_of 1 65 1) []
     (Call.Claim 0 ∷ Call.Report 0 (outcome.Hit 0) ∷ Call.Claim 0 ∷ Call.Drop 0 ∷ Call.Status
-        0 ∷ Call.Status 1 ∷ Call.Finished ∷ [])
+    0 ∷ Call.Status 1 ∷ Call.Finished ∷ [])
     ≡ Claimed (Piece 0 0) ∷ Done ∷ Claimed (Piece 0 1) ∷ Done ∷ Status (Settled (Some 0)) ∷ Refused
-        NoSuchClass ∷ Finish finish_is.Finished ∷ []
+    NoSuchClass ∷ Finish finish_is.Finished ∷ []
 dropped = refl
 
 no_tests : replies (shape_of 1 0 1) [] (Call.Finished ∷ Call.Status 0 ∷ Call.Claim 0 ∷ [])
@@ -72,13 +72,13 @@ no_tests = refl
 -- a short last block bounds the outcome
 short_block : replies (shape_of 1 65 1) []
     (Call.Report 0 outcome.Clear ∷ Call.Drop 0 ∷ Call.Claim 0 ∷ Call.Claim 0 ∷ Call.Report 0
-        (outcome.Hit 64) ∷ Call.Drop 0 ∷ Call.Report 0 outcome.Clear ∷ Call.Claim 0
+    (outcome.Hit 64) ∷ Call.Drop 0 ∷ Call.Report 0 outcome.Clear ∷ Call.Claim 0
     ∷ Call.Report 0 (outcome.Hit 1) ∷ Call.Drop 0 ∷ Call.Report 0 (outcome.Hit 0) ∷ Call.Claim
-        0 ∷ Call.Claim 0 ∷ Call.Report 0 outcome.Clear ∷ Call.Status 0 ∷ [])
+    0 ∷ Call.Claim 0 ∷ Call.Report 0 outcome.Clear ∷ Call.Status 0 ∷ [])
     ≡ Refused NothingHeld ∷ Refused NothingHeld ∷ Claimed (Piece 0 0) ∷ Refused Holding ∷ Refused
-        BadOutcome ∷ Refused NoEarlierHit ∷ Done ∷ Claimed (Piece 0 1)
+    BadOutcome ∷ Refused NoEarlierHit ∷ Done ∷ Claimed (Piece 0 1)
     ∷ Refused BadOutcome ∷ Refused NoEarlierHit ∷ Done ∷ Claimed Exhausted ∷ Claimed
-        Exhausted ∷ Refused NothingHeld ∷ Status (Settled (Some 64)) ∷ []
+    Exhausted ∷ Refused NothingHeld ∷ Status (Settled (Some 64)) ∷ []
 short_block = refl
 
 shapes : map shape_fault (shape_of 16384 65536 1 ∷ shape_of 65537 4096 1 ∷ shape_of 16385 65536 1

@@ -168,7 +168,7 @@ odd_text_listing = refl
 -- transition faults
 and_of_two_transitions :
     the_report Transition and_of_two
-        (tests (codes "00" ∷ codes "01" ∷ codes "10" ∷ codes "11" ∷ [])) All ≡ text (
+    (tests (codes "00" ∷ codes "01" ∷ codes "10" ∷ codes "11" ∷ [])) All ≡ text (
     codes "stem a str none" ∷ codes "stem a stf none" ∷ codes "stem b str 3" ∷
     codes "stem b stf 2" ∷ codes "stem z str 3" ∷ codes "stem z stf none" ∷
     codes "3 of 6 (50.00%)" ∷ [])

@@ -52,11 +52,11 @@ second_block = refl
 -- three pairs and a test without a second
 c17_firsts :
     firsts c17 (tests (codes "11111" ∷ codes "00000" ∷ codes "10111" ∷ codes "01011" ∷ codes
-        "00110" ∷ codes "11010" ∷ codes "11111" ∷ []))
+    "00110" ∷ codes "11010" ∷ codes "11111" ∷ []))
     ≡ None ∷ None ∷ Some 3 ∷ Some 1 ∷ None ∷ Some 3 ∷ None ∷ None ∷ None ∷ Some
-        3 ∷ None ∷ None ∷ None ∷ Some 1 ∷ Some 1 ∷ None ∷ Some 3 ∷ None ∷ Some
-        3 ∷ None ∷ None ∷ None ∷ None ∷ Some 3 ∷ None ∷ Some 3 ∷ None ∷ Some 5 ∷ None ∷ None ∷ Some
-        5 ∷ Some 1 ∷ Some 3 ∷ None ∷ []
+    3 ∷ None ∷ None ∷ None ∷ Some 1 ∷ Some 1 ∷ None ∷ Some 3 ∷ None ∷ Some
+    3 ∷ None ∷ None ∷ None ∷ None ∷ Some 3 ∷ None ∷ Some 3 ∷ None ∷ Some 5 ∷ None ∷ None ∷ Some
+    5 ∷ Some 1 ∷ Some 3 ∷ None ∷ []
 c17_firsts = refl
 
 -- the classes are those of transition faults

@@ -27,8 +27,10 @@ byte_first = ([], refl)
 -- text
 odd_rows : HasTests (codes " 10" ++ 9 ∷ codes "# x" ++ 13 ∷ 10 ∷ 10 ∷ codes "   # only a comment"
     ++ 10 ∷ codes "01#" ++ 10 ∷ codes "11" ++ 13 ∷ []) 2
-    (record { width = 2; tests = (true ∷ false ∷ []) ∷ (false ∷ true ∷ []) ∷ (true ∷ true ∷ []) ∷ []
-        })
+    (record {
+      width = 2;
+      tests = (true ∷ false ∷ []) ∷ (false ∷ true ∷ []) ∷ (true ∷ true ∷ []) ∷ [];
+    })
 odd_rows = (refl, refl, refl)
 
 -- a carriage return that ends no line is a byte of the row
@@ -38,8 +40,10 @@ inner_return = ([], refl)
 no_rows : HasTests [] 5 (record { width = 5; tests = [] })
 no_rows = (refl, refl, refl)
 
-only_comments : HasTests (text (codes "# a" ∷ codes "" ∷ codes " # b" ∷ [])) 5 (record { width = 5;
-    tests = [] })
+only_comments : HasTests (text (codes "# a" ∷ codes "" ∷ codes " # b" ∷ [])) 5 (record {
+  width = 5;
+  tests = [];
+})
 only_comments = (refl, refl, refl)
 
 -- the first row at fault decides, also past block 63
@@ -56,7 +60,7 @@ orders : map (λ l. order_faults (text (l ∷ [])) 4)
     (codes "000000003" ∷ codes "0000000003" ∷ codes "0 1" ∷ codes "-1" ∷ codes "4" ∷ codes
     "3 # x" ∷ [])
     ≡ [] ∷ (order.BadNumber 1 ∷ []) ∷ (order.BadNumber 1 ∷ []) ∷ (order.BadNumber
-        1 ∷ []) ∷ (order.NoSuchWorker 1 ∷ []) ∷ [] ∷ []
+    1 ∷ []) ∷ (order.NoSuchWorker 1 ∷ []) ∷ [] ∷ []
 orders = refl
 
 moves : HasMoves (text (codes "0" ∷ codes "# none" ∷ codes "003" ∷ [])) 4 (0 ∷ 3 ∷ [])

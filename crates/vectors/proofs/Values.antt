@@ -21,8 +21,10 @@ abbrev stem : ℕ → Bool → Fault
 stem s b = record { model = StuckAt; line = line.Stem s; stuck = b }
 
 -- the buffer: a and z stuck at one bit are of one class
-buffer_classes : AreClassesOf StuckAt buffer (record { class_of = 0 ∷ 1 ∷ 0 ∷ 1 ∷ [];
-    representative = 2 ∷ 3 ∷ [] })
+buffer_classes : AreClassesOf StuckAt buffer (record {
+  class_of = 0 ∷ 1 ∷ 0 ∷ 1 ∷ [];
+  representative = 2 ∷ 3 ∷ [];
+})
 buffer_classes = record { count = refl; class = each; representative = refl }
   where
     at : (f : Fault) (class : ℕ) → Among f (faults StuckAt buffer)
@@ -60,8 +62,10 @@ abbrev buffer_level : Name → ℕ
 buffer_level n = if bytes_eq n (codes "z") then 1 else 0
 
 buffer_levels : AreLevels buffer buffer_level
-buffer_levels = record { source = λ n at. source n (among (codes "a" ∷ []) n at);
-    gate = λ n kind args at. gate n kind args (among buffer (Gate n kind args) at) }
+buffer_levels = record {
+  source = λ n at. source n (among (codes "a" ∷ []) n at);
+  gate = λ n kind args at. gate n kind args (among buffer (Gate n kind args) at);
+}
   where
     source : (n : Name) → Among n (codes "a" ∷ []) → buffer_level n ≡ 0
     source n (inl e) = rw (← e) refl
@@ -93,8 +97,13 @@ buffer_order = record { all = all; count = refl; ordered = ordered }
 
     ordered : (i j d : ℕ) → i < j → j < 2
         → GoesBefore buffer (slice_index_or (0 ∷ 1 ∷ []) i d) (slice_index_or (0 ∷ 1 ∷ []) j d)
-    ordered zero (suc zero) d lt len = (0, 1, (buffer_level, codes "a", buffer_levels, refl, refl),
-        (buffer_level, codes "z", buffer_levels, refl, refl), inl (omega arith))
+    ordered zero (suc zero) d lt len = (
+      0,
+      1,
+      (buffer_level, codes "a", buffer_levels, refl, refl),
+      (buffer_level, codes "z", buffer_levels, refl, refl),
+      inl (omega arith),
+    )
     ordered zero zero d lt len = absurd (omega (arith, lt))
     ordered zero (suc (suc j)) d lt len = absurd (omega (arith, len))
     ordered (suc i) zero d lt len = absurd (omega (arith, lt))

@@ -38,7 +38,7 @@ open_held s p (Event.Claim u ∷ h) l c e =
     go before (inl lt) =
         let i = before lt in
         let apart : eqb i.0 u ≡ false = ne_eqb i.0 u (λ q. let x : held u h ≡ Some p =
-            subst (λ w. held w h ≡ Some p) q i.2 in let y = a.1 in absurd (cc)) in
+        subst (λ w. held w h ≡ Some p) q i.2 in let y = a.1 in absurd (cc)) in
         (i.0, i.1, ap (λ b. cond b (Some (claims h)) (held i.0 h)) apart ∙ i.2)
     go before (inr le) =
         let q : claims h ≡ p = omega arith in
@@ -56,7 +56,7 @@ open_held s p (Event.Report u o ∷ h) l c e = go (λ q. open_held s p h l.1 c q
     go before false x q =
         let i = before q in
         let apart : eqb i.0 u ≡ false = ne_eqb i.0 u (λ r. let y : held u h ≡ Some p =
-            subst (λ w. held w h ≡ Some p) r i.2 in let z = held-holds u p h y in absurd (cc)) in
+        subst (λ w. held w h ≡ Some p) r i.2 in let z = held-holds u p h y in absurd (cc)) in
         (i.0, i.1, ap (λ b. cond b None (held i.0 h)) apart ∙ i.2)
 open_held s p (Event.Drop u ∷ h) l c e = go (λ q. open_held s p h l.1 c q) (holds u p h) refl e
   where
@@ -67,7 +67,7 @@ open_held s p (Event.Drop u ∷ h) l c e = go (λ q. open_held s p h l.1 c q) (h
     go before false x q =
         let i = before q in
         let apart : eqb i.0 u ≡ false = ne_eqb i.0 u (λ r. let y : held u h ≡ Some p =
-            subst (λ w. held w h ≡ Some p) r i.2 in let z = held-holds u p h y in absurd (cc)) in
+        subst (λ w. held w h ≡ Some p) r i.2 in let z = held-holds u p h y in absurd (cc)) in
         (i.0, i.1, ap (λ b. cond b None (held i.0 h)) apart ∙ i.2)
 
 -- where all pieces are claimed and no worker holds one, none is open
@@ -84,10 +84,12 @@ none_open s h l all free p lt e =
 settles_from : (s : Shape) (class : ℕ) (h : History) → IsLegal s h → class < s.classes
     → ((b : ℕ) → b < block_count s → entry (piece_at s class b) h ≢ state.Open)
     → (n b : ℕ) → b + n ≡ block_count s → ClearBelow s class b h
-        → (at : Option ℕ) × IsSettledAt s h class at
-settles_from s class h l lt closed zero b e clear =
-    (None, status-none (λ k. entry (piece_at s class k) h) (block_count s)
-        (λ k m. clear k (omega arith)))
+    → (at : Option ℕ) × IsSettledAt s h class at
+settles_from s class h l lt closed zero b e clear = (
+  None,
+  status-none (λ k. entry (piece_at s class k) h) (block_count s)
+      (λ k m. clear k (omega arith)),
+)
 settles_from s class h l lt closed (suc n) b e clear = go (entry (piece_at s class b) h) refl
     (λ q. settles_from s class h l lt closed n (b + 1) (omega arith) (more q))
   where
@@ -103,8 +105,10 @@ settles_from s class h l lt closed (suc n) b e clear = go (entry (piece_at s cla
         → (entry (piece_at s class b) h ≡ state.Clear → (at : Option ℕ) × IsSettledAt s h class at)
         → (at : Option ℕ) × IsSettledAt s h class at
     go state.Clear q i = i q
-    go (state.Hit k) q i = (Some (64 * b + k),
-        status-hit (λ j. entry (piece_at s class j) h) (block_count s) b k (omega arith) clear q)
+    go (state.Hit k) q i = (
+      Some (64 * b + k),
+      status-hit (λ j. entry (piece_at s class j) h) (block_count s) b k (omega arith) clear q,
+    )
     go state.Open q i = absurd (closed b (omega arith) q)
     go state.Skipped q i = absurd (skipped_not_first s class b h l lt (omega arith) clear q)
 
@@ -112,7 +116,7 @@ pub all_settled : (s : Shape) (h : History) → IsLegal s h
     → ((p : ℕ) → p < piece_count s → entry p h ≢ state.Open) → AreSettled s h s.classes
 all_settled s h l closed class lt =
     settles_from s class h l lt (λ b m. closed (piece_at s class b) (piece_at-below s class b lt m))
-        (block_count s) 0 (omega arith) (λ k m. absurd (omega arith))
+    (block_count s) 0 (omega arith) (λ k m. absurd (omega arith))
 
 pub settled_finished : (s : Shape) (h : History) → AreSettled s h s.classes
     → finish s h ≡ finish_is.Finished
@@ -127,9 +131,12 @@ settled_goes_on s w n later earlier c settled class lt = let x = settled class l
 pub settled_past : (s : Shape) (n : ℕ) (d h : History) → AreSettled s h n → AreSettled s (d ++ h) n
 settled_past s n [] h a = a
 settled_past s n (e ∷ d) h a =
-    settled_goes_on s (suc (worker_of e)) n (e ∷ (d ++ h)) (d ++ h) (e ∷ [], refl,
-        ((λ q. let bad : worker_of e ≡ suc (worker_of e) = q in omega (arith, bad)), tt))
-        (settled_past s n d h a)
+    settled_goes_on s (suc (worker_of e)) n (e ∷ (d ++ h)) (d ++ h) (
+      e ∷ [],
+      refl,
+      ((λ q. let bad : worker_of e ≡ suc (worker_of e) = q in omega (arith, bad)), tt),
+    )
+    (settled_past s n d h a)
 
 -- one class more
 pub settled_more : (s : Shape) (n : ℕ) (h : History) (at : Option ℕ) → AreSettled s h n
@@ -144,8 +151,10 @@ settled_more s n h at a e class lt = go (cases_lt class n)
 -- a finished ledger has settled each class
 pub finished_settled : (s : Shape) (h : History) → finish s h ≡ finish_is.Finished
     → AreSettled s h s.classes
-finished_settled s h e class lt = past (status s h) 0 s.classes e class (omega arith) (omega (arith,
-    lt))
+finished_settled s h e class lt = past (status s h) 0 s.classes e class (omega arith) (omega (
+  arith,
+  lt,
+))
   where
     past : (g : ℕ → Status) (a n : ℕ) → finish_from a (map g (from_up a n)) ≡ finish_is.Finished
         → (k : ℕ) → a ≤ k → k < a + n → (at : Option ℕ) × (g k ≡ status_is.Settled at)
@@ -155,8 +164,8 @@ finished_settled s h e class lt = past (status s h) 0 s.classes e class (omega a
         go : (y : Status) → g a ≡ y → finish_from a (y ∷ map g (from_up (a + 1) n))
             ≡ finish_is.Finished
             → (finish_from (a + 1) (map g (from_up (a + 1) n)) ≡ finish_is.Finished → (k : ℕ)
-                → a + 1 ≤ k → k < a + 1 + n → (at : Option ℕ) × (g k ≡ status_is.Settled at))
-                → (at : Option ℕ) × (g k ≡ status_is.Settled at)
+            → a + 1 ≤ k → k < a + 1 + n → (at : Option ℕ) × (g k ≡ status_is.Settled at))
+            → (at : Option ℕ) × (g k ≡ status_is.Settled at)
         go (status_is.Waiting b) q v i = absurd (cc)
         go (status_is.Settled at) q v i = pick (cases_lt a k)
           where

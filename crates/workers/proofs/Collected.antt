@@ -47,13 +47,15 @@ set_place (z ∷ xs) (suc i) (suc k) x y e = go (set_place xs i k x y e)
 -- one more was given back, and has no place in the table
 pub put_past : (was : List (Option Done)) (given : List Done) (now : List (Option Done))
     (done : Done) → ArePut was given now → ArePut was (given ++ done ∷ []) now
-put_past was given now done put = record { count = put.count;
-    each = λ part d at. go part d (put.each part d at) }
+put_past was given now done put = record {
+  count = put.count;
+  each = λ part d at. go part d (put.each part d at);
+}
   where
     go : (part : ℕ) (d : Done) → (slice_get was part ≡ Some (Some d))
         ⊎ ((d.part ≡ part) × (k : ℕ) × (slice_get given k ≡ Some d))
         → (slice_get was part ≡ Some (Some d))
-            ⊎ ((d.part ≡ part) × (k : ℕ) × (slice_get (given ++ done ∷ []) k ≡ Some d))
+        ⊎ ((d.part ≡ part) × (k : ℕ) × (slice_get (given ++ done ∷ []) k ≡ Some d))
     go part d (inl x) = inl x
     go part d (inr x) = inr (x.0, x.1, kept given (done ∷ []) x.1 d x.2)
 
@@ -69,11 +71,14 @@ put_more was given now done put = record {
     go : (part : ℕ) (d : Done) → ((part ≡ done.part) × (Some done ≡ Some d))
         ⊎ (slice_get now part ≡ Some (Some d))
         → (slice_get was part ≡ Some (Some d))
-            ⊎ ((d.part ≡ part) × (k : ℕ) × (slice_get (given ++ done ∷ []) k ≡ Some d))
+        ⊎ ((d.part ≡ part) × (k : ℕ) × (slice_get (given ++ done ∷ []) k ≡ Some d))
     go part d (inl x) =
         let same : done ≡ d = let e = x.1 in cc in
-        inr (ap (λ (y : Done). y.part) (sym same) ∙ sym x.0, length given,
-            last_of given done ∙ ap Some same)
+        inr (
+          ap (λ (y : Done). y.part) (sym same) ∙ sym x.0,
+          length given,
+          last_of given done ∙ ap Some same,
+        )
     go part d (inr x) = (put_past was given now done put).each part d x
 
 -- of no thread
@@ -84,7 +89,7 @@ given_none parts table count none = record {
   each = λ part done at.
       let low = slice_get_within table part (Some done) at in
       let bad : IfSome (Some done) (λ _. ⊥) = subst (λ (x : Option Done). IfSome x (λ _. ⊥))
-          (get_or_from_slice_get table part (Some done) None at) (none part None low) in absurd bad;
+      (get_or_from_slice_get table part (Some done) None at) (none part None low) in absurd bad;
 }
 
 -- of one thread more
@@ -93,14 +98,16 @@ pub given_more : {Z E : Type 0} (parts : ℕ) (back : List (Result (Vec Done Z) 
     → ArePut was given.items table
     → AreGivenBack parts (back ++ Ok given ∷ []) table
 given_more {Z} {E} parts back given was table before put =
-    record { count = put.count ∙ before.count;
-    each = λ part done at. go part done (put.each part done at) }
+    record {
+      count = put.count ∙ before.count;
+      each = λ part done at. go part done (put.each part done at);
+    }
   where
     go : (part : ℕ) (done : Done) → (slice_get was part ≡ Some (Some done))
         ⊎ ((done.part ≡ part) × (k : ℕ) × (slice_get given.items k ≡ Some done))
         → (done.part ≡ part) × (thread : ℕ) × (all : Vec Done Z)
-            × (slice_get (back ++ Ok given ∷ []) thread ≡ Some (Ok all)) × (k : ℕ)
-            × (slice_get all.items k ≡ Some done)
+        × (slice_get (back ++ Ok given ∷ []) thread ≡ Some (Ok all)) × (k : ℕ)
+        × (slice_get all.items k ≡ Some done)
     go part done (inl x) = let h = before.each part done x in
         (h.0, h.1, h.2, kept back (Ok given ∷ []) h.1 (Ok h.2) h.3, h.4, h.5)
     go part done (inr x) = (x.0, length back, given, last_of back (Ok given), x.1, x.2)
@@ -110,7 +117,7 @@ pub found_by_part : {Z E : Type 0} (job : Parts) (ranked : List Ranked) (classes
     (workers n parts : ℕ) (P : Type 0) (S : Stops) (back : List (Result (Vec Done Z) E))
     (table : List (Option Done)) → n ≡ workers
     → All (λ one. IfOk one (λ all. (worker : ℕ) × (worker < n)
-        × AreDone job ranked classes worker P S all.items)) back → AreGivenBack parts back table
+    × AreDone job ranked classes worker P S all.items)) back → AreGivenBack parts back table
     → AreFoundByPart job ranked classes workers P S table
 found_by_part {Z} {E} job ranked classes workers n parts P S back table is all given = record {
   each = λ part done at.
@@ -118,8 +125,8 @@ found_by_part {Z} {E} job ranked classes workers n parts P S back table is all g
       let low = slice_get_within back h.1 (Ok h.2) h.3 in
       let own : (worker : ℕ) × (worker < n) × AreDone job ranked classes worker P S h.2.items =
       subst (λ (one : Result (Vec Done Z) E). IfOk one (λ x. (worker : ℕ) × (worker < n)
-          × AreDone job ranked classes worker P S x.items)) (get_or_from_slice_get back h.1 (Ok h.2)
-          (Ok h.2) h.3) (all h.1 (Ok h.2) low) in (
+      × AreDone job ranked classes worker P S x.items)) (get_or_from_slice_get back h.1 (Ok h.2)
+      (Ok h.2) h.3) (all h.1 (Ok h.2) low) in (
         h.0,
         own.0,
         omega (arith, own.1, is),

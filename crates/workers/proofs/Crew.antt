@@ -22,7 +22,7 @@ pub workers_count : (ws : List Worker) (p : Place) → map (λ (w : Worker). w.s
     → length ws ≡ p.shape.workers
 workers_count ws p e =
     sym (length-map ws (λ (w : Worker). w.seat)) ∙ ap (λ (l : List Sitter). length l) e
-        ∙ length-map-below (newcomer p) p.shape.workers
+    ∙ length-map-below (newcomer p) p.shape.workers
 
 -- each has its newcomer's seat
 pub seat_at : (ws : List Worker) (p : Place) (k : ℕ) (d : Worker)
@@ -31,7 +31,7 @@ pub seat_at : (ws : List Worker) (p : Place) (k : ℕ) (d : Worker)
 seat_at ws p k d e lt =
     let n = workers_count ws p e in
     get_map (λ (w : Worker). w.seat) ws k d ∙ ap (λ (l : List Sitter). get_or l k d.seat) e
-        ∙ get_or-map-below (newcomer p) p.shape.workers k d.seat (omega arith)
+    ∙ get_or-map-below (newcomer p) p.shape.workers k d.seat (omega arith)
 
 -- and its simulation serves the job
 pub serves_at : (ws : List Worker) (job : Parts) (k : ℕ) (d : Worker)
@@ -47,18 +47,27 @@ own_newcomer p n a e = e ∙ ap (newcomer p) (ap (λ (x : Sitter). x.worker) (sy
 pub returns_along : (j j' : Parts) (o o' : Chosen) (p p' : Place) (w w' : ℕ) (P P' : Type 0)
     (S S' : Stops) (a a' : Sitter) → j ≡ j' → o ≡ o' → p ≡ p' → w ≡ w' → (P' → P)
     → ((u k b : ℕ) → S u k b → S' u k b) → a ≡ a' → Returns j o p w P S a
-        → Returns j' o' p' w' P' S' a'
+    → Returns j' o' p' w' P' S' a'
 returns_along j j' o o' p p' w w' P P' S S' a a' e d f h q t s r =
     subst (λ x. Returns x o' p' w' P' S' a') e
     (subst (λ x. Returns j x p' w' P' S' a') d
     (subst (λ x. Returns j o x w' P' S' a') f
     (subst (λ x. Returns j o p x P' S' a') h
     (subst (λ x. Returns j o p w P' S' x) s
-    (record { place_is = r.place_is; worker_is = r.worker_is; legal = r.legal; truly = r.truly;
-        rested = λ x. r.rested (q x); ended = stopped r.ended })))))
+    (record {
+      place_is = r.place_is;
+      worker_is = r.worker_is;
+      legal = r.legal;
+      truly = r.truly;
+      rested = λ x. r.rested (q x);
+      ended = stopped r.ended;
+    })))))
   where
     stopped : HasRested a ⊎ IsStopped p.shape (stops_over o S) w a.seen
         → HasRested a ⊎ IsStopped p.shape (stops_over o S') w a.seen
     stopped (inl x) = inl x
-    stopped (inr x) = inr (x.0, x.1,
-        t w (o.class_at (class_of p.shape x.0)) (block_of p.shape x.0) x.2)
+    stopped (inr x) = inr (
+      x.0,
+      x.1,
+      t w (o.class_at (class_of p.shape x.0)) (block_of p.shape x.0) x.2,
+    )

@@ -50,7 +50,7 @@ module _ (job : Parts) (over : Chosen) (p : Place) (P : Type 0) (S : Stops) (sea
       let r = back.each w x.0 x.1 in
       let c : ContinuesWithout x.0.worker h x.0.seen =
       subst (λ (a : Sitter). ContinuesWithout a.worker h a.seen)
-          (get_or_from_slice_get seats w x.0 x.0 x.1) (holds w x.0 low) in
+      (get_or_from_slice_get seats w x.0 x.0 x.1) (holds w x.0 low) in
       (x.0, subst (λ v. ContinuesWithout v h x.0.seen) r.worker_is c, r)
 
   pub each_truly : (w : ℕ) → w < p.shape.workers → ReportsTruly job over p.shape w h []
@@ -61,7 +61,7 @@ module _ (job : Parts) (over : Chosen) (p : Place) (P : Type 0) (S : Stops) (sea
   free sure w lt =
       let x = seat_of w lt in
       held_goes_on w h x.0.seen x.1 ∙ subst (λ v. held v x.0.seen ≡ None) x.2.worker_is
-          (x.2.rested sure).free
+      (x.2.rested sure).free
 
   -- with a gate that always lets pass all classes are settled
   pub rested_settled : P → 0 < p.shape.workers → IsLegal p.shape h
@@ -79,15 +79,15 @@ module _ (job : Parts) (over : Chosen) (p : Place) (P : Type 0) (S : Stops) (sea
           → AreSettled p.shape h p.shape.classes
       go (inl all) =
           let same : claims x.0.seen ≡ piece_count s = all
-              ∙ ap (λ (q : Place). piece_count q.shape) x.2.place_is in
+          ∙ ap (λ (q : Place). piece_count q.shape) x.2.place_is in
           let more : claims x.0.seen ≤ claims h = subst (λ k. claims x.0.seen ≤ claims k)
-              (sym x.1.1) (claims_past x.1.0 x.0.seen) in
+          (sym x.1.1) (claims_past x.1.0 x.0.seen) in
           let few = legal_claims s h l in
           all_settled s h l (none_open s h l (omega arith) (free sure))
       go (inr settled) =
           settled_goes_on s 0 s.classes h x.0.seen x.1
-              (subst (λ (q : Place). AreSettled q.shape x.0.seen q.shape.classes) x.2.place_is
-              settled)
+          (subst (λ (q : Place). AreSettled q.shape x.0.seen q.shape.classes) x.2.place_is
+          settled)
 
   -- where a class waits each worker was stopped, or all pieces are claimed
   pub each_ended : IsLegal p.shape h → (class block : ℕ)
@@ -103,15 +103,15 @@ module _ (job : Parts) (over : Chosen) (p : Place) (P : Type 0) (S : Stops) (sea
           → IsStopped p.shape (stops_over over S) w h ⊎ (claims h ≡ piece_count p.shape)
       past (inl all) =
           let same : claims x.0.seen ≡ piece_count p.shape = all
-              ∙ ap (λ (q : Place). piece_count q.shape) x.2.place_is in
+          ∙ ap (λ (q : Place). piece_count q.shape) x.2.place_is in
           let more : claims x.0.seen ≤ claims h = subst (λ k. claims x.0.seen ≤ claims k)
-              (sym x.1.1) (claims_past x.1.0 x.0.seen) in
+          (sym x.1.1) (claims_past x.1.0 x.0.seen) in
           let few = legal_claims p.shape h l in
           inr (omega arith)
       past (inr settled) =
           let all = settled_goes_on p.shape w p.shape.classes h x.0.seen x.1
-              (subst (λ (q : Place). AreSettled q.shape x.0.seen q.shape.classes) x.2.place_is
-              settled) in
+          (subst (λ (q : Place). AreSettled q.shape x.0.seen q.shape.classes) x.2.place_is
+          settled) in
           let bad = sym waits ∙ settled_finished p.shape h all in
           absurd (cc)
 
@@ -124,7 +124,7 @@ module _ (job : Parts) (over : Chosen) (p : Place) (P : Type 0) (S : Stops) (sea
 waits_within : (s : Shape) (class : ℕ) (h : History) (x : ℕ) → IsLegal s h → class < s.classes
     → (n b : ℕ) → b + n ≡ block_count s → ClearBelow s class b h
     → status_from b (map (λ k. entry (piece_at s class k) h) (from_up b n)) ≡ status_is.Waiting x
-        → x < block_count s
+    → x < block_count s
 waits_within s class h x l lt zero b e clear w = absurd (cc)
 waits_within s class h x l lt (suc n) b e clear w = go (entry (piece_at s class b) h) refl w
     (λ q. waits_within s class h x l lt n (b + 1) (omega arith) (more q))
@@ -141,8 +141,8 @@ waits_within s class h x l lt (suc n) b e clear w = go (entry (piece_at s class 
         → status_from b (y ∷ map (λ k. entry (piece_at s class k) h) (from_up (b + 1) n))
         ≡ status_is.Waiting x
         → (entry (piece_at s class b) h ≡ state.Clear
-            → status_from (b + 1) (map (λ k. entry (piece_at s class k) h) (from_up (b + 1) n))
-            ≡ status_is.Waiting x → x < block_count s) → x < block_count s
+        → status_from (b + 1) (map (λ k. entry (piece_at s class k) h) (from_up (b + 1) n))
+        ≡ status_is.Waiting x → x < block_count s) → x < block_count s
     go state.Clear q v i = i q v
     go (state.Hit k) q v i = absurd (cc)
     go state.Open q v i = let z : b ≡ x = cc in omega arith
@@ -169,9 +169,11 @@ pub waiting_range : (s : Shape) (h : History) (c b : ℕ) → IsLegal s h
     → finish s h ≡ finish_is.Waiting c b → (c < s.classes) × (b < block_count s)
 waiting_range s h c b l e =
     let r = waits_for (status s h) 0 s.classes c b e in
-    let lt : c < s.classes = omega (arith, r.0) in
-    (lt, waits_within s c h b l lt (block_count s) 0 (omega arith)
-        (λ k m. absurd (omega (arith, m))) r.1)
+    let lt : c < s.classes = omega (arith, r.0) in (
+      lt,
+      waits_within s c h b l lt (block_count s) 0 (omega arith)
+          (λ k m. absurd (omega (arith, m))) r.1,
+    )
 
 module _ (job : Parts) (over : Chosen) (workers : ℕ) (p : Place) (P : Type 0) (S : Stops)
     (seats : List Sitter) (closed : ClosedFace) (is : p.shape ≡ shape_over job over workers)
@@ -196,7 +198,7 @@ module _ (job : Parts) (over : Chosen) (workers : ℕ) (p : Place) (P : Type 0) 
   pub closed_waiting : (class block : ℕ) → ((h : History) → IsLegal closed.shape h
       → closed ≡ closed_face closed.shape h → finish_is.Waiting class block ≡ finish closed.shape h)
       → (class < over.count) × (block < blocks (length job.tests.tests)) × (¬ P)
-          × WaitsFor job over workers S (over.class_at class) block
+      × WaitsFor job over workers S (over.class_at class) block
   closed_waiting class block answers =
       let fin = asked (finish_is.Waiting class block) finish answers in
       let r = waiting_range p.shape closes.0 class block closes.1 (sym fin) in (
@@ -204,7 +206,7 @@ module _ (job : Parts) (over : Chosen) (workers : ℕ) (p : Place) (P : Type 0) 
         subst (λ (s : Shape). block < block_count s) is r.1,
         λ x.
             let done = settled_finished p.shape closes.0
-                (rested_settled job over p P S seats closes.0 back closes.2 x among closes.1) in
+            (rested_settled job over p P S seats closes.0 back closes.2 x among closes.1) in
             let bad = fin ∙ done in
             absurd (cc),
         record {
@@ -253,17 +255,17 @@ module _ (job : Parts) (workers : ℕ) (closed : ClosedFace)
       → AreFirsts job.list.model job.circuit job.tests.tests firsts
   run_firsts firsts b told =
       subst (AreFirsts job.list.model job.circuit job.tests.tests)
-          (sym (told run.history run.legal run.shows))
+      (sym (told run.history run.legal run.shows))
       (firsts_truly job closed.shape run.history b is_shape run.legal
-          (all_true job (every job.classes) closed.shape run.history run.legal run.truly)
-          run_settled)
+      (all_true job (every job.classes) closed.shape run.history run.legal run.truly)
+      run_settled)
 
   -- the closed ledger's history is one of the job's ledger
   pub run_history : (v : VerdictList) → ((h : History) → IsLegal closed.shape h
       → closed ≡ closed_face closed.shape h
       → v.firsts ≡ verdicts closed.shape h job.classes.class_of)
       → ((h : History) → closed ≡ closed_face closed.shape h
-          → v.skipped ≡ count_by is_skipped (states_of closed.shape h)) → IsOfHistory job workers v
+      → v.skipped ≡ count_by is_skipped (states_of closed.shape h)) → IsOfHistory job workers v
   run_history v told counted = record {
     history = run.history;
     legal = subst (λ s. IsLegal s run.history) run.shape run.legal;
@@ -280,22 +282,22 @@ pub run_class_firsts : (job : Parts) (classes : List ℕ) (workers : ℕ) (close
     (firsts : List (Option ℕ)) → BelongTogether job → AreChosenOf job (listed classes)
     → HasRun job (listed classes) workers closed
     → ((h : History) → IsLegal closed.shape h → closed ≡ closed_face closed.shape h
-        → firsts ≡ map (λ k. settled_at (status closed.shape h k)) (below closed.shape.classes))
+    → firsts ≡ map (λ k. settled_at (status closed.shape h k)) (below closed.shape.classes))
     → AreClassFirsts job.list.model job.circuit job.tests.tests classes firsts
 run_class_firsts job classes workers closed firsts b among run told = record {
   count = ap (λ (l : List (Option ℕ)). length l) say ∙ length-map-below g s.classes ∙ is.classes;
   first = λ k class f first e of at.
       let lt : k < s.classes = omega (arith, slice_get_within classes k class e, is.classes) in
       let x = from_mapped g (below s.classes) k first (ap (λ (l : List (Option ℕ)). slice_get l k)
-          (sym say) ∙ at) in
+      (sym say) ∙ at) in
       let same : x.0 ≡ k = sym (get_or_from_slice_get (below s.classes) k x.0 0 x.1)
-          ∙ get_or-below s.classes k 0 lt in
+      ∙ get_or-below s.classes k 0 lt in
       let here : first ≡ g k = sym x.2 ∙ ap g same in
       let own = settled k lt in
       let in_job : get_or classes k 0 ≡ class = get_or_from_slice_get classes k class 0 e in
       subst (IsFirst job.circuit job.tests.tests f) (sym (here ∙ ap settled_at own.1))
       (first_over job (listed classes) s t.0 h b is t.1 to k own.0 f lt own.1
-          (subst (λ n. IsClassOf job.list.model job.circuit f n) (sym in_job) of));
+      (subst (λ n. IsClassOf job.list.model job.circuit f n) (sym in_job) of));
 }
   where
     s : Shape
@@ -311,8 +313,10 @@ run_class_firsts job classes workers closed firsts b among run told = record {
     t = true_table job.list.model job.circuit job.tests.tests b.circuit.well_formed
 
     is : IsShapeOver job (listed classes) s
-    is = subst (λ x. IsShapeOver job (listed classes) x) (sym run.shape) (record { classes = refl;
-        tests = refl })
+    is = subst (λ x. IsShapeOver job (listed classes) x) (sym run.shape) (record {
+      classes = refl;
+      tests = refl;
+    })
 
     settled : AreSettled s h s.classes
     settled = finished_settled s h run.finished
@@ -330,4 +334,4 @@ pub back_placed : (job : Parts) (over : Chosen) (p : Place) (P : Type 0) (S : St
 back_placed job over p P S seats back k d lt =
     let x = within_place seats k lt in
     ap (λ (a : Sitter). a.place) (get_or_from_slice_get seats k x.0 d x.1)
-        ∙ (back.each k x.0 x.1).place_is
+    ∙ (back.each k x.0 x.1).place_is

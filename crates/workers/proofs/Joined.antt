@@ -49,11 +49,11 @@ firsts_found job classes firsts b found = record {
   first = λ k class f first ec of ef.
       let table = true_table job.list.model job.circuit job.tests.tests b.circuit.well_formed in
       let least_is = found.each table.0 table.1 k class first ec ef
-          ∙ ap (λ n. least table.0 n class) (done_high 0 (blocks (length job.tests.tests)) k
-          (omega arith)) in
+      ∙ ap (λ n. least table.0 n class) (done_high 0 (blocks (length job.tests.tests)) k
+      (omega arith)) in
       subst (IsFirst job.circuit job.tests.tests f) (sym least_is)
       (least_is_first job.list.model job.circuit job.tests.tests table.0 b.circuit.well_formed
-          b.circuit.arities table.1 f class of);
+      b.circuit.arities table.1 f class of);
 }
 
 -- a worker that leaves no class open was not stopped
@@ -121,7 +121,7 @@ runs_more : (job : Parts) (parts workers part : ℕ) (S : Stops) (runs : List Pa
     → AreRunsOf job parts workers S part runs → ArePartOf job parts part run.classes
     → run.worker < workers
     → ((stop : Stop) → run.stop ≡ Some stop → IsStopAt job run.classes run.worker S stop)
-        → AreRunsOf job parts workers S (part + 1) (runs ++ run ∷ [])
+    → AreRunsOf job parts workers S (part + 1) (runs ++ run ∷ [])
 runs_more job parts workers part S runs run was own low stopped = record {
   count = omega (arith, was.count, length-append runs (run ∷ []));
   each = λ k x at. go k x (pushed runs run x k at);
@@ -129,11 +129,11 @@ runs_more job parts workers part S runs run was own low stopped = record {
   where
     go : (k : ℕ) (x : PartRun) → (slice_get runs k ≡ Some x) ⊎ ((k ≡ length runs) × (run ≡ x))
         → ArePartOf job parts k x.classes × (x.worker < workers) × ((stop : Stop)
-            → x.stop ≡ Some stop → IsStopAt job x.classes x.worker S stop)
+        → x.stop ≡ Some stop → IsStopAt job x.classes x.worker S stop)
     go k x (inl h) = was.each k x h
     go k x (inr h) =
         subst (λ (r : PartRun). ArePartOf job parts k r.classes × (r.worker < workers)
-            × ((stop : Stop) → r.stop ≡ Some stop → IsStopAt job r.classes r.worker S stop)) h.1
+        × ((stop : Stop) → r.stop ≡ Some stop → IsStopAt job r.classes r.worker S stop)) h.1
         (subst (λ n. ArePartOf job parts n run.classes) (sym (h.0 ∙ was.count)) own, low, stopped)
 
 -- what waits in one run more
@@ -142,8 +142,8 @@ waits_more : (job : Parts) (runs : List PartRun) (run : PartRun) (lowest own : O
     → IsLowest (WaitsIn job (runs ++ run ∷ [])) (lower_of lowest own)
 waits_more job runs run lowest own was is =
     lowest_along (λ c b. WaitsIn job runs c b ⊎ IsOpenIn job run.classes run.stop c b)
-        (WaitsIn job (runs ++ run ∷ [])) (lower_of lowest own) (λ c b x. to c b x)
-        (λ c b x. from c b x (pushed runs run x.1 x.0 x.2))
+    (WaitsIn job (runs ++ run ∷ [])) (lower_of lowest own) (λ c b x. to c b x)
+    (λ c b x. from c b x (pushed runs run x.1 x.0 x.2))
     (lowest_join (WaitsIn job runs) (IsOpenIn job run.classes run.stop) lowest own was is)
   where
     to : (c b : ℕ) → WaitsIn job runs c b ⊎ IsOpenIn job run.classes run.stop c b
@@ -178,31 +178,31 @@ pub gathered_more : (job : Parts) (ranked : List Ranked) (classes : List ℕ)
     (parts workers worker : ℕ) (P : Type 0) (S : Stops) (part : ℕ) (firsts : List (Option ℕ))
     (lowest : Option Waiting) (done : Done)
     → BelongTogether job → IsCutOf job parts ranked classes → worker < workers → done.part ≡ part
-        → IsDone job ranked classes worker P S done
+    → IsDone job ranked classes worker P S done
     → IsGathered job ranked classes parts workers P S part firsts lowest
-        → IsGathered job ranked classes parts workers P S (part + 1) (firsts ++ done.firsts.items)
-        (lower_of lowest done.waiting)
+    → IsGathered job ranked classes parts workers P S (part + 1) (firsts ++ done.firsts.items)
+    (lower_of lowest done.waiting)
 gathered_more job ranked classes parts workers worker P S part firsts lowest done b cut low is d
     was = record {
-  start = d.end;
-  begins = ends;
-  runs = was.runs ++ run ∷ [];
-  are = runs_more job parts workers part S was.runs run was.are
-      (part_list job parts part d.start d.end ranked classes cut begins ends) low
-      (stopped_there job own worker S d.stop done.firsts.items d.ended);
-  is_lowest = waits_more job was.runs run lowest done.waiting was.is_lowest d.lowest;
-  passed = λ p.
-      let all = subst (λ s. IsLowest (IsOpenIn job own s) done.waiting) (d.passed p) d.lowest in
-      ap (λ l. lower_of l done.waiting) (was.passed p) ∙ none_open job own done.waiting all;
-  found = λ e.
-      let none = lower_none lowest done.waiting e in
-      let stop = not_stopped job own worker S d.stop done.firsts.items d.ended
+      start = d.end;
+      begins = ends;
+      runs = was.runs ++ run ∷ [];
+      are = runs_more job parts workers part S was.runs run was.are
+          (part_list job parts part d.start d.end ranked classes cut begins ends) low
+          (stopped_there job own worker S d.stop done.firsts.items d.ended);
+      is_lowest = waits_more job was.runs run lowest done.waiting was.is_lowest d.lowest;
+      passed = λ p.
+          let all = subst (λ s. IsLowest (IsOpenIn job own s) done.waiting) (d.passed p) d.lowest in
+          ap (λ l. lower_of l done.waiting) (was.passed p) ∙ none_open job own done.waiting all;
+      found = λ e.
+          let none = lower_none lowest done.waiting e in
+          let stop = not_stopped job own worker S d.stop done.firsts.items d.ended
           (subst (IsLowest (IsOpenIn job own d.stop)) none.1 d.lowest) in
-      firsts_more job classes d.start d.end firsts done.firsts.items
+          firsts_more job classes d.start d.end firsts done.firsts.items
           (start_le ranked part d.start d.end begins ends)
-      (subst (λ s. FirstsUpTo job classes s firsts) same (was.found none.0))
-      (not_stopped_found job own worker S d.stop done.firsts.items b d.ended stop);
-}
+          (subst (λ s. FirstsUpTo job classes s firsts) same (was.found none.0))
+          (not_stopped_found job own worker S d.stop done.firsts.items b d.ended stop);
+    }
   where
     own : List ℕ
     own = slice_range classes d.start d.end
@@ -225,22 +225,26 @@ pub found_there : (job : Parts) (ranked : List Ranked) (classes : List ℕ) (wor
     (P : Type 0) (S : Stops) (table : List (Option Done)) (part : ℕ) (place : Option Done)
     (done : Done)
     → AreFoundByPart job ranked classes workers P S table → slice_get table part ≡ Some place
-        → number < workers
+    → number < workers
     → (place ≡ Some done) ⊎ ((done.part ≡ part) × IsDone job ranked classes number P S done)
     → (done.part ≡ part) × (worker : ℕ) × (worker < workers)
-        × IsDone job ranked classes worker P S done
+    × IsDone job ranked classes worker P S done
 found_there job ranked classes workers number P S table part place done found at low (inl e) =
     found.each part done (at ∙ ap Some e)
-found_there job ranked classes workers number P S table part place done found at low (inr x) = (x.0,
-    number, low, x.1)
+found_there job ranked classes workers number P S table part place done found at low (inr x) = (
+  x.0,
+  number,
+  low,
+  x.1,
+)
 
 -- of all parts: the first tests of all classes
 pub gathered_all : (job : Parts) (ranked : List Ranked) (classes : List ℕ) (parts workers : ℕ)
     (P : Type 0) (S : Stops) (part : ℕ) (firsts : List (Option ℕ)) (lowest : Option Waiting)
     → 0 < parts → IsCutOf job parts ranked classes
     → part ≡ parts → lowest ≡ None
-        → IsGathered job ranked classes parts workers P S part firsts lowest
-        → AreClassFirsts job.list.model job.circuit job.tests.tests classes firsts
+    → IsGathered job ranked classes parts workers P S part firsts lowest
+    → AreClassFirsts job.list.model job.circuit job.tests.tests classes firsts
 gathered_all job ranked classes parts workers P S part firsts lowest some cut full none was =
     firsts_all job parts part was.start ranked classes firsts some cut full was.begins
     (was.found none)
@@ -250,26 +254,32 @@ open_within : (job : Parts) (parts part : ℕ) (classes : List ℕ) (stop : Opti
     (class block : ℕ) → ArePartOf job parts part classes → IsOpenIn job classes stop class block
     → (class < length job.classes.representative) × (block < blocks (length job.tests.tests))
 open_within job parts part classes None class block own x = absurd x
-open_within job parts part classes (Some stop) class block own x = ((own.each x.place class x.at).0,
-    x.within)
+open_within job parts part classes (Some stop) class block own x = (
+  (own.each x.place class x.at).0,
+  x.within,
+)
 
 -- or the lowest class that waits
 pub gathered_waits : (job : Parts) (ranked : List Ranked) (classes : List ℕ) (parts workers : ℕ)
     (P : Type 0) (S : Stops) (part : ℕ) (firsts : List (Option ℕ)) (lowest : Option Waiting)
     (class block : ℕ)
     → part ≡ parts → lowest ≡ Some (record { class = class; block = block })
-        → IsGathered job ranked classes parts workers P S part firsts lowest
+    → IsGathered job ranked classes parts workers P S part firsts lowest
     → (class < length job.classes.representative) × (block < blocks (length job.tests.tests))
-        × (P → ⊥) × PartsWaitFor job parts workers S class block
+    × (P → ⊥) × PartsWaitFor job parts workers S class block
 gathered_waits job ranked classes parts workers P S part firsts lowest class block full is was =
     let low = subst (IsLowest (WaitsIn job was.runs)) is was.is_lowest in
     let x = low.0 in
     let within = open_within job parts x.0 x.1.classes x.1.stop class block
-        (was.are.each x.0 x.1 x.2).0 x.3 in (
+    (was.are.each x.0 x.1 x.2).0 x.3 in (
       within.0,
       within.1,
       λ p. let e = was.passed p in let bad : Some (record { class = class; block = block }) ≡ None =
           sym is ∙ e in absurd (cc),
-      record { runs = was.runs; are = subst (λ n. AreRunsOf job parts workers S n was.runs) full
-          was.are; lowest = low },
+      record {
+        runs = was.runs;
+        are = subst (λ n. AreRunsOf job parts workers S n was.runs) full
+            was.are;
+        lowest = low;
+      },
     )

@@ -34,7 +34,7 @@ pub claim_moves : (t : Table) (s : Shape) (h : History) (w : ℕ) → w < s.work
     → after s h (call.Claim w) ≡ move t s h w
 claim_moves t s h w among free =
     ap (λ x. added (call.Claim w) (cond x (claim_reply s h (held w h)) (Refused NoSuchWorker))
-        ++ h) (lt-ltb w s.workers among)
+    ++ h) (lt-ltb w s.workers among)
     ∙ ap (λ x. added (call.Claim w) (claim_reply s h x) ++ h) free
     ∙ same (nat_lt (claims h) (piece_count s))
     ∙ ap (move_holding t s h w) (sym free)
@@ -51,20 +51,20 @@ pub drop_moves : (t : Table) (s : Shape) (h : History) (w p : ℕ) → w < s.wor
 drop_moves t s h w p among here hit =
     ap (λ r. added (call.Drop w) r ++ h) (drop_answer s h w p among here hit)
     ∙ sym (ap (move_holding t s h w) here
-        ∙ ap (λ b. cond b (Event.Drop w ∷ h) (Event.Report w (t (class_of s p) (block_of s p)) ∷ h))
-        hit)
+    ∙ ap (λ b. cond b (Event.Drop w ∷ h) (Event.Report w (t (class_of s p) (block_of s p)) ∷ h))
+    hit)
 
 -- and else a report of the table's outcome is
 pub report_moves : (t : Table) (s : Shape) (h : History) (w p : ℕ) → w < s.workers
     → held w h ≡ Some p → has_earlier_hit s h p ≡ false
     → fits_size (size_of s.tests (block_of s p)) (t (class_of s p) (block_of s p)) ≡ true
-        → after s h (call.Report w (t (class_of s p) (block_of s p))) ≡ move t s h w
+    → after s h (call.Report w (t (class_of s p) (block_of s p))) ≡ move t s h w
 report_moves t s h w p among here miss fits =
     ap (λ r. added (call.Report w (t (class_of s p) (block_of s p))) r
-        ++ h) (report_answer s h w p (t (class_of s p) (block_of s p)) among here fits)
+    ++ h) (report_answer s h w p (t (class_of s p) (block_of s p)) among here fits)
     ∙ sym (ap (move_holding t s h w) here
-        ∙ ap (λ b. cond b (Event.Drop w ∷ h) (Event.Report w (t (class_of s p) (block_of s p)) ∷ h))
-        miss)
+    ∙ ap (λ b. cond b (Event.Drop w ∷ h) (Event.Report w (t (class_of s p) (block_of s p)) ∷ h))
+    miss)
 
 -- a move of one of the workers is legal
 pub move_legal : (job : Parts) (t : Table) (s : Shape) (h : History) (w : ℕ) → BelongTogether job
@@ -90,8 +90,8 @@ move_legal job t s h w b is each l among = go (held w h) refl
             (legal_after s h (call.Drop w) l)
         pick false q =
             subst (IsLegal s) (report_moves t s h w p among e q
-                (true_fits job s (class_of s p) (block_of s p) (t (class_of s p) (block_of s p))
-                is.tests (each (class_of s p) (block_of s p) c d)))
+            (true_fits job s (class_of s p) (block_of s p) (t (class_of s p) (block_of s p))
+            is.tests (each (class_of s p) (block_of s p) c d)))
             (legal_after s h (call.Report w (t (class_of s p) (block_of s p))) l)
 
 -- and true to the table
@@ -119,8 +119,12 @@ piece_of : (s : Shape) (x : Option ℕ) (class block : ℕ)
     → Some (class, block) ≡ option_map {U = ℕ × ℕ} (class_and_block s) x → (p : ℕ) × (x ≡ Some p)
     × (class ≡ class_of s p) × (block ≡ block_of s p)
 piece_of s None class block e = absurd (cc)
-piece_of s (Some p) class block e = (p, refl, ap (λ (o : Option (ℕ × ℕ)). (unwrap_or o (0, 0)).0) e,
-    ap (λ (o : Option (ℕ × ℕ)). (unwrap_or o (0, 0)).1) e)
+piece_of s (Some p) class block e = (
+  p,
+  refl,
+  ap (λ (o : Option (ℕ × ℕ)). (unwrap_or o (0, 0)).0) e,
+  ap (λ (o : Option (ℕ × ℕ)). (unwrap_or o (0, 0)).1) e,
+)
 
 -- it is one of the job's
 pub told_range : (job : Parts) (s : Shape) (h : History) (w class block : ℕ) → IsShapeOf job s
@@ -148,24 +152,24 @@ drop_missed s h w p r among here e = go (has_earlier_hit s h p) refl
 pub reported_moves : (job : Parts) (t : Table) (s : Shape) (h : History) (w class block : ℕ)
     (o : Outcome) (r : Refusal) → BelongTogether job → IsShapeOf job s → IsTableOf job t
     → IsLegal s h → w < s.workers
-        → Some (class, block) ≡ option_map {U = ℕ × ℕ} (class_and_block s) (held w h)
-        → Refused r ≡ answer s h (call.Drop w)
+    → Some (class, block) ≡ option_map {U = ℕ × ℕ} (class_and_block s) (held w h)
+    → Refused r ≡ answer s h (call.Drop w)
     → IsTrueOutcome job.list.model job.circuit job.tests.tests class block o
-        → after s h (call.Report w o) ≡ move t s h w
+    → after s h (call.Report w o) ≡ move t s h w
 reported_moves job t s h w class block o r b is each l among e refused truth =
     let p = piece_of s (held w h) class block e in
     let range = told_range job s h w class block is l e in
     let own = each class block (subst (λ n. class < n) (class_count job b) range.0) range.1 in
     let same : o ≡ t class block = one_outcome job.list.model job.circuit job.tests.tests class
-        block o (t class block) truth own in
+    block o (t class block) truth own in
     let at : t class block ≡ t (class_of s p.0) (block_of s p.0) = ap (λ n. t n block) p.2
-        ∙ ap (t (class_of s p.0)) p.3 in
+    ∙ ap (t (class_of s p.0)) p.3 in
     let fits = subst (λ n. fits_size (size_of s.tests n) (t (class_of s p.0) (block_of s p.0))
-        ≡ true) p.3
+    ≡ true) p.3
     (subst (λ x. fits_size (size_of s.tests block) x ≡ true) at
-        (true_fits job s class block (t class block) is.tests own)) in
+    (true_fits job s class block (t class block) is.tests own)) in
     ap (λ x. after s h (call.Report w x)) (same ∙ at)
-        ∙ report_moves t s h w p.0 among p.1 (drop_missed s h w p.0 r among p.1 refused) fits
+    ∙ report_moves t s h w p.0 among p.1 (drop_missed s h w p.0 r among p.1 refused) fits
 
 -- the event that a move adds, by the reply to its call
 pub claim_event : (t : Table) (s : Shape) (h : History) (w : ℕ) (r : Reply) → w < s.workers
@@ -184,7 +188,7 @@ drop_event t s h w p among here e = go (has_earlier_hit s h p) refl
     go false q =
         let refused : answer s h (call.Drop w) ≡ Refused NoEarlierHit =
         ap (λ x. cond x (drop_reply s h (held w h)) (Refused NoSuchWorker))
-            (lt-ltb w s.workers among) ∙ ap (drop_reply s h) here
+        (lt-ltb w s.workers among) ∙ ap (drop_reply s h) here
         ∙ ap (λ x. cond x Done (Refused NoEarlierHit)) q in
         let bad = e ∙ refused in
         absurd (cc)

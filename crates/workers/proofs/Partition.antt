@@ -49,8 +49,11 @@ part_of_stem job parts part class stem at of = of.2
 pub one_part : (job : Parts) (parts class : ℕ) → BelongTogether job → 0 < parts
     → class < length job.classes.representative → IsInOnePart job parts class
 one_part job parts class b some lt =
-    let stem = class_has_stem job.list.model job.circuit b.circuit.well_formed class (omega (arith,
-        lt, class_count job b)) in (
+    let stem = class_has_stem job.list.model job.circuit b.circuit.well_formed class (omega (
+      arith,
+      lt,
+      class_count job b,
+    )) in (
       stem.0 % parts,
       mod-lt stem.0 some,
       (stem.0, stem.2, refl),
@@ -63,24 +66,26 @@ range_get : {X : Type 0} (xs : List X) (s e k : ℕ) (x : X) → s ≤ e → e �
 range_get {X} xs s e k x le within at =
     let lt = slice_get_within (slice_range xs s e) k x at in
     let long : length (slice_range xs s e) ≡ e - s =
-        length-take-le (e - s) (drop s xs) (omega (arith, length-drop s xs)) in
+    length-take-le (e - s) (drop s xs) (omega (arith, length-drop s xs)) in
     let low : k < e - s = omega (arith, lt, long) in
     let value : get_or xs (s + k) x ≡ x = sym (get_or-drop s xs k x)
-        ∙ sym (get_or-take (e - s) (drop s xs) k x low)
-        ∙ get_or_from_slice_get (slice_range xs s e) k x x at in
-    (omega (arith, low, le), slice_get-get_or xs (s + k) x (omega (arith, low, le, within))
-        ∙ ap Some value)
+    ∙ sym (get_or-take (e - s) (drop s xs) k x low)
+    ∙ get_or_from_slice_get (slice_range xs s e) k x x at in (
+      omega (arith, low, le),
+      slice_get-get_or xs (s + k) x (omega (arith, low, le, within))
+          ∙ ap Some value,
+    )
 
 -- and what of it stands there
 range_place : {X : Type 0} (xs : List X) (s e j : ℕ) (x : X) → s ≤ j → j < e → e ≤ length xs
     → slice_get xs j ≡ Some x → slice_get (slice_range xs s e) (j - s) ≡ Some x
 range_place {X} xs s e j x low lt within at =
     let long : length (slice_range xs s e) ≡ e - s =
-        length-take-le (e - s) (drop s xs) (omega (arith, length-drop s xs)) in
+    length-take-le (e - s) (drop s xs) (omega (arith, length-drop s xs)) in
     let same : s + (j - s) ≡ j = omega (arith, low) in
     let value : get_or (slice_range xs s e) (j - s) x ≡ x =
     get_or-take (e - s) (drop s xs) (j - s) x (omega (arith, low, lt)) ∙ get_or-drop s xs (j - s) x
-        ∙ ap (λ k. get_or xs k x) same ∙ get_or_from_slice_get xs j x x at in
+    ∙ ap (λ k. get_or xs k x) same ∙ get_or_from_slice_get xs j x x at in
     slice_get-get_or (slice_range xs s e) (j - s) x (omega (arith, long, low, lt)) ∙ ap Some value
 
 -- parts begin in their order
@@ -124,7 +129,7 @@ pub part_few : (job : Parts) (parts s e : ℕ) (ranked : List Ranked) (classes :
     → length (slice_range classes s e) ≤ length job.classes.representative
 part_few job parts s e ranked classes cut le within =
     let n = ap (λ (l : List ℕ). length l) cut.classes_are
-        ∙ length-map ranked (λ (r : Ranked). r.class) in
+    ∙ length-map ranked (λ (r : Ranked). r.class) in
     let long = length-take (e - s) (drop s classes) in
     omega (arith, n, long, within, cut.ranked_are.count)
 
@@ -137,22 +142,25 @@ part_list job parts part s e ranked classes cut from to = record {
       let x = found k class at in
       let is = cut.ranked_are.each (s + k) x.0 x.1 in (
         subst (λ c. c < length job.classes.representative) x.2 is.within,
-        (x.0.stem, subst (λ c. IsStemOfClass job.list.model job.circuit c x.0.stem) x.2 is.stem,
-            sym (own k x.0 x.3 x.1) ∙ is.part),
+        (
+          x.0.stem,
+          subst (λ c. IsStemOfClass job.list.model job.circuit c x.0.stem) x.2 is.stem,
+          sym (own k x.0 x.3 x.1) ∙ is.part,
+        ),
       );
   all = λ class lt of.
       let x = cut.ranked_are.all class lt in
       let is = cut.ranked_are.each x.0 x.1 x.2 in
       let stem : IsStemOfClass job.list.model job.circuit class x.1.stem =
-          subst (λ c. IsStemOfClass job.list.model job.circuit c x.1.stem) x.3 is.stem in
+      subst (λ c. IsStemOfClass job.list.model job.circuit c x.1.stem) x.3 is.stem in
       let part_is : x.1.part ≡ part = is.part
-          ∙ sym (part_of_stem job parts part class x.1.stem stem of) in
+      ∙ sym (part_of_stem job parts part class x.1.stem stem of) in
       let low : s ≤ x.0 = behind_start x.0 x.1 x.2 part_is in
       let high : x.0 < e = before_end x.0 x.1 x.2 part_is in
       let at : slice_get classes x.0 ≡ Some class =
       ap (λ (l : List ℕ). slice_get l x.0) cut.classes_are
-          ∙ slice_get-map (λ (r : Ranked). r.class) ranked x.0
-          ∙ ap (option_map (λ (r : Ranked). r.class)) x.2 ∙ ap Some x.3 in
+      ∙ slice_get-map (λ (r : Ranked). r.class) ranked x.0
+      ∙ ap (option_map (λ (r : Ranked). r.class)) x.2 ∙ ap Some x.3 in
       (x.0 - s, range_place classes s e x.0 class low high long at);
   ordered = λ i k first second lt ea eb r q ra qb.
       let x = found i first ea in
@@ -160,11 +168,11 @@ part_list job parts part s e ranked classes cut from to = record {
       let left = cut.ranked_are.each (s + i) x.0 x.1 in
       let right = cut.ranked_are.each (s + k) y.0 y.1 in
       let rs : x.0.stem ≡ r = one_class_stem job.list.model job.circuit first x.0.stem r
-          (subst (λ c. IsStemOfClass job.list.model job.circuit c x.0.stem) x.2 left.stem) ra in
+      (subst (λ c. IsStemOfClass job.list.model job.circuit c x.0.stem) x.2 left.stem) ra in
       let qs : y.0.stem ≡ q = one_class_stem job.list.model job.circuit second y.0.stem q
-          (subst (λ c. IsStemOfClass job.list.model job.circuit c y.0.stem) y.2 right.stem) qb in
+      (subst (λ c. IsStemOfClass job.list.model job.circuit c y.0.stem) y.2 right.stem) qb in
       later x.0 y.0 first second r q x.2 y.2 rs qs (own i x.0 x.3 x.1) (own k y.0 y.3 y.1)
-          (cut.ranked_are.ordered (s + i) (s + k) x.0 y.0 (omega (arith, lt)) x.1 y.1);
+      (cut.ranked_are.ordered (s + i) (s + k) x.0 y.0 (omega (arith, lt)) x.1 y.1);
   few = part_few job parts s e ranked classes cut le to.within;
 }
   where
@@ -180,7 +188,7 @@ part_list job parts part s e ranked classes cut from to = record {
     found k class at =
         let x = range_get classes s e k class le long at in
         let y = from_mapped (λ (r : Ranked). r.class) ranked (s + k) class
-            (ap (λ (l : List ℕ). slice_get l (s + k)) (sym cut.classes_are) ∙ x.1) in
+        (ap (λ (l : List ℕ). slice_get l (s + k)) (sym cut.classes_are) ∙ x.1) in
         (y.0, y.1, y.2, x.0)
 
     own : (k : ℕ) (at : Ranked) → s + k < e → slice_get ranked (s + k) ≡ Some at → at.part ≡ part
@@ -206,8 +214,10 @@ part_list job parts part s e ranked classes cut from to = record {
         → (r < q) ⊎ ((r ≡ q) × (first < second))
     later a b first second r q ca cb sa sb pa pb (inl x) = absurd (omega (arith, x, pa, pb))
     later a b first second r q ca cb sa sb pa pb (inr (_, inl x)) = inl (omega (arith, x, sa, sb))
-    later a b first second r q ca cb sa sb pa pb (inr (_, inr x)) = inr (omega (arith, x.0, sa, sb),
-        omega (arith, x.1, ca, cb))
+    later a b first second r q ca cb sa sb pa pb (inr (_, inr x)) = inr (
+      omega (arith, x.0, sa, sb),
+      omega (arith, x.1, ca, cb),
+    )
 
 -- each is a class of the job
 pub part_within : (job : Parts) (parts part : ℕ) (classes : List ℕ)
@@ -223,7 +233,7 @@ pub cut_within : (job : Parts) (parts : ℕ) (ranked : List Ranked) (classes : L
 cut_within job parts ranked classes cut k d lt =
     let at = slice_get-get_or classes k d lt in
     let y = from_mapped (λ (r : Ranked). r.class) ranked k (get_or classes k d)
-        (ap (λ (l : List ℕ). slice_get l k) (sym cut.classes_are) ∙ at) in
+    (ap (λ (l : List ℕ). slice_get l k) (sym cut.classes_are) ∙ at) in
     subst (λ c. c < length job.classes.representative) y.2 (cut.ranked_are.each k y.0 y.1).within
 
 -- from a verdict on a class that was set at one more place
@@ -231,7 +241,7 @@ pub verdict_more : (count : ℕ) (classes : List ℕ) (firsts : List (Option ℕ
     (first : Option ℕ) (verdicts : List PartVerdict)
     → AreClassVerdicts count classes firsts n verdicts
     → slice_get classes n ≡ Some class → slice_get firsts n ≡ Some first → class < count
-        → AreClassVerdicts count classes firsts (n + 1) (set verdicts class (First first))
+    → AreClassVerdicts count classes firsts (n + 1) (set verdicts class (First first))
 verdict_more count classes firsts n class first verdicts was here there lt = record {
   long = length-set verdicts class (First first) ∙ was.long;
   each = λ c low. pick c low (cases_lt c class) (cases_lt class c);
@@ -241,17 +251,24 @@ verdict_more count classes firsts n class first verdicts was here there lt = rec
         → IsClassVerdict classes firsts (n + 1) c (slice_get (set verdicts class (First first)) c)
     same c low e =
         subst (λ k. IsClassVerdict classes firsts (n + 1) k
-            (slice_get (set verdicts class (First first)) k)) (sym e)
+        (slice_get (set verdicts class (First first)) k)) (sym e)
         (inl (
           n,
           first,
           omega arith,
           here,
           there,
-          slice_get-get_or (set verdicts class (First first)) class OtherPart (omega (arith,
-              length-set verdicts class (First first), was.long, lt))
-              ∙ ap Some (get_or-set_same verdicts class (First first) OtherPart (omega (arith,
-                  was.long, lt))),
+          slice_get-get_or (set verdicts class (First first)) class OtherPart (omega (
+            arith,
+            length-set verdicts class (First first),
+            was.long,
+            lt,
+          ))
+              ∙ ap Some (get_or-set_same verdicts class (First first) OtherPart (omega (
+                arith,
+                was.long,
+                lt,
+              ))),
         ))
 
     other : (c : ℕ) → c < count → c ≢ class
@@ -259,9 +276,13 @@ verdict_more count classes firsts n class first verdicts was here there lt = rec
     other c low d =
         subst (λ v. IsClassVerdict classes firsts (n + 1) c v)
         (slice_get-get_or verdicts c OtherPart (omega (arith, was.long, low))
-            ∙ ap Some (sym (get_or-set_other verdicts class c (First first) OtherPart d))
-        ∙ sym (slice_get-get_or (set verdicts class (First first)) c OtherPart (omega (arith,
-            length-set verdicts class (First first), was.long, low))))
+        ∙ ap Some (sym (get_or-set_other verdicts class c (First first) OtherPart d))
+        ∙ sym (slice_get-get_or (set verdicts class (First first)) c OtherPart (omega (
+          arith,
+          length-set verdicts class (First first),
+          was.long,
+          low,
+        ))))
         (on (was.each c low))
       where
         on : IsClassVerdict classes firsts n c (slice_get verdicts c)
@@ -287,8 +308,10 @@ pub verdict_none : (count : ℕ) (classes : List ℕ) (firsts : List (Option ℕ
     (verdicts : List PartVerdict) → verdicts ≡ replicate count OtherPart
     → AreClassVerdicts count classes firsts 0 verdicts
 verdict_none count classes firsts verdicts e =
-    subst (AreClassVerdicts count classes firsts 0) (sym e) (record { long = all_long count;
-        each = λ class lt. inr ((λ k low. absurd (omega (arith, low))), at count class lt) })
+    subst (AreClassVerdicts count classes firsts 0) (sym e) (record {
+      long = all_long count;
+      each = λ class lt. inr ((λ k low. absurd (omega (arith, low))), at count class lt);
+    })
   where
     all_long : (n : ℕ) → length (replicate n OtherPart) ≡ n
     all_long zero = refl
@@ -303,18 +326,20 @@ verdict_none count classes firsts verdicts e =
 pub part_verdicts : (job : Parts) (parts part : ℕ) (classes : List ℕ) (firsts : List (Option ℕ))
     (table verdicts : List PartVerdict) → BelongTogether job → ArePartOf job parts part classes
     → AreClassFirsts job.list.model job.circuit job.tests.tests classes firsts
-        → AreClassVerdicts (length job.classes.representative) classes firsts (length classes) table
+    → AreClassVerdicts (length job.classes.representative) classes firsts (length classes) table
     → verdicts ≡ map (λ class. get_or table class OtherPart) job.classes.class_of
-        → ArePartVerdicts job parts part verdicts
+    → ArePartVerdicts job parts part verdicts
 part_verdicts job parts part classes firsts table verdicts b own found by is = record {
   count = ap (λ (l : List PartVerdict). length l) is ∙ length-map job.classes.class_of g
       ∙ b.classes.count;
   each = λ i class f verdict at e v.
       let of : IsClassOf job.list.model job.circuit f class = b.classes.class i f class at e in
-      let lt : class < count = class_in job (shape_for job 1) i class b (record { classes = refl;
-          tests = refl }) e in
+      let lt : class < count = class_in job (shape_for job 1) i class b (record {
+        classes = refl;
+        tests = refl;
+      }) e in
       let x = from_mapped g job.classes.class_of i verdict
-          (ap (λ (l : List PartVerdict). slice_get l i) (sym is) ∙ v) in
+      (ap (λ (l : List PartVerdict). slice_get l i) (sym is) ∙ v) in
       let same : class ≡ x.0 = let q = sym e ∙ x.1 in cc in
       let own : verdict ≡ get_or table class OtherPart = sym x.2 ∙ ap g (sym same) in
       subst (IsPartVerdict job parts part class f) (sym own) (go f class lt of (by.each class lt));
@@ -331,13 +356,13 @@ part_verdicts job parts part classes firsts table verdicts b own found by is = r
         → IsPartVerdict job parts part class f (get_or table class OtherPart)
     go f class lt of (inl x) =
         subst (IsPartVerdict job parts part class f)
-            (sym (get_or_from_slice_get table class (First x.1) OtherPart x.5))
+        (sym (get_or_from_slice_get table class (First x.1) OtherPart x.5))
         ((own.each x.0 class x.3).1, found.first x.0 class f x.1 x.3 of x.4)
     go f class lt of (inr x) =
         subst (IsPartVerdict job parts part class f)
-            (sym (get_or_from_slice_get table class OtherPart OtherPart x.1))
+        (sym (get_or_from_slice_get table class OtherPart OtherPart x.1))
         (λ here. let k = own.all class lt here in
-            x.0 k.0 (slice_get_within classes k.0 class k.1) k.1)
+        x.0 k.0 (slice_get_within classes k.0 class k.1) k.1)
 
 -- the first tests of two lists of classes are those of both together
 append_firsts : (m : Model) (c : List Statement) (tests : List Test) (xs ys : List ℕ)
@@ -347,8 +372,10 @@ append_firsts m c tests [] ys [] g a b = b
 append_firsts m c tests [] ys (y ∷ f) g a b = absurd (omega (arith, a.count))
 append_firsts m c tests (x ∷ xs) ys [] g a b = absurd (omega (arith, a.count))
 append_firsts m c tests (x ∷ xs) ys (y ∷ f) g a b =
-    let rest = append_firsts m c tests xs ys f g (record { count = omega (arith, a.count);
-        first = λ k. a.first (suc k) }) b in
+    let rest = append_firsts m c tests xs ys f g (record {
+      count = omega (arith, a.count);
+      first = λ k. a.first (suc k);
+    }) b in
     record { count = ap suc rest.count; first = at rest }
   where
     at : AreClassFirsts m c tests (xs ++ ys) (f ++ g)
@@ -364,18 +391,20 @@ FirstsUpTo job classes start firsts = AreClassFirsts job.list.model job.circuit 
     (take start classes) firsts
 
 pub firsts_none : (job : Parts) (classes : List ℕ) → FirstsUpTo job classes 0 []
-firsts_none job classes = record { count = refl;
-    first = λ k class f first e of at. let bad : None ≡ Some class = e in absurd (cc) }
+firsts_none job classes = record {
+  count = refl;
+  first = λ k class f first e of at. let bad : None ≡ Some class = e in absurd (cc);
+}
 
 -- one part more
 pub firsts_more : (job : Parts) (classes : List ℕ) (s e : ℕ) (firsts more : List (Option ℕ)) → s ≤ e
     → FirstsUpTo job classes s firsts
     → AreClassFirsts job.list.model job.circuit job.tests.tests (slice_range classes s e) more
-        → FirstsUpTo job classes e (firsts ++ more)
+    → FirstsUpTo job classes e (firsts ++ more)
 firsts_more job classes s e firsts more le was found =
     subst (λ l. AreClassFirsts job.list.model job.circuit job.tests.tests l (firsts ++ more)) joined
     (append_firsts job.list.model job.circuit job.tests.tests (take s classes)
-        (slice_range classes s e) firsts more was found)
+    (slice_range classes s e) firsts more was found)
   where
     joined : take s classes ++ slice_range classes s e ≡ take e classes
     joined = sym (take-add s (e - s) classes) ∙ ap (λ n. take n classes) (omega (arith, le))
@@ -393,33 +422,33 @@ pub firsts_all : (job : Parts) (parts part start : ℕ) (ranked : List Ranked) (
     (firsts : List (Option ℕ)) → 0 < parts → IsCutOf job parts ranked classes → part ≡ parts
     → IsStart ranked part start
     → FirstsUpTo job classes start firsts
-        → AreClassFirsts job.list.model job.circuit job.tests.tests classes firsts
+    → AreClassFirsts job.list.model job.circuit job.tests.tests classes firsts
 firsts_all job parts part start ranked classes firsts some cut is begins found =
     subst (λ l. AreClassFirsts job.list.model job.circuit job.tests.tests l firsts)
-        (ap (λ n. take n classes) full ∙ take-length classes) found
+    (ap (λ n. take n classes) full ∙ take-length classes) found
   where
     full : start ≡ length classes
     full =
         start_end job parts start ranked some cut.ranked_are
-            (subst (λ n. IsStart ranked n start) is begins)
+        (subst (λ n. IsStart ranked n start) is begins)
         ∙ sym (ap (λ (l : List ℕ). length l) cut.classes_are
-            ∙ length-map ranked (λ (r : Ranked). r.class))
+        ∙ length-map ranked (λ (r : Ranked). r.class))
 
 -- a place in the classes
 pub start_within : (job : Parts) (parts part start : ℕ) (ranked : List Ranked) (classes : List ℕ)
     → IsCutOf job parts ranked classes → IsStart ranked part start → start ≤ length classes
 start_within job parts part start ranked classes cut is =
     let n = ap (λ (l : List ℕ). length l) cut.classes_are
-        ∙ length-map ranked (λ (r : Ranked). r.class) in
+    ∙ length-map ranked (λ (r : Ranked). r.class) in
     omega (arith, n, is.within)
 
 -- the first test in the verdict on a class is that of its faults
 pub class_first : (job : Parts) (parts : ℕ) (ranked : List Ranked) (classes : List ℕ)
     (firsts : List (Option ℕ)) (table : List PartVerdict) → IsCutOf job parts ranked classes
     → AreClassFirsts job.list.model job.circuit job.tests.tests classes firsts
-        → AreClassVerdicts (length job.classes.representative) classes firsts (length classes) table
+    → AreClassVerdicts (length job.classes.representative) classes firsts (length classes) table
     → (f : Fault) (class : ℕ) → class < length job.classes.representative
-        → IsClassOf job.list.model job.circuit f class
+    → IsClassOf job.list.model job.circuit f class
     → IsFirst job.circuit job.tests.tests f (first_in (get_or table class OtherPart))
 class_first job parts ranked classes firsts table cut known by f class lt of = go (by.each class lt)
   where
@@ -427,14 +456,14 @@ class_first job parts ranked classes firsts table cut known by f class lt of = g
         → IsFirst job.circuit job.tests.tests f (first_in (get_or table class OtherPart))
     go (inl x) =
         subst (λ v. IsFirst job.circuit job.tests.tests f (first_in v))
-            (sym (get_or_from_slice_get table class (First x.1) OtherPart x.5))
+        (sym (get_or_from_slice_get table class (First x.1) OtherPart x.5))
         (known.first x.0 class f x.1 x.3 of x.4)
     go (inr x) =
         let y = cut.ranked_are.all class lt in
         let at : slice_get classes y.0 ≡ Some class =
         ap (λ (l : List ℕ). slice_get l y.0) cut.classes_are
-            ∙ slice_get-map (λ (r : Ranked). r.class) ranked y.0
-            ∙ ap (option_map (λ (r : Ranked). r.class)) y.2 ∙ ap Some y.3 in
+        ∙ slice_get-map (λ (r : Ranked). r.class) ranked y.0
+        ∙ ap (option_map (λ (r : Ranked). r.class)) y.2 ∙ ap Some y.3 in
         absurd (x.0 y.0 (slice_get_within classes y.0 class at) at)
 
 -- the first tests of all classes are those of all faults
@@ -443,19 +472,19 @@ pub cut_firsts : (job : Parts) (parts : ℕ) (ranked : List Ranked) (classes : L
     → IsCutOf job parts ranked classes
     → AreClassFirsts job.list.model job.circuit job.tests.tests classes firsts
     → AreClassVerdicts (length job.classes.representative) classes firsts (length classes) table
-        → found ≡ map (λ class. first_in (get_or table class OtherPart)) job.classes.class_of
+    → found ≡ map (λ class. first_in (get_or table class OtherPart)) job.classes.class_of
     → AreFirsts job.list.model job.circuit job.tests.tests found
 cut_firsts job parts ranked classes firsts found table b cut known by is = record {
   count = ap (λ (l : List (Option ℕ)). length l) is ∙ length-map job.classes.class_of g
       ∙ b.classes.count;
   first = λ i f first at v.
       let x = from_mapped g job.classes.class_of i first
-          (ap (λ (l : List (Option ℕ)). slice_get l i) (sym is) ∙ v) in
+      (ap (λ (l : List (Option ℕ)). slice_get l i) (sym is) ∙ v) in
       let of : IsClassOf job.list.model job.circuit f x.0 = b.classes.class i f x.0 at x.1 in
       let lt : x.0 < length job.classes.representative = class_in job (shape_for job 1) i x.0 b
-          (record { classes = refl; tests = refl }) x.1 in
+      (record { classes = refl; tests = refl }) x.1 in
       subst (IsFirst job.circuit job.tests.tests f) x.2
-          (class_first job parts ranked classes firsts table cut known by f x.0 lt of);
+      (class_first job parts ranked classes firsts table cut known by f x.0 lt of);
 }
   where
     g : ℕ → Option ℕ
@@ -466,20 +495,23 @@ pub cut_hits : (job : Parts) (parts : ℕ) (ranked : List Ranked) (classes : Lis
     (firsts : List (Option ℕ)) (table : List PartVerdict) (n skipped : ℕ)
     → IsCutOf job parts ranked classes
     → AreClassFirsts job.list.model job.circuit job.tests.tests classes firsts
-        → AreClassVerdicts (length job.classes.representative) classes firsts (length classes) table
+    → AreClassVerdicts (length job.classes.representative) classes firsts (length classes) table
     → n ≡ blocks (length job.tests.tests) → skipped ≡ pieces_behind n (map first_in table)
-        → AreBehindHits job skipped
+    → AreBehindHits job skipped
 cut_hits job parts ranked classes firsts table n skipped cut known by all is = record {
   firsts = map first_in table;
   count = length-map table first_in ∙ by.long;
   first = λ class f first of at.
       let x = from_mapped first_in table class first at in
-      let lt : class < length job.classes.representative = omega (arith,
-          slice_get_within table class x.0 x.1, by.long) in
+      let lt : class < length job.classes.representative = omega (
+        arith,
+        slice_get_within table class x.0 x.1,
+        by.long,
+      ) in
       let same : first_in (get_or table class OtherPart) ≡ first =
-          ap first_in (get_or_from_slice_get table class x.0 OtherPart x.1) ∙ x.2 in
+      ap first_in (get_or_from_slice_get table class x.0 OtherPart x.1) ∙ x.2 in
       subst (IsFirst job.circuit job.tests.tests f) same
-          (class_first job parts ranked classes firsts table cut known by f class lt of);
+      (class_first job parts ranked classes firsts table cut known by f class lt of);
   number = is ∙ ap (λ k. pieces_behind k (map first_in table)) all;
 }
 
@@ -499,8 +531,8 @@ behind_room n (x ∷ xs) zero lt = omega (arith, suc-mul (length xs) n)
 behind_room n (x ∷ xs) (suc i) lt =
     let rest = behind_room n xs i (omega (arith, lt)) in
     let one : pieces_behind n (map first_in (take (suc i) (x ∷ xs))) ≡ behind n (first_in x)
-        + pieces_behind n (map first_in (take i xs)) = sum_by-cons (behind n) (first_in x)
-        (map first_in (take i xs)) in
+    + pieces_behind n (map first_in (take i xs)) = sum_by-cons (behind n) (first_in x)
+    (map first_in (take i xs)) in
     omega (arith, suc-mul (length xs) n, rest, one, behind_le n (first_in x))
 
 -- the fault of a run over the classes of a part is one of the part
@@ -513,8 +545,11 @@ own_fault job parts part workers P S (run_fault.NoSuchMove index) classes are r 
 own_fault job parts part workers P S run_fault.TooManyPieces classes are r = (classes, are, r)
 own_fault job parts part workers P S run_fault.Memory classes are r = r
 own_fault job parts part workers P S run_fault.Threads classes are r = r
-own_fault job parts part workers P S (run_fault.Unfinished class block) classes are r = (classes,
-    are, r)
+own_fault job parts part workers P S (run_fault.Unfinished class block) classes are r = (
+  classes,
+  are,
+  r,
+)
 
 -- a product of two numbers of 32 bits has 64
 pub small_product : (a b : ℕ) → a < 2 ^ 32 → b < 2 ^ 32 → a * b < 2 ^ 64

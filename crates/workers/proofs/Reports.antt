@@ -34,9 +34,10 @@ all_true job over s [] l t = tt
 all_true job over s (Event.Claim u ∷ h) l t = all_true job over s h l.1 t
 all_true job over s (Event.Drop u ∷ h) l t = all_true job over s h l.1 t
 all_true job over s (Event.Report u o ∷ h) l t =
-    let a = report_accepted s h u o l.0 in
-    (subst (λ x. GivesTrue job over s (held u x) o) (append-nil h) (((t u a.1).0 refl).0),
-        all_true job over s h l.1 (λ w lt. (t w lt).1))
+    let a = report_accepted s h u o l.0 in (
+      subst (λ x. GivesTrue job over s (held u x) o) (append-nil h) (((t u a.1).0 refl).0),
+      all_true job over s h l.1 (λ w lt. (t w lt).1),
+    )
 
 -- a worker's reports, in a history that goes on without it
 pub truly_goes_on : (job : Parts) (over : Chosen) (s : Shape) (w : ℕ) (later earlier : History)
@@ -44,8 +45,8 @@ pub truly_goes_on : (job : Parts) (over : Chosen) (s : Shape) (w : ℕ) (later e
     → ReportsTruly job over s w later []
 truly_goes_on job over s w later earlier c t =
     subst (λ h. ReportsTruly job over s w h []) (sym c.1)
-        (truly_append job over s w c.0 earlier [] t (truly_none job over s w c.0 (earlier
-        ++ []) c.2))
+    (truly_append job over s w c.0 earlier [] t (truly_none job over s w c.0 (earlier
+    ++ []) c.2))
 
 -- true reports are those of the true table
 pub true_to : (job : Parts) (over : Chosen) (s : Shape) (table : Table) (h : History)
@@ -57,8 +58,10 @@ true_to job over s table (Event.Claim u ∷ h) b among is each l t =
     true_to job over s table h b among is each l.1 t
 true_to job over s table (Event.Drop u ∷ h) b among is each l t =
     true_to job over s table h b among is each l.1 t
-true_to job over s table (Event.Report u o ∷ h) b among is each l t = (go (held u h) refl t.0,
-    true_to job over s table h b among is each l.1 t.1)
+true_to job over s table (Event.Report u o ∷ h) b among is each l t = (
+  go (held u h) refl t.0,
+  true_to job over s table h b among is each l.1 t.1,
+)
   where
     go : (x : Option ℕ) → held u h ≡ x → GivesTrue job over s x o
         → Gives s (table_over over table) x o
@@ -66,15 +69,15 @@ true_to job over s table (Event.Report u o ∷ h) b among is each l t = (go (hel
     go (Some p) e g =
         let lt = held_piece s u p h l.1 e in
         let k : class_of s p < over.count = subst (λ n. class_of s p < n) is.classes
-            (mod-lt p (some_class s p lt)) in
+        (mod-lt p (some_class s p lt)) in
         let c : over.class_at (class_of s p) < length (representatives job.list.model job.circuit) =
-            subst (λ n. over.class_at (class_of s p) < n) (class_count job b)
-            (among.each (class_of s p) k) in
+        subst (λ n. over.class_at (class_of s p) < n) (class_count job b)
+        (among.each (class_of s p) k) in
         let d : block_of s p < blocks (length job.tests.tests) =
-            subst (λ n. block_of s p < blocks n) is.tests (block_of-below s p lt) in
+        subst (λ n. block_of s p < blocks n) is.tests (block_of-below s p lt) in
         one_outcome job.list.model job.circuit job.tests.tests (over.class_at (class_of s p))
-            (block_of s p) o (table (over.class_at (class_of s p)) (block_of s p)) g
-            (each (over.class_at (class_of s p)) (block_of s p) c d)
+        (block_of s p) o (table (over.class_at (class_of s p)) (block_of s p)) g
+        (each (over.class_at (class_of s p)) (block_of s p) c d)
 
 -- all classes are chosen of the job
 pub every_chosen : (job : Parts) → AreChosenOf job (every job.classes)
@@ -87,4 +90,4 @@ pub firsts_truly : (job : Parts) (s : Shape) (h : History) → BelongTogether jo
 firsts_truly job s h b is l t settled =
     let table = true_table job.list.model job.circuit job.tests.tests b.circuit.well_formed in
     firsts_of job s table.0 h b is table.1 (true_to job (every job.classes) s table.0 h b
-        (every_chosen job) is table.1 l t) settled
+    (every_chosen job) is table.1 l t) settled

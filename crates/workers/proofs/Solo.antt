@@ -59,7 +59,7 @@ hit_more row first (suc n) is = go (hit_more row (first + 1) n) (row first) is
     go rest Clear e =
         let same : (first + 1) + n ≡ first + suc n = omega arith in
         subst (λ m. first_hit (first + 1) (map row (from_up (first + 1) (suc n)))
-            ≡ hit_at m (row m)) same (rest e)
+        ≡ hit_at m (row m)) same (rest e)
     go rest (Hit k) e = let bad : Some (64 * first + k) ≡ None = e in absurd (cc)
 
 -- a class that is hit in the first blocks is so in one more
@@ -67,7 +67,7 @@ pub least_kept : (table : Table) (block class t : ℕ) → least table block cla
     → least table (block + 1) class ≡ Some t
 least_kept table block class t is =
     let more : suc block ≡ block + 1 = omega arith in
-        subst (λ n. least table n class ≡ Some t) more (hit_kept (table class) 0 block t is)
+    subst (λ n. least table n class ≡ Some t) more (hit_kept (table class) 0 block t is)
 
 least_more : (table : Table) (block class : ℕ) → least table block class ≡ None
     → least table (block + 1) class ≡ hit_at block (table class block)
@@ -76,7 +76,7 @@ least_more table block class none =
     let same : 0 + block ≡ block = omega arith in
     subst (λ n. least table n class ≡ hit_at block (table class block)) more
     (subst (λ m. first_hit 0 (map (table class) (from_up 0 (suc block))) ≡ hit_at m (table class m))
-        same (hit_more (table class) 0 block none))
+    same (hit_more (table class) 0 block none))
 
 -- which blocks are done
 done_low : (place block k : ℕ) → k < place → done_before place block k ≡ block + 1
@@ -105,18 +105,18 @@ found_block job classes place block firsts all was = record {
   each = λ table is k class first ec ef.
       let lt = slice_get_within classes k class ec in
       was.each table is k class first ec ef
-          ∙ ap (λ n. least table n class) (done_low place block k (omega (arith, lt, all))
-          ∙ sym (done_high 0 (block + 1) k (omega arith)));
+      ∙ ap (λ n. least table n class) (done_low place block k (omega (arith, lt, all))
+      ∙ sym (done_high 0 (block + 1) k (omega arith)));
 }
 
 -- one place more, whose first test is known over the block too
 found_place : (job : Parts) (classes : List ℕ) (place block : ℕ) (was firsts : List (Option ℕ))
     → length firsts ≡ length was
     → ((k : ℕ) (first : Option ℕ) → k ≢ place → slice_get firsts k ≡ Some first
-        → slice_get was k ≡ Some first)
+    → slice_get was k ≡ Some first)
     → ((table : Table) → IsTableOf job table → (class : ℕ) (first : Option ℕ)
-        → slice_get classes place ≡ Some class → slice_get firsts place ≡ Some first
-        → first ≡ least table (block + 1) class)
+    → slice_get classes place ≡ Some class → slice_get firsts place ≡ Some first
+    → first ≡ least table (block + 1) class)
     → AreFoundUpTo job classes place block was → AreFoundUpTo job classes (place + 1) block firsts
 found_place job classes place block was firsts long other here found = record {
   count = long ∙ found.count;
@@ -127,32 +127,32 @@ found_place job classes place block was firsts long other here found = record {
     go : (table : Table) → IsTableOf job table → (k class : ℕ) (first : Option ℕ)
         → slice_get classes k ≡ Some class → slice_get firsts k ≡ Some first
         → (k < place) ⊎ (place ≤ k) → (place < k) ⊎ (k ≤ place)
-            → first ≡ least table (done_before (place + 1) block k) class
+        → first ≡ least table (done_before (place + 1) block k) class
     go table is k class first ec ef (inl x) y =
         found.each table is k class first ec (other k first (λ e. omega (arith, x, e)) ef)
         ∙ ap (λ n. least table n class) (done_low place block k x
-            ∙ sym (done_low (place + 1) block k (omega (arith, x))))
+        ∙ sym (done_low (place + 1) block k (omega (arith, x))))
     go table is k class first ec ef (inr x) (inl y) =
         found.each table is k class first ec (other k first (λ e. omega (arith, y, e)) ef)
         ∙ ap (λ n. least table n class) (done_high place block k x
-            ∙ sym (done_high (place + 1) block k (omega (arith, y))))
+        ∙ sym (done_high (place + 1) block k (omega (arith, y))))
     go table is k class first ec ef (inr x) (inr y) =
         let same : k ≡ place = omega (arith, x, y) in
         here table is class first (ap (slice_get classes) (sym same)
-            ∙ ec) (ap (slice_get firsts) (sym same) ∙ ef)
+        ∙ ec) (ap (slice_get firsts) (sym same) ∙ ef)
         ∙ ap (λ n. least table n class) (sym (done_low (place + 1) block k (omega (arith, y))))
 
 -- the class at a place was hit before
 pub found_known : (job : Parts) (classes : List ℕ) (place block t : ℕ) (firsts : List (Option ℕ))
     → slice_get firsts place ≡ Some (Some t)
     → AreFoundUpTo job classes place block firsts
-        → AreFoundUpTo job classes (place + 1) block firsts
+    → AreFoundUpTo job classes (place + 1) block firsts
 found_known job classes place block t firsts at was =
     found_place job classes place block firsts firsts refl (λ k first d e. e)
     (λ table is class first ec ef.
     let same : first ≡ Some t = let q = sym ef ∙ at in cc in
     let before = was.each table is place class (Some t) ec at
-        ∙ ap (λ n. least table n class) (done_high place block place (omega arith)) in
+    ∙ ap (λ n. least table n class) (done_high place block place (omega arith)) in
     same ∙ sym (least_kept table block class t (sym before)))
     was
 
@@ -160,7 +160,7 @@ found_known job classes place block t firsts at was =
 pub undetected : (job : Parts) (classes : List ℕ) (place block k class : ℕ)
     (firsts : List (Option ℕ)) → slice_get classes k ≡ Some class → slice_get firsts k ≡ Some None
     → AreFoundUpTo job classes place block firsts
-        → IsUndetected job class (done_before place block k)
+    → IsUndetected job class (done_before place block k)
 undetected job classes place block k class firsts ec ef was =
     λ table is. sym (was.each table is k class None ec ef)
 
@@ -170,7 +170,7 @@ pub undetected_here : (job : Parts) (classes : List ℕ) (place block class : �
     → AreFoundUpTo job classes place block firsts → IsUndetected job class block
 undetected_here job classes place block class firsts ec ef was =
     subst (IsUndetected job class) (done_high place block place (omega arith))
-        (undetected job classes place block place class firsts ec ef was)
+    (undetected job classes place block place class firsts ec ef was)
 
 -- its true outcome is that of each true table
 told : (job : Parts) (table : Table) (class block : ℕ) (o : Outcome) → BelongTogether job
@@ -179,24 +179,24 @@ told : (job : Parts) (table : Table) (class block : ℕ) (o : Outcome) → Belon
     → IsTrueOutcome job.list.model job.circuit job.tests.tests class block o → table class block ≡ o
 told job table class block o b is lt low true_is =
     sym (one_outcome job.list.model job.circuit job.tests.tests class block o
-        (table class block) true_is (is class block (omega (arith, lt, class_count job b)) low))
+    (table class block) true_is (is class block (omega (arith, lt, class_count job b)) low))
 
 -- and the block doesn't detect it
 pub found_clear : (job : Parts) (classes : List ℕ) (place block class : ℕ)
     (firsts : List (Option ℕ)) → BelongTogether job → class < length job.classes.representative
     → block < blocks (length job.tests.tests)
     → slice_get classes place ≡ Some class → slice_get firsts place ≡ Some None
-        → IsTrueOutcome job.list.model job.circuit job.tests.tests class block Clear
+    → IsTrueOutcome job.list.model job.circuit job.tests.tests class block Clear
     → AreFoundUpTo job classes place block firsts
-        → AreFoundUpTo job classes (place + 1) block firsts
+    → AreFoundUpTo job classes (place + 1) block firsts
 found_clear job classes place block class firsts b lt low ec ef o was =
     found_place job classes place block firsts firsts refl (λ k first d e. e)
     (λ table is other first eo e1.
     let same : other ≡ class = let q = sym eo ∙ ec in cc in
     let none : first ≡ None = let q = sym e1 ∙ ef in cc in
     none ∙ sym (ap (least table (block + 1)) same
-        ∙ least_more table block class
-        (undetected_here job classes place block class firsts ec ef was table is)
+    ∙ least_more table block class
+    (undetected_here job classes place block class firsts ec ef was table is)
     ∙ ap (hit_at block) (told job table class block Clear b is lt low o)))
     was
 
@@ -205,27 +205,27 @@ pub found_hit : (job : Parts) (classes : List ℕ) (place block class k : ℕ)
     (firsts : List (Option ℕ)) → BelongTogether job → class < length job.classes.representative
     → block < blocks (length job.tests.tests)
     → slice_get classes place ≡ Some class → slice_get firsts place ≡ Some None
-        → IsTrueOutcome job.list.model job.circuit job.tests.tests class block (Hit k)
+    → IsTrueOutcome job.list.model job.circuit job.tests.tests class block (Hit k)
     → AreFoundUpTo job classes place block firsts
-        → AreFoundUpTo job classes (place + 1) block (set firsts place (Some (64 * block + k)))
+    → AreFoundUpTo job classes (place + 1) block (set firsts place (Some (64 * block + k)))
 found_hit job classes place block class n firsts b lt low ec ef o was =
     found_place job classes place block firsts (set firsts place (Some (64 * block + n)))
-        (length-set firsts place (Some (64 * block + n)))
+    (length-set firsts place (Some (64 * block + n)))
     (λ k first d e.
     let long = slice_get_within (set firsts place (Some (64 * block + n))) k first e in
     let size = length-set firsts place (Some (64 * block + n)) in
     slice_get-get_or firsts k first (omega (arith, long, size))
-        ∙ ap Some (sym (get_or-set_other firsts place k (Some (64 * block + n)) first d)
-        ∙ get_or_from_slice_get (set firsts place (Some (64 * block + n))) k first first e))
+    ∙ ap Some (sym (get_or-set_other firsts place k (Some (64 * block + n)) first d)
+    ∙ get_or_from_slice_get (set firsts place (Some (64 * block + n))) k first first e))
     (λ table is other first eo e1.
     let same : other ≡ class = let q = sym eo ∙ ec in cc in
     let within = slice_get_within firsts place None ef in
     let value : first ≡ Some (64 * block + n) =
     sym (get_or_from_slice_get (set firsts place (Some (64 * block + n))) place first first e1)
-        ∙ get_or-set_same firsts place (Some (64 * block + n)) first within in
+    ∙ get_or-set_same firsts place (Some (64 * block + n)) first within in
     value ∙ sym (ap (least table (block + 1)) same
-        ∙ least_more table block class
-        (undetected_here job classes place block class firsts ec ef was table is)
+    ∙ least_more table block class
+    (undetected_here job classes place block class firsts ec ef was table is)
     ∙ ap (hit_at block) (told job table class block (Hit n) b is lt low o)))
     was
 
@@ -235,8 +235,8 @@ pub listed_class : (job : Parts) (classes : List ℕ) (place class : ℕ)
     → slice_get classes place ≡ Some class → class < length job.classes.representative
 listed_class job classes place class all e =
     subst (λ n. n < length job.classes.representative)
-        (get_or_from_slice_get classes place class 0 e)
-        (all place 0 (slice_get_within classes place class e))
+    (get_or_from_slice_get classes place class 0 e)
+    (all place 0 (slice_get_within classes place class e))
 
 -- ---- the lowest class that waits
 
@@ -290,19 +290,31 @@ open_none job classes stop = λ c b x. omega (arith, x.low)
 pub open_same : (job : Parts) (classes : List ℕ) (stop : Stop) (place : ℕ) (lowest : Option Waiting)
     → ((c b : ℕ) (x : IsOpenBelow job classes stop (place + 1) c b) → x.place ≡ place → ⊥)
     → IsLowest (IsOpenBelow job classes stop place) lowest
-        → IsLowest (IsOpenBelow job classes stop (place + 1)) lowest
+    → IsLowest (IsOpenBelow job classes stop (place + 1)) lowest
 open_same job classes stop place lowest none is =
     lowest_along (IsOpenBelow job classes stop place) (IsOpenBelow job classes stop (place + 1))
-        lowest
-    (λ c b x. record { place = x.place; low = omega (arith, x.low); at = x.at;
-        block_is = x.block_is; within = x.within; undetected = x.undetected })
+    lowest
+    (λ c b x. record {
+      place = x.place;
+      low = omega (arith, x.low);
+      at = x.at;
+      block_is = x.block_is;
+      within = x.within;
+      undetected = x.undetected;
+    })
     (λ c b x. go c b x (cases_lt x.place place))
     is
   where
     go : (c b : ℕ) (x : IsOpenBelow job classes stop (place + 1) c b)
         → (x.place < place) ⊎ (place ≤ x.place) → IsOpenBelow job classes stop place c b
-    go c b x (inl l) = record { place = x.place; low = l; at = x.at; block_is = x.block_is;
-        within = x.within; undetected = x.undetected }
+    go c b x (inl l) = record {
+      place = x.place;
+      low = l;
+      at = x.at;
+      block_is = x.block_is;
+      within = x.within;
+      undetected = x.undetected;
+    }
     go c b x (inr l) = let e : x.place ≡ place = omega (arith, l, x.low) in absurd (none c b x e)
 
 -- as its class was hit
@@ -310,15 +322,15 @@ pub open_hit : (job : Parts) (classes : List ℕ) (stop : Stop) (place t : ℕ)
     (firsts : List (Option ℕ)) (lowest : Option Waiting) → BelongTogether job
     → AreFoundUpTo job classes stop.place stop.block firsts
     → slice_get firsts place ≡ Some (Some t) → IsLowest (IsOpenBelow job classes stop place) lowest
-        → IsLowest (IsOpenBelow job classes stop (place + 1)) lowest
+    → IsLowest (IsOpenBelow job classes stop (place + 1)) lowest
 open_hit job classes stop place t firsts lowest b found ef =
     open_same job classes stop place lowest (λ c block x e.
     let table = true_table job.list.model job.circuit job.tests.tests b.circuit.well_formed in
     let hit : Some t ≡ least table.0 (done_before stop.place stop.block place) c =
-        found.each table.0 table.1 place c (Some t) (ap (slice_get classes) (sym e) ∙ x.at) ef in
+    found.each table.0 table.1 place c (Some t) (ap (slice_get classes) (sym e) ∙ x.at) ef in
     let none : least table.0 (done_before stop.place stop.block place) c ≡ None =
     ap (λ n. least table.0 n c) (ap (done_before stop.place stop.block) (sym e) ∙ sym x.block_is)
-        ∙ x.undetected table.0 table.1 in
+    ∙ x.undetected table.0 table.1 in
     let bad : Some t ≡ None = hit ∙ none in absurd (cc))
 
 -- as all blocks of it are done
@@ -326,27 +338,29 @@ pub open_past : (job : Parts) (classes : List ℕ) (stop : Stop) (place block : 
     (lowest : Option Waiting) → block ≡ done_before stop.place stop.block place
     → blocks (length job.tests.tests) ≤ block
     → IsLowest (IsOpenBelow job classes stop place) lowest
-        → IsLowest (IsOpenBelow job classes stop (place + 1)) lowest
+    → IsLowest (IsOpenBelow job classes stop (place + 1)) lowest
 open_past job classes stop place block lowest is past =
     open_same job classes stop place lowest (λ c b x e.
     let same : b ≡ block = x.block_is ∙ ap (done_before stop.place stop.block) e ∙ sym is in
-        omega (arith, same, x.within, past))
+    omega (arith, same, x.within, past))
 
 -- that at one place more waits
 pub open_more : (job : Parts) (classes : List ℕ) (stop : Stop) (place class block : ℕ)
     (firsts : List (Option ℕ)) (w : Waiting) (lowest : Option Waiting)
     → AreFoundUpTo job classes stop.place stop.block firsts
     → slice_get classes place ≡ Some class → slice_get firsts place ≡ Some None
-        → block ≡ done_before stop.place stop.block place → block < blocks (length job.tests.tests)
+    → block ≡ done_before stop.place stop.block place → block < blocks (length job.tests.tests)
     → w.class ≡ class → w.block ≡ block
     → IsLowest (IsOpenBelow job classes stop place) lowest
-        → IsLowest (IsOpenBelow job classes stop (place + 1)) (lower_of lowest (Some w))
+    → IsLowest (IsOpenBelow job classes stop (place + 1)) (lower_of lowest (Some w))
 open_more job classes stop place class block firsts w lowest found ec ef is low wc wb was =
     lowest_along (λ c b. IsOpenBelow job classes stop place c b ⊎ Here c b)
-        (IsOpenBelow job classes stop (place + 1)) (lower_of lowest (Some w)) (λ c b x. to c b x)
-        (λ c b x. from c b x (cases_lt x.place place))
-    (lowest_join (IsOpenBelow job classes stop place) Here lowest (Some w) was ((wc, wb),
-        λ c b x. omega (arith, wc, x.0)))
+    (IsOpenBelow job classes stop (place + 1)) (lower_of lowest (Some w)) (λ c b x. to c b x)
+    (λ c b x. from c b x (cases_lt x.place place))
+    (lowest_join (IsOpenBelow job classes stop place) Here lowest (Some w) was (
+      (wc, wb),
+      λ c b x. omega (arith, wc, x.0),
+    ))
   where
     Here : ℕ → ℕ → Type 0
     Here c b = (c ≡ class) × (b ≡ block)
@@ -364,15 +378,27 @@ open_more job classes stop place class block firsts w lowest found ec ef is low 
 
     to : (c b : ℕ) → IsOpenBelow job classes stop place c b ⊎ Here c b
         → IsOpenBelow job classes stop (place + 1) c b
-    to c b (inl x) = record { place = x.place; low = omega (arith, x.low); at = x.at;
-        block_is = x.block_is; within = x.within; undetected = x.undetected }
+    to c b (inl x) = record {
+      place = x.place;
+      low = omega (arith, x.low);
+      at = x.at;
+      block_is = x.block_is;
+      within = x.within;
+      undetected = x.undetected;
+    }
     to c b (inr x) = subst (λ n. IsOpenBelow job classes stop (place + 1) n b) (sym x.0)
         (subst (IsOpenBelow job classes stop (place + 1) class) (sym x.1) own)
 
     from : (c b : ℕ) (x : IsOpenBelow job classes stop (place + 1) c b)
         → (x.place < place) ⊎ (place ≤ x.place) → IsOpenBelow job classes stop place c b ⊎ Here c b
-    from c b x (inl l) = inl (record { place = x.place; low = l; at = x.at; block_is = x.block_is;
-        within = x.within; undetected = x.undetected })
+    from c b x (inl l) = inl (record {
+      place = x.place;
+      low = l;
+      at = x.at;
+      block_is = x.block_is;
+      within = x.within;
+      undetected = x.undetected;
+    })
     from c b x (inr l) =
         let e : x.place ≡ place = omega (arith, l, x.low) in
         let same : slice_get classes place ≡ Some c = ap (slice_get classes) (sym e) ∙ x.at in

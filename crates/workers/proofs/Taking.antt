@@ -29,8 +29,8 @@ pub none_found : (job : Parts) (classes : List ℕ) (firsts : List (Option ℕ))
     → AreFoundUpTo job classes 0 0 firsts
 none_found job classes firsts count none =
     found_none job classes firsts count
-        (λ k first at. sym (get_or_from_slice_get firsts k first first at)
-        ∙ none k first (slice_get_within firsts k first at))
+    (λ k first at. sym (get_or_from_slice_get firsts k first first at)
+    ∙ none k first (slice_get_within firsts k first at))
 
 -- what a worker found, under other gates of the same
 done_along : (job : Parts) (ranked : List Ranked) (classes : List ℕ) (w : ℕ) (P P' : Type 0)
@@ -51,17 +51,24 @@ done_along job ranked classes w P P' S S' done q t is = record {
         done.firsts.items → HasEnded job (slice_range classes is.start is.end) w S' stop
         done.firsts.items
     go None e = e
-    go (Some stop) e =
-        (record { class = e.0.class; at = e.0.at; within = e.0.within;
-            stopped = t w e.0.class stop.block e.0.stopped; undetected = e.0.undetected }, e.1)
+    go (Some stop) e = (
+      record {
+        class = e.0.class;
+        at = e.0.at;
+        within = e.0.within;
+        stopped = t w e.0.class stop.block e.0.stopped;
+        undetected = e.0.undetected;
+      },
+      e.1,
+    )
 
 -- what a thread gives back, under other names of the same
 pub given_back : {X E : Type 0} (items : X → List Done) (r : Result X E) (j j' : Parts) (u u' : Cut)
     (P P' : Type 0) (S S' : Stops) (w n : ℕ) → j ≡ j' → u ≡ u' → w < n → (P' → P)
     → ((v k b : ℕ) → S v k b → S' v k b)
-        → IfOk r (λ all. AreDone j u.ranked.items u.classes.items w P S (items all))
+    → IfOk r (λ all. AreDone j u.ranked.items u.classes.items w P S (items all))
     → IfOk r (λ all. (worker : ℕ) × (worker < n)
-        × AreDone j' u'.ranked.items u'.classes.items worker P' S' (items all))
+    × AreDone j' u'.ranked.items u'.classes.items worker P' S' (items all))
 given_back items (Err x) j j' u u' P P' S S' w n ej eu lt q t is = tt
 given_back items (Ok all) j j' u u' P P' S S' w n ej eu lt q t is = (
   w,
@@ -69,7 +76,7 @@ given_back items (Ok all) j j' u u' P P' S S' w n ej eu lt q t is = (
   subst (λ x. AreDone x u'.ranked.items u'.classes.items w P' S' (items all)) ej
       (subst (λ (x : Cut). AreDone j x.ranked.items x.classes.items w P' S' (items all)) eu
       (All-weaker (λ done. IsDone j u.ranked.items u.classes.items w P S done)
-          (λ done. IsDone j u.ranked.items u.classes.items w P' S' done)
+      (λ done. IsDone j u.ranked.items u.classes.items w P' S' done)
       (λ done d. done_along j u.ranked.items u.classes.items w P P' S S' done q t d)
-          (items all) is)),
+      (items all) is)),
 )

@@ -36,11 +36,11 @@ class_count job b =
 pub true_fits : (job : Parts) (s : Shape) (class block : ℕ) (o : Outcome)
     → s.tests ≡ length job.tests.tests
     → IsTrueOutcome job.list.model job.circuit job.tests.tests class block o
-        → fits_size (size_of s.tests block) o ≡ true
+    → fits_size (size_of s.tests block) o ≡ true
 true_fits job s class block outcome.Clear is t = refl
 true_fits job s class block (outcome.Hit k) is t =
     let e : size_of s.tests block ≡ size_of (length job.tests.tests) block =
-        ap (λ n. size_of n block) is in
+    ap (λ n. size_of n block) is in
     lt-ltb k (size_of s.tests block) (subst (λ n. k < n) (sym e) t.2.0)
 
 -- the table of chosen classes, by the ledger's numbers
@@ -52,22 +52,22 @@ pub first_over : (job : Parts) (over : Chosen) (s : Shape) (table : Table) (h : 
     → BelongTogether job → IsShapeOver job over s → IsTableOf job table
     → IsTrueTo s (table_over over table) h
     → (k : ℕ) (at : Option ℕ) (f : Fault) → k < s.classes → IsSettledAt s h k at
-        → IsClassOf job.list.model job.circuit f (over.class_at k)
-        → IsFirst job.circuit job.tests.tests f at
+    → IsClassOf job.list.model job.circuit f (over.class_at k)
+    → IsFirst job.circuit job.tests.tests f at
 first_over job over s table h b is each to k at f lt own of =
     let least_is : at ≡ least (table_over over table) (block_count s) k =
-        settles_at_least s (table_over over table) h to k at lt own in
+    settles_at_least s (table_over over table) h to k at lt own in
     let number : block_count s ≡ blocks (length job.tests.tests) = ap blocks is.tests in
     subst (IsFirst job.circuit job.tests.tests f)
-        (sym (least_is ∙ ap (λ n. least (table_over over table) n k) number))
+    (sym (least_is ∙ ap (λ n. least (table_over over table) n k) number))
     (least_is_first job.list.model job.circuit job.tests.tests table b.circuit.well_formed
-        b.circuit.arities each f (over.class_at k) of)
+    b.circuit.arities each f (over.class_at k) of)
 
 -- the verdicts of a history that is true to a true table and settles all classes are first tests
 pub firsts_of : (job : Parts) (s : Shape) (table : Table) (h : History) → BelongTogether job
     → IsShapeOf job s → IsTableOf job table → IsTrueTo s table h
     → AreSettled s h s.classes → AreFirsts job.list.model job.circuit job.tests.tests
-        (verdicts s h job.classes.class_of)
+    (verdicts s h job.classes.class_of)
 firsts_of job s table h b is each to settled = record {
   count = length-map job.classes.class_of (λ class. settled_at (status s h class))
       ∙ b.classes.count;
@@ -76,10 +76,10 @@ firsts_of job s table h b is each to settled = record {
       let k = x.0 in
       let of : IsClassOf job.list.model job.circuit f k = b.classes.class i f k at x.1 in
       let lt : k < s.classes = subst (λ n. k < n) (sym (is.classes ∙ class_count job b))
-          (slice_get_within (representatives job.list.model job.circuit) k of.0 of.3) in
+      (slice_get_within (representatives job.list.model job.circuit) k of.0 of.3) in
       let own = settled k lt in
       subst (IsFirst job.circuit job.tests.tests f) (sym (sym x.2 ∙ ap settled_at own.1))
-          (first_over job (every job.classes) s table h b is each to k own.0 f lt own.1 of);
+      (first_over job (every job.classes) s table h b is each to k own.0 f lt own.1 of);
 }
 
 -- the class of a fault is one of the ledger's
@@ -87,11 +87,14 @@ pub class_in : (job : Parts) (s : Shape) (i k : ℕ) → BelongTogether job → 
     → slice_get job.classes.class_of i ≡ Some k → k < s.classes
 class_in job s i k b is e =
     let lt : i < length job.classes.class_of = slice_get_within job.classes.class_of i k e in
-    let f = within_place (faults job.list.model job.circuit) i (omega (arith, lt,
-        b.classes.count)) in
+    let f = within_place (faults job.list.model job.circuit) i (omega (
+      arith,
+      lt,
+      b.classes.count,
+    )) in
     let of : IsClassOf job.list.model job.circuit f.0 k = b.classes.class i f.0 k f.1 e in
     subst (λ n. k < n) (sym (is.classes ∙ class_count job b))
-        (slice_get_within (representatives job.list.model job.circuit) k of.0 of.3)
+    (slice_get_within (representatives job.list.model job.circuit) k of.0 of.3)
 
 -- one element more of a list
 pub take_more : {A B : Type 0} (g : A → B) (xs : List A) (i : ℕ) (x : A) → slice_get xs i ≡ Some x

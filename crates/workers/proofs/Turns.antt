@@ -38,8 +38,8 @@ pub moved_legal : (job : Parts) (t : Table) (s : Shape) (h : History) (xs : List
 moved_legal job t s h [] b is each l a = l
 moved_legal job t s h (x ∷ xs) b is each l a =
     moved_legal job t s (move t s h x) xs b is each
-        (move_legal job t s h x b is each l (a 0 x (omega arith)))
-        (λ k d lt. a (suc k) d (omega (arith, lt)))
+    (move_legal job t s h x b is each l (a 0 x (omega arith)))
+    (λ k d lt. a (suc k) d (omega (arith, lt)))
 
 pub moved_true : (t : Table) (s : Shape) (h : History) (xs : List ℕ) → IsTrueTo s t h
     → IsTrueTo s t (moved t s h xs)
@@ -74,8 +74,11 @@ total f (suc n) = f n + total f n
 total_same : (f g : ℕ → ℕ) (n : ℕ) → ((k : ℕ) → k < n → f k ≡ g k) → total f n ≡ total g n
 unfolding total
 total_same f g zero e = refl
-total_same f g (suc n) e = omega (arith, e n (omega arith),
-    total_same f g n (λ k l. e k (omega (arith, l))))
+total_same f g (suc n) e = omega (
+  arith,
+  e n (omega arith),
+  total_same f g n (λ k l. e k (omega (arith, l))),
+)
 
 total_less : (f g : ℕ → ℕ) (u n : ℕ) → u < n → ((k : ℕ) → k ≢ u → f k ≡ g k) → f u + 1 ≡ g u
     → total f n + 1 ≡ total g n
@@ -92,7 +95,7 @@ total_less f g u (suc n) lt e one = go (cases_lt u n) (λ l. total_less f g u n 
         let q : u ≡ n = omega (arith, lt, l) in
         let own : f n + 1 ≡ g n = subst (λ k. f k + 1 ≡ g k) q one in
         let rest : total f n ≡ total g n =
-            total_same f g n (λ k m. e k (λ r. omega (arith, m, r, q))) in
+        total_same f g n (λ k m. e k (λ r. omega (arith, m, r, q))) in
         omega (arith, own, rest)
 
 holders_total : (h : History) (n : ℕ) → holders h n ≡ total (λ w. is_one (held w h)) n
@@ -105,25 +108,33 @@ claim_holders : (h : History) (u n : ℕ) → u < n → held u h ≡ None
     → holders h n + 1 ≡ holders (Event.Claim u ∷ h) n
 claim_holders h u n lt free =
     let others : (k : ℕ) → k ≢ u → is_one (held k h) ≡ is_one (held k (Event.Claim u ∷ h)) =
-        λ k d. ap is_one (sym (ap (λ b. cond b (Some (claims h)) (held k h)) (ne_eqb k u d))) in
+    λ k d. ap is_one (sym (ap (λ b. cond b (Some (claims h)) (held k h)) (ne_eqb k u d))) in
     let own : is_one (held u h) + 1 ≡ is_one (held u (Event.Claim u ∷ h)) =
     ap (λ x. is_one x + 1) free ∙ ap is_one
-        (sym (ap (λ b. cond b (Some (claims h)) (held u h)) (eq-eqb u u refl))) in
-    omega (arith, holders_total h n, holders_total (Event.Claim u ∷ h) n,
-        total_less (λ w. is_one (held w h)) (λ w. is_one (held w (Event.Claim u ∷ h))) u n lt others
-        own)
+    (sym (ap (λ b. cond b (Some (claims h)) (held u h)) (eq-eqb u u refl))) in
+    omega (
+      arith,
+      holders_total h n,
+      holders_total (Event.Claim u ∷ h) n,
+      total_less (λ w. is_one (held w h)) (λ w. is_one (held w (Event.Claim u ∷ h))) u n lt others
+          own,
+    )
 
 drop_holders : (h : History) (u n p : ℕ) → u < n → held u h ≡ Some p
     → holders (Event.Drop u ∷ h) n + 1 ≡ holders h n
 drop_holders h u n p lt here =
     let others : (k : ℕ) → k ≢ u → is_one (held k (Event.Drop u ∷ h)) ≡ is_one (held k h) =
-        λ k d. ap is_one (ap (λ b. cond b None (held k h)) (ne_eqb k u d)) in
+    λ k d. ap is_one (ap (λ b. cond b None (held k h)) (ne_eqb k u d)) in
     let own : is_one (held u (Event.Drop u ∷ h)) + 1 ≡ is_one (held u h) =
     ap (λ x. is_one x + 1) (ap (λ b. cond b None (held u h)) (eq-eqb u u refl))
-        ∙ ap is_one (sym here) in
-    omega (arith, holders_total h n, holders_total (Event.Drop u ∷ h) n,
-        total_less (λ w. is_one (held w (Event.Drop u ∷ h))) (λ w. is_one (held w h)) u n lt others
-        own)
+    ∙ ap is_one (sym here) in
+    omega (
+      arith,
+      holders_total h n,
+      holders_total (Event.Drop u ∷ h) n,
+      total_less (λ w. is_one (held w (Event.Drop u ∷ h))) (λ w. is_one (held w h)) u n lt others
+          own,
+    )
 
 -- each claim adds an event and a holder, each report or drop an event in place of a holder
 events_held : (s : Shape) (h : History) → IsLegal s h
@@ -152,16 +163,28 @@ drops_held : (s : Shape) (h : History) → IsLegal s h → drops h + holders h s
 drops_held s [] l = let e = events_held s [] tt in omega (arith, e)
 drops_held s (Event.Claim u ∷ h) l =
     let a = claim_accepted s h u l.0 in
-    omega (arith, drops_more (Event.Claim u) h, claim_holders h u s.workers a.0 a.1,
-        drops_held s h l.1)
+    omega (
+      arith,
+      drops_more (Event.Claim u) h,
+      claim_holders h u s.workers a.0 a.1,
+      drops_held s h l.1,
+    )
 drops_held s (Event.Report u o ∷ h) l =
     let a = report_accepted s h u o l.0 in
-    omega (arith, drops_more (Event.Report u o) h, drop_holders h u s.workers a.0 a.1 a.2,
-        drops_held s h l.1)
+    omega (
+      arith,
+      drops_more (Event.Report u o) h,
+      drop_holders h u s.workers a.0 a.1 a.2,
+      drops_held s h l.1,
+    )
 drops_held s (Event.Drop u ∷ h) l =
     let a = drop_accepted s h u l.0 in
-    omega (arith, drops_more (Event.Drop u) h, drop_holders h u s.workers a.0 a.1 a.2,
-        drops_held s h l.1)
+    omega (
+      arith,
+      drops_more (Event.Drop u) h,
+      drop_holders h u s.workers a.0 a.1 a.2,
+      drops_held s h l.1,
+    )
 
 pub drops_few : (s : Shape) (h : History) → IsLegal s h → drops h ≤ piece_count s
 drops_few s h l = omega (arith, drops_held s h l, legal_claims s h l)
@@ -180,9 +203,9 @@ count_holders h zero = refl
 count_holders h (suc n) =
     ap (λ (l : List ℕ). count_by is_some (map (λ w. held w h) l)) (sym (below_more n))
     ∙ ap (λ (l : List (Option ℕ)). count_by is_some l)
-        (map-append (λ w. held w h) (below n) (n ∷ []))
+    (map-append (λ w. held w h) (below n) (n ∷ []))
     ∙ sum_by-append (λ (o : Option ℕ). cond (is_some o) 1 0) (map (λ w. held w h) (below n))
-        (held n h ∷ [])
+    (held n h ∷ [])
     ∙ add (count_holders h n) (one (held n h))
   where
     one : (o : Option ℕ) → count_by is_some (o ∷ []) ≡ is_one o
@@ -233,12 +256,17 @@ Done t s h xs new skipped changed = (new ≡ face s (moved t s h xs)) × IsLegal
     × (drops (moved t s h xs) ≡ drops h + skipped)
     × (changed ≡ true → length h < length (moved t s h xs))
     × (changed ≡ false → (moved t s h xs ≡ h)
-        × All (λ w. (claims h ≡ piece_count s) × (held w h ≡ None)) xs)
+    × All (λ w. (claims h ≡ piece_count s) × (held w h ≡ None)) xs)
 
 pub done_none : (t : Table) (s : Shape) (h : History) (f : Face) → IsLegal s h → f ≡ face s h
     → Done t s h [] f 0 false
-done_none t s h f l e = (e, l, omega arith, (λ q. absurd (cc)),
-    (λ q. (refl, All-nil (λ w. (claims h ≡ piece_count s) × (held w h ≡ None)))))
+done_none t s h f l e = (
+  e,
+  l,
+  omega arith,
+  (λ q. absurd (cc)),
+  (λ q. (refl, All-nil (λ w. (claims h ≡ piece_count s) × (held w h ≡ None)))),
+)
 
 moved_last : (t : Table) (s : Shape) (h : History) (xs : List ℕ) (w : ℕ)
     → moved t s h (xs ++ w ∷ []) ≡ move t s (moved t s h xs) w
@@ -251,7 +279,7 @@ dropped_by (Some e) = cond (is_drop e) 1 0
 module _ (t : Table) (s : Shape) (h : History) (xs : List ℕ) (w : ℕ) (f new : Face) (n : ℕ)
     (changed : Bool) (was : Done t s h xs f n changed)
     (moves : new ≡ face s (move t s (moved t s h xs) w))
-        (legal : IsLegal s (move t s (moved t s h xs) w)) where
+    (legal : IsLegal s (move t s (moved t s h xs) w)) where
   abbrev g : History
   g = moved t s h xs
 
@@ -260,9 +288,9 @@ module _ (t : Table) (s : Shape) (h : History) (xs : List ℕ) (w : ℕ) (f new 
       → m ≡ n + cond (is_drop e) 1 0 → Done t s h (xs ++ w ∷ []) new m true
   done_more e m adds count =
       subst (λ x. (new ≡ face s x) × IsLegal s x × (drops x ≡ drops h + m)
-          × (true ≡ true → length h < length x)
+      × (true ≡ true → length h < length x)
       × (true ≡ false → (x ≡ h) × All (λ w. (claims h ≡ piece_count s) × (held w h ≡ None)) (xs
-          ++ w ∷ [])))
+      ++ w ∷ [])))
       (sym (moved_last t s h xs w))
       (moves, legal, ap (λ (x : History). drops x) adds ∙ sum, (λ q. longer), (λ q. absurd (cc)))
     where
@@ -282,9 +310,9 @@ module _ (t : Table) (s : Shape) (h : History) (xs : List ℕ) (w : ℕ) (f new 
       → Done t s h (xs ++ w ∷ []) new n changed
   done_same adds =
       subst (λ x. (new ≡ face s x) × IsLegal s x × (drops x ≡ drops h + n) × (changed ≡ true
-          → length h < length x)
+      → length h < length x)
       × (changed ≡ false → (x ≡ h) × All (λ w. (claims h ≡ piece_count s) × (held w h ≡ None)) (xs
-          ++ w ∷ [])))
+      ++ w ∷ [])))
       (sym (moved_last t s h xs w ∙ adds)) (
         moves ∙ ap (face s) adds,
         was.1,
@@ -296,8 +324,8 @@ module _ (t : Table) (s : Shape) (h : History) (xs : List ℕ) (w : ℕ) (f new 
               a.0,
               All-append (λ w. (claims h ≡ piece_count s) × (held w h ≡ None)) xs (w ∷ []) a.1
                   (All-cons (λ w. (claims h ≡ piece_count s) × (held w h ≡ None)) w []
-                      (subst (λ x. (claims x ≡ piece_count s) × (held w x ≡ None)) a.0 i)
-                      (All-nil (λ w. (claims h ≡ piece_count s) × (held w h ≡ None)))),
+                  (subst (λ x. (claims x ≡ piece_count s) × (held w x ≡ None)) a.0 i)
+                  (All-nil (λ w. (claims h ≡ piece_count s) × (held w h ≡ None)))),
             ),
       )
 
@@ -329,10 +357,12 @@ over_moved t s h [] all free a = refl
 over_moved t s h (x ∷ xs) all free a =
     let e : move t s h x ≡ h =
     ap (move_holding t s h x) (free x (a 0 x (omega arith)))
-    ∙ ap (λ b. cond b (Event.Claim x ∷ h) h) (le-ltb (claims h) (piece_count s) (omega (arith,
-        all))) in
+    ∙ ap (λ b. cond b (Event.Claim x ∷ h) h) (le-ltb (claims h) (piece_count s) (omega (
+      arith,
+      all,
+    ))) in
     ap (λ g. moved t s g xs) e ∙ over_moved t s h xs all free
-        (λ k d lt. a (suc k) d (omega (arith, lt)))
+    (λ k d lt. a (suc k) d (omega (arith, lt)))
 
 -- After some turns: how many there were is at most the number of their events.
 pub record Turned (t : Table) (s : Shape) (h : History) (f : Face) (skipped : ℕ) : Type 0 where
@@ -344,8 +374,13 @@ pub record Turned (t : Table) (s : Shape) (h : History) (f : Face) (skipped : �
 
 pub turned_none : (t : Table) (s : Shape) (h : History) (f : Face) → IsLegal s h → f ≡ face s h
     → Turned t s h f 0
-turned_none t s h f l e = record { turns_done = 0; shows = e; legal = l; dropped = omega arith;
-    few = omega arith }
+turned_none t s h f l e = record {
+  turns_done = 0;
+  shows = e;
+  legal = l;
+  dropped = omega arith;
+  few = omega arith;
+}
 
 module _ (t : Table) (s : Shape) (h : History) (f new : Face) (n m : ℕ)
     (was : Turned t s h f n) where
@@ -373,12 +408,12 @@ module _ (t : Table) (s : Shape) (h : History) (f new : Face) (n m : ℕ)
   pub turned_over : 0 < s.workers
       → Done t s (moved t s h (turns s.workers was.turns_done)) (below s.workers) new m false
       → (new ≡ face s (moved t s h (turns s.workers (2 * piece_count s))))
-          × IsLegal s (moved t s h (turns s.workers (2 * piece_count s)))
+      × IsLegal s (moved t s h (turns s.workers (2 * piece_count s)))
       × (drops (moved t s h (turns s.workers (2 * piece_count s))) ≡ drops h + (n + m))
-          × AreSettled s (moved t s h (turns s.workers (2 * piece_count s))) s.classes
+      × AreSettled s (moved t s h (turns s.workers (2 * piece_count s))) s.classes
   turned_over some turn =
       subst (λ x. (new ≡ face s x) × IsLegal s x × (drops x ≡ drops h + (n + m))
-          × AreSettled s x s.classes) (sym whole) (
+      × AreSettled s x s.classes) (sym whole) (
         turn.0 ∙ ap (face s) stays,
         was.legal,
         (let a = turn.2 in let b = was.dropped in let c = ap (λ (x : History). drops x) stays in
@@ -393,7 +428,7 @@ module _ (t : Table) (s : Shape) (h : History) (f new : Face) (n m : ℕ)
       each w lt =
           let l = length-below s.workers in
           subst (λ k. (claims h1 ≡ piece_count s) × (held k h1 ≡ None))
-              (get_or-below s.workers w 0 lt) ((turn.4 refl).1 w 0 (omega (arith, l, lt)))
+          (get_or-below s.workers w 0 lt) ((turn.4 refl).1 w 0 (omega (arith, l, lt)))
 
       all : claims h1 ≡ piece_count s
       all = (each 0 some).0
@@ -410,7 +445,7 @@ module _ (t : Table) (s : Shape) (h : History) (f new : Face) (n m : ℕ)
       whole : moved t s h (turns s.workers (2 * piece_count s)) ≡ h1
       whole =
           ap (λ k. moved t s h (turns s.workers k)) sum
-              ∙ ap (moved t s h) (turns_sum s.workers was.turns_done rest)
+          ∙ ap (moved t s h) (turns_sum s.workers was.turns_done rest)
           ∙ moved_append t s h (turns s.workers was.turns_done) (turns s.workers rest)
           ∙ over_moved t s h1 (turns s.workers rest) all free (all_turns s.workers rest)
 
@@ -418,22 +453,22 @@ module _ (t : Table) (s : Shape) (h : History) (f new : Face) (n m : ℕ)
 pub played_on : (job : Parts) (t : Table) (s : Shape) (f new : Face) (g : History) (xs : List ℕ)
     (m : ℕ) (changed : Bool) → f.shape ≡ s → IsTableOf job t → IsLegal s g → f ≡ face s g
     → ((table : Table) (h : History) → IsTableOf job table → IsLegal f.shape h → f ≡ face f.shape h
-        → Done table f.shape h xs new m changed) → Done t s g xs new m changed
+    → Done table f.shape h xs new m changed) → Done t s g xs new m changed
 played_on job t s f new g xs m changed e is l shows played =
     subst (λ (x : Shape). IsLegal x g → f ≡ face x g → Done t x g xs new m changed) e
-        (played t g is) l shows
+    (played t g is) l shows
 
 -- all turns have been made, and every class is settled
 abbrev pub Over : Table → Shape → History → Face → ℕ → Type 0
 Over t s h new n = (new ≡ face s (moved t s h (turns s.workers (2 * piece_count s))))
     × IsLegal s (moved t s h (turns s.workers (2 * piece_count s)))
     × (drops (moved t s h (turns s.workers (2 * piece_count s))) ≡ drops h + n)
-        × AreSettled s (moved t s h (turns s.workers (2 * piece_count s))) s.classes
+    × AreSettled s (moved t s h (turns s.workers (2 * piece_count s))) s.classes
 
 pub turned_on : (job : Parts) (t : Table) (s : Shape) (f new : Face) (g : History) (n : ℕ)
     → f.shape ≡ s → IsTableOf job t → IsLegal s g → f ≡ face s g
     → ((table : Table) (h : History) → IsTableOf job table → IsLegal f.shape h → f ≡ face f.shape h
-        → Over table f.shape h new n) → Over t s g new n
+    → Over table f.shape h new n) → Over t s g new n
 turned_on job t s f new g n e is l shows over =
     subst (λ (x : Shape). IsLegal x g → f ≡ face x g → Over t x g new n) e (over t g is) l shows
 
@@ -443,12 +478,12 @@ pub stepped : (job : Parts) (t : Table) (s : Shape) (f new : Face) (g : History)
     → w < s.workers → IsLegal s g → f ≡ face s g
     → ((table : Table) (h : History) → IsTableOf job table → IsLegal f.shape h → f ≡ face f.shape h
     → (new ≡ face f.shape (move table f.shape h w))
-        × (move table f.shape h w ≡ option_map_or (λ event. event ∷ h) r h))
+    × (move table f.shape h w ≡ option_map_or (λ event. event ∷ h) r h))
     → (new ≡ face s (move t s g w)) × IsLegal s (move t s g w)
-        × (move t s g w ≡ option_map_or (λ event. event ∷ g) r g)
+    × (move t s g w ≡ option_map_or (λ event. event ∷ g) r g)
 stepped job t s f new g w r e b shape is among l shows step =
     let m = subst (λ (x : Shape). IsLegal x g → f ≡ face x g → (new ≡ face x (move t x g w))
-        × (move t x g w ≡ option_map_or (λ event. event ∷ g) r g)) e (step t g is) l shows in
+    × (move t x g w ≡ option_map_or (λ event. event ∷ g) r g)) e (step t g is) l shows in
     (m.0, move_legal job t s g w b shape is l among, m.1)
 
 pub not_drop : (e : Event) → ((x : ℕ) → e ≡ Event.Drop x → ⊥) → is_drop e ≡ false
@@ -473,18 +508,18 @@ skipped_few job s h before n is few l e =
 pub scheduled : (job : Parts) (t : Table) (s : Shape) (moves : List ℕ) (f second third : Face)
     (n m : ℕ) (changed : Bool) → IsTableOf job t → f ≡ face s []
     → ((table : Table) (h : History) → IsTableOf job table → IsLegal f.shape h → f ≡ face f.shape h
-        → Done table f.shape h moves second n changed)
+    → Done table f.shape h moves second n changed)
     → ((table : Table) (h : History) → IsTableOf job table → IsLegal second.shape h
-        → second ≡ face second.shape h → Over table second.shape h third m)
+    → second ≡ face second.shape h → Over table second.shape h third m)
     → (third ≡ face s (schedule_history t s moves)) × IsLegal s (schedule_history t s moves)
-        × (drops (schedule_history t s moves) ≡ n + m)
+    × (drops (schedule_history t s moves) ≡ n + m)
     × AreSettled s (schedule_history t s moves) s.classes
 scheduled job t s moves f second third n m changed is begins played turned =
     let a = played_on job t s f second [] moves n changed (ap (λ (x : Face). x.shape) begins) is tt
-        begins played in
+    begins played in
     let b = turned_on job t s second third (moved t s [] moves) m (ap (λ (x : Face). x.shape) a.0)
-        is a.1 a.0 turned in
+    is a.1 a.0 turned in
     subst (λ (h : History). (third ≡ face s h) × IsLegal s h × (drops h ≡ n + m)
-        × AreSettled s h s.classes)
+    × AreSettled s h s.classes)
     (sym (moved_append t s [] moves (turns s.workers (2 * piece_count s))))
     (b.0, b.1, (let c = a.2 in let d = b.2 in omega (arith, c, d)), b.3)

@@ -37,8 +37,10 @@ pub truly_none : (job : Parts) (over : Chosen) (s : Shape) (w : ℕ) (newer earl
 truly_none job over s w [] earlier n = tt
 truly_none job over s w (Event.Claim u ∷ newer) earlier n =
     truly_none job over s w newer earlier n.1
-truly_none job over s w (Event.Report u o ∷ newer) earlier n = ((λ e. absurd (n.0 e)),
-    truly_none job over s w newer earlier n.1)
+truly_none job over s w (Event.Report u o ∷ newer) earlier n = (
+  (λ e. absurd (n.0 e)),
+  truly_none job over s w newer earlier n.1,
+)
 truly_none job over s w (Event.Drop u ∷ newer) earlier n = truly_none job over s w newer earlier n.1
 
 -- newer events on top of newer events
@@ -48,10 +50,11 @@ pub truly_append : (job : Parts) (over : Chosen) (s : Shape) (w : ℕ) (later ne
 truly_append job over s w [] newer earlier t u = t
 truly_append job over s w (Event.Claim v ∷ later) newer earlier t u =
     truly_append job over s w later newer earlier t u
-truly_append job over s w (Event.Report v o ∷ later) newer earlier t u =
-    ((λ e. subst (λ h. GivesTrue job over s (held w h) o × WasNoDrop s w h)
-        (sym (append_assoc later newer earlier)) (u.0 e)),
-        truly_append job over s w later newer earlier t u.1)
+truly_append job over s w (Event.Report v o ∷ later) newer earlier t u = (
+  (λ e. subst (λ h. GivesTrue job over s (held w h) o × WasNoDrop s w h)
+      (sym (append_assoc later newer earlier)) (u.0 e)),
+  truly_append job over s w later newer earlier t u.1,
+)
 truly_append job over s w (Event.Drop v ∷ later) newer earlier t u =
     truly_append job over s w later newer earlier t u
 
@@ -63,8 +66,12 @@ none_append w (e ∷ later) newer m n = (m.0, none_append w later newer m.1 n)
 
 without_twice : (w : ℕ) (c b a : History) → ContinuesWithout w c b → ContinuesWithout w b a
     → ContinuesWithout w c a
-without_twice w c b a x y = (x.0 ++ y.0, x.1 ∙ ap (λ h. x.0 ++ h) y.1
-    ∙ sym (append_assoc x.0 y.0 a), none_append w x.0 y.0 x.2 y.2)
+without_twice w c b a x y = (
+  x.0 ++ y.0,
+  x.1 ∙ ap (λ h. x.0 ++ h) y.1
+      ∙ sym (append_assoc x.0 y.0 a),
+  none_append w x.0 y.0 x.2 y.2,
+)
 
 -- what could not be dropped still could not, while the worker does nothing
 no_drop_later : (s : Shape) (w : ℕ) (later earlier : History) → ContinuesWithout w later earlier
@@ -73,8 +80,14 @@ no_drop_later s w later earlier c n = (n.0, without_twice w later earlier n.0 c 
 
 -- a seat that does nothing
 pub works_same : (job : Parts) (over : Chosen) (a : Sitter) → IsSitter a → WorksOver job over a a
-works_same job over a i = record { place = refl; worker = refl; newer = []; begins = refl;
-    legal = i.legal; truly = tt }
+works_same job over a i = record {
+  place = refl;
+  worker = refl;
+  newer = [];
+  begins = refl;
+  legal = i.legal;
+  truly = tt;
+}
 
 -- work after work
 pub works_twice : (job : Parts) (over : Chosen) (a b d : Sitter) → WorksOver job over a b
@@ -122,25 +135,25 @@ makes_works job over a b e r m t = record {
 pub given : (a b : Sitter) (class block : ℕ)
     → Makes a (Event.Claim a.worker) (Claimed (claim_is.Piece class block)) b
     → (held b.worker b.seen ≡ Some (piece_at a.place.shape class block))
-        × (class < a.place.shape.classes) × (block < block_count a.place.shape)
-        × (claims a.seen < claims b.seen)
+    × (class < a.place.shape.classes) × (block < block_count a.place.shape)
+    × (claims a.seen < claims b.seen)
     × (claims b.seen ≤ piece_count a.place.shape)
 given a b class block m =
     let s = a.place.shape in
     let h = m.before in
     let x = claim_accepted s h a.worker m.legal.0 in
     let is : Claimed (claim_is.Piece class block)
-        ≡ Claimed (claim_is.Piece (class_of s (claims h)) (block_of s (claims h))) = m.replied
-        ∙ claim_answer s h a.worker x.0 x.1 x.2 in
+    ≡ Claimed (claim_is.Piece (class_of s (claims h)) (block_of s (claims h))) = m.replied
+    ∙ claim_answer s h a.worker x.0 x.1 x.2 in
     let c : class ≡ class_of s (claims h) = cc in
     let d : block ≡ block_of s (claims h) = cc in
     let place : piece_at s class block ≡ claims h = ap (λ k. piece_at s k block) c
-        ∙ ap (piece_at s (class_of s (claims h))) d ∙ at-of s (claims h) in
+    ∙ ap (piece_at s (class_of s (claims h))) d ∙ at-of s (claims h) in
     let same : b.seen ≡ Event.Claim a.worker ∷ h = ap (λ (y : Sitter). y.seen) m.seat in
     let own : held a.worker (Event.Claim a.worker ∷ h) ≡ Some (claims h) =
-        ap (λ t. cond t (Some (claims h)) (held a.worker h)) (eq-eqb a.worker a.worker refl) in
+    ap (λ t. cond t (Some (claims h)) (held a.worker h)) (eq-eqb a.worker a.worker refl) in
     let past : claims a.seen ≤ claims h = subst (λ l. claims a.seen ≤ claims l) (sym m.newer.1)
-        (claims_past m.newer.0 a.seen) in
+    (claims_past m.newer.0 a.seen) in
     let count : claims b.seen ≡ claims h + 1 = ap claims same in (
       ap (λ (y : Sitter). held y.worker y.seen) m.seat ∙ own ∙ ap Some (sym place),
       subst (λ k. k < s.classes) (sym c) (mod-lt (claims h) (some_class s (claims h) x.2)),
@@ -165,7 +178,7 @@ pub reported : (job : Parts) (over : Chosen) (a b : Sitter) (o : Outcome) (r : R
     → Makes a (Event.Report a.worker o) r b
     → GivesTrue job over a.place.shape (held a.worker a.seen) o
     → WasNoDrop a.place.shape a.worker a.seen → WorksOver job over a b × (b.told ≡ a.told)
-        × (held b.worker b.seen ≡ None)
+    × (held b.worker b.seen ≡ None)
 reported job over a b o r m t n = (
   makes_works job over a b (Event.Report a.worker o) r m (
     (λ e. (
@@ -210,24 +223,24 @@ pub true_of_piece : (job : Parts) (over : Chosen) (s : Shape) (class block : ℕ
 true_of_piece job over s class block o x lt e t =
     subst (λ y. GivesTrue job over s y o) (sym e)
     (subst (λ k. IsTrueOutcome job.list.model job.circuit job.tests.tests (over.class_at k)
-        (block_of s (piece_at s class block)) o) (sym (class_of-at s class block lt))
+    (block_of s (piece_at s class block)) o) (sym (class_of-at s class block lt))
     (subst (λ k. IsTrueOutcome job.list.model job.circuit job.tests.tests (over.class_at class) k o)
-        (sym (block_of-at s class block lt)) t))
+    (sym (block_of-at s class block lt)) t))
 
 -- a true outcome of the piece that a seat holds is not refused
 pub report_taken : (job : Parts) (over : Chosen) (a b : Sitter) (class block : ℕ) (o : Outcome)
     (r : _) → IsSitter a → IsShapeOver job over a.place.shape → class < a.place.shape.classes
     → held a.worker a.seen ≡ Some (piece_at a.place.shape class block)
     → IsTrueOutcome job.list.model job.circuit job.tests.tests (over.class_at class) block o
-        → Stays a (call.Report a.worker o) (Refused r) b → ⊥
+    → Stays a (call.Report a.worker o) (Refused r) b → ⊥
 report_taken job over a b class block o r i is lt e t s =
     let f = true_fits job a.place.shape (over.class_at class) block o is.tests t in
     let g : fits_size (size_of a.place.shape.tests
-        (block_of a.place.shape (piece_at a.place.shape class block))) o ≡ true =
+    (block_of a.place.shape (piece_at a.place.shape class block))) o ≡ true =
     subst (λ n. fits_size (size_of a.place.shape.tests n) o ≡ true)
-        (sym (block_of-at a.place.shape class block lt)) f in
+    (sym (block_of-at a.place.shape class block lt)) f in
     let q = s.replied ∙ report_answer a.place.shape a.seen a.worker
-        (piece_at a.place.shape class block) o i.among e g in
+    (piece_at a.place.shape class block) o i.among e g in
     absurd (cc)
 
 module _ (job : Parts) (over : Chosen) (a b : Sitter) (p : Place) (class block : ℕ)
@@ -274,20 +287,23 @@ module _ (job : Parts) (over : Chosen) (a b : Sitter) (p : Place) (class block :
 
     no_drop : WasNoDrop b.place.shape b.worker b.seen
     no_drop =
-        subst (λ (x : Sitter). WasNoDrop x.place.shape x.worker b.seen) (sym sees.seat) (found.at,
-            found.later, found.replied)
+        subst (λ (x : Sitter). WasNoDrop x.place.shape x.worker b.seen) (sym sees.seat) (
+          found.at,
+          found.later,
+          found.replied,
+        )
 
     pub then_reported : (r : Reply) → Makes b (Event.Report b.worker o) r d → WorksOver job over a d
     then_reported r m =
         works_twice job over a b d (sees_works job over a b a.told sees)
         (reported job over b d o r m (true_of_piece job over b.place.shape class block o
-            (held b.worker b.seen) own_class_b still true) no_drop).0
+        (held b.worker b.seen) own_class_b still true) no_drop).0
 
     pub then_taken : (r : Refusal) → Stays b (call.Report b.worker o) (Refused r) d → ⊥
     then_taken r s =
         report_taken job over b d class block o r (sitter_sees a b i sees)
-            (subst (λ (q : Place). IsShapeOver job over q.shape) (sym here) own) own_class_b still
-            true s
+        (subst (λ (q : Place). IsShapeOver job over q.shape) (sym here) own) own_class_b still
+        true s
 
 -- the work of a claim that was told that all pieces are claimed
 pub exhausted : (job : Parts) (over : Chosen) (a b : Sitter) (r : Reply) → IsSitter a
@@ -317,7 +333,7 @@ pub fewer : (job : Parts) (over : Chosen) (a b d : Sitter) (p : Place) (class bl
 fewer job over a b d p class block at m x =
     let g = given a b class block m in
     let few : claims b.seen ≤ piece_count p.shape =
-        subst (λ (q : Place). claims b.seen ≤ piece_count q.shape) at g.4 in
+    subst (λ (q : Place). claims b.seen ≤ piece_count q.shape) at g.4 in
     let more = works_claims job over b d x in
     let grew = g.3 in
     omega arith
@@ -326,11 +342,11 @@ fewer job over a b d p class block at m x =
 pub then_held : (a b : Sitter) (p : Place) (class block : ℕ) → a.place ≡ p
     → Makes a (Event.Claim a.worker) (Claimed (claim_is.Piece class block)) b
     → (held b.worker b.seen ≡ Some (piece_at p.shape class block)) × (class < p.shape.classes)
-        × (block < block_count p.shape)
+    × (block < block_count p.shape)
 then_held a b p class block at m =
     let g = given a b class block m in
     subst (λ (q : Place). (held b.worker b.seen ≡ Some (piece_at q.shape class block))
-        × (class < q.shape.classes) × (block < block_count q.shape)) at (g.0, g.1, g.2)
+    × (class < q.shape.classes) × (block < block_count q.shape)) at (g.0, g.1, g.2)
 
 -- a worker that its gate stopped for a piece that it has just claimed
 pub stopped_holding : (stops : Stops) (a b : Sitter) (class block : ℕ)

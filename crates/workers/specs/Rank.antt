@@ -33,9 +33,9 @@ pub record AreRanked (job : Parts) (parts : ℕ) (ranked : List Ranked) : Type 0
 
 -- the same, beside the numbers of the classes in the same order
 pub record IsCutOf (job : Parts) (parts : ℕ) (ranked : List Ranked) (classes : List ℕ) : Type 0
-    where
-  pub ranked_are : AreRanked job parts ranked
-  pub classes_are : classes ≡ map (λ at. at.class) ranked
+  where
+    pub ranked_are : AreRanked job parts ranked
+    pub classes_are : classes ≡ map (λ at. at.class) ranked
 
 -- the place at which a part begins: those before it are of parts before it, the others are not
 pub record IsStart (ranked : List Ranked) (part start : ℕ) : Type 0 where

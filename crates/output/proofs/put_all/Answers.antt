@@ -9,6 +9,9 @@ loop-rest-preserved g c =
     let inv = c.loop-rest.invariant in (
       inv.0 ++ take n rest,
       inv.1 ∙ rest_split inv.0 rest n c.in_ok-taken.ensures.within,
-      (appends_more _ _ _ _ _ inv.2.0 c.in_ok-taken.ensures.taken, c.in_ok-taken.ensures.counted
-          ∙ (counts_none n _ _ c.if-taken-eq0.false ∙ inv.2.1)),
+      (
+        appends_more _ _ _ _ _ inv.2.0 c.in_ok-taken.ensures.taken,
+        c.in_ok-taken.ensures.counted
+            ∙ (counts_none n _ _ c.if-taken-eq0.false ∙ inv.2.1),
+      ),
     )

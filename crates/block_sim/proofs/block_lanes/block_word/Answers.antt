@@ -18,7 +18,7 @@ returns-then-block-eq0 c = λ k j lt place.
     lane_and c.args.word c.from.result k
     ∙ (ap (λ x. lane c.args.word k && lane x k) c.from.ensures
     ∙ (ap (λ b. lane c.args.word k && b) (lane_ones 64 k lt)
-        ∙ (and_true (lane c.args.word k) ∙ ap (lane c.args.word) same)))
+    ∙ (and_true (lane c.args.word k) ∙ ap (lane c.args.word) same)))
 
 pub returns-else-block-eq0 : goal.returns-else-block-eq0
 returns-else-block-eq0 c = λ k j lt place.
@@ -29,6 +29,6 @@ returns-else-block-eq0 c = λ k j lt place.
     let parts : w / 2 ^ 64 * 2 ^ 64 + w % 2 ^ 64 ≡ w = omega arith in
     let few : w % 2 ^ 64 < 2 ^ 64 = omega arith in
     ap (λ x. x == 1) (ap (bit_at (w / 2 ^ 64)) (sym back)
-        ∙ (sym (bit_at_cat_high (w / 2 ^ 64) 64 (w % 2 ^ 64) (64 + k) few (omega arith))
-        ∙ ap (λ x. bit_at x (64 + k)) parts))
+    ∙ (sym (bit_at_cat_high (w / 2 ^ 64) 64 (w % 2 ^ 64) (64 + k) few (omega arith))
+    ∙ ap (λ x. bit_at x (64 + k)) parts))
     ∙ ap (lane w) up

@@ -29,4 +29,4 @@ returns-clause-high c = λ k lt.
     let back : 64 + k - 64 ≡ k = omega arith in
     ap (λ x. bit_at x (64 + k)) (joined low high few (omega arith))
     ∙ (bit_at_cat_high high 64 low (64 + k) few (omega arith)
-        ∙ (ap (bit_at high) back ∙ ap (λ x. bit_at x k) is))
+    ∙ (ap (bit_at high) back ∙ ap (λ x. bit_at x k) is))

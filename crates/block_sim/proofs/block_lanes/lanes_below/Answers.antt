@@ -22,5 +22,5 @@ pub returns-else-size-eq128 : goal.returns-else-size-eq128
 returns-else-size-eq128 c = λ k lt.
     let fits : 2 ^ c.args.size < 2 ^ 128 = pow_below c.args.size 128 (omega arith) in
     let same : 1 * 2 ^ c.args.size % 340282366920938463463374607431768211456 ≡ 2 ^ c.args.size =
-        omega arith in
+    omega arith in
     ap (λ x. lane (x - 1) k) same ∙ masked c.args.size k

@@ -57,9 +57,9 @@ returns-then-turned-eq0-clause-shown c = λ tests group words.
     let n = carries c.args.fault.model circuit fault well c.requires.listed in
     let number : c.carried-signal.result ≡ signal circuit n.0 = c.carried-signal.ensures n.0 n.1 in
     shown_none circuit tests group fault good n.0 well words n.1 (IsSettled c.args.extent 0) lanes
-        (bit_and (bit_xor c.word.result (slice_index_or good c.carried-signal.result 0)) lanes)
+    (bit_and (bit_xor c.word.result (slice_index_or good c.carried-signal.result 0)) lanes)
     (turned_is circuit fault good lanes c.carried-signal.result c.word.result n.0 number
-        c.word.ensures) 0 (λ k lt. lane_of_zero _ k c.if-turned-eq0.true) lane_zero
+    c.word.ensures) 0 (λ k lt. lane_of_zero _ k c.if-turned-eq0.true) lane_zero
 
 pub spread-requires-clause-start : goal.spread-requires-clause-start
 spread-requires-clause-start c =
@@ -84,19 +84,27 @@ spread-requires-clause-first c =
     let n = carries c.args.fault.model circuit fault well c.requires.listed in
     let number : c.carried-signal.result ≡ signal circuit n.0 = c.carried-signal.ensures n.0 n.1 in
     let named : name_of circuit c.in-Stem.start ≡ Some n.0 = ap (carried circuit) (sym c.in-Stem.is)
-        ∙ n.1 in
+    ∙ n.1 in
     let same : c.carried-signal.result ≡ c.in-Stem.start = number
-        ∙ signal-name_of circuit c.in-Stem.start n.0 well.once named n.2 in
+    ∙ signal-name_of circuit c.in-Stem.start n.0 well.once named n.2 in
     let low : c.in-Stem.start < length (names circuit) =
-        place_within (names circuit) c.in-Stem.start n.0 named in
-    let within : c.in-Stem.start < length c.args.changes.now.overlay = omega (arith, low,
-        c.requires.room.overlay) in
+    place_within (names circuit) c.in-Stem.start n.0 named in
+    let within : c.in-Stem.start < length c.args.changes.now.overlay = omega (
+      arith,
+      low,
+      c.requires.room.overlay,
+    ) in
     let tests = c.requires.words.0 in
     let group = c.requires.words.1 in
-    let words = c.requires.words.2 in
-    (tests, group, λ _. fault, stem_change circuit tests group fault good lanes
-        c.args.changes.now.overlay c.in-Stem.start c.carried-signal.result c.word.result well words
-        c.in-Stem.is within same c.word.ensures)
+    let words = c.requires.words.2 in (
+      tests,
+      group,
+      λ _. fault,
+      stem_change circuit tests group fault good lanes
+          c.args.changes.now.overlay c.in-Stem.start c.carried-signal.result c.word.result well
+          words
+          c.in-Stem.is within same c.word.ensures,
+    )
 
 pub gate_change-diff-requires-clause-gate : goal.gate_change-diff-requires-clause-gate
 gate_change-diff-requires-clause-gate c =
@@ -107,12 +115,12 @@ gate_change-diff-requires-clause-gate c =
     let fault = stuck_fault c.args.fault in
     let n = carries c.args.fault.model circuit fault well c.requires.listed in
     let reads : argument (definition circuit c.in-Pin.gate) c.in-Pin.pin ≡ Some n.0 =
-        ap (carried circuit) (sym c.in-Pin.is) ∙ n.1 in
+    ap (carried circuit) (sym c.in-Pin.is) ∙ n.1 in
     let p = pin_of circuit c.in-Pin.gate c.in-Pin.pin n.0 reads in
     let gate_is : gate_of circuit c.in-Pin.gate ≡ Some (p.kind, map (signal circuit) p.args) =
-        ap (gate_line circuit) p.is in
+    ap (gate_line circuit) p.is in
     let low : c.in-Pin.gate < length (names circuit) =
-        gate_within circuit c.in-Pin.gate c.in-Pin.pin n.0 reads in
+    gate_within circuit c.in-Pin.gate c.in-Pin.pin n.0 reads in
     low
 
 pub gate_change-diff-requires-clause-driven : goal.gate_change-diff-requires-clause-driven
@@ -124,12 +132,12 @@ gate_change-diff-requires-clause-driven c =
     let fault = stuck_fault c.args.fault in
     let n = carries c.args.fault.model circuit fault well c.requires.listed in
     let reads : argument (definition circuit c.in-Pin.gate) c.in-Pin.pin ≡ Some n.0 =
-        ap (carried circuit) (sym c.in-Pin.is) ∙ n.1 in
+    ap (carried circuit) (sym c.in-Pin.is) ∙ n.1 in
     let p = pin_of circuit c.in-Pin.gate c.in-Pin.pin n.0 reads in
     let gate_is : gate_of circuit c.in-Pin.gate ≡ Some (p.kind, map (signal circuit) p.args) =
-        ap (gate_line circuit) p.is in
+    ap (gate_line circuit) p.is in
     let low : c.in-Pin.gate < length (names circuit) =
-        gate_within circuit c.in-Pin.gate c.in-Pin.pin n.0 reads in
+    gate_within circuit c.in-Pin.gate c.in-Pin.pin n.0 reads in
     ((p.kind, map (signal circuit) p.args), gate_is)
 
 pub spread-requires-in-Pin-clause-start : goal.spread-requires-in-Pin-clause-start
@@ -141,12 +149,12 @@ spread-requires-in-Pin-clause-start c =
     let fault = stuck_fault c.args.fault in
     let n = carries c.args.fault.model circuit fault well c.requires.listed in
     let reads : argument (definition circuit c.in-Pin.gate) c.in-Pin.pin ≡ Some n.0 =
-        ap (carried circuit) (sym c.in-Pin.is) ∙ n.1 in
+    ap (carried circuit) (sym c.in-Pin.is) ∙ n.1 in
     let p = pin_of circuit c.in-Pin.gate c.in-Pin.pin n.0 reads in
     let gate_is : gate_of circuit c.in-Pin.gate ≡ Some (p.kind, map (signal circuit) p.args) =
-        ap (gate_line circuit) p.is in
+    ap (gate_line circuit) p.is in
     let low : c.in-Pin.gate < length (names circuit) =
-        gate_within circuit c.in-Pin.gate c.in-Pin.pin n.0 reads in
+    gate_within circuit c.in-Pin.gate c.in-Pin.pin n.0 reads in
     low
 
 pub spread-requires-in-Pin-clause-first : goal.spread-requires-in-Pin-clause-first
@@ -158,30 +166,35 @@ spread-requires-in-Pin-clause-first c =
     let fault = stuck_fault c.args.fault in
     let n = carries c.args.fault.model circuit fault well c.requires.listed in
     let reads : argument (definition circuit c.in-Pin.gate) c.in-Pin.pin ≡ Some n.0 =
-        ap (carried circuit) (sym c.in-Pin.is) ∙ n.1 in
+    ap (carried circuit) (sym c.in-Pin.is) ∙ n.1 in
     let p = pin_of circuit c.in-Pin.gate c.in-Pin.pin n.0 reads in
     let gate_is : gate_of circuit c.in-Pin.gate ≡ Some (p.kind, map (signal circuit) p.args) =
-        ap (gate_line circuit) p.is in
+    ap (gate_line circuit) p.is in
     let low : c.in-Pin.gate < length (names circuit) =
-        gate_within circuit c.in-Pin.gate c.in-Pin.pin n.0 reads in
+    gate_within circuit c.in-Pin.gate c.in-Pin.pin n.0 reads in
     let within : c.in-Pin.gate < length c.gate_change-diff.new.changes.overlay =
     (let same = ap length c.gate_change-diff.ensures.overlay in
-        omega (arith, low, c.requires.room.overlay, same)) in
+    omega (arith, low, c.requires.room.overlay, same)) in
     let now : (k : ℕ) → k < 128 → lane lanes k ≡ true
-        → lane (bit_xor (slice_index_or good c.in-Pin.gate 0) c.gate_change-diff.result) k
+    → lane (bit_xor (slice_index_or good c.in-Pin.gate 0) c.gate_change-diff.result) k
     ≡ value p.kind (pin_bits (Some fault) c.in-Pin.gate (map (signal circuit) p.args) good
-        c.gate_change-diff.new.changes.overlay k) =
+    c.gate_change-diff.new.changes.overlay k) =
     λ k lt in_lanes. c.gate_change-diff.ensures.changed p.kind (map (signal circuit) p.args) k
-        gate_is lt in_lanes
+    gate_is lt in_lanes
     ∙ ap (λ d. value p.kind (pin_bits (Some fault) c.in-Pin.gate (map (signal circuit) p.args) good
-        d k)) (sym c.gate_change-diff.ensures.overlay) in
+    d k)) (sym c.gate_change-diff.ensures.overlay) in
     let tests = c.requires.words.0 in
     let group = c.requires.words.1 in
-    let words = c.requires.words.2 in
-    (tests, group, λ _. fault, first_on_pin circuit tests group fault good lanes
-        c.gate_change-diff.new.changes.overlay c.in-Pin.gate c.in-Pin.pin c.gate_change-diff.result
-        p.kind (map (signal circuit) p.args) well words c.in-Pin.is within
-        (λ r. no_loop circuit c.in-Pin.gate well r) gate_is now)
+    let words = c.requires.words.2 in (
+      tests,
+      group,
+      λ _. fault,
+      first_on_pin circuit tests group fault good lanes
+          c.gate_change-diff.new.changes.overlay c.in-Pin.gate c.in-Pin.pin
+          c.gate_change-diff.result
+          p.kind (map (signal circuit) p.args) well words c.in-Pin.is within
+          (λ r. no_loop circuit c.in-Pin.gate well r) gate_is now,
+    )
 
 pub returns-in-Stem-clause-shown : goal.returns-in-Stem-clause-shown
 returns-in-Stem-clause-shown c = λ tests group words.
@@ -193,16 +206,19 @@ returns-in-Stem-clause-shown c = λ tests group words.
     let n = carries c.args.fault.model circuit fault well c.requires.listed in
     let number : c.carried-signal.result ≡ signal circuit n.0 = c.carried-signal.ensures n.0 n.1 in
     let named : name_of circuit c.in-Stem.start ≡ Some n.0 = ap (carried circuit) (sym c.in-Stem.is)
-        ∙ n.1 in
+    ∙ n.1 in
     let same : c.carried-signal.result ≡ c.in-Stem.start = number
-        ∙ signal-name_of circuit c.in-Stem.start n.0 well.once named n.2 in
+    ∙ signal-name_of circuit c.in-Stem.start n.0 well.once named n.2 in
     let low : c.in-Stem.start < length (names circuit) =
-        place_within (names circuit) c.in-Stem.start n.0 named in
-    let within : c.in-Stem.start < length c.args.changes.now.overlay = omega (arith, low,
-        c.requires.room.overlay) in
+    place_within (names circuit) c.in-Stem.start n.0 named in
+    let within : c.in-Stem.start < length c.args.changes.now.overlay = omega (
+      arith,
+      low,
+      c.requires.room.overlay,
+    ) in
     c.spread.ensures.shown tests group (λ _. fault)
-        (stem_change circuit tests group fault good lanes c.args.changes.now.overlay c.in-Stem.start
-        c.carried-signal.result c.word.result well words c.in-Stem.is within same c.word.ensures)
+    (stem_change circuit tests group fault good lanes c.args.changes.now.overlay c.in-Stem.start
+    c.carried-signal.result c.word.result well words c.in-Stem.is within same c.word.ensures)
 
 pub returns-in-Stem-clause-counted : goal.returns-in-Stem-clause-counted
 returns-in-Stem-clause-counted c = λ tests group gates words sized all.
@@ -214,17 +230,20 @@ returns-in-Stem-clause-counted c = λ tests group gates words sized all.
     let n = carries c.args.fault.model circuit fault well c.requires.listed in
     let number : c.carried-signal.result ≡ signal circuit n.0 = c.carried-signal.ensures n.0 n.1 in
     let named : name_of circuit c.in-Stem.start ≡ Some n.0 = ap (carried circuit) (sym c.in-Stem.is)
-        ∙ n.1 in
+    ∙ n.1 in
     let same : c.carried-signal.result ≡ c.in-Stem.start = number
-        ∙ signal-name_of circuit c.in-Stem.start n.0 well.once named n.2 in
+    ∙ signal-name_of circuit c.in-Stem.start n.0 well.once named n.2 in
     let low : c.in-Stem.start < length (names circuit) =
-        place_within (names circuit) c.in-Stem.start n.0 named in
-    let within : c.in-Stem.start < length c.args.changes.now.overlay = omega (arith, low,
-        c.requires.room.overlay) in
+    place_within (names circuit) c.in-Stem.start n.0 named in
+    let within : c.in-Stem.start < length c.args.changes.now.overlay = omega (
+      arith,
+      low,
+      c.requires.room.overlay,
+    ) in
     let le = c.spread.ensures.counted tests group (λ _. fault) gates
-        (stem_change circuit tests group fault good lanes c.args.changes.now.overlay c.in-Stem.start
-        c.carried-signal.result c.word.result well words c.in-Stem.is within same c.word.ensures)
-        sized all in
+    (stem_change circuit tests group fault good lanes c.args.changes.now.overlay c.in-Stem.start
+    c.carried-signal.result c.word.result well words c.in-Stem.is within same c.word.ensures)
+    sized all in
     omega (arith, le)
 
 pub returns-in-Pin-clause-shown : goal.returns-in-Pin-clause-shown
@@ -236,27 +255,27 @@ returns-in-Pin-clause-shown c = λ tests group words.
     let fault = stuck_fault c.args.fault in
     let n = carries c.args.fault.model circuit fault well c.requires.listed in
     let reads : argument (definition circuit c.in-Pin.gate) c.in-Pin.pin ≡ Some n.0 =
-        ap (carried circuit) (sym c.in-Pin.is) ∙ n.1 in
+    ap (carried circuit) (sym c.in-Pin.is) ∙ n.1 in
     let p = pin_of circuit c.in-Pin.gate c.in-Pin.pin n.0 reads in
     let gate_is : gate_of circuit c.in-Pin.gate ≡ Some (p.kind, map (signal circuit) p.args) =
-        ap (gate_line circuit) p.is in
+    ap (gate_line circuit) p.is in
     let low : c.in-Pin.gate < length (names circuit) =
-        gate_within circuit c.in-Pin.gate c.in-Pin.pin n.0 reads in
+    gate_within circuit c.in-Pin.gate c.in-Pin.pin n.0 reads in
     let within : c.in-Pin.gate < length c.gate_change-diff.new.changes.overlay =
     (let same = ap length c.gate_change-diff.ensures.overlay in
-        omega (arith, low, c.requires.room.overlay, same)) in
+    omega (arith, low, c.requires.room.overlay, same)) in
     let now : (k : ℕ) → k < 128 → lane lanes k ≡ true
-        → lane (bit_xor (slice_index_or good c.in-Pin.gate 0) c.gate_change-diff.result) k
+    → lane (bit_xor (slice_index_or good c.in-Pin.gate 0) c.gate_change-diff.result) k
     ≡ value p.kind (pin_bits (Some fault) c.in-Pin.gate (map (signal circuit) p.args) good
-        c.gate_change-diff.new.changes.overlay k) =
+    c.gate_change-diff.new.changes.overlay k) =
     λ k lt in_lanes. c.gate_change-diff.ensures.changed p.kind (map (signal circuit) p.args) k
-        gate_is lt in_lanes
+    gate_is lt in_lanes
     ∙ ap (λ d. value p.kind (pin_bits (Some fault) c.in-Pin.gate (map (signal circuit) p.args) good
-        d k)) (sym c.gate_change-diff.ensures.overlay) in
+    d k)) (sym c.gate_change-diff.ensures.overlay) in
     c.spread-in-Pin.ensures.shown tests group (λ _. fault)
-        (first_on_pin circuit tests group fault good lanes c.gate_change-diff.new.changes.overlay
-        c.in-Pin.gate c.in-Pin.pin c.gate_change-diff.result p.kind (map (signal circuit) p.args)
-        well words c.in-Pin.is within (λ r. no_loop circuit c.in-Pin.gate well r) gate_is now)
+    (first_on_pin circuit tests group fault good lanes c.gate_change-diff.new.changes.overlay
+    c.in-Pin.gate c.in-Pin.pin c.gate_change-diff.result p.kind (map (signal circuit) p.args)
+    well words c.in-Pin.is within (λ r. no_loop circuit c.in-Pin.gate well r) gate_is now)
 
 pub returns-in-Pin-clause-counted : goal.returns-in-Pin-clause-counted
 returns-in-Pin-clause-counted c = λ tests group gates words sized all.
@@ -267,50 +286,50 @@ returns-in-Pin-clause-counted c = λ tests group gates words sized all.
     let fault = stuck_fault c.args.fault in
     let n = carries c.args.fault.model circuit fault well c.requires.listed in
     let reads : argument (definition circuit c.in-Pin.gate) c.in-Pin.pin ≡ Some n.0 =
-        ap (carried circuit) (sym c.in-Pin.is) ∙ n.1 in
+    ap (carried circuit) (sym c.in-Pin.is) ∙ n.1 in
     let p = pin_of circuit c.in-Pin.gate c.in-Pin.pin n.0 reads in
     let gate_is : gate_of circuit c.in-Pin.gate ≡ Some (p.kind, map (signal circuit) p.args) =
-        ap (gate_line circuit) p.is in
+    ap (gate_line circuit) p.is in
     let low : c.in-Pin.gate < length (names circuit) =
-        gate_within circuit c.in-Pin.gate c.in-Pin.pin n.0 reads in
+    gate_within circuit c.in-Pin.gate c.in-Pin.pin n.0 reads in
     let within : c.in-Pin.gate < length c.gate_change-diff.new.changes.overlay =
     (let same = ap length c.gate_change-diff.ensures.overlay in
-        omega (arith, low, c.requires.room.overlay, same)) in
+    omega (arith, low, c.requires.room.overlay, same)) in
     let now : (k : ℕ) → k < 128 → lane lanes k ≡ true
-        → lane (bit_xor (slice_index_or good c.in-Pin.gate 0) c.gate_change-diff.result) k
+    → lane (bit_xor (slice_index_or good c.in-Pin.gate 0) c.gate_change-diff.result) k
     ≡ value p.kind (pin_bits (Some fault) c.in-Pin.gate (map (signal circuit) p.args) good
-        c.gate_change-diff.new.changes.overlay k) =
+    c.gate_change-diff.new.changes.overlay k) =
     λ k lt in_lanes. c.gate_change-diff.ensures.changed p.kind (map (signal circuit) p.args) k
-        gate_is lt in_lanes
+    gate_is lt in_lanes
     ∙ ap (λ d. value p.kind (pin_bits (Some fault) c.in-Pin.gate (map (signal circuit) p.args) good
-        d k)) (sym c.gate_change-diff.ensures.overlay) in
+    d k)) (sym c.gate_change-diff.ensures.overlay) in
     let number : c.carried-signal.result ≡ signal circuit n.0 = c.carried-signal.ensures n.0 n.1 in
     let turned = bit_and (bit_xor c.word.result (slice_index_or good c.carried-signal.result 0))
-        lanes in
+    lanes in
     let below : turned < 2 ^ 128 =
-        (let le = and_le_r (bit_xor c.word.result (slice_index_or good c.carried-signal.result 0))
-        lanes in omega (arith, le)) in
+    (let le = and_le_r (bit_xor c.word.result (slice_index_or good c.carried-signal.result 0))
+    lanes in omega (arith, le)) in
     let k = some_lane turned below c.if-turned-eq0.false in
     let d = definition_defines circuit c.in-Pin.gate (Gate p.name p.kind p.args) p.is in
     let first : p.name ∷ [] ≡ d.0 ∷ [] = d.1 in
     let one : d.0 ≡ p.name = cc in
     let named : name_of circuit c.in-Pin.gate ≡ Some p.name = d.2 ∙ ap Some one in
     let own = contained (names circuit) p.name
-        (at_place (names circuit) c.in-Pin.gate p.name named) in
+    (at_place (names circuit) c.in-Pin.gate p.name named) in
     let at : signal circuit p.name ≡ c.in-Pin.gate =
-        signal-name_of circuit c.in-Pin.gate p.name well.once named own in
+    signal-name_of circuit c.in-Pin.gate p.name well.once named own in
     let stirred = pin_stirred circuit tests group fault good n.0 well words n.1
-        (λ _. Unit {0}) lanes turned
-        (turned_is circuit fault good lanes c.carried-signal.result c.word.result n.0 number
-        c.word.ensures)
+    (λ _. Unit {0}) lanes turned
+    (turned_is circuit fault good lanes c.carried-signal.result c.word.result n.0 number
+    c.word.ensures)
     k.0 c.in-Pin.gate c.in-Pin.pin k.1 c.in-Pin.is sized k.2 p.name p.kind p.args
-        (contained circuit (Gate p.name p.kind p.args) d.3) at p.reads in
+    (contained circuit (Gate p.name p.kind p.args) d.3) at p.reads in
     let counted = count_one c.in-Pin.gate gates (all c.in-Pin.gate stirred) in
     let le = c.spread-in-Pin.ensures.counted tests group (λ _. fault) gates
-        (first_on_pin circuit tests group fault good lanes c.gate_change-diff.new.changes.overlay
-        c.in-Pin.gate c.in-Pin.pin c.gate_change-diff.result p.kind (map (signal circuit) p.args)
-        well words c.in-Pin.is within (λ r. no_loop circuit c.in-Pin.gate well r) gate_is now) sized
-        all in
+    (first_on_pin circuit tests group fault good lanes c.gate_change-diff.new.changes.overlay
+    c.in-Pin.gate c.in-Pin.pin c.gate_change-diff.result p.kind (map (signal circuit) p.args)
+    well words c.in-Pin.is within (λ r. no_loop circuit c.in-Pin.gate well r) gate_is now) sized
+    all in
     omega (arith, le, counted, c.gate_change-diff.ensures.counted)
 
 pub returns-in-Data-clause-shown : goal.returns-in-Data-clause-shown
@@ -324,10 +343,10 @@ returns-in-Data-clause-shown c = λ tests group words.
     let number : c.carried-signal.result ≡ signal circuit n.0 = c.carried-signal.ensures n.0 n.1 in
     let at_observer = shown_at_observer circuit tests group fault good n.0 well words n.1
     (IsSettled c.args.extent (bit_and
-        (bit_xor c.word.result (slice_index_or good c.carried-signal.result 0)) lanes)) lanes
-        (bit_and (bit_xor c.word.result (slice_index_or good c.carried-signal.result 0)) lanes)
+    (bit_xor c.word.result (slice_index_or good c.carried-signal.result 0)) lanes)) lanes
+    (bit_and (bit_xor c.word.result (slice_index_or good c.carried-signal.result 0)) lanes)
     (turned_is circuit fault good lanes c.carried-signal.result c.word.result n.0 number
-        c.word.ensures) in
+    c.word.ensures) in
     elim c.in-Data.is [
       | inl x ↦ at_observer (sink.Data x.0) (sym x.1)
           (data_observed circuit x.0 n.0 (ap (carried circuit) (sym x.1) ∙ n.1))
@@ -343,4 +362,4 @@ spread-requires-in-Pin-clause-room c =
       levels = ap (λ b. b.levels) c.gate_change-diff.ensures.buckets;
     } in
     large_enough c.args.view.circuit.now c.args.changes.now c.gate_change-diff.new.changes
-        c.requires.room large
+    c.requires.room large

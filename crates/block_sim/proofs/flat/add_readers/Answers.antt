@@ -27,9 +27,9 @@ level_of-level-requires c =
     let circuit = c.args.circuit.now in
     let n = within_place (names circuit) c.args.signal c.requires.signal in
     let reads = sink_gate circuit c.requires.circuit.well_formed c.args.signal n.0 n.1
-        c.sinks_of-sink-items.result.now (c.sinks_of-sink-items.ensures n.0 n.1)
-        c.loop-sink.sink-index c.in-Pin.gate c.in-Pin.pin (sink.Pin 0 0) c.loop-sink-test.true
-        c.in-Pin.is in
+    c.sinks_of-sink-items.result.now (c.sinks_of-sink-items.ensures n.0 n.1)
+    c.loop-sink.sink-index c.in-Pin.gate c.in-Pin.pin (sink.Pin 0 0) c.loop-sink-test.true
+    c.in-Pin.is in
     reader_within circuit c.in-Pin.gate c.args.signal reads
 
 pub bounds-live-gate : goal.bounds-live-gate
@@ -37,9 +37,9 @@ bounds-live-gate c =
     let circuit = c.args.circuit.now in
     let n = within_place (names circuit) c.args.signal c.requires.signal in
     let reads = sink_gate circuit c.requires.circuit.well_formed c.args.signal n.0 n.1
-        c.sinks_of-sink-items.result.now (c.sinks_of-sink-items.ensures n.0 n.1)
-        c.loop-sink.sink-index c.in-Pin.gate c.in-Pin.pin (sink.Pin 0 0) c.loop-sink-test.true
-        c.in-Pin.is in
+    c.sinks_of-sink-items.result.now (c.sinks_of-sink-items.ensures n.0 n.1)
+    c.loop-sink.sink-index c.in-Pin.gate c.in-Pin.pin (sink.Pin 0 0) c.loop-sink-test.true
+    c.in-Pin.is in
     let lt = reader_within circuit c.in-Pin.gate c.args.signal reads in
     omega (arith, lt, c.requires.room)
 
@@ -54,7 +54,7 @@ loop-sink-preserved-then-not-live-gate c =
     let i = c.loop-sink.sink-index in
     let gate = c.in-Pin.gate in
     let reads = sink_gate circuit well s n.0 n.1 items are i gate c.in-Pin.pin
-        (sink.Pin 0 0) c.loop-sink-test.true c.in-Pin.is in
+    (sink.Pin 0 0) c.loop-sink-test.true c.in-Pin.is in
     record {
       more = c.loop-sink.invariant.more;
       is = c.loop-sink.invariant.is;
@@ -62,7 +62,7 @@ loop-sink-preserved-then-not-live-gate c =
           c.loop-sink.invariant.gathered gate c.in-Pin.pin (sink.Pin 0 0) c.loop-sink-test.true
           c.in-Pin.is
           (λ live. false≢true (sym c.if-not-live-gate.true
-              ∙ (c.requires.live gate (reader_within circuit gate s reads)).1 live));
+          ∙ (c.requires.live gate (reader_within circuit gate s reads)).1 live));
       observer = observer_passed circuit well s n.0 n.1 items are i gate c.in-Pin.pin
           (sink.Pin 0 0) c.loop-sink.observed c.loop-sink-test.true c.in-Pin.is
           c.loop-sink.invariant.observer;
@@ -82,7 +82,7 @@ loop-sink-preserved c =
     elim c.match-sink.branch [
       | in-Pin+else-not-live-gate+in_ok-push-in-Pin w ↦
           let reads = sink_gate circuit well s n.0 n.1 items are i w.in-Pin.gate w.in-Pin.pin
-              (sink.Pin 0 0) c.loop-sink-test.true w.in-Pin.is in
+          (sink.Pin 0 0) c.loop-sink-test.true w.in-Pin.is in
           let reader : Reader = record { gate = w.in-Pin.gate; level = w.level_of-level.result } in
           record {
             more = more ++ reader ∷ [];
@@ -92,15 +92,15 @@ loop-sink-preserved c =
             gathered = gathered_more circuit well s n.0 n.1 items are i more before w.in-Pin.gate
                 w.in-Pin.pin (sink.Pin 0 0) reader c.loop-sink-test.true w.in-Pin.is refl reads
                 ((c.requires.live w.in-Pin.gate (reader_within circuit w.in-Pin.gate s reads)).0
-                    w.if-not-live-gate.false) w.level_of-level.ensures;
+                w.if-not-live-gate.false) w.level_of-level.ensures;
             observer = subst (HasObserver circuit s items (i + 1)) (sym w.observed-is)
                 (observer_passed circuit well s n.0 n.1 items are i w.in-Pin.gate w.in-Pin.pin
-                    (sink.Pin 0 0) c.loop-sink.observed c.loop-sink-test.true w.in-Pin.is
-                    c.loop-sink.invariant.observer);
+                (sink.Pin 0 0) c.loop-sink.observed c.loop-sink-test.true w.in-Pin.is
+                c.loop-sink.invariant.observer);
           }
       | in-Data w ↦
           let isnt : (gate pin : ℕ) → sink.Data w.in-Data.cell ≢ sink.Pin gate pin =
-              λ gate pin e. cc in
+          λ gate pin e. cc in
           record {
             more = more;
             is = ap (λ r. r.items) w.readers-is ∙ c.loop-sink.invariant.is;
@@ -112,7 +112,7 @@ loop-sink-preserved c =
           }
       | in-Out w ↦
           let isnt : (gate pin : ℕ) → sink.Out w.in-Out.output ≢ sink.Pin gate pin =
-              λ gate pin e. cc in
+          λ gate pin e. cc in
           record {
             more = more;
             is = ap (λ r. r.items) w.readers-is ∙ c.loop-sink.invariant.is;
@@ -133,7 +133,7 @@ returns-clause-readers c =
       gathered_all circuit c.requires.circuit.well_formed c.args.signal n.0 n.1
           c.sinks_of-sink-items.result.now (c.sinks_of-sink-items.ensures n.0 n.1)
           c.loop-sink.sink-index c.loop-sink.invariant.more c.loop-sink.invariant.gathered
-              c.loop-sink-test.false,
+          c.loop-sink-test.false,
     )
 
 pub returns-clause-observed : goal.returns-clause-observed
@@ -141,6 +141,6 @@ returns-clause-observed c =
     let circuit = c.args.circuit.now in
     let n = within_place (names circuit) c.args.signal c.requires.signal in
     observer_all circuit c.requires.circuit.well_formed c.args.signal n.0 n.1
-        c.sinks_of-sink-items.result.now (c.sinks_of-sink-items.ensures n.0 n.1)
-        c.loop-sink.sink-index
+    c.sinks_of-sink-items.result.now (c.sinks_of-sink-items.ensures n.0 n.1)
+    c.loop-sink.sink-index
     c.loop-sink.observed c.loop-sink-test.false c.loop-sink.invariant.observer

@@ -17,14 +17,14 @@ loop-signal-preserved c =
       numbered = subst (AreRows circuit c.add_row.new.pins.items c.add_row.new.readers.items)
           (sym c.in_ok-push.ensures.items)
           (rows_with circuit c.loop-signal.pins.items c.add_row.new.pins.items
-              c.loop-signal.readers.items c.add_row.new.readers.items rows c.loop-signal.signal row
-              c.loop-signal.invariant.count
+          c.loop-signal.readers.items c.add_row.new.readers.items rows c.loop-signal.signal row
+          c.loop-signal.invariant.count
           c.loop-signal.invariant.numbered c.in_ok-row.ensures.pins c.in_ok-row.ensures.readers
-              c.in_ok-row.ensures.row);
+          c.in_ok-row.ensures.row);
       stand = ap length c.in_ok-push-2.ensures.items
           ∙ (length_push standings standing ∙ ap (λ n. n + 1) c.loop-signal.invariant.stand);
       standing = subst (AreStandings circuit) (sym c.in_ok-push-2.ensures.items)
           (standings_with circuit standings c.loop-signal.signal standing
-              c.loop-signal.invariant.stand
+          c.loop-signal.invariant.stand
           c.loop-signal.invariant.standing c.standing_of.ensures);
     }

@@ -12,19 +12,26 @@ loop-group-preserved c =
     let items = λ (row : Vec ℕ Global). row.items in
     let before = map items c.loop-group.rows.items in
     let words = c.evaluate.new.words in
-    let long : length words ≡ vec_len c.in_ok-row.row = omega (arith, c.evaluate.ensures.room,
-        c.deref_mut.ensures.len) in
-    let room : length words ≡ length (names c.args.circuit.now) = omega (arith, long,
-        c.in_ok-row.ensures.len, c.signals-signals.ensures.count,
-        ap (λ x. length (names x)) c.circuit.ensures) in
+    let long : length words ≡ vec_len c.in_ok-row.row = omega (
+      arith,
+      c.evaluate.ensures.room,
+      c.deref_mut.ensures.len,
+    ) in
+    let room : length words ≡ length (names c.args.circuit.now) = omega (
+      arith,
+      long,
+      c.in_ok-row.ensures.len,
+      c.signals-signals.ensures.count,
+      ap (λ x. length (names x)) c.circuit.ensures,
+    ) in
     let pushed : map items c.push.new.self.items ≡ before ++ words ∷ [] =
     ap (map items) c.in_ok-push.ensures.items ∙ (map-append items c.loop-group.rows.items _
-        ∙ ap (λ row. before ++ row ∷ []) (with_items_is c.in_ok-row.row words long)) in
+    ∙ ap (λ row. before ++ row ∷ []) (with_items_is c.in_ok-row.row words long)) in
     record {
       count = ap length pushed ∙ (length_push before words
           ∙ ap (λ n. n + 1) c.loop-group.invariant.count);
       rows = subst (AreFaultFree c.args.circuit.now c.args.tests.now.tests) (sym pushed)
           (rows_more c.args.circuit.now c.args.tests.now.tests before words c.loop-group.group
-              c.loop-group.invariant.count c.loop-group.invariant.rows room
-              c.evaluate.ensures.words);
+          c.loop-group.invariant.count c.loop-group.invariant.rows room
+          c.evaluate.ensures.words);
     }

@@ -19,9 +19,9 @@ bounds-live-gate c =
     let circuit = c.args.circuit.now in
     let n = within_place (names circuit) c.args.signal c.requires.signal in
     let reads = sink_gate circuit c.requires.circuit.well_formed c.args.signal n.0 n.1
-        c.sinks_of-sink-items.result.now (c.sinks_of-sink-items.ensures n.0 n.1)
-        c.loop-sink.sink-index c.in-Pin.gate c.in-Pin.pin (sink.Pin 0 0) c.loop-sink-test.true
-        c.in-Pin.is in
+    c.sinks_of-sink-items.result.now (c.sinks_of-sink-items.ensures n.0 n.1)
+    c.loop-sink.sink-index c.in-Pin.gate c.in-Pin.pin (sink.Pin 0 0) c.loop-sink-test.true
+    c.in-Pin.is in
     let lt = reader_within circuit c.in-Pin.gate c.args.signal reads in
     omega (arith, lt, c.requires.room)
 
@@ -37,9 +37,9 @@ returns-then-is_live c =
     let live : IsLive circuit s = elim c.match-sink.branch [
       | in-Pin w ↦
           let reads = sink_gate circuit well s n.0 n.1 items are i w.in-Pin.gate w.in-Pin.pin
-              (sink.Pin 0 0) c.loop-sink-test.true w.in-Pin.is in
+          (sink.Pin 0 0) c.loop-sink-test.true w.in-Pin.is in
           live_by_gate circuit well s n.0 n.1 items are i w.in-Pin.gate w.in-Pin.pin
-              (sink.Pin 0 0) c.loop-sink-test.true w.in-Pin.is
+          (sink.Pin 0 0) c.loop-sink-test.true w.in-Pin.is
           ((c.requires.readers w.in-Pin.gate reads).0 (sym w.is_live-is ∙ c.if-is_live.true))
       | in-Data w ↦ elim w.in-Data.is [
         | inl x ↦ live_by_observer circuit well s n.0 n.1 items are i (sink.Data x.0)
@@ -62,12 +62,12 @@ loop-sink-preserved c =
     elim c.match-sink.branch [
       | in-Pin w ↦
           let reads = sink_gate circuit well s n.0 n.1 items are i w.in-Pin.gate w.in-Pin.pin
-              (sink.Pin 0 0) c.loop-sink-test.true w.in-Pin.is in
+          (sink.Pin 0 0) c.loop-sink-test.true w.in-Pin.is in
           dead_more circuit well s n.0 n.1 items are i w.in-Pin.gate w.in-Pin.pin
-              (sink.Pin 0 0) c.loop-sink-test.true w.in-Pin.is
+          (sink.Pin 0 0) c.loop-sink-test.true w.in-Pin.is
           (λ live. false≢true (sym c.if-is_live.false
-              ∙ (w.is_live-is ∙ (c.requires.readers w.in-Pin.gate reads).1 live)))
-              c.loop-sink.invariant
+          ∙ (w.is_live-is ∙ (c.requires.readers w.in-Pin.gate reads).1 live)))
+          c.loop-sink.invariant
       | in-Data w ↦ absurd (false≢true (sym c.if-is_live.false ∙ w.is_live-is))
     ]
 

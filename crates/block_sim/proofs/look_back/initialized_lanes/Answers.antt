@@ -18,7 +18,7 @@ carried-requires-clause-circuit c =
 pub carried-requires-clause-named : goal.carried-requires-clause-named
 carried-requires-clause-named c =
     let named = carries c.args.fault.model c.args.job.now.circuit (stuck_fault c.args.fault)
-        c.flat.ensures.together.circuit.well_formed c.requires.listed in
+    c.flat.ensures.together.circuit.well_formed c.requires.listed in
     (named.0, ap (λ x. carried x c.args.fault.line) c.flat.ensures.part ∙ named.1)
 
 pub word_before-before-requires-clause-circuit : goal.word_before-before-requires-clause-circuit
@@ -27,12 +27,12 @@ word_before-before-requires-clause-circuit c = c.flat.ensures.together.circuit.w
 pub word_before-before-requires-clause-signal : goal.word_before-before-requires-clause-signal
 word_before-before-requires-clause-signal c =
     let named = carries c.args.fault.model c.args.job.now.circuit (stuck_fault c.args.fault)
-        c.flat.ensures.together.circuit.well_formed c.requires.listed in
+    c.flat.ensures.together.circuit.well_formed c.requires.listed in
     let is : c.carried.result ≡ signal c.args.job.now.circuit named.0 =
     c.carried.ensures named.0 (ap (λ x. carried x c.args.fault.line) c.flat.ensures.part ∙ named.1)
-        ∙ ap (λ x. signal x named.0) c.flat.ensures.part in
+    ∙ ap (λ x. signal x named.0) c.flat.ensures.part in
     let lt = place_within (names c.args.job.now.circuit) _ named.0
-        (name_of-signal c.args.job.now.circuit named.0 named.2) in
+    (name_of-signal c.args.job.now.circuit named.0 named.2) in
     subst (λ x. x < length (names c.args.job.now.circuit)) (sym is) lt
 
 pub returns : goal.returns
@@ -42,18 +42,18 @@ returns c = λ k lt listed.
     let before = c.word_before-before.result in
     let within : before < 2 ^ 128 = omega arith in
     let named = carries c.args.fault.model job.circuit (stuck_fault c.args.fault)
-        c.flat.ensures.together.circuit.well_formed c.requires.listed in
+    c.flat.ensures.together.circuit.well_formed c.requires.listed in
     let is : c.carried.result ≡ signal job.circuit named.0 =
     c.carried.ensures named.0 (ap (λ x. carried x c.args.fault.line) c.flat.ensures.part ∙ named.1)
-        ∙ ap (λ x. signal x named.0) c.flat.ensures.part in
+    ∙ ap (λ x. signal x named.0) c.flat.ensures.part in
     let fit = fits_where bit before c.if-fault.fits k within lt (elim c.if-fault.branch [
       | then-fault w ↦ inl (w.if-fault.true, w.fits-is)
       | else-fault w ↦ inr (w.if-fault.false, w.fits-is)
     ]) in
     masked_look_back job.circuit job.tests.tests c.args.group k before c.if-fault.fits
-        c.args.fault.line bit lt listed
+    c.args.fault.line bit lt listed
     (λ t e. c.word_before-before.ensures k t c.args.fault.line named.0 bit lt e named.1 named.2 is)
-        fit c.if-group-eq0.earlier
+    fit c.if-group-eq0.earlier
     (elim c.if-group-eq0.branch [
       | then-group-eq0 w ↦ inl (w.if-group-eq0.true, w.earlier-is)
       | else-group-eq0 w ↦ let some : c.args.group ≢ 0 = w.if-group-eq0.false in

@@ -10,15 +10,15 @@ use Rattle.block_sim.proofs.look_back.lanes_that_fit.Goals as goal
 pub returns-in-StuckAt : goal.returns-in-StuckAt
 returns-in-StuckAt c = λ k lt listed.
     subst (λ m. Decides (lane 340282366920938463463374607431768211455 k)
-        (LooksBack c.args.job.now.circuit c.args.job.now.tests.tests m c.args.fault.line
-        c.args.fault.at_one (128 * c.args.group + k)))
+    (LooksBack c.args.job.now.circuit c.args.job.now.tests.tests m c.args.fault.line
+    c.args.fault.at_one (128 * c.args.group + k)))
     (sym c.in-StuckAt.is) (λ h. tt, λ h. lane_ones 128 k lt)
 
 pub returns-in-Transition : goal.returns-in-Transition
 returns-in-Transition c = λ k lt listed.
     subst (λ m. Decides (lane c.initialized_lanes.result k)
-        (LooksBack c.args.job.now.circuit c.args.job.now.tests.tests m c.args.fault.line
-        c.args.fault.at_one (128 * c.args.group + k)))
+    (LooksBack c.args.job.now.circuit c.args.job.now.tests.tests m c.args.fault.line
+    c.args.fault.at_one (128 * c.args.group + k)))
     (sym c.in-Transition.is) (c.initialized_lanes.ensures k lt listed)
 
 pub returns-in-TransitionPairs : goal.returns-in-TransitionPairs
@@ -26,12 +26,12 @@ returns-in-TransitionPairs c = λ k lt listed.
     let job = c.args.job.now in
     let test = 128 * c.args.group + k in
     subst
-        (λ m.
-        Decides (lane (bit_and c.second_lanes.result c.initialized_lanes-in-TransitionPairs.result)
-        k) (LooksBack job.circuit job.tests.tests m c.args.fault.line c.args.fault.at_one test))
+    (λ m.
+    Decides (lane (bit_and c.second_lanes.result c.initialized_lanes-in-TransitionPairs.result)
+    k) (LooksBack job.circuit job.tests.tests m c.args.fault.line c.args.fault.at_one test))
     (sym c.in-TransitionPairs.is)
     (both_decide c.second_lanes.result c.initialized_lanes-in-TransitionPairs.result k
-        (IsSecondOfPair test) (IsInitialized job.circuit job.tests.tests c.args.fault.line
-        c.args.fault.at_one test)
+    (IsSecondOfPair test) (IsInitialized job.circuit job.tests.tests c.args.fault.line
+    c.args.fault.at_one test)
     (c.second_lanes.ensures c.args.group k lt)
-        (c.initialized_lanes-in-TransitionPairs.ensures k lt listed))
+    (c.initialized_lanes-in-TransitionPairs.ensures k lt listed))

@@ -11,5 +11,5 @@ pub returns-clause-later : goal.returns-clause-later
 returns-clause-later c = λ k lt.
     let one : suc k ≡ k + 1 = omega arith in
     subst (λ j. lane (bit_or (c.args.word * 2 % 340282366920938463463374607431768211456)
-        (c.args.last / 170141183460469231731687303715884105728)) j ≡ lane c.args.word k) one
-        (before_later c.args.word c.args.last k (omega arith) lt)
+    (c.args.last / 170141183460469231731687303715884105728)) j ≡ lane c.args.word k) one
+    (before_later c.args.word c.args.last k (omega arith) lt)

@@ -33,13 +33,13 @@ loop-one-preserved c = record {
     go : (i : ℕ) (one : Followed) (k : ℕ) → slice_get c.args.followed.now i ≡ Some one
         → lane one.lanes k ≡ true
         → (i < c.loop-one.one-index) ⊎ (i ≡ c.loop-one.one-index)
-            → lane (bit_or c.loop-one.lanes here.lanes) k ≡ true
+        → lane (bit_or c.loop-one.lanes here.lanes) k ≡ true
     go i one k at own (inl less) = lane_or c.loop-one.lanes here.lanes k
         ∙ or_left (lane c.loop-one.lanes k) (lane here.lanes k)
-            (c.loop-one.invariant.all i one k less at own)
+        (c.loop-one.invariant.all i one k less at own)
     go i one k at own (inr same) =
         let is : here ≡ one = ap (λ x. slice_index_or c.args.followed.now x none) (sym same)
-            ∙ index_of c.args.followed.now i one none at in
+        ∙ index_of c.args.followed.now i one none at in
         lane_or c.loop-one.lanes here.lanes k
         ∙ or_right (lane c.loop-one.lanes k) (lane here.lanes k) (ap (λ x. lane x.lanes k) is ∙ own)
 
@@ -49,8 +49,11 @@ loop-one-preserved c = record {
     which k true e wanted = c.loop-one.invariant.only k e
     which k false e wanted = (
       here,
-      (c.loop-one.one-index, c.loop-one-test.true,
-          get_or_default c.args.followed.now c.loop-one.one-index here none c.loop-one-test.true),
+      (
+        c.loop-one.one-index,
+        c.loop-one-test.true,
+        get_or_default c.args.followed.now c.loop-one.one-index here none c.loop-one-test.true,
+      ),
       ap (λ b. b || lane here.lanes k) (sym e) ∙ (sym (lane_or c.loop-one.lanes here.lanes k)
           ∙ wanted),
     )

@@ -17,7 +17,7 @@ returns-then-not-is_live-clause-come c = λ tests group f words come k lt asked.
       λ d. absurd (dead_flip circuit c.requires.view.circuit.well_formed (test_of tests group k)
           c.args.from.signal
           (λ live. false≢true (sym c.if-not-is_live.true ∙ c.is_live.ensures.1 live))
-              ((come k lt asked).0 d).1),
+          ((come k lt asked).0 d).1),
       λ b. absurd (false≢true (sym (lane_zero k) ∙ b.0)),
     )
 
@@ -80,7 +80,7 @@ returns-after-loop-step-clause-stem c = λ some.
       stem_at_depth circuit c.depth-step-end.result c.loop-step.at.signal c.loop-step._step
           c.requires.view.circuit.well_formed
           (subst (λ x. HasDepth x c.depth-step-end.result) c.circuit.ensures
-              c.depth-step-end.ensures) last.within c.loop-step-test.false last.deep,
+          c.depth-step-end.ensures) last.within c.loop-step-test.false last.deep,
     )
 
 pub returns-after-loop-step-clause-counted : goal.returns-after-loop-step-clause-counted

@@ -24,5 +24,5 @@ invariant-loop-step l = record {
   come : (tests : List Test) (group : ℕ) (f : Fault)
       → AreWords l.view.circuit.now tests group None l.view.good.now
       → HasCome l.view.circuit.now tests group f l.view.lanes l.fn.from.signal l.fn.from.lanes
-          → HasCome l.view.circuit.now tests group f l.view.lanes l.at.signal l.at.lanes;
+      → HasCome l.view.circuit.now tests group f l.view.lanes l.at.signal l.at.lanes;
 }

@@ -14,37 +14,37 @@ gate_of-requires c = reader_within c.args.view.circuit.now c.args.gate c.args.at
 pub change-requires-clause-signal : goal.change-requires-clause-signal
 change-requires-clause-signal c =
     let lt = read_within c.args.view.circuit.now c.args.gate c.args.at.signal
-        c.requires.view.circuit.well_formed c.requires.read.reads in
+    c.requires.view.circuit.well_formed c.requires.read.reads in
     omega (arith, lt, c.requires.room.overlay)
 
 pub evaluate_gate-word-requires-clause-some : goal.evaluate_gate-word-requires-clause-some
 evaluate_gate-word-requires-clause-some c =
     pins_some c.args.view.circuit.now c.args.gate c.in-Some.line.kind c.in-Some.line.pins.now
-        c.requires.view.circuit (sym c.in-Some.ensures.gate)
+    c.requires.view.circuit (sym c.in-Some.ensures.gate)
 
 pub evaluate_gate-word-requires-clause-pins_in : goal.evaluate_gate-word-requires-clause-pins_in
 evaluate_gate-word-requires-clause-pins_in c =
     λ k d lt.
     let within = pins_within c.args.view.circuit.now c.args.gate c.in-Some.line.kind
-        c.in-Some.line.pins.now c.requires.view.circuit.well_formed (sym c.in-Some.ensures.gate) k d
-        lt in
+    c.in-Some.line.pins.now c.requires.view.circuit.well_formed (sym c.in-Some.ensures.gate) k d
+    lt in
     omega (arith, within, c.requires.view.count)
 
 pub evaluate_gate-word-requires-clause-few : goal.evaluate_gate-word-requires-clause-few
 evaluate_gate-word-requires-clause-few c =
     pins_few c.args.view.circuit.now c.args.gate c.in-Some.line.kind c.in-Some.line.pins.now
-        c.requires.view.circuit (sym c.in-Some.ensures.gate)
+    c.requires.view.circuit (sym c.in-Some.ensures.gate)
 
 pub bounds-view-gate : goal.bounds-view-gate
 bounds-view-gate c =
     let lt = reader_within c.args.view.circuit.now c.args.gate c.args.at.signal
-        c.requires.read.reads in
+    c.requires.read.reads in
     omega (arith, lt, c.requires.view.count)
 
 pub unreachable-requires : goal.unreachable-requires
 unreachable-requires c =
     reader_driven c.args.view.circuit.now c.args.gate c.args.at.signal
-        c.requires.view.circuit.well_formed c.requires.read.reads (sym c.in-None.ensures.gate)
+    c.requires.view.circuit.well_formed c.requires.read.reads (sym c.in-None.ensures.gate)
 
 pub returns-clause-come : goal.returns-clause-come
 returns-clause-come c = λ tests group f words come.
@@ -53,17 +53,20 @@ returns-clause-come c = λ tests group f words come.
     let s = c.args.at.signal in
     let own = c.in-Some.line in
     let low = read_within circuit c.args.gate s c.requires.view.circuit.well_formed
-        c.requires.read.reads in
-    let within : s < length c.args.changes.now.overlay = omega (arith, low,
-        c.requires.room.overlay) in
+    c.requires.read.reads in
+    let within : s < length c.args.changes.now.overlay = omega (
+      arith,
+      low,
+      c.requires.room.overlay,
+    ) in
     let valued : (k : ℕ) → k < 128
-        → lane c.evaluate_gate-word.result k ≡ value own.kind
-        (pin_bits None c.args.gate own.pins.now good c.change.new.self k) =
+    → lane c.evaluate_gate-word.result k ≡ value own.kind
+    (pin_bits None c.args.gate own.pins.now good c.change.new.self k) =
     λ k lt. c.evaluate_gate-word.ensures.value k lt
-        ∙ ap (λ d. value own.kind (pin_bits None c.args.gate own.pins.now good d k))
-        c.words-delta.ensures in
+    ∙ ap (λ d. value own.kind (pin_bits None c.args.gate own.pins.now good d k))
+    c.words-delta.ensures in
     crossed circuit tests group f good c.args.view.lanes s c.args.gate c.args.at.lanes
-        c.evaluate_gate-word.result own.kind own.pins.now c.args.changes.now.overlay
-        c.change.new.self
+    c.evaluate_gate-word.result own.kind own.pins.now c.args.changes.now.overlay
+    c.change.new.self
     c.requires.view.circuit.well_formed words c.requires.read (sym c.in-Some.ensures.gate)
-        c.requires.clear.words within c.change.ensures valued come
+    c.requires.clear.words within c.change.ensures valued come

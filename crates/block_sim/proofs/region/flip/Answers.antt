@@ -31,11 +31,11 @@ returns-clause-told c = λ tests group words one there.
     let seen = c.spread.result in
     let within : s < length delta = omega (arith, c.requires.signal, c.requires.room.overlay) in
     let first = flip_first circuit well tests group good words s c.requires.signal delta lanes
-        within in
+    within in
     flip_told circuit well tests group good words s c.requires.signal lanes seen
-        (HaveHits followed seen)
+    (HaveHits followed seen)
     (c.spread.ensures.shown tests group (flips good s) first) one
-        (λ k own. c.all_lanes-lanes.ensures.all one k there own)
+    (λ k own. c.all_lanes-lanes.ensures.all one k there own)
     (λ k settled own. settled one there own)
 
 pub returns-clause-counted : goal.returns-clause-counted
@@ -49,12 +49,12 @@ returns-clause-counted c = λ tests span gates words inside stirred.
     let lanes = c.all_lanes-lanes.result in
     let within : s < length delta = omega (arith, c.requires.signal, c.requires.room.overlay) in
     let first = flip_first circuit well tests group good words s c.requires.signal delta lanes
-        within in
+    within in
     let within : AreInSpan tests span lanes =
-        λ k lt own. (let one = c.all_lanes-lanes.ensures.only k own in
-        inside one.0 one.1 k lt one.2) in
+    λ k lt own. (let one = c.all_lanes-lanes.ensures.only k own in
+    inside one.0 one.1 k lt one.2) in
     let le = c.spread.ensures.counted tests group (flips good s) gates first
-        (λ k lt own. (within k lt own).listed)
+    (λ k lt own. (within k lt own).listed)
     (flips_stir circuit well tests group good words s c.requires.signal span lanes gates refl within
-        stirred) in
+    stirred) in
     omega (arith, le)

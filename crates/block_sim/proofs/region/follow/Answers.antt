@@ -50,9 +50,9 @@ returns-then-turned-eq0-clause-reached c = λ tests group words k lt.
     let number : c.carried-signal.result ≡ signal circuit n.0 = c.carried-signal.ensures n.0 n.1 in
     none_told circuit well tests group fault good words lanes
     (shown_none circuit tests group fault good n.0 well words n.1 (λ _. ⊥) lanes
-        (bit_and (bit_xor c.word.result (slice_index_or good c.carried-signal.result 0)) lanes)
+    (bit_and (bit_xor c.word.result (slice_index_or good c.carried-signal.result 0)) lanes)
     (turned_is circuit fault good lanes c.carried-signal.result c.word.result n.0 number
-        c.word.ensures) 0 (λ k lt. lane_of_zero _ k c.if-turned-eq0.true) lane_zero) k lt
+    c.word.ensures) 0 (λ k lt. lane_of_zero _ k c.if-turned-eq0.true) lane_zero) k lt
 
 pub arrive-requires-clause-signal : goal.arrive-requires-clause-signal
 arrive-requires-clause-signal c =
@@ -73,12 +73,12 @@ gate_change-lanes-requires-clause-gate c =
     let fault = stuck_fault c.args.fault in
     let n = carries c.args.fault.model circuit fault well c.requires.listed in
     let reads : argument (definition circuit c.in-Pin.gate) c.in-Pin.pin ≡ Some n.0 =
-        ap (carried circuit) (sym c.in-Pin.is) ∙ n.1 in
+    ap (carried circuit) (sym c.in-Pin.is) ∙ n.1 in
     let p = pin_of circuit c.in-Pin.gate c.in-Pin.pin n.0 reads in
     let gate_is : gate_of circuit c.in-Pin.gate ≡ Some (p.kind, map (signal circuit) p.args) =
-        ap (gate_line circuit) p.is in
+    ap (gate_line circuit) p.is in
     let low : c.in-Pin.gate < length (names circuit) =
-        gate_within circuit c.in-Pin.gate c.in-Pin.pin n.0 reads in
+    gate_within circuit c.in-Pin.gate c.in-Pin.pin n.0 reads in
     low
 
 pub gate_change-lanes-requires-clause-driven : goal.gate_change-lanes-requires-clause-driven
@@ -90,12 +90,12 @@ gate_change-lanes-requires-clause-driven c =
     let fault = stuck_fault c.args.fault in
     let n = carries c.args.fault.model circuit fault well c.requires.listed in
     let reads : argument (definition circuit c.in-Pin.gate) c.in-Pin.pin ≡ Some n.0 =
-        ap (carried circuit) (sym c.in-Pin.is) ∙ n.1 in
+    ap (carried circuit) (sym c.in-Pin.is) ∙ n.1 in
     let p = pin_of circuit c.in-Pin.gate c.in-Pin.pin n.0 reads in
     let gate_is : gate_of circuit c.in-Pin.gate ≡ Some (p.kind, map (signal circuit) p.args) =
-        ap (gate_line circuit) p.is in
+    ap (gate_line circuit) p.is in
     let low : c.in-Pin.gate < length (names circuit) =
-        gate_within circuit c.in-Pin.gate c.in-Pin.pin n.0 reads in
+    gate_within circuit c.in-Pin.gate c.in-Pin.pin n.0 reads in
     ((p.kind, map (signal circuit) p.args), gate_is)
 
 pub arrive-requires-in-Pin-clause-room : goal.arrive-requires-in-Pin-clause-room
@@ -106,7 +106,7 @@ arrive-requires-in-Pin-clause-room c =
       levels = ap (λ b. b.levels) c.gate_change-lanes.ensures.buckets;
     } in
     large_enough c.args.view.circuit.now c.args.changes.now c.gate_change-lanes.new.changes
-        c.requires.room large
+    c.requires.room large
 
 pub arrive-requires-in-Pin-clause-signal : goal.arrive-requires-in-Pin-clause-signal
 arrive-requires-in-Pin-clause-signal c =
@@ -117,12 +117,12 @@ arrive-requires-in-Pin-clause-signal c =
     let fault = stuck_fault c.args.fault in
     let n = carries c.args.fault.model circuit fault well c.requires.listed in
     let reads : argument (definition circuit c.in-Pin.gate) c.in-Pin.pin ≡ Some n.0 =
-        ap (carried circuit) (sym c.in-Pin.is) ∙ n.1 in
+    ap (carried circuit) (sym c.in-Pin.is) ∙ n.1 in
     let p = pin_of circuit c.in-Pin.gate c.in-Pin.pin n.0 reads in
     let gate_is : gate_of circuit c.in-Pin.gate ≡ Some (p.kind, map (signal circuit) p.args) =
-        ap (gate_line circuit) p.is in
+    ap (gate_line circuit) p.is in
     let low : c.in-Pin.gate < length (names circuit) =
-        gate_within circuit c.in-Pin.gate c.in-Pin.pin n.0 reads in
+    gate_within circuit c.in-Pin.gate c.in-Pin.pin n.0 reads in
     low
 
 pub returns-in-Stem-clause-reached : goal.returns-in-Stem-clause-reached
@@ -135,13 +135,13 @@ returns-in-Stem-clause-reached c = λ tests group words.
     let n = carries c.args.fault.model circuit fault well c.requires.listed in
     let number : c.carried-signal.result ≡ signal circuit n.0 = c.carried-signal.ensures n.0 n.1 in
     let named : name_of circuit c.in-Stem.start ≡ Some n.0 = ap (carried circuit) (sym c.in-Stem.is)
-        ∙ n.1 in
+    ∙ n.1 in
     c.arrive.ensures.come tests group fault words
     (stem_come circuit well tests group fault good words lanes c.in-Stem.start
-        (bit_and (bit_xor c.word.result (slice_index_or good c.carried-signal.result 0)) lanes) n.0
-        named c.in-Stem.is
+    (bit_and (bit_xor c.word.result (slice_index_or good c.carried-signal.result 0)) lanes) n.0
+    named c.in-Stem.is
     (turned_is circuit fault good lanes c.carried-signal.result c.word.result n.0 number
-        c.word.ensures))
+    c.word.ensures))
 
 pub returns-in-Pin-clause-reached : goal.returns-in-Pin-clause-reached
 returns-in-Pin-clause-reached c = λ tests group words.
@@ -152,18 +152,18 @@ returns-in-Pin-clause-reached c = λ tests group words.
     let fault = stuck_fault c.args.fault in
     let n = carries c.args.fault.model circuit fault well c.requires.listed in
     let reads : argument (definition circuit c.in-Pin.gate) c.in-Pin.pin ≡ Some n.0 =
-        ap (carried circuit) (sym c.in-Pin.is) ∙ n.1 in
+    ap (carried circuit) (sym c.in-Pin.is) ∙ n.1 in
     let p = pin_of circuit c.in-Pin.gate c.in-Pin.pin n.0 reads in
     let gate_is : gate_of circuit c.in-Pin.gate ≡ Some (p.kind, map (signal circuit) p.args) =
-        ap (gate_line circuit) p.is in
+    ap (gate_line circuit) p.is in
     let low : c.in-Pin.gate < length (names circuit) =
-        gate_within circuit c.in-Pin.gate c.in-Pin.pin n.0 reads in
+    gate_within circuit c.in-Pin.gate c.in-Pin.pin n.0 reads in
     c.arrive-in-Pin.ensures.come tests group fault words
     (pin_come circuit well tests group fault good words lanes c.args.fault.model c.requires.listed
-        c.in-Pin.gate c.in-Pin.pin c.in-Pin.is p.kind (map (signal circuit) p.args)
+    c.in-Pin.gate c.in-Pin.pin c.in-Pin.is p.kind (map (signal circuit) p.args)
     c.args.changes.now.overlay c.gate_change-lanes.result gate_is c.requires.clear.words
     (λ k lt in_lanes. c.gate_change-lanes.ensures.changed p.kind (map (signal circuit) p.args) k
-        gate_is lt in_lanes))
+    gate_is lt in_lanes))
 
 pub returns-in-Data-clause-reached : goal.returns-in-Data-clause-reached
 returns-in-Data-clause-reached c = λ tests group words k lt.
@@ -175,11 +175,11 @@ returns-in-Data-clause-reached c = λ tests group words k lt.
     let n = carries c.args.fault.model circuit fault well c.requires.listed in
     let number : c.carried-signal.result ≡ signal circuit n.0 = c.carried-signal.ensures n.0 n.1 in
     let told = λ (none : start_of fault.line ≡ None). observer_told circuit well tests group fault
-        good words lanes c.args.fault.model
-        (bit_and (bit_xor c.word.result (slice_index_or good c.carried-signal.result 0)) lanes) n.0
-        c.requires.listed none n.1
+    good words lanes c.args.fault.model
+    (bit_and (bit_xor c.word.result (slice_index_or good c.carried-signal.result 0)) lanes) n.0
+    c.requires.listed none n.1
     (turned_is circuit fault good lanes c.carried-signal.result c.word.result n.0 number
-        c.word.ensures) k lt in
+    c.word.ensures) k lt in
     elim c.in-Data.is [
       | inl x ↦ told (ap start_of x.1)
       | inr x ↦ told (ap start_of x.1)
@@ -188,7 +188,7 @@ returns-in-Data-clause-reached c = λ tests group words k lt.
 pub returns-in-Stem-clause-counted : goal.returns-in-Stem-clause-counted
 returns-in-Stem-clause-counted c = λ way w.
     c.arrive.ensures.counted way (subst (λ l. IsWayOfLine c.args.view.circuit.now l way)
-        c.in-Stem.is w)
+    c.in-Stem.is w)
 
 pub returns-in-Pin-clause-counted : goal.returns-in-Pin-clause-counted
 returns-in-Pin-clause-counted c = λ way w.

@@ -16,7 +16,7 @@ next_stem-stem-requires-clause-reader c = λ gate h.
     let order = c.in_level_order-order.result.now in
     let is = subst (λ x. IsLevelOrder x order) c.circuit.ensures c.in_level_order-order.ensures in
     reader_known c.args.circuit.now c.requires.circuit.well_formed order is c.loop-place.stems
-        c.loop-place.place gate (omega arith) (omega arith) c.loop-place.invariant.known h
+    c.loop-place.place gate (omega arith) (omega arith) c.loop-place.invariant.known h
 
 pub bounds-stems-signal : goal.bounds-stems-signal
 bounds-stems-signal c =
@@ -34,7 +34,7 @@ loop-place-preserved c =
       known = stems_more c.args.circuit.now c.requires.circuit.well_formed order is
           c.loop-place.stems c.loop-place.place c.next_stem-stem.result (omega arith) (omega arith)
           c.loop-place.invariant.room c.loop-place.invariant.known c.next_stem-stem.ensures.within
-              c.next_stem-stem.ensures.stem;
+          c.next_stem-stem.ensures.stem;
     }
 
 pub returns : goal.returns

@@ -6,7 +6,7 @@ use Rattle.block_sim.proofs.region_classes.next_stem.Goals as goal
 pub bounds-stems-gate : goal.bounds-stems-gate
 bounds-stems-gate c =
     let lt = lone_within c.args.circuit.now c.requires.circuit.well_formed c.args.signal
-        c.in-Some.gate (sym c.in-Some.ensures) in
+    c.in-Some.gate (sym c.in-Some.ensures) in
     omega (arith, lt, c.requires.room)
 
 pub returns-in-Some-clause-stem : goal.returns-in-Some-clause-stem

@@ -19,6 +19,6 @@ loop-lane-preserved c = record {
   rows = lane_more c.args.rows.now.tests c.loop-lane.rows.tests c.add_row.new.rows.tests
       c.args.observed.now c.args.words.now c.read_lane.new.row c.loop-lane.lane
       c.loop-lane.invariant.rows (ap (λ t. t.tests) c.in_ok-add_row.ensures.added)
-          c.read_lane.ensures;
+      c.read_lane.ensures;
   width = c.in_ok-add_row.ensures.width ∙ c.loop-lane.invariant.width;
 }

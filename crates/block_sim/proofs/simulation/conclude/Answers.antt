@@ -23,8 +23,11 @@ bounds-memos-one c =
     let followed = c.args.followed.now in
     let i = c.loop-one.one-index in
     let one = slice_index_or followed i (record { class = 0; lanes = 0 }) in
-    let there : Contains followed one = (i, c.loop-one-test.true,
-        get_or_default followed i one (record { class = 0; lanes = 0 }) c.loop-one-test.true) in
+    let there : Contains followed one = (
+      i,
+      c.loop-one-test.true,
+      get_or_default followed i one (record { class = 0; lanes = 0 }) c.loop-one-test.true,
+    ) in
     let lt = (c.requires.followed one there).0 in
     omega (arith, lt, c.loop-one.invariant.count)
 
@@ -42,13 +45,17 @@ loop-one-init c = record {
         (slice_index_or c.args.memos.now class Nothing) ⊎ IsFollowed c.args.followed.now class
         → IsTrueMemo c.args.job.now class (slice_index_or c.args.memos.now class Nothing)
         ⊎ ((i : ℕ) × (0 ≤ i) × (i < length c.args.followed.now)
-            × ((slice_index_or c.args.followed.now i none).class ≡ class))
+        × ((slice_index_or c.args.followed.now i none).class ≡ class))
     go class (inl h) = inl h
     go class (inr h) =
         let place = placed c.args.followed.now h.0 (among c.args.followed.now h.0 h.1) in
         let low = place_within c.args.followed.now place.0 h.0 place.1 in
-        inr (place.0, omega arith, low,
-            ap (λ x. x.class) (index_of c.args.followed.now place.0 h.0 none place.1) ∙ h.2)
+        inr (
+          place.0,
+          omega arith,
+          low,
+          ap (λ x. x.class) (index_of c.args.followed.now place.0 h.0 none place.1) ∙ h.2,
+        )
 
 pub loop-one-preserved : goal.loop-one-preserved
 loop-one-preserved c = record {
@@ -57,7 +64,7 @@ loop-one-preserved c = record {
   known = λ way.
       let before = c.loop-one.invariant.known way in
       let more = known_still way c.args.span.first c.loop-one.memos one.class c.of.result low
-          c.of.ensures.known in
+      c.of.ensures.known in
       omega (arith, before, more);
 }
   where
@@ -68,8 +75,11 @@ loop-one-preserved c = record {
     one = slice_index_or c.args.followed.now c.loop-one.one-index none
 
     there : Contains c.args.followed.now one
-    there = (c.loop-one.one-index, c.loop-one-test.true,
-        get_or_default c.args.followed.now c.loop-one.one-index one none c.loop-one-test.true)
+    there = (
+      c.loop-one.one-index,
+      c.loop-one-test.true,
+      get_or_default c.args.followed.now c.loop-one.one-index one none c.loop-one-test.true,
+    )
 
     low : one.class < length c.loop-one.memos
     low = let lt = (c.requires.followed one there).0 in
@@ -92,27 +102,29 @@ loop-one-preserved c = record {
         → IsTrueMemo c.args.job.now class (slice_index_or c.loop-one.memos class Nothing)
         ⊎ Rest c.args.followed.now c.loop-one.one-index class
         → IsTrueMemo c.args.job.now class (slice_index_or c.loop-one.memos class Nothing)
-            ⊎ Rest c.args.followed.now (c.loop-one.one-index + 1) class
+        ⊎ Rest c.args.followed.now (c.loop-one.one-index + 1) class
     keep class other (inl h) = inl h
     keep class other (inr r) = inr (later class other r (cases_eq r.0 c.loop-one.one-index))
 
     go : (class : ℕ) → (class ≡ one.class) ⊎ (class ≢ one.class)
         → IsTrueMemo c.args.job.now class
-            (slice_index_or (set c.loop-one.memos one.class c.of.result) class Nothing)
+        (slice_index_or (set c.loop-one.memos one.class c.of.result) class Nothing)
         ⊎ Rest c.args.followed.now (c.loop-one.one-index + 1) class
     go class (inl same) =
         inl (subst (λ y. IsTrueMemo c.args.job.now y
         (slice_index_or (set c.loop-one.memos one.class c.of.result) y Nothing)) (sym same)
         (subst (IsTrueMemo c.args.job.now one.class)
-            (sym (get_or-set_same c.loop-one.memos one.class c.of.result Nothing low)) truth))
+        (sym (get_or-set_same c.loop-one.memos one.class c.of.result Nothing low)) truth))
     go class (inr other) = subst (λ m. IsTrueMemo c.args.job.now class m
         ⊎ Rest c.args.followed.now (c.loop-one.one-index + 1) class)
         (sym (get_or-set_other c.loop-one.memos one.class class c.of.result Nothing other))
-            (keep class other (c.loop-one.invariant.each class))
+        (keep class other (c.loop-one.invariant.each class))
 
 pub returns-clause-memos : goal.returns-clause-memos
-returns-clause-memos c = record { count = c.loop-one.invariant.count;
-    each = λ class. go class (c.loop-one.invariant.each class) }
+returns-clause-memos c = record {
+  count = c.loop-one.invariant.count;
+  each = λ class. go class (c.loop-one.invariant.each class);
+}
   where
     go : (class : ℕ) → IsTrueMemo c.args.job.now class
         (slice_index_or c.loop-one.memos class Nothing)
@@ -128,8 +140,11 @@ of-requires c =
     let i = c.loop-one.one-index in
     let none : Followed = record { class = 0; lanes = 0 } in
     let one = slice_index_or c.args.followed.now i none in
-    let there : Contains c.args.followed.now one = (i, c.loop-one-test.true,
-        get_or_default c.args.followed.now i one none c.loop-one-test.true) in
+    let there : Contains c.args.followed.now one = (
+      i,
+      c.loop-one-test.true,
+      get_or_default c.args.followed.now i one none c.loop-one-test.true,
+    ) in
     record {
       told = (
         c.args.job.now,

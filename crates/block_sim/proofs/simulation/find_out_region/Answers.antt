@@ -15,27 +15,27 @@ gather-requires-clause-memos c =
     let memos = set c.args.memos.now own.class (Pending c.args.span) in
     subst (λ l. AreTrueBut c.args.job.now l memos) (sym items)
     (memo_waits c.args.job.now [] c.args.memos.now own (Pending c.args.span) c.requires.memos.count
-        (λ class. inl (c.requires.memos.each class)))
+    (λ class. inl (c.requires.memos.each class)))
 
 pub flip_stem-seen-requires-clause-room : goal.flip_stem-seen-requires-clause-room
 flip_stem-seen-requires-clause-room c =
     large_enough c.args.job.now.circuit c.args.changes.now c.gather.new.changes c.requires.room
-        c.gather.ensures.room
+    c.gather.ensures.room
 
 pub flip_stem-seen-requires-clause-followed : goal.flip_stem-seen-requires-clause-followed
 flip_stem-seen-requires-clause-followed c =
     subst (AreFollowed c.args.job.now c.args.span c.args.stem) (sym c.as_slice-all.ensures.value)
-        c.gather.ensures.followed
+    c.gather.ensures.followed
 
 pub conclude-requires-clause-memos : goal.conclude-requires-clause-memos
 conclude-requires-clause-memos c =
     subst (λ l. AreTrueBut c.args.job.now l c.gather.new.memos) (sym c.as_slice-all.ensures.value)
-        c.gather.ensures.memos
+    c.gather.ensures.memos
 
 pub conclude-requires-clause-followed : goal.conclude-requires-clause-followed
 conclude-requires-clause-followed c =
     subst (AreFollowed c.args.job.now c.args.span c.args.stem) (sym c.as_slice-all.ensures.value)
-        c.gather.ensures.followed
+    c.gather.ensures.followed
 
 pub returns-clause-told : goal.returns-clause-told
 returns-clause-told c =
@@ -43,18 +43,18 @@ returns-clause-told c =
     let items : c.push_reserved.new.self.items ≡ own ∷ [] =
     c.push_reserved.ensures.items ∙ ap (λ l. l ++ own ∷ []) c.clear.ensures.items in
     let first : Contains c.push_reserved.new.self.items own =
-        subst (λ l. Contains l own) (sym items) (0, omega arith, refl) in
+    subst (λ l. Contains l own) (sym items) (0, omega arith, refl) in
     let kept = c.gather.ensures.kept own first in
     c.flip_stem-seen.ensures.told own
-        (subst (λ l. Contains l own) (sym c.as_slice-all.ensures.value) kept)
+    (subst (λ l. Contains l own) (sym c.as_slice-all.ensures.value) kept)
 
 pub returns-clause-counted : goal.returns-clause-counted
 returns-clause-counted c = λ way gates ways stirred.
     let own = c.args.own in
     let more = known_more way c.args.span.first c.args.memos.now own.class (Pending c.args.span)
     (let count = c.requires.memos.count in omega (arith, c.requires.class, count))
-        (between_first c.args.span.first c.args.span.last c.requires.span.ordered)
-        c.requires.idle in
+    (between_first c.args.span.first c.args.span.last c.requires.span.ordered)
+    c.requires.idle in
     let first = c.gather.ensures.counted way ways in
     let spread = c.flip_stem-seen.ensures.counted gates stirred in
     let known = c.conclude.ensures.known way in

@@ -9,10 +9,12 @@ use Rattle.block_sim.proofs.simulation.flip_stem.Goals as goal
 
 pub flip-requires-clause-words : goal.flip-requires-clause-words
 flip-requires-clause-words c =
-    let tests = c.args.job.now.tests.tests in
-    (tests, group_of c.args.span,
-        subst (λ x. AreWords x tests (group_of c.args.span) None c.fault_free.result.now)
-        (sym c.flat.ensures.part) c.fault_free.ensures.words)
+    let tests = c.args.job.now.tests.tests in (
+      tests,
+      group_of c.args.span,
+      subst (λ x. AreWords x tests (group_of c.args.span) None c.fault_free.result.now)
+          (sym c.flat.ensures.part) c.fault_free.ensures.words,
+    )
 
 pub returns-clause-told : goal.returns-clause-told
 returns-clause-told c = λ one there.
@@ -20,9 +22,9 @@ returns-clause-told c = λ one there.
     let span = c.args.span in
     let group = group_of span in
     let words = subst (λ x. AreWords x tests group None c.fault_free.result.now)
-        (sym c.flat.ensures.part) c.fault_free.ensures.words in
+    (sym c.flat.ensures.part) c.fault_free.ensures.words in
     subst (λ x. TellsFirstFlips x tests group one.lanes c.args.stem c.flip.result)
-        c.flat.ensures.part
+    c.flat.ensures.part
     (c.flip.ensures.told tests group words one there)
 
 pub returns-clause-counted : goal.returns-clause-counted
@@ -33,10 +35,10 @@ returns-clause-counted c = λ gates stirred.
     let group = group_of span in
     let stem = c.args.stem in
     let words = subst (λ x. AreWords x tests group None c.fault_free.result.now)
-        (sym c.flat.ensures.part) c.fault_free.ensures.words in
+    (sym c.flat.ensures.part) c.fault_free.ensures.words in
     c.flip.ensures.counted tests span gates words
     (λ one there. arrived_within job span stem one.class one.lanes
-        (c.requires.followed one there).1)
+    (c.requires.followed one there).1)
     (subst (λ x. HasStirredByFlip x tests span stem gates) (sym c.flat.ensures.part) stirred)
 
 pub fault_free-requires : goal.fault_free-requires

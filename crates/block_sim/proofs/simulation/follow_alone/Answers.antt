@@ -17,10 +17,12 @@ use Rattle.block_sim.proofs.simulation.follow_alone.Goals as goal
 
 pub follow-requires-clause-words : goal.follow-requires-clause-words
 follow-requires-clause-words c =
-    let tests = c.args.job.now.tests.tests in
-    (tests, group_of c.args.span,
-        subst (λ x. AreWords x tests (group_of c.args.span) None c.fault_free.result.now)
-        (sym c.flat.ensures.part) c.fault_free.ensures.words)
+    let tests = c.args.job.now.tests.tests in (
+      tests,
+      group_of c.args.span,
+      subst (λ x. AreWords x tests (group_of c.args.span) None c.fault_free.result.now)
+          (sym c.flat.ensures.part) c.fault_free.ensures.words,
+    )
 
 pub returns-in-Observed-clause-approach : goal.returns-in-Observed-clause-approach
 returns-in-Observed-clause-approach c =
@@ -31,17 +33,17 @@ returns-in-Observed-clause-approach c =
     let fault = stuck_fault c.representative-fault.result in
     let lanes = bit_and c.test_lanes.result c.lanes_that_fit.result in
     let own = subst (λ (t : TestList). (k : ℕ) → k < 128
-        → Decides (lane c.test_lanes.result k) (IsInSpan (length t.tests) span (128 * group + k)))
-        c.tests.ensures.part c.test_lanes.ensures in
+    → Decides (lane c.test_lanes.result k) (IsInSpan (length t.tests) span (128 * group + k)))
+    c.tests.ensures.part c.test_lanes.ensures in
     let decides : AreLanesFor tests span job.circuit fault lanes =
     λ k lt. lanes_decide c.test_lanes.result c.lanes_that_fit.result k (own k lt)
-        (λ is. c.lanes_that_fit.ensures k lt is.listed) in
+    (λ is. c.lanes_that_fit.ensures k lt is.listed) in
     let words : AreWords c.flat.result.now tests group None c.fault_free.result.now =
     subst (λ x. AreWords x tests group None c.fault_free.result.now) (sym c.flat.ensures.part)
-        c.fault_free.ensures.words in
+    c.fault_free.ensures.words in
     let word = c.in-Observed.word in
     let reached = subst (λ x. IsReached x tests group fault lanes (Observed word))
-        c.flat.ensures.part
+    c.flat.ensures.part
     (c.in-Observed.ensures.reached tests group words) in (
       fault,
       c.representative-fault.ensures.representative,
@@ -59,25 +61,25 @@ returns-then-lanes-eq0-clause-approach c =
     let fault = stuck_fault c.representative-fault.result in
     let lanes = bit_and c.test_lanes.result c.lanes_that_fit.result in
     let own = subst (λ (t : TestList). (k : ℕ) → k < 128
-        → Decides (lane c.test_lanes.result k) (IsInSpan (length t.tests) span (128 * group + k)))
-        c.tests.ensures.part c.test_lanes.ensures in
+    → Decides (lane c.test_lanes.result k) (IsInSpan (length t.tests) span (128 * group + k)))
+    c.tests.ensures.part c.test_lanes.ensures in
     let decides : AreLanesFor tests span job.circuit fault lanes =
     λ k lt. lanes_decide c.test_lanes.result c.lanes_that_fit.result k (own k lt)
-        (λ is. c.lanes_that_fit.ensures k lt is.listed) in
+    (λ is. c.lanes_that_fit.ensures k lt is.listed) in
     let words : AreWords c.flat.result.now tests group None c.fault_free.result.now =
     subst (λ x. AreWords x tests group None c.fault_free.result.now) (sym c.flat.ensures.part)
-        c.fault_free.ensures.words in
+    c.fault_free.ensures.words in
     let at = c.in-Stem.at in
     let come : HasCome job.circuit tests group fault lanes at.signal at.lanes =
     subst (λ x. IsReached x tests group fault lanes (Stem at)) c.flat.ensures.part
-        (c.in-Stem.ensures.reached tests group words) in (
+    (c.in-Stem.ensures.reached tests group words) in (
       fault,
       c.representative-fault.ensures.representative,
       first_of_told job.circuit tests span fault lanes 0 decides
           (λ k lt e. absurd (false≢true (sym (lane_zero k) ∙ e)))
           (λ k lt own none d. (let h = (come k lt own).0 d in
           false≢true (sym (lane_of_zero (bit_and lanes at.lanes) k c.if-lanes-eq0.true)
-              ∙ lanes_both lanes at.lanes k own h.0))),
+          ∙ lanes_both lanes at.lanes k own h.0))),
     )
 
 pub returns-else-lanes-eq0-clause-approach : goal.returns-else-lanes-eq0-clause-approach
@@ -89,22 +91,31 @@ returns-else-lanes-eq0-clause-approach c =
     let fault = stuck_fault c.representative-fault.result in
     let lanes = bit_and c.test_lanes.result c.lanes_that_fit.result in
     let own = subst (λ (t : TestList). (k : ℕ) → k < 128
-        → Decides (lane c.test_lanes.result k) (IsInSpan (length t.tests) span (128 * group + k)))
-        c.tests.ensures.part c.test_lanes.ensures in
+    → Decides (lane c.test_lanes.result k) (IsInSpan (length t.tests) span (128 * group + k)))
+    c.tests.ensures.part c.test_lanes.ensures in
     let decides : AreLanesFor tests span job.circuit fault lanes =
     λ k lt. lanes_decide c.test_lanes.result c.lanes_that_fit.result k (own k lt)
-        (λ is. c.lanes_that_fit.ensures k lt is.listed) in
+    (λ is. c.lanes_that_fit.ensures k lt is.listed) in
     let words : AreWords c.flat.result.now tests group None c.fault_free.result.now =
     subst (λ x. AreWords x tests group None c.fault_free.result.now) (sym c.flat.ensures.part)
-        c.fault_free.ensures.words in
+    c.fault_free.ensures.words in
     let at = c.in-Stem.at in
     let come : HasCome job.circuit tests group fault lanes at.signal at.lanes =
     subst (λ x. IsReached x tests group fault lanes (Stem at)) c.flat.ensures.part
-        (c.in-Stem.ensures.reached tests group words) in
+    (c.in-Stem.ensures.reached tests group words) in
     let low : at.signal < length (names c.flat.result.now) = c.in-Stem.ensures.signal at refl in
-    let same = ap (λ x. length (names x)) c.flat.ensures.part in
-    (omega (arith, low, same), (fault, lanes, at.lanes,
-        c.representative-fault.ensures.representative, decides, come, refl))
+    let same = ap (λ x. length (names x)) c.flat.ensures.part in (
+      omega (arith, low, same),
+      (
+        fault,
+        lanes,
+        at.lanes,
+        c.representative-fault.ensures.representative,
+        decides,
+        come,
+        refl,
+      ),
+    )
 
 pub fault_free-requires : goal.fault_free-requires
 fault_free-requires c = let within = c.requires.span.within in omega (arith, within)

@@ -5,7 +5,7 @@ use Rattle.block_sim.proofs.simulation.gather.Goals as goal
 pub follow_too-requires-clause-room : goal.follow_too-requires-clause-room
 follow_too-requires-clause-room c =
     large_enough c.args.job.now.circuit c.args.changes.now c.loop-step.changes c.requires.room
-        c.loop-step.invariant.room
+    c.loop-step.invariant.room
 
 pub loop-step-preserved : goal.loop-step-preserved
 loop-step-preserved c =

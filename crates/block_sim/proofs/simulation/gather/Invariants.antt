@@ -12,7 +12,7 @@ invariant-loop-step l = record {
   memos : AreTrueBut l.job l.followed.items l.memos;
   counted : (way : ℕ → ℕ) → AreWays l.job way
       → l.changes.evaluations + known_ways way l.span.first l.fn.memos ≤ l.fn.changes.evaluations
-          + known_ways way l.span.first l.memos;
+      + known_ways way l.span.first l.memos;
   followed : AreFollowed l.job l.span l.stem l.followed.items;
   kept : (one : Followed) → Contains l.fn.followed.items one → Contains l.followed.items one;
   capacity : vec_capacity l.followed ≡ vec_capacity l.fn.followed;

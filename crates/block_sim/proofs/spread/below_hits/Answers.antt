@@ -16,10 +16,10 @@ loop-one-preserved c =
     let one = slice_index_or followed i none in
     let place = within_place followed i c.loop-one-test.true in
     let at : slice_get followed i ≡ Some one =
-        (rw (index_of followed i place.0 none place.1) place.1) in
+    (rw (index_of followed i place.0 none place.1) place.1) in
     let seen = c.args.seen in
     let small : bit_and one.lanes seen < 2 ^ 128 = (let le = and_le_r one.lanes seen in
-        omega (arith, le, c.ranges.seen)) in
+    omega (arith, le, c.ranges.seen)) in
     let before = c.loop-one.invariant in
     record {
       below = λ k lt. one_open followed i one at c.loop-one.below seen c.lanes_below.result small
@@ -34,4 +34,4 @@ returns-clause-rest c = λ k lt out one there.
     let place = placed followed one (among followed one there) in
     let low = place_within followed place.0 one place.1 in
     c.loop-one.invariant.rest k lt out place.0 one (omega (arith, low, c.loop-one-test.false))
-        place.1
+    place.1

@@ -23,7 +23,7 @@ take-requires c = omega (arith, c.requires.level, c.loop-gate.invariant.room.lev
 pub evaluate_waiting-requires-clause-room : goal.evaluate_waiting-requires-clause-room
 evaluate_waiting-requires-clause-room c =
     let h = large_enough c.args.view.circuit.now c.args.changes.now c.loop-gate.changes
-        c.requires.room c.loop-gate.invariant.room in
+    c.requires.room c.loop-gate.invariant.room in
     record {
       overlay = h.overlay;
       gates = (let a = h.gates in let b = ap length c.in-Some.ensures.some.2 in
@@ -36,10 +36,10 @@ pub evaluate_waiting-requires-clause-taken : goal.evaluate_waiting-requires-clau
 evaluate_waiting-requires-clause-taken c =
     let s = c.requires.spreads in
     taken_now c.args.view.circuit.now c.args.view.good.now c.args.view.lanes
-        c.requires.view.circuit.well_formed s.0 c.loop-gate.changes.buckets.at c.args.level
-        c.loop-gate.found.kept
+    c.requires.view.circuit.well_formed s.0 c.loop-gate.changes.buckets.at c.args.level
+    c.loop-gate.found.kept
     c.loop-gate.found.seen c.in-Some.gate _ (c.loop-gate.invariant.leads.spreading s.0 s.1)
-        c.in-Some.ensures.some.0 c.in-Some.ensures.some.1 c.in-Some.ensures.some.2
+    c.in-Some.ensures.some.0 c.in-Some.ensures.some.1 c.in-Some.ensures.some.2
 
 pub loop-gate-smaller : goal.loop-gate-smaller
 loop-gate-smaller c =
@@ -47,13 +47,13 @@ loop-gate-smaller c =
     let s = c.requires.spreads in
     let m = c.loop-gate.changes in
     let here = taken_here circuit c.args.view.good.now c.args.view.lanes s.0 m.overlay m.buckets.at
-        m.evaluations c.args.level c.loop-gate.found.kept c.loop-gate.found.seen c.in-Some.gate
+    m.evaluations c.args.level c.loop-gate.found.kept c.loop-gate.found.seen c.in-Some.gate
     (c.loop-gate.invariant.leads.spreading s.0 s.1) c.in-Some.ensures.some.1 in
     waiting_less (level_at circuit s.0.level) m.buckets.at c.take.new.self.at
-        c.evaluate_waiting.new.changes.buckets.at c.in-Some.gate c.args.level
+    c.evaluate_waiting.new.changes.buckets.at c.in-Some.gate c.args.level
     c.in-Some.ensures.some.0 c.in-Some.ensures.some.1 c.in-Some.ensures.some.2 here
-        c.evaluate_waiting.ensures.room.gates
-        (c.evaluate_waiting.ensures.woken s.0.level s.0.levels)
+    c.evaluate_waiting.ensures.room.gates
+    (c.evaluate_waiting.ensures.woken s.0.level s.0.levels)
 
 pub loop-gate-preserved : goal.loop-gate-preserved
 loop-gate-preserved c =
@@ -77,13 +77,13 @@ loop-gate-preserved c =
       };
       settled = λ h.
           settled_on c.args.extent lanes kept c.followed-kept.result seen c.evaluate_waiting.result
-              (c.loop-gate.invariant.settled h) c.followed-kept.ensures.rest;
+          (c.loop-gate.invariant.settled h) c.followed-kept.ensures.rest;
       leads = leads_on circuit good lanes _ _ _ c.loop-gate.invariant.leads
           (leads_taken circuit good lanes m.overlay m.buckets.at c.take.new.self.at m.evaluations
-              level kept seen c.in-Some.gate _ c.in-Some.ensures.some.2 c.in-Some.ensures.some.1
+          level kept seen c.in-Some.gate _ c.in-Some.ensures.some.2 c.in-Some.ensures.some.1
           (leads_on circuit good lanes _ _ _ (c.evaluate_waiting.ensures.leads level seen)
           (leads_narrower circuit good lanes n.overlay n.buckets.at n.evaluations level kept
-              seen_now c.followed-kept.result c.followed-kept.ensures.within)));
+          seen_now c.followed-kept.result c.followed-kept.ensures.within)));
     }
 
 pub loop-gate-smaller-then-seen-found : goal.loop-gate-smaller-then-seen-found
@@ -92,13 +92,13 @@ loop-gate-smaller-then-seen-found c =
     let s = c.requires.spreads in
     let m = c.loop-gate.changes in
     let here = taken_here circuit c.args.view.good.now c.args.view.lanes s.0 m.overlay m.buckets.at
-        m.evaluations c.args.level c.loop-gate.found.kept c.loop-gate.found.seen c.in-Some.gate
+    m.evaluations c.args.level c.loop-gate.found.kept c.loop-gate.found.seen c.in-Some.gate
     (c.loop-gate.invariant.leads.spreading s.0 s.1) c.in-Some.ensures.some.1 in
     waiting_less (level_at circuit s.0.level) m.buckets.at c.take.new.self.at
-        c.evaluate_waiting.new.changes.buckets.at c.in-Some.gate c.args.level
+    c.evaluate_waiting.new.changes.buckets.at c.in-Some.gate c.args.level
     c.in-Some.ensures.some.0 c.in-Some.ensures.some.1 c.in-Some.ensures.some.2 here
-        c.evaluate_waiting.ensures.room.gates
-        (c.evaluate_waiting.ensures.woken s.0.level s.0.levels)
+    c.evaluate_waiting.ensures.room.gates
+    (c.evaluate_waiting.ensures.woken s.0.level s.0.levels)
 
 pub loop-gate-preserved-then-seen-found : goal.loop-gate-preserved-then-seen-found
 loop-gate-preserved-then-seen-found c =
@@ -122,12 +122,12 @@ loop-gate-preserved-then-seen-found c =
       settled = c.loop-gate.invariant.settled;
       leads = leads_on circuit good lanes _ _ _ c.loop-gate.invariant.leads
           (leads_taken circuit good lanes m.overlay m.buckets.at c.take.new.self.at m.evaluations
-              level kept seen c.in-Some.gate _ c.in-Some.ensures.some.2 c.in-Some.ensures.some.1
+          level kept seen c.in-Some.gate _ c.in-Some.ensures.some.2 c.in-Some.ensures.some.1
           (subst (λ x. Leads circuit good lanes
-              (not_yet_taken c.in-Some.gate
-              (moment_of m.overlay c.take.new.self.at m.evaluations level kept seen))
-              (moment n level kept x)) c.if-seen-found.true
-              (c.evaluate_waiting.ensures.leads level seen)));
+          (not_yet_taken c.in-Some.gate
+          (moment_of m.overlay c.take.new.self.at m.evaluations level kept seen))
+          (moment n level kept x)) c.if-seen-found.true
+          (c.evaluate_waiting.ensures.leads level seen)));
     }
 
 pub returns-clause-leads : goal.returns-clause-leads
@@ -138,7 +138,7 @@ returns-clause-leads c =
     let m = c.loop-gate.changes in
     leads_on circuit good lanes _ _ _ c.loop-gate.invariant.leads
     (leads_higher circuit good lanes m.overlay m.buckets.at c.take.new.self.at m.evaluations
-        c.args.level c.loop-gate.found.kept c.loop-gate.found.seen
+    c.args.level c.loop-gate.found.kept c.loop-gate.found.seen
     c.in_default.ensures.none.0 c.in_default.ensures.none.1)
 
 pub returns-clause-room : goal.returns-clause-room

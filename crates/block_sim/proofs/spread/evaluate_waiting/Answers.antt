@@ -14,27 +14,27 @@ pub returns-then-kept-eq0-clause-leads : goal.returns-then-kept-eq0-clause-leads
 returns-then-kept-eq0-clause-leads c = λ now seen.
     let old = c.args.changes.now in
     leads_skipped c.args.view.circuit.now c.args.view.good.now c.args.view.lanes old.overlay
-        old.buckets.at old.evaluations now c.args.kept seen c.args.gate
+    old.buckets.at old.evaluations now c.args.kept seen c.args.gate
     (omega (arith, c.requires.taken.within, c.requires.room.gates)) c.requires.taken.waits
-        c.if-kept-eq0.true
+    c.if-kept-eq0.true
 
 pub evaluate_gate-word-requires-clause-pins_in : goal.evaluate_gate-word-requires-clause-pins_in
 evaluate_gate-word-requires-clause-pins_in c =
     λ k d lt.
     let within = pins_within c.args.view.circuit.now c.args.gate c.in-Some.line.kind
-        c.in-Some.line.pins.now c.requires.view.circuit.well_formed (sym c.in-Some.ensures.gate) k d
-        lt in
+    c.in-Some.line.pins.now c.requires.view.circuit.well_formed (sym c.in-Some.ensures.gate) k d
+    lt in
     omega (arith, within, c.requires.view.count)
 
 pub evaluate_gate-word-requires-clause-some : goal.evaluate_gate-word-requires-clause-some
 evaluate_gate-word-requires-clause-some c =
     pins_some c.args.view.circuit.now c.args.gate c.in-Some.line.kind c.in-Some.line.pins.now
-        c.requires.view.circuit (sym c.in-Some.ensures.gate)
+    c.requires.view.circuit (sym c.in-Some.ensures.gate)
 
 pub evaluate_gate-word-requires-clause-few : goal.evaluate_gate-word-requires-clause-few
 evaluate_gate-word-requires-clause-few c =
     pins_few c.args.view.circuit.now c.args.gate c.in-Some.line.kind c.in-Some.line.pins.now
-        c.requires.view.circuit (sym c.in-Some.ensures.gate)
+    c.requires.view.circuit (sym c.in-Some.ensures.gate)
 
 pub returns-then-diff-eq0-clause-leads : goal.returns-then-diff-eq0-clause-leads
 returns-then-diff-eq0-clause-leads c = λ now seen.
@@ -45,16 +45,19 @@ returns-then-diff-eq0-clause-leads c = λ now seen.
     let word = c.evaluate_gate-word.result in
     let own = c.in-Some.line in
     let valued : (k : ℕ) → k < 128
-        → lane word k ≡ value own.kind (pin_bits None gate own.pins.now good old.overlay k) =
+    → lane word k ≡ value own.kind (pin_bits None gate own.pins.now good old.overlay k) =
     λ k lt. c.evaluate_gate-word.ensures.value k lt
     ∙ ap (λ d. value own.kind (pin_bits None gate own.pins.now good d k)) c.words-delta.ensures in
     leads_same circuit good c.args.view.lanes c.requires.view.circuit.well_formed old.overlay
-        old.buckets.at old.evaluations c.evaluate_gate-word.new.evaluations now c.args.kept seen
-        gate
-    (omega (arith, c.requires.taken.within, c.requires.room.gates)) (omega (arith,
-        c.requires.taken.within, c.requires.room.overlay)) c.requires.taken.waits
+    old.buckets.at old.evaluations c.evaluate_gate-word.new.evaluations now c.args.kept seen
+    gate
+    (omega (arith, c.requires.taken.within, c.requires.room.gates)) (omega (
+      arith,
+      c.requires.taken.within,
+      c.requires.room.overlay,
+    )) c.requires.taken.waits
     c.evaluate_gate-word.ensures.grown (omega (arith, c.evaluate_gate-word.ensures.counted))
-        own.kind own.pins.now (sym c.in-Some.ensures.gate) word valued
+    own.kind own.pins.now (sym c.in-Some.ensures.gate) word valued
     (λ k lt e. no_change word (slice_index_or good gate 0) c.args.kept k c.if-diff-eq0.true e)
 
 pub returns-clause-leads : goal.returns-clause-leads
@@ -66,28 +69,34 @@ returns-clause-leads c = λ now seen.
     let word = c.evaluate_gate-word.result in
     let own = c.in-Some.line in
     let valued : (k : ℕ) → k < 128
-        → lane word k ≡ value own.kind (pin_bits None gate own.pins.now good old.overlay k) =
+    → lane word k ≡ value own.kind (pin_bits None gate own.pins.now good old.overlay k) =
     λ k lt. c.evaluate_gate-word.ensures.value k lt
     ∙ ap (λ d. value own.kind (pin_bits None gate own.pins.now good d k)) c.words-delta.ensures in
     let diff = bit_and (bit_xor word (slice_index_or good gate 0)) c.args.kept in
     let counted = c.change.ensures.evaluations in
     leads_changed circuit good c.args.view.lanes c.requires.view.circuit.well_formed old.overlay
-        old.buckets.at old.evaluations c.change.new.changes.evaluations now c.args.kept seen gate
-    (omega (arith, c.requires.taken.within, c.requires.room.gates)) (omega (arith,
-        c.requires.taken.within, c.requires.room.overlay)) c.requires.taken.waits
-    (omega (arith, counted, c.evaluate_gate-word.ensures.grown)) (omega (arith, counted,
-        c.evaluate_gate-word.ensures.counted)) own.kind own.pins.now (sym c.in-Some.ensures.gate)
-        word valued
+    old.buckets.at old.evaluations c.change.new.changes.evaluations now c.args.kept seen gate
+    (omega (arith, c.requires.taken.within, c.requires.room.gates)) (omega (
+      arith,
+      c.requires.taken.within,
+      c.requires.room.overlay,
+    )) c.requires.taken.waits
+    (omega (arith, counted, c.evaluate_gate-word.ensures.grown)) (omega (
+      arith,
+      counted,
+      c.evaluate_gate-word.ensures.counted,
+    )) own.kind own.pins.now (sym c.in-Some.ensures.gate)
+    word valued
     diff c.change.result c.change.new.changes.overlay c.change.new.changes.buckets.at
-        c.requires.taken.clear c.change.ensures.changed c.if-diff-eq0.false c.change.ensures.some
+    c.requires.taken.clear c.change.ensures.changed c.if-diff-eq0.false c.change.ensures.some
     (λ k lt e. only_lanes (bit_xor word (slice_index_or good gate 0)) c.args.kept k e)
-        (λ k lt e. changed_to word (slice_index_or good gate 0) c.args.kept k e)
+    (λ k lt e. changed_to word (slice_index_or good gate 0) c.args.kept k e)
     c.change.ensures.woken c.change.ensures.shown
 
 pub returns-clause-woken : goal.returns-clause-woken
 returns-clause-woken c = λ level are r.
     let circuit = c.args.view.circuit.now in
     woken_above circuit (level_at circuit level) c.args.gate c.args.changes.now.buckets.at
-        c.change.new.changes.buckets.at
+    c.change.new.changes.buckets.at
     (reads_rise circuit level c.requires.view.circuit.well_formed are)
-        (c.change.ensures.woken level are) r
+    (c.change.ensures.woken level are) r

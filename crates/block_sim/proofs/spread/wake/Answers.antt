@@ -20,9 +20,9 @@ pub waits-requires : goal.waits-requires
 waits-requires c =
     let none : Reader = record { gate = 0; level = 0 } in
     let reader = slice_index_or c.readers_of-reader-items.result.now c.loop-reader.reader-index
-        none in
+    none in
     let has = c.readers_of-reader-items.ensures.each c.loop-reader.reader-index none
-        c.loop-reader-test.true in
+    c.loop-reader-test.true in
     let lt = reader_within c.args.circuit.now reader.gate c.args.signal has.0.0 in
     omega (arith, lt, c.requires.gates, c.loop-reader.invariant.gates)
 
@@ -37,16 +37,16 @@ loop-reader-preserved-then-waits c =
       woken = woken_waits c.args.circuit.now c.requires.circuit.well_formed c.args.signal items
           c.readers_of-reader-items.ensures c.loop-reader.reader-index none reader refl
           c.args.buckets.now.at c.loop-reader.buckets.at c.loop-reader-test.true
-              c.loop-reader.invariant.woken (c.waits.ensures.0 c.if-waits.true);
+          c.loop-reader.invariant.woken (c.waits.ensures.0 c.if-waits.true);
     }
 
 pub add-requires-clause-gate : goal.add-requires-clause-gate
 add-requires-clause-gate c =
     let none : Reader = record { gate = 0; level = 0 } in
     let reader = slice_index_or c.readers_of-reader-items.result.now c.loop-reader.reader-index
-        none in
+    none in
     let has = c.readers_of-reader-items.ensures.each c.loop-reader.reader-index none
-        c.loop-reader-test.true in
+    c.loop-reader-test.true in
     let lt = reader_within c.args.circuit.now reader.gate c.args.signal has.0.0 in
     omega (arith, lt, c.requires.gates, c.loop-reader.invariant.gates)
 
@@ -54,9 +54,9 @@ pub add-requires-clause-level : goal.add-requires-clause-level
 add-requires-clause-level c =
     let none : Reader = record { gate = 0; level = 0 } in
     let reader = slice_index_or c.readers_of-reader-items.result.now c.loop-reader.reader-index
-        none in
+    none in
     let has = c.readers_of-reader-items.ensures.each c.loop-reader.reader-index none
-        c.loop-reader-test.true in
+    c.loop-reader-test.true in
     let lt = c.requires.levels reader.gate reader.level has.1 in
     omega (arith, lt, c.loop-reader.invariant.levels)
 
@@ -69,11 +69,15 @@ loop-reader-preserved c =
     let reader = slice_index_or items i none in
     let has = c.readers_of-reader-items.ensures.each i none c.loop-reader-test.true in
     let lt = reader_within circuit reader.gate c.args.signal has.0.0 in
-    let within : reader.gate < length c.loop-reader.buckets.at = omega (arith, lt, c.requires.gates,
-        c.loop-reader.invariant.gates) in
+    let within : reader.gate < length c.loop-reader.buckets.at = omega (
+      arith,
+      lt,
+      c.requires.gates,
+      c.loop-reader.invariant.gates,
+    ) in
     let idle : slice_index_or c.loop-reader.buckets.at reader.gate 0 ≡ 0 =
-        idle_of c.loop-reader.buckets.at reader.gate (λ ne. false≢true (sym c.if-waits.false
-        ∙ c.waits.ensures.1 ne)) in
+    idle_of c.loop-reader.buckets.at reader.gate (λ ne. false≢true (sym c.if-waits.false
+    ∙ c.waits.ensures.1 ne)) in
     record {
       gates = ap length c.add.ensures.at
           ∙ (length-set c.loop-reader.buckets.at reader.gate (reader.level + 1)
@@ -82,15 +86,15 @@ loop-reader-preserved c =
       woken = subst (HasWoken circuit c.args.signal items (i + 1) c.args.buckets.now.at)
           (sym c.add.ensures.at)
           (woken_added circuit c.requires.circuit.well_formed c.args.signal items
-              c.readers_of-reader-items.ensures i none reader refl c.args.buckets.now.at
-              c.loop-reader.buckets.at c.loop-reader-test.true
+          c.readers_of-reader-items.ensures i none reader refl c.args.buckets.now.at
+          c.loop-reader.buckets.at c.loop-reader-test.true
           c.loop-reader.invariant.woken within idle);
     }
 
 pub returns-clause-woken : goal.returns-clause-woken
 returns-clause-woken c = λ level are_levels.
     woken_all c.args.circuit.now c.requires.circuit.well_formed c.args.signal
-        c.readers_of-reader-items.result.now c.readers_of-reader-items.ensures
-        c.loop-reader.reader-index
+    c.readers_of-reader-items.result.now c.readers_of-reader-items.ensures
+    c.loop-reader.reader-index
     c.args.buckets.now.at c.loop-reader.buckets.at level c.loop-reader-test.false are_levels
-        c.loop-reader.invariant.woken
+    c.loop-reader.invariant.woken

@@ -15,14 +15,16 @@ loop-place-init c = record {
 
 pub loop-place-preserved : goal.loop-place-preserved
 loop-place-preserved c =
-    let more : c.loop-place.place < length c.args.line.pins.now = omega (arith,
-        c.loop-place-test.true) in
+    let more : c.loop-place.place < length c.args.line.pins.now = omega (
+      arith,
+      c.loop-place-test.true,
+    ) in
     record {
       folds = folds_more (fault_of c.args.fault) c.args.gate c.args.line.pins.now c.args.words.now
           c.args.delta.now c.args.line.form.turns_pins c.in_each_lane-turned.result
           c.loop-place.place c.loop-place.all c.loop-place.odd
           c.pin_word-word.result more c.in_each_lane-turned.ensures c.loop-place.invariant.folds
-              c.pin_word-word.ensures;
+          c.pin_word-word.ensures;
       within = omega (arith, more);
     }
 
@@ -33,15 +35,19 @@ returns-clause-all c =
     let count : length pins ≡ last + 1 = omega (arith, c.requires.some) in
     let started : 0 < c.loop-place.place = omega (arith, c.loop-place.auto.place) in
     folds_all (fault_of c.args.fault) c.args.gate pins c.args.words.now c.args.delta.now
-        c.args.line.form.turns_pins _ _
+    c.args.line.form.turns_pins _ _
     (folds_last (fault_of c.args.fault) c.args.gate pins c.args.words.now c.args.delta.now
-        c.args.line.form.turns_pins c.in_each_lane-turned.result c.loop-place.place last
-        c.loop-place.all c.loop-place.odd
+    c.args.line.form.turns_pins c.in_each_lane-turned.result c.loop-place.place last
+    c.loop-place.all c.loop-place.odd
     c.pin_word-word-2.result c.in_each_lane.result count
-        (at_last (length pins) c.loop-place.place started c.loop-place.invariant.within
-        (omega (arith, c.loop-place-test.false)) (λ some. omega (arith, some,
-        c.loop-place.auto.place, c.loop-place.auto.place-end))) c.in_each_lane-turned.ensures
-        c.in_each_lane.ensures c.loop-place.invariant.folds
+    (at_last (length pins) c.loop-place.place started c.loop-place.invariant.within
+    (omega (arith, c.loop-place-test.false)) (λ some. omega (
+      arith,
+      some,
+      c.loop-place.auto.place,
+      c.loop-place.auto.place-end,
+    ))) c.in_each_lane-turned.ensures
+    c.in_each_lane.ensures c.loop-place.invariant.folds
     c.pin_word-word-2.ensures started)
 
 pub returns-clause-odd : goal.returns-clause-odd
@@ -51,13 +57,17 @@ returns-clause-odd c =
     let count : length pins ≡ last + 1 = omega (arith, c.requires.some) in
     let started : 0 < c.loop-place.place = omega (arith, c.loop-place.auto.place) in
     folds_odd (fault_of c.args.fault) c.args.gate pins c.args.words.now c.args.delta.now
-        c.args.line.form.turns_pins _ _
+    c.args.line.form.turns_pins _ _
     (folds_last (fault_of c.args.fault) c.args.gate pins c.args.words.now c.args.delta.now
-        c.args.line.form.turns_pins c.in_each_lane-turned.result c.loop-place.place last
-        c.loop-place.all c.loop-place.odd
+    c.args.line.form.turns_pins c.in_each_lane-turned.result c.loop-place.place last
+    c.loop-place.all c.loop-place.odd
     c.pin_word-word-2.result c.in_each_lane.result count
-        (at_last (length pins) c.loop-place.place started c.loop-place.invariant.within
-        (omega (arith, c.loop-place-test.false)) (λ some. omega (arith, some,
-        c.loop-place.auto.place, c.loop-place.auto.place-end))) c.in_each_lane-turned.ensures
-        c.in_each_lane.ensures c.loop-place.invariant.folds
+    (at_last (length pins) c.loop-place.place started c.loop-place.invariant.within
+    (omega (arith, c.loop-place-test.false)) (λ some. omega (
+      arith,
+      some,
+      c.loop-place.auto.place,
+      c.loop-place.auto.place-end,
+    ))) c.in_each_lane-turned.ensures
+    c.in_each_lane.ensures c.loop-place.invariant.folds
     c.pin_word-word-2.ensures started)

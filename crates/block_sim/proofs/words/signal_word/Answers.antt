@@ -10,33 +10,33 @@ pub evaluate_gate-requires-clause-pins_in : goal.evaluate_gate-requires-clause-p
 evaluate_gate-requires-clause-pins_in c =
     λ k d lt.
     let within = pins_within c.args.circuit.now c.args.signal c.in-Some.gate.kind
-        c.in-Some.gate.pins.now c.requires.circuit.well_formed (sym c.in-Some.ensures.gate) k d
-        lt in
+    c.in-Some.gate.pins.now c.requires.circuit.well_formed (sym c.in-Some.ensures.gate) k d
+    lt in
     omega (arith, within, c.requires.words)
 
 pub evaluate_gate-requires-clause-some : goal.evaluate_gate-requires-clause-some
 evaluate_gate-requires-clause-some c =
     pins_some c.args.circuit.now c.args.signal c.in-Some.gate.kind c.in-Some.gate.pins.now
-        c.requires.circuit (sym c.in-Some.ensures.gate)
+    c.requires.circuit (sym c.in-Some.ensures.gate)
 
 pub evaluate_gate-requires-clause-few : goal.evaluate_gate-requires-clause-few
 evaluate_gate-requires-clause-few c =
     pins_few c.args.circuit.now c.args.signal c.in-Some.gate.kind c.in-Some.gate.pins.now
-        c.requires.circuit (sym c.in-Some.ensures.gate)
+    c.requires.circuit (sym c.in-Some.ensures.gate)
 
 pub returns-in-Some : goal.returns-in-Some
 returns-in-Some c =
     gate_equation c.args.circuit.now c.args.tests.now.tests c.args.group None c.args.words.now
-        c.args.signal c.evaluate_gate.result c.evaluate_gate.result
+    c.args.signal c.evaluate_gate.result c.evaluate_gate.result
     c.requires.circuit.well_formed (λ k lt. refl) c.in-Some.gate.kind c.in-Some.gate.pins.now
-        c.args.same.now (λ t. index_zero c.args.same.now t c.requires.same)
-        (sym c.in-Some.ensures.gate)
+    c.args.same.now (λ t. index_zero c.args.same.now t c.requires.same)
+    (sym c.in-Some.ensures.gate)
     c.evaluate_gate.ensures.value
 
 pub returns-in-None : goal.returns-in-None
 returns-in-None c =
     source_equation c.args.circuit.now c.args.tests.now.tests c.args.group None c.args.words.now
-        c.args.signal c.source_word.result c.source_word.result
+    c.args.signal c.source_word.result c.source_word.result
     c.requires.circuit.well_formed (λ k lt. refl) (sym c.in-None.ensures.gate)
     (λ i at. c.source_word.ensures i (ap (λ x. slice_get (sources x) i) c.circuit.ensures
-        ∙ (at ∙ ap (λ x. name_of x c.args.signal) (sym c.circuit.ensures))))
+    ∙ (at ∙ ap (λ x. name_of x c.args.signal) (sym c.circuit.ensures))))

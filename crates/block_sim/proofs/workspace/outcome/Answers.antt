@@ -11,5 +11,5 @@ returns-clause-outcome c =
       outcome_of_lanes job.circuit job.tests.tests c.args.block told.0
           (IsSettled c.args.extent c.told-word.result) c.told-word.result c.block_word.result told.2
           c.block_word.ensures (c.requires.ends c.told-word.result) c.least_lane.result
-              c.least_lane.ensures,
+          c.least_lane.ensures,
     )

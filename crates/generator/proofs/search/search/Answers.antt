@@ -30,7 +30,11 @@ loop-round-preserved g c =
       kept = c.keep_tests.ensures.few;
       quiet = elim c.if-len.branch [
         | then-len w ↦ omega (arith, w.quiet-is)
-        | else-len w ↦ omega (arith, w.quiet-is, c.if-quiet-ge-QUIET_BLOCKS.false,
-            c.min-blocks.ensures)
+        | else-len w ↦ omega (
+          arith,
+          w.quiet-is,
+          c.if-quiet-ge-QUIET_BLOCKS.false,
+          c.min-blocks.ensures,
+        )
       ];
     }

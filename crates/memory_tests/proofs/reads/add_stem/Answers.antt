@@ -11,9 +11,12 @@ stem_fault-requires c =
     let part = c.faults-faults.ensures.part in
     let listed : list.list ≡ faults list.model circuit =
     ap (λ l. l.list) (part ∙ c.faults-faults.ensures.together.list)
-        ∙ ap (λ l. faults l.model circuit) (sym part) in
-    subst (λ fs. Contains fs (record { model = list.model; line = line.Stem c.args.signal;
-        stuck = false })) (sym listed)
+    ∙ ap (λ l. faults l.model circuit) (sym part) in
+    subst (λ fs. Contains fs (record {
+      model = list.model;
+      line = line.Stem c.args.signal;
+      stuck = false;
+    })) (sym listed)
     (c.stems.ensures list.model circuit c.args.signal false c.requires)
 
 pub stem_fault-requires-2 : goal.stem_fault-requires-2
@@ -23,7 +26,10 @@ stem_fault-requires-2 c =
     let part = c.faults-faults.ensures.part in
     let listed : list.list ≡ faults list.model circuit =
     ap (λ l. l.list) (part ∙ c.faults-faults.ensures.together.list)
-        ∙ ap (λ l. faults l.model circuit) (sym part) in
-    subst (λ fs. Contains fs (record { model = list.model; line = line.Stem c.args.signal;
-        stuck = true })) (sym listed)
+    ∙ ap (λ l. faults l.model circuit) (sym part) in
+    subst (λ fs. Contains fs (record {
+      model = list.model;
+      line = line.Stem c.args.signal;
+      stuck = true;
+    })) (sym listed)
     (c.stems.ensures list.model circuit c.args.signal true c.requires)

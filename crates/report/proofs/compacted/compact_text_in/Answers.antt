@@ -10,15 +10,15 @@ pub returns-clause-written : goal.returns-clause-written
 returns-clause-written g c =
     let job = c.in_ok-job.job in
     written_as (IsCompactionOfJob job)
-        (IsCompactionOf c.args.model c.args.bench.now c.args.tests.now)
+    (IsCompactionOf c.args.model c.args.bench.now c.args.tests.now)
     c.write_compacted.result _ _ (compaction_of_texts c.args.model c.args.bench.now c.args.tests.now
-        job c.in_ok-job.ensures.job) c.write_compacted.ensures.written
+    job c.in_ok-job.ensures.job) c.write_compacted.ensures.written
 
 pub returns-clause-refused : goal.returns-clause-refused
 returns-clause-refused g c =
     let job = c.in_ok-job.job in
     refused_as (IsCurveFault job c.args.workers)
-        (IsReportFault c.args.model c.args.bench.now c.args.tests.now c.args.workers)
+    (IsReportFault c.args.model c.args.bench.now c.args.tests.now c.args.workers)
     c.write_compacted.result (curve_fault c.args.model c.args.bench.now c.args.tests.now
-        c.args.workers job (c.in_ok-job.ensures.job, c.in_ok-job.ensures.few))
+    c.args.workers job (c.in_ok-job.ensures.job, c.in_ok-job.ensures.few))
     c.write_compacted.ensures.refused

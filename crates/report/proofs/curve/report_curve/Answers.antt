@@ -7,22 +7,35 @@ use Rattle.report.proofs.curve.report_curve.Goals as goal
 pub returns-in_err-write_curve-clause-written : goal.returns-in_err-write_curve-clause-written
 returns-in_err-write_curve-clause-written g c =
     let p = err_from_is_err_and c.from_residual-in_err-write_curve.result
-        c.from_residual-in_err-write_curve.ensures.1 in
+    c.from_residual-in_err-write_curve.ensures.1 in
     let firsts = c.in_ok-verdicts.verdicts.firsts in
     let count = c.count.ensures ∙ ap (λ t. length t.tests) c.tests.ensures.part in
     let same : c.deref.result.now ≡ curve (length c.args.job.now.tests.tests) firsts =
     c.deref.ensures.value ∙ (c.in_ok-points.ensures ∙ ap (λ n. curve n firsts) count) in
-    rw (p.1, p.2) (curve_text c.deref.result.now firsts, (firsts, c.in_ok-verdicts.ensures.firsts,
-        ap (λ ps. curve_text ps firsts) same), c.in_err-write_curve.ensures)
+    rw (p.1, p.2) (
+      curve_text c.deref.result.now firsts,
+      (
+        firsts,
+        c.in_ok-verdicts.ensures.firsts,
+        ap (λ ps. curve_text ps firsts) same,
+      ),
+      c.in_err-write_curve.ensures,
+    )
 
 pub returns-clause-written : goal.returns-clause-written
 returns-clause-written g c =
     let firsts = c.in_ok-verdicts.verdicts.firsts in
     let count = c.count.ensures ∙ ap (λ t. length t.tests) c.tests.ensures.part in
     let same : c.deref.result.now ≡ curve (length c.args.job.now.tests.tests) firsts =
-    c.deref.ensures.value ∙ (c.in_ok-points.ensures ∙ ap (λ n. curve n firsts) count) in
-    (curve_text c.deref.result.now firsts, (firsts, c.in_ok-verdicts.ensures.firsts,
-        ap (λ ps. curve_text ps firsts) same), c.in_ok-write_curve.ensures)
+    c.deref.ensures.value ∙ (c.in_ok-points.ensures ∙ ap (λ n. curve n firsts) count) in (
+      curve_text c.deref.result.now firsts,
+      (
+        firsts,
+        c.in_ok-verdicts.ensures.firsts,
+        ap (λ ps. curve_text ps firsts) same,
+      ),
+      c.in_ok-write_curve.ensures,
+    )
 
 pub write_curve-requires : goal.write_curve-requires
 write_curve-requires g c = verdicts_counted c.args.job.now c.in_ok-verdicts.verdicts.firsts

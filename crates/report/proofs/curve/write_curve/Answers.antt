@@ -12,9 +12,9 @@ prove-unreachable-requires g c =
     let job = c.args.job.now in
     let together = c.circuit-circuit.ensures.together in
     let has = c.stems.ensures job.list.model job.circuit 0 false
-        (some_signal job.circuit together.circuit.well_formed) in
+    (some_signal job.circuit together.circuit.well_formed) in
     let list : length job.list.list ≡ length (faults job.list.model job.circuit) =
-        ap (λ l. length l.list) together.list in
+    ap (λ l. length l.list) together.list in
     omega (arith, has.1, list, c.requires, c.total-total.ensures, c.if-prove.true)
 
 pub returns-in_err-put_points : goal.returns-in_err-put_points
@@ -27,7 +27,7 @@ returns-in_err-put_points g c =
 pub returns-in_err-put_coverage : goal.returns-in_err-put_coverage
 returns-in_err-put_coverage g c =
     let p = err_from_is_err_and c.from_residual-in_err-put_coverage.result
-        c.from_residual-in_err-put_coverage.ensures.1 in
+    c.from_residual-in_err-put_coverage.ensures.1 in
     rw (p.1, ← c.total-total.ensures, ← c.detected.ensures)
     (stopped_after _ _ _ _ _ c.in_ok-put_points.ensures c.in_err-put_coverage.ensures)
 

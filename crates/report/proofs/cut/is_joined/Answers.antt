@@ -6,5 +6,5 @@ use Rattle.report.proofs.cut.is_joined.Goals as goal
 pub returns-in-None-clause-no : goal.returns-in-None-clause-no
 returns-in-None-clause-no c = λ _ e. c.in-None.ensures _
     (append_cancel_left _ _ _ (sym c.loop-piece.invariant
-        ∙ (e ∙ flat_map_cut (λ p. p.now) c.args.pieces.now c.loop-piece.piece-index _ _
-        c.loop-piece-test.true c.as_bytes.ensures.value)))
+    ∙ (e ∙ flat_map_cut (λ p. p.now) c.args.pieces.now c.loop-piece.piece-index _ _
+    c.loop-piece-test.true c.as_bytes.ensures.value)))

@@ -13,26 +13,26 @@ returns-in_err-put_count_line g c =
     let lt : c.loop-fault.fault < length c.args.list.now.list = omega arith in
     let at = within_place c.args.list.now.list c.loop-fault.fault lt in
     let zipped = zipped_by c.args.list.now.list c.args.counts.now c.loop-fault.fault at.0
-        c.count_at.result (at.0, 0) at.1 c.count_at.ensures in
+    c.count_at.result (at.0, 0) at.1 c.count_at.ensures in
     rw (p.1, ← c.requires.list) (stopped _ _ _ _ _ _ _ c.loop-fault.invariant
-        (c.in_err-put_count_line.ensures at.0 at.1)
+    (c.in_err-put_count_line.ensures at.0 at.1)
     (flat_map_cut (count_line c.args.circuit.now) (zip c.args.list.now.list c.args.counts.now)
-        c.loop-fault.fault _ _ zipped.0 (ap (count_line c.args.circuit.now) zipped.1)))
+    c.loop-fault.fault _ _ zipped.0 (ap (count_line c.args.circuit.now) zipped.1)))
 
 pub loop-fault-preserved : goal.loop-fault-preserved
 loop-fault-preserved g c =
     let lt : c.loop-fault.fault < length c.args.list.now.list = omega arith in
     let at = within_place c.args.list.now.list c.loop-fault.fault lt in
     let zipped = zipped_by c.args.list.now.list c.args.counts.now c.loop-fault.fault at.0
-        c.count_at.result (at.0, 0) at.1 c.count_at.ensures in
+    c.count_at.result (at.0, 0) at.1 c.count_at.ensures in
     let wrote = c.in_ok-put_count_line.ensures at.0 at.1 in
     rw (flat_map_taken (count_line c.args.circuit.now) (zip c.args.list.now.list c.args.counts.now)
-        c.loop-fault.fault _ _ zipped.0 (ap (count_line c.args.circuit.now) zipped.1))
+    c.loop-fault.fault _ _ zipped.0 (ap (count_line c.args.circuit.now) zipped.1))
     (takes_more _ _ _ _ _ c.loop-fault.invariant wrote)
 
 pub returns : goal.returns
 returns g c =
     let le : length c.args.list.now.list ≤ c.loop-fault.fault = omega arith in
     let all = all_zipped c.args.list.now.list c.args.counts.now c.loop-fault.fault c.requires.count
-        le in
+    le in
     rw (← c.requires.list) (rw (all) at c.loop-fault.invariant)

@@ -11,5 +11,8 @@ returns-then-faults-others-clause-same c = names_all _ _ _ (omega (arith, c.if-f
     (omega arith) c.loop-place.invariant
 
 pub returns-else-faults-others-clause-refused : goal.returns-else-faults-others-clause-refused
-returns-else-faults-others-clause-refused c = (c.min-both.result, refl,
-    names_end _ _ _ _ (omega arith) c.loop-place.invariant (omega arith) (omega arith))
+returns-else-faults-others-clause-refused c = (
+  c.min-both.result,
+  refl,
+  names_end _ _ _ _ (omega arith) c.loop-place.invariant (omega arith) (omega arith),
+)

@@ -11,21 +11,26 @@ report_part-requires-clause-job g c = c.in_ok-job.ensures.job.2
 pub returns-clause-written : goal.returns-clause-written
 returns-clause-written g c =
     let job = c.in_ok-job.job in
-    let wrote = rw (c.name_of.ensures, c.as_str.ensures.value, c.as_str-2.ensures.value,
-        c.in_ok-bench_sum.ensures, c.in_ok-test_sum.ensures) at c.report_part.ensures.written in
+    let wrote = rw (
+      c.name_of.ensures,
+      c.as_str.ensures.value,
+      c.as_str-2.ensures.value,
+      c.in_ok-bench_sum.ensures,
+      c.in_ok-test_sum.ensures,
+    ) at c.report_part.ensures.written in
     let h = head_of c.args.model c.args.bench.now c.args.tests.now c.args.part c.args.parts in
     written_as (IsPartTextOfJob h job)
-        (IsPartTextOf c.args.model c.args.bench.now c.args.tests.now c.args.part c.args.parts)
+    (IsPartTextOf c.args.model c.args.bench.now c.args.tests.now c.args.part c.args.parts)
     c.report_part.result _ _ (λ bytes is. (job, c.in_ok-job.ensures.job, is)) wrote
 
 pub returns-clause-refused : goal.returns-clause-refused
 returns-clause-refused g c =
     let job = c.in_ok-job.job in
     refused_as (IsJobReportFault c.args.workers
-        (IsPartFault job c.args.parts c.args.part c.args.workers ⊤ (λ _ _ _. ⊥)))
-        (IsPartReportFault c.args.model c.args.bench.now c.args.tests.now c.args.part c.args.parts
-        c.args.workers)
+    (IsPartFault job c.args.parts c.args.part c.args.workers ⊤ (λ _ _ _. ⊥)))
+    (IsPartReportFault c.args.model c.args.bench.now c.args.tests.now c.args.part c.args.parts
+    c.args.workers)
     c.report_part.result (text_fault c.args.model c.args.bench.now c.args.tests.now c.args.workers
-        (λ x. IsPartFault x c.args.parts c.args.part c.args.workers ⊤ (λ _ _ _. ⊥)) job
-        c.in_ok-job.ensures.job)
+    (λ x. IsPartFault x c.args.parts c.args.part c.args.workers ⊤ (λ _ _ _. ⊥)) job
+    c.in_ok-job.ensures.job)
     c.report_part.ensures.refused

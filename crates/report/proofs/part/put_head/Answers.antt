@@ -6,5 +6,5 @@ use Rattle.report.proofs.part.put_head.Goals as goal
 pub returns : goal.returns
 returns g c =
     writes_same _ _ _ _ _ (head_text (said_by c.args.head.now) c.format.result.now
-        c.format-2.result.now
+    c.format-2.result.now
     (rw (c.from.ensures) at c.format.ensures.text) c.format-2.ensures.text) c.put_pieces.ensures

@@ -15,19 +15,30 @@ write_part-requires g c =
 pub returns-in_err-write_part-clause-written : goal.returns-in_err-write_part-clause-written
 returns-in_err-write_part-clause-written g c =
     let p = err_from_is_err_and c.from_residual-in_err-write_part.result
-        c.from_residual-in_err-write_part.ensures.1 in
+    c.from_residual-in_err-write_part.ensures.1 in
     let job = c.args.job.now in
     let verdicts = c.in_ok-verdicts.verdicts.items in
-    let wrote = rw (c.circuit.ensures.part, c.faults.ensures.part,
-        c.as_slice.ensures.value) at c.in_err-write_part.ensures in
-    rw (p.1, p.2) (job_part_text (said_by c.args.head.now) job.list.model job.circuit verdicts,
-        (verdicts, c.in_ok-verdicts.ensures.verdicts, refl), wrote)
+    let wrote = rw (
+      c.circuit.ensures.part,
+      c.faults.ensures.part,
+      c.as_slice.ensures.value,
+    ) at c.in_err-write_part.ensures in
+    rw (p.1, p.2) (
+      job_part_text (said_by c.args.head.now) job.list.model job.circuit verdicts,
+      (verdicts, c.in_ok-verdicts.ensures.verdicts, refl),
+      wrote,
+    )
 
 pub returns-clause-written : goal.returns-clause-written
 returns-clause-written g c =
     let job = c.args.job.now in
     let verdicts = c.in_ok-verdicts.verdicts.items in
-    let wrote = rw (c.circuit.ensures.part, c.faults.ensures.part,
-        c.as_slice.ensures.value) at c.in_ok-write_part.ensures in
-    (job_part_text (said_by c.args.head.now) job.list.model job.circuit verdicts,
-        (verdicts, c.in_ok-verdicts.ensures.verdicts, refl), wrote)
+    let wrote = rw (
+      c.circuit.ensures.part,
+      c.faults.ensures.part,
+      c.as_slice.ensures.value,
+    ) at c.in_ok-write_part.ensures in (
+      job_part_text (said_by c.args.head.now) job.list.model job.circuit verdicts,
+      (verdicts, c.in_ok-verdicts.ensures.verdicts, refl),
+      wrote,
+    )

@@ -14,10 +14,12 @@ returns-in_default-clause-only c = λ h faults verdicts p.
 
 pub returns-in_default-header_of-clause-only : goal.returns-in_default-header_of-clause-only
 returns-in_default-header_of-clause-only c = λ h faults verdicts p.
-    no_refusal c.args.text.now h faults verdicts (NotAPart 1) p (inl (refl,
-        bad_head _ _ _ c.in-Some.ensures c.in_default-header_of.ensures))
+    no_refusal c.args.text.now h faults verdicts (NotAPart 1) p (inl (
+      refl,
+      bad_head _ _ _ c.in-Some.ensures c.in_default-header_of.ensures,
+    ))
 
 pub returns-clause-only : goal.returns-clause-only
 returns-clause-only c = λ h faults verdicts p.
     read_exactly c.args.text.now h faults verdicts c.read_lines.result c.read_lines.ensures.read
-        c.read_lines.ensures.refused p
+    c.read_lines.ensures.refused p

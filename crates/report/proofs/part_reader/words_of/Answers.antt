@@ -27,7 +27,7 @@ returns-in_err-tests c = rw c.from_residual-in_err-tests.ensures (λ w ok e.
     let rest = after_model w _ _ _ ok e c.in_ok-model.ensures.0 c.in_ok-model.ensures.1 in
     let more = after_rule w _ _ _ ok rest c.in_ok-rule.ensures.0 c.in_ok-rule.ensures.1 in
     c.in_err-tests.ensures w.tests
-        (after_bench w _ _ _ ok more c.in_ok-bench.ensures.0 c.in_ok-bench.ensures.1))
+    (after_bench w _ _ _ ok more c.in_ok-bench.ensures.0 c.in_ok-bench.ensures.1))
 
 pub returns-in-Some : goal.returns-in-Some
 returns-in-Some c = λ w ok e.
@@ -36,7 +36,7 @@ returns-in-Some c = λ w ok e.
     let last = after_bench w _ _ _ ok more c.in_ok-bench.ensures.0 c.in_ok-bench.ensures.1 in
     let same = append_cancel_left (codes "tests ") _ _ (sym c.in_ok-tests.ensures ∙ last) in
     lacks_not 32 _ _ (subst (λ t. Lacks 32 t) c.in-Some.ensures.whole
-        (subst (λ t. Lacks 32 t) (sym same) ok.tests.no_space))
+    (subst (λ t. Lacks 32 t) (sym same) ok.tests.no_space))
 
 pub returns-in-None : goal.returns-in-None
 returns-in-None c =
@@ -46,4 +46,4 @@ returns-in-None c =
       bench = c.in_ok-bench.bench.now;
       tests = c.in_ok-tests.tests.now;
     }) _ _ _ _ c.requires c.in_ok-model.ensures c.in_ok-rule.ensures c.in_ok-bench.ensures
-        c.in_ok-tests.ensures c.in-None.ensures
+    c.in_ok-tests.ensures c.in-None.ensures

@@ -7,13 +7,13 @@ use Rattle.report.proofs.report.cell_name.Goals as goal
 pub name_of-requires : goal.name_of-requires
 name_of-requires c =
     let at = cell_at (cells c.args.circuit.now) c.scan_cells.result.now (signal c.args.circuit.now)
-        c.args.cell (record { q = 0; d = 0 }) c.scan_cells.ensures c.requires in
+    c.args.cell (record { q = 0; d = 0 }) c.scan_cells.ensures c.requires in
     rw (at.2) (cell_signal c.args.circuit.now at.0 at.3).0
 
 pub returns : goal.returns
 returns c =
     let at = cell_at (cells c.args.circuit.now) c.scan_cells.result.now (signal c.args.circuit.now)
-        c.args.cell (record { q = 0; d = 0 }) c.scan_cells.ensures c.requires in
+    c.args.cell (record { q = 0; d = 0 }) c.scan_cells.ensures c.requires in
     ap (λ o. unwrap_or o []) (c.name_of.ensures
-        ∙ (ap (name_of c.args.circuit.now) at.2 ∙ ((cell_signal c.args.circuit.now at.0 at.3).1
-        ∙ sym at.1)))
+    ∙ (ap (name_of c.args.circuit.now) at.2 ∙ ((cell_signal c.args.circuit.now at.0 at.3).1
+    ∙ sym at.1)))

@@ -12,10 +12,10 @@ loop-class-preserved c =
     elim c.if-is_detected.branch [
       | then-is_detected w ↦
           let more = counted_class first rs c.loop-class.class c.representative.result
-              c.representative.ensures (sym c.is_detected.ensures ∙ w.if-is_detected.true) in
+          c.representative.ensures (sym c.is_detected.ensures ∙ w.if-is_detected.true) in
           (omega (arith, w.found-is, so_far.0, more), omega (arith, w.found-is, so_far.1))
       | else-is_detected w ↦
           let same = uncounted_class first rs c.loop-class.class c.representative.result
-              c.representative.ensures (sym c.is_detected.ensures ∙ w.if-is_detected.false) in
+          c.representative.ensures (sym c.is_detected.ensures ∙ w.if-is_detected.false) in
           (omega (arith, w.found-is, so_far.0, same), omega (arith, w.found-is, so_far.1))
     ]

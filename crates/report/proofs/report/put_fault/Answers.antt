@@ -11,6 +11,6 @@ pub returns : goal.returns
 returns g c = λ f at.
     writes_same _ _ _ _ _
     (fault_by_parts c.args.list.now.model c.args.circuit.now c.args.list.now.list c.args.fault f
-        c.line_of.result c.stuck_of.result c.defect-said.result.now
+    c.line_of.result c.stuck_of.result c.defect-said.result.now
     c.requires.list at c.line_of.ensures c.stuck_of.ensures
-        (rw (c.model.ensures) at c.defect-said.ensures)) c.put_line.ensures
+    (rw (c.model.ensures) at c.defect-said.ensures)) c.put_line.ensures

@@ -14,15 +14,19 @@ prove-unreachable-requires g c = let some =
 pub returns-in_err-put_firsts : goal.returns-in_err-put_firsts
 returns-in_err-put_firsts g c =
     let p = err_from_is_err_and c.from_residual.result c.from_residual.ensures.1 in
-    let wrote = rw (c.circuit-circuit.ensures.part,
-        c.faults.ensures.part) at c.in_err-put_firsts.ensures in
+    let wrote = rw (
+      c.circuit-circuit.ensures.part,
+      c.faults.ensures.part,
+    ) at c.in_err-put_firsts.ensures in
     rw (p.1)
     (stopped_before _ (coverage_line (detected c.args.verdicts.now.firsts)
-        (length c.args.verdicts.now.firsts)) _ _ wrote)
+    (length c.args.verdicts.now.firsts)) _ _ wrote)
 
 pub returns : goal.returns
 returns g c =
-    let wrote = rw (c.circuit-circuit.ensures.part,
-        c.faults.ensures.part) at c.in_ok-put_firsts.ensures in
+    let wrote = rw (
+      c.circuit-circuit.ensures.part,
+      c.faults.ensures.part,
+    ) at c.in_ok-put_firsts.ensures in
     rw (← c.total-total.ensures, ← c.detected-detected.ensures)
     (writes_then _ _ _ _ _ _ wrote c.put_coverage.ensures)

@@ -10,9 +10,9 @@ returns-in_err-put_report g c =
 pub returns-in_err-put_class_coverage : goal.returns-in_err-put_class_coverage
 returns-in_err-put_class_coverage g c =
     let p = err_from_is_err_and c.from_residual-in_err-put_class_coverage.result
-        c.from_residual-in_err-put_class_coverage.ensures.1 in
+    c.from_residual-in_err-put_class_coverage.ensures.1 in
     rw (p.1) (stopped_after _ _ _ _ _ c.in_ok-put_report.ensures
-        c.in_err-put_class_coverage.ensures)
+    c.in_err-put_class_coverage.ensures)
 
 pub returns : goal.returns
 returns g c = takes_more _ _ _ _ _ c.in_ok-put_report.ensures c.in_ok-put_class_coverage.ensures

@@ -19,7 +19,7 @@ returns-clause-job c =
 pub returns-in_err-new-clause-refused : goal.returns-in_err-new-clause-refused
 returns-in_err-new-clause-refused c =
     let p = err_from_is_err_and c.from_residual-in_err-new.result
-        c.from_residual-in_err-new.ensures.1 in
+    c.from_residual-in_err-new.ensures.1 in
     let job : Parts = record {
       circuit = c.args.circuit;
       list = c.in_ok-faults.faults;
@@ -27,7 +27,7 @@ returns-in_err-new-clause-refused c =
       tests = c.args.tests;
     } in
     let is = job_is c.args.model c.args.circuit c.in_ok-faults.faults c.in_ok-classes.classes
-        c.args.tests
+    c.args.tests
     c.in_ok-faults.ensures c.in_ok-classes.ensures.classes c.requires in
     rw (p.1, p.2) (elim (job_refused Parts (max_pieces < piece_count job) c.in_err-new.field-0.0
-        c.in_err-new.ensures.too_many) [ inl h ↦ inl h | inr h ↦ inr (job, is, h) ])
+    c.in_err-new.ensures.too_many) [ inl h ↦ inl h | inr h ↦ inr (job, is, h) ])

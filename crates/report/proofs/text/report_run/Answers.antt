@@ -6,21 +6,28 @@ use Rattle.report.proofs.text.report_run.Goals as goal
 
 pub write_report-requires : goal.write_report-requires
 write_report-requires g c =
-    record { count = verdicts_counted c.args.job.now c.in_ok-verdicts.verdicts.firsts c.requires.job
-        c.in_ok-verdicts.ensures.firsts }
+    record {
+      count = verdicts_counted c.args.job.now c.in_ok-verdicts.verdicts.firsts c.requires.job
+          c.in_ok-verdicts.ensures.firsts;
+    }
 
 pub returns-in_err-write_report-clause-written : goal.returns-in_err-write_report-clause-written
 returns-in_err-write_report-clause-written g c =
     let p = err_from_is_err_and c.from_residual-in_err-write_report.result
-        c.from_residual-in_err-write_report.ensures.1 in
+    c.from_residual-in_err-write_report.ensures.1 in
     let job = c.args.job.now in
     let firsts = c.in_ok-verdicts.verdicts.firsts in
-    rw (p.1, p.2) (whole_report job.list.model job.circuit job.classes firsts c.args.contents,
-        (firsts, c.in_ok-verdicts.ensures.firsts, refl), c.in_err-write_report.ensures)
+    rw (p.1, p.2) (
+      whole_report job.list.model job.circuit job.classes firsts c.args.contents,
+      (firsts, c.in_ok-verdicts.ensures.firsts, refl),
+      c.in_err-write_report.ensures,
+    )
 
 pub returns-clause-written : goal.returns-clause-written
 returns-clause-written g c =
     let job = c.args.job.now in
-    let firsts = c.in_ok-verdicts.verdicts.firsts in
-    (whole_report job.list.model job.circuit job.classes firsts c.args.contents,
-        (firsts, c.in_ok-verdicts.ensures.firsts, refl), c.in_ok-write_report.ensures)
+    let firsts = c.in_ok-verdicts.verdicts.firsts in (
+      whole_report job.list.model job.circuit job.classes firsts c.args.contents,
+      (firsts, c.in_ok-verdicts.ensures.firsts, refl),
+      c.in_ok-write_report.ensures,
+    )

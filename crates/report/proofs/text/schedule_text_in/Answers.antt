@@ -12,24 +12,24 @@ pub returns-clause-written : goal.returns-clause-written
 returns-clause-written g c =
     let job = c.in_ok-job.job in
     let made = job_of_texts c.args.model c.args.bench.now c.args.tests.now c.in_ok-circuit.circuit
-        c.in_ok-circuit.tests job
+    c.in_ok-circuit.tests job
     c.in_ok-circuit.ensures.circuit c.in_ok-circuit.ensures.tests c.in_ok-job.ensures.job in
     written_as (IsReportOfJob job c.args.contents)
-        (IsReportOf c.args.model c.args.bench.now c.args.tests.now c.args.contents)
+    (IsReportOf c.args.model c.args.bench.now c.args.tests.now c.args.contents)
     c.report_schedule.result _ _ (report_of c.args.model c.args.bench.now c.args.tests.now
-        c.args.contents job made) c.report_schedule.ensures.written
+    c.args.contents job made) c.report_schedule.ensures.written
 
 pub returns-clause-refused : goal.returns-clause-refused
 returns-clause-refused g c =
     let job = c.in_ok-job.job in
     let made = job_of_texts c.args.model c.args.bench.now c.args.tests.now c.in_ok-circuit.circuit
-        c.in_ok-circuit.tests job
+    c.in_ok-circuit.tests job
     c.in_ok-circuit.ensures.circuit c.in_ok-circuit.ensures.tests c.in_ok-job.ensures.job in
     let moves = c.in_ok-moves.moves.items in
     refused_as (IsScheduleReportFault (piece_count job) moves c.args.workers)
-        (IsScheduleTextFault c.args.model c.args.bench.now c.args.tests.now c.args.order.now
-        c.args.workers)
+    (IsScheduleTextFault c.args.model c.args.bench.now c.args.tests.now c.args.order.now
+    c.args.workers)
     c.report_schedule.result
     (moves_fault c.args.model c.args.bench.now c.args.tests.now c.args.order.now c.args.workers job
-        moves (made, c.in_ok-job.ensures.few) c.in_ok-moves.ensures.moves)
+    moves (made, c.in_ok-job.ensures.few) c.in_ok-moves.ensures.moves)
     (rw (c.deref.ensures.value) at c.report_schedule.ensures.refused)

@@ -32,9 +32,9 @@ loop-place-preserved-in-Clear g c = record {
   found = found_clear c.args.job.now c.args.classes.now c.loop-place.place c.args.block
       c.class_at-class.result c.loop-place.firsts c.requires.together
       (listed_class c.args.job.now c.args.classes.now c.loop-place.place c.class_at-class.result
-          c.requires.classes c.class_at-class.ensures)
+      c.requires.classes c.class_at-class.ensures)
       c.requires.block c.class_at-class.ensures c.in-None.ensures c.in-Clear.ensures.outcome
-          c.loop-place.invariant.found;
+      c.loop-place.invariant.found;
   serves = c.in-Clear.ensures.serves;
 }
 
@@ -43,9 +43,9 @@ loop-place-preserved g c = record {
   found = found_hit c.args.job.now c.args.classes.now c.loop-place.place c.args.block
       c.class_at-class.result c.in-Hit.test c.loop-place.firsts c.requires.together
       (listed_class c.args.job.now c.args.classes.now c.loop-place.place c.class_at-class.result
-          c.requires.classes c.class_at-class.ensures)
+      c.requires.classes c.class_at-class.ensures)
       c.requires.block c.class_at-class.ensures c.in-None.ensures c.in-Hit.ensures.outcome
-          c.loop-place.invariant.found;
+      c.loop-place.invariant.found;
   serves = c.in-Hit.ensures.serves;
 }
 

@@ -20,7 +20,7 @@ loop-class-preserved c = record {
       let first : ℕ → Option ℕ = λ k. settled_at (status c.args.closed.now.shape h k) in
       let own = ap settled_at (c.in-Settled.ensures.status h l e) in
       c.in_ok-push.ensures.items ∙ ap (λ xs. xs ++ c.in-Settled.first ∷ [])
-          (c.loop-class.invariant.each h l e)
+      (c.loop-class.invariant.each h l e)
       ∙ ap (λ x. map first (below c.loop-class.class) ++ x ∷ []) own
       ∙ sym (map-append first (below c.loop-class.class) (c.loop-class.class ∷ []))
       ∙ ap (map first) (below_last c.loop-class.class);

@@ -21,10 +21,12 @@ returns-clause-firsts g c =
     let classes = c.args.classes.now in
     let closed = c.in_ok-closed.closed in
     let run : HasRun job (listed classes) c.args.workers closed = c.in_ok-closed.ensures.run in
-    let among : AreChosenOf job (listed classes) = record { few = c.requires.few;
-        each = λ k lt. c.requires.classes k 0 lt } in
+    let among : AreChosenOf job (listed classes) = record {
+      few = c.requires.few;
+      each = λ k lt. c.requires.classes k 0 lt;
+    } in
     run_class_firsts job classes c.args.workers closed c.in_ok-found.found.items
-        c.classes.ensures.together among run
+    c.classes.ensures.together among run
     (λ h l e. c.in_ok-found.ensures.firsts h l e
-        ∙ ap (λ n. map (λ k. settled_at (status closed.shape h k)) (below n))
-        (sym (ap (λ (s : Shape). s.classes) run.shape)))
+    ∙ ap (λ n. map (λ k. settled_at (status closed.shape h k)) (below n))
+    (sym (ap (λ (s : Shape). s.classes) run.shape)))

@@ -12,11 +12,11 @@ pub by_class-requires-clause-within : goal.by_class-requires-clause-within
 by_class-requires-clause-within g c =
     let job = c.args.job.now in
     let count = c.count-count.ensures
-        ∙ ap (λ (x : Collapsed). length x.representative) c.classes.ensures.part in
+    ∙ ap (λ (x : Collapsed). length x.representative) c.classes.ensures.part in
     subst (λ n. All (λ class. class < n) c.as_slice.result.now) (sym count)
     (subst (All (λ class. class < length job.classes.representative)) (sym c.as_slice.ensures.value)
-        (cut_within job c.args.parts c.in_ok-cut.cut.ranked.items c.in_ok-cut.cut.classes.items
-        c.in_ok-cut.ensures))
+    (cut_within job c.args.parts c.in_ok-cut.cut.ranked.items c.in_ok-cut.cut.classes.items
+    c.in_ok-cut.ensures))
 
 pub returns-clause-firsts : goal.returns-clause-firsts
 returns-clause-firsts g c =
@@ -26,22 +26,22 @@ returns-clause-firsts g c =
     let firsts = c.in_ok-gathered.gathered.items in
     let table = c.in_ok-table.table.items in
     let count = c.count-count.ensures
-        ∙ ap (λ (x : Collapsed). length x.representative) c.classes.ensures.part in
+    ∙ ap (λ (x : Collapsed). length x.representative) c.classes.ensures.part in
     let by : AreClassVerdicts n classes firsts (length classes) table =
     subst (λ k. AreClassVerdicts k classes firsts (length classes) table) count
     (subst (λ l. AreClassVerdicts c.count-count.result l firsts (length l) table)
-        c.as_slice.ensures.value
+    c.as_slice.ensures.value
     (subst (λ l. AreClassVerdicts c.count-count.result c.as_slice.result.now l
-        (length c.as_slice.result.now) table) c.as_slice-2.ensures.value c.in_ok-table.ensures)) in
+    (length c.as_slice.result.now) table) c.as_slice-2.ensures.value c.in_ok-table.ensures)) in
     let is : c.in_ok-found.found.items ≡ map (λ class. first_in (get_or table class OtherPart))
-        job.classes.class_of =
+    job.classes.class_of =
     c.in_ok-found.ensures.firsts ∙ ap
-        (λ (l : List PartVerdict). map (λ class. first_in (get_or l class OtherPart))
-        job.classes.class_of) c.as_slice-4.ensures.value in
+    (λ (l : List PartVerdict). map (λ class. first_in (get_or l class OtherPart))
+    job.classes.class_of) c.as_slice-4.ensures.value in
     subst (AreFirsts job.list.model job.circuit job.tests.tests) (sym c.of.ensures.firsts)
     (cut_firsts job c.args.parts c.in_ok-cut.cut.ranked.items classes firsts
-        c.in_ok-found.found.items table c.classes.ensures.together c.in_ok-cut.ensures
-        c.in_ok-gathered.ensures.gathered by is)
+    c.in_ok-found.found.items table c.classes.ensures.together c.in_ok-cut.ensures
+    c.in_ok-gathered.ensures.gathered by is)
 
 pub returns-clause-skipped : goal.returns-clause-skipped
 returns-clause-skipped g c =
@@ -51,21 +51,21 @@ returns-clause-skipped g c =
     let firsts = c.in_ok-gathered.gathered.items in
     let table = c.in_ok-table.table.items in
     let count = c.count-count.ensures
-        ∙ ap (λ (x : Collapsed). length x.representative) c.classes.ensures.part in
+    ∙ ap (λ (x : Collapsed). length x.representative) c.classes.ensures.part in
     let by : AreClassVerdicts n classes firsts (length classes) table =
     subst (λ k. AreClassVerdicts k classes firsts (length classes) table) count
     (subst (λ l. AreClassVerdicts c.count-count.result l firsts (length l) table)
-        c.as_slice.ensures.value
+    c.as_slice.ensures.value
     (subst (λ l. AreClassVerdicts c.count-count.result c.as_slice.result.now l
-        (length c.as_slice.result.now) table) c.as_slice-2.ensures.value c.in_ok-table.ensures)) in
+    (length c.as_slice.result.now) table) c.as_slice-2.ensures.value c.in_ok-table.ensures)) in
     let all : c.blocks-blocks.result ≡ blocks (length job.tests.tests) = c.blocks-blocks.ensures
-        ∙ ap (λ (t : TestList). blocks (length t.tests)) c.tests.ensures.part in
+    ∙ ap (λ (t : TestList). blocks (length t.tests)) c.tests.ensures.part in
     let is : c.skipped_behind-skipped.result ≡ pieces_behind c.blocks-blocks.result
-        (map first_in table) =
+    (map first_in table) =
     c.skipped_behind-skipped.ensures
-        ∙ ap (λ (l : List PartVerdict). pieces_behind c.blocks-blocks.result (map first_in l))
-        c.as_slice-3.ensures.value in
+    ∙ ap (λ (l : List PartVerdict). pieces_behind c.blocks-blocks.result (map first_in l))
+    c.as_slice-3.ensures.value in
     subst (AreBehindHits job) (sym c.of.ensures.skipped)
     (cut_hits job c.args.parts c.in_ok-cut.cut.ranked.items classes firsts table
-        c.blocks-blocks.result c.skipped_behind-skipped.result c.in_ok-cut.ensures
-        c.in_ok-gathered.ensures.gathered by all is)
+    c.blocks-blocks.result c.skipped_behind-skipped.result c.in_ok-cut.ensures
+    c.in_ok-gathered.ensures.gathered by all is)

@@ -12,6 +12,6 @@ loop-dones-preserved c = record {
   given = subst (λ d. AreGivenBack c.args.parts (c.loop-dones.yielded
       ++ d ∷ []) c.put_by_part-table.result.items) (sym c.in_ok-dones.was)
       (given_more c.args.parts c.loop-dones.yielded c.in_ok-dones.field-0 c.loop-dones.table.items
-          c.put_by_part-table.result.items c.loop-dones.invariant.given
-          c.put_by_part-table.ensures);
+      c.put_by_part-table.result.items c.loop-dones.invariant.given
+      c.put_by_part-table.ensures);
 }

@@ -8,9 +8,15 @@ pub loop-class-preserved : goal.loop-class-preserved
 loop-class-preserved c =
     let job = c.args.job.now in
     let count = c.count-count.ensures
-        ∙ ap (λ (x : Collapsed). length x.representative) c.classes.ensures.part in
+    ∙ ap (λ (x : Collapsed). length x.representative) c.classes.ensures.part in
     subst (AreNumbered job c.args.parts (c.loop-class.class + 1)) (sym c.in_ok-push.ensures.items)
-    (numbered_more job c.args.parts c.loop-class.class c.loop-class.ranked.items (record { part = _;
-        stem = _; class = _ }) c.loop-class.invariant refl
-    (record { within = omega (arith, c.loop-class-test.true, count);
-        stem = c.stem_of_class-stem.ensures.stem; part = refl }))
+    (numbered_more job c.args.parts c.loop-class.class c.loop-class.ranked.items (record {
+      part = _;
+      stem = _;
+      class = _;
+    }) c.loop-class.invariant refl
+    (record {
+      within = omega (arith, c.loop-class-test.true, count);
+      stem = c.stem_of_class-stem.ensures.stem;
+      part = refl;
+    }))

@@ -18,54 +18,54 @@ use Rattle.workers.proofs.schedule.run_schedule.Goals as goal
 told : (job : Parts) (s : Shape) (h : History) (f : Face) (firsts : List (Option ℕ)) → IsLegal s h
     → f ≡ face s h
     → ((g : History) → IsLegal f.shape g → f ≡ face f.shape g
-        → firsts ≡ verdicts f.shape g job.classes.class_of)
-        → firsts ≡ verdicts s h job.classes.class_of
+    → firsts ≡ verdicts f.shape g job.classes.class_of)
+    → firsts ≡ verdicts s h job.classes.class_of
 told job s h f firsts l e say =
     subst (λ (x : Shape). IsLegal x h → f ≡ face x h → firsts ≡ verdicts x h job.classes.class_of)
-        (ap (λ (x : Face). x.shape) e) (say h) l e
+    (ap (λ (x : Face). x.shape) e) (say h) l e
 
 pub take_turns-turned-requires-clause-history : goal.take_turns-turned-requires-clause-history
 take_turns-turned-requires-clause-history c =
     let job = c.args.job.now in
     let t = true_table job.list.model job.circuit job.tests.tests
-        c.faults.ensures.together.circuit.well_formed in
+    c.faults.ensures.together.circuit.well_formed in
     let s = shape_for job c.args.workers in
     let begins = c.in_ok-ledger.ensures.face in
     let a = played_on job t.0 s c.in_ok-ledger.ledger c.play-played.new.ledger [] c.args.moves.now
-        c.play-played.result.skipped c.play-played.result.changed
-        (ap (λ (x : Face). x.shape) begins) t.1 tt
+    c.play-played.result.skipped c.play-played.result.changed
+    (ap (λ (x : Face). x.shape) begins) t.1 tt
     begins c.play-played.ensures.moved in
     subst (λ (x : Shape). (g : History) × IsLegal x g × (c.play-played.new.ledger ≡ face x g))
-        (sym (ap (λ (x : Face). x.shape) a.0)) (moved t.0 s [] c.args.moves.now, a.1, a.0)
+    (sym (ap (λ (x : Face). x.shape) a.0)) (moved t.0 s [] c.args.moves.now, a.1, a.0)
 
 pub overflow_add-skipped : goal.overflow_add-skipped
 overflow_add-skipped c =
     let job = c.args.job.now in
     let t = true_table job.list.model job.circuit job.tests.tests
-        c.faults.ensures.together.circuit.well_formed in
+    c.faults.ensures.together.circuit.well_formed in
     let s = shape_for job c.args.workers in
     let is : IsShapeOf job s = record { classes = refl; tests = refl } in
     let x = scheduled job t.0 s c.args.moves.now c.in_ok-ledger.ledger c.play-played.new.ledger
-        c.take_turns-turned.new.ledger c.play-played.result.skipped c.take_turns-turned.result
+    c.take_turns-turned.new.ledger c.play-played.result.skipped c.take_turns-turned.result
     c.play-played.result.changed t.1 c.in_ok-ledger.ensures.face c.play-played.ensures.moved
-        c.take_turns-turned.ensures.moved in
+    c.take_turns-turned.ensures.moved in
     let few = skipped_few job s (schedule_history t.0 s c.args.moves.now) 0
-        (c.play-played.result.skipped + c.take_turns-turned.result) is c.in_ok-check_job.ensures.few
-        x.1 (x.2 ∙ omega arith) in
+    (c.play-played.result.skipped + c.take_turns-turned.result) is c.in_ok-check_job.ensures.few
+    x.1 (x.2 ∙ omega arith) in
     omega (arith, few)
 
 pub verdicts_of-requires-clause-settled : goal.verdicts_of-requires-clause-settled
 verdicts_of-requires-clause-settled c =
     let job = c.args.job.now in
     let t = true_table job.list.model job.circuit job.tests.tests
-        c.faults.ensures.together.circuit.well_formed in
+    c.faults.ensures.together.circuit.well_formed in
     let s = shape_for job c.args.workers in
     let x = scheduled job t.0 s c.args.moves.now c.in_ok-ledger.ledger c.play-played.new.ledger
-        c.take_turns-turned.new.ledger c.play-played.result.skipped c.take_turns-turned.result
+    c.take_turns-turned.new.ledger c.play-played.result.skipped c.take_turns-turned.result
     c.play-played.result.changed t.1 c.in_ok-ledger.ensures.face c.play-played.ensures.moved
-        c.take_turns-turned.ensures.moved in
+    c.take_turns-turned.ensures.moved in
     subst (λ (y : Shape). (h : History) × IsLegal y h × (c.take_turns-turned.new.ledger ≡ face y h)
-        × AreSettled y h y.classes) (sym (ap (λ (f : Face). f.shape) x.0))
+    × AreSettled y h y.classes) (sym (ap (λ (f : Face). f.shape) x.0))
     (schedule_history t.0 s c.args.moves.now, x.1, x.0, x.3)
 
 pub returns-clause-firsts : goal.returns-clause-firsts
@@ -76,26 +76,26 @@ returns-clause-firsts c =
     let s = shape_for job c.args.workers in
     let is : IsShapeOf job s = record { classes = refl; tests = refl } in
     let x = scheduled job t.0 s c.args.moves.now c.in_ok-ledger.ledger c.play-played.new.ledger
-        c.take_turns-turned.new.ledger c.play-played.result.skipped c.take_turns-turned.result
+    c.take_turns-turned.new.ledger c.play-played.result.skipped c.take_turns-turned.result
     c.play-played.result.changed t.1 c.in_ok-ledger.ensures.face c.play-played.ensures.moved
-        c.take_turns-turned.ensures.moved in
+    c.take_turns-turned.ensures.moved in
     let h : History = schedule_history t.0 s c.args.moves.now in
     let own = told job s h c.take_turns-turned.new.ledger c.in_ok-verdicts.verdicts.firsts x.1 x.0
-        c.in_ok-verdicts.ensures.firsts in
+    c.in_ok-verdicts.ensures.firsts in
     subst (AreFirsts job.list.model job.circuit job.tests.tests) (sym own)
     (firsts_of job s t.0 h together is t.1 (moved_true t.0 s [] (c.args.moves.now
-        ++ turns s.workers (2 * piece_count s)) tt) x.3)
+    ++ turns s.workers (2 * piece_count s)) tt) x.3)
 
 pub returns-clause-history : goal.returns-clause-history
 returns-clause-history c =
     let job = c.args.job.now in
     let t = true_table job.list.model job.circuit job.tests.tests
-        c.faults.ensures.together.circuit.well_formed in
+    c.faults.ensures.together.circuit.well_formed in
     let s = shape_for job c.args.workers in
     let x = scheduled job t.0 s c.args.moves.now c.in_ok-ledger.ledger c.play-played.new.ledger
-        c.take_turns-turned.new.ledger c.play-played.result.skipped c.take_turns-turned.result
+    c.take_turns-turned.new.ledger c.play-played.result.skipped c.take_turns-turned.result
     c.play-played.result.changed t.1 c.in_ok-ledger.ensures.face c.play-played.ensures.moved
-        c.take_turns-turned.ensures.moved in
+    c.take_turns-turned.ensures.moved in
     record {
       table = t.0;
       is_true = t.1;

@@ -10,10 +10,13 @@ loop-number-preserved c = record {
   few = All-same (λ (m : Member). m.number < c.args.workers) c.push.new.self.items _
       c.in_ok-push.ensures.items
       (All-push (λ (m : Member). m.number < c.args.workers) c.loop-number.crew.items
-          c.in_ok-new.field-0 c.loop-number.invariant.few (omega (arith, c.in_ok-new.ensures.number,
-          c.loop-number-test.true)));
+      c.in_ok-new.field-0 c.loop-number.invariant.few (omega (
+        arith,
+        c.in_ok-new.ensures.number,
+        c.loop-number-test.true,
+      )));
   serves = All-same (λ (m : Member). Serves m.simulation c.args.job.now) c.push.new.self.items _
       c.in_ok-push.ensures.items
       (All-push (λ (m : Member). Serves m.simulation c.args.job.now) c.loop-number.crew.items
-          c.in_ok-new.field-0 c.loop-number.invariant.serves c.in_ok-new.ensures.serves);
+      c.in_ok-new.field-0 c.loop-number.invariant.serves c.in_ok-new.ensures.serves);
 }

@@ -10,5 +10,5 @@ loop-part-preserved c = record {
   none = All-same (λ (at : Option Done). IfSome at (λ _. ⊥)) c.push.new.self.items _
       c.in_ok-push.ensures.items
       (All-push (λ (at : Option Done). IfSome at (λ _. ⊥)) c.loop-part.table.items None
-          c.loop-part.invariant.none tt);
+      c.loop-part.invariant.none tt);
 }

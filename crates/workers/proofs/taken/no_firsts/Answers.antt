@@ -9,5 +9,5 @@ loop-place-preserved c = record {
   none = All-same (λ (first : Option ℕ). first ≡ None) c.push.new.self.items _
       c.in_ok-push.ensures.items
       (All-push (λ (first : Option ℕ). first ≡ None) c.loop-place.firsts.items None
-          c.loop-place.invariant.none refl);
+      c.loop-place.invariant.none refl);
 }

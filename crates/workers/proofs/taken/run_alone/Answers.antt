@@ -12,22 +12,25 @@ between-own-requires-clause-order g c =
 pub between-own-requires-clause-within : goal.between-own-requires-clause-within
 between-own-requires-clause-within g c =
     start_within c.args.job.now c.requires.cut.0 (c.args.part + 1) c.start_of-end.result
-        c.args.cut.now.ranked.items c.args.cut.now.classes.items c.requires.cut.2
-        c.start_of-end.ensures
+    c.args.cut.now.ranked.items c.args.cut.now.classes.items c.requires.cut.2
+    c.start_of-end.ensures
 
 pub run_list-requires-clause-classes : goal.run_list-requires-clause-classes
 run_list-requires-clause-classes g c =
     subst (All (λ class. class < length c.args.job.now.classes.representative))
-        (sym c.between-own.ensures)
+    (sym c.between-own.ensures)
     (own_within c.args.job.now c.requires.cut.0 c.args.part c.start_of-start.result
-        c.start_of-end.result c.args.cut.now.ranked.items c.args.cut.now.classes.items
-        c.requires.cut.2 c.start_of-start.ensures
+    c.start_of-end.result c.args.cut.now.ranked.items c.args.cut.now.classes.items
+    c.requires.cut.2 c.start_of-start.ensures
     c.start_of-end.ensures)
 
 pub run_list-requires-clause-none : goal.run_list-requires-clause-none
 run_list-requires-clause-none g c =
     let sized = c.in_ok-firsts.firsts.ok.0 in
     subst (AreFoundUpTo c.args.job.now c.between-own.result.now 0 0)
-        (sym c.as_mut_slice-found.ensures.value)
-    (none_found c.args.job.now c.between-own.result.now c.in_ok-firsts.firsts.items (omega (arith,
-        sized, c.in_ok-firsts.ensures.count)) c.in_ok-firsts.ensures.none)
+    (sym c.as_mut_slice-found.ensures.value)
+    (none_found c.args.job.now c.between-own.result.now c.in_ok-firsts.firsts.items (omega (
+      arith,
+      sized,
+      c.in_ok-firsts.ensures.count,
+    )) c.in_ok-firsts.ensures.none)

@@ -8,13 +8,13 @@ pub verdicts_of-requires-clause-settled : goal.verdicts_of-requires-clause-settl
 verdicts_of-requires-clause-settled g c =
     let closed = c.in_ok-closed.closed in
     let run = subst (λ k. HasRun c.args.job.now (every k) c.args.workers closed)
-        c.classes.ensures.part c.in_ok-closed.ensures.run in
+    c.classes.ensures.part c.in_ok-closed.ensures.run in
     (run.history, run.legal, run.shows, run_settled c.args.job.now c.args.workers closed run)
 
 pub returns-clause-firsts : goal.returns-clause-firsts
 returns-clause-firsts g c =
     let closed = c.in_ok-closed.closed in
     let run = subst (λ k. HasRun c.args.job.now (every k) c.args.workers closed)
-        c.classes.ensures.part c.in_ok-closed.ensures.run in
+    c.classes.ensures.part c.in_ok-closed.ensures.run in
     run_firsts c.args.job.now c.args.workers closed run c.in_ok-verdicts.verdicts.firsts
-        c.classes.ensures.together c.in_ok-verdicts.ensures.firsts
+    c.classes.ensures.together c.in_ok-verdicts.ensures.firsts

@@ -20,8 +20,8 @@ loop-seat-preserved c =
           ∙ ap (λ l. l ++ c.in-Some.seat ∷ []) was.seats;
       fits = subst (All (λ (x : Worker). Serves x.simulation c.args.job.now)) (sym pushed)
           (All-append (λ (x : Worker). Serves x.simulation c.args.job.now) c.loop-seat.workers.items
-              (w ∷ []) was.fits
+          (w ∷ []) was.fits
           (All-cons (λ (x : Worker). Serves x.simulation c.args.job.now) w []
-              c.in_ok-simulation.ensures.serves
-              (All-nil (λ (x : Worker). Serves x.simulation c.args.job.now))));
+          c.in_ok-simulation.ensures.serves
+          (All-nil (λ (x : Worker). Serves x.simulation c.args.job.now))));
     }

@@ -10,5 +10,5 @@ invariant-loop-fault g l = record {
   count : vec_len l.firsts ≡ l.fault;
   each : (h : History) → IsLegal (g.L.Statuses.shape_of l.ledger) h → g.L.Statuses.Shows l.ledger h
       → l.firsts.items ≡ map (λ class. settled_at (status (g.L.Statuses.shape_of l.ledger) h class))
-          (take l.fault l.job.classes.class_of);
+      (take l.fault l.job.classes.class_of);
 }

@@ -14,32 +14,32 @@ unreachable-requires g c =
     let a = c.args.seat.now in
     let b = c.drop_piece.new.seat in
     let found : FindsNoHit a b = missed c.args.job.now (g.C.Chosen.chosen c.args.classes.now) a b
-        c.args.ledger.now c.args.class c.args.block c.requires.place c.requires.sitter
-        c.requires.shape c.requires.range.0 c.requires.piece
+    c.args.ledger.now c.args.class c.args.block c.requires.place c.requires.sitter
+    c.requires.shape c.requires.range.0 c.requires.piece
     c.in-Err.field-0 c.in-Err.ensures.refusal (λ e. c.in-Err.ensures.nothing_held (ap Err e))
-        (λ e. c.in-Err.ensures.no_earlier_hit (ap Err e)) in
+    (λ e. c.in-Err.ensures.no_earlier_hit (ap Err e)) in
     let truth = subst (λ k. IsTrueOutcome c.args.job.now.list.model c.args.job.now.circuit
-        c.args.job.now.tests.tests k c.args.block c.outcome_of-outcome.result) c.class_at.ensures
-        c.outcome_of-outcome.ensures.outcome in
+    c.args.job.now.tests.tests k c.args.block c.outcome_of-outcome.result) c.class_at.ensures
+    c.outcome_of-outcome.ensures.outcome in
     then_taken c.args.job.now (g.C.Chosen.chosen c.args.classes.now) a b c.args.ledger.now
-        c.args.class c.args.block c.requires.place c.requires.sitter c.requires.shape
-        c.requires.range.0 c.requires.piece
+    c.args.class c.args.block c.requires.place c.requires.sitter c.requires.shape
+    c.requires.range.0 c.requires.piece
     c.report.new.seat c.outcome_of-outcome.result found truth c.in_default.field-0
-        c.in_default.ensures.refused
+    c.in_default.ensures.refused
 
 pub returns-clause-works : goal.returns-clause-works
 returns-clause-works g c =
     let a = c.args.seat.now in
     let b = c.drop_piece.new.seat in
     let found : FindsNoHit a b = missed c.args.job.now (g.C.Chosen.chosen c.args.classes.now) a b
-        c.args.ledger.now c.args.class c.args.block c.requires.place c.requires.sitter
-        c.requires.shape c.requires.range.0 c.requires.piece
+    c.args.ledger.now c.args.class c.args.block c.requires.place c.requires.sitter
+    c.requires.shape c.requires.range.0 c.requires.piece
     c.in-Err.field-0 c.in-Err.ensures.refusal (λ e. c.in-Err.ensures.nothing_held (ap Err e))
-        (λ e. c.in-Err.ensures.no_earlier_hit (ap Err e)) in
+    (λ e. c.in-Err.ensures.no_earlier_hit (ap Err e)) in
     let truth = subst (λ k. IsTrueOutcome c.args.job.now.list.model c.args.job.now.circuit
-        c.args.job.now.tests.tests k c.args.block c.outcome_of-outcome.result) c.class_at.ensures
-        c.outcome_of-outcome.ensures.outcome in
+    c.args.job.now.tests.tests k c.args.block c.outcome_of-outcome.result) c.class_at.ensures
+    c.outcome_of-outcome.ensures.outcome in
     then_reported c.args.job.now (g.C.Chosen.chosen c.args.classes.now) a b c.args.ledger.now
-        c.args.class c.args.block c.requires.place c.requires.sitter c.requires.shape
-        c.requires.range.0 c.requires.piece
+    c.args.class c.args.block c.requires.place c.requires.sitter c.requires.shape
+    c.requires.range.0 c.requires.piece
     c.report.new.seat c.outcome_of-outcome.result found truth _ c.in-Ok-report.ensures.accepted

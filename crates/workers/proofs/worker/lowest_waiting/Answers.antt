@@ -11,7 +11,7 @@ returns-in-Waiting-clause-sees c = sees_twice c.args.seat.now c.loop-class.seat 
 pub returns-in-Waiting-clause-settled : goal.returns-in-Waiting-clause-settled
 returns-in-Waiting-clause-settled c =
     settled_sees c.args.ledger.now.shape c.loop-class.class c.loop-class.seat c.status.new.seat _
-        c.in-Waiting.ensures.seen c.loop-class.invariant.settled
+    c.in-Waiting.ensures.seen c.loop-class.invariant.settled
 
 pub loop-class-preserved : goal.loop-class-preserved
 loop-class-preserved c =
@@ -21,6 +21,6 @@ loop-class-preserved c =
           c.loop-class.invariant.sees c.status.ensures.seen;
       settled = settled_more c.args.ledger.now.shape c.loop-class.class c.status.new.seat.seen n.0
           (settled_sees c.args.ledger.now.shape c.loop-class.class c.loop-class.seat
-              c.status.new.seat _ c.status.ensures.seen c.loop-class.invariant.settled)
+          c.status.new.seat _ c.status.ensures.seen c.loop-class.invariant.settled)
           (sym c.status.ensures.status ∙ n.1);
     }

@@ -8,8 +8,8 @@ pub returns : goal.returns
 returns c =
     let own = c.self.inside in
     let standing = standing_of own.circuit own.lists.pins.items own.lists.readers.items
-        own.lists.rows.items own.lists.standings.items c.args.signal c.index.result.now
-        c.self.invariant
+    own.lists.rows.items own.lists.standings.items c.args.signal c.index.result.now
+    c.self.invariant
     (subst (λ x. c.args.signal < length (names x)) (sym c.self.view_is) c.requires)
-        c.index.ensures in
+    c.index.ensures in
     subst (λ x. HasLevel x c.args.signal c.index.result.now.level) c.self.view_is standing.level

@@ -12,11 +12,15 @@ returns-clause-count c =
     let view = c.self.view_is in
     let counted = length-map c.self.inside.rows.items (λ row. row.items) in
     let tests = ap (λ p. groups (length p.tests.tests)) view in
-    let within : c.args.group < length c.self.inside.rows.items = omega (arith,
-        c.self.invariant.count, counted, tests) in
+    let within : c.args.group < length c.self.inside.rows.items = omega (
+      arith,
+      c.self.invariant.count,
+      counted,
+      tests,
+    ) in
     let row = c.self.invariant.fault_free c.args.group c.index.result.now.items
-        (mapped_get (λ row. row.items) c.self.inside.rows.items c.args.group c.index.result.now
-        within c.index.ensures) in
+    (mapped_get (λ row. row.items) c.self.inside.rows.items c.args.group c.index.result.now
+    within c.index.ensures) in
     ap length c.as_slice.ensures.value ∙ (row.0 ∙ ap (λ p. length (names p.circuit)) view)
 
 pub returns-clause-words : goal.returns-clause-words
@@ -24,11 +28,15 @@ returns-clause-words c =
     let view = c.self.view_is in
     let counted = length-map c.self.inside.rows.items (λ row. row.items) in
     let tests = ap (λ p. groups (length p.tests.tests)) view in
-    let within : c.args.group < length c.self.inside.rows.items = omega (arith,
-        c.self.invariant.count, counted, tests) in
+    let within : c.args.group < length c.self.inside.rows.items = omega (
+      arith,
+      c.self.invariant.count,
+      counted,
+      tests,
+    ) in
     let row = c.self.invariant.fault_free c.args.group c.index.result.now.items
-        (mapped_get (λ row. row.items) c.self.inside.rows.items c.args.group c.index.result.now
-        within c.index.ensures) in
+    (mapped_get (λ row. row.items) c.self.inside.rows.items c.args.group c.index.result.now
+    within c.index.ensures) in
     subst (λ p. AreWords p.circuit p.tests.tests c.args.group None c.as_slice.result.now) view
     (subst (λ words. AreWords c.self.inside.flat c.self.inside.tests.tests c.args.group None words)
-        (sym c.as_slice.ensures.value) row.1)
+    (sym c.as_slice.ensures.value) row.1)

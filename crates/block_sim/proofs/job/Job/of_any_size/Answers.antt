@@ -11,17 +11,21 @@ next_with_stem-requires-clause-stems c = λ k d lt.
     let same = ap (λ xs. slice_index_or xs k d) c.as_slice.ensures.value in
     let long : k < length items = subst (λ xs. k < length xs) c.as_slice.ensures.value lt in
     let within = (c.in_ok-class_stems.ensures.stems k (slice_index_or items k d)
-        (slice_get-get_or items k d long)).0 in
+    (slice_get-get_or items k d long)).0 in
     let signals = ap (λ x. length (names x)) c.circuit.ensures in
     omega (arith, within, same, signals, c.signals-signals.ensures.count)
 
 pub invariant_of-result : goal.invariant_of-result
 invariant_of-result c =
     let counted : length c.as_slice.result.now ≡ length c.args.classes.representative =
-        ap length c.as_slice.ensures.value ∙ c.in_ok-class_stems.ensures.count in
+    ap length c.as_slice.ensures.value ∙ c.in_ok-class_stems.ensures.count in
     record {
-      together = subst (λ x. BelongTogether (record { circuit = x; list = c.args.faults;
-          classes = c.args.classes; tests = c.args.tests })) (sym c.in_ok-flat.ensures) c.requires;
+      together = subst (λ x. BelongTogether (record {
+        circuit = x;
+        list = c.args.faults;
+        classes = c.args.classes;
+        tests = c.args.tests;
+      })) (sym c.in_ok-flat.ensures) c.requires;
       count = c.in_ok-rows.ensures.count;
       fault_free = c.in_ok-rows.ensures.rows;
       stem_count = c.in_ok-class_stems.ensures.count;

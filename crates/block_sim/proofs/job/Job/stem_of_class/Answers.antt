@@ -8,20 +8,28 @@ pub returns-clause-stem : goal.returns-clause-stem
 returns-clause-stem c =
     let own = c.self.inside in
     let view = c.self.view_is in
-    let within : c.args.class < length own.class_stems.items = omega (arith,
-        c.self.invariant.stem_count, ap (λ p. length p.classes.representative) view, c.requires) in
+    let within : c.args.class < length own.class_stems.items = omega (
+      arith,
+      c.self.invariant.stem_count,
+      ap (λ p. length p.classes.representative) view,
+      c.requires,
+    ) in
     let stem = c.self.invariant.stems c.args.class c.index.result.now
-        (slice_get_read own.class_stems.items (length own.class_stems.items) c.args.class
-        c.index.result.now refl within c.index.ensures) in
+    (slice_get_read own.class_stems.items (length own.class_stems.items) c.args.class
+    c.index.result.now refl within c.index.ensures) in
     subst (λ p. IsStemOfClass p.list.model p.circuit c.args.class c.index.result.now) view stem.1
 
 pub returns-clause-within : goal.returns-clause-within
 returns-clause-within c =
     let own = c.self.inside in
     let view = c.self.view_is in
-    let within : c.args.class < length own.class_stems.items = omega (arith,
-        c.self.invariant.stem_count, ap (λ p. length p.classes.representative) view, c.requires) in
+    let within : c.args.class < length own.class_stems.items = omega (
+      arith,
+      c.self.invariant.stem_count,
+      ap (λ p. length p.classes.representative) view,
+      c.requires,
+    ) in
     let stem = c.self.invariant.stems c.args.class c.index.result.now
-        (slice_get_read own.class_stems.items (length own.class_stems.items) c.args.class
-        c.index.result.now refl within c.index.ensures) in
+    (slice_get_read own.class_stems.items (length own.class_stems.items) c.args.class
+    c.index.result.now refl within c.index.ensures) in
     subst (λ p. c.index.result.now < length (names p.circuit)) view stem.0

@@ -17,30 +17,49 @@ pub index-requires-2 : goal.index-requires-2
 index-requires-2 c =
     let counted = length-map c.self.inside.rows.items (λ row. row.items) in
     let tests = ap (λ p. groups (length p.tests.tests)) c.self.view_is in
-    let within : c.args.block / 2 < length c.self.inside.rows.items = omega (arith,
-        c.self.invariant.count, counted, tests, c.requires.block) in
+    let within : c.args.block / 2 < length c.self.inside.rows.items = omega (
+      arith,
+      c.self.invariant.count,
+      counted,
+      tests,
+      c.requires.block,
+    ) in
     let row = c.self.invariant.fault_free (c.args.block / 2) c.index.result.now.items
-        (mapped_get (λ row. row.items) c.self.inside.rows.items
-        (c.args.block / 2) c.index.result.now within c.index.ensures) in
-    omega (arith, row.0, ap (λ p. length (names p.circuit)) c.self.view_is, c.requires.signal,
-        c.index.result.now.ok.0)
+    (mapped_get (λ row. row.items) c.self.inside.rows.items
+    (c.args.block / 2) c.index.result.now within c.index.ensures) in
+    omega (
+      arith,
+      row.0,
+      ap (λ p. length (names p.circuit)) c.self.view_is,
+      c.requires.signal,
+      c.index.result.now.ok.0,
+    )
 
 pub returns : goal.returns
 returns c =
     let counted = length-map c.self.inside.rows.items (λ row. row.items) in
     let tests = ap (λ p. groups (length p.tests.tests)) c.self.view_is in
-    let within : c.args.block / 2 < length c.self.inside.rows.items = omega (arith,
-        c.self.invariant.count, counted, tests, c.requires.block) in
+    let within : c.args.block / 2 < length c.self.inside.rows.items = omega (
+      arith,
+      c.self.invariant.count,
+      counted,
+      tests,
+      c.requires.block,
+    ) in
     let row = c.self.invariant.fault_free (c.args.block / 2) c.index.result.now.items
-        (mapped_get (λ row. row.items) c.self.inside.rows.items
-        (c.args.block / 2) c.index.result.now within c.index.ensures) in
-    let in_row : c.args.signal < length c.index.result.now.items = omega (arith, row.0,
-        ap (λ p. length (names p.circuit)) c.self.view_is, c.requires.signal) in
+    (mapped_get (λ row. row.items) c.self.inside.rows.items
+    (c.args.block / 2) c.index.result.now within c.index.ensures) in
+    let in_row : c.args.signal < length c.index.result.now.items = omega (
+      arith,
+      row.0,
+      ap (λ p. length (names p.circuit)) c.self.view_is,
+      c.requires.signal,
+    ) in
     let read : c.index-2.result.now ≡ get_or c.index.result.now.items c.args.signal 0 =
-        get_or_read c.index.result.now.items c.args.signal _ in_row c.index-2.ensures 0 in
+    get_or_read c.index.result.now.items c.args.signal _ in_row c.index-2.ensures 0 in
     subst (λ p. IsFaultFreeWord p.circuit p.tests.tests c.args.block c.args.signal
-        c.block_word.result) c.self.view_is
+    c.block_word.result) c.self.view_is
     (fault_free_lane c.self.inside.flat c.self.inside.tests.tests c.args.block c.args.signal
-        c.index.result.now.items c.block_word.result c.self.invariant.together.circuit.well_formed
-        row.1
+    c.index.result.now.items c.block_word.result c.self.invariant.together.circuit.well_formed
+    row.1
     (λ k j lt place. c.block_word.ensures k j lt place ∙ ap (λ w. lane w j) read))

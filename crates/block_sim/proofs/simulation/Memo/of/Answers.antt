@@ -29,13 +29,16 @@ returns-clause-truth c = λ job class is told.
     let block = span.first / 2 * 2 + k / 64 in
     let place : 128 * (span.first / 2) + k ≡ 64 * block + k % 64 = omega arith in
     let h = hit_at job.circuit job.tests.tests span told.0 word is told.2 k block (k % 64) found.0
-        (ap (λ x. x == 1) found.1) (λ j lt. ap (λ x. x == 1) (found.2 j lt)) place (omega arith) in
+    (ap (λ x. x == 1) found.1) (λ j lt. ap (λ x. x == 1) (found.2 j lt)) place (omega arith) in
     let to = h.1 in (
       λ b from lt. (
         told.0,
         told.1,
-        clear_before job.circuit job.tests.tests span told.0 word is told.2 b from (omega (arith,
-            lt, to))
+        clear_before job.circuit job.tests.tests span told.0 word is told.2 b from (omega (
+          arith,
+          lt,
+          to,
+        ))
             (λ j low. ap (λ x. x == 1) (found.2 j (omega (arith, low, lt)))),
       ),
       (told.0, told.1, h.2),
@@ -53,6 +56,6 @@ returns-clause-known c =
     let job = c.requires.told.0 in
     let told = c.requires.told.3 in
     let h = hit_at job.circuit job.tests.tests span told.0 word c.requires.told.2 told.2 k block
-        (k % 64) found.0 (ap (λ x. x == 1) found.1) (λ j lt. ap (λ x. x == 1) (found.2 j lt)) place
-        (omega arith) in
+    (k % 64) found.0 (ap (λ x. x == 1) found.1) (λ j lt. ap (λ x. x == 1) (found.2 j lt)) place
+    (omega arith) in
     between_first span.first block h.0

@@ -10,14 +10,17 @@ returns c = λ k lt.
     let one = c.requires.one_group in
     let size : c.size_of.result ≡ min 64 (tests - 64 * last) = c.size_of.ensures in
     let d = lanes_between c.lanes_below.result c.lanes_below-2.result (first % 2 * 64)
-        (last % 2 * 64 + c.size_of.result) k (omega arith) lt (c.lanes_below.ensures k lt)
-        (c.lanes_below-2.ensures k lt) in (
+    (last % 2 * 64 + c.size_of.result) k (omega arith) lt (c.lanes_below.ensures k lt)
+    (c.lanes_below-2.ensures k lt) in (
       λ e.
           let h = d.0 e in
           let up = h.0 in
           let low = h.1 in
-          record { from = omega (arith, up); to = omega (arith, low, size, one);
-              listed = omega (arith, low, size, one) },
+          record {
+            from = omega (arith, up);
+            to = omega (arith, low, size, one);
+            listed = omega (arith, low, size, one);
+          },
       λ i.
           let from = i.from in
           let to = i.to in

@@ -10,7 +10,7 @@ use Rattle.block_sim.proofs.spread.Extent.followed.Goals as goal
 pub returns-in-FirstHits-clause-within : goal.returns-in-FirstHits-clause-within
 returns-in-FirstHits-clause-within c = λ k lt e.
     left_of (lane c.args.lanes k) (lane c.below_hits.result k)
-        (sym (lane_and c.args.lanes c.below_hits.result k) ∙ e)
+    (sym (lane_and c.args.lanes c.below_hits.result k) ∙ e)
 
 pub returns-in-FirstHits-clause-rest : goal.returns-in-FirstHits-clause-rest
 returns-in-FirstHits-clause-rest c = λ k lt own out. subst (λ x. IsSettled x c.args.seen k)

@@ -24,7 +24,7 @@ invariant_of-self c =
     subst (λ l. AreBuckets l (all_next (slice_set slots c.args.gate slot)) heads (own.waiting + 1))
     (sym (at_put slots c.args.gate slot))
     (subst (λ l. AreBuckets (slice_set (all_at slots) c.args.gate slot.at) l heads
-        (own.waiting + 1))
+    (own.waiting + 1))
     (sym (next_put slots c.args.gate slot))
     (subst (λ h. AreBuckets (slice_set (all_at slots) c.args.gate slot.at)
     (slice_set (all_next slots) c.args.gate h) heads (own.waiting + 1)) head
@@ -36,4 +36,4 @@ returns-clause-at c =
     let slots = c.self.inside.slots.items in
     let slot : Slot = record { at = c.args.level + 1; next = c.index-next.result.now } in
     at_put slots c.args.gate slot
-        ∙ ap (λ w. slice_set w.at c.args.gate (c.args.level + 1)) c.self.view_is
+    ∙ ap (λ w. slice_set w.at c.args.gate (c.args.level + 1)) c.self.view_is

@@ -19,7 +19,7 @@ returns-then-head-eq0-clause-none c =
       refl,
       λ gate. subst (λ w. slice_index_or w.at gate 0 ≡ c.args.level + 1 → ⊥) c.self.view_is
           (none_waits (all_at c.self.inside.slots.items) (all_next c.self.inside.slots.items)
-              c.self.inside.heads.items
+          c.self.inside.heads.items
           c.self.inside.waiting c.args.level c.self.invariant low empty gate),
     )
 
@@ -109,5 +109,5 @@ returns-clause-some c =
           ≡ c.args.level + 1) c.self.view_is here,
       at_put c.self.inside.slots.items (c.index-head.result.now - 1)
           (record { at = 0; next = c.index.result.now.next })
-      ∙ ap (λ w. slice_set w.at (c.index-head.result.now - 1) 0) c.self.view_is,
+          ∙ ap (λ w. slice_set w.at (c.index-head.result.now - 1) 0) c.self.view_is,
     )

@@ -22,7 +22,7 @@ pub returns : goal.returns
 returns c =
     let names : texts_in c.in_ok-part.part.faults.items ≡ texts_in c.args.self.faults.items =
     ap texts_in (sym c.as_slice-2.ensures.value)
-        ∙ (sym c.in_ok-check_names.ensures.same ∙ ap texts_in c.as_slice.ensures.value) in
+    ∙ (sym c.in_ok-check_names.ensures.same ∙ ap texts_in c.as_slice.ensures.value) in
     record {
       merged = record {
         head = head_in c.in_ok-part.part.header;
@@ -35,8 +35,12 @@ returns c =
         faults_are = refl;
         joined = joined_items _ _ _ _ _ _ _ c.in_ok-join.ensures.joined c.deref_mut.ensures.value
             c.as_slice-3.ensures.value
-            (omega (arith, c.args.self.verdicts.ok.0, c.in_ok-join.ensures.joined.count,
-                ap (λ l. length l) c.deref_mut.ensures.value));
+            (omega (
+              arith,
+              c.args.self.verdicts.ok.0,
+              c.in_ok-join.ensures.joined.count,
+              ap (λ l. length l) c.deref_mut.ensures.value,
+            ));
         seen = c.in_ok-add_part.ensures;
       };
       refused = tt;

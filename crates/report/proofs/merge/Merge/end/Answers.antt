@@ -21,9 +21,11 @@ returns-in_err-firsts-clause-refused c =
 pub returns-then-is_empty-clause-refused : goal.returns-then-is_empty-clause-refused
 returns-then-is_empty-clause-refused c =
     let at = rw (c.as_slice.ensures.value) at c.in_default.ensures in
-    let verdicts = rw (c.as_slice-2.ensures.value) at c.in_ok-firsts.ensures.firsts in
-    (at, no_verdict _ _ _ verdicts (omega (arith, c.in_ok-firsts.firsts.ok.0))
-        (sym c.if-is_empty.ensures))
+    let verdicts = rw (c.as_slice-2.ensures.value) at c.in_ok-firsts.ensures.firsts in (
+      at,
+      no_verdict _ _ _ verdicts (omega (arith, c.in_ok-firsts.firsts.ok.0))
+          (sym c.if-is_empty.ensures),
+    )
 
 pub returns-then-len-clause-refused : goal.returns-then-len-clause-refused
 returns-then-len-clause-refused c =

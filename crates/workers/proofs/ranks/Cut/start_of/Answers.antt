@@ -14,9 +14,9 @@ returns c =
     let same : list ≡ rows = c.deref.ensures.value in
     let rise = parts_rise c.requires.0 c.requires.1 rows c.requires.2.ranked_are in
     let parted = IsPartitionedBy-ltb (λ (at : Ranked). at.part) list part
-        (subst (IsNonDecreasingBy (λ (at : Ranked). at.part)) (sym same) rise) in
+    (subst (IsNonDecreasingBy (λ (at : Ranked). at.part)) (sym same) rise) in
     let point = IsPartitionPoint-from_clause (λ (at : Ranked). ltb at.part part) list
-        c.partition_point.result c.partition_point.ensures.partitioned parted
-        (λ a r q k. search rules) in
+    c.partition_point.result c.partition_point.ensures.partitioned parted
+    (λ a r q k. search rules) in
     subst (λ l. IsStart l part c.partition_point.result) same
-        (starts list part c.partition_point.result c.partition_point.ensures.bound point)
+    (starts list part c.partition_point.result c.partition_point.ensures.bound point)

@@ -17,5 +17,5 @@ invariant-loop-member g l =
           → ((get_or (vec_items l.handles) k d).promise.job.value ≡ l.job.now)
           × ((get_or (vec_items l.handles) k d).promise.cut.value ≡ l.cut.now)
           × ((get_or (vec_items l.handles) k d).promise.gate.value ≡ l.gate.now)
-              × ((get_or (vec_items l.handles) k d).promise.worker < l.count);
+          × ((get_or (vec_items l.handles) k d).promise.worker < l.count);
     }

@@ -18,6 +18,6 @@ invariant-loop-worker g l =
           → ((get_or (vec_items l.handles) k d).promise.job.value ≡ l.job.now)
           × ((get_or (vec_items l.handles) k d).promise.ledger.value ≡ l.ledger.now)
           × ((get_or (vec_items l.handles) k d).promise.gate.value ≡ l.gate.now)
-              × ((get_or (vec_items l.handles) k d).promise.worker ≡ k)
+          × ((get_or (vec_items l.handles) k d).promise.worker ≡ k)
           × ((get_or (vec_items l.handles) k d).promise.chosen.value ≡ l.chosen.now);
     }
