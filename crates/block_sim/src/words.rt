@@ -13,6 +13,7 @@ ghost use Rattle.fault_model.specs.declared.Line.TheVariants.{Pin};
 ghost use Rattle.fault_model.specs.Solution.{is_odd, value, under};
 ghost use Rattle.patterns.specs.Tests.{IsWord, blocks};
 ghost use Rattle.block_sim.specs.Spans.{groups};
+ghost use Rattle.block_sim.specs.Flat.{HasEnds};
 ghost use Rattle.block_sim.specs.Forms.{IsFormOf, turned};
 ghost use Rattle.block_sim.specs.Words.{lane, overlaid, pin_bits, AreWords, IsGroupWord};
 ghost use Rattle.block_sim.specs.Words.{IsSignalWord};
@@ -63,11 +64,13 @@ fn pin_word(
     line: Gate<'_>,
     gate: u32,
     place: usize,
+    signal: u32,
     fault: Option<Stuck>,
     words: &[u128],
     delta: &[u128],
 ) -> u128
     requires place { place < length line.pins.now }
+    requires reads { slice_index_or line.pins.now place 0 ≡ signal }
     requires pins_in { All (λ p. p < length words.now) line.pins.now }
     requires same { length words.now ≤ length delta.now }
     requires few { length line.pins.now ≤ max_sinks }
@@ -78,8 +81,8 @@ fn pin_word(
         gate,
         pin: place as u32,
     };
-    let signal = line.pins[place] as usize;
-    seen(fault, own, words[signal] ^ delta[signal])
+    let at = signal as usize;
+    seen(fault, own, words[at] ^ delta[at])
 }
 
 /// What the words of a gate's pins come to: their AND, of each turned where the form asks for that,
@@ -104,6 +107,7 @@ fn folds_of(
     requires pins_in { All (λ p. p < length words.now) line.pins.now }
     requires same { length words.now ≤ length delta.now }
     requires few { length line.pins.now ≤ max_sinks }
+    requires ends { HasEnds line.pins.now line.first line.last }
     ensures all { (k : ℕ) → k < 128
         → lane result.all k ≡ list_all (λ b. turned line.entry.form.turns_pins b)
         (pin_bits (fault_of fault) gate line.entry.pins.now words.now delta.now k) }
@@ -112,15 +116,16 @@ fn folds_of(
 {
     let turned = in_each_lane(line.form.turns_pins);
     let last = line.pins.len() - 1;
-    let first = pin_word(line, gate, 0, fault, words, delta);
+    let first = pin_word(line, gate, 0, line.first, fault, words, delta);
     let mut all = first ^ turned;
     let mut odd = first;
     for place in 1..last {
-        let word = pin_word(line, gate, place, fault, words, delta);
+        let signal = line.pins[place];
+        let word = pin_word(line, gate, place, signal, fault, words, delta);
         all &= word ^ turned;
         odd ^= word;
     }
-    let word = pin_word(line, gate, last, fault, words, delta);
+    let word = pin_word(line, gate, last, line.last, fault, words, delta);
     Folds {
         all: all & (word ^ turned),
         odd: odd ^ (word & in_each_lane(last > 0)),
@@ -142,6 +147,7 @@ pub fn evaluate_gate(
     requires pins_in { All (λ p. p < length words.now) line.pins.now }
     requires same { length words.now ≤ length delta.now }
     requires few { length line.pins.now ≤ max_sinks }
+    requires ends { HasEnds line.pins.now line.first line.last }
     ensures value { (k : ℕ) → k < 128
         → lane result k ≡ value line.entry.kind
         (pin_bits (fault_of fault) gate line.entry.pins.now words.now delta.now k) }
