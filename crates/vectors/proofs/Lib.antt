@@ -10,3 +10,4 @@ pub mod Listings
 pub mod Pairs
 pub mod Coverage
 pub mod Answered
+pub mod Compacted
