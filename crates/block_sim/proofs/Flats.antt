@@ -23,7 +23,7 @@ use Rattle.block_sim.specs.Flat.{AreReaders, IsRow, HasMore, AreRows, IsFlat, Is
 use Rattle.block_sim.specs.Flat.{AreStandings, HasEnds}
 use Rattle.block_sim.proofs.Readers.{read_sink}
 use Rattle.block_sim.proofs.Rows.{pushed_get}
-use Rattle.block_sim.proofs.Woken.{same_gate, at_end}
+use Rattle.block_sim.proofs.ScheduledGates.{same_gate, at_end}
 
 -- ---- parts of a list
 range_kept : {X : Type 0} (xs ys : List X) (a b : ℕ) → a ≤ b → b ≤ length xs
