@@ -9,7 +9,7 @@ use Rattle.std.proofs.lemmas.Bool.{cases_eq, false≢true, ltb-true, lt-ltb, le-
 use Rattle.std.proofs.lemmas.Bool.{or_left, or_right, or_cases}
 use Rattle.bench_net.specs.Statement.{Statement}
 use Rattle.lists.proofs.Members.{Among, among}
-use Rattle.block_sim.specs.Events.{Reads, IsLive, AreWoken}
+use Rattle.block_sim.specs.Events.{Reads, IsLive, AreScheduled}
 use Rattle.block_sim.specs.Spreading.{is_ahead}
 
 abbrev weight : Bool → ℕ
@@ -95,15 +95,15 @@ ahead_taken lv at level g gates within here waits listed =
         go (inr ne) (inr other) = ahead_waits lv at level x
             (λ h. ne (get_or-set_other at g x 0 0 other ∙ h))
 
--- gates that are woken lie above the level, so they were ahead before
-pub ahead_woken : (c : List Statement) (lv : ℕ → ℕ) (before after : List ℕ) (level s : ℕ)
-    (gates : List ℕ) → ((r : ℕ) → Reads c r s → level < lv r) → AreWoken c lv s before after
+-- gates that are scheduled lie above the level, so they were ahead before
+pub ahead_scheduled : (c : List Statement) (lv : ℕ → ℕ) (before after : List ℕ) (level s : ℕ)
+    (gates : List ℕ) → ((r : ℕ) → Reads c r s → level < lv r) → AreScheduled c lv s before after
     → count_by (is_ahead lv after level) gates ≤ count_by (is_ahead lv before level) gates
-ahead_woken c lv before after level s gates above woken =
+ahead_scheduled c lv before after level s gates above scheduled =
     count_le (is_ahead lv before level) (is_ahead lv after level) gates kept
   where
     kept : (x : ℕ) → is_ahead lv after level x ≡ true → is_ahead lv before level x ≡ true
-    kept x e = go (ahead_cases lv after level x e) (woken.only x)
+    kept x e = go (ahead_cases lv after level x e) (scheduled.only x)
       where
         go : (level < lv x) ⊎ (slice_index_or after x 0 ≢ 0)
             → (slice_index_or after x 0 ≡ slice_index_or before x 0)
@@ -159,10 +159,11 @@ pub waiting_less : (lv : ℕ → ℕ) (at taken new : List ℕ) (g now : ℕ) �
     → ((r : ℕ) → (slice_index_or new r 0 ≡ slice_index_or taken r 0)
     ⊎ ((lv g < lv r) × (slice_index_or new r 0 ≡ lv r + 1)))
     → count_by (λ x. x == now + 1) new < count_by (λ x. x == now + 1) at
-waiting_less lv at taken new g now within e is here long woken =
+waiting_less lv at taken new g now within e is here long scheduled =
     let less = count_taken at g now within e in
     let same = ap (count_by (λ x. x == now + 1)) is in
-    let le = count_places (λ x. x == now + 1) taken new long (λ r now_at. go r now_at (woken r)) in
+    let le = count_places (λ x. x == now + 1) taken new long
+    (λ r now_at. go r now_at (scheduled r)) in
     omega (arith, less, same, le)
   where
     go : (r : ℕ) → (slice_index_or new r 0 == now + 1) ≡ true

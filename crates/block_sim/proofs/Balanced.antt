@@ -12,7 +12,7 @@ use Rattle.bench_net.specs.Circuit.{IsWellFormed}
 use Rattle.fault_model.specs.Fault.{Fault}
 use Rattle.fault_model.specs.Solution.{Test, Solves, value}
 use Rattle.block_sim.specs.Words.{lane, lane_bits, pin_bits, test_of, AreWords}
-use Rattle.block_sim.specs.Events.{bits_of, HasEquation, Reads, IsElsewhere, IsLive, AreWoken}
+use Rattle.block_sim.specs.Events.{bits_of, HasEquation, Reads, IsElsewhere, IsLive, AreScheduled}
 use Rattle.block_sim.specs.Spreading.{IsBalanced}
 use Rattle.block_sim.proofs.Bridge.{lane_same}
 use Rattle.block_sim.proofs.Equated.{each_equation, all_equations, equation_same}
@@ -61,9 +61,9 @@ module _ (c : List Statement) (counts : ℕ → Type 0) (tests : List Test) (gro
           → ((s : ℕ) → counts s → Reads c s g → IsLive c s)
           → ((k : ℕ) → k < 128 → lane mask k ≡ true
           → lane (bit_xor (slice_index_or good g 0) diff) k ≡ lane word k)
-          → AreWoken c lv g (set at g 0) after
+          → AreScheduled c lv g (set at g 0) after
           → IsBalanced c counts tests group f good mask (set delta g diff) after
-      balanced_changed diff after within live changed woken s k is_counted idle lt in_mask =
+      balanced_changed diff after within live changed scheduled s k is_counted idle lt in_mask =
           go (cases_eq s g)
         where
           here : HasEquation c (test_of tests group k) (Some (f k))
@@ -75,7 +75,7 @@ module _ (c : List Statement) (counts : ℕ → Type 0) (tests : List Test) (gro
               (get_or-set_same delta g diff 0 within) ∙ (changed k lt in_mask ∙ valued k lt))
 
           before : s ≢ g → slice_index_or at s 0 ≡ 0
-          before ne = by (woken.only s)
+          before ne = by (scheduled.only s)
             where
               by : (slice_index_or after s 0 ≡ slice_index_or (set at g 0) s 0)
                   ⊎ ((Reads c s g × IsLive c s) × (slice_index_or (set at g 0) s 0 ≡ 0)
@@ -89,7 +89,7 @@ module _ (c : List Statement) (counts : ℕ → Type 0) (tests : List Test) (gro
               (bits_of c good (set delta g diff) k)) (sym e) here
           go (inr ne) = equation_kept c (test_of tests group k) (Some (f k)) good delta g diff s k
               ne
-              (λ r. woken.readers s r (live s is_counted r) idle)
+              (λ r. scheduled.readers s r (live s is_counted r) idle)
               (balanced s k is_counted (before ne) lt in_mask)
 
   -- ---- where the fault is
@@ -111,12 +111,13 @@ module _ (c : List Statement) (counts : ℕ → Type 0) (tests : List Test) (gro
   pub balanced_first : (lv : ℕ → ℕ) (delta at after : List ℕ) (s diff : ℕ)
       → AreWords c tests group None good → ((t : ℕ) → slice_index_or delta t 0 ≡ 0)
       → ((t k : ℕ) → t ≢ s → IsElsewhere (f k) t) → ((t : ℕ) → counts t → Reads c t s → IsLive c t)
-      → AreWoken c lv s at after
+      → AreScheduled c lv s at after
       → ((k : ℕ) → k < 128 → lane mask k ≡ true
       → HasEquation c (test_of tests group k) (Some (f k)) (bits_of c good (set delta s diff) k)
       s)
       → IsBalanced c counts tests group f good mask (set delta s diff) after
-  balanced_first lv delta at after s diff words clear off live woken holds t k is_counted idle lt
+  balanced_first lv delta at after s diff words clear off live scheduled holds t k is_counted idle
+      lt
       in_mask = go (cases_eq t s)
     where
       go : (t ≡ s) ⊎ (t ≢ s) → HasEquation c (test_of tests group k) (Some (f k))
@@ -124,5 +125,5 @@ module _ (c : List Statement) (counts : ℕ → Type 0) (tests : List Test) (gro
       go (inl e) = subst (HasEquation c (test_of tests group k) (Some (f k))
           (bits_of c good (set delta s diff) k)) (sym e) (holds k lt in_mask)
       go (inr ne) = equation_kept c (test_of tests group k) (Some (f k)) good delta s diff t k ne
-          (λ r. woken.readers t r (live t is_counted r) idle)
+          (λ r. scheduled.readers t r (live t is_counted r) idle)
           (fault_free_holds delta t k words clear (off t k ne) lt)

@@ -44,12 +44,12 @@ unlike_turns false b x e is h = let n : false ≡ b = h ∙ sym e in false≢tru
 
 module _ (c : List Statement) (well : IsWellFormed c) (tests : List Test) (group : ℕ) (f : Fault)
     (good : List ℕ) (words : AreWords c tests group None good) (lanes : ℕ) where
-  -- a fault on a stem has come to its signal in the lanes in which it turns it
-  pub stem_come : (s turned : ℕ) (n : Name) → name_of c s ≡ Some n → f.line ≡ line.Stem s
-      → ((k : ℕ) → k < 128 → Decides (lane turned k) ((lane lanes k ≡ true)
+  -- a fault on a stem has come to its signal in the lanes in which it is excited
+  pub stem_come : (s excited : ℕ) (n : Name) → name_of c s ≡ Some n → f.line ≡ line.Stem s
+      → ((k : ℕ) → k < 128 → Decides (lane excited k) ((lane lanes k ≡ true)
       × (lane_bits c good k n ≢ f.stuck)))
-      → HasCome c tests group f lanes s turned
-  stem_come s turned n at on is k lt in_lanes = (there, λ p. back p.0 p.1)
+      → HasCome c tests group f lanes s excited
+  stem_come s excited n at on is k lt in_lanes = (there, λ p. back p.0 p.1)
     where
       a : Among n (names c)
       a = at_place (names c) s n at
@@ -60,7 +60,7 @@ module _ (c : List Statement) (well : IsWellFormed c) (tests : List Test) (group
       own : f.line ≡ line.Stem (signal c n)
       own = on ∙ ap line.Stem (sym number)
 
-      there : Detects c (test_of tests group k) f → (lane turned k ≡ true)
+      there : Detects c (test_of tests group k) f → (lane excited k ≡ true)
           × DetectsFlip c (test_of tests group k) s
       there d =
           let h = stem_there c well (test_of tests group k) f n a own d in
@@ -72,7 +72,7 @@ module _ (c : List Statement) (well : IsWellFormed c) (tests : List Test) (group
             subst (DetectsFlip c (test_of tests group k)) number h.1,
           )
 
-      back : lane turned k ≡ true → DetectsFlip c (test_of tests group k) s
+      back : lane excited k ≡ true → DetectsFlip c (test_of tests group k) s
           → Detects c (test_of tests group k) f
       back e d =
           let w = has_solutions c well (test_of tests group k) (Some f) in
@@ -151,7 +151,7 @@ module _ (c : List Statement) (well : IsWellFormed c) (tests : List Test) (group
 
       back : lane diff k ≡ true → DetectsFlip c (test_of tests group k) gate
           → Detects c (test_of tests group k) f
-      back turned d =
+      back excited d =
           let w = has_solutions c well (test_of tests group k) (Some f) in
           let alters : Alters c (test_of tests group k) f (signal c e.name) = record {
             fault_free = lane_bits c good k;
@@ -161,7 +161,7 @@ module _ (c : List Statement) (well : IsWellFormed c) (tests : List Test) (group
             solves_faulty = w.1;
             named = name_of-signal c e.name (contained (names c) e.name named);
             differs = unlike_turns (lane_bits c good k e.name) (lane diff k) (w.0 e.name)
-                (faulty_is w.0 w.1) turned;
+                (faulty_is w.0 w.1) excited;
           } in
           entered_back c well (test_of tests group k) f e alters
           (subst (DetectsFlip c (test_of tests group k)) (sym number) d)
@@ -171,13 +171,13 @@ module _ (c : List Statement) (well : IsWellFormed c) (tests : List Test) (group
         let e = pin_enters m c f gate pin at on in
         (there e.0 e.1 k lt in_lanes, λ p. back e.0 e.1 k lt in_lanes p.0 p.1)
 
-  -- at an observer what is turned is detected
-  pub observer_told : (m : Model) (turned : ℕ) (n : Name) → Contains (faults m c) f
+  -- at an observer what is excited is detected
+  pub observer_told : (m : Model) (excited : ℕ) (n : Name) → Contains (faults m c) f
       → start_of f.line ≡ None → carried c f.line ≡ Some n
-      → ((k : ℕ) → k < 128 → Decides (lane turned k) ((lane lanes k ≡ true)
+      → ((k : ℕ) → k < 128 → Decides (lane excited k) ((lane lanes k ≡ true)
       × (lane_bits c good k n ≢ f.stuck))) → (k : ℕ) → k < 128
-      → Decides (lane turned k) ((lane lanes k ≡ true) × Detects c (test_of tests group k) f)
-  observer_told m turned n at none carries is k lt = (
+      → Decides (lane excited k) ((lane lanes k ≡ true) × Detects c (test_of tests group k) f)
+  observer_told m excited n at none carries is k lt = (
     λ e. (let d = (is k lt).0 e in (
       d.0,
       law.1 (

@@ -1,5 +1,5 @@
 -- The end of a simulation by events: what was seen is what the fault shows, and what was evaluated
--- was stirred.
+-- was active.
 use Rattle.std.proofs.Common.{◌≡◌, ◌≢◌, ◌<◌, ◌≤◌, ℕ, ◌+◌, ◌*◌, refl, sym, ◌∙◌, ap, subst, Bool}
 use Rattle.std.proofs.Common.{true, false, not, List, [], length, set, arith, inl, inr, ◌⊎◌}
 use Rattle.std.specs.Prelude.{Contains, Some, None, slice_get, slice_index_or}
@@ -21,7 +21,7 @@ use Rattle.block_sim.specs.First.{AreTold}
 use Rattle.block_sim.specs.Regions.{AreLanesFor}
 use Rattle.block_sim.proofs.Told.{told_of_lanes}
 use Rattle.block_sim.specs.Words.{lane, lane_bits, test_of, AreWords}
-use Rattle.block_sim.specs.Stirred.{AreInGroup, IsStirredIn, IsStirredBy, HasStirredIn}
+use Rattle.block_sim.specs.ActiveGates.{AreInGroup, IsActiveIn, IsActiveBy, HasActiveIn}
 use Rattle.block_sim.specs.Spans.{group_of}
 use Rattle.block_sim.specs.declared.span.Span.{Span}
 use Rattle.block_sim.specs.Events.{bits_of, HasEquation, Reads, IsElsewhere, observed}
@@ -148,11 +148,11 @@ module _ (c : List Statement) (tests : List Test) (group : ℕ) (f : ℕ
           (λ e. differ (e ∙ sym (shown k v o there same))) in
           false≢true (sym none ∙ are.shown (signal c o.1) k lt m (o, there, refl) here)
 
-  -- a gate that reads a signal that differs is stirred
-  pub touched_stirred : (g s : ℕ) → AreWords c tests group None good → AreInGroup tests group lanes
+  -- a gate that reads a signal that differs is active
+  pub touched_active : (g s : ℕ) → AreWords c tests group None good → AreInGroup tests group lanes
       → ((t k : ℕ) → t ≢ start → IsElsewhere (f k) t) → ((a b : ℕ) → Reads c a b → lv b < lv a)
-      → Reads c g s → slice_index_or delta s 0 ≢ 0 → IsStirredIn c tests group lanes f g
-  touched_stirred g s words sized elsewhere rises r ne =
+      → Reads c g s → slice_index_or delta s 0 ≢ 0 → IsActiveIn c tests group lanes f g
+  touched_active g s words sized elsewhere rises r ne =
       let d = h.some s ne in
       let own = h.inside s d.0 d.1 d.2 in
       let place = within_place tests (128 * group + d.0) (sized d.0 d.1 own) in
@@ -163,7 +163,7 @@ module _ (c : List Statement) (tests : List Test) (group : ℕ) (f : ℕ
         d.1,
         own,
         place.1,
-        subst (λ t. IsStirredBy c t (f d.0) g) same (stirred d.0 d.1 d.2),
+        subst (λ t. IsActiveBy c t (f d.0) g) same (active d.0 d.1 d.2),
       )
     where
       off : (k : ℕ) → IsElsewhere (f k) g
@@ -173,9 +173,9 @@ module _ (c : List Statement) (tests : List Test) (group : ℕ) (f : ℕ
       pin : (i : ℕ) × (slice_get r.args i ≡ Some r.read)
       pin = placed r.args r.read (among r.args r.read r.reads)
 
-      stirred : (k : ℕ) → k < 128 → lane (slice_index_or delta s 0) k ≡ true
-          → IsStirredBy c (test_of tests group k) (f k) g
-      stirred k lt differs =
+      active : (k : ℕ) → k < 128 → lane (slice_index_or delta s 0) k ≡ true
+          → IsActiveBy c (test_of tests group k) (f k) g
+      active k lt differs =
           let u = has_solutions c well (test_of tests group k) (Some (f k)) in
           let named : Contains (names c) r.read =
           read_named c (Gate r.name r.kind r.args) r.read well (among c _ r.gate)
@@ -203,12 +203,12 @@ module _ (c : List Statement) (tests : List Test) (group : ℕ) (f : ℕ
                 (slice_index_or delta (signal c r.read) 0) k)));
           }
 
-  pub stirred_touched : (gates : List ℕ) → AreWords c tests group None good
+  pub active_touched : (gates : List ℕ) → AreWords c tests group None good
       → AreInGroup tests group lanes
       → ((t k : ℕ) → t ≢ start → IsElsewhere (f k) t) → ((a b : ℕ) → Reads c a b → lv b < lv a)
-      → HasStirredIn c tests group lanes f gates → HasTouched c delta gates
-  stirred_touched gates words sized elsewhere rises all g s r ne =
-      all g (touched_stirred g s words sized elsewhere rises r ne)
+      → HasActiveIn c tests group lanes f gates → HasTouched c delta gates
+  active_touched gates words sized elsewhere rises all g s r ne =
+      all g (touched_active g s words sized elsewhere rises r ne)
 
   -- above the last level no gate waits
   pub none_above : (levels : ℕ) → levels ≤ level → ((g : ℕ) → g < length (names c) → lv g < levels)

@@ -13,7 +13,7 @@ use Rattle.lists.proofs.Members.{among}
 use Rattle.fault_model.specs.Fault.{Fault}
 use Rattle.fault_model.specs.Solution.{Test}
 use Rattle.block_sim.specs.Words.{lane, test_of, AreWords}
-use Rattle.block_sim.specs.Events.{bits_of, HasEquation, Reads, IsElsewhere, IsLive, AreWoken}
+use Rattle.block_sim.specs.Events.{bits_of, HasEquation, Reads, IsElsewhere, IsLive, AreScheduled}
 use Rattle.block_sim.specs.Spreading.{IsSpreading, IsBalanced, Counts, IsRightIn, ahead, is_ahead}
 use Rattle.block_sim.proofs.Lanes.{lane_zero}
 use Rattle.block_sim.proofs.Balanced.{balanced_first}
@@ -42,10 +42,10 @@ module _ (c : List Statement) (tests : List Test) (group : ℕ) (f : ℕ
     → Fault) (good : List ℕ) (lanes : ℕ) (lv : ℕ → ℕ) (start : ℕ) (well : IsWellFormed c)
     (rises : (g s : ℕ) → Reads c g s → lv s < lv g)
     (delta at after : List ℕ) (idle : (t : ℕ)
-    → slice_index_or at t 0 ≡ 0) (woken : AreWoken c lv start at after) where
+    → slice_index_or at t 0 ≡ 0) (scheduled : AreScheduled c lv start at after) where
   which : (r : ℕ) → slice_index_or after r 0 ≢ 0 → (Reads c r start × IsLive c r)
       × (slice_index_or after r 0 ≡ lv r + 1)
-  which r ne = go (woken.only r)
+  which r ne = go (scheduled.only r)
     where
       go : (slice_index_or after r 0 ≡ slice_index_or at r 0)
           ⊎ ((Reads c r start × IsLive c r) × (slice_index_or at r 0 ≡ 0)
@@ -94,7 +94,7 @@ module _ (c : List Statement) (tests : List Test) (group : ℕ) (f : ℕ
           (set delta start diff) after
       balanced_now = balanced_first c (Counts c lv start) tests group f good lanes lv delta at after
           start diff words clear off (λ t is_counted reads. reader_live c lv start rises start t
-          (omega arith) is_counted reads) woken holds
+          (omega arith) is_counted reads) scheduled holds
 
       not_below : (g : ℕ) → slice_index_or after g 0 ≢ 0 → lv start ≤ lv g
       not_below g ne = let up = rises g start (which g ne).0.0 in omega (arith, up)
@@ -131,7 +131,7 @@ module _ (c : List Statement) (tests : List Test) (group : ℕ) (f : ℕ
       some s ne (inr other) = absurd (ne (kept s other))
 
       idle_here : slice_index_or after start 0 ≡ 0
-      idle_here = go (woken.only start)
+      idle_here = go (scheduled.only start)
         where
           go : (slice_index_or after start 0 ≡ slice_index_or at start 0)
               ⊎ ((Reads c start start × IsLive c start) × (slice_index_or at start 0 ≡ 0)

@@ -20,10 +20,10 @@ use Rattle.block_sim.specs.declared.flat.Reader.{Reader}
 use Rattle.block_sim.specs.Events.{Reads, IsLive}
 use Rattle.block_sim.specs.declared.flat.Standing.{Standing}
 use Rattle.block_sim.specs.Flat.{AreReaders, IsRow, HasMore, AreRows, IsFlat, IsStanding}
-use Rattle.block_sim.specs.Flat.{AreStandings}
+use Rattle.block_sim.specs.Flat.{AreStandings, HasEnds}
 use Rattle.block_sim.proofs.Readers.{read_sink}
 use Rattle.block_sim.proofs.Rows.{pushed_get}
-use Rattle.block_sim.proofs.Woken.{same_gate, at_end}
+use Rattle.block_sim.proofs.ScheduledGates.{same_gate, at_end}
 
 -- ---- parts of a list
 range_kept : {X : Type 0} (xs ys : List X) (a b : ℕ) → a ≤ b → b ≤ length xs
@@ -141,6 +141,7 @@ row_kept c pins more_pins readers more_readers s row pins_more readers_more h =
       pins_in = (h.pins_in.0, omega (arith, h.pins_in.1, pins_long));
       readers_in = (h.readers_in.0, omega (arith, h.readers_in.1, readers_long));
       driven = ap (λ own. option_map (λ driver. (driver.kind, own)) row.driver) pins_are ∙ h.driven;
+      ends = subst (λ own. HasEnds own row.first row.last) (sym pins_are) h.ends;
       formed = h.formed;
       read_by = subst (AreReaders c s) (sym readers_are) h.read_by;
       observed = h.observed;

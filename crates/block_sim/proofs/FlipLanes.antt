@@ -17,10 +17,10 @@ use Rattle.fault_model.proofs.Public.{detection_is_of_any_solution, has_solution
 use Rattle.block_sim.specs.Regions.{DetectsFlip, TellsFirstFlips, flip, flips}
 use Rattle.block_sim.specs.declared.spread.Followed.{Followed}
 use Rattle.block_sim.specs.Spreading.{AreShown, IsFirstChange}
-use Rattle.block_sim.specs.Stirred.{HasStirredIn}
+use Rattle.block_sim.specs.ActiveGates.{HasActiveIn}
 use Rattle.block_sim.specs.Spans.{AreInSpan, IsInSpan, group_of}
 use Rattle.block_sim.specs.declared.span.Span.{Span}
-use Rattle.block_sim.specs.Ways.{HasStirredByFlip}
+use Rattle.block_sim.specs.Ways.{HasActiveByFlip}
 use Rattle.block_sim.specs.Words.{lane, lane_bits, test_of, AreWords}
 use Rattle.block_sim.proofs.Flips.{bit_is}
 use Rattle.block_sim.proofs.Lanes.{lane_xor, unlike}
@@ -61,12 +61,12 @@ module _ (c : List Statement) (well : IsWellFormed c) (tests : List Test) (group
     ap (λ x. lane (slice_index_or good x 0) k) number,
   )
 
-  -- what the faults that turn it round stir is what it stirs turned round
-  pub flips_stir : (span : Span) (lanes : ℕ) (gates : List ℕ) → group_of span ≡ group
+  -- what the faults that turn it round make active is what it makes active turned round
+  pub flips_activate : (span : Span) (lanes : ℕ) (gates : List ℕ) → group_of span ≡ group
       → AreInSpan tests span lanes
-      → HasStirredByFlip c tests span s gates
-      → HasStirredIn c tests group lanes (flips good s) gates
-  flips_stir span lanes gates own within all gate h =
+      → HasActiveByFlip c tests span s gates
+      → HasActiveIn c tests group lanes (flips good s) gates
+  flips_activate span lanes gates own within all gate h =
       let is : test_of tests group h.0 ≡ h.1 = index_of tests (128 * group + h.0) h.1 [] h.4 in
       let bit = lane (slice_index_or good s 0) h.0 in
       all gate (

@@ -13,7 +13,7 @@ use Rattle.fault_model.specs.declared.Line.TheVariants as line
 use Rattle.fault_model.specs.Fault.{Fault}
 use Rattle.fault_model.specs.Solution.{under, is_odd, value}
 use Rattle.block_sim.specs.declared.form.Form.{Form}
-use Rattle.block_sim.specs.Forms.{IsFormOf, turned}
+use Rattle.block_sim.specs.Forms.{IsFormOf, inverted}
 use Rattle.block_sim.specs.Words.{lane, overlaid, pin_bits}
 use Rattle.block_sim.proofs.Lanes.{lane_and, lane_xor, lane_zero, lane_ones, unlike}
 
@@ -52,23 +52,23 @@ pins_counted f gate pins words delta k = pins_counted_from f gate pins words del
 is_odd_push : (bits : List Bool) (b : Bool) → is_odd (bits ++ b ∷ []) ≡ unlike (is_odd bits) b
 is_odd_push [] true = refl
 is_odd_push [] false = refl
-is_odd_push (true ∷ bits) b = ap not (is_odd_push bits b) ∙ turned (is_odd bits)
+is_odd_push (true ∷ bits) b = ap not (is_odd_push bits b) ∙ inverted (is_odd bits)
   where
-    turned : (x : Bool) → not (unlike x b) ≡ unlike (not x) b
-    turned true = twice b
+    inverted : (x : Bool) → not (unlike x b) ≡ unlike (not x) b
+    inverted true = twice b
       where
         twice : (y : Bool) → not (not y) ≡ y
         twice true = refl
         twice false = refl
-    turned false = refl
+    inverted false = refl
 is_odd_push (false ∷ bits) b = is_odd_push bits b
 
 -- a word that turns a bit round in each lane or in none
-turned_there : (b turn : Bool) → unlike b turn ≡ turned turn b
-turned_there true true = refl
-turned_there true false = refl
-turned_there false true = refl
-turned_there false false = refl
+inverted_there : (b turn : Bool) → unlike b turn ≡ inverted turn b
+inverted_there true true = refl
+inverted_there true false = refl
+inverted_there false true = refl
+inverted_there false false = refl
 
 -- where a loop from 1 to the last of n pins ends
 pub at_last : (n i : ℕ) → 0 < i → i ≤ n → n - 1 ≤ i → (1 ≤ n - 1 → i ≤ n - 1)
@@ -79,12 +79,12 @@ at_last n i started within passed at = go (cases_eq (n - 1) 0)
     go (inl none) = inr (omega (arith, none, started, within), none)
     go (inr some) = let le = at (omega (arith, some)) in inl (omega (arith, le, passed))
 
--- In each lane: whether the bits that the first pins see, turned round or not, are all 1, and an
+-- In each lane: whether the bits that the first pins see, inverted round or not, are all 1, and an
 -- odd number of them 1.
 pub record AreFolds (f : Option Fault) (gate : ℕ) (pins words delta : List ℕ) (turn : Bool)
     (i all odd : ℕ) : Type 0 where
   pub all_is : (k : ℕ) → k < 128
-      → lane all k ≡ list_all (λ b. turned turn b) (take i (pin_bits f gate pins words delta k))
+      → lane all k ≡ list_all (λ b. inverted turn b) (take i (pin_bits f gate pins words delta k))
   pub odd_is : (k : ℕ) → k < 128 → lane odd k ≡ is_odd (take i (pin_bits f gate pins words delta k))
 
 module _ (f : Option Fault) (gate : ℕ) (pins words delta : List ℕ) where
@@ -109,9 +109,9 @@ module _ (f : Option Fault) (gate : ℕ) (pins words delta : List ℕ) where
           lane_xor word flips k,
           bit k below,
           flip k below,
-          turned_there (slice_index_or (pin_bits f gate pins words delta k) i false) turn,
+          inverted_there (slice_index_or (pin_bits f gate pins words delta k) i false) turn,
         ) refl
-        ∙ sym (list_all_more (λ b. turned turn b) (pin_bits f gate pins words delta k) i false
+        ∙ sym (list_all_more (λ b. inverted turn b) (pin_bits f gate pins words delta k) i false
         (within k)));
     odd_is = λ k below.
         lane_xor odd word k ∙ (rw (h.odd_is k below, bit k below) refl
@@ -154,7 +154,7 @@ module _ (f : Option Fault) (gate : ℕ) (pins words delta : List ℕ) where
       (bit_and all (bit_xor word flips)) (bit_xor odd (bit_and word other))
   folds_last turn flips i last all odd word other count (inl e) flip others h is more = record {
     all_is = λ k lt. whole.all_is k lt
-        ∙ ap (λ n. list_all (λ b. turned turn b) (take n (pin_bits f gate pins words delta k)))
+        ∙ ap (λ n. list_all (λ b. inverted turn b) (take n (pin_bits f gate pins words delta k)))
         long;
     odd_is = λ k lt.
         lane_xor odd (bit_and word other) k
@@ -186,7 +186,8 @@ module _ (f : Option Fault) (gate : ℕ) (pins words delta : List ℕ) where
       record {
         all_is = λ k lt. lane_and all (bit_xor word flips) k
             ∙ (rw (h.all_is k lt, same k lt) (twice _)
-            ∙ ap (λ n. list_all (λ b. turned turn b) (take n (pin_bits f gate pins words delta k)))
+            ∙ ap (λ n. list_all (λ b. inverted turn b)
+            (take n (pin_bits f gate pins words delta k)))
             long);
         odd_is = λ k lt.
             lane_xor odd (bit_and word other) k
@@ -219,10 +220,10 @@ module _ (f : Option Fault) (gate : ℕ) (pins words delta : List ℕ) where
           (λ k lt. subst (λ j. lane word k ≡ under f (line.Pin gate j)
           (lane (overlaid words delta (slice_index_or pins j 0)) k)) none (is k lt))
 
-      same : (k : ℕ) → k < 128 → lane (bit_xor word flips) k ≡ list_all (λ b. turned turn b)
+      same : (k : ℕ) → k < 128 → lane (bit_xor word flips) k ≡ list_all (λ b. inverted turn b)
           (take i (pin_bits f gate pins words delta k))
       same k lt = only.all_is k lt ∙ ap
-          (λ n. list_all (λ b. turned turn b) (take n (pin_bits f gate pins words delta k)))
+          (λ n. list_all (λ b. inverted turn b) (take n (pin_bits f gate pins words delta k)))
           (sym one)
 
   -- and so of all pins
@@ -235,24 +236,25 @@ module _ (f : Option Fault) (gate : ℕ) (pins words delta : List ℕ) where
   module _ (turn : Bool) (all odd : ℕ) (h : AreFolds f gate pins words delta turn
       (length pins) all odd) where
     pub folds_all : (k : ℕ) → k < 128
-        → lane all k ≡ list_all (λ b. turned turn b) (pin_bits f gate pins words delta k)
-    folds_all k lt = h.all_is k lt ∙ ap (list_all (λ b. turned turn b)) (whole k)
+        → lane all k ≡ list_all (λ b. inverted turn b) (pin_bits f gate pins words delta k)
+    folds_all k lt = h.all_is k lt ∙ ap (list_all (λ b. inverted turn b)) (whole k)
 
     pub folds_odd : (k : ℕ) → k < 128 → lane odd k ≡ is_odd (pin_bits f gate pins words delta k)
     folds_odd k lt = h.odd_is k lt ∙ ap is_odd (whole k)
 
 -- the word of a form
 pub form_lane : (kind : Kind) (form : Form) (bits : List Bool) (all odd core flips k : ℕ)
-    → IsFormOf kind form → lane flips k ≡ form.turns
-    → lane all k ≡ list_all (λ b. turned form.turns_pins b) bits → lane odd k ≡ is_odd bits
+    → IsFormOf kind form → lane flips k ≡ form.inverts_output
+    → lane all k ≡ list_all (λ b. inverted form.inverts_inputs b) bits → lane odd k ≡ is_odd bits
     → ((form.is_xor ≡ true) × (core ≡ odd)) ⊎ ((form.is_xor ≡ false) × (core ≡ all))
     → lane (bit_xor core flips) k ≡ value kind bits
 form_lane kind form bits all odd core flips k formed flip all_is odd_is chosen =
-    lane_xor core flips k ∙ (ap (unlike (lane core k)) flip ∙ (turned_there (lane core k) form.turns
-    ∙ (ap (turned form.turns) (go chosen) ∙ formed bits)))
+    lane_xor core flips k ∙ (ap (unlike (lane core k)) flip
+    ∙ (inverted_there (lane core k) form.inverts_output
+    ∙ (ap (inverted form.inverts_output) (go chosen) ∙ formed bits)))
   where
     go : ((form.is_xor ≡ true) × (core ≡ odd)) ⊎ ((form.is_xor ≡ false) × (core ≡ all))
         → lane core k ≡ (if form.is_xor then is_odd bits else list_all
-        (λ b. turned form.turns_pins b) bits)
+        (λ b. inverted form.inverts_inputs b) bits)
     go (inl (xor, e)) = ap (λ w. lane w k) e ∙ (odd_is ∙ rw xor refl)
     go (inr (and, e)) = ap (λ w. lane w k) e ∙ (all_is ∙ rw and refl)

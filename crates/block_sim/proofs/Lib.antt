@@ -22,7 +22,7 @@ mod FirstChange
 mod Rises
 mod Steps
 mod Readers
-mod Woken
+mod ScheduledGates
 mod Flats
 mod Forms
 mod Seen

@@ -19,7 +19,8 @@ use Rattle.block_sim.proofs.LevelOrder.{order_within}
 use Rattle.block_sim.proofs.Placed.{index_of}
 use Rattle.block_sim.proofs.Readers.{read_sink, reader_within}
 use Rattle.block_sim.proofs.Stems.{behind}
-use Rattle.block_sim.proofs.Woken.{HasObserver, at_end, observer_all, observer_found, sink_gate}
+use Rattle.block_sim.proofs.ScheduledGates.{HasObserver, at_end, observer_all, observer_found}
+use Rattle.block_sim.proofs.ScheduledGates.{sink_gate}
 
 module _ (c : List Statement) (lv : ℕ → ℕ) (start : ℕ) (rises : (g s : ℕ) → Reads c g s
     → lv s < lv g) where

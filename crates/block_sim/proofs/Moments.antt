@@ -17,7 +17,7 @@ use Rattle.fault_model.specs.Solution.{Test, value}
 use Rattle.event_queue.proofs.Public.{index_zero}
 use Rattle.block_sim.specs.declared.changes.Changes.{Changes}
 use Rattle.block_sim.specs.Changes.{HasRoomFor, IsAsLarge, IsClear, IsTaken}
-use Rattle.block_sim.specs.Events.{level_at, AreWoken, IsObserved}
+use Rattle.block_sim.specs.Events.{level_at, AreScheduled, IsObserved}
 use Rattle.block_sim.specs.Moments.{Case, Leads, Moment, Spreads, left, moment}
 use Rattle.block_sim.specs.Spreading.{IsFirstChange, IsSpreading, AreSeen, ahead}
 use Rattle.block_sim.specs.Words.{lane, pin_bits}
@@ -195,11 +195,12 @@ module _ (c : List Statement) (good : List ℕ) (lanes : ℕ) where
           → ((k : ℕ) → k < 128 → lane diff k ≡ true → lane kept k ≡ true)
           → ((k : ℕ) → k < 128 → lane kept k ≡ true
           → lane (bit_xor (slice_index_or good gate 0) diff) k ≡ lane word k)
-          → ((level : Name → ℕ) → AreLevels c level → AreWoken c (level_at c level) gate at new)
+          → ((level : Name → ℕ) → AreLevels c level → AreScheduled c (level_at c level) gate at new)
           → ((k : ℕ) → k < 128 → Decides (lane shown k) (IsObserved c gate × (lane diff k ≡ true)))
           → Leads c good lanes (moment_of delta (slice_set at gate (level + 1)) before level kept
           seen) (moment_of now new after level kept (bit_or seen shown))
-      leads_changed diff shown now new clear is_now differs a_lane in_kept changed woken observed =
+      leads_changed diff shown now new clear is_now differs a_lane in_kept changed scheduled
+          observed =
           subst (λ x. Leads c good lanes
           (moment_of delta (slice_set at gate (level + 1)) before level
           kept seen) (moment_of x new after level kept (bit_or seen shown))) (sym is_now)
@@ -210,24 +211,25 @@ module _ (c : List Statement) (good : List ℕ) (lanes : ℕ) where
                 (reads_rise c case.level well case.levels) case.elsewhere
                 delta taken_at level gate h taken in_taken in_delta kind pins is word valued diff
                 new
-                differs a_lane in_kept changed (woken_now case);
+                differs a_lane in_kept changed (scheduled_now case);
             counted = λ case gates h all.
                 let less = ahead_changed c case.tests case.group case.fault good lanes
                 (level_at c case.level) case.start kept well
                 (reads_rise c case.level well case.levels) case.elsewhere
                 delta taken_at level gate h taken in_taken in_delta kind pins is word valued diff
                 new
-                differs a_lane in_kept changed (woken_now case) gates all in
+                differs a_lane in_kept changed (scheduled_now case) gates all in
                 omega (arith, less, one);
             seen = seen_changed c delta kept seen gate diff shown clear in_delta observed;
             more = more;
             grown = grown;
           })
         where
-          woken_now : (case : Case c) → AreWoken c (level_at c case.level) gate
+          scheduled_now : (case : Case c) → AreScheduled c (level_at c case.level) gate
               (set taken_at gate 0) new
-          woken_now case = subst (λ b. AreWoken c (level_at c case.level) gate b new) (sym back)
-              (woken case.level case.levels)
+          scheduled_now case = subst (λ b. AreScheduled c (level_at c case.level) gate b new)
+              (sym back)
+              (scheduled case.level case.levels)
 
           more : (s : ℕ) → slice_index_or delta s 0 ≢ 0
               → slice_index_or (set delta gate diff) s 0 ≢ 0
@@ -255,8 +257,8 @@ module _ (c : List Statement) (tests : List Test) (group : ℕ) (f : ℕ
     (well : IsWellFormed c)
     (first : IsFirstChange c tests group f good lanes before.overlay start diff) (level : Name
     → ℕ) (levels : AreLevels c level)
-    (clear : IsClear before) (woken : (level : Name → ℕ) → AreLevels c level
-    → AreWoken c (level_at c level) start before.buckets.at after.buckets.at)
+    (clear : IsClear before) (scheduled : (level : Name → ℕ) → AreLevels c level
+    → AreScheduled c (level_at c level) start before.buckets.at after.buckets.at)
     (now : ℕ) (here : level_at c level start ≡ now) (kept seen : ℕ) where
   pub first_spreads : after.overlay ≡ set before.overlay start diff → start < length before.overlay
       → diff ≢ 0 → (k : ℕ) × (k < 128) × (lane diff k ≡ true)
@@ -273,7 +275,7 @@ module _ (c : List Statement) (tests : List Test) (group : ℕ) (f : ℕ
       (set before.overlay start diff) after.buckets.at) here
       (spreading_first c tests group f good lanes (level_at c level) start well
       (reads_rise c level well levels) before.overlay before.buckets.at after.buckets.at
-      (λ t. index_zero before.buckets.at t clear.gates) (woken level levels) diff first.words
+      (λ t. index_zero before.buckets.at t clear.gates) (scheduled level levels) diff first.words
       (λ t. index_zero before.overlay t clear.words) first.elsewhere first.first within differs
       a_lane in_lanes)))
 
@@ -283,7 +285,7 @@ module _ (c : List Statement) (tests : List Test) (group : ℕ) (f : ℕ
   first_left gates =
       let few = count_first c tests group f good lanes (level_at c level) start well
       (reads_rise c level well levels) before.overlay before.buckets.at after.buckets.at
-      (λ t. index_zero before.buckets.at t clear.gates) (woken level levels) gates in
+      (λ t. index_zero before.buckets.at t clear.gates) (scheduled level levels) gates in
       let same = ap (λ x. ahead (level_at c level) after.buckets.at x gates) here in
       omega (arith, few, same)
 

@@ -12,7 +12,7 @@ use Rattle.block_sim.specs.Spreading.{IsSettled, LeavesSettled}
 use Rattle.block_sim.specs.Words.{lane}
 use Rattle.block_sim.specs.declared.spread.Followed.{Followed}
 use Rattle.block_sim.proofs.Lanes.{lane_and, lane_or}
-use Rattle.block_sim.proofs.Woken.{at_end}
+use Rattle.block_sim.proofs.ScheduledGates.{at_end}
 use Rattle.block_sim.proofs.Steps.{left_behind, left_of, left_out, only_lanes}
 
 -- what is settled stays so as more lanes are seen

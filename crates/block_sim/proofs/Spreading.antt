@@ -12,13 +12,13 @@ use Rattle.lists.proofs.Members.{among}
 use Rattle.fault_model.specs.Fault.{Fault}
 use Rattle.fault_model.specs.Solution.{Test, value}
 use Rattle.block_sim.specs.Words.{lane, pin_bits}
-use Rattle.block_sim.specs.Events.{Reads, IsElsewhere, IsLive, AreWoken}
+use Rattle.block_sim.specs.Events.{Reads, IsElsewhere, IsLive, AreScheduled}
 use Rattle.block_sim.specs.Spreading.{IsSpreading, IsBalanced, Counts, IsRightIn, HasTouched, ahead}
 use Rattle.block_sim.proofs.Balanced.{balanced_same, balanced_changed}
 use Rattle.block_sim.proofs.Equated.{word_other}
 use Rattle.block_sim.proofs.LiveSignals.{counts_closed, reader_live}
 use Rattle.block_sim.proofs.RightByNow.{right_by_now}
-use Rattle.block_sim.proofs.Ahead.{ahead_taken, ahead_woken}
+use Rattle.block_sim.proofs.Ahead.{ahead_taken, ahead_scheduled}
 
 module _ (c : List Statement) (tests : List Test) (group : ℕ) (f : ℕ
     → Fault) (good : List ℕ) (lanes : ℕ) (lv : ℕ → ℕ) (start mask : ℕ) where
@@ -110,7 +110,7 @@ module _ (c : List Statement) (tests : List Test) (group : ℕ) (f : ℕ
         → lane mask k ≡ true)
         (changed : (k : ℕ) → k < 128 → lane mask k ≡ true
         → lane (bit_xor (slice_index_or good g 0) diff) k ≡ lane word k)
-        (woken : AreWoken c lv g (set at g 0) after) where
+        (scheduled : AreScheduled c lv g (set at g 0) after) where
       new_at : slice_index_or (set delta g diff) g 0 ≡ diff
       new_at = get_or-set_same delta g diff 0 in_delta
 
@@ -126,8 +126,8 @@ module _ (c : List Statement) (tests : List Test) (group : ℕ) (f : ℕ
           → ahead lv after level gates + 1 ≤ ahead lv at level gates
       ahead_changed gates all =
           let less = ahead_same gates (λ r s reads ne. all r s reads (grown s ne)) in
-          let no_more = ahead_woken c lv (set at g 0) after level g gates (λ r reads. let up =
-          rises r g reads in let l = here in omega (arith, up, l)) woken in
+          let no_more = ahead_scheduled c lv (set at g 0) after level g gates (λ r reads. let up =
+          rises r g reads in let l = here in omega (arith, up, l)) scheduled in
           omega (arith, less, no_more)
 
       -- a gate that waits did so before, or reads the gate
@@ -137,7 +137,7 @@ module _ (c : List Statement) (tests : List Test) (group : ℕ) (f : ℕ
           ⊎ ((Reads c t g × IsLive c t) × (slice_index_or after t 0 ≡ lv t + 1))
 
       which : (t : ℕ) → slice_index_or after t 0 ≢ 0 → Waits t
-      which t ne = go (woken.only t)
+      which t ne = go (scheduled.only t)
         where
           go : (slice_index_or after t 0 ≡ slice_index_or (set at g 0) t 0)
               ⊎ ((Reads c t g × IsLive c t) × (slice_index_or (set at g 0) t 0 ≡ 0)
@@ -170,7 +170,7 @@ module _ (c : List Statement) (tests : List Test) (group : ℕ) (f : ℕ
               rises delta at g h.balanced (λ k. elsewhere g k not_start) kind pins is word valued
               diff after in_delta
               (λ t is_counted reads. reader_live c lv start rises g t from_start is_counted reads)
-              changed woken
+              changed scheduled
 
           at_level : (t : ℕ) → slice_index_or after t 0 ≢ 0 → slice_index_or after t 0 ≡ lv t + 1
           at_level t ne = go (which t ne)
@@ -243,7 +243,7 @@ module _ (c : List Statement) (tests : List Test) (group : ℕ) (f : ℕ
               (k.0, k.1, ap (λ d. lane d k.0) (kept_at s other) ∙ k.2)
 
           idle_here : slice_index_or after g 0 ≡ 0
-          idle_here = go (woken.only g)
+          idle_here = go (scheduled.only g)
             where
               go : (slice_index_or after g 0 ≡ slice_index_or (set at g 0) g 0)
                   ⊎ ((Reads c g g × IsLive c g) × (slice_index_or (set at g 0) g 0 ≡ 0)
@@ -291,11 +291,11 @@ spreading_narrower c tests group f good lanes lv start mask delta at level narro
     }
 
 -- what waits anew lies above the signal that it reads
-pub woken_above : (c : List Statement) (lv : ℕ → ℕ) (g : ℕ) (before after : List ℕ)
-    → ((a b : ℕ) → Reads c a b → lv b < lv a) → AreWoken c lv g before after
+pub scheduled_above : (c : List Statement) (lv : ℕ → ℕ) (g : ℕ) (before after : List ℕ)
+    → ((a b : ℕ) → Reads c a b → lv b < lv a) → AreScheduled c lv g before after
     → (r : ℕ) → (slice_index_or after r 0 ≡ slice_index_or before r 0)
     ⊎ ((lv g < lv r) × (slice_index_or after r 0 ≡ lv r + 1))
-woken_above c lv g before after rises woken r = go (woken.only r)
+scheduled_above c lv g before after rises scheduled r = go (scheduled.only r)
   where
     go : (slice_index_or after r 0 ≡ slice_index_or before r 0)
         ⊎ ((Reads c r g × IsLive c r) × (slice_index_or before r 0 ≡ 0)

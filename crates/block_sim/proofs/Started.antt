@@ -1,4 +1,4 @@
--- Where a fault begins: the lanes in which it turns its line, and the first change.
+-- Where a fault begins: the lanes in which it is excited, and the first change.
 use Rattle.std.proofs.Common.{◌≡◌, ◌≢◌, ◌<◌, ℕ, suc, ◌+◌, ◌*◌, refl, sym, ◌∙◌, ap, subst, Bool}
 use Rattle.std.proofs.Common.{true, false, List, [], ◌∷◌, length, map, set, arith, inl, inr, ◌⊎◌}
 use Rattle.std.specs.Prelude.{Contains, Option, Some, None, slice_get, slice_index_or, bit_and}
@@ -26,7 +26,7 @@ use Rattle.fault_model.specs.Solution.{Test, Solves, sees, under, value}
 use Rattle.fault_model.proofs.Public.{has_solutions, same_lines, under_other, under_own, observes}
 use Rattle.fault_model.proofs.Public.{defined_among, definition-signal, source_named}
 use Rattle.block_sim.specs.Words.{lane, lane_bits, overlaid, pin_bits, test_of, AreWords}
-use Rattle.block_sim.specs.Stirred.{AreInGroup, IsStirredIn, IsStirredBy}
+use Rattle.block_sim.specs.ActiveGates.{AreInGroup, IsActiveIn, IsActiveBy}
 use Rattle.block_sim.specs.Events.{bits_of, Reads}
 use Rattle.block_sim.specs.Spreading.{AreShown, IsApart, IsFirstChange}
 use Rattle.block_sim.proofs.Equated.{equation_of, word_other}
@@ -155,37 +155,37 @@ module _ (c : List Statement) (tests : List Test) (group : ℕ) (f : Fault) (goo
         (λ own. stuck_name h.0.1 (sym (observer_carries c h.0 h.1)
         ∙ (ap (carried c) (sym own) ∙ carries)))))
 
-  -- ---- the lanes in which the fault turns its line
-  module _ (settled : ℕ → Type 0) (lanes turned : ℕ) (is : (k : ℕ) → k < 128
-      → Decides (lane turned k) ((lane lanes k ≡ true) × (lane_bits c good k n ≢ f.stuck))) where
+  -- ---- the lanes in which the fault is excited
+  module _ (settled : ℕ → Type 0) (lanes excited : ℕ) (is : (k : ℕ) → k < 128
+      → Decides (lane excited k) ((lane lanes k ≡ true) × (lane_bits c good k n ≢ f.stuck))) where
     same_or : (a b : Bool) → (a ≢ b → ⊥) → a ≡ b
     same_or true true h = refl
     same_or true false h = absurd (h (λ e. false≢true (sym e)))
     same_or false true h = absurd (h false≢true)
     same_or false false h = refl
 
-    still : (k : ℕ) → k < 128 → lane lanes k ≡ true → lane turned k ≡ false
+    still : (k : ℕ) → k < 128 → lane lanes k ≡ true → lane excited k ≡ false
         → lane_bits c good k n ≡ f.stuck
     still k lt in_lanes none = same_or (lane_bits c good k n) f.stuck
         (λ ne. false≢true (sym none ∙ (is k lt).1 (in_lanes, ne)))
 
-    cleared : (k : ℕ) → k < 128 → lane lanes k ≡ true → lane turned k ≡ false
+    cleared : (k : ℕ) → k < 128 → lane lanes k ≡ true → lane excited k ≡ false
         → (v : Name → Bool) × Solves c (test_of tests group k) (Some f) v × (IsApart c f good k v
         → ⊥)
     cleared k lt in_lanes none = let stuck = still k lt in_lanes none in
         (lane_bits c good k, unmoved k lt stuck, unapart k lt stuck)
 
-    -- where it turns none, nothing is shown
-    pub shown_none : (seen : ℕ) → ((k : ℕ) → k < 128 → lane turned k ≡ false)
+    -- where it is excited in none, nothing is shown
+    pub shown_none : (seen : ℕ) → ((k : ℕ) → k < 128 → lane excited k ≡ false)
         → ((k : ℕ) → lane seen k ≡ false) → AreShown c tests group (λ _. f) good lanes settled seen
     shown_none seen none unseen = record {
       found = λ k lt e. absurd (false≢true (sym (unseen k) ∙ e));
       clear = λ k lt in_lanes out _. cleared k lt in_lanes (none k lt);
     }
 
-    -- the line of an observer: what is turned is shown
+    -- the line of an observer: what is excited is shown
     pub shown_at_observer : (o : Sink) → branch o ≡ f.line → Contains (observers c) (o, n)
-        → AreShown c tests group (λ _. f) good lanes settled turned
+        → AreShown c tests group (λ _. f) good lanes settled excited
     shown_at_observer o own there = record {
       found = λ k lt e. let d = (is k lt).0 e in (
         d.0,
@@ -198,19 +198,19 @@ module _ (c : List Statement) (tests : List Test) (group : ℕ) (f : Fault) (goo
       clear = λ k lt in_lanes out _. cleared k lt in_lanes out;
     }
 
-    -- the gate whose pin is turned is stirred
-    pub pin_stirred : (k g pin : ℕ) → k < 128 → f.line ≡ line.Pin g pin
-        → AreInGroup tests group lanes → lane turned k ≡ true
+    -- the gate whose pin is excited is active
+    pub pin_active : (k g pin : ℕ) → k < 128 → f.line ≡ line.Pin g pin
+        → AreInGroup tests group lanes → lane excited k ≡ true
         → (name : Name) (kind : Kind) (args : List Name) → Contains c (Gate name kind args)
         → signal c name ≡ g → slice_get args pin ≡ Some n
-        → IsStirredIn c tests group lanes (λ _. f) g
-    pin_stirred k g pin lt on sized e name kind args stands number at =
+        → IsActiveIn c tests group lanes (λ _. f) g
+    pin_active k g pin lt on sized e name kind args stands number at =
         let d = (is k lt).0 e in
         let place = within_place tests (128 * group + k) (sized k lt d.0) in
         let same : test_of tests group k ≡ place.0 =
         index_of tests (128 * group + k) place.0 [] place.1 in
         let u = has_solutions c well (test_of tests group k) (Some f) in
-        let stirred : IsStirredBy c (test_of tests group k) f g = record {
+        let active : IsActiveBy c (test_of tests group k) f g = record {
           fault_free = lane_bits c good k;
           faulty = u.0;
           name = name;
@@ -225,7 +225,7 @@ module _ (c : List Statement) (tests : List Test) (group : ℕ) (f : Fault) (goo
           at = at;
           differs = λ eq. d.1 (eq ∙ under_own f (line.Pin g pin) (u.0 n) on);
         } in
-        (k, place.0, lt, d.0, place.1, subst (λ t. IsStirredBy c t f g) same stirred)
+        (k, place.0, lt, d.0, place.1, subst (λ t. IsActiveBy c t f g) same active)
 
 -- ---- the first change
 unobserved : (c : List Statement) (f : Fault) (l : Line) → IsWellFormed c → f.line ≡ l
@@ -306,7 +306,7 @@ stem_change c tests group f good lanes delta start number word well words on wit
     (bit_and (bit_xor word (slice_index_or good start 0)) lanes) well (λ _. on) within words
     (λ k lt in_lanes. changed_to word (slice_index_or good start 0) lanes k in_lanes ∙ stuck k lt))
 
--- the lanes in which the code sees the line turned
+-- the lanes in which the code sees the line excited
 pub turned_is : (c : List Statement) (f : Fault) (good : List ℕ) (lanes number word : ℕ) (n : Name)
     → number ≡ signal c n → ((k : ℕ) → k < 128 → lane word k ≡ f.stuck)
     → (k : ℕ) → k < 128 → Decides

@@ -17,7 +17,7 @@ use Rattle.block_sim.specs.declared.span.Span.{Span}
 use Rattle.block_sim.specs.First.{AreTold, IsOutcome}
 use Rattle.block_sim.specs.Regions.{AreLanesFor}
 use Rattle.block_sim.specs.Spans.{AreInSpan, IsInSpan, group_of, one_block}
-use Rattle.block_sim.specs.Stirred.{HasStirred, HasStirredIn}
+use Rattle.block_sim.specs.ActiveGates.{HasActive, HasActiveIn}
 use Rattle.block_sim.specs.Words.{lane, test_of, IsLeastLane}
 use Rattle.block_sim.proofs.Placed.{index_of}
 
@@ -130,11 +130,11 @@ module _ (c : List Statement) (tests : List Test) (block : ℕ) (f : Fault) (set
       by true e d = e
       by false e d = absurd (clear k lt e (never (place k)) d)
 
--- what is stirred in lanes of a block alone is stirred on the block
-pub stirred_on_block : (c : List Statement) (tests : List Test) (block : ℕ) (f : Fault) (lanes : ℕ)
+-- what is active in lanes of a block alone is active on the block
+pub active_on_block : (c : List Statement) (tests : List Test) (block : ℕ) (f : Fault) (lanes : ℕ)
     (gates : List ℕ) → AreInSpan tests (one_block block) lanes
-    → HasStirred c tests block f gates → HasStirredIn c tests (block / 2) lanes (λ _. f) gates
-stirred_on_block c tests block f lanes gates within all gate h =
+    → HasActive c tests block f gates → HasActiveIn c tests (block / 2) lanes (λ _. f) gates
+active_on_block c tests block f lanes gates within all gate h =
     let own = within h.0 h.2 h.3 in
     let from = own.from in
     let to = own.to in

@@ -21,7 +21,7 @@ use Rattle.block_sim.specs.Regions.{onward}
 use Rattle.fault_model.specs.Solution.{Test}
 use Rattle.block_sim.specs.declared.span.Span.{Span}
 use Rattle.block_sim.specs.Spans.{IsSpan, span_from}
-use Rattle.block_sim.specs.Ways.{HasStirredByFlip, IsWay, IsWayOfLine, OneWayLaw, SomeWayLaw}
+use Rattle.block_sim.specs.Ways.{HasActiveByFlip, IsWay, IsWayOfLine, OneWayLaw, SomeWayLaw}
 use Rattle.block_sim.specs.Ways.{is_between, is_on, known_ways, steps}
 use Rattle.block_sim.proofs.Stems.{class_has_stem}
 
@@ -176,12 +176,12 @@ span_within tests span block is first alone = go (cases_lt block 2)
         subst (λ b. span.last ≤ (if b then block else block / 2 * 2 + 1)) (sym (le-ltb block 2 le))
         (omega (arith, one, first))
 
--- and stirs no more gates than they do
-pub stirred_wider : (c : List Statement) (tests : List Test) (span : Span) (block s : ℕ)
+-- and makes no more gates active than they do
+pub active_wider : (c : List Statement) (tests : List Test) (span : Span) (block s : ℕ)
     (gates : List ℕ) → IsSpan (length tests) span → span.first ≡ block
-    → (block < 2 → span.last ≡ block) → HasStirredByFlip c tests (span_from block) s gates
-    → HasStirredByFlip c tests span s gates
-stirred_wider c tests span block s gates is first alone all gate h =
+    → (block < 2 → span.last ≡ block) → HasActiveByFlip c tests (span_from block) s gates
+    → HasActiveByFlip c tests span s gates
+active_wider c tests span block s gates is first alone all gate h =
     let own = h.3 in
     let from = own.from in
     let to = own.to in

@@ -55,13 +55,15 @@ abbrev pub level_at : List Statement → (Name → ℕ) → ℕ → ℕ
 level_at c level s = option_map_or level (name_of c s) 0
 
 -- The live readers of a signal wait, each at its level, and no other gate waits that did not.
-pub record AreWoken (c : List Statement) (lv : ℕ → ℕ) (s : ℕ) (before after : List ℕ) : Type 0 where
+pub record AreScheduled (c : List Statement) (lv : ℕ
+    → ℕ) (s : ℕ) (before after : List ℕ) : Type 0 where
   pub readers : (r : ℕ) → Reads c r s → IsLive c r → slice_index_or after r 0 ≢ 0
   pub only : (r : ℕ) → (slice_index_or after r 0 ≡ slice_index_or before r 0)
       ⊎ ((Reads c r s × IsLive c r) × (slice_index_or before r 0 ≡ 0)
       × (slice_index_or after r 0 ≡ lv r + 1))
 
 -- a gate waits as before, or lies above the signal and waits at its level
-abbrev pub IsWokenAbove : (ℕ → ℕ) → ℕ → List ℕ → List ℕ → Type 0
-IsWokenAbove lv s before after = (r : ℕ) → (slice_index_or after r 0 ≡ slice_index_or before r 0)
+abbrev pub IsScheduledAbove : (ℕ → ℕ) → ℕ → List ℕ → List ℕ → Type 0
+IsScheduledAbove lv s before after = (r : ℕ)
+    → (slice_index_or after r 0 ≡ slice_index_or before r 0)
     ⊎ ((lv s < lv r) × (slice_index_or after r 0 ≡ lv r + 1))

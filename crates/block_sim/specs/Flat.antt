@@ -1,6 +1,7 @@
 -- A circuit in flat lists: a row for each signal, with parts of the lists of all pins and of all
 -- readers.
-use Rattle.std.specs.Prelude.{◌≡◌, ◌↔◌, ◌++◌, ℕ, ◌<◌, ◌≤◌, All, Bool, false, List, Contains, IfSome}
+use Rattle.std.specs.Prelude.{◌≡◌, ◌↔◌, ◌++◌, ℕ, ◌-◌, ◌<◌, ◌≤◌, All, Bool, false, List, Contains}
+use Rattle.std.specs.Prelude.{IfSome}
 use Rattle.std.specs.Prelude.{IsTrue, Option, Some, length, map, slice_get, slice_index_or}
 use Rattle.std.specs.Prelude.{slice_range}
 use Rattle.std.specs.Option.{option_map}
@@ -29,6 +30,11 @@ IsLiveAt c live s = IsTrue (slice_index_or live s false) ↔ IsLive c s
 abbrev pub AreLive : List Statement → List Bool → Type 0
 AreLive c live = (s : ℕ) → s < length (names c) → IsLiveAt c live s
 
+-- the numbers are the first of the list and its last, 0 where it has none
+abbrev pub HasEnds : List ℕ → ℕ → ℕ → Type 0
+HasEnds pins first last =
+    (slice_index_or pins 0 0 ≡ first) × (slice_index_or pins (length pins - 1) 0 ≡ last)
+
 -- a row says what drives a signal, what reads it, and whether an observer observes it
 pub record IsRow (c : List Statement) (pins : List ℕ) (readers : List Reader) (s : ℕ) (row : Row) :
     Type 0 where
@@ -37,6 +43,7 @@ pub record IsRow (c : List Statement) (pins : List ℕ) (readers : List Reader) 
   pub driven :
       option_map (λ driver. (driver.kind, slice_range pins row.pins_start row.pins_end)) row.driver
       ≡ gate_of c s
+  pub ends : HasEnds (slice_range pins row.pins_start row.pins_end) row.first row.last
   pub formed : IfSome row.driver (λ driver. IsFormOf driver.kind driver.form)
   pub read_by : AreReaders c s (slice_range readers row.readers_start row.readers_end)
   pub observed : IsTrue row.observed ↔ IsObserved c s

@@ -1,5 +1,6 @@
 -- How many gates a call of a simulation evaluates at most: those on the way of each class that is
--- followed to the stem of its region, and those that the stem stirs where it is turned round.
+-- followed to the stem of its region, and those that the stem makes active where it is turned
+-- round.
 use Rattle.std.specs.Prelude.{◌≡◌, ℕ, ◌+◌, ◌<◌, ◌&&◌, nat_lt, Bool, false, List, Contains}
 use Rattle.std.specs.Prelude.{Some, length, slice_get, if◌then◌else◌}
 use Rattle.std.specs.List.{enumerate_from, sum_by}
@@ -17,7 +18,7 @@ use Rattle.block_sim.specs.Parts.{Parts}
 use Rattle.block_sim.specs.Regions.{Chain, IsStemOf, flip, here, onward}
 use Rattle.block_sim.specs.declared.span.Span.{Span}
 use Rattle.block_sim.specs.Spans.{IsInSpan}
-use Rattle.block_sim.specs.Stirred.{IsStirredBy}
+use Rattle.block_sim.specs.ActiveGates.{IsActiveBy}
 
 -- the number of steps of a chain
 abbrev pub steps : {step : ℕ → ℕ → Type 0} {s r : ℕ} → Chain step s r → ℕ
@@ -70,14 +71,14 @@ abbrev pub known_ways : (ℕ → ℕ) → ℕ → List Memo → ℕ
 known_ways way block memos =
     sum_by (λ at. if is_on block at.1 then way at.0 else 0) (enumerate_from 0 memos)
 
--- some test of the span stirs the gate, where the signal is turned round
-abbrev pub IsStirredByFlip : List Statement → List Test → Span → ℕ → ℕ → Type 0
-IsStirredByFlip c tests span s gate =
+-- some test of the span makes the gate active, where the signal is turned round
+abbrev pub IsActiveByFlip : List Statement → List Test → Span → ℕ → ℕ → Type 0
+IsActiveByFlip c tests span s gate =
     (number : ℕ) × (t : Test) × (bit : Bool) × IsInSpan (length tests) span number
     × (slice_get tests number ≡ Some t) × HasBit c t (line.Stem s) bit
-    × IsStirredBy c t (flip s bit) gate
+    × IsActiveBy c t (flip s bit) gate
 
--- the list names each gate that a signal stirs on the span where it is turned round
-abbrev pub HasStirredByFlip : List Statement → List Test → Span → ℕ → List ℕ → Type 0
-HasStirredByFlip c tests span s gates = (gate : ℕ) → IsStirredByFlip c tests span s gate
+-- the list names each gate that a signal makes active on the span where it is turned round
+abbrev pub HasActiveByFlip : List Statement → List Test → Span → ℕ → List ℕ → Type 0
+HasActiveByFlip c tests span s gates = (gate : ℕ) → IsActiveByFlip c tests span s gate
     → Contains gates gate

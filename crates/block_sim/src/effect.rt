@@ -1,4 +1,4 @@
-//! The effect of one fault on a group of tests: where it turns its line, the first signal that it
+//! The effect of one fault on a group of tests: where it is excited, the first signal that it
 //! changes, and the lanes in which an observer shows it.
 
 ghost use Rattle.std.specs.Prelude.{◌≡◌, ℕ, ◌+◌, ◌<◌, ◌≤◌, Contains, List, None, Some, true};
@@ -9,12 +9,12 @@ ghost use Rattle.fault_model.specs.Fault.{faults};
 ghost use Rattle.fault_model.specs.Solution.{Test, value};
 ghost use Rattle.block_sim.specs.Changes.{HasRoomFor, IsAsLarge, IsClear};
 ghost use Rattle.block_sim.specs.Spreading.{AreShown, IsSettled};
-ghost use Rattle.block_sim.specs.Stirred.{AreInGroup, HasStirredIn};
+ghost use Rattle.block_sim.specs.ActiveGates.{AreInGroup, HasActiveIn};
 ghost use Rattle.block_sim.specs.Stuck.{stuck_fault};
 ghost use Rattle.block_sim.specs.Words.{lane, pin_bits, AreWords, HasWords};
 
 use crate::changes::Changes;
-use crate::look_back::carried;
+use crate::line_signals::carried;
 use crate::spread::{Extent, spread};
 use crate::view::BlockView;
 use crate::words::{Stuck, evaluate_gate};
@@ -22,7 +22,7 @@ use fault_model::Line;
 
 /// Of the lanes that are asked for those in which some observer shows another bit with the fault
 /// than without it; where first hits are asked for, some of them with those. No gate is
-/// evaluated where the fault turns its line in none of the lanes.
+/// evaluated where the fault is excited in none of the lanes.
 pub fn effect(view: BlockView<'_>, fault: Stuck, extent: Extent<'_>, changes: &mut Changes) -> u128
     requires view { HasWords view.circuit.now view.good.now }
     requires words { (tests : List Test) × (group : ℕ)
@@ -37,7 +37,7 @@ pub fn effect(view: BlockView<'_>, fault: Stuck, extent: Extent<'_>, changes: &m
     ensures counted { (tests : List Test) (group : ℕ) (gates : List ℕ)
         → AreWords view.entry.circuit.now tests group None view.entry.good.now
         → AreInGroup tests group view.entry.lanes
-        → HasStirredIn view.entry.circuit.now tests group view.entry.lanes
+        → HasActiveIn view.entry.circuit.now tests group view.entry.lanes
         (λ _. stuck_fault fault) gates
         → changes.new.evaluations ≤ changes.old.evaluations + length gates }
     ensures grown { changes.old.evaluations ≤ changes.new.evaluations }
@@ -45,17 +45,17 @@ pub fn effect(view: BlockView<'_>, fault: Stuck, extent: Extent<'_>, changes: &m
     ensures clear { IsClear changes.new }
 {
     let signal = carried(view.circuit, fault.line) as usize;
-    let turned = (fault.word() ^ view.good[signal]) & view.lanes;
-    if turned == 0 {
+    let excited = (fault.word() ^ view.good[signal]) & view.lanes;
+    if excited == 0 {
         return 0;
     }
     match fault.line {
-        Line::Stem(start) => spread(view, extent, start, turned, changes),
+        Line::Stem(start) => spread(view, extent, start, excited, changes),
         Line::Pin { gate, pin: _ } => {
             let diff = gate_change(view, fault, gate, changes);
             spread(view, extent, gate, diff, changes)
         }
-        Line::Data { .. } | Line::Out { .. } => turned,
+        Line::Data { .. } | Line::Out { .. } => excited,
     }
 }
 

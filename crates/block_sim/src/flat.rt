@@ -2,6 +2,7 @@
 //! signal's number.
 
 ghost use Rattle.std.specs.Prelude.{◌≡◌, ◌↔◌, ◌<◌, ◌++◌, ℕ, List, IfOk, IfSome, IsTrue, length};
+ghost use Rattle.std.specs.Prelude.{slice_index_or};
 ghost use Rattle.std.specs.Option.{option_map};
 ghost use Rattle.bench_net.specs.declared.Kind.{Kind};
 ghost use Rattle.bench_net.specs.Scan.{names, gate_of};
@@ -10,7 +11,7 @@ ghost use Rattle.bench_net.specs.Level.{HasLevel};
 ghost use Rattle.fault_model.specs.Known.{only_gate};
 ghost use Rattle.block_sim.specs.Events.{IsLive, IsObserved};
 ghost use Rattle.block_sim.specs.Flat.{AreLive, AreReaders, HasMore, IsDriver, IsFlat, IsRow};
-ghost use Rattle.block_sim.specs.Flat.{IsStanding};
+ghost use Rattle.block_sim.specs.Flat.{HasEnds, IsStanding};
 ghost use Rattle.block_sim.specs.Forms.{IsFormOf};
 ghost use Rattle.block_sim.specs.Regions.{lone_reader};
 
@@ -21,11 +22,13 @@ use std::alloc::{AllocError, Global};
 use std::marker::Model;
 
 /// A gate that drives a signal: its kind with the form of that, and the signal that each of its
-/// pins reads, in order.
+/// pins reads, in order. Those of the first and of the last stand by themselves.
 #[derive(Clone, Copy)]
 pub struct Gate<'a> {
     pub kind: Kind,
     pub form: Form,
+    pub first: u32,
+    pub last: u32,
     pub pins: &'a [u32],
 }
 
@@ -44,13 +47,18 @@ struct Driver {
 }
 
 /// What the simulation asks of a signal each time that it comes to it. The pins of its gate and its
-/// readers are parts of the lists of all. A row has 24 bytes: with the rest of what is known in it,
-/// and places of 8 bytes, it had 56, and most of a simulation's time went into waiting for rows.
+/// readers are parts of the lists of all. A row has 32 bytes, so two lie on a line of a cache: with
+/// the rest of what is known in it, and places of 8 bytes, it had 56, and most of a simulation's
+/// time went into waiting for rows.
 #[derive(Clone, Copy)]
 struct Row {
     /// `None` for a source.
     driver: Option<Driver>,
     observed: bool,
+    /// The signals that the gate's first pin and its last read, which most gates have alone; 0 for
+    /// a source.
+    first: u32,
+    last: u32,
     pins_start: u32,
     pins_end: u32,
     readers_start: u32,
@@ -119,12 +127,15 @@ impl FlatCircuit {
         ensures gate { option_map {U = Kind × List ℕ} (λ g. (g.kind, g.pins.now)) result
             ≡ gate_of self.now signal }
         ensures form { IfSome result (λ g. IsFormOf g.kind g.form) }
+        ensures ends { IfSome result (λ g. HasEnds g.pins.now g.first g.last) }
     {
         let row = &self.lists.rows[signal as usize];
         match row.driver {
             Some(driver) => Some(Gate {
                 kind: driver.kind,
                 form: driver.form,
+                first: row.first,
+                last: row.last,
                 pins: &self.lists.pins[row.pins_start as usize..row.pins_end as usize],
             }),
             None => None,
@@ -219,6 +230,16 @@ fn standing_of(circuit: &Circuit, live: &[bool], signal: u32) -> Standing
     }
 }
 
+/// What stands at a place of a list, 0 behind its end.
+fn at(list: &[u32], place: usize) -> u32
+    ensures { result ≡ slice_index_or list.now place 0 }
+{
+    match list.get(place) {
+        Some(number) => *number,
+        None => 0,
+    }
+}
+
 /// A place in a list as a row has it. No circuit has so many pins that this refuses.
 fn place_of(length: usize) -> Result<u32, AllocError>
     ensures { IfOk result (λ place. place ≡ length) }
@@ -248,13 +269,19 @@ fn add_row(
 {
     let pins_start = place_of(pins.len())?;
     let driver = add_pins(circuit, signal, pins)?;
+    let pins_end = place_of(pins.len())?;
+    let first = at(pins.as_slice(), pins_start as usize);
+    let last_place = pins_end.saturating_sub(1).max(pins_start);
+    let last = at(pins.as_slice(), last_place as usize);
     let readers_start = place_of(readers.len())?;
     let observed = add_readers(circuit, live, signal, readers)?;
     Ok(Row {
         driver,
         observed,
+        first,
+        last,
         pins_start,
-        pins_end: place_of(pins.len())?,
+        pins_end,
         readers_start,
         readers_end: place_of(readers.len())?,
     })

@@ -6,13 +6,13 @@ ghost use Rattle.block_sim.specs.Forms.{IsFormOf};
 
 use bench_net::Kind;
 
-/// A gate as the AND or the XOR of what its pins read. An AND may turn each pin round, and either
-/// may be turned round as a whole: an OR is an AND with both.
+/// A gate as the AND or the XOR of what its pins read. An AND may invert each input, and either
+/// may be inverted as a whole: an OR is an AND with both.
 #[derive(Clone, Copy)]
 pub struct Form {
     pub is_xor: bool,
-    pub turns_pins: bool,
-    pub turns: bool,
+    pub inverts_inputs: bool,
+    pub inverts_output: bool,
 }
 
 impl Form {
@@ -20,7 +20,7 @@ impl Form {
     pub fn of(kind: Kind) -> Form
         ensures { IsFormOf kind result }
     {
-        let (is_xor, turns_pins, turns) = match kind {
+        let (is_xor, inverts_inputs, inverts_output) = match kind {
             Kind::And => (false, false, false),
             Kind::Nand => (false, false, true),
             Kind::Or | Kind::Buff => (false, true, true),
@@ -30,8 +30,8 @@ impl Form {
         };
         Form {
             is_xor,
-            turns_pins,
-            turns,
+            inverts_inputs,
+            inverts_output,
         }
     }
 }

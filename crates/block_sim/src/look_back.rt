@@ -7,20 +7,19 @@ ghost use Rattle.std.specs.Prelude.{◌≡◌, ◌↔◌, ◌+◌, ◌*◌, ◌<
 ghost use Rattle.std.specs.Prelude.{length, slice_get, slice_index_or, map};
 ghost use Rattle.std.specs.Bool.{Decides};
 ghost use Rattle.bench_net.specs.Statement.{Name};
-ghost use Rattle.bench_net.specs.Scan.{names, signal, definition};
-ghost use Rattle.bench_net.specs.Circuit.{IsCircuit, IsWellFormed};
+ghost use Rattle.bench_net.specs.Scan.{names, signal};
+ghost use Rattle.bench_net.specs.Circuit.{IsWellFormed};
 ghost use Rattle.fault_model.specs.declared.Line.{Line};
 ghost use Rattle.fault_model.specs.Fault.{faults};
 ghost use Rattle.fault_model.specs.Detection.{HasBit, IsInitialized, IsSecondOfPair, LooksBack};
-ghost use Rattle.fault_model.specs.Detection.{argument, carried};
+ghost use Rattle.fault_model.specs.Detection.{carried};
 ghost use Rattle.block_sim.specs.Spans.{groups};
 ghost use Rattle.block_sim.specs.Stuck.{stuck_fault};
 ghost use Rattle.block_sim.specs.Words.{lane};
 
-use crate::flat::FlatCircuit;
 use crate::job::Job;
+use crate::line_signals::carried;
 use crate::words::Stuck;
-use fault_model::Line;
 
 /// The lanes of a group whose test before lets the fault be detected: for a stuck-at fault all
 /// lanes, for a transition fault those in which that test gives its line the bit that the line is
@@ -92,32 +91,4 @@ fn one_lane_up(word: u128, last: u128) -> u128
     ensures later { (k : ℕ) → k < 127 → lane result (k + 1) ≡ lane word k }
 {
     word << 1 | last >> 127
-}
-
-/// The signal that a line of the circuit carries: that of the stem, or the one that its branch
-/// leads from.
-pub fn carried(circuit: &FlatCircuit, line: Line) -> u32
-    requires circuit { IsCircuit circuit.now }
-    requires named { (n : Name) × (carried circuit.now line ≡ Some n) }
-    ensures { (n : Name) → carried circuit.now line ≡ Some n → result ≡ signal circuit.now n }
-{
-    match line {
-        Line::Stem(signal) => signal,
-        Line::Pin { gate, pin } => pin_signal(circuit, gate, pin),
-        Line::Data { cell } => circuit.circuit().scan_cells()[cell as usize].d,
-        Line::Out { output } => circuit.circuit().outputs()[output as usize],
-    }
-}
-
-/// The signal that a pin of a gate reads.
-fn pin_signal(circuit: &FlatCircuit, gate: u32, pin: u32) -> u32
-    requires gate { gate < length (names circuit.now) }
-    requires named { (n : Name) × (argument (definition circuit.now gate) pin ≡ Some n) }
-    ensures { (n : Name) → argument (definition circuit.now gate) pin ≡ Some n
-        → result ≡ signal circuit.now n }
-{
-    match circuit.gate_of(gate) {
-        Some(line) => line.pins[pin as usize],
-        None => unreachable!(),
-    }
 }

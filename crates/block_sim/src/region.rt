@@ -12,12 +12,12 @@ ghost use Rattle.block_sim.specs.Regions.{TellsFirstFlips};
 ghost use Rattle.block_sim.specs.Spans.{AreInSpan, group_of};
 ghost use Rattle.block_sim.specs.declared.span.Span.{Span};
 ghost use Rattle.block_sim.specs.Stuck.{stuck_fault};
-ghost use Rattle.block_sim.specs.Ways.{HasStirredByFlip, IsWay, IsWayOfLine};
+ghost use Rattle.block_sim.specs.Ways.{HasActiveByFlip, IsWay, IsWayOfLine};
 ghost use Rattle.block_sim.specs.Words.{lane, AreWords, HasWords};
 
 use crate::changes::Changes;
 use crate::effect::gate_change;
-use crate::look_back::carried;
+use crate::line_signals::carried;
 use crate::spread::{Extent, Followed, spread};
 use crate::view::BlockView;
 use crate::words::{Stuck, evaluate_gate};
@@ -138,15 +138,15 @@ pub fn follow(view: BlockView<'_>, fault: Stuck, changes: &mut Changes) -> Reach
     ensures clear { IsClear changes.new }
 {
     let signal = carried(view.circuit, fault.line) as usize;
-    let turned = (fault.word() ^ view.good[signal]) & view.lanes;
-    if turned == 0 {
+    let excited = (fault.word() ^ view.good[signal]) & view.lanes;
+    if excited == 0 {
         return Reach::Observed(0);
     }
     match fault.line {
         Line::Stem(start) => {
             let from = Arrival {
                 signal: start,
-                lanes: turned,
+                lanes: excited,
             };
             Reach::Stem(arrive(view, from, changes))
         }
@@ -158,7 +158,7 @@ pub fn follow(view: BlockView<'_>, fault: Stuck, changes: &mut Changes) -> Reach
             };
             Reach::Stem(arrive(view, from, changes))
         }
-        Line::Data { .. } | Line::Out { .. } => Reach::Observed(turned),
+        Line::Data { .. } | Line::Out { .. } => Reach::Observed(excited),
     }
 }
 
@@ -192,7 +192,7 @@ pub fn flip(view: BlockView<'_>, followed: &[Followed], signal: u32, changes: &m
     ensures counted { (tests : List Test) (span : Span) (gates : List ℕ)
         → AreWords view.entry.circuit.now tests (group_of span) None view.entry.good.now
         → ((one : Followed) → Contains followed.now one → AreInSpan tests span one.lanes)
-        → HasStirredByFlip view.entry.circuit.now tests span signal gates
+        → HasActiveByFlip view.entry.circuit.now tests span signal gates
         → changes.new.evaluations ≤ changes.old.evaluations + length gates }
     ensures grown { changes.old.evaluations ≤ changes.new.evaluations }
     ensures room { IsAsLarge changes.old changes.new }

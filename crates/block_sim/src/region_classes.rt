@@ -10,7 +10,7 @@ ghost use Rattle.fault_model.specs.Detection.{carried};
 ghost use Rattle.block_sim.specs.Regions.{HasStem, HaveStems, IsStemOf, lone_reader, way_from};
 
 use crate::flat::FlatCircuit;
-use crate::look_back::carried;
+use crate::line_signals::carried;
 use fault_model::{Classes, Faults, Line};
 use std::alloc::{AllocError, Global};
 

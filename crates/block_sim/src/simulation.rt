@@ -13,7 +13,7 @@ ghost use Rattle.block_sim.specs.Spans.{IsSpan, group_of, span_from};
 ghost use Rattle.block_sim.specs.Simulation.{AreFollowed, AreTrueBut, AreTrueMemos, HasArrived};
 ghost use Rattle.block_sim.specs.Simulation.{IsApproach, IsOutcomeIn, IsTrueMemo, Serves};
 ghost use Rattle.block_sim.specs.Simulation.{TellsFirstIn};
-ghost use Rattle.block_sim.specs.Ways.{AreWays, HasStirredByFlip, IsWayOfClass, is_on, known_ways};
+ghost use Rattle.block_sim.specs.Ways.{AreWays, HasActiveByFlip, IsWayOfClass, is_on, known_ways};
 
 use crate::changes::Changes;
 use crate::job::Job;
@@ -157,9 +157,9 @@ impl Simulation {
     /// It follows classes of the region, this one among them, that are known on the block from then
     /// on and were not before. From the third block on it finds them out on two blocks at once. At
     /// most it evaluates the gates on their ways to the stem, and once each those that the stem
-    /// stirs where it is turned round: gates with a pin that sees another bit then, under some test
-    /// of the block, or from the third block on of what is behind it in its group of two. Where the
-    /// class is known on the block it evaluates none.
+    /// makes active where it is turned round: gates with a pin that sees another bit then, under
+    /// some test of the block, or from the third block on of what is behind it in its group of two.
+    /// Where the class is known on the block it evaluates none.
     pub fn outcome(&mut self, job: &Job, class: u32, block: u32) -> Outcome
         requires serves { Serves self.old job.now }
         requires class { class < length job.now.classes.representative }
@@ -169,7 +169,7 @@ impl Simulation {
         ensures serves { Serves self.new job.now }
         ensures counted { (way : ℕ → ℕ) (stem : ℕ) (gates : List ℕ) → AreWays job.now way
             → IsStemOfClass job.now.list.model job.now.circuit class stem
-            → HasStirredByFlip job.now.circuit job.now.tests.tests (span_from block) stem gates
+            → HasActiveByFlip job.now.circuit job.now.tests.tests (span_from block) stem gates
             → self.new.evaluations + known_ways way block self.old.memos
             ≤ self.old.evaluations + known_ways way block self.new.memos + length gates }
         ensures again { is_on block (slice_index_or self.old.memos class Memo.Nothing) ≡ true
@@ -240,7 +240,7 @@ fn find_out_region(
         stem result }
     ensures memos { AreTrueMemos job.now memos.new }
     ensures counted { (way : ℕ → ℕ) (gates : List ℕ) → AreWays job.now way
-        → HasStirredByFlip job.now.circuit job.now.tests.tests span stem gates
+        → HasActiveByFlip job.now.circuit job.now.tests.tests span stem gates
         → changes.new.evaluations + known_ways way span.first memos.old + way own.class
         ≤ changes.old.evaluations + known_ways way span.first memos.new + length gates }
     ensures capacity { vec_capacity followed.new ≡ vec_capacity followed.old }
@@ -406,7 +406,7 @@ fn flip_stem(job: &Job, span: Span, stem: u32, followed: &[Followed], changes: &
         → TellsFirstFlips job.now.circuit job.now.tests.tests (group_of span) one.lanes stem
         result }
     ensures counted { (gates : List ℕ)
-        → HasStirredByFlip job.now.circuit job.now.tests.tests span stem gates
+        → HasActiveByFlip job.now.circuit job.now.tests.tests span stem gates
         → changes.new.evaluations ≤ changes.old.evaluations + length gates }
     ensures grown { changes.old.evaluations ≤ changes.new.evaluations }
     ensures room { IsAsLarge changes.old changes.new }

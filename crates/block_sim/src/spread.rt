@@ -15,11 +15,11 @@ ghost use Rattle.bench_net.specs.Level.{AreLevels, HasLevel};
 ghost use Rattle.fault_model.specs.Fault.{Fault};
 ghost use Rattle.fault_model.specs.Solution.{Test};
 ghost use Rattle.block_sim.specs.Changes.{HasRoomFor, IsAsLarge, IsClear, IsTaken};
-ghost use Rattle.block_sim.specs.Events.{level_at, AreWoken, IsWokenAbove, IsObserved};
+ghost use Rattle.block_sim.specs.Events.{level_at, AreScheduled, IsScheduledAbove, IsObserved};
 ghost use Rattle.block_sim.specs.Moments.{Case, Leads, Spreads, moment, not_yet_taken};
 ghost use Rattle.block_sim.specs.Spreading.{AreShown, HaveHits, IsFirstChange, IsSettled};
 ghost use Rattle.block_sim.specs.Spreading.{LeavesSettled};
-ghost use Rattle.block_sim.specs.Stirred.{AreInGroup, HasStirredIn};
+ghost use Rattle.block_sim.specs.ActiveGates.{AreInGroup, HasActiveIn};
 ghost use Rattle.block_sim.specs.Words.{lane, HasWords};
 
 use crate::block_lanes::lanes_below;
@@ -81,13 +81,14 @@ fn below_hits(followed: &[Followed], seen: u128) -> u128
 /// Lets the gates that read a signal wait, each at its level, and tells whether an observer reads
 /// it.
 #[inline(always)]
-fn wake(circuit: &FlatCircuit, signal: u32, buckets: &mut Buckets) -> bool
+fn schedule_fanout(circuit: &FlatCircuit, signal: u32, buckets: &mut Buckets) -> bool
     requires circuit { IsCircuit circuit.now }
     requires signal { signal < length (names circuit.now) }
     requires gates { length (names circuit.now) ≤ length buckets.old.at }
     requires levels { (g k : ℕ) → HasLevel circuit.now g k → k < buckets.old.levels }
-    ensures woken { (level : Name → ℕ) → AreLevels circuit.now level
-        → AreWoken circuit.now (level_at circuit.now level) signal buckets.old.at buckets.new.at }
+    ensures scheduled { (level : Name → ℕ) → AreLevels circuit.now level
+        → AreScheduled circuit.now (level_at circuit.now level) signal buckets.old.at
+        buckets.new.at }
     ensures observed { IsTrue result ↔ IsObserved circuit.now signal }
     ensures gates { length buckets.new.at ≡ length buckets.old.at }
     ensures levels { buckets.new.levels ≡ buckets.old.levels }
@@ -112,8 +113,8 @@ fn change(circuit: &FlatCircuit, signal: u32, diff: u128, changes: &mut Changes)
     requires clear { slice_index_or changes.old.overlay signal 0 ≡ 0 }
     requires differs { diff ≢ 0 }
     ensures changed { changes.new.overlay ≡ slice_set changes.old.overlay signal diff }
-    ensures woken { (level : Name → ℕ) → AreLevels circuit.now level
-        → AreWoken circuit.now (level_at circuit.now level) signal
+    ensures scheduled { (level : Name → ℕ) → AreLevels circuit.now level
+        → AreScheduled circuit.now (level_at circuit.now level) signal
         changes.old.buckets.at changes.new.buckets.at }
     ensures shown { (k : ℕ) → k < 128
         → Decides (lane result k) (IsObserved circuit.now signal × (lane diff k ≡ true)) }
@@ -122,7 +123,7 @@ fn change(circuit: &FlatCircuit, signal: u32, diff: u128, changes: &mut Changes)
     ensures room { IsAsLarge changes.old changes.new }
 {
     changes.overlay.change(signal, diff);
-    if wake(circuit, signal, &mut changes.buckets) {
+    if schedule_fanout(circuit, signal, &mut changes.buckets) {
         diff
     } else {
         0
@@ -141,8 +142,8 @@ fn evaluate_waiting(view: BlockView<'_>, kept: u128, gate: u32, changes: &mut Ch
         view.entry.circuit.now view.entry.good.now view.entry.lanes
         (not_yet_taken gate (moment changes.old now kept seen))
         (moment changes.new now kept (bit_or seen result)) }
-    ensures woken { (level : Name → ℕ) → AreLevels view.entry.circuit.now level
-        → IsWokenAbove (level_at view.entry.circuit.now level) gate
+    ensures scheduled { (level : Name → ℕ) → AreLevels view.entry.circuit.now level
+        → IsScheduledAbove (level_at view.entry.circuit.now level) gate
         changes.old.buckets.at changes.new.buckets.at }
     ensures room { IsAsLarge changes.old changes.new }
 {
@@ -166,8 +167,8 @@ fn evaluate_waiting(view: BlockView<'_>, kept: u128, gate: u32, changes: &mut Ch
 /// The lanes in which an observer saw a difference so far, and those that are still followed.
 #[derive(Clone, Copy)]
 struct Found {
-    seen: u128,
-    kept: u128,
+    detected: u128,
+    followed: u128,
 }
 
 /// Evaluates the gates that wait at a level, and tells what is found then.
@@ -183,22 +184,25 @@ fn evaluate_level(
     requires room { HasRoomFor view.circuit.now changes.old }
     requires level { level < changes.old.buckets.levels }
     requires spreads { (case : Case view.circuit.now) × Spreads view.circuit.now view.good.now
-        view.lanes case (moment changes.old level found.kept found.seen) }
+        view.lanes case (moment changes.old level found.followed found.detected) }
     ensures leads { Leads view.entry.circuit.now view.entry.good.now view.entry.lanes
-        (moment changes.old level found.kept found.seen)
-        (moment changes.new (level + 1) result.kept result.seen) }
-    ensures settled { LeavesSettled extent.entry view.entry.lanes found.kept found.seen
-        → LeavesSettled extent.entry view.entry.lanes result.kept result.seen }
+        (moment changes.old level found.followed found.detected)
+        (moment changes.new (level + 1) result.followed result.detected) }
+    ensures settled { LeavesSettled extent.entry view.entry.lanes found.followed found.detected
+        → LeavesSettled extent.entry view.entry.lanes result.followed result.detected }
     ensures room { IsAsLarge changes.old changes.new }
 {
     let mut found = found;
     while let Some(gate) = changes.buckets.take(level) {
-        let seen = found.seen | evaluate_waiting(view, found.kept, gate, changes);
-        if seen == found.seen {
+        let seen = found.detected | evaluate_waiting(view, found.followed, gate, changes);
+        if seen == found.detected {
             continue;
         }
-        let kept = extent.followed(found.kept, seen);
-        found = Found { seen, kept };
+        let followed = extent.followed(found.followed, seen);
+        found = Found {
+            detected: seen,
+            followed,
+        };
     }
     found
 }
@@ -230,7 +234,7 @@ pub fn spread(
         view.entry.circuit.now tests group f view.entry.good.now view.entry.lanes
         changes.old.overlay start diff
         → AreInGroup tests group view.entry.lanes
-        → HasStirredIn view.entry.circuit.now tests group view.entry.lanes f gates
+        → HasActiveIn view.entry.circuit.now tests group view.entry.lanes f gates
         → changes.new.evaluations + count_by (λ g. g == start) gates
         ≤ changes.old.evaluations + length gates }
     ensures grown { changes.old.evaluations ≤ changes.new.evaluations }
@@ -242,7 +246,10 @@ pub fn spread(
     }
     let seen = change(view.circuit, start, diff, changes);
     let kept = extent.followed(view.lanes, seen);
-    let mut found = Found { seen, kept };
+    let mut found = Found {
+        detected: seen,
+        followed: kept,
+    };
     for level in view.circuit.level_of(start)..changes.buckets.levels() {
         if changes.buckets.is_empty() {
             break;
@@ -250,5 +257,5 @@ pub fn spread(
         found = evaluate_level(view, extent, level, found, changes);
     }
     changes.overlay.clear();
-    found.seen
+    found.detected
 }

@@ -13,7 +13,8 @@ ghost use Rattle.fault_model.specs.declared.Line.TheVariants.{Pin};
 ghost use Rattle.fault_model.specs.Solution.{is_odd, value, under};
 ghost use Rattle.patterns.specs.Tests.{IsWord, blocks};
 ghost use Rattle.block_sim.specs.Spans.{groups};
-ghost use Rattle.block_sim.specs.Forms.{IsFormOf, turned};
+ghost use Rattle.block_sim.specs.Flat.{HasEnds};
+ghost use Rattle.block_sim.specs.Forms.{IsFormOf, inverted};
 ghost use Rattle.block_sim.specs.Words.{lane, overlaid, pin_bits, AreWords, IsGroupWord};
 ghost use Rattle.block_sim.specs.Words.{IsSignalWord};
 ghost use Rattle.block_sim.specs.Stuck.{fault_of};
@@ -56,34 +57,36 @@ fn seen(fault: Option<Stuck>, own: Line, word: u128) -> u128
     }
 }
 
-/// The word that a pin of a gate reads: that of its signal, turned in the lanes in which that
+/// The word that a pin of a gate reads: that of its signal, inverted in the lanes in which that
 /// differs, or the stuck bit where the fault is on the pin.
 #[inline(always)]
 fn pin_word(
-    line: Gate<'_>,
-    gate: u32,
+    gate: Gate<'_>,
+    signal: u32,
     place: usize,
+    read: u32,
     fault: Option<Stuck>,
     words: &[u128],
     delta: &[u128],
 ) -> u128
-    requires place { place < length line.pins.now }
-    requires pins_in { All (λ p. p < length words.now) line.pins.now }
+    requires place { place < length gate.pins.now }
+    requires reads { slice_index_or gate.pins.now place 0 ≡ read }
+    requires pins_in { All (λ p. p < length words.now) gate.pins.now }
     requires same { length words.now ≤ length delta.now }
-    requires few { length line.pins.now ≤ max_sinks }
-    ensures { (k : ℕ) → k < 128 → lane result k ≡ under (fault_of fault) (Pin gate place)
-        (lane (overlaid words.now delta.now (slice_index_or line.entry.pins.now place 0)) k) }
+    requires few { length gate.pins.now ≤ max_sinks }
+    ensures { (k : ℕ) → k < 128 → lane result k ≡ under (fault_of fault) (Pin signal place)
+        (lane (overlaid words.now delta.now (slice_index_or gate.entry.pins.now place 0)) k) }
 {
     let own = Line::Pin {
-        gate,
+        gate: signal,
         pin: place as u32,
     };
-    let signal = line.pins[place] as usize;
-    seen(fault, own, words[signal] ^ delta[signal])
+    let at = read as usize;
+    seen(fault, own, words[at] ^ delta[at])
 }
 
-/// What the words of a gate's pins come to: their AND, of each turned where the form asks for that,
-/// and their XOR.
+/// What the words of a gate's pins come to: their AND, of each inverted where the form asks for
+/// that, and their XOR.
 #[derive(Clone, Copy)]
 struct Folds {
     all: u128,
@@ -94,35 +97,37 @@ struct Folds {
 /// of one pin or two, as most are, takes no turn of the loop: which of the two it is isn't asked.
 #[inline(always)]
 fn folds_of(
-    line: Gate<'_>,
-    gate: u32,
+    gate: Gate<'_>,
+    signal: u32,
     fault: Option<Stuck>,
     words: &[u128],
     delta: &[u128],
 ) -> Folds
-    requires some { 0 < length line.pins.now }
-    requires pins_in { All (λ p. p < length words.now) line.pins.now }
+    requires some { 0 < length gate.pins.now }
+    requires pins_in { All (λ p. p < length words.now) gate.pins.now }
     requires same { length words.now ≤ length delta.now }
-    requires few { length line.pins.now ≤ max_sinks }
+    requires few { length gate.pins.now ≤ max_sinks }
+    requires ends { HasEnds gate.pins.now gate.first gate.last }
     ensures all { (k : ℕ) → k < 128
-        → lane result.all k ≡ list_all (λ b. turned line.entry.form.turns_pins b)
-        (pin_bits (fault_of fault) gate line.entry.pins.now words.now delta.now k) }
+        → lane result.all k ≡ list_all (λ b. inverted gate.entry.form.inverts_inputs b)
+        (pin_bits (fault_of fault) signal gate.entry.pins.now words.now delta.now k) }
     ensures odd { (k : ℕ) → k < 128 → lane result.odd k
-        ≡ is_odd (pin_bits (fault_of fault) gate line.entry.pins.now words.now delta.now k) }
+        ≡ is_odd (pin_bits (fault_of fault) signal gate.entry.pins.now words.now delta.now k) }
 {
-    let turned = in_each_lane(line.form.turns_pins);
-    let last = line.pins.len() - 1;
-    let first = pin_word(line, gate, 0, fault, words, delta);
-    let mut all = first ^ turned;
+    let inverted = in_each_lane(gate.form.inverts_inputs);
+    let last = gate.pins.len() - 1;
+    let first = pin_word(gate, signal, 0, gate.first, fault, words, delta);
+    let mut all = first ^ inverted;
     let mut odd = first;
     for place in 1..last {
-        let word = pin_word(line, gate, place, fault, words, delta);
-        all &= word ^ turned;
+        let read = gate.pins[place];
+        let word = pin_word(gate, signal, place, read, fault, words, delta);
+        all &= word ^ inverted;
         odd ^= word;
     }
-    let word = pin_word(line, gate, last, fault, words, delta);
+    let word = pin_word(gate, signal, last, gate.last, fault, words, delta);
     Folds {
-        all: all & (word ^ turned),
+        all: all & (word ^ inverted),
         odd: odd ^ (word & in_each_lane(last > 0)),
     }
 }
@@ -130,32 +135,33 @@ fn folds_of(
 /// Evaluates a gate on a word, and counts it. No other function evaluates a gate.
 #[inline(always)]
 pub fn evaluate_gate(
-    line: Gate<'_>,
-    gate: u32,
+    gate: Gate<'_>,
+    signal: u32,
     fault: Option<Stuck>,
     words: &[u128],
     delta: &[u128],
     evaluations: &mut u64,
 ) -> u128
-    requires form { IsFormOf line.kind line.form }
-    requires some { 0 < length line.pins.now }
-    requires pins_in { All (λ p. p < length words.now) line.pins.now }
+    requires form { IsFormOf gate.kind gate.form }
+    requires some { 0 < length gate.pins.now }
+    requires pins_in { All (λ p. p < length words.now) gate.pins.now }
     requires same { length words.now ≤ length delta.now }
-    requires few { length line.pins.now ≤ max_sinks }
+    requires few { length gate.pins.now ≤ max_sinks }
+    requires ends { HasEnds gate.pins.now gate.first gate.last }
     ensures value { (k : ℕ) → k < 128
-        → lane result k ≡ value line.entry.kind
-        (pin_bits (fault_of fault) gate line.entry.pins.now words.now delta.now k) }
+        → lane result k ≡ value gate.entry.kind
+        (pin_bits (fault_of fault) signal gate.entry.pins.now words.now delta.now k) }
     ensures grown { evaluations.old ≤ evaluations.new }
     ensures counted { evaluations.new ≡ min (evaluations.old + 1) (2 ^ 64 - 1) }
 {
     *evaluations = evaluations.saturating_add(1);
-    let folds = folds_of(line, gate, fault, words, delta);
-    let word = if line.form.is_xor {
+    let folds = folds_of(gate, signal, fault, words, delta);
+    let word = if gate.form.is_xor {
         folds.odd
     } else {
         folds.all
     };
-    word ^ in_each_lane(line.form.turns)
+    word ^ in_each_lane(gate.form.inverts_output)
 }
 
 /// The word of a block at a source, and 0 past the last block.

@@ -9,7 +9,7 @@ ghost use Rattle.block_sim.specs.First.{AreDetecting, AreTold, IsTrueOutcome};
 ghost use Rattle.block_sim.specs.Parts.{HasRoom};
 ghost use Rattle.block_sim.specs.Spans.{one_block};
 ghost use Rattle.block_sim.specs.Spreading.{EndsAtHits, IsSettled};
-ghost use Rattle.block_sim.specs.Stirred.{HasStirred};
+ghost use Rattle.block_sim.specs.ActiveGates.{HasActive};
 
 use crate::block_lanes::{block_word, least_lane};
 use crate::changes::Changes;
@@ -78,9 +78,10 @@ impl Workspace {
 /// All tests of the block are simulated at once, from the fault's line on and only where words
 /// change (parallel-pattern single-fault propagation: Waicukauski, Eichelberger, Forlenza,
 /// Lindbloom and McCarthy, Fault Simulation for Structured VLSI). At most those gates are
-/// evaluated, each once, that the fault stirs: gates with a pin that sees under some test of the
-/// block another bit with the fault than without it. Where the fault turns its line under no test
-/// of the block, none is. A transition fault stirs what its line stuck at the fault's bit stirs.
+/// evaluated, each once, that the fault makes active: gates with a pin that sees under some test of
+/// the block another bit with the fault than without it. Where the fault is excited under no test
+/// of the block, none is. A transition fault makes active what its line stuck at the fault's bit
+/// does.
 ///
 /// Each test is followed to the end; [`first_hit`] has the same outcome and is faster where there
 /// are hits.
@@ -94,7 +95,7 @@ pub fn simulate(job: &Job, workspace: &mut Workspace, class: u32, block: u32) ->
     ensures grown { workspace.old.evaluations ≤ workspace.new.evaluations }
     ensures counted { (r : Fault) (gates : List ℕ)
         → slice_get (representatives job.now.list.model job.now.circuit) class ≡ Some r
-        → HasStirred job.now.circuit job.now.tests.tests block r gates
+        → HasActive job.now.circuit job.now.tests.tests block r gates
         → workspace.new.evaluations ≤ workspace.old.evaluations + length gates }
 {
     outcome(job, workspace, class, block, Extent::WholeBlock)
@@ -114,7 +115,7 @@ pub fn first_hit(job: &Job, workspace: &mut Workspace, class: u32, block: u32) -
     ensures grown { workspace.old.evaluations ≤ workspace.new.evaluations }
     ensures counted { (r : Fault) (gates : List ℕ)
         → slice_get (representatives job.now.list.model job.now.circuit) class ≡ Some r
-        → HasStirred job.now.circuit job.now.tests.tests block r gates
+        → HasActive job.now.circuit job.now.tests.tests block r gates
         → workspace.new.evaluations ≤ workspace.old.evaluations + length gates }
 {
     let all = [Followed { class, lanes: !0 }];
@@ -138,7 +139,7 @@ pub fn detecting(job: &Job, workspace: &mut Workspace, class: u32, block: u32) -
     ensures grown { workspace.old.evaluations ≤ workspace.new.evaluations }
     ensures counted { (r : Fault) (gates : List ℕ)
         → slice_get (representatives job.now.list.model job.now.circuit) class ≡ Some r
-        → HasStirred job.now.circuit job.now.tests.tests block r gates
+        → HasActive job.now.circuit job.now.tests.tests block r gates
         → workspace.new.evaluations ≤ workspace.old.evaluations + length gates }
 {
     let word = told(job, workspace, class, block, Extent::WholeBlock);
@@ -163,7 +164,7 @@ fn outcome(
     ensures grown { workspace.old.evaluations ≤ workspace.new.evaluations }
     ensures counted { (r : Fault) (gates : List ℕ)
         → slice_get (representatives job.now.list.model job.now.circuit) class ≡ Some r
-        → HasStirred job.now.circuit job.now.tests.tests block r gates
+        → HasActive job.now.circuit job.now.tests.tests block r gates
         → workspace.new.evaluations ≤ workspace.old.evaluations + length gates }
 {
     let word = told(job, workspace, class, block, extent);
@@ -184,7 +185,7 @@ fn told(job: &Job, workspace: &mut Workspace, class: u32, block: u32, extent: Ex
     ensures grown { workspace.old.evaluations ≤ workspace.new.evaluations }
     ensures counted { (r : Fault) (gates : List ℕ)
         → slice_get (representatives job.now.list.model job.now.circuit) class ≡ Some r
-        → HasStirred job.now.circuit job.now.tests.tests block r gates
+        → HasActive job.now.circuit job.now.tests.tests block r gates
         → workspace.new.evaluations ≤ workspace.old.evaluations + length gates }
 {
     let fault = job.representative(class);

@@ -15,13 +15,13 @@ use std::process::Abort;
 use std::test::Fail;
 use worked_circuits::C17;
 
-/// For each class of C17 the gates that it stirs under the test `11111`.
-const C17_STIRRED: [u64; 22] = [
+/// For each class of C17 the gates that it makes active under the test `11111`.
+const C17_ACTIVE: [u64; 22] = [
     0, 0, 6, 0, 0, 0, 0, 0, 1, 0, 4, 3, 2, 2, 0, 0, 0, 0, 0, 0, 0, 0,
 ];
 
 /// The evaluations that a class of C17 takes on block 0.
-fn stirred_by(job: &Job, workspace: &mut Workspace, class: u32) -> u64 {
+fn active_by(job: &Job, workspace: &mut Workspace, class: u32) -> u64 {
     let before = workspace.gate_evaluations();
     if class < job.classes().count() && job.tests().blocks() > 0 && workspace.fits(job) {
         simulate(job, workspace, class, 0);
@@ -30,14 +30,14 @@ fn stirred_by(job: &Job, workspace: &mut Workspace, class: u32) -> u64 {
 }
 
 /// Checks the evaluations of each class of C17.
-fn check_stirred<R: Abort>(rt: &R, alloc: Global, job: &Job) -> Result<(), Fail> {
+fn check_active<R: Abort>(rt: &R, alloc: Global, job: &Job) -> Result<(), Fail> {
     let mut workspace = Workspace::new(alloc, job)?;
     assert_eq!(rt; job.classes().count(), 22);
     for class in 0..22u32 {
-        let stirred = stirred_by(job, &mut workspace, class);
+        let active = active_by(job, &mut workspace, class);
         assert_eq!(rt;
-            Some(&stirred),
-            C17_STIRRED.get(class as usize),
+            Some(&active),
+            C17_ACTIVE.get(class as usize),
             "class {class}"
         );
     }
@@ -46,9 +46,9 @@ fn check_stirred<R: Abort>(rt: &R, alloc: Global, job: &Job) -> Result<(), Fail>
 }
 
 #[test]
-fn c17_evaluates_the_gates_that_are_stirred(rt: HostRuntime) -> Result<(), Fail> {
+fn c17_evaluates_the_gates_that_are_active(rt: HostRuntime) -> Result<(), Fail> {
     let job = job_of(rt.alloc(), Model::StuckAt, C17, b"11111\n")?;
-    check_stirred(&rt, rt.alloc(), &job)
+    check_active(&rt, rt.alloc(), &job)
 }
 
 /// The outcomes of all classes and blocks by both calls, and the evaluations of the first.

@@ -20,7 +20,7 @@ use Rattle.block_sim.proofs.Carried.{pin_of, gate_within}
 use Rattle.block_sim.proofs.Lanes.{lane_zero}
 use Rattle.block_sim.proofs.Moments.{large_enough}
 use Rattle.block_sim.proofs.Readers.{no_loop}
-use Rattle.block_sim.proofs.Started.{shown_none, shown_at_observer, pin_stirred, first_on_pin}
+use Rattle.block_sim.proofs.Started.{shown_none, shown_at_observer, pin_active, first_on_pin}
 use Rattle.block_sim.proofs.Started.{stem_change, turned_is, output_observed, data_observed}
 use Rattle.block_sim.proofs.Steps.{only_lanes, some_lane, lane_of_zero}
 use Rattle.block_sim.proofs.effect.effect.Goals as goal
@@ -47,8 +47,8 @@ bounds-view-signal c =
     let lt = place_within (names circuit) _ n.0 (name_of-signal circuit n.0 n.2) in
     omega (arith, lt, number, c.requires.view.count)
 
-pub returns-then-turned-eq0-clause-shown : goal.returns-then-turned-eq0-clause-shown
-returns-then-turned-eq0-clause-shown c = λ tests group words.
+pub returns-then-excited-eq0-clause-shown : goal.returns-then-excited-eq0-clause-shown
+returns-then-excited-eq0-clause-shown c = λ tests group words.
     let circuit = c.args.view.circuit.now in
     let well = c.requires.view.circuit.well_formed in
     let good = c.args.view.good.now in
@@ -59,7 +59,7 @@ returns-then-turned-eq0-clause-shown c = λ tests group words.
     shown_none circuit tests group fault good n.0 well words n.1 (IsSettled c.args.extent 0) lanes
     (bit_and (bit_xor c.word.result (slice_index_or good c.carried-signal.result 0)) lanes)
     (turned_is circuit fault good lanes c.carried-signal.result c.word.result n.0 number
-    c.word.ensures) 0 (λ k lt. lane_of_zero _ k c.if-turned-eq0.true) lane_zero
+    c.word.ensures) 0 (λ k lt. lane_of_zero _ k c.if-excited-eq0.true) lane_zero
 
 pub spread-requires-clause-start : goal.spread-requires-clause-start
 spread-requires-clause-start c =
@@ -304,12 +304,12 @@ returns-in-Pin-clause-counted c = λ tests group gates words sized all.
     ∙ ap (λ d. value p.kind (pin_bits (Some fault) c.in-Pin.gate (map (signal circuit) p.args) good
     d k)) (sym c.gate_change-diff.ensures.overlay) in
     let number : c.carried-signal.result ≡ signal circuit n.0 = c.carried-signal.ensures n.0 n.1 in
-    let turned = bit_and (bit_xor c.word.result (slice_index_or good c.carried-signal.result 0))
+    let excited = bit_and (bit_xor c.word.result (slice_index_or good c.carried-signal.result 0))
     lanes in
-    let below : turned < 2 ^ 128 =
+    let below : excited < 2 ^ 128 =
     (let le = and_le_r (bit_xor c.word.result (slice_index_or good c.carried-signal.result 0))
     lanes in omega (arith, le)) in
-    let k = some_lane turned below c.if-turned-eq0.false in
+    let k = some_lane excited below c.if-excited-eq0.false in
     let d = definition_defines circuit c.in-Pin.gate (Gate p.name p.kind p.args) p.is in
     let first : p.name ∷ [] ≡ d.0 ∷ [] = d.1 in
     let one : d.0 ≡ p.name = cc in
@@ -318,13 +318,13 @@ returns-in-Pin-clause-counted c = λ tests group gates words sized all.
     (at_place (names circuit) c.in-Pin.gate p.name named) in
     let at : signal circuit p.name ≡ c.in-Pin.gate =
     signal-name_of circuit c.in-Pin.gate p.name well.once named own in
-    let stirred = pin_stirred circuit tests group fault good n.0 well words n.1
-    (λ _. Unit {0}) lanes turned
+    let active = pin_active circuit tests group fault good n.0 well words n.1
+    (λ _. Unit {0}) lanes excited
     (turned_is circuit fault good lanes c.carried-signal.result c.word.result n.0 number
     c.word.ensures)
     k.0 c.in-Pin.gate c.in-Pin.pin k.1 c.in-Pin.is sized k.2 p.name p.kind p.args
     (contained circuit (Gate p.name p.kind p.args) d.3) at p.reads in
-    let counted = count_one c.in-Pin.gate gates (all c.in-Pin.gate stirred) in
+    let counted = count_one c.in-Pin.gate gates (all c.in-Pin.gate active) in
     let le = c.spread-in-Pin.ensures.counted tests group (λ _. fault) gates
     (first_on_pin circuit tests group fault good lanes c.gate_change-diff.new.changes.overlay
     c.in-Pin.gate c.in-Pin.pin c.gate_change-diff.result p.kind (map (signal circuit) p.args)

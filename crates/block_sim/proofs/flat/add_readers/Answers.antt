@@ -8,8 +8,8 @@ use Rattle.block_sim.specs.declared.flat.Reader.{Reader}
 use Rattle.block_sim.proofs.Flats.{gathered_none, gathered_passed, gathered_dead, gathered_more}
 use Rattle.block_sim.proofs.Flats.{gathered_all}
 use Rattle.block_sim.proofs.Readers.{reader_within}
-use Rattle.block_sim.proofs.Woken.{HasObserver, observer_none, sink_gate, observer_passed}
-use Rattle.block_sim.proofs.Woken.{observer_found, observer_all}
+use Rattle.block_sim.proofs.ScheduledGates.{HasObserver, observer_none, sink_gate, observer_passed}
+use Rattle.block_sim.proofs.ScheduledGates.{observer_found, observer_all}
 use Rattle.block_sim.proofs.flat.add_readers.Goals as goal
 use Rattle.block_sim.proofs.flat.add_readers.Goals.{in-Pin+else-not-live-gate+in_ok-push-in-Pin}
 use Rattle.block_sim.proofs.flat.add_readers.Goals.{in-Data, in-Out}

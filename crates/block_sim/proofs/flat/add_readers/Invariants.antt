@@ -1,7 +1,7 @@
 use Rattle.std.proofs.Common.{◌≡◌, ◌++◌, List}
 use Rattle.block_sim.specs.declared.flat.Reader.{Reader}
 use Rattle.block_sim.proofs.Flats.{AreGathered}
-use Rattle.block_sim.proofs.Woken.{HasObserver}
+use Rattle.block_sim.proofs.ScheduledGates.{HasObserver}
 use Rattle.block_sim.proofs.flat.add_readers.Given as goal
 
 abbrev pub invariant-loop-sink : goal.invariant-loop-sink

@@ -7,7 +7,7 @@ use Rattle.block_sim.specs.Events.{IsLive}
 use Rattle.block_sim.proofs.LiveSignals.{dead_all, dead_more, dead_none, live_by_gate}
 use Rattle.block_sim.proofs.LiveSignals.{live_by_observer}
 use Rattle.block_sim.proofs.Readers.{reader_within}
-use Rattle.block_sim.proofs.Woken.{sink_gate}
+use Rattle.block_sim.proofs.ScheduledGates.{sink_gate}
 use Rattle.block_sim.proofs.live.leads_on.Goals as goal
 use Rattle.block_sim.proofs.live.leads_on.Goals.{in-Pin, in-Data}
 

@@ -2,7 +2,7 @@ use Rattle.std.proofs.Common.{◌<◌, length, refl, arith}
 use Rattle.block_sim.specs.Regions.{flips}
 use Rattle.block_sim.specs.Spans.{AreInSpan, group_of}
 use Rattle.block_sim.specs.Spreading.{HaveHits}
-use Rattle.block_sim.proofs.FlipLanes.{flip_first, flip_told, flips_stir}
+use Rattle.block_sim.proofs.FlipLanes.{flip_first, flip_told, flips_activate}
 use Rattle.block_sim.proofs.region.flip.Goals as goal
 
 pub spread-requires-clause-first : goal.spread-requires-clause-first
@@ -39,7 +39,7 @@ returns-clause-told c = λ tests group words one there.
     (λ k settled own. settled one there own)
 
 pub returns-clause-counted : goal.returns-clause-counted
-returns-clause-counted c = λ tests span gates words inside stirred.
+returns-clause-counted c = λ tests span gates words inside active.
     let group = group_of span in
     let s = c.args.signal in
     let good = c.args.view.good.now in
@@ -55,6 +55,7 @@ returns-clause-counted c = λ tests span gates words inside stirred.
     inside one.0 one.1 k lt one.2) in
     let le = c.spread.ensures.counted tests group (flips good s) gates first
     (λ k lt own. (within k lt own).listed)
-    (flips_stir circuit well tests group good words s c.requires.signal span lanes gates refl within
-    stirred) in
+    (flips_activate circuit well tests group good words s c.requires.signal span lanes gates refl
+    within
+    active) in
     omega (arith, le)

@@ -39,8 +39,8 @@ bounds-view-signal c =
     let lt = place_within (names circuit) _ n.0 (name_of-signal circuit n.0 n.2) in
     omega (arith, lt, number, c.requires.view.count)
 
-pub returns-then-turned-eq0-clause-reached : goal.returns-then-turned-eq0-clause-reached
-returns-then-turned-eq0-clause-reached c = λ tests group words k lt.
+pub returns-then-excited-eq0-clause-reached : goal.returns-then-excited-eq0-clause-reached
+returns-then-excited-eq0-clause-reached c = λ tests group words k lt.
     let circuit = c.args.view.circuit.now in
     let well = c.requires.view.circuit.well_formed in
     let good = c.args.view.good.now in
@@ -52,7 +52,7 @@ returns-then-turned-eq0-clause-reached c = λ tests group words k lt.
     (shown_none circuit tests group fault good n.0 well words n.1 (λ _. ⊥) lanes
     (bit_and (bit_xor c.word.result (slice_index_or good c.carried-signal.result 0)) lanes)
     (turned_is circuit fault good lanes c.carried-signal.result c.word.result n.0 number
-    c.word.ensures) 0 (λ k lt. lane_of_zero _ k c.if-turned-eq0.true) lane_zero) k lt
+    c.word.ensures) 0 (λ k lt. lane_of_zero _ k c.if-excited-eq0.true) lane_zero) k lt
 
 pub arrive-requires-clause-signal : goal.arrive-requires-clause-signal
 arrive-requires-clause-signal c =

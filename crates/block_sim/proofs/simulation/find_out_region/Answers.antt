@@ -49,13 +49,13 @@ returns-clause-told c =
     (subst (λ l. Contains l own) (sym c.as_slice-all.ensures.value) kept)
 
 pub returns-clause-counted : goal.returns-clause-counted
-returns-clause-counted c = λ way gates ways stirred.
+returns-clause-counted c = λ way gates ways active.
     let own = c.args.own in
     let more = known_more way c.args.span.first c.args.memos.now own.class (Pending c.args.span)
     (let count = c.requires.memos.count in omega (arith, c.requires.class, count))
     (between_first c.args.span.first c.args.span.last c.requires.span.ordered)
     c.requires.idle in
     let first = c.gather.ensures.counted way ways in
-    let spread = c.flip_stem-seen.ensures.counted gates stirred in
+    let spread = c.flip_stem-seen.ensures.counted gates active in
     let known = c.conclude.ensures.known way in
     omega (arith, more, first, spread, known)

@@ -2,7 +2,7 @@ use Rattle.std.proofs.Common.{arith, sym, subst}
 use Rattle.std.specs.Prelude.{None}
 use Rattle.block_sim.specs.Regions.{TellsFirstFlips}
 use Rattle.block_sim.specs.Spans.{group_of}
-use Rattle.block_sim.specs.Ways.{HasStirredByFlip}
+use Rattle.block_sim.specs.Ways.{HasActiveByFlip}
 use Rattle.block_sim.specs.Words.{AreWords}
 use Rattle.block_sim.proofs.Simulated.{arrived_within}
 use Rattle.block_sim.proofs.simulation.flip_stem.Goals as goal
@@ -28,7 +28,7 @@ returns-clause-told c = λ one there.
     (c.flip.ensures.told tests group words one there)
 
 pub returns-clause-counted : goal.returns-clause-counted
-returns-clause-counted c = λ gates stirred.
+returns-clause-counted c = λ gates active.
     let job = c.args.job.now in
     let tests = job.tests.tests in
     let span = c.args.span in
@@ -39,7 +39,7 @@ returns-clause-counted c = λ gates stirred.
     c.flip.ensures.counted tests span gates words
     (λ one there. arrived_within job span stem one.class one.lanes
     (c.requires.followed one there).1)
-    (subst (λ x. HasStirredByFlip x tests span stem gates) (sym c.flat.ensures.part) stirred)
+    (subst (λ x. HasActiveByFlip x tests span stem gates) (sym c.flat.ensures.part) active)
 
 pub fault_free-requires : goal.fault_free-requires
 fault_free-requires c = let within = c.requires.span.within in omega (arith, within)

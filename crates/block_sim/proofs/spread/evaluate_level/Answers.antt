@@ -37,8 +37,8 @@ evaluate_waiting-requires-clause-taken c =
     let s = c.requires.spreads in
     taken_now c.args.view.circuit.now c.args.view.good.now c.args.view.lanes
     c.requires.view.circuit.well_formed s.0 c.loop-gate.changes.buckets.at c.args.level
-    c.loop-gate.found.kept
-    c.loop-gate.found.seen c.in-Some.gate _ (c.loop-gate.invariant.leads.spreading s.0 s.1)
+    c.loop-gate.found.followed
+    c.loop-gate.found.detected c.in-Some.gate _ (c.loop-gate.invariant.leads.spreading s.0 s.1)
     c.in-Some.ensures.some.0 c.in-Some.ensures.some.1 c.in-Some.ensures.some.2
 
 pub loop-gate-smaller : goal.loop-gate-smaller
@@ -47,13 +47,13 @@ loop-gate-smaller c =
     let s = c.requires.spreads in
     let m = c.loop-gate.changes in
     let here = taken_here circuit c.args.view.good.now c.args.view.lanes s.0 m.overlay m.buckets.at
-    m.evaluations c.args.level c.loop-gate.found.kept c.loop-gate.found.seen c.in-Some.gate
+    m.evaluations c.args.level c.loop-gate.found.followed c.loop-gate.found.detected c.in-Some.gate
     (c.loop-gate.invariant.leads.spreading s.0 s.1) c.in-Some.ensures.some.1 in
     waiting_less (level_at circuit s.0.level) m.buckets.at c.take.new.self.at
     c.evaluate_waiting.new.changes.buckets.at c.in-Some.gate c.args.level
     c.in-Some.ensures.some.0 c.in-Some.ensures.some.1 c.in-Some.ensures.some.2 here
     c.evaluate_waiting.ensures.room.gates
-    (c.evaluate_waiting.ensures.woken s.0.level s.0.levels)
+    (c.evaluate_waiting.ensures.scheduled s.0.level s.0.levels)
 
 pub loop-gate-preserved : goal.loop-gate-preserved
 loop-gate-preserved c =
@@ -63,8 +63,8 @@ loop-gate-preserved c =
     let level = c.args.level in
     let m = c.loop-gate.changes in
     let n = c.evaluate_waiting.new.changes in
-    let kept = c.loop-gate.found.kept in
-    let seen = c.loop-gate.found.seen in
+    let kept = c.loop-gate.found.followed in
+    let seen = c.loop-gate.found.detected in
     let seen_now = bit_or seen c.evaluate_waiting.result in
     let last = c.loop-gate.invariant.room in
     let next = c.evaluate_waiting.ensures.room in
@@ -76,14 +76,15 @@ loop-gate-preserved c =
         levels = next.levels ∙ (c.in-Some.ensures.levels ∙ last.levels);
       };
       settled = λ h.
-          settled_on c.args.extent lanes kept c.followed-kept.result seen c.evaluate_waiting.result
-          (c.loop-gate.invariant.settled h) c.followed-kept.ensures.rest;
+          settled_on c.args.extent lanes kept c.followed-followed.result seen
+          c.evaluate_waiting.result
+          (c.loop-gate.invariant.settled h) c.followed-followed.ensures.rest;
       leads = leads_on circuit good lanes _ _ _ c.loop-gate.invariant.leads
           (leads_taken circuit good lanes m.overlay m.buckets.at c.take.new.self.at m.evaluations
           level kept seen c.in-Some.gate _ c.in-Some.ensures.some.2 c.in-Some.ensures.some.1
           (leads_on circuit good lanes _ _ _ (c.evaluate_waiting.ensures.leads level seen)
           (leads_narrower circuit good lanes n.overlay n.buckets.at n.evaluations level kept
-          seen_now c.followed-kept.result c.followed-kept.ensures.within)));
+          seen_now c.followed-followed.result c.followed-followed.ensures.within)));
     }
 
 pub loop-gate-smaller-then-seen-found : goal.loop-gate-smaller-then-seen-found
@@ -92,13 +93,13 @@ loop-gate-smaller-then-seen-found c =
     let s = c.requires.spreads in
     let m = c.loop-gate.changes in
     let here = taken_here circuit c.args.view.good.now c.args.view.lanes s.0 m.overlay m.buckets.at
-    m.evaluations c.args.level c.loop-gate.found.kept c.loop-gate.found.seen c.in-Some.gate
+    m.evaluations c.args.level c.loop-gate.found.followed c.loop-gate.found.detected c.in-Some.gate
     (c.loop-gate.invariant.leads.spreading s.0 s.1) c.in-Some.ensures.some.1 in
     waiting_less (level_at circuit s.0.level) m.buckets.at c.take.new.self.at
     c.evaluate_waiting.new.changes.buckets.at c.in-Some.gate c.args.level
     c.in-Some.ensures.some.0 c.in-Some.ensures.some.1 c.in-Some.ensures.some.2 here
     c.evaluate_waiting.ensures.room.gates
-    (c.evaluate_waiting.ensures.woken s.0.level s.0.levels)
+    (c.evaluate_waiting.ensures.scheduled s.0.level s.0.levels)
 
 pub loop-gate-preserved-then-seen-found : goal.loop-gate-preserved-then-seen-found
 loop-gate-preserved-then-seen-found c =
@@ -108,8 +109,8 @@ loop-gate-preserved-then-seen-found c =
     let level = c.args.level in
     let m = c.loop-gate.changes in
     let n = c.evaluate_waiting.new.changes in
-    let kept = c.loop-gate.found.kept in
-    let seen = c.loop-gate.found.seen in
+    let kept = c.loop-gate.found.followed in
+    let seen = c.loop-gate.found.detected in
     let last = c.loop-gate.invariant.room in
     let next = c.evaluate_waiting.ensures.room in
     record {
@@ -138,7 +139,7 @@ returns-clause-leads c =
     let m = c.loop-gate.changes in
     leads_on circuit good lanes _ _ _ c.loop-gate.invariant.leads
     (leads_higher circuit good lanes m.overlay m.buckets.at c.take.new.self.at m.evaluations
-    c.args.level c.loop-gate.found.kept c.loop-gate.found.seen
+    c.args.level c.loop-gate.found.followed c.loop-gate.found.detected
     c.in_default.ensures.none.0 c.in_default.ensures.none.1)
 
 pub returns-clause-room : goal.returns-clause-room

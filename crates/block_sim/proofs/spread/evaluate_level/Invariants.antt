@@ -8,11 +8,11 @@ use Rattle.block_sim.proofs.spread.evaluate_level.Given as goal
 abbrev pub invariant-loop-gate : goal.invariant-loop-gate
 invariant-loop-gate l = record {
   room : IsAsLarge l.fn.changes l.changes;
-  settled : LeavesSettled l.extent l.view.lanes l.fn.found.kept l.fn.found.seen
-      → LeavesSettled l.extent l.view.lanes l.found.kept l.found.seen;
+  settled : LeavesSettled l.extent l.view.lanes l.fn.found.followed l.fn.found.detected
+      → LeavesSettled l.extent l.view.lanes l.found.followed l.found.detected;
   leads : Leads l.view.circuit.now l.view.good.now l.view.lanes
-      (moment l.fn.changes l.level l.fn.found.kept l.fn.found.seen)
-      (moment l.changes l.level l.found.kept l.found.seen);
+      (moment l.fn.changes l.level l.fn.found.followed l.fn.found.detected)
+      (moment l.changes l.level l.found.followed l.found.detected);
 }
 
 abbrev pub decreases-loop-gate : goal.decreases-loop-gate

@@ -6,7 +6,7 @@ use Rattle.block_sim.specs.Words.{lane, pin_bits}
 use Rattle.block_sim.proofs.Equations.{pins_within, pins_few, pins_some}
 use Rattle.block_sim.proofs.Moments.{leads_changed, leads_same, leads_skipped}
 use Rattle.block_sim.proofs.Rises.{reads_rise}
-use Rattle.block_sim.proofs.Spreading.{woken_above}
+use Rattle.block_sim.proofs.Spreading.{scheduled_above}
 use Rattle.block_sim.proofs.Steps.{no_change, only_lanes, changed_to}
 use Rattle.block_sim.proofs.spread.evaluate_waiting.Goals as goal
 
@@ -91,12 +91,12 @@ returns-clause-leads c = λ now seen.
     c.requires.taken.clear c.change.ensures.changed c.if-diff-eq0.false c.change.ensures.some
     (λ k lt e. only_lanes (bit_xor word (slice_index_or good gate 0)) c.args.kept k e)
     (λ k lt e. changed_to word (slice_index_or good gate 0) c.args.kept k e)
-    c.change.ensures.woken c.change.ensures.shown
+    c.change.ensures.scheduled c.change.ensures.shown
 
-pub returns-clause-woken : goal.returns-clause-woken
-returns-clause-woken c = λ level are r.
+pub returns-clause-scheduled : goal.returns-clause-scheduled
+returns-clause-scheduled c = λ level are r.
     let circuit = c.args.view.circuit.now in
-    woken_above circuit (level_at circuit level) c.args.gate c.args.changes.now.buckets.at
+    scheduled_above circuit (level_at circuit level) c.args.gate c.args.changes.now.buckets.at
     c.change.new.changes.buckets.at
     (reads_rise circuit level c.requires.view.circuit.well_formed are)
-    (c.change.ensures.woken level are) r
+    (c.change.ensures.scheduled level are) r

@@ -6,7 +6,7 @@ use Rattle.event_queue.proofs.Public.{index_zero}
 use Rattle.block_sim.specs.Events.{level_at}
 use Rattle.block_sim.specs.Spreading.{IsSettled}
 use Rattle.block_sim.proofs.Ahead.{count_at_most}
-use Rattle.block_sim.proofs.Finish.{shown_from, shown_unchanged, stirred_touched, none_above}
+use Rattle.block_sim.proofs.Finish.{shown_from, shown_unchanged, active_touched, none_above}
 use Rattle.block_sim.proofs.Moments.{case_of, first_left, first_seen, first_spreads, large_enough}
 use Rattle.block_sim.proofs.Moments.{large_none, large_on, leads_none, leads_on}
 use Rattle.block_sim.proofs.Rises.{reads_rise, level_is, has_level}
@@ -65,7 +65,7 @@ evaluate_level-found-requires-clause-spreads c =
     levels.2 in
     let here = level_is circuit levels.0 start c.level_of-level.result well levels.2 levels in
     let first = first_spreads circuit w.0 w.1 w.2 good lanes old c.change-seen.new.changes start
-    c.args.diff well w.3 levels.0 levels.2 c.requires.clear c.change-seen.ensures.woken
+    c.args.diff well w.3 levels.0 levels.2 c.requires.clear c.change-seen.ensures.scheduled
     c.level_of-level.result here c.followed-kept.result c.change-seen.result
     c.change-seen.ensures.changed (omega (arith, c.requires.start, c.requires.room.overlay))
     c.if-diff-eq0.false
@@ -101,7 +101,7 @@ returns-clause-shown c = λ tests group f first.
     ) in
     let spreads = c.loop-level.invariant.leads.spreading case
     (first_spreads circuit tests group f good lanes old c.change-seen.new.changes start c.args.diff
-    well first levels.0 levels.2 c.requires.clear c.change-seen.ensures.woken
+    well first levels.0 levels.2 c.requires.clear c.change-seen.ensures.scheduled
     c.level_of-level.result here c.followed-kept.result c.change-seen.result
     c.change-seen.ensures.changed within c.if-diff-eq0.false
     c.change-seen.ensures.some c.requires.inside c.followed-kept.ensures.within) in
@@ -116,7 +116,7 @@ returns-clause-shown c = λ tests group f first.
     omega (arith, less, c.change-seen.ensures.room.levels)) in
     let idle : (s : ℕ) → slice_index_or now.buckets.at s 0 ≡ 0 = elim c.loop-level-test.branch [
       | else-loop-level-test x ↦ none_above circuit tests group f good lanes
-          (level_at circuit levels.0) start c.loop-level.found.kept now.overlay now.buckets.at
+          (level_at circuit levels.0) start c.loop-level.found.followed now.overlay now.buckets.at
           c.loop-level.level well spreads
           c.change-seen.new.changes.buckets.levels (let le = x.loop-level-test.false in
           omega (arith, le, c.levels-level-end.ensures)) below
@@ -124,8 +124,8 @@ returns-clause-shown c = λ tests group f first.
           (x.is_empty.ensures.0 x.if-is_empty.true)
     ] in
     shown_from circuit tests group f good lanes (level_at circuit levels.0) start
-    c.loop-level.found.kept now.overlay now.buckets.at c.loop-level.level well
-    spreads (IsSettled c.args.extent c.loop-level.found.seen) c.loop-level.found.seen
+    c.loop-level.found.followed now.overlay now.buckets.at c.loop-level.level well
+    spreads (IsSettled c.args.extent c.loop-level.found.detected) c.loop-level.found.detected
     (reads_rise circuit levels.0 well levels.2) idle first.unobserved seen
     c.loop-level.invariant.settled
 
@@ -143,18 +143,18 @@ returns-clause-counted c = λ tests group f gates first sized all.
     levels.2 in
     let here = level_is circuit levels.0 start c.level_of-level.result well levels.2 levels in
     let begin = first_spreads circuit tests group f good lanes old c.change-seen.new.changes start
-    c.args.diff well first levels.0 levels.2 c.requires.clear c.change-seen.ensures.woken
+    c.args.diff well first levels.0 levels.2 c.requires.clear c.change-seen.ensures.scheduled
     c.level_of-level.result here c.followed-kept.result c.change-seen.result
     c.change-seen.ensures.changed (omega (arith, c.requires.start, c.requires.room.overlay))
     c.if-diff-eq0.false
     c.change-seen.ensures.some c.requires.inside c.followed-kept.ensures.within in
-    let touched = stirred_touched circuit tests group f good lanes (level_at circuit levels.0) start
-    c.loop-level.found.kept now.overlay now.buckets.at c.loop-level.level well
+    let touched = active_touched circuit tests group f good lanes (level_at circuit levels.0) start
+    c.loop-level.found.followed now.overlay now.buckets.at c.loop-level.level well
     (c.loop-level.invariant.leads.spreading case begin) gates first.words sized first.elsewhere
     (reads_rise circuit levels.0 well levels.2) all in
     let less = c.loop-level.invariant.leads.counted case gates begin touched in
     let few = first_left circuit tests group f good lanes old c.change-seen.new.changes start
-    c.args.diff well first levels.0 levels.2 c.requires.clear c.change-seen.ensures.woken
+    c.args.diff well first levels.0 levels.2 c.requires.clear c.change-seen.ensures.scheduled
     c.level_of-level.result here c.followed-kept.result c.change-seen.result gates in
     omega (arith, less, few, c.change-seen.ensures.evaluations)
 
@@ -191,7 +191,7 @@ returns-clause-clear c =
     let here = level_is circuit levels.0 start c.level_of-level.result well levels.2 levels in
     let spreads = c.loop-level.invariant.leads.spreading case
     (first_spreads circuit w.0 w.1 w.2 good lanes old c.change-seen.new.changes start c.args.diff
-    well w.3 levels.0 levels.2 c.requires.clear c.change-seen.ensures.woken
+    well w.3 levels.0 levels.2 c.requires.clear c.change-seen.ensures.scheduled
     c.level_of-level.result here c.followed-kept.result c.change-seen.result
     c.change-seen.ensures.changed (omega (arith, c.requires.start, c.requires.room.overlay))
     c.if-diff-eq0.false
@@ -203,7 +203,7 @@ returns-clause-clear c =
     omega (arith, less, c.change-seen.ensures.room.levels)) in
     let idle : (s : ℕ) → slice_index_or now.buckets.at s 0 ≡ 0 = elim c.loop-level-test.branch [
       | else-loop-level-test x ↦ none_above circuit w.0 w.1 w.2 good lanes
-          (level_at circuit levels.0) start c.loop-level.found.kept now.overlay now.buckets.at
+          (level_at circuit levels.0) start c.loop-level.found.followed now.overlay now.buckets.at
           c.loop-level.level well spreads
           c.change-seen.new.changes.buckets.levels (let le = x.loop-level-test.false in
           omega (arith, le, c.levels-level-end.ensures)) below

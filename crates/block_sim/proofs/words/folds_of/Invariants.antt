@@ -5,7 +5,8 @@ use Rattle.block_sim.proofs.words.folds_of.Given as goal
 
 abbrev pub invariant-loop-place : goal.invariant-loop-place
 invariant-loop-place l = record {
-  folds : AreFolds (fault_of l.fault) l.gate l.line.pins.now l.words l.delta l.line.form.turns_pins
+  folds : AreFolds (fault_of l.fault) l.signal l.gate.pins.now l.words l.delta
+      l.gate.form.inverts_inputs
       l.place l.all l.odd;
-  within : l.place ≤ length l.line.pins.now;
+  within : l.place ≤ length l.gate.pins.now;
 }

@@ -8,13 +8,13 @@ use Rattle.patterns.specs.Tests.{TestList}
 use Rattle.block_sim.specs.Spreading.{AreShown, IsSettled}
 use Rattle.block_sim.specs.Regions.{AreLanesFor}
 use Rattle.block_sim.specs.Spans.{AreInSpan, IsInSpan, one_block}
-use Rattle.block_sim.specs.Stirred.{HasStirred, HasStirredIn}
+use Rattle.block_sim.specs.ActiveGates.{HasActive, HasActiveIn}
 use Rattle.block_sim.specs.Stuck.{stuck_fault}
 use Rattle.block_sim.specs.Words.{lane, AreWords}
 use Rattle.block_sim.proofs.Deep.{level_within}
 use Rattle.block_sim.proofs.Finish.{told_of_shown}
 use Rattle.block_sim.proofs.Steps.{lanes_decide}
-use Rattle.block_sim.proofs.Told.{stirred_on_block}
+use Rattle.block_sim.proofs.Told.{active_on_block}
 use Rattle.block_sim.proofs.workspace.told.Goals as goal
 
 pub effect-requires-clause-words : goal.effect-requires-clause-words
@@ -95,12 +95,12 @@ returns-clause-counted c = λ r gates at all.
     let same : r ≡ fault = ap (λ (o : Option Fault). unwrap_or o r) (sym at
     ∙ c.representative-fault.ensures.representative) in
     let within : AreInSpan tests span lanes = λ k lt e. ((decides k lt).0 e).0 in
-    let stirred : HasStirredIn c.flat.result.now tests group lanes (λ _. fault) gates =
-    subst (λ x. HasStirredIn x tests group lanes (λ _. fault) gates) (sym c.flat.ensures.part)
-    (stirred_on_block job.circuit tests block fault lanes gates within
-    (subst (λ x. HasStirred job.circuit tests block x gates) same all)) in
+    let active : HasActiveIn c.flat.result.now tests group lanes (λ _. fault) gates =
+    subst (λ x. HasActiveIn x tests group lanes (λ _. fault) gates) (sym c.flat.ensures.part)
+    (active_on_block job.circuit tests block fault lanes gates within
+    (subst (λ x. HasActive job.circuit tests block x gates) same all)) in
     let le = c.effect.ensures.counted tests group gates words (λ k lt e. (within k lt e).listed)
-    stirred in
+    active in
     let before : c.workspace.inside.changes.evaluations ≡ c.args.workspace.now.evaluations =
     ap (λ x. x.evaluations) c.workspace.view_is in
     omega (arith, le, before)

@@ -3,6 +3,7 @@ use Rattle.std.specs.Prelude.{IfSome, Some, slice_range}
 use Rattle.std.specs.Option.{option_map}
 use Rattle.bench_net.specs.Scan.{names, gate_of}
 use Rattle.block_sim.specs.declared.flat.Driver.{Driver}
+use Rattle.block_sim.specs.Flat.{HasEnds}
 use Rattle.block_sim.specs.Forms.{IsFormOf}
 use Rattle.block_sim.proofs.Flats.{row_of}
 use Rattle.block_sim.proofs.flat.FlatCircuit.gate_of.Goals as goal
@@ -85,3 +86,14 @@ returns-in-Some-clause-form c =
     c.index-row.ensures in
     subst (λ o. IfSome o (λ (driver : Driver). IsFormOf driver.kind driver.form)) c.in-Some.is
     row.formed
+
+pub returns-in-Some-clause-ends : goal.returns-in-Some-clause-ends
+returns-in-Some-clause-ends c =
+    let own = c.self.inside in
+    let at = c.index-row.result.now in
+    let row = row_of own.circuit own.lists.pins.items own.lists.readers.items own.lists.rows.items
+    own.lists.standings.items c.args.signal at c.self.invariant
+    (subst (λ x. c.args.signal < length (names x)) (sym c.self.view_is) c.requires)
+    c.index-row.ensures in
+    subst (λ l. HasEnds (slice_range l at.pins_start at.pins_end) at.first at.last)
+    (sym c.deref.ensures.value) row.ends

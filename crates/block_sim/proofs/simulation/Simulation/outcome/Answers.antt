@@ -10,11 +10,11 @@ use Rattle.block_sim.specs.Simulation.{IsTrueMemo, Serves}
 use Rattle.block_sim.specs.declared.simulation.Memo.{Memo}
 use Rattle.block_sim.specs.declared.simulation.Memo.TheVariants.{Nothing}
 use Rattle.block_sim.specs.Spans.{IsSpan, span_from}
-use Rattle.block_sim.specs.Ways.{HasStirredByFlip, is_on, known_ways}
+use Rattle.block_sim.specs.Ways.{HasActiveByFlip, is_on, known_ways}
 use Rattle.block_sim.proofs.Moments.{large_enough}
 use Rattle.block_sim.proofs.Simulated.{arrived_first, memo_kept, room_at_rest}
 use Rattle.block_sim.proofs.Stems.{one_class_stem}
-use Rattle.block_sim.proofs.Ways.{known_more, stirred_wider}
+use Rattle.block_sim.proofs.Ways.{known_more, active_wider}
 use Rattle.block_sim.proofs.simulation.Simulation.outcome.Goals as goal
 
 -- a list that was written over whole
@@ -163,7 +163,7 @@ find_out_region-seen-requires-clause-idle c =
     (served.outcomes.each c.args.class)) c.in_default.is))
 
 pub returns-in-Known-clause-counted : goal.returns-in-Known-clause-counted
-returns-in-Known-clause-counted c = λ way stem gates ways at stirred.
+returns-in-Known-clause-counted c = λ way stem gates ways at active.
     let job = c.args.job.now in
     let block = c.args.block in
     let class = c.args.class in
@@ -186,7 +186,7 @@ returns-in-Known-clause-counted c = λ way stem gates ways at stirred.
     omega (arith, own, more, before, from)
 
 pub returns-in-Stem-clause-counted : goal.returns-in-Stem-clause-counted
-returns-in-Stem-clause-counted c = λ way stem gates ways at stirred.
+returns-in-Stem-clause-counted c = λ way stem gates ways at active.
     let job = c.args.job.now in
     let block = c.args.block in
     let class = c.args.class in
@@ -201,10 +201,10 @@ returns-in-Stem-clause-counted c = λ way stem gates ways at stirred.
     let is = subst (λ (t : TestList). IsSpan (length t.tests) span) c.tests.ensures.part
     c.from-span.ensures.span in
     let found_all = c.find_out_region-seen.ensures.counted way gates ways
-    (stirred_wider job.circuit job.tests.tests span block c.in-Stem.at.signal gates is
+    (active_wider job.circuit job.tests.tests span block c.in-Stem.at.signal gates is
     c.from-span.ensures.first c.from-span.ensures.alone
-    (subst (λ s. HasStirredByFlip job.circuit job.tests.tests (span_from block) s gates)
-    (sym same) stirred)) in
+    (subst (λ s. HasActiveByFlip job.circuit job.tests.tests (span_from block) s gates)
+    (sym same) active)) in
     let all = subst (λ b. c.find_out_region-seen.new.changes.evaluations
     + known_ways way b c.deref_mut.result.now + way class
     ≤ c.follow_alone.new.changes.evaluations + known_ways way b found + length gates)

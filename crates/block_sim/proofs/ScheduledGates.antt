@@ -16,7 +16,7 @@ use Rattle.bench_net.proofs.Public.{name_of-signal, signal-name_of}
 use Rattle.lists.proofs.Places.{at_place, placed, place_within, within_place}
 use Rattle.fault_model.proofs.Public.{observes, data_reads, out_reads}
 use Rattle.block_sim.specs.declared.flat.Reader.{Reader}
-use Rattle.block_sim.specs.Events.{Reads, IsLive, IsObserved, AreWoken, level_at}
+use Rattle.block_sim.specs.Events.{Reads, IsLive, IsObserved, AreScheduled, level_at}
 use Rattle.block_sim.specs.Flat.{AreReaders}
 use Rattle.block_sim.proofs.Placed.{index_of}
 use Rattle.block_sim.proofs.Readers.{sink_reads}
@@ -36,7 +36,7 @@ cell_among (Gate m kind args ∷ c) q d (inl same) = let it : Gate m kind args �
 cell_among (Gate m kind args ∷ c) q d (inr a) = cell_among c q d a
 
 -- the first readers wait, and no others that did not before
-pub record HasWoken (c : List Statement) (s : ℕ) (items : List Reader) (i : ℕ)
+pub record HasScheduled (c : List Statement) (s : ℕ) (items : List Reader) (i : ℕ)
     (before at : List ℕ) : Type 0 where
   pub readers : (j : ℕ) (reader : Reader) → j < i → slice_get items j ≡ Some reader
       → slice_index_or at reader.gate 0 ≢ 0
@@ -52,9 +52,9 @@ pub record HasObserver (c : List Statement) (s : ℕ) (items : List Sink) (i : �
   pub none : observed ≡ false → (j : ℕ) → j < i → (gate : ℕ) × (pin : ℕ)
       × (slice_get items j ≡ Some (sink.Pin gate pin))
 
-pub woken_none : (c : List Statement) (s : ℕ) (items : List Reader) (at : List ℕ)
-    → HasWoken c s items 0 at at
-woken_none c s items at = record {
+pub scheduled_none : (c : List Statement) (s : ℕ) (items : List Reader) (at : List ℕ)
+    → HasScheduled c s items 0 at at
+scheduled_none c s items at = record {
   readers = λ j reader lt. absurd (omega (arith, lt));
   only = λ level are r. inl refl;
 }
@@ -81,10 +81,11 @@ gate_at (y ∷ items) (suc k) d x e = gate_at items k d x e
 module _ (c : List Statement) (well : IsWellFormed c) (s : ℕ) (items : List Reader)
     (are : AreReaders c s items) where
   module _ (i : ℕ) (d own : Reader) (is_own : slice_index_or items i d ≡ own) (before at : List ℕ)
-      (lt : i < length items) (h : HasWoken c s items i before at) where
+      (lt : i < length items) (h : HasScheduled c s items i before at) where
     -- a gate that waits already
-    pub woken_waits : slice_index_or at own.gate 0 ≢ 0 → HasWoken c s items (i + 1) before at
-    woken_waits waits = record {
+    pub scheduled_waits : slice_index_or at own.gate 0 ≢ 0
+        → HasScheduled c s items (i + 1) before at
+    scheduled_waits waits = record {
       readers = λ j reader below is. readers j reader (at_end i j below) is;
       only = h.only;
     }
@@ -102,9 +103,9 @@ module _ (c : List Statement) (well : IsWellFormed c) (s : ℕ) (items : List Re
         × HasLevel c r.gate r.level) is_own (are.each i d lt)
 
     -- a gate that waits from now on
-    pub woken_added : own.gate < length at → slice_index_or at own.gate 0 ≡ 0
-        → HasWoken c s items (i + 1) before (set at own.gate (own.level + 1))
-    woken_added within idle = record {
+    pub scheduled_added : own.gate < length at → slice_index_or at own.gate 0 ≡ 0
+        → HasScheduled c s items (i + 1) before (set at own.gate (own.level + 1))
+    scheduled_added within idle = record {
       readers = λ j reader below is. readers j reader (at_end i j below) is;
       only = λ levels are_levels r. only levels are_levels r (cases_eq r own.gate);
     }
@@ -166,10 +167,10 @@ module _ (c : List Statement) (well : IsWellFormed c) (s : ℕ) (items : List Re
             go (inr w) = inr (w.0, w.1, kept ∙ w.2)
 
   -- all readers
-  pub woken_all : (i : ℕ) (before at : List ℕ) (level : Name → ℕ) → length items ≤ i
-      → AreLevels c level → HasWoken c s items i before at
-      → AreWoken c (level_at c level) s before at
-  woken_all i before later level le are_levels h = record {
+  pub scheduled_all : (i : ℕ) (before at : List ℕ) (level : Name → ℕ) → length items ≤ i
+      → AreLevels c level → HasScheduled c s items i before at
+      → AreScheduled c (level_at c level) s before at
+  scheduled_all i before later level le are_levels h = record {
     readers = λ r reads live.
         let there = are.all r reads live in
         let within : there.0 < length items = omega (

@@ -1,4 +1,5 @@
--- Which gates a fault stirs on a block: those that have to be looked at to know what the fault
+-- Which gates a fault makes active on a block: those that have to be looked at to know what the
+-- fault
 -- does.
 use Rattle.std.specs.Prelude.{◌≡◌, ◌≢◌, ℕ, ◌+◌, ◌*◌, ◌<◌, Bool, true, List, length, Contains, Some}
 use Rattle.std.specs.Prelude.{None, slice_get}
@@ -13,7 +14,7 @@ use Rattle.block_sim.specs.Words.{lane}
 
 -- Under a test some pin of the gate sees another bit with the fault than without it. Of a
 -- transition fault it is the line stuck at the fault's bit that counts.
-pub record IsStirredBy (c : List Statement) (t : Test) (f : Fault) (gate : ℕ) : Type 0 where
+pub record IsActiveBy (c : List Statement) (t : Test) (f : Fault) (gate : ℕ) : Type 0 where
   pub fault_free : Name → Bool
   pub faulty : Name → Bool
   pub name : Name
@@ -34,24 +35,24 @@ abbrev pub AreInGroup : List Test → ℕ → ℕ → Type 0
 AreInGroup tests group lanes = (k : ℕ) → k < 128 → lane lanes k ≡ true
     → 128 * group + k < length tests
 
--- in one of the lanes the test stirs the gate, with the fault of the lane
-abbrev pub IsStirredIn : List Statement → List Test → ℕ → ℕ → (ℕ → Fault) → ℕ → Type 0
-IsStirredIn c tests group lanes f gate =
+-- in one of the lanes the test makes the gate active, with the fault of the lane
+abbrev pub IsActiveIn : List Statement → List Test → ℕ → ℕ → (ℕ → Fault) → ℕ → Type 0
+IsActiveIn c tests group lanes f gate =
     (k : ℕ) × (t : Test) × (k < 128) × (lane lanes k ≡ true)
-    × (slice_get tests (128 * group + k) ≡ Some t) × IsStirredBy c t (f k) gate
+    × (slice_get tests (128 * group + k) ≡ Some t) × IsActiveBy c t (f k) gate
 
--- the list names each gate that the faults stir in the lanes, one a lane
-abbrev pub HasStirredIn : List Statement → List Test → ℕ → ℕ → (ℕ → Fault) → List ℕ → Type 0
-HasStirredIn c tests group lanes f gates = (gate : ℕ) → IsStirredIn c tests group lanes f gate
+-- the list names each gate that the faults make active in the lanes, one a lane
+abbrev pub HasActiveIn : List Statement → List Test → ℕ → ℕ → (ℕ → Fault) → List ℕ → Type 0
+HasActiveIn c tests group lanes f gates = (gate : ℕ) → IsActiveIn c tests group lanes f gate
     → Contains gates gate
 
--- some test of the block stirs the gate
-abbrev pub IsStirred : List Statement → List Test → ℕ → Fault → ℕ → Type 0
-IsStirred c tests block f gate =
+-- some test of the block makes the gate active
+abbrev pub IsActive : List Statement → List Test → ℕ → Fault → ℕ → Type 0
+IsActive c tests block f gate =
     (k : ℕ) × (t : Test) × (k < size_of (length tests) block)
-    × (slice_get tests (64 * block + k) ≡ Some t) × IsStirredBy c t f gate
+    × (slice_get tests (64 * block + k) ≡ Some t) × IsActiveBy c t f gate
 
--- the list names each gate that the fault stirs on the block
-abbrev pub HasStirred : List Statement → List Test → ℕ → Fault → List ℕ → Type 0
-HasStirred c tests block f gates = (gate : ℕ) → IsStirred c tests block f gate
+-- the list names each gate that the fault makes active on the block
+abbrev pub HasActive : List Statement → List Test → ℕ → Fault → List ℕ → Type 0
+HasActive c tests block f gates = (gate : ℕ) → IsActive c tests block f gate
     → Contains gates gate

@@ -1,6 +1,6 @@
 use Rattle.std.proofs.Common.{sym}
 use Rattle.block_sim.proofs.Carried.{is_gate_there}
-use Rattle.block_sim.proofs.look_back.pin_signal.Goals as goal
+use Rattle.block_sim.proofs.line_signals.pin_signal.Goals as goal
 
 pub unreachable-requires : goal.unreachable-requires
 unreachable-requires c = is_gate_there c.args.circuit.now c.args.gate c.args.pin c.requires.named.0

@@ -5,14 +5,15 @@ use Rattle.std.proofs.lemmas.Bool.{false≢true}
 use Rattle.block_sim.specs.declared.flat.Reader.{Reader}
 use Rattle.block_sim.proofs.Finish.{idle_of}
 use Rattle.block_sim.proofs.Readers.{reader_within}
-use Rattle.block_sim.proofs.Woken.{HasWoken, woken_none, woken_waits, woken_added, woken_all}
-use Rattle.block_sim.proofs.spread.wake.Goals as goal
+use Rattle.block_sim.proofs.ScheduledGates.{HasScheduled, scheduled_none, scheduled_waits}
+use Rattle.block_sim.proofs.ScheduledGates.{scheduled_added, scheduled_all}
+use Rattle.block_sim.proofs.spread.schedule_fanout.Goals as goal
 
 pub loop-reader-init : goal.loop-reader-init
 loop-reader-init c = record {
   gates = refl;
   levels = refl;
-  woken = woken_none c.args.circuit.now c.args.signal c.readers_of-reader-items.result.now
+  scheduled = scheduled_none c.args.circuit.now c.args.signal c.readers_of-reader-items.result.now
       c.args.buckets.now.at;
 }
 
@@ -34,10 +35,11 @@ loop-reader-preserved-then-waits c =
     record {
       gates = c.loop-reader.invariant.gates;
       levels = c.loop-reader.invariant.levels;
-      woken = woken_waits c.args.circuit.now c.requires.circuit.well_formed c.args.signal items
+      scheduled = scheduled_waits c.args.circuit.now c.requires.circuit.well_formed c.args.signal
+          items
           c.readers_of-reader-items.ensures c.loop-reader.reader-index none reader refl
           c.args.buckets.now.at c.loop-reader.buckets.at c.loop-reader-test.true
-          c.loop-reader.invariant.woken (c.waits.ensures.0 c.if-waits.true);
+          c.loop-reader.invariant.scheduled (c.waits.ensures.0 c.if-waits.true);
     }
 
 pub add-requires-clause-gate : goal.add-requires-clause-gate
@@ -83,18 +85,18 @@ loop-reader-preserved c =
           ∙ (length-set c.loop-reader.buckets.at reader.gate (reader.level + 1)
           ∙ c.loop-reader.invariant.gates);
       levels = c.add.ensures.levels ∙ c.loop-reader.invariant.levels;
-      woken = subst (HasWoken circuit c.args.signal items (i + 1) c.args.buckets.now.at)
+      scheduled = subst (HasScheduled circuit c.args.signal items (i + 1) c.args.buckets.now.at)
           (sym c.add.ensures.at)
-          (woken_added circuit c.requires.circuit.well_formed c.args.signal items
+          (scheduled_added circuit c.requires.circuit.well_formed c.args.signal items
           c.readers_of-reader-items.ensures i none reader refl c.args.buckets.now.at
           c.loop-reader.buckets.at c.loop-reader-test.true
-          c.loop-reader.invariant.woken within idle);
+          c.loop-reader.invariant.scheduled within idle);
     }
 
-pub returns-clause-woken : goal.returns-clause-woken
-returns-clause-woken c = λ level are_levels.
-    woken_all c.args.circuit.now c.requires.circuit.well_formed c.args.signal
+pub returns-clause-scheduled : goal.returns-clause-scheduled
+returns-clause-scheduled c = λ level are_levels.
+    scheduled_all c.args.circuit.now c.requires.circuit.well_formed c.args.signal
     c.readers_of-reader-items.result.now c.readers_of-reader-items.ensures
     c.loop-reader.reader-index
     c.args.buckets.now.at c.loop-reader.buckets.at level c.loop-reader-test.false are_levels
-    c.loop-reader.invariant.woken
+    c.loop-reader.invariant.scheduled
