@@ -14,9 +14,10 @@ use Rattle.fault_model.specs.Solution.{Test, Solves, value}
 use Rattle.block_sim.specs.Words.{lane, lane_bits, pin_bits, test_of, AreWords}
 use Rattle.block_sim.specs.Events.{bits_of, HasEquation, Reads, IsElsewhere, IsLive, AreScheduled}
 use Rattle.block_sim.specs.Spreading.{IsBalanced}
-use Rattle.block_sim.proofs.Bridge.{lane_same}
-use Rattle.block_sim.proofs.Equated.{each_equation, all_equations, equation_same}
-use Rattle.block_sim.proofs.Equated.{equation_elsewhere, equation_kept, equation_here, word_other}
+use Rattle.block_sim.proofs.WordsToSolutions.{lane_same}
+use Rattle.block_sim.proofs.SignalEquations.{each_equation, all_equations, equation_same}
+use Rattle.block_sim.proofs.SignalEquations.{equation_elsewhere, equation_kept}
+use Rattle.block_sim.proofs.SignalEquations.{equation_here, word_other}
 
 module _ (c : List Statement) (counts : ℕ → Type 0) (tests : List Test) (group : ℕ) (f : ℕ
     → Fault) (good : List ℕ) (mask : ℕ) where

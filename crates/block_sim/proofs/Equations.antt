@@ -23,7 +23,7 @@ use Rattle.fault_model.proofs.Public.{Driven, driven, IsSource, definition-signa
 use Rattle.fault_model.proofs.Public.{source_definition, source_place}
 use Rattle.patterns.specs.Tests.{as_number, bit}
 use Rattle.block_sim.specs.Words.{lane, pin_bits, IsGroupWord, IsSignalWord}
-use Rattle.block_sim.proofs.Bridge.{pins_named}
+use Rattle.block_sim.proofs.WordsToSolutions.{pins_named}
 
 pub nothing : {X : Type 0} (x : X) → None ≡ Some x → ⊥
 nothing x e = cc

@@ -23,9 +23,9 @@ use Rattle.event_queue.proofs.Public.{index_zero}
 use Rattle.block_sim.specs.Regions.{Alters, DetectsFlip, HasCome, start_of}
 use Rattle.block_sim.specs.Spreading.{AreShown}
 use Rattle.block_sim.specs.Words.{lane, lane_bits, pin_bits, test_of, AreWords}
-use Rattle.block_sim.proofs.Bridge.{pins_named}
-use Rattle.block_sim.proofs.Entered.{Enters, arg_named, gate_named, outside}
-use Rattle.block_sim.proofs.Equated as equated
+use Rattle.block_sim.proofs.WordsToSolutions.{pins_named}
+use Rattle.block_sim.proofs.EnteredGates.{Enters, arg_named, gate_named, outside}
+use Rattle.block_sim.proofs.SignalEquations as equated
 use Rattle.block_sim.proofs.Flips.{altered, entered_back, entered_there, not_itself, pin_enters}
 use Rattle.block_sim.proofs.Flips.{stem_back, stem_stuck, stem_there, turned_of}
 use Rattle.block_sim.proofs.Lanes.{lane_xor, lane_zero, unlike}

@@ -17,9 +17,9 @@ use Rattle.block_sim.specs.Events.{bits_of, HasEquation, Reads, IsElsewhere, IsL
 use Rattle.block_sim.specs.Spreading.{IsSpreading, IsBalanced, Counts, IsRightIn, ahead, is_ahead}
 use Rattle.block_sim.proofs.Lanes.{lane_zero}
 use Rattle.block_sim.proofs.Balanced.{balanced_first}
-use Rattle.block_sim.proofs.Ahead.{ahead_cases}
+use Rattle.block_sim.proofs.GatesAhead.{ahead_cases}
 use Rattle.block_sim.proofs.LiveSignals.{counts_closed, reader_live}
-use Rattle.block_sim.proofs.RightByNow.{right_by_now}
+use Rattle.block_sim.proofs.TrueBelowLevel.{right_by_now}
 
 abbrev weight : Bool → ℕ
 weight b = cond b 1 0

@@ -24,8 +24,8 @@ use Rattle.block_sim.specs.Ways.{HasActiveByFlip}
 use Rattle.block_sim.specs.Words.{lane, lane_bits, test_of, AreWords}
 use Rattle.block_sim.proofs.Flips.{bit_is}
 use Rattle.block_sim.proofs.Lanes.{lane_xor, unlike}
-use Rattle.block_sim.proofs.Placed.{index_of}
-use Rattle.block_sim.proofs.Started.{first_on_stem}
+use Rattle.block_sim.proofs.ListPlaces.{index_of}
+use Rattle.block_sim.proofs.FaultStart.{first_on_stem}
 
 turned_bit : (a l : Bool) → l ≡ true → unlike a l ≡ not a
 turned_bit true l e = ap not e

@@ -21,9 +21,9 @@ use Rattle.fault_model.proofs.Public.{Driven, IsOn, agree, branch_among, defined
 use Rattle.fault_model.proofs.Public.{has_solutions, listed_on, observes, pin_reads, signal_apart}
 use Rattle.fault_model.proofs.Public.{under_other, under_own}
 use Rattle.block_sim.specs.Regions.{Alters, DetectsFlip, IsReadBy, flip, turned_at}
-use Rattle.block_sim.proofs.Entered.{Enters, Follows, IsFree, IsOnlyFor, arg_named, free_pins}
-use Rattle.block_sim.proofs.Entered.{free_stem, gate_named, map_alike, outside, same_where}
-use Rattle.block_sim.proofs.Entered.{shows_alike}
+use Rattle.block_sim.proofs.EnteredGates.{Enters, Follows, IsFree, IsOnlyFor, arg_named, free_pins}
+use Rattle.block_sim.proofs.EnteredGates.{free_stem, gate_named, map_alike, outside, same_where}
+use Rattle.block_sim.proofs.EnteredGates.{shows_alike}
 
 -- two bits are one, or the second is the first turned round
 pub alike_or_turned : (a b : Bool) → (a ≡ b) ⊎ (b ≡ not a)

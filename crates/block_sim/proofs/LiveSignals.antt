@@ -16,7 +16,7 @@ use Rattle.block_sim.specs.Events.{Reads, IsLive, observed, through}
 use Rattle.block_sim.specs.Flat.{AreLive, IsLiveAt}
 use Rattle.block_sim.specs.Spreading.{Counts}
 use Rattle.block_sim.proofs.LevelOrder.{order_within}
-use Rattle.block_sim.proofs.Placed.{index_of}
+use Rattle.block_sim.proofs.ListPlaces.{index_of}
 use Rattle.block_sim.proofs.Readers.{read_sink, reader_within}
 use Rattle.block_sim.proofs.Stems.{behind}
 use Rattle.block_sim.proofs.ScheduledGates.{HasObserver, at_end, observer_all, observer_found}

@@ -21,13 +21,14 @@ use Rattle.block_sim.specs.Events.{level_at, AreScheduled, IsObserved}
 use Rattle.block_sim.specs.Moments.{Case, Leads, Moment, Spreads, left, moment}
 use Rattle.block_sim.specs.Spreading.{IsFirstChange, IsSpreading, AreSeen, ahead}
 use Rattle.block_sim.specs.Words.{lane, pin_bits}
-use Rattle.block_sim.proofs.Ahead.{ahead_higher, ahead_skipped}
+use Rattle.block_sim.proofs.GatesAhead.{ahead_higher, ahead_skipped}
 use Rattle.block_sim.proofs.FirstChange.{spreading_first, count_first}
-use Rattle.block_sim.proofs.Equated.{gate_named}
+use Rattle.block_sim.proofs.SignalEquations.{gate_named}
 use Rattle.block_sim.proofs.Readers.{reader_within}
-use Rattle.block_sim.proofs.Rises.{reads_rise}
-use Rattle.block_sim.proofs.Seen.{seen_changed, seen_first, seen_like, seen_narrower, from_none}
-use Rattle.block_sim.proofs.Seen.{with_none}
+use Rattle.block_sim.proofs.LevelsRise.{reads_rise}
+use Rattle.block_sim.proofs.SeenLanes.{seen_changed, seen_first, seen_like, seen_narrower}
+use Rattle.block_sim.proofs.SeenLanes.{from_none}
+use Rattle.block_sim.proofs.SeenLanes.{with_none}
 use Rattle.block_sim.proofs.Spreading.{ahead_changed, ahead_same, evaluated_changed, evaluated_same}
 use Rattle.block_sim.proofs.Spreading.{level_done, spreading_narrower, spreading_skipped}
 use Rattle.block_sim.proofs.Steps.{lane_of_zero, restored}

@@ -15,7 +15,7 @@ use Rattle.block_sim.specs.First.{IsOutcome, TellsFirst}
 use Rattle.block_sim.specs.Regions.{AreLanesFor}
 use Rattle.block_sim.specs.Spans.{IsSpan, group_of}
 use Rattle.block_sim.specs.Words.{lane, test_of}
-use Rattle.block_sim.proofs.Placed.{index_of}
+use Rattle.block_sim.proofs.ListPlaces.{index_of}
 
 module _ (c : List Statement) (tests : List Test) (span : Span) (f : Fault) (lanes word : ℕ)
     (decides : AreLanesFor tests span c f lanes)

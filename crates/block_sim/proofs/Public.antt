@@ -4,4 +4,4 @@
 pub use Rattle.block_sim.proofs.LawOfTable.{least_is_first}
 pub use Rattle.block_sim.proofs.TrueTable.{one_outcome, true_table, which_detect}
 pub use Rattle.block_sim.proofs.Stems.{class_has_stem, one_class_stem}
-pub use Rattle.block_sim.proofs.Represented.{representative_at}
+pub use Rattle.block_sim.proofs.Representatives.{representative_at}

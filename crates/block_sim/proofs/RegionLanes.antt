@@ -8,7 +8,7 @@ use Rattle.std.specs.List.{enumerate_from}
 use Rattle.std.proofs.lemmas.Bool.{false≢true}
 use Rattle.std.proofs.lemmas.List.{get_or-set_same, get_or-set_other}
 use Rattle.event_queue.proofs.Public.{index_zero}
-use Rattle.block_sim.proofs.Carried.{never}
+use Rattle.block_sim.proofs.CarriedSignals.{never}
 use Rattle.bench_net.specs.declared.Kind.{Kind}
 use Rattle.bench_net.specs.Statement.{Name, Statement, Gate}
 use Rattle.bench_net.specs.Scan.{names, signal, definition, gate_of}
@@ -23,9 +23,9 @@ use Rattle.fault_model.proofs.Public.{agree, defined_among, definition-signal, s
 use Rattle.block_sim.specs.Events.{bits_of, Reads}
 use Rattle.block_sim.specs.Regions.{DetectsFlip, HasCome, IsReadBy, LanesLaw, Passes, turned_at}
 use Rattle.block_sim.specs.Words.{lane, lane_bits, overlaid, pin_bits, test_of, AreWords}
-use Rattle.block_sim.proofs.Bridge.{lane_same}
-use Rattle.block_sim.proofs.Entered.{free_pins, map_alike}
-use Rattle.block_sim.proofs.Equated.{gate_named}
+use Rattle.block_sim.proofs.WordsToSolutions.{lane_same}
+use Rattle.block_sim.proofs.EnteredGates.{free_pins, map_alike}
+use Rattle.block_sim.proofs.SignalEquations.{gate_named}
 use Rattle.block_sim.proofs.Lanes.{lane_and, lane_xor, unlike}
 use Rattle.block_sim.proofs.Outcomes.{first_of_told}
 use Rattle.block_sim.specs.Spans.{group_of}

@@ -22,8 +22,8 @@ use Rattle.fault_model.proofs.Public.{listed_on, observes, same_lines, signal_ap
 use Rattle.block_sim.specs.Regions.{Alters, Arrives, there, over, DetectsFlip, FaultLaw, IsReadBy}
 use Rattle.block_sim.specs.Regions.{ObserverLaw, Passes, RegionLaw, RunsTo, here, onward, StemLaw}
 use Rattle.block_sim.specs.Regions.{StepLaw, flip, start_of, turned_at}
-use Rattle.block_sim.proofs.Entered.{Enters, IsFree, arg_named, gate_named, same_where}
-use Rattle.block_sim.proofs.Started.{data_observed, output_observed}
+use Rattle.block_sim.proofs.EnteredGates.{Enters, IsFree, arg_named, gate_named, same_where}
+use Rattle.block_sim.proofs.FaultStart.{data_observed, output_observed}
 use Rattle.block_sim.proofs.Flips.{altered, bit_is, entered_back, entered_there, gate_turned}
 use Rattle.block_sim.proofs.Flips.{not_back, not_itself, pin_enters, stem_back, stem_enters}
 use Rattle.block_sim.proofs.Flips.{stem_stuck, stem_there, turned_of}

@@ -18,10 +18,10 @@ use Rattle.fault_model.proofs.Public.{observes, data_reads, out_reads}
 use Rattle.block_sim.specs.declared.flat.Reader.{Reader}
 use Rattle.block_sim.specs.Events.{Reads, IsLive, IsObserved, AreScheduled, level_at}
 use Rattle.block_sim.specs.Flat.{AreReaders}
-use Rattle.block_sim.proofs.Placed.{index_of}
+use Rattle.block_sim.proofs.ListPlaces.{index_of}
 use Rattle.block_sim.proofs.Readers.{sink_reads}
-use Rattle.block_sim.proofs.Rises.{level_is}
-use Rattle.block_sim.proofs.Started.{output_observed, cell_observed}
+use Rattle.block_sim.proofs.LevelsRise.{level_is}
+use Rattle.block_sim.proofs.FaultStart.{output_observed, cell_observed}
 
 cell_among : (c : List Statement) (q d : Name) → Among (Dff q d) c → Among (q, d) (cells c)
 cell_among [] q d a = absurd a

@@ -15,10 +15,10 @@ use Rattle.block_sim.specs.Words.{lane, pin_bits}
 use Rattle.block_sim.specs.Events.{Reads, IsElsewhere, IsLive, AreScheduled}
 use Rattle.block_sim.specs.Spreading.{IsSpreading, IsBalanced, Counts, IsRightIn, HasTouched, ahead}
 use Rattle.block_sim.proofs.Balanced.{balanced_same, balanced_changed}
-use Rattle.block_sim.proofs.Equated.{word_other}
+use Rattle.block_sim.proofs.SignalEquations.{word_other}
 use Rattle.block_sim.proofs.LiveSignals.{counts_closed, reader_live}
-use Rattle.block_sim.proofs.RightByNow.{right_by_now}
-use Rattle.block_sim.proofs.Ahead.{ahead_taken, ahead_scheduled}
+use Rattle.block_sim.proofs.TrueBelowLevel.{right_by_now}
+use Rattle.block_sim.proofs.GatesAhead.{ahead_taken, ahead_scheduled}
 
 module _ (c : List Statement) (tests : List Test) (group : ℕ) (f : ℕ
     → Fault) (good : List ℕ) (lanes : ℕ) (lv : ℕ → ℕ) (start mask : ℕ) where

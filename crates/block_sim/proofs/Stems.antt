@@ -24,12 +24,12 @@ use Rattle.block_sim.specs.Events.{Reads, level_at}
 use Rattle.block_sim.specs.Regions.{HasStem, HaveStems, IsStem, IsStemOf, IsStemOfClass, LeadLaw}
 use Rattle.block_sim.specs.Regions.{LeadsTo, OneClassStemLaw, OneStemLaw, RunsTo, SomeClassStemLaw}
 use Rattle.block_sim.specs.Regions.{SomeStemLaw, here, lone_reader, onward, way_from}
-use Rattle.block_sim.proofs.Carried.{gate_within}
+use Rattle.block_sim.proofs.CarriedSignals.{gate_within}
 use Rattle.block_sim.proofs.LevelOrder.{not_before, order_within}
 use Rattle.block_sim.proofs.OnePin.{pin_law}
 use Rattle.block_sim.proofs.Readers.{no_loop, reader_within}
-use Rattle.block_sim.proofs.Represented.{representative_at}
-use Rattle.block_sim.proofs.Rises.{level_named}
+use Rattle.block_sim.proofs.Representatives.{representative_at}
+use Rattle.block_sim.proofs.LevelsRise.{level_named}
 use Rattle.block_sim.proofs.Rows.{pushed_get}
 
 -- ---- one stem

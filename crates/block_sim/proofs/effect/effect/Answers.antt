@@ -15,13 +15,13 @@ use Rattle.block_sim.specs.Changes.{IsAsLarge}
 use Rattle.block_sim.specs.Spreading.{IsSettled}
 use Rattle.block_sim.specs.Stuck.{stuck_fault}
 use Rattle.block_sim.specs.Words.{lane, pin_bits}
-use Rattle.block_sim.proofs.Ahead.{count_one}
-use Rattle.block_sim.proofs.Carried.{pin_of, gate_within}
+use Rattle.block_sim.proofs.GatesAhead.{count_one}
+use Rattle.block_sim.proofs.CarriedSignals.{pin_of, gate_within}
 use Rattle.block_sim.proofs.Lanes.{lane_zero}
 use Rattle.block_sim.proofs.Moments.{large_enough}
 use Rattle.block_sim.proofs.Readers.{no_loop}
-use Rattle.block_sim.proofs.Started.{shown_none, shown_at_observer, pin_active, first_on_pin}
-use Rattle.block_sim.proofs.Started.{stem_change, turned_is, output_observed, data_observed}
+use Rattle.block_sim.proofs.FaultStart.{shown_none, shown_at_observer, pin_active, first_on_pin}
+use Rattle.block_sim.proofs.FaultStart.{stem_change, turned_is, output_observed, data_observed}
 use Rattle.block_sim.proofs.Steps.{only_lanes, some_lane, lane_of_zero}
 use Rattle.block_sim.proofs.effect.effect.Goals as goal
 

@@ -6,7 +6,7 @@ use Rattle.lists.proofs.Members.{contained}
 use Rattle.bench_net.proofs.Public.{signal-name_of}
 use Rattle.lists.proofs.Places.{at_place}
 use Rattle.fault_model.specs.Detection.{carried}
-use Rattle.block_sim.proofs.Carried.{gate_within, output_signal, data_signal}
+use Rattle.block_sim.proofs.CarriedSignals.{gate_within, output_signal, data_signal}
 use Rattle.block_sim.proofs.line_signals.carried.Goals as goal
 
 pub pin_signal-requires-clause-gate : goal.pin_signal-requires-clause-gate

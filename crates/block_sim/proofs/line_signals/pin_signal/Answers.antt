@@ -1,5 +1,5 @@
 use Rattle.std.proofs.Common.{sym}
-use Rattle.block_sim.proofs.Carried.{is_gate_there}
+use Rattle.block_sim.proofs.CarriedSignals.{is_gate_there}
 use Rattle.block_sim.proofs.line_signals.pin_signal.Goals as goal
 
 pub unreachable-requires : goal.unreachable-requires

@@ -6,7 +6,7 @@ use Rattle.lists.proofs.Places.{place_within}
 use Rattle.fault_model.specs.Detection.{carried}
 use Rattle.fault_model.proofs.Public.{carries}
 use Rattle.block_sim.specs.Stuck.{stuck_fault}
-use Rattle.block_sim.proofs.LookedBack.{fits_where, masked_look_back}
+use Rattle.block_sim.proofs.BitBefore.{fits_where, masked_look_back}
 use Rattle.block_sim.proofs.look_back.initialized_lanes.Goals as goal
 use Rattle.block_sim.proofs.look_back.initialized_lanes.Goals.{then-fault, else-fault}
 use Rattle.block_sim.proofs.look_back.initialized_lanes.Goals.{then-group-eq0, else-group-eq0}

@@ -1,7 +1,7 @@
 use Rattle.std.proofs.Common.{◌≡◌, ◌+◌, ◌*◌, ◌%◌, ◌/◌, suc, arith, subst}
 use Rattle.std.specs.Prelude.{bit_or}
 use Rattle.block_sim.specs.Words.{lane}
-use Rattle.block_sim.proofs.Before.{before_first, before_later}
+use Rattle.block_sim.proofs.EarlierLanes.{before_first, before_later}
 use Rattle.block_sim.proofs.look_back.one_lane_up.Goals as goal
 
 pub returns-clause-first : goal.returns-clause-first

@@ -1,7 +1,7 @@
 use Rattle.std.proofs.Common.{◌≡◌, ◌+◌, ◌-◌, ◌∙◌, suc, ap, arith, subst}
 use Rattle.std.specs.Prelude.{None}
 use Rattle.block_sim.specs.Words.{lane, AreWords}
-use Rattle.block_sim.proofs.LookedBack.{bits_before}
+use Rattle.block_sim.proofs.BitBefore.{bits_before}
 use Rattle.block_sim.proofs.look_back.word_before.Goals as goal
 use Rattle.block_sim.proofs.look_back.word_before.Goals.{then-group-eq0, else-group-eq0}
 

@@ -8,7 +8,7 @@ use Rattle.lists.proofs.Places.{place_within, placed}
 use Rattle.block_sim.specs.declared.spread.Followed.{Followed}
 use Rattle.block_sim.specs.Words.{lane}
 use Rattle.block_sim.proofs.Lanes.{lane_or, lane_zero}
-use Rattle.block_sim.proofs.Placed.{index_of}
+use Rattle.block_sim.proofs.ListPlaces.{index_of}
 use Rattle.block_sim.proofs.ScheduledGates.{at_end}
 use Rattle.block_sim.proofs.region.all_lanes.Goals as goal
 

@@ -7,10 +7,10 @@ use Rattle.fault_model.specs.Detection.{argument, carried}
 use Rattle.fault_model.proofs.Public.{carries}
 use Rattle.block_sim.specs.Changes.{IsAsLarge}
 use Rattle.block_sim.specs.Stuck.{stuck_fault}
-use Rattle.block_sim.proofs.Carried.{pin_of, gate_within}
+use Rattle.block_sim.proofs.CarriedSignals.{pin_of, gate_within}
 use Rattle.block_sim.proofs.Lanes.{lane_zero}
 use Rattle.block_sim.proofs.Moments.{large_enough}
-use Rattle.block_sim.proofs.Started.{shown_none, turned_is}
+use Rattle.block_sim.proofs.FaultStart.{shown_none, turned_is}
 use Rattle.block_sim.proofs.Steps.{lane_of_zero}
 use Rattle.block_sim.specs.Regions.{start_of}
 use Rattle.block_sim.specs.Ways.{IsWayOfLine}

@@ -4,7 +4,7 @@ use Rattle.std.proofs.lemmas.Grind.{get_or_default_zero}
 use Rattle.std.proofs.lemmas.List.{length_push}
 use Rattle.bench_net.specs.Scan.{names}
 use Rattle.block_sim.specs.Regions.{HaveStems, IsStemOf}
-use Rattle.block_sim.proofs.Represented.{representative_within}
+use Rattle.block_sim.proofs.Representatives.{representative_within}
 use Rattle.block_sim.proofs.Stems.{class_stem, line_named, stems_push, way_within}
 use Rattle.block_sim.proofs.region_classes.class_stems.Goals as goal
 

@@ -8,8 +8,8 @@ use Rattle.lists.proofs.Places.{place_within, placed}
 use Rattle.block_sim.specs.declared.simulation.Memo.TheVariants.{Nothing}
 use Rattle.block_sim.specs.declared.spread.Followed.{Followed}
 use Rattle.block_sim.specs.Simulation.{IsFollowed, IsTrueMemo}
-use Rattle.block_sim.proofs.Placed.{index_of}
-use Rattle.block_sim.proofs.Simulated.{arrived_first}
+use Rattle.block_sim.proofs.ListPlaces.{index_of}
+use Rattle.block_sim.proofs.KeptOutcomes.{arrived_first}
 use Rattle.block_sim.proofs.Ways.{known_still}
 use Rattle.block_sim.proofs.simulation.conclude.Goals as goal
 

@@ -3,7 +3,7 @@ use Rattle.std.specs.Prelude.{Contains}
 use Rattle.block_sim.specs.declared.simulation.Memo.TheVariants.{Pending}
 use Rattle.block_sim.specs.Simulation.{AreFollowed, AreTrueBut}
 use Rattle.block_sim.proofs.Moments.{large_enough}
-use Rattle.block_sim.proofs.Simulated.{memo_waits}
+use Rattle.block_sim.proofs.KeptOutcomes.{memo_waits}
 use Rattle.block_sim.proofs.Ways.{between_first, known_more}
 use Rattle.block_sim.proofs.simulation.find_out_region.Goals as goal
 

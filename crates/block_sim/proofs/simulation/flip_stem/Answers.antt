@@ -4,7 +4,7 @@ use Rattle.block_sim.specs.Regions.{TellsFirstFlips}
 use Rattle.block_sim.specs.Spans.{group_of}
 use Rattle.block_sim.specs.Ways.{HasActiveByFlip}
 use Rattle.block_sim.specs.Words.{AreWords}
-use Rattle.block_sim.proofs.Simulated.{arrived_within}
+use Rattle.block_sim.proofs.KeptOutcomes.{arrived_within}
 use Rattle.block_sim.proofs.simulation.flip_stem.Goals as goal
 
 pub flip-requires-clause-words : goal.flip-requires-clause-words

@@ -2,7 +2,7 @@ use Rattle.std.proofs.Common.{◌≡◌, refl, sym, subst, set, arith}
 use Rattle.block_sim.specs.Simulation.{AreFollowed, AreTrueBut, HasArrived}
 use Rattle.block_sim.specs.declared.spread.Followed.{Followed}
 use Rattle.block_sim.specs.declared.simulation.Memo.TheVariants.{Pending}
-use Rattle.block_sim.proofs.Simulated.{followed_more, memo_kept_but, memo_waits}
+use Rattle.block_sim.proofs.KeptOutcomes.{followed_more, memo_kept_but, memo_waits}
 use Rattle.block_sim.proofs.Stems.{one_class_stem}
 use Rattle.block_sim.proofs.Ways.{between_first, known_more}
 use Rattle.block_sim.proofs.simulation.follow_too.Goals as goal

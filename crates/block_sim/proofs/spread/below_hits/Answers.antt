@@ -4,8 +4,8 @@ use lib.Bits.{and_le_r}
 use Rattle.lists.proofs.Members.{among}
 use Rattle.lists.proofs.Places.{place_within, placed, within_place}
 use Rattle.block_sim.specs.declared.spread.Followed.{Followed}
-use Rattle.block_sim.proofs.Placed.{index_of}
-use Rattle.block_sim.proofs.Settled.{one_hit, one_open}
+use Rattle.block_sim.proofs.ListPlaces.{index_of}
+use Rattle.block_sim.proofs.SettledLanes.{one_hit, one_open}
 use Rattle.block_sim.proofs.spread.below_hits.Goals as goal
 
 pub loop-one-preserved : goal.loop-one-preserved

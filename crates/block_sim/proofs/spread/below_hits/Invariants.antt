@@ -2,7 +2,7 @@ use Rattle.std.proofs.Common.{◌≡◌, ◌<◌, ℕ, Contains, true, false}
 use Rattle.std.specs.Prelude.{Some, slice_get}
 use Rattle.block_sim.specs.declared.spread.Followed.{Followed}
 use Rattle.block_sim.specs.Words.{lane}
-use Rattle.block_sim.proofs.Settled.{HasHit, IsOpen}
+use Rattle.block_sim.proofs.SettledLanes.{HasHit, IsOpen}
 use Rattle.block_sim.proofs.spread.below_hits.Given as goal
 
 abbrev pub invariant-loop-one : goal.invariant-loop-one

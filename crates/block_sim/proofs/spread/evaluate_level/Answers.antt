@@ -3,8 +3,8 @@ use Rattle.std.specs.Prelude.{bit_or}
 use Rattle.std.proofs.lemmas.List.{length-set}
 use Rattle.block_sim.specs.Events.{level_at}
 use Rattle.block_sim.specs.Moments.{Leads, moment, not_yet_taken}
-use Rattle.block_sim.proofs.Ahead.{waiting_less}
-use Rattle.block_sim.proofs.Settled.{settled_on}
+use Rattle.block_sim.proofs.GatesAhead.{waiting_less}
+use Rattle.block_sim.proofs.SettledLanes.{settled_on}
 use Rattle.block_sim.proofs.Moments.{large_enough, large_none, leads_higher, leads_narrower}
 use Rattle.block_sim.proofs.Moments.{leads_none, leads_on, leads_taken, moment_of, taken_here}
 use Rattle.block_sim.proofs.Moments.{taken_now}

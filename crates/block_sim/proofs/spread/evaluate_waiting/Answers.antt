@@ -5,7 +5,7 @@ use Rattle.block_sim.specs.Events.{level_at}
 use Rattle.block_sim.specs.Words.{lane, pin_bits}
 use Rattle.block_sim.proofs.Equations.{pins_within, pins_few, pins_some}
 use Rattle.block_sim.proofs.Moments.{leads_changed, leads_same, leads_skipped}
-use Rattle.block_sim.proofs.Rises.{reads_rise}
+use Rattle.block_sim.proofs.LevelsRise.{reads_rise}
 use Rattle.block_sim.proofs.Spreading.{scheduled_above}
 use Rattle.block_sim.proofs.Steps.{no_change, only_lanes, changed_to}
 use Rattle.block_sim.proofs.spread.evaluate_waiting.Goals as goal

@@ -3,7 +3,7 @@ use Rattle.std.specs.Prelude.{slice_index_or}
 use Rattle.std.proofs.lemmas.List.{length-set}
 use Rattle.std.proofs.lemmas.Bool.{false≢true}
 use Rattle.block_sim.specs.declared.flat.Reader.{Reader}
-use Rattle.block_sim.proofs.Finish.{idle_of}
+use Rattle.block_sim.proofs.EndOfSpread.{idle_of}
 use Rattle.block_sim.proofs.Readers.{reader_within}
 use Rattle.block_sim.proofs.ScheduledGates.{HasScheduled, scheduled_none, scheduled_waits}
 use Rattle.block_sim.proofs.ScheduledGates.{scheduled_added, scheduled_all}

@@ -5,11 +5,11 @@ use Rattle.bench_net.specs.Scan.{names}
 use Rattle.event_queue.proofs.Public.{index_zero}
 use Rattle.block_sim.specs.Events.{level_at}
 use Rattle.block_sim.specs.Spreading.{IsSettled}
-use Rattle.block_sim.proofs.Ahead.{count_at_most}
-use Rattle.block_sim.proofs.Finish.{shown_from, shown_unchanged, active_touched, none_above}
+use Rattle.block_sim.proofs.GatesAhead.{count_at_most}
+use Rattle.block_sim.proofs.EndOfSpread.{shown_from, shown_unchanged, active_touched, none_above}
 use Rattle.block_sim.proofs.Moments.{case_of, first_left, first_seen, first_spreads, large_enough}
 use Rattle.block_sim.proofs.Moments.{large_none, large_on, leads_none, leads_on}
-use Rattle.block_sim.proofs.Rises.{reads_rise, level_is, has_level}
+use Rattle.block_sim.proofs.LevelsRise.{reads_rise, level_is, has_level}
 use Rattle.block_sim.proofs.spread.spread.Goals as goal
 use Rattle.block_sim.proofs.spread.spread.Goals.{else-loop-level-test}
 use Rattle.block_sim.proofs.spread.spread.Goals.{then-loop-level-test+then-is_empty}

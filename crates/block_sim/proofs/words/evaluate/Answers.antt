@@ -4,7 +4,7 @@ use Rattle.std.proofs.lemmas.List.{length-set}
 use Rattle.bench_net.specs.Scan.{names}
 use Rattle.bench_net.specs.Level.{IsLevelOrder}
 use Rattle.block_sim.proofs.LevelOrder.{order_within}
-use Rattle.block_sim.proofs.Passed.{passed_more, passed_all}
+use Rattle.block_sim.proofs.LevelPass.{passed_more, passed_all}
 use Rattle.block_sim.proofs.words.evaluate.Goals as goal
 
 pub signal_word-word-requires-clause-signal : goal.signal_word-word-requires-clause-signal

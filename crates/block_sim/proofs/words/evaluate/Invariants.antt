@@ -1,6 +1,6 @@
 use Rattle.std.proofs.Common.{◌≡◌, length}
 use Rattle.std.specs.Prelude.{None}
-use Rattle.block_sim.proofs.Passed.{ArePassed}
+use Rattle.block_sim.proofs.LevelPass.{ArePassed}
 use Rattle.block_sim.proofs.words.evaluate.Given as goal
 
 abbrev pub invariant-loop-signal : goal.invariant-loop-signal

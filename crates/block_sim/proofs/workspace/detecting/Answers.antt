@@ -1,6 +1,6 @@
 use Rattle.block_sim.specs.declared.spread.Extent.TheVariants.{WholeBlock}
 use Rattle.block_sim.specs.Spreading.{IsSettled}
-use Rattle.block_sim.proofs.Told.{decided_lanes}
+use Rattle.block_sim.proofs.DetectingTests.{decided_lanes}
 use Rattle.block_sim.proofs.workspace.detecting.Goals as goal
 
 pub returns-clause-lanes : goal.returns-clause-lanes

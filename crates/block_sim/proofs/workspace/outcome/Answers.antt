@@ -1,5 +1,5 @@
 use Rattle.block_sim.specs.Spreading.{IsSettled}
-use Rattle.block_sim.proofs.Told.{outcome_of_lanes}
+use Rattle.block_sim.proofs.DetectingTests.{outcome_of_lanes}
 use Rattle.block_sim.proofs.workspace.outcome.Goals as goal
 
 pub returns-clause-outcome : goal.returns-clause-outcome

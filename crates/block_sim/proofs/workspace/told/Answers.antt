@@ -11,10 +11,10 @@ use Rattle.block_sim.specs.Spans.{AreInSpan, IsInSpan, one_block}
 use Rattle.block_sim.specs.ActiveGates.{HasActive, HasActiveIn}
 use Rattle.block_sim.specs.Stuck.{stuck_fault}
 use Rattle.block_sim.specs.Words.{lane, AreWords}
-use Rattle.block_sim.proofs.Deep.{level_within}
-use Rattle.block_sim.proofs.Finish.{told_of_shown}
+use Rattle.block_sim.proofs.LevelCount.{level_within}
+use Rattle.block_sim.proofs.EndOfSpread.{told_of_shown}
 use Rattle.block_sim.proofs.Steps.{lanes_decide}
-use Rattle.block_sim.proofs.Told.{active_on_block}
+use Rattle.block_sim.proofs.DetectingTests.{active_on_block}
 use Rattle.block_sim.proofs.workspace.told.Goals as goal
 
 pub effect-requires-clause-words : goal.effect-requires-clause-words

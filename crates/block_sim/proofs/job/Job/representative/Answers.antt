@@ -2,7 +2,7 @@ use Rattle.std.proofs.Common.{◌∙◌, ap, subst, sym}
 use Rattle.std.specs.Prelude.{Contains, slice_get}
 use Rattle.fault_model.specs.Fault.{faults}
 use Rattle.fault_model.specs.Collapse.{representatives}
-use Rattle.block_sim.proofs.Represented.{representative_within, fault_is}
+use Rattle.block_sim.proofs.Representatives.{representative_within, fault_is}
 use Rattle.block_sim.proofs.job.Job.representative.Goals as goal
 
 pub line_of-requires : goal.line_of-requires

@@ -3,7 +3,7 @@ use Rattle.std.proofs.lemmas.List.{length-map, get_or_read}
 use Rattle.bench_net.specs.Scan.{names}
 use Rattle.block_sim.specs.Spans.{groups}
 use Rattle.block_sim.specs.Words.{IsFaultFreeWord, lane}
-use Rattle.block_sim.proofs.LookedBack.{fault_free_lane}
+use Rattle.block_sim.proofs.BitBefore.{fault_free_lane}
 use Rattle.block_sim.proofs.Rows.{mapped_get}
 use Rattle.block_sim.proofs.job.Job.word.Goals as goal
 

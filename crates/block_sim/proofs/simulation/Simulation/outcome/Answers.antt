@@ -12,7 +12,7 @@ use Rattle.block_sim.specs.declared.simulation.Memo.TheVariants.{Nothing}
 use Rattle.block_sim.specs.Spans.{IsSpan, span_from}
 use Rattle.block_sim.specs.Ways.{HasActiveByFlip, is_on, known_ways}
 use Rattle.block_sim.proofs.Moments.{large_enough}
-use Rattle.block_sim.proofs.Simulated.{arrived_first, memo_kept, room_at_rest}
+use Rattle.block_sim.proofs.KeptOutcomes.{arrived_first, memo_kept, room_at_rest}
 use Rattle.block_sim.proofs.Stems.{one_class_stem}
 use Rattle.block_sim.proofs.Ways.{known_more, active_wider}
 use Rattle.block_sim.proofs.simulation.Simulation.outcome.Goals as goal

@@ -3,7 +3,7 @@ use Rattle.std.proofs.lemmas.Bool.{false≢true}
 use Rattle.block_sim.specs.Spreading.{IsSettled}
 use Rattle.block_sim.specs.Words.{lane}
 use Rattle.block_sim.proofs.Lanes.{lane_and}
-use Rattle.block_sim.proofs.Settled.{and_none, out_of}
+use Rattle.block_sim.proofs.SettledLanes.{and_none, out_of}
 use Rattle.block_sim.proofs.Steps.{left_of}
 use Rattle.block_sim.proofs.spread.Extent.followed.Goals as goal
 

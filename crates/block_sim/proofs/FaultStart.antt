@@ -29,8 +29,8 @@ use Rattle.block_sim.specs.Words.{lane, lane_bits, overlaid, pin_bits, test_of, 
 use Rattle.block_sim.specs.ActiveGates.{AreInGroup, IsActiveIn, IsActiveBy}
 use Rattle.block_sim.specs.Events.{bits_of, Reads}
 use Rattle.block_sim.specs.Spreading.{AreShown, IsApart, IsFirstChange}
-use Rattle.block_sim.proofs.Equated.{equation_of, word_other}
-use Rattle.block_sim.proofs.Placed.{index_of}
+use Rattle.block_sim.proofs.SignalEquations.{equation_of, word_other}
+use Rattle.block_sim.proofs.ListPlaces.{index_of}
 use Rattle.block_sim.proofs.Steps.{changed_to, turned_lanes}
 
 -- a line whose bit is the stuck one anyway

@@ -11,7 +11,8 @@ use Rattle.bench_net.specs.Level.{IsLevelOrder}
 use Rattle.fault_model.specs.Fault.{Fault}
 use Rattle.fault_model.specs.Solution.{Test}
 use Rattle.block_sim.specs.Words.{AreWords, IsSignalWord}
-use Rattle.block_sim.proofs.Bridge.{IsRight, right_by_equation, right_in_lanes, right_kept}
+use Rattle.block_sim.proofs.WordsToSolutions.{IsRight, right_by_equation, right_in_lanes}
+use Rattle.block_sim.proofs.WordsToSolutions.{right_kept}
 use Rattle.block_sim.proofs.LevelOrder.{order_within, pins_before}
 
 -- the words of the first signals of the order are right

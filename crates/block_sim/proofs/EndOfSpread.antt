@@ -19,7 +19,7 @@ use Rattle.fault_model.proofs.Public.{detection_is_of_any_solution, has_solution
 use Rattle.fault_model.proofs.Public.{observes}
 use Rattle.block_sim.specs.First.{AreTold}
 use Rattle.block_sim.specs.Regions.{AreLanesFor}
-use Rattle.block_sim.proofs.Told.{told_of_lanes}
+use Rattle.block_sim.proofs.DetectingTests.{told_of_lanes}
 use Rattle.block_sim.specs.Words.{lane, lane_bits, test_of, AreWords}
 use Rattle.block_sim.specs.ActiveGates.{AreInGroup, IsActiveIn, IsActiveBy, HasActiveIn}
 use Rattle.block_sim.specs.Spans.{group_of}
@@ -28,12 +28,12 @@ use Rattle.block_sim.specs.Events.{bits_of, HasEquation, Reads, IsElsewhere, obs
 use Rattle.block_sim.specs.Spreading.{IsSpreading, IsBalanced, Counts, IsFirstChange, AreSeen}
 use Rattle.block_sim.specs.Spreading.{AreShown, IsApart, HasTouched}
 use Rattle.block_sim.proofs.Lanes.{lane_xor, lane_zero, unlike}
-use Rattle.block_sim.proofs.Bridge.{lane_same}
+use Rattle.block_sim.proofs.WordsToSolutions.{lane_same}
 use Rattle.block_sim.proofs.Balanced.{balanced_solves, fault_free_holds}
 use Rattle.block_sim.proofs.LiveSignals.{counts_closed}
-use Rattle.block_sim.proofs.RightByNow.{right_by_now}
+use Rattle.block_sim.proofs.TrueBelowLevel.{right_by_now}
 use Rattle.block_sim.proofs.Readers.{reader_within}
-use Rattle.block_sim.proofs.Placed.{index_of}
+use Rattle.block_sim.proofs.ListPlaces.{index_of}
 
 pub idle_of : (at : List ℕ) (g : ℕ) → (slice_index_or at g 0 ≢ 0 → ⊥) → slice_index_or at g 0 ≡ 0
 idle_of at g never = go (cases_eq (slice_index_or at g 0) 0)

@@ -19,7 +19,7 @@ use Rattle.block_sim.specs.Regions.{AreLanesFor}
 use Rattle.block_sim.specs.Spans.{AreInSpan, IsInSpan, group_of, one_block}
 use Rattle.block_sim.specs.ActiveGates.{HasActive, HasActiveIn}
 use Rattle.block_sim.specs.Words.{lane, test_of, IsLeastLane}
-use Rattle.block_sim.proofs.Placed.{index_of}
+use Rattle.block_sim.proofs.ListPlaces.{index_of}
 
 module _ (c : List Statement) (tests : List Test) (span : Span) (f : Fault) (lanes word : ℕ)
     (decides : AreLanesFor tests span c f lanes) (settled : ℕ → Type 0)

@@ -21,7 +21,7 @@ use Rattle.block_sim.specs.Simulation.{AreFollowed, AreTrueBut, AreTrueMemos, Ha
 use Rattle.block_sim.specs.Simulation.{IsFollowed, IsTrueMemo, TellsFirstIn}
 use Rattle.block_sim.specs.Spans.{AreInSpan, group_of}
 use Rattle.block_sim.specs.Words.{lane}
-use Rattle.block_sim.proofs.Deep.{level_within}
+use Rattle.block_sim.proofs.LevelCount.{level_within}
 use Rattle.block_sim.proofs.RegionLanes.{lanes_first, lanes_law}
 
 -- the first test that detects a class that came to a stem in some lanes

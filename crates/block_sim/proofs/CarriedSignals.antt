@@ -13,7 +13,7 @@ use Rattle.lists.proofs.Places.{place_within}
 use Rattle.fault_model.specs.declared.Line.TheVariants as line
 use Rattle.fault_model.specs.Detection.{argument, carried}
 use Rattle.block_sim.proofs.DataPins.{data_signals}
-use Rattle.block_sim.proofs.Placed.{mapped_at}
+use Rattle.block_sim.proofs.ListPlaces.{mapped_at}
 
 -- a pin that reads a name is one of a gate
 pub record PinOf (c : List Statement) (gate pin : ℕ) (n : Name) : Type 0 where

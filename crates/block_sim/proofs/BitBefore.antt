@@ -18,7 +18,7 @@ use Rattle.fault_model.proofs.Public.{agree}
 use Rattle.bench_net.proofs.Public.{signal-name_of}
 use Rattle.lists.proofs.Members.{contained}
 use Rattle.lists.proofs.Places.{at_place, within_place}
-use Rattle.block_sim.proofs.Placed.{index_of}
+use Rattle.block_sim.proofs.ListPlaces.{index_of}
 use Rattle.block_sim.specs.Words.{lane, lane_bits, test_of, AreWords, IsFaultFreeWord}
 use Rattle.block_sim.proofs.Lanes.{lane_and, lane_not, lane_ones}
 
