@@ -6,7 +6,8 @@
 ghost use Rattle.std.specs.Prelude.{◌<◌, ℕ, Bool, List, Contains, length};
 ghost use Rattle.bench_net.specs.Statement.{Statement};
 ghost use Rattle.bench_net.specs.Scan.{names};
-ghost use Rattle.bench_net.specs.Circuit.{IsWellFormed, HaveArities};
+ghost use Rattle.bench_net.specs.Circuit.{IsWellFormed, HaveArities, IsCircuit};
+ghost use Rattle.bench_net.specs.Level.{IsLevelOrder};
 ghost use Rattle.fault_model.specs.declared.Line.TheVariants as line;
 ghost use Rattle.fault_model.specs.declared.Model.{Model};
 ghost use Rattle.fault_model.specs.Fault.{faults};
@@ -15,6 +16,9 @@ ghost use Rattle.fault_model.specs.Detection.{ClassesDetectedSame, DetectedAsRep
 ghost use Rattle.fault_model.specs.Laws.{HasSolutions, HasOneSolution, HasRepresentatives};
 ghost use Rattle.fault_model.specs.Laws.{HasClasses, ClassesDetectSame, RepresentativesDetectSame};
 ghost use Rattle.fault_model.specs.Laws.{DetectionIsOfAnySolution};
+ghost use Rattle.fault_model.specs.Reordered.{IsReordered, HasSameSignals, IsSolvedSame};
+ghost use Rattle.fault_model.specs.Reordered.{IsDetectedSame, HasSameBits, IsDetectedSameAt};
+ghost use Rattle.fault_model.specs.Reordered.{IsOrderedByLevel};
 
 /// A circuit without cycles has exactly one solution under each test, without a fault and under
 /// each single stuck-at fault.
@@ -56,4 +60,24 @@ pub fn equivalence()
 /// A simulator may take whichever solutions it finds: these decide detection.
 pub fn detection()
     ensures { (c : List Statement) → IsWellFormed c → DetectionIsOfAnySolution c }
+{}
+
+/// A circuit whose statements stand in another order has the same signals by other numbers: the
+/// same valuations solve it, and the same tests detect a fault on the line that its line moves to.
+/// So a simulator may number signals as it likes. In level order a signal's number is its place in
+/// the order.
+pub fn reordering()
+    ensures circuit { (c d : List Statement) → IsReordered c d → IsCircuit c → IsCircuit d }
+    ensures signals { (c d : List Statement) → IsWellFormed c → IsReordered c d
+        → HasSameSignals c d }
+    ensures solved_same { (c d : List Statement) → IsWellFormed c → IsReordered c d
+        → IsSolvedSame c d }
+    ensures detected_same { (c d : List Statement) → IsWellFormed c → IsReordered c d
+        → IsDetectedSame c d }
+    ensures same_bits { (c d : List Statement) → IsWellFormed c → IsReordered c d
+        → HasSameBits c d }
+    ensures detected_same_at { (c d : List Statement) → IsWellFormed c → IsReordered c d
+        → IsDetectedSameAt c d }
+    ensures by_level { (c : List Statement) (order : List ℕ) → IsWellFormed c
+        → IsLevelOrder c order → IsOrderedByLevel c order }
 {}

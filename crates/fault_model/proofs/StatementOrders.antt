@@ -1,0 +1,353 @@
+-- The statements in level order: the circuit in another order, in which each signal has its place
+-- in the order as its number.
+use Rattle.std.proofs.Common.{◌≡◌, ◌<◌, ℕ, zero, suc, refl, sym, ◌∙◌, ap, subst, Bool, true}
+use Rattle.std.proofs.Common.{false, List, [], ◌∷◌, ◌++◌, map, length, filter, get_or, arith, inl}
+use Rattle.std.proofs.Common.{inr, ◌⊎◌, append-nil}
+use Rattle.std.specs.Prelude.{IsPermutation, Option, Some, None, is_some, not}
+use Rattle.std.specs.Prelude.{slice_get, option_and_then, unwrap_or}
+use Rattle.std.specs.Option.{option_map_or}
+use Rattle.std.specs.List.{filter_map, cons_option}
+use Rattle.std.proofs.lemmas.Option.{slice_get-get_or}
+use Rattle.std.proofs.lemmas.List.Concat.{flat_map-append}
+use Rattle.std.proofs.lemmas.List.Elements.{filter_map-append}
+use Rattle.std.proofs.lemmas.List.Sorted.{IsPermutation-sym, IsPermutation-trans}
+use Rattle.std.proofs.lemmas.List.Sorted.{IsPermutation-map, IsPermutation-filter_both}
+use Rattle.std.proofs.lemmas.List.Sorted.{IsPermutation-append_right, Contains-permutation}
+use Rattle.bench_net.specs.declared.Kind.{Kind}
+use Rattle.bench_net.specs.Statement.{Name, Statement, Input, Output, Gate, Dff, defined, defines}
+use Rattle.bench_net.specs.Scan.{names, name_of, signal, definition, inputs, outputs, cells}
+use Rattle.bench_net.specs.Scan.{sources}
+use Rattle.bench_net.specs.Circuit.{IsWellFormed}
+use Rattle.bench_net.specs.Level.{HasLevel, IsLevelOrder, GoesBefore}
+use Rattle.lists.proofs.Members.{Among, among, contained, among_left, among_right}
+use Rattle.lists.proofs.Places.{at_place, within_place}
+use Rattle.bench_net.proofs.Public.{definition_defines, signal-name_of}
+use Rattle.fault_model.specs.Reordered.{IsReordered, place, in_order, IsOrderedByLevel}
+use Rattle.fault_model.proofs.SpannedNumbers.{Spans, below, below_within, spans_permuted}
+use Rattle.fault_model.proofs.SpannedNumbers.{Ascending, pairwise, pairwise_filter, kept_all}
+use Rattle.fault_model.proofs.SpannedNumbers.{kept_same}
+use Rattle.fault_model.proofs.ReorderedNames.{well_reordered}
+
+-- ---- lists of statements
+
+defining_count : (c : List Statement) → length (filter defines c) ≡ length (names c)
+defining_count [] = refl
+defining_count (Output n ∷ c) = defining_count c
+defining_count (Input n ∷ c) = ap suc (defining_count c)
+defining_count (Gate n kind args ∷ c) = ap suc (defining_count c)
+defining_count (Dff q d ∷ c) = ap suc (defining_count c)
+
+-- what a list has at all its places is the list
+all_places : {X : Type 0} (xs : List X)
+    → filter_map (slice_get xs) (below (length xs)) ≡ xs
+all_places [] = refl
+all_places {X} (x ∷ xs) =
+    ap (λ ys. x ∷ ys) (shifted (below (length xs)) ∙ all_places xs)
+  where
+    shifted : (ks : List ℕ)
+        → filter_map (slice_get (x ∷ xs)) (map (λ k. suc k) ks) ≡ filter_map (slice_get xs) ks
+    shifted [] = refl
+    shifted (k ∷ ks) = rw (shifted ks) refl
+
+-- one partial function after another
+joined_partial : {Y Z : Type 0} (g : Y → Option Z) (h : ℕ → Option Y) (xs : List ℕ)
+    → filter_map g (filter_map h xs) ≡ filter_map (λ s. option_and_then g (h s)) xs
+joined_partial g h [] = refl
+joined_partial {Y} {Z} g h (x ∷ xs) = go (h x) refl (joined_partial g h xs)
+  where
+    go : (o : Option Y) → h x ≡ o
+        → filter_map g (filter_map h xs) ≡ filter_map (λ s. option_and_then g (h s)) xs
+        → filter_map g (filter_map h (x ∷ xs))
+        ≡ filter_map (λ s. option_and_then g (h s)) (x ∷ xs)
+    go None e rest = rw e rest
+    go (Some y) e rest = rw e (ap (cons_option (g y)) rest)
+
+-- what only inputs and cells give comes of the statements that define, and only outputs define
+-- nothing
+defining_give : {X : Type 0} (g : Statement → Option X) (c : List Statement)
+    → ((n : Name) → g (Output n) ≡ None) → filter_map g (filter defines c) ≡ filter_map g c
+defining_give g [] none = refl
+defining_give g (Output n ∷ c) none = rw (none n) (defining_give g c none)
+defining_give g (Input n ∷ c) none =
+    ap (cons_option (g (Input n))) (defining_give g c none)
+defining_give g (Gate n kind args ∷ c) none =
+    ap (cons_option (g (Gate n kind args))) (defining_give g c none)
+defining_give g (Dff q d ∷ c) none =
+    ap (cons_option (g (Dff q d))) (defining_give g c none)
+
+others_give : {X : Type 0} (g : Statement → Option X) (c : List Statement)
+    → ((n : Name) → g (Output n) ≡ None)
+    → filter_map g (filter (λ st. not (defines st)) c) ≡ []
+others_give g [] none = refl
+others_give g (Output n ∷ c) none = rw (none n) (others_give g c none)
+others_give g (Input n ∷ c) none = others_give g c none
+others_give g (Gate n kind args ∷ c) none = others_give g c none
+others_give g (Dff q d ∷ c) none = others_give g c none
+
+others_define : (c : List Statement) → names (filter (λ st. not (defines st)) c) ≡ []
+others_define [] = refl
+others_define (Output n ∷ c) = others_define c
+others_define (Input n ∷ c) = others_define c
+others_define (Gate n kind args ∷ c) = others_define c
+others_define (Dff q d ∷ c) = others_define c
+
+-- ---- what each kind of statement gives
+
+abbrev input_name : Statement → Option Name
+input_name (Input n) = Some n
+input_name _ = None
+
+abbrev output_name : Statement → Option Name
+output_name (Output n) = Some n
+output_name _ = None
+
+abbrev cell_names : Statement → Option (Name × Name)
+cell_names (Dff q d) = Some (q, d)
+cell_names _ = None
+
+inputs_are : (c : List Statement) → inputs c ≡ filter_map input_name c
+inputs_are [] = refl
+inputs_are (Input n ∷ c) = ap (λ ns. n ∷ ns) (inputs_are c)
+inputs_are (_ ∷ c) = inputs_are c
+
+outputs_are : (c : List Statement) → outputs c ≡ filter_map output_name c
+outputs_are [] = refl
+outputs_are (Output n ∷ c) = ap (λ ns. n ∷ ns) (outputs_are c)
+outputs_are (_ ∷ c) = outputs_are c
+
+cells_are : (c : List Statement) → cells c ≡ filter_map cell_names c
+cells_are [] = refl
+cells_are (Dff q d ∷ c) = ap (λ at. (q, d) ∷ at) (cells_are c)
+cells_are (_ ∷ c) = cells_are c
+
+outputs_kept : (c : List Statement)
+    → filter_map output_name (filter (λ st. not (defines st)) c) ≡ filter_map output_name c
+outputs_kept [] = refl
+outputs_kept (Output n ∷ c) = ap (λ ns. n ∷ ns) (outputs_kept c)
+outputs_kept (Input n ∷ c) = outputs_kept c
+outputs_kept (Gate n kind args ∷ c) = outputs_kept c
+outputs_kept (Dff q d ∷ c) = outputs_kept c
+
+input_among : (c : List Statement) (n : Name) → Among (Input n) c → Among n (inputs c)
+input_among [] n a = absurd a
+input_among (Input m ∷ c) n (inl e) = let same : m ≡ n = cc in inl same
+input_among (Input m ∷ c) n (inr a) = inr (input_among c n a)
+input_among (Output m ∷ c) n (inl e) = cc
+input_among (Output m ∷ c) n (inr a) = input_among c n a
+input_among (Gate m kind args ∷ c) n (inl e) = cc
+input_among (Gate m kind args ∷ c) n (inr a) = input_among c n a
+input_among (Dff q d ∷ c) n (inl e) = cc
+input_among (Dff q d ∷ c) n (inr a) = input_among c n a
+
+cell_among : (c : List Statement) (n x : Name) → Among (Dff n x) c
+    → Among n (map (λ cell. cell.0) (cells c))
+cell_among [] n x a = absurd a
+cell_among (Dff q d ∷ c) n x (inl e) = let same : q ≡ n = cc in inl same
+cell_among (Dff q d ∷ c) n x (inr a) = inr (cell_among c n x a)
+cell_among (Output m ∷ c) n x (inl e) = cc
+cell_among (Output m ∷ c) n x (inr a) = cell_among c n x a
+cell_among (Gate m kind args ∷ c) n x (inl e) = cc
+cell_among (Gate m kind args ∷ c) n x (inr a) = cell_among c n x a
+cell_among (Input m ∷ c) n x (inl e) = cc
+cell_among (Input m ∷ c) n x (inr a) = cell_among c n x a
+
+-- ---- an order that names each signal once, and sources by number
+
+module _ (c : List Statement) (order : List ℕ) (is : IsLevelOrder c order) where
+  abbrev defining : List Statement
+  defining = filter defines c
+
+  spans : Spans (length defining) order
+  spans = record {
+    count = is.count ∙ sym (defining_count c);
+    each = λ s lt. among order s (is.all s (subst (λ n. s < n) (defining_count c) lt));
+  }
+
+  permuted : IsPermutation (below (length defining)) order
+  permuted = spans_permuted (length defining) order spans
+
+  from_below : (s : ℕ) → Among s (below (length defining)) → Among s order
+  from_below s a = among order s (Contains-permutation (below (length defining)) order s permuted
+      (contained (below (length defining)) s a))
+
+  into_below : (s : ℕ) → Among s order → Among s (below (length defining))
+  into_below s a = among (below (length defining)) s (Contains-permutation order
+      (below (length defining)) s (IsPermutation-sym (below (length defining)) order permuted)
+      (contained order s a))
+
+  within : (s : ℕ) → Among s order → s < length defining
+  within s a = below_within (length defining) s (into_below s a)
+
+  -- ---- the statements are those of the circuit
+
+  abbrev statement_at : ℕ → Statement
+  statement_at s = get_or defining s (Output [])
+
+  all_defining : IsPermutation defining (filter_map (definition c) order)
+  all_defining =
+      let listed = IsPermutation-map statement_at (below (length defining)) order permuted in
+      let first : filter_map (definition c) (below (length defining))
+      ≡ map statement_at (below (length defining)) =
+      kept_all (definition c) statement_at (below (length defining))
+      (λ s a. slice_get-get_or defining s (Output []) (below_within (length defining) s a)) in
+      let second : filter_map (definition c) order ≡ map statement_at order =
+      kept_all (definition c) statement_at order
+      (λ s a. slice_get-get_or defining s (Output []) (within s a)) in
+      subst (λ xs. IsPermutation xs (filter_map (definition c) order))
+      (sym first ∙ all_places defining)
+      (subst (IsPermutation (map statement_at (below (length defining)))) (sym second) listed)
+
+  all_statements : IsPermutation c (in_order c order)
+  all_statements =
+      let others = filter (λ st. not (defines st)) c in
+      IsPermutation-trans c (others ++ defining) (in_order c order)
+      (IsPermutation-filter_both (λ st. not (defines st)) defines twice c)
+      (IsPermutation-append_right others defining (filter_map (definition c) order) all_defining)
+    where
+      not_not : (b : Bool) → b ≡ not (not b)
+      not_not true = refl
+      not_not false = refl
+
+      twice : (st : Statement) → defines st ≡ not (not (defines st))
+      twice st = not_not (defines st)
+
+  -- ---- inputs and cells
+
+  module _ {X : Type 0} (g : Statement → Option X) (no_output : (n : Name) → g (Output n) ≡ None)
+      (no_gate : (n : Name) (kind : Kind) (args : List Name) → g (Gate n kind args) ≡ None) where
+    abbrev given : ℕ → Option X
+    given s = option_and_then g (definition c s)
+
+    source_level : (s k : ℕ) → is_some (given s) ≡ true → HasLevel c s k → k ≡ 0
+    source_level s k some h = go (definition c s) refl some
+      where
+        by_name : (n : Name) → name_of c s ≡ Some n → Among n (sources c) → k ≡ 0
+        by_name n named a =
+            let same : h.1 ≡ n = ap (λ o. unwrap_or o n) (sym h.3 ∙ named) in
+            sym h.4 ∙ (ap h.0 same ∙ h.2.source n (contained (sources c) n a))
+
+        go : (o : Option Statement) → definition c s ≡ o
+            → is_some (option_and_then g (definition c s)) ≡ true → k ≡ 0
+        go None e some = let bad : false ≡ true = rw e at some in cc
+        go (Some (Output n)) e some = let bad : false ≡ true = rw (e, no_output n) at some in cc
+        go (Some (Gate n kind args)) e some =
+            let bad : false ≡ true = rw (e, no_gate n kind args) at some in cc
+        go (Some (Input n)) e some =
+            let by = definition_defines c s (Input n) e in
+            let same : n ∷ [] ≡ by.0 ∷ [] = by.1 in
+            let name : by.0 ≡ n = cc in
+            by_name n (by.2 ∙ ap Some name)
+            (among_left (inputs c) (map (λ cell. cell.0) (cells c)) n (input_among c n by.3))
+        go (Some (Dff n x)) e some =
+            let by = definition_defines c s (Dff n x) e in
+            let same : n ∷ [] ≡ by.0 ∷ [] = by.1 in
+            let name : by.0 ≡ n = cc in
+            by_name n (by.2 ∙ ap Some name)
+            (among_right (inputs c) (map (λ cell. cell.0) (cells c)) n (cell_among c n x by.3))
+
+    by_number : (s t : ℕ) → is_some (given s) ≡ true → is_some (given t) ≡ true
+        → GoesBefore c s t → s < t
+    by_number s t one two before = go before.4
+      where
+        go : (before.0 < before.1) ⊎ ((before.0 ≡ before.1) × (s < t)) → s < t
+        go (inl lt) =
+            let last : before.1 ≡ 0 = source_level t before.1 two before.3 in
+            absurd (omega (arith, lt, last))
+        go (inr p) = p.1
+
+    ascending : Ascending (filter (λ s. is_some (given s)) order)
+    ascending = pairwise_filter (GoesBefore c) (λ s t. s < t) (λ s. is_some (given s)) order
+        by_number (pairwise (GoesBefore c) order is.ordered)
+
+    same_given : filter_map g (in_order c order) ≡ filter_map g c
+    same_given =
+        filter_map-append g (filter (λ st. not (defines st)) c) (filter_map (definition c) order)
+        ∙ (ap (λ xs. xs ++ filter_map g (filter_map (definition c) order))
+        (others_give g c no_output)
+        ∙ (joined_partial g (definition c) order
+        ∙ (kept_same given (length defining) order into_below from_below ascending
+        ∙ (sym (joined_partial g (definition c) (below (length defining)))
+        ∙ (ap (filter_map g) (all_places defining) ∙ defining_give g c no_output)))))
+
+  -- ---- outputs
+
+  no_outputs : (xs : List ℕ) → filter_map output_name (filter_map (definition c) xs) ≡ []
+  no_outputs [] = refl
+  no_outputs (x ∷ xs) = go (definition c x) refl (no_outputs xs)
+    where
+      go : (o : Option Statement) → definition c x ≡ o
+          → filter_map output_name (filter_map (definition c) xs) ≡ []
+          → filter_map output_name (filter_map (definition c) (x ∷ xs)) ≡ []
+      go None e rest = rw e rest
+      go (Some (Input n)) e rest = rw e rest
+      go (Some (Gate n kind args)) e rest = rw e rest
+      go (Some (Dff q d)) e rest = rw e rest
+      go (Some (Output n)) e rest =
+          let by = definition_defines c x (Output n) e in
+          let bad : [] ≡ by.0 ∷ [] = by.1 in
+          cc
+
+  same_outputs : outputs (in_order c order) ≡ outputs c
+  same_outputs =
+      outputs_are (in_order c order)
+      ∙ (filter_map-append output_name (filter (λ st. not (defines st)) c)
+      (filter_map (definition c) order)
+      ∙ (ap (λ xs. filter_map output_name (filter (λ st. not (defines st)) c) ++ xs)
+      (no_outputs order)
+      ∙ (append-nil (filter_map output_name (filter (λ st. not (defines st)) c))
+      ∙ (outputs_kept c ∙ sym (outputs_are c)))))
+
+  reordered : IsReordered c (in_order c order)
+  reordered = record {
+    statements = all_statements;
+    same_inputs = inputs_are (in_order c order)
+        ∙ (same_given input_name (λ n. refl) (λ n kind args. refl) ∙ sym (inputs_are c));
+    same_outputs = same_outputs;
+    same_cells = cells_are (in_order c order)
+        ∙ (same_given cell_names (λ n. refl) (λ n kind args. refl) ∙ sym (cells_are c));
+  }
+
+  -- ---- places
+
+  named_at : (xs : List ℕ) → ((s : ℕ) → Among s xs → s < length defining) → (i s : ℕ)
+      → slice_get xs i ≡ Some s
+      → slice_get (names (filter_map (definition c) xs)) i ≡ name_of c s
+  named_at [] lt i s e = let bad : None ≡ Some s = e in cc
+  named_at (x ∷ xs) lt i s e =
+      go i e (named_at xs (λ t a. lt t (inr a)))
+      (within_place defining x (lt x (inl refl)))
+    where
+      go : (j : ℕ) → slice_get (x ∷ xs) j ≡ Some s
+          → ((k t : ℕ) → slice_get xs k ≡ Some t
+          → slice_get (names (filter_map (definition c) xs)) k ≡ name_of c t)
+          → (st : Statement) × (definition c x ≡ Some st)
+          → slice_get (names (filter_map (definition c) (x ∷ xs))) j ≡ name_of c s
+      go zero at rest p =
+          let by = definition_defines c x p.0 p.1 in
+          let same : x ≡ s = ap (λ o. unwrap_or o s) at in
+          rw (p.1, by.1) (sym by.2 ∙ ap (name_of c) same)
+      go (suc j) at rest p =
+          let by = definition_defines c x p.0 p.1 in
+          rw (p.1, by.1) (rest j s at)
+
+  same_name_at : (i s : ℕ) → slice_get order i ≡ Some s
+      → name_of (in_order c order) i ≡ name_of c s
+  same_name_at i s e =
+      ap (λ ns. slice_get ns i) (flat_map-append defined (filter (λ st. not (defines st)) c)
+      (filter_map (definition c) order)
+      ∙ ap (λ ns. ns ++ names (filter_map (definition c) order)) (others_define c))
+      ∙ named_at order within i s e
+
+  pub ordered_by_level : IsWellFormed c → IsOrderedByLevel c order
+  ordered_by_level well = record { reordered = reordered; places = places }
+    where
+      places : (i s : ℕ) → slice_get order i ≡ Some s → place c (in_order c order) s ≡ i
+      places i s e =
+          let d = in_order c order in
+          let lt : s < length (names c) =
+          subst (λ n. s < n) (defining_count c) (within s (at_place order i s e)) in
+          let at = within_place (names c) s lt in
+          let named : name_of d i ≡ Some at.0 = same_name_at i s e ∙ at.1 in
+          let there = contained (names d) at.0 (at_place (names d) i at.0 named) in
+          ap (λ o. option_map_or (signal d) o s) at.1
+          ∙ signal-name_of d i at.0 (well_reordered c d all_statements well).once named there
