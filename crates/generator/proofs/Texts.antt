@@ -17,10 +17,11 @@ use Rattle.block_sim.specs.Parts.{Parts, BelongTogether, piece_count, with_tests
 use Rattle.workers.specs.declared.RunFault.{RunFault}
 use Rattle.workers.specs.declared.RunFault.TheVariants as run_fault
 use Rattle.workers.specs.Refused.{IsRunFault}
-use Rattle.report.specs.declared.report.ReportFault.{ReportFault}
-use Rattle.report.specs.declared.text.SimFault.{SimFault}
-use Rattle.report.specs.declared.text.SimFault.TheVariants as fault
-use Rattle.report.specs.EndToEnd.{IsJobOf, IsReportFault}
+use Rattle.jobs.specs.declared.fault.ReportFault.{ReportFault}
+use Rattle.jobs.specs.declared.fault.SimFault.{SimFault}
+use Rattle.jobs.specs.declared.fault.SimFault.TheVariants as fault
+use Rattle.jobs.specs.Jobs.{IsJobOf}
+use Rattle.report.specs.EndToEnd.{IsReportFault}
 use Rattle.generator.specs.Generated.{AreFewPieces, HasJob, IsGeneratorFault, IsSearchFault}
 
 -- the laws of texts: a bench text is one circuit, and a text with tests is not refused

@@ -11,9 +11,9 @@ use Rattle.block_sim.specs.declared.job.JobFault.TheVariants as job_fault
 use Rattle.block_sim.specs.Parts.{Parts}
 use Rattle.workers.specs.declared.RunFault.{RunFault}
 use Rattle.workers.specs.declared.RunFault.TheVariants.{NoWorkers, TooManyWorkers, Memory, Threads}
-use Rattle.report.specs.declared.text.SimFault.{SimFault}
-use Rattle.report.specs.declared.text.SimFault.TheVariants as fault
-use Rattle.report.specs.EndToEnd.{IsJobWithin}
+use Rattle.jobs.specs.declared.fault.SimFault.{SimFault}
+use Rattle.jobs.specs.declared.fault.SimFault.TheVariants as fault
+use Rattle.jobs.specs.Jobs.{IsJobWithin}
 
 -- the text is that of at most so many tests
 abbrev pub HasFewRows : ℕ → List ℕ → Type 0

@@ -3,7 +3,7 @@ use Rattle.std.proofs.Common.{ℕ, List, subst}
 use Rattle.fault_model.specs.declared.Model.{Model}
 use Rattle.block_sim.specs.Parts.{Parts}
 use Rattle.compaction.specs.Compaction.{IsCompaction}
-use Rattle.report.specs.EndToEnd.{IsJobOf}
+use Rattle.jobs.specs.Jobs.{IsJobOf}
 use Rattle.report.specs.Compacted.{IsCompactionOf, IsCompactionOfJob}
 
 pub compaction_of_texts : (m : Model) (bench text : List ℕ) (job : Parts) → IsJobOf m bench text job

@@ -17,9 +17,10 @@ use Rattle.lists.proofs.Places.{place_within}
 use Rattle.fault_model.specs.declared.Model.{Model}
 use Rattle.block_sim.specs.Parts.{Parts}
 use Rattle.workers.specs.Verdict.{AreFirsts}
-use Rattle.report.specs.declared.text.SimFault.{SimFault}
-use Rattle.report.specs.declared.text.SimFault.TheVariants as fault
-use Rattle.report.specs.EndToEnd.{IsJobOf, IsJobWithin, IsReportFault}
+use Rattle.jobs.specs.declared.fault.SimFault.{SimFault}
+use Rattle.jobs.specs.declared.fault.SimFault.TheVariants as fault
+use Rattle.jobs.specs.Jobs.{IsJobOf, IsJobWithin}
+use Rattle.report.specs.EndToEnd.{IsReportFault}
 use Rattle.report.specs.Curve.{IsCurveFault, IsCurveOf, IsCurveOfJob}
 use Rattle.patterns.specs.Least.{below, from_up}
 use Rattle.compaction.specs.Compaction.{finds, is_first}

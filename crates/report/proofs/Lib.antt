@@ -2,7 +2,7 @@ pub mod Zips
 pub mod Cells
 pub mod Texts
 pub mod KnownLines
-pub mod Accepted
+pub mod RunsOfJobs
 pub mod Runs
 pub mod PartTexts
 pub mod Cuts

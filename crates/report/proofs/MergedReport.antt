@@ -19,7 +19,8 @@ use Rattle.workers.specs.declared.parts.PartVerdict.TheVariants.{First, OtherPar
 use Rattle.workers.specs.Part.{ArePartVerdicts}
 use Rattle.workers.specs.Verdict.{AreFirsts}
 use Rattle.report.specs.declared.contents.Lines.{Lines}
-use Rattle.report.specs.EndToEnd.{IsJobOf, IsReportOf}
+use Rattle.jobs.specs.Jobs.{IsJobOf}
+use Rattle.report.specs.EndToEnd.{IsReportOf}
 use Rattle.report.specs.Merging.{AreOfOneRun, IsFirstMerged, IsJoined, IsMerged, IsWholeRun}
 use Rattle.report.specs.Merging.{MergedRun, MergeState}
 use Rattle.report.specs.WholeMerge.{AreMerged, IsMergeOf, IsPartOf, IsSomePartOf}

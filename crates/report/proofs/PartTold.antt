@@ -17,7 +17,7 @@ use Rattle.workers.specs.declared.parts.PartVerdict.{PartVerdict}
 use Rattle.workers.specs.declared.parts.PartVerdict.TheVariants.{First, OtherPart}
 use Rattle.workers.specs.Part.{ArePartVerdicts}
 use Rattle.report.specs.Cut.{Lacks}
-use Rattle.report.specs.EndToEnd.{IsJobOf}
+use Rattle.jobs.specs.Jobs.{IsJobOf}
 use Rattle.report.specs.PartText.{IsPartTextOf, part_text, head_of, model_name, rule_name, sum_text}
 use Rattle.report.specs.PartReading.{IsHead, IsLine, IsPart, IsVerdict, IsWord}
 use Rattle.report.specs.Report.{fault_text}

@@ -10,14 +10,15 @@ use Rattle.workers.specs.Refused.{IsPartsFault}
 use Rattle.workers.proofs.Public.{parts_fault}
 use Rattle.workers.specs.Verdict.{AreFirsts}
 use Rattle.output.specs.Output.{Output}
-use Rattle.report.specs.declared.text.SimFault.{SimFault}
-use Rattle.report.specs.declared.text.SimFault.TheVariants as fault
-use Rattle.report.specs.EndToEnd.{WritesOneOf, IsJobOf, IsJobWithin, IsReportOf, IsReportOfJob}
+use Rattle.jobs.specs.declared.fault.SimFault.{SimFault}
+use Rattle.jobs.specs.declared.fault.SimFault.TheVariants as fault
+use Rattle.jobs.specs.Jobs.{IsJobOf, IsJobWithin}
+use Rattle.report.specs.EndToEnd.{WritesOneOf, IsReportOf, IsReportOfJob}
 use Rattle.report.specs.EndToEnd.{IsReportFault, IsRunReportFault, IsJobReportFault, IsTextFault}
 use Rattle.report.specs.EndToEnd.{IsScheduleReportFault, IsScheduleTextFault}
 use Rattle.report.specs.declared.contents.Contents.{Contents}
 use Rattle.report.specs.Report.{whole_report}
-use Rattle.report.proofs.Accepted.{schedule_fault}
+use Rattle.report.proofs.RunsOfJobs.{schedule_fault}
 
 -- a text of one kind is one of another
 pub written_as : (A B : List ℕ → Type 0) (r : Result (Unit {0}) SimFault) (old new : Output)

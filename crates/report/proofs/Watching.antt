@@ -5,9 +5,10 @@ use Rattle.block_sim.specs.Parts.{Parts}
 use Rattle.workers.specs.declared.RunFault.TheVariants as run_fault
 use Rattle.workers.specs.Refused.{IsPartsFault}
 use Rattle.workers.specs.Work.{Stops}
-use Rattle.report.specs.declared.text.SimFault.{SimFault}
-use Rattle.report.specs.declared.text.SimFault.TheVariants as fault
-use Rattle.report.specs.EndToEnd.{IsJobOf, IsJobReportFault, IsJobWithin}
+use Rattle.jobs.specs.declared.fault.SimFault.{SimFault}
+use Rattle.jobs.specs.declared.fault.SimFault.TheVariants as fault
+use Rattle.jobs.specs.Jobs.{IsJobOf, IsJobWithin}
+use Rattle.report.specs.EndToEnd.{IsJobReportFault}
 use Rattle.report.specs.EndToEnd.{IsWatchedFault}
 use Rattle.workers.proofs.Public.{parts_fault}
 

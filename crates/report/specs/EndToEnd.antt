@@ -4,23 +4,21 @@ use Rattle.std.specs.Prelude.{Ok, Err}
 use Rattle.bench_net.specs.declared.BenchFault.TheVariants as bench_fault
 use Rattle.bench_net.specs.Statement.{Statement}
 use Rattle.bench_net.specs.Scan.{sources}
-use Rattle.bench_net.specs.Circuit.{IsCircuit}
 use Rattle.bench_net.specs.Refusal.{IsAccepted, IsRefused}
 use Rattle.fault_model.specs.declared.Model.{Model}
 use Rattle.fault_model.specs.Collapse.{Collapsed, AreClassesOf}
 use Rattle.orders.specs.declared.OrderFault.TheVariants as order_fault
-use Rattle.patterns.specs.declared.TestFault.TheVariants as test_fault
 use Rattle.orders.specs.Order.{HasMoves, IsOrderRefusal}
-use Rattle.patterns.specs.Tests.{TestList, HasTests, IsTestList, IsTestRefusal, max_pieces}
-use Rattle.block_sim.specs.declared.job.JobFault.TheVariants as job_fault
-use Rattle.block_sim.specs.Parts.{Parts, BelongTogether, piece_count}
+use Rattle.patterns.specs.Tests.{TestList, HasTests}
+use Rattle.block_sim.specs.Parts.{Parts, piece_count}
 use Rattle.workers.specs.declared.RunFault.TheVariants as run_fault
 use Rattle.workers.specs.declared.RunFault.{RunFault}
 use Rattle.workers.specs.Refused.{IsPartFault, IsPartsFault, IsRunFault, IsScheduleFault}
 use Rattle.workers.specs.Verdict.{AreFirsts}
 use Rattle.workers.specs.Work.{Stops}
-use Rattle.report.specs.declared.text.SimFault.{SimFault}
-use Rattle.report.specs.declared.text.SimFault.TheVariants as fault
+use Rattle.jobs.specs.declared.fault.SimFault.{SimFault}
+use Rattle.jobs.specs.declared.fault.SimFault.TheVariants as fault
+use Rattle.jobs.specs.Jobs.{IsInputFault, IsJobFault, IsJobOf, IsJobWithin, IsReadFault}
 use Rattle.output.specs.Output.{Output, TakesAll, TakesFront}
 use Rattle.report.specs.declared.contents.Contents.{Contents}
 use Rattle.report.specs.Report.{whole_report, listing}
@@ -55,50 +53,6 @@ IsListingFault bench fault.Memory = ⊤
 IsListingFault bench (fault.Report f) = ⊤
 IsListingFault bench _ = ⊥
 
--- the job of a bench text and a test text under a model: the circuit and the tests of the texts,
--- with the circuit's faults and classes
-abbrev pub IsJobOf : Model → List ℕ → List ℕ → Parts → Type 0
-IsJobOf m bench text job = IsAccepted bench job.circuit
-    × HasTests text (length (sources job.circuit)) job.tests × BelongTogether job
-    × (job.list.model ≡ m)
-
--- the tests are tests for the circuit
-pub record AreTestsFor (c : List Statement) (list : TestList) : Type 0 where
-  pub circuit : IsCircuit c
-  pub tests : IsTestList list
-  pub width : list.width ≡ length (sources c)
-
--- the job of a circuit and of tests under a model
-abbrev pub IsJobFor : Model → List Statement → TestList → Parts → Type 0
-IsJobFor m c tests job =
-    (job.circuit ≡ c) × (job.tests ≡ tests) × BelongTogether job × (job.list.model ≡ m)
-
--- When the bench text or the test text is refused. The bench text is read first.
-abbrev pub IsInputFault : List ℕ → List ℕ → SimFault → Type 0
-IsInputFault bench text (fault.Bench f) = (f ≡ bench_fault.Memory) ⊎ IsRefused bench f
-IsInputFault bench text (fault.Tests f) = (c : List Statement) × IsAccepted bench c
-    × ((f ≡ test_fault.Memory) ⊎ IsTestRefusal text (length (sources c)) f)
-IsInputFault bench text _ = ⊥
-
--- when no job is made of a circuit and of tests: for the number of pieces, or for want of memory
-abbrev pub IsPiecesFault : Model → List Statement → TestList → SimFault → Type 0
-IsPiecesFault m c tests (fault.Job f) = (f ≡ job_fault.Memory)
-    ⊎ ((job : Parts) × IsJobFor m c tests job × (max_pieces < piece_count job))
-IsPiecesFault m c tests fault.Memory = ⊤
-IsPiecesFault m c tests _ = ⊥
-
--- When each fault of reading a job comes: the two texts are read, and then comes the number of
--- pieces.
-abbrev pub IsJobFault : Model → List ℕ → List ℕ → SimFault → Type 0
-IsJobFault m bench text (fault.Job f) = (f ≡ job_fault.Memory)
-    ⊎ ((job : Parts) × IsJobOf m bench text job × (max_pieces < piece_count job))
-IsJobFault m bench text fault.Memory = ⊤
-IsJobFault m bench text f = IsInputFault bench text f
-
--- the job of the texts, which hasn't too many pieces
-abbrev pub IsJobWithin : Model → List ℕ → List ℕ → Parts → Type 0
-IsJobWithin m bench text job = IsJobOf m bench text job × (piece_count job ≤ max_pieces)
-
 -- When each fault of the report comes: those of its job, then those of a run whose gate lets every
 -- piece pass, then an output that takes nothing more.
 abbrev pub IsReportFault : Model → List ℕ → List ℕ → ℕ → SimFault → Type 0
@@ -107,11 +61,6 @@ IsReportFault m bench text workers (fault.Run f) =
 IsReportFault m bench text workers (fault.Report f) =
     (job : Parts) × IsJobWithin m bench text job × (0 < workers) × (workers ≤ 64)
 IsReportFault m bench text workers f = IsJobFault m bench text f
-
--- When the bench text or the test text of a job of any size is refused.
-abbrev pub IsReadFault : List ℕ → List ℕ → SimFault → Type 0
-IsReadFault bench text fault.Memory = ⊤
-IsReadFault bench text f = IsInputFault bench text f
 
 -- When each fault of a text comes whose run is refused so: those of the two texts, then those of
 -- the

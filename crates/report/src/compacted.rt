@@ -6,11 +6,11 @@ ghost use Rattle.report.specs.Compacted.{IsCompactionOf, IsCompactionOfJob};
 ghost use Rattle.report.specs.Curve.{IsCurveFault};
 ghost use Rattle.report.specs.EndToEnd.{IsReportFault, WritesOneOf};
 
-use crate::text::{SimFault, job_of};
 use crate::whole::put_text;
 use block_sim::Job;
 use compaction::compact;
 use fault_model::Model;
+use jobs::{SimFault, job_of};
 use output::Out;
 use patterns::write_tests;
 use std::alloc::Global;

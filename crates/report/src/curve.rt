@@ -9,12 +9,12 @@ ghost use Rattle.report.specs.Curve.{IsCurveFault, IsCurveOf, IsCurveOfJob, curv
 ghost use Rattle.report.specs.Curve.{counts_at, news_at, point_line};
 ghost use Rattle.report.specs.EndToEnd.{IsReportFault, WritesOneOf};
 
-use crate::report::{ReportFault, hundredths, put_coverage};
-use crate::text::{SimFault, job_of};
+use crate::report::{hundredths, put_coverage};
 use block_sim::Job;
 use fault_model::Model;
 use fault_model::laws::stems;
 use itoa::Buffer;
+use jobs::{ReportFault, SimFault, job_of};
 use output::{Out, OutFailed, put_pieces};
 use std::alloc::{AllocError, Global};
 use std::sync::Wait;

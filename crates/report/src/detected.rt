@@ -13,13 +13,13 @@ ghost use Rattle.report.specs.Detected.{detection_report, reached};
 ghost use Rattle.report.specs.EndToEnd.{IsReportFault, IsRunReportFault, WritesOneOf};
 ghost use Rattle.workers.specs.Refused.{IsRunFault};
 
-use crate::report::{ReportFault, put_coverage, put_fault_line};
-use crate::text::{SimFault, job_of};
+use crate::report::{put_coverage, put_fault_line};
 use bench_net::Circuit;
 use block_sim::Job;
 use detections::{CountFault, detections};
 use fault_model::{Faults, Model};
 use itoa::Buffer;
+use jobs::{ReportFault, SimFault, job_of};
 use output::{Out, OutFailed};
 use std::alloc::Global;
 use std::sync::Wait;

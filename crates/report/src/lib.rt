@@ -22,7 +22,6 @@ mod part_reader;
 mod report;
 mod responses;
 mod text;
-mod watch;
 mod watched;
 mod whole;
 
@@ -31,6 +30,7 @@ pub use contents::{Contents, Lines};
 pub use curve::{CurvePoint, curve_of, curve_text_in, write_curve};
 pub use detected::{detections_text_in, write_detections};
 pub use ending::write_merged;
+pub use jobs::{ReportFault, SimFault, Watch, job_of};
 pub use joining::MergeFault;
 pub use laws::{
     class_firsts_are, merged_report, no_refusal_of_merge, no_refusal_of_part_text, one_part_text,
@@ -41,12 +41,11 @@ pub use merged::Merged;
 pub use output::{Formatted, Out, OutFailed, Plain};
 pub use part::part_text_in;
 pub use part_reader::{PartFault, PartHeader, PartText, read_part};
-pub use report::{ReportFault, write_listing, write_report};
+pub use report::{write_listing, write_report};
 pub use responses::responses_text_in;
 pub use text::{
-    SimFault, faults_text, faults_text_in, job_of, listing_bytes, report_bytes, schedule_text,
-    schedule_text_in, simulate_text, simulate_text_in, simulate_text_in_parts,
+    faults_text, faults_text_in, listing_bytes, report_bytes, schedule_text, schedule_text_in,
+    simulate_text, simulate_text_in, simulate_text_in_parts,
 };
-pub use watch::Watch;
 pub use watched::simulate_text_watched;
 pub use workers::{Gate, MAX_WORKERS, OpenGate, RunFault};

@@ -16,13 +16,13 @@ ghost use Rattle.report.specs.PartText.{sum_text};
 ghost use Rattle.report.specs.PartText.{part_line, said_by};
 ghost use Rattle.report.specs.Report.{fault_text};
 
-use crate::report::{ReportFault, put_fault_line, put_first_line};
-use crate::text::{SimFault, job_of_any_size};
+use crate::report::{put_fault_line, put_first_line};
 use bench_net::Circuit;
 use block_sim::Job;
 use fault_model::{Faults, Model};
 use hex::encode;
 use itoa::Buffer;
+use jobs::{ReportFault, SimFault, job_of_any_size};
 use output::{Out, OutFailed, put_pieces};
 use sha2::{Digest, Sha256};
 use std::alloc::{AllocError, Global};

@@ -20,8 +20,8 @@ use block_sim::Job;
 use fault_model::laws::stems;
 use fault_model::{Classes, Faults, Line, Model};
 use itoa::Buffer;
+use jobs::ReportFault;
 use output::{Out, OutFailed, put_pieces};
-use thiserror::Error;
 use workers::Verdicts;
 
 /// Writes a line of another kind than a pin, and what is said of it: the kind, its name or number,
@@ -292,20 +292,6 @@ fn put_classes<W: Out>(
         put_class_line(circuit, list, fault, classes.class_of(fault), out)?;
     }
     Ok(())
-}
-
-/// Why a report or a listing was not written.
-#[derive(Clone, Copy, Debug, PartialEq, Eq, Error)]
-pub enum ReportFault {
-    /// The output took nothing more: what went out is a beginning of the text.
-    #[error("cannot write")]
-    Write,
-}
-
-impl From<OutFailed> for ReportFault {
-    fn from(_: OutFailed) -> ReportFault {
-        ReportFault::Write
-    }
 }
 
 /// Writes the lines of the faults that are asked for, and then the coverage line.

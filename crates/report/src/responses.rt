@@ -4,9 +4,9 @@ ghost use Rattle.std.specs.Prelude.{IfErr};
 ghost use Rattle.report.specs.EndToEnd.{WritesOneOf};
 ghost use Rattle.report.specs.Responses.{AreResponsesOf, IsResponsesFault};
 
-use crate::text::{SimFault, read_inputs};
 use crate::whole::put_text;
 use block_sim::responses;
+use jobs::{SimFault, read_inputs};
 use output::Out;
 use patterns::write_tests;
 use std::alloc::Global;

@@ -1,136 +1,28 @@
 //! From the bytes of texts to the bytes of the report or the listing.
 
-ghost use Rattle.std.specs.Prelude.{◌≢◌, ◌<◌, ◌≤◌, length, Err, IfOk, IfErr, OnOk};
-ghost use Rattle.bench_net.specs.Refusal.{IsAccepted};
-ghost use Rattle.bench_net.specs.Scan.{sources};
+ghost use Rattle.std.specs.Prelude.{◌≢◌, ◌<◌, ◌≤◌, Err, IfOk, IfErr, OnOk};
 ghost use Rattle.fault_model.specs.declared.Model.TheVariants as model;
-ghost use Rattle.patterns.specs.Tests.{HasTests, max_pieces};
 ghost use Rattle.block_sim.specs.Parts.{BelongTogether, piece_count};
 ghost use Rattle.workers.specs.Refused.{IsPartsFault};
-ghost use Rattle.report.specs.EndToEnd.{WritesOneOf, AreTestsFor, IsReportOf, IsReportFault};
+ghost use Rattle.report.specs.EndToEnd.{WritesOneOf, IsReportOf, IsReportFault, IsReportOfJob};
 ghost use Rattle.report.specs.EndToEnd.{IsScheduleTextFault, HasSomeMoves, IsListingOf};
-ghost use Rattle.report.specs.EndToEnd.{IsListingFault, IsJobOf, IsJobFor, IsJobFault};
-ghost use Rattle.report.specs.EndToEnd.{IsInputFault, IsPiecesFault, IsReportOfJob};
-ghost use Rattle.report.specs.EndToEnd.{IsJobReportFault, IsPartsReportFault, IsReadFault};
+ghost use Rattle.report.specs.EndToEnd.{IsListingFault, IsJobReportFault, IsPartsReportFault};
 ghost use Rattle.report.specs.EndToEnd.{IsScheduleReportFault};
 
 use crate::contents::Contents;
-use crate::report::{ReportFault, write_listing, write_report};
-use crate::watch::Watch;
-use bench_net::{BenchFault, Circuit, read_bench};
-use block_sim::{Job, JobFault};
+use crate::report::{write_listing, write_report};
+use bench_net::read_bench;
+use block_sim::Job;
 use fault_model::{Model, collapse, list_faults_in};
-use orders::{OrderFault, read_order};
+use jobs::{
+    ReportFault, SimFault, Watch, job_for, job_of, job_of_any_size, read_inputs, run_watched,
+};
+use orders::read_order;
 use output::{Out, Plain};
-use patterns::{TestFault, Tests, read_tests};
-use std::alloc::{AllocError, Global};
+use std::alloc::Global;
 use std::sync::Wait;
 use std::thread::Threads;
-use thiserror::Error;
-use workers::{OpenGate, RunFault, parts_for, run_in_parts, run_schedule};
-
-/// Why a text call gave no text: the fault of the part that refused.
-#[derive(Clone, Copy, Debug, PartialEq, Eq, Error)]
-pub enum SimFault {
-    /// The bench text is refused.
-    #[error("{0}")]
-    Bench(BenchFault),
-    /// The test text is refused.
-    #[error("{0}")]
-    Tests(TestFault),
-    /// The order text is refused.
-    #[error("{0}")]
-    Order(OrderFault),
-    /// The circuit and the tests make too much work.
-    #[error("{0}")]
-    Job(JobFault),
-    /// The run is refused.
-    #[error("{0}")]
-    Run(RunFault),
-    /// The text was not written whole.
-    #[error("{0}")]
-    Report(ReportFault),
-    /// Memory is refused.
-    #[error("out of memory")]
-    Memory,
-}
-
-impl From<BenchFault> for SimFault {
-    ghost use Rattle.std.specs.Prelude.{◌≡◌};
-    ghost use Rattle.report.specs.declared.text.SimFault.TheVariants as fault;
-
-    ghost from_gives = { λ f s. s ≡ fault.Bench f };
-
-    fn from(fault: BenchFault) -> SimFault {
-        SimFault::Bench(fault)
-    }
-}
-
-impl From<TestFault> for SimFault {
-    ghost use Rattle.std.specs.Prelude.{◌≡◌};
-    ghost use Rattle.report.specs.declared.text.SimFault.TheVariants as fault;
-
-    ghost from_gives = { λ f s. s ≡ fault.Tests f };
-
-    fn from(fault: TestFault) -> SimFault {
-        SimFault::Tests(fault)
-    }
-}
-
-impl From<OrderFault> for SimFault {
-    ghost use Rattle.std.specs.Prelude.{◌≡◌};
-    ghost use Rattle.report.specs.declared.text.SimFault.TheVariants as fault;
-
-    ghost from_gives = { λ f s. s ≡ fault.Order f };
-
-    fn from(fault: OrderFault) -> SimFault {
-        SimFault::Order(fault)
-    }
-}
-
-impl From<JobFault> for SimFault {
-    ghost use Rattle.std.specs.Prelude.{◌≡◌};
-    ghost use Rattle.report.specs.declared.text.SimFault.TheVariants as fault;
-
-    ghost from_gives = { λ f s. s ≡ fault.Job f };
-
-    fn from(fault: JobFault) -> SimFault {
-        SimFault::Job(fault)
-    }
-}
-
-impl From<RunFault> for SimFault {
-    ghost use Rattle.std.specs.Prelude.{◌≡◌};
-    ghost use Rattle.report.specs.declared.text.SimFault.TheVariants as fault;
-
-    ghost from_gives = { λ f s. s ≡ fault.Run f };
-
-    fn from(fault: RunFault) -> SimFault {
-        SimFault::Run(fault)
-    }
-}
-
-impl From<ReportFault> for SimFault {
-    ghost use Rattle.std.specs.Prelude.{◌≡◌};
-    ghost use Rattle.report.specs.declared.text.SimFault.TheVariants as fault;
-
-    ghost from_gives = { λ f s. s ≡ fault.Report f };
-
-    fn from(fault: ReportFault) -> SimFault {
-        SimFault::Report(fault)
-    }
-}
-
-impl From<AllocError> for SimFault {
-    ghost use Rattle.std.specs.Prelude.{◌≡◌};
-    ghost use Rattle.report.specs.declared.text.SimFault.TheVariants as fault;
-
-    ghost from_gives = { λ _ s. s ≡ fault.Memory };
-
-    fn from(_: AllocError) -> SimFault {
-        SimFault::Memory
-    }
-}
+use workers::{OpenGate, parts_for, run_schedule};
 
 /// Reads a circuit and tests for it, and writes the report of the stuck-at faults:
 /// [`simulate_text_in`] under [`Model::StuckAt`].
@@ -227,9 +119,7 @@ pub(crate) fn report_run<R: Threads + Wait, G: Watch + Sync, W: Out>(
         (IsPartsFault job.now parts workers (G.passing gate.now) (G.stops gate.now))) }
     ensures workers { OnOk result ((0 < workers) × (workers ≤ 64)) }
 {
-    gate.starts(job.classes().count(), job.tests().blocks());
-    let verdicts = run_in_parts(rt, alloc, job, parts, workers, gate)?;
-    gate.ends();
+    let verdicts = run_watched(rt, alloc, job, parts, workers, gate)?;
     write_report(job, &verdicts, contents, out)?;
     Ok(())
 }
@@ -291,7 +181,7 @@ pub fn schedule_text_in<W: Out>(
 {
     let (circuit, tests) = read_inputs(alloc, bench, tests)?;
     let moves = read_order(alloc, order, workers)?;
-    let job = make_job(alloc, model, circuit, tests)?;
+    let job = job_for(alloc, model, circuit, tests)?;
     report_schedule(alloc, &job, &moves, workers, contents, out)
 }
 
@@ -339,73 +229,6 @@ pub fn report_bytes<R: Threads + Wait>(
         Err(SimFault::Report(ReportFault::Write)) => Err(SimFault::Memory),
         Err(fault) => Err(fault),
     }
-}
-
-/// The job of a bench text and a test text under a model.
-pub fn job_of(alloc: Global, model: Model, bench: &[u8], tests: &[u8]) -> Result<Job, SimFault>
-    ensures job { IfOk result (IsJobOf model bench.now tests.now) }
-    ensures few { IfOk result (λ job. piece_count job ≤ max_pieces) }
-    ensures refused { IfErr result (IsJobFault model bench.now tests.now) }
-{
-    let (circuit, tests) = read_inputs(alloc, bench, tests)?;
-    make_job(alloc, model, circuit, tests)
-}
-
-/// The job of a bench text and a test text under a model, whatever the number of its pieces.
-pub(crate) fn job_of_any_size(
-    alloc: Global,
-    model: Model,
-    bench: &[u8],
-    tests: &[u8],
-) -> Result<Job, SimFault>
-    ensures job { IfOk result (IsJobOf model bench.now tests.now) }
-    ensures refused { IfErr result (IsReadFault bench.now tests.now) }
-{
-    let (circuit, tests) = read_inputs(alloc, bench, tests)?;
-    Ok(make_any_job(alloc, model, circuit, tests)?)
-}
-
-/// The job of a circuit and of tests for it under a model, whatever the number of its pieces.
-fn make_any_job(
-    alloc: Global,
-    model: Model,
-    circuit: Circuit,
-    tests: Tests,
-) -> Result<Job, AllocError>
-    requires { AreTestsFor circuit tests }
-    ensures { IfOk result (IsJobFor model circuit tests) }
-{
-    let faults = list_faults_in(alloc, &circuit, model)?;
-    let classes = collapse(alloc, &circuit, &faults)?;
-    Job::of_any_size(alloc, circuit, faults, classes, tests)
-}
-
-/// The circuit of a bench text, and the tests for it of a test text.
-pub(crate) fn read_inputs(
-    alloc: Global,
-    bench: &[u8],
-    tests: &[u8],
-) -> Result<(Circuit, Tests), SimFault>
-    ensures circuit { IfOk result (λ read. IsAccepted bench.now read.0) }
-    ensures tests { IfOk result (λ read. HasTests tests.now (length (sources read.0)) read.1) }
-    ensures fit { IfOk result (λ read. AreTestsFor read.0 read.1) }
-    ensures refused { IfErr result (IsInputFault bench.now tests.now) }
-{
-    let circuit = read_bench(alloc, bench)?;
-    let tests = read_tests(alloc, tests, circuit.sources())?;
-    Ok((circuit, tests))
-}
-
-/// The job of a circuit and of tests for it under a model.
-fn make_job(alloc: Global, model: Model, circuit: Circuit, tests: Tests) -> Result<Job, SimFault>
-    requires { AreTestsFor circuit tests }
-    ensures job { IfOk result (IsJobFor model circuit tests) }
-    ensures few { IfOk result (λ job. piece_count job ≤ max_pieces) }
-    ensures refused { IfErr result (IsPiecesFault model circuit tests) }
-{
-    let faults = list_faults_in(alloc, &circuit, model)?;
-    let classes = collapse(alloc, &circuit, &faults)?;
-    Ok(Job::new(alloc, circuit, faults, classes, tests)?)
 }
 
 /// Reads a circuit, and writes the listing of the stuck-at faults: [`faults_text_in`] under

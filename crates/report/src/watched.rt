@@ -4,9 +4,9 @@ ghost use Rattle.std.specs.Prelude.{◌<◌, ◌≤◌, IfErr, IfSome, None, OnO
 ghost use Rattle.report.specs.EndToEnd.{IsReportOf, IsWatchedFault, WritesOneOf};
 
 use crate::contents::Contents;
-use crate::text::{SimFault, job_of, job_of_any_size, report_run};
-use crate::watch::Watch;
+use crate::text::report_run;
 use fault_model::Model;
+use jobs::{SimFault, Watch, job_of, job_of_any_size};
 use output::Out;
 use std::alloc::Global;
 use std::sync::Wait;

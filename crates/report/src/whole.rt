@@ -2,7 +2,7 @@
 
 ghost use Rattle.output.specs.Output.{Writes};
 
-use crate::report::ReportFault;
+use jobs::ReportFault;
 use output::{Out, put_all};
 
 /// Writes a text.

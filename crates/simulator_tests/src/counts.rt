@@ -3,7 +3,7 @@
 use block_sim::Job;
 use detections::detections;
 use fault_model::Model;
-use report::{Plain, detections_text_in, job_of};
+use jobs::job_of;
 use std::alloc::Global;
 use std::process::Abort;
 use std::sync::Wait;
@@ -78,15 +78,4 @@ fn tests_of_all_blocks_are_counted(rt: HostRuntime) -> Result<(), Fail> {
     let job = job_of(rt.alloc(), Model::StuckAt, BUFFER, &tests)?;
     check_counts(&rt, rt.alloc(), &job, 1000, &[130, 0, 130, 0])?;
     check_counts(&rt, rt.alloc(), &job, 100, &[100, 0, 100, 0])
-}
-
-#[test]
-fn counts_are_written(rt: HostRuntime) -> Result<(), Fail> {
-    let mut out = Plain::new(Vec::new(rt.alloc()));
-    let model = Model::StuckAt;
-    detections_text_in(&rt, rt.alloc(), model, AND, AND_TESTS, 3, 2, true, &mut out)?;
-    let wanted = "stem a sa0 1\nstem a sa1 1\nstem b sa0 1\nstem b sa1 1\nstem z sa0 1\n\
-                  stem z sa1 3\n1 of 6 (16.66%)\n";
-    assert!(rt; out.into_writer().as_slice() == wanted.as_bytes());
-    Ok(())
 }

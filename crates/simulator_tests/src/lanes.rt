@@ -5,7 +5,7 @@ use crate::plain::{plain_bit, plain_lanes};
 use crate::texts::{Numbers, push_bench, push_rows};
 use block_sim::{Job, Workspace, detecting};
 use fault_model::Model;
-use report::job_of;
+use jobs::job_of;
 use std::alloc::{AllocError, Global};
 use std::process::Abort;
 use std::test::Fail;

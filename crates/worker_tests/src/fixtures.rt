@@ -65,7 +65,7 @@ pub(crate) fn job_of(
 
 /// A job of a circuit and of a text of tests.
 fn job_under(alloc: Global, model: Model, bench: &str, tests: &[u8]) -> Result<Job, Fail> {
-    Ok(report::job_of(alloc, model, bench.as_bytes(), tests)?)
+    Ok(jobs::job_of(alloc, model, bench.as_bytes(), tests)?)
 }
 
 /// Adds rows of tests, each as often as it is to stand there.

@@ -2,8 +2,8 @@ use Rattle.std.proofs.Common.{◌<◌, inl, inr}
 use Rattle.std.proofs.lemmas.Result.{err_from_is_err_and}
 use Rattle.patterns.specs.Tests.{max_pieces}
 use Rattle.block_sim.specs.Parts.{Parts, piece_count}
-use Rattle.report.proofs.Accepted.{job_is, job_refused}
-use Rattle.report.proofs.text.make_job.Goals as goal
+use Rattle.jobs.proofs.JobsOfTexts.{job_is, job_refused}
+use Rattle.jobs.proofs.texts.job_for.Goals as goal
 
 pub new-requires : goal.new-requires
 new-requires c =

@@ -1,5 +1,5 @@
-use Rattle.report.proofs.Accepted.{job_is}
-use Rattle.report.proofs.text.make_any_job.Goals as goal
+use Rattle.jobs.proofs.JobsOfTexts.{job_is}
+use Rattle.jobs.proofs.texts.make_any_job.Goals as goal
 
 pub of_any_size-requires : goal.of_any_size-requires
 of_any_size-requires c =

@@ -1,5 +1,5 @@
 use Rattle.std.proofs.Common.{◌∙◌}
-use Rattle.report.proofs.text.read_inputs.Goals as goal
+use Rattle.jobs.proofs.texts.read_inputs.Goals as goal
 
 pub returns-clause-fit : goal.returns-clause-fit
 returns-clause-fit c = record {

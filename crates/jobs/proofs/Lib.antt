@@ -1,0 +1,2 @@
+mod JobsOfTexts
+pub mod Public

@@ -1,0 +1,127 @@
+//! Why a text call is refused.
+
+use bench_net::BenchFault;
+use block_sim::JobFault;
+use orders::OrderFault;
+use output::OutFailed;
+use patterns::TestFault;
+use std::alloc::AllocError;
+use thiserror::Error;
+use workers::RunFault;
+
+/// Why a report or a listing was not written.
+#[derive(Clone, Copy, Debug, PartialEq, Eq, Error)]
+pub enum ReportFault {
+    /// The output took nothing more: what went out is a beginning of the text.
+    #[error("cannot write")]
+    Write,
+}
+
+impl From<OutFailed> for ReportFault {
+    fn from(_: OutFailed) -> ReportFault {
+        ReportFault::Write
+    }
+}
+
+/// Why a text call gave no text: the fault of the part that refused.
+#[derive(Clone, Copy, Debug, PartialEq, Eq, Error)]
+pub enum SimFault {
+    /// The bench text is refused.
+    #[error("{0}")]
+    Bench(BenchFault),
+    /// The test text is refused.
+    #[error("{0}")]
+    Tests(TestFault),
+    /// The order text is refused.
+    #[error("{0}")]
+    Order(OrderFault),
+    /// The circuit and the tests make too much work.
+    #[error("{0}")]
+    Job(JobFault),
+    /// The run is refused.
+    #[error("{0}")]
+    Run(RunFault),
+    /// The text was not written whole.
+    #[error("{0}")]
+    Report(ReportFault),
+    /// Memory is refused.
+    #[error("out of memory")]
+    Memory,
+}
+
+impl From<BenchFault> for SimFault {
+    ghost use Rattle.std.specs.Prelude.{◌≡◌};
+    ghost use Rattle.jobs.specs.declared.fault.SimFault.TheVariants as fault;
+
+    ghost from_gives = { λ f s. s ≡ fault.Bench f };
+
+    fn from(fault: BenchFault) -> SimFault {
+        SimFault::Bench(fault)
+    }
+}
+
+impl From<TestFault> for SimFault {
+    ghost use Rattle.std.specs.Prelude.{◌≡◌};
+    ghost use Rattle.jobs.specs.declared.fault.SimFault.TheVariants as fault;
+
+    ghost from_gives = { λ f s. s ≡ fault.Tests f };
+
+    fn from(fault: TestFault) -> SimFault {
+        SimFault::Tests(fault)
+    }
+}
+
+impl From<OrderFault> for SimFault {
+    ghost use Rattle.std.specs.Prelude.{◌≡◌};
+    ghost use Rattle.jobs.specs.declared.fault.SimFault.TheVariants as fault;
+
+    ghost from_gives = { λ f s. s ≡ fault.Order f };
+
+    fn from(fault: OrderFault) -> SimFault {
+        SimFault::Order(fault)
+    }
+}
+
+impl From<JobFault> for SimFault {
+    ghost use Rattle.std.specs.Prelude.{◌≡◌};
+    ghost use Rattle.jobs.specs.declared.fault.SimFault.TheVariants as fault;
+
+    ghost from_gives = { λ f s. s ≡ fault.Job f };
+
+    fn from(fault: JobFault) -> SimFault {
+        SimFault::Job(fault)
+    }
+}
+
+impl From<RunFault> for SimFault {
+    ghost use Rattle.std.specs.Prelude.{◌≡◌};
+    ghost use Rattle.jobs.specs.declared.fault.SimFault.TheVariants as fault;
+
+    ghost from_gives = { λ f s. s ≡ fault.Run f };
+
+    fn from(fault: RunFault) -> SimFault {
+        SimFault::Run(fault)
+    }
+}
+
+impl From<ReportFault> for SimFault {
+    ghost use Rattle.std.specs.Prelude.{◌≡◌};
+    ghost use Rattle.jobs.specs.declared.fault.SimFault.TheVariants as fault;
+
+    ghost from_gives = { λ f s. s ≡ fault.Report f };
+
+    fn from(fault: ReportFault) -> SimFault {
+        SimFault::Report(fault)
+    }
+}
+
+impl From<AllocError> for SimFault {
+    ghost use Rattle.std.specs.Prelude.{◌≡◌};
+    ghost use Rattle.jobs.specs.declared.fault.SimFault.TheVariants as fault;
+
+    ghost from_gives = { λ _ s. s ≡ fault.Memory };
+
+    fn from(_: AllocError) -> SimFault {
+        SimFault::Memory
+    }
+}

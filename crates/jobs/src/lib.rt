@@ -1,0 +1,14 @@
+//! From the bytes of a bench text and a test text to a job, and from a job to its verdicts.
+//!
+//! [`job_of`] reads a circuit and tests for it, lists the faults of a model and puts them into
+//! classes. [`run_watched`] runs such a job by workers in threads, under a gate that is told of the
+//! run. [`SimFault`] says why one of these calls is refused, or one that goes on to write a text.
+#![tactic(auto)]
+
+mod fault;
+mod texts;
+mod watch;
+
+pub use fault::{ReportFault, SimFault};
+pub use texts::{job_for, job_of, job_of_any_size, read_inputs};
+pub use watch::{Watch, run_watched};

@@ -1,0 +1,83 @@
+//! The job of texts.
+
+ghost use Rattle.std.specs.Prelude.{◌≤◌, length, IfErr, IfOk};
+ghost use Rattle.bench_net.specs.Refusal.{IsAccepted};
+ghost use Rattle.bench_net.specs.Scan.{sources};
+ghost use Rattle.patterns.specs.Tests.{HasTests, max_pieces};
+ghost use Rattle.block_sim.specs.Parts.{piece_count};
+ghost use Rattle.jobs.specs.Jobs.{AreTestsFor, IsInputFault, IsJobFault, IsJobFor, IsJobOf};
+ghost use Rattle.jobs.specs.Jobs.{IsPiecesFault, IsReadFault};
+
+use crate::fault::SimFault;
+use bench_net::{Circuit, read_bench};
+use block_sim::Job;
+use fault_model::{Model, collapse, list_faults_in};
+use patterns::{Tests, read_tests};
+use std::alloc::{AllocError, Global};
+
+/// The job of a bench text and a test text under a model.
+///
+/// The bench text is read before the tests, and then the number of pieces is looked at: above
+/// [`patterns::MAX_PIECES`] it is refused with [`block_sim::JobFault::TooManyPieces`].
+pub fn job_of(alloc: Global, model: Model, bench: &[u8], tests: &[u8]) -> Result<Job, SimFault>
+    ensures job { IfOk result (IsJobOf model bench.now tests.now) }
+    ensures few { IfOk result (λ job. piece_count job ≤ max_pieces) }
+    ensures refused { IfErr result (IsJobFault model bench.now tests.now) }
+{
+    let (circuit, tests) = read_inputs(alloc, bench, tests)?;
+    job_for(alloc, model, circuit, tests)
+}
+
+/// The job of a bench text and a test text under a model, whatever the number of its pieces.
+pub fn job_of_any_size(
+    alloc: Global,
+    model: Model,
+    bench: &[u8],
+    tests: &[u8],
+) -> Result<Job, SimFault>
+    ensures job { IfOk result (IsJobOf model bench.now tests.now) }
+    ensures refused { IfErr result (IsReadFault bench.now tests.now) }
+{
+    let (circuit, tests) = read_inputs(alloc, bench, tests)?;
+    Ok(make_any_job(alloc, model, circuit, tests)?)
+}
+
+/// The job of a circuit and of tests for it under a model, whatever the number of its pieces.
+fn make_any_job(
+    alloc: Global,
+    model: Model,
+    circuit: Circuit,
+    tests: Tests,
+) -> Result<Job, AllocError>
+    requires { AreTestsFor circuit tests }
+    ensures { IfOk result (IsJobFor model circuit tests) }
+{
+    let faults = list_faults_in(alloc, &circuit, model)?;
+    let classes = collapse(alloc, &circuit, &faults)?;
+    Job::of_any_size(alloc, circuit, faults, classes, tests)
+}
+
+/// The circuit of a bench text, and the tests for it of a test text. The bench text is read first.
+pub fn read_inputs(alloc: Global, bench: &[u8], tests: &[u8]) -> Result<(Circuit, Tests), SimFault>
+    ensures circuit { IfOk result (λ read. IsAccepted bench.now read.0) }
+    ensures tests { IfOk result (λ read. HasTests tests.now (length (sources read.0)) read.1) }
+    ensures fit { IfOk result (λ read. AreTestsFor read.0 read.1) }
+    ensures refused { IfErr result (IsInputFault bench.now tests.now) }
+{
+    let circuit = read_bench(alloc, bench)?;
+    let tests = read_tests(alloc, tests, circuit.sources())?;
+    Ok((circuit, tests))
+}
+
+/// The job of a circuit and of tests for it under a model. It is refused for its number of pieces,
+/// or for want of memory.
+pub fn job_for(alloc: Global, model: Model, circuit: Circuit, tests: Tests) -> Result<Job, SimFault>
+    requires { AreTestsFor circuit tests }
+    ensures job { IfOk result (IsJobFor model circuit tests) }
+    ensures few { IfOk result (λ job. piece_count job ≤ max_pieces) }
+    ensures refused { IfErr result (IsPiecesFault model circuit tests) }
+{
+    let faults = list_faults_in(alloc, &circuit, model)?;
+    let classes = collapse(alloc, &circuit, &faults)?;
+    Ok(Job::new(alloc, circuit, faults, classes, tests)?)
+}

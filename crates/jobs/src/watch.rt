@@ -1,0 +1,54 @@
+//! Runs under gates that are told of the whole run.
+
+ghost use Rattle.std.specs.Prelude.{◌<◌, ◌≤◌, IfErr, IfOk, OnOk};
+ghost use Rattle.workers.specs.Refused.{ArePartsWithin, IsPartsFault};
+ghost use Rattle.workers.specs.Verdict.{AreBehindHits, AreFirsts};
+
+use block_sim::Job;
+use std::alloc::Global;
+use std::sync::Wait;
+use std::thread::Threads;
+use workers::{Gate, OpenGate, RunFault, Verdicts, run_in_parts};
+
+/// A gate that is told how much work a run has, and when that work is done.
+pub trait Watch: Gate {
+    /// The run begins: it has so many fault classes, each on so many blocks of 64 tests.
+    fn starts(&self, classes: u32, blocks: u32);
+
+    /// All classes are settled. Nothing of the text is written yet.
+    fn ends(&self);
+}
+
+impl Watch for OpenGate {
+    fn starts(&self, _classes: u32, _blocks: u32) {}
+
+    fn ends(&self) {}
+}
+
+/// Runs a job in so many parts, by workers in threads of their own, as [`workers::run_in_parts`]
+/// does and with the same verdicts and refusals. The gate is told when the run begins, and when all
+/// is settled.
+pub fn run_watched<R: Threads + Wait, G: Watch + Sync>(
+    rt: &R,
+    alloc: Global,
+    job: &Job,
+    parts: u32,
+    workers: u32,
+    gate: &G,
+) -> Result<Verdicts, RunFault>
+    requires { 0 < parts }
+    ensures firsts { IfOk result (λ v.
+        AreFirsts job.now.list.model job.now.circuit job.now.tests.tests v.firsts) }
+    ensures skipped { IfOk result (λ v. AreBehindHits job.now v.skipped) }
+    ensures workers { OnOk result ((0 < workers) × (workers ≤ 64)) }
+    ensures within { OnOk result (ArePartsWithin job.now parts) }
+    ensures refused { IfErr result (IsPartsFault job.now parts workers (G.passing gate.now)
+        (G.stops gate.now)) }
+{
+    gate.starts(job.classes().count(), job.tests().blocks());
+    let verdicts = run_in_parts(rt, alloc, job, parts, workers, gate);
+    if verdicts.is_ok() {
+        gate.ends();
+    }
+    verdicts
+}
