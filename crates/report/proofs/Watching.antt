@@ -1,5 +1,5 @@
 -- When the report of a run that a gate watches is refused, by the refusals of its job.
-use Rattle.std.specs.Prelude.{ℕ, List, Some, None}
+use Rattle.std.specs.Prelude.{⊤, ℕ, List, Some, None}
 use Rattle.fault_model.specs.declared.Model.{Model}
 use Rattle.block_sim.specs.Parts.{Parts}
 use Rattle.workers.specs.declared.RunFault.TheVariants as run_fault
@@ -8,8 +8,7 @@ use Rattle.workers.specs.Work.{Stops}
 use Rattle.jobs.specs.declared.fault.SimFault.{SimFault}
 use Rattle.jobs.specs.declared.fault.SimFault.TheVariants as fault
 use Rattle.jobs.specs.Jobs.{IsJobOf, IsJobWithin}
-use Rattle.report.specs.EndToEnd.{IsJobReportFault}
-use Rattle.report.specs.EndToEnd.{IsWatchedFault}
+use Rattle.report.specs.EndToEnd.{IsJobReportFault, IsJobTextFault, IsReportFault, IsWatchedFault}
 use Rattle.workers.proofs.Public.{parts_fault}
 
 -- a refused run in parts of a job of the texts
@@ -73,3 +72,36 @@ watched_whole m bench text parts workers passing stops job is (fault.Tests f) h 
 watched_whole m bench text parts workers passing stops job is (fault.Order f) h = absurd h
 watched_whole m bench text parts workers passing stops job is (fault.Job f) h = absurd h
 watched_whole m bench text parts workers passing stops job is fault.Memory h = absurd h
+
+-- and that of another text that is made of the verdicts
+pub watched_text : (m : Model) (bench text : List ℕ) (parts workers : ℕ) (passing : Type 0)
+    (stops : Stops) (job : Parts) → IsJobWithin m bench text job → (f : SimFault)
+    → IsJobTextFault workers (IsPartsFault job parts workers passing stops) f
+    → IsWatchedFault m bench text None workers passing stops f
+watched_text m bench text parts workers passing stops job is (fault.Run f) h =
+    watched_whole m bench text parts workers passing stops job is (fault.Run f) h
+watched_text m bench text parts workers passing stops job is (fault.Report f) h =
+    (job, is, h.0, h.1)
+watched_text m bench text parts workers passing stops job is (fault.Bench f) h = absurd h
+watched_text m bench text parts workers passing stops job is (fault.Tests f) h = absurd h
+watched_text m bench text parts workers passing stops job is (fault.Order f) h = absurd h
+watched_text m bench text parts workers passing stops job is (fault.Job f) h = absurd h
+watched_text m bench text parts workers passing stops job is fault.Memory h = tt
+
+-- a run whose gate lets every piece pass is refused as a run without a gate
+pub open_fault : (m : Model) (bench text : List ℕ) (workers : ℕ) (f : SimFault)
+    → IsWatchedFault m bench text None workers ⊤ (λ _ _ _. ⊥) f
+    → IsReportFault m bench text workers f
+open_fault m bench text workers (fault.Run run_fault.NoWorkers) h = h
+open_fault m bench text workers (fault.Run run_fault.TooManyWorkers) h = h
+open_fault m bench text workers (fault.Run (run_fault.NoSuchMove i)) h = h
+open_fault m bench text workers (fault.Run run_fault.TooManyPieces) h = h
+open_fault m bench text workers (fault.Run run_fault.Memory) h = h
+open_fault m bench text workers (fault.Run run_fault.Threads) h = h
+open_fault m bench text workers (fault.Run (run_fault.Unfinished c b)) h = absurd (h.3.4 tt)
+open_fault m bench text workers (fault.Report f) h = h
+open_fault m bench text workers (fault.Bench f) h = h
+open_fault m bench text workers (fault.Tests f) h = h
+open_fault m bench text workers (fault.Order f) h = h
+open_fault m bench text workers (fault.Job f) h = h
+open_fault m bench text workers fault.Memory h = h

@@ -144,6 +144,11 @@ IsJobReportFault workers IsFault (fault.Run f) = IsFault f
 IsJobReportFault workers IsFault (fault.Report f) = (0 < workers) × (workers ≤ 64)
 IsJobReportFault workers IsFault _ = ⊥
 
+-- the same of another text that is made of the verdicts, for which memory may be refused
+abbrev pub IsJobTextFault : ℕ → (RunFault → Type 0) → SimFault → Type 0
+IsJobTextFault workers IsFault fault.Memory = ⊤
+IsJobTextFault workers IsFault f = IsJobReportFault workers IsFault f
+
 -- the same for a job with so many pieces that is run by moves
 abbrev pub IsScheduleReportFault : ℕ → List ℕ → ℕ → SimFault → Type 0
 IsScheduleReportFault pieces moves workers (fault.Run f) = IsScheduleFault pieces workers moves f

@@ -1,25 +1,27 @@
 //! The curve of a run: how many faults are detected up to each test.
 
 ghost use Rattle.std.specs.Prelude.{◌≡◌, ◌+◌, ◌-◌, ◌<◌, ◌≤◌, ◌^◌, ℕ, get_or, length, IfErr, IfOk};
-ghost use Rattle.std.specs.Prelude.{OnOk};
+ghost use Rattle.std.specs.Prelude.{None, OnOk};
 ghost use Rattle.std.specs.List.{flat_map};
 ghost use Rattle.block_sim.specs.Parts.{BelongTogether};
 ghost use Rattle.output.specs.Output.{Writes};
-ghost use Rattle.report.specs.Curve.{IsCurveFault, IsCurveOf, IsCurveOfJob, curve, curve_text};
+ghost use Rattle.report.specs.Curve.{IsCurveOf, IsCurveOfJob, curve, curve_text};
 ghost use Rattle.report.specs.Curve.{counts_at, news_at, point_line};
-ghost use Rattle.report.specs.EndToEnd.{IsReportFault, WritesOneOf};
+ghost use Rattle.report.specs.EndToEnd.{IsJobTextFault, IsReportFault, IsWatchedFault};
+ghost use Rattle.report.specs.EndToEnd.{WritesOneOf};
+ghost use Rattle.workers.specs.Refused.{IsPartsFault};
 
 use crate::report::{hundredths, put_coverage};
 use block_sim::Job;
 use fault_model::Model;
 use fault_model::laws::stems;
 use itoa::Buffer;
-use jobs::{ReportFault, SimFault, job_of};
+use jobs::{ReportFault, SimFault, Watch, job_of, run_watched};
 use output::{Out, OutFailed, put_pieces};
 use std::alloc::{AllocError, Global};
 use std::sync::Wait;
 use std::thread::Threads;
-use workers::{Verdicts, run_open};
+use workers::{OpenGate, Verdicts, parts_for};
 
 /// A test that is the first to detect some fault, and how many faults are detected by it or by a
 /// test before it. Tests count from 0.
@@ -50,24 +52,53 @@ pub fn curve_text_in<R: Threads + Wait, W: Out>(
     ensures refused { IfErr result (IsReportFault model bench.now tests.now workers) }
     ensures workers { OnOk result ((0 < workers) × (workers ≤ 64)) }
 {
-    let job = job_of(alloc, model, bench, tests)?;
-    report_curve(rt, alloc, &job, workers, out)
+    curve_text_watched(rt, alloc, model, bench, tests, workers, &OpenGate, out)
 }
 
-/// Runs a job by workers in threads of their own, and writes its curve.
-fn report_curve<R: Threads + Wait, W: Out>(
+/// Reads a circuit and tests for it, and writes the curve that [`curve_text_in`] writes, with the
+/// same bytes. The gate is told when the run begins and when it ends, and is asked before each
+/// piece of work; it decides nothing of the curve but whether there is one.
+///
+/// It is refused as [`crate::simulate_text_watched`] is without a number of parts.
+pub fn curve_text_watched<R: Threads + Wait, G: Watch + Sync, W: Out>(
+    rt: &R,
+    alloc: Global,
+    model: Model,
+    bench: &[u8],
+    tests: &[u8],
+    workers: u32,
+    gate: &G,
+    out: &mut W,
+) -> Result<(), SimFault>
+    ensures written { WritesOneOf (IsCurveOf model bench.now tests.now) result (W.seen out.old)
+        (W.seen out.new) }
+    ensures refused { IfErr result (IsWatchedFault model bench.now tests.now None workers
+        (G.passing gate.now) (G.stops gate.now)) }
+    ensures workers { OnOk result ((0 < workers) × (workers ≤ 64)) }
+{
+    let job = job_of(alloc, model, bench, tests)?;
+    let parts = parts_for(workers);
+    report_curve(rt, alloc, &job, parts, workers, gate, out)
+}
+
+/// Runs a job in parts by workers in threads of their own, and writes its curve.
+fn report_curve<R: Threads + Wait, G: Watch + Sync, W: Out>(
     rt: &R,
     alloc: Global,
     job: &Job,
+    parts: u32,
     workers: u32,
+    gate: &G,
     out: &mut W,
 ) -> Result<(), SimFault>
-    requires { BelongTogether job.now }
+    requires job { BelongTogether job.now }
+    requires parts { 0 < parts }
     ensures written { WritesOneOf (IsCurveOfJob job.now) result (W.seen out.old) (W.seen out.new) }
-    ensures refused { IfErr result (IsCurveFault job.now workers) }
+    ensures refused { IfErr result (IsJobTextFault workers
+        (IsPartsFault job.now parts workers (G.passing gate.now) (G.stops gate.now))) }
     ensures workers { OnOk result ((0 < workers) × (workers ≤ 64)) }
 {
-    let verdicts = run_open(rt, alloc, job, workers)?;
+    let verdicts = run_watched(rt, alloc, job, parts, workers, gate)?;
     let points = curve_of(alloc, &verdicts, job.tests().count())?;
     write_curve(job, &verdicts, &points, out)?;
     Ok(())

@@ -27,7 +27,7 @@ mod whole;
 
 pub use compacted::compact_text_in;
 pub use contents::{Contents, Lines};
-pub use curve::{CurvePoint, curve_of, curve_text_in, write_curve};
+pub use curve::{CurvePoint, curve_of, curve_text_in, curve_text_watched, write_curve};
 pub use detected::{detections_text_in, write_detections};
 pub use ending::write_merged;
 pub use jobs::{ReportFault, SimFault, Watch, job_of};
@@ -39,7 +39,7 @@ pub use laws::{
 pub use merge::Merge;
 pub use merged::Merged;
 pub use output::{Formatted, Out, OutFailed, Plain};
-pub use part::part_text_in;
+pub use part::{part_text_in, part_text_watched};
 pub use part_reader::{PartFault, PartHeader, PartText, read_part};
 pub use report::{write_listing, write_report};
 pub use responses::responses_text_in;

@@ -1,6 +1,6 @@
 //! From the bytes of texts to the text of one part of a run.
 
-ghost use Rattle.std.specs.Prelude.{◌≡◌, ◌<◌, ◌≤◌, ◌++◌, ◌+◌, ⊤, codes, count_by, decimal, length};
+ghost use Rattle.std.specs.Prelude.{◌≡◌, ◌<◌, ◌≤◌, ◌++◌, ◌+◌, codes, count_by, decimal, length};
 ghost use Rattle.std.specs.Prelude.{slice_get};
 ghost use Rattle.std.specs.Prelude.{zip, string_bytes, IfErr, IfOk, OnOk, Some};
 ghost use Rattle.std.specs.List.{flat_map};
@@ -8,7 +8,8 @@ ghost use Rattle.fault_model.specs.Fault.{Fault, faults};
 ghost use Rattle.block_sim.specs.Parts.{BelongTogether};
 ghost use Rattle.output.specs.Output.{Writes};
 ghost use Rattle.workers.specs.Refused.{IsPartFault};
-ghost use Rattle.report.specs.EndToEnd.{IsJobReportFault, IsPartReportFault, WritesOneOf};
+ghost use Rattle.report.specs.EndToEnd.{IsJobReportFault, IsPartReportFault, IsTextFault};
+ghost use Rattle.report.specs.EndToEnd.{WritesOneOf};
 ghost use Rattle.report.specs.PartText.{IsPartTextOf, IsPartTextOfJob, head_line, head_of};
 ghost use Rattle.report.specs.PartText.{is_found, is_own};
 ghost use Rattle.report.specs.PartText.{end_line, job_part_text, model_name, part_name, rule_name};
@@ -22,13 +23,13 @@ use block_sim::Job;
 use fault_model::{Faults, Model};
 use hex::encode;
 use itoa::Buffer;
-use jobs::{ReportFault, SimFault, job_of_any_size};
+use jobs::{ReportFault, SimFault, Watch, job_of_any_size};
 use output::{Out, OutFailed, put_pieces};
 use sha2::{Digest, Sha256};
 use std::alloc::{AllocError, Global};
 use std::sync::Wait;
 use std::thread::Threads;
-use workers::{OpenGate, PartVerdict, run_part};
+use workers::{OpenGate, PartVerdict, part_of, run_part};
 
 /// The rule by which parts are made, as a part text names it: by the stem of a class's region.
 const RULE: &str = "region";
@@ -59,6 +60,36 @@ pub fn part_text_in<R: Threads + Wait, W: Out>(
         (IsPartReportFault model bench.now tests.now part parts workers) }
     ensures workers { OnOk result ((0 < workers) × (workers ≤ 64)) }
 {
+    part_text_watched(
+        rt, alloc, model, bench, tests, part, parts, workers, &OpenGate, out,
+    )
+}
+
+/// Reads a circuit and tests for it, and writes the part text that [`part_text_in`] writes, with
+/// the same bytes. The gate is told when the run of the part begins and when it ends, and is asked
+/// before each piece of work; it decides nothing of the text but whether there is one.
+///
+/// It is refused as [`part_text_in`] is, and where the gate stops workers and not all classes of
+/// the part are settled with [`workers::RunFault::Unfinished`].
+pub fn part_text_watched<R: Threads + Wait, G: Watch + Sync, W: Out>(
+    rt: &R,
+    alloc: Global,
+    model: Model,
+    bench: &[u8],
+    tests: &[u8],
+    part: u32,
+    parts: u32,
+    workers: u32,
+    gate: &G,
+    out: &mut W,
+) -> Result<(), SimFault>
+    requires { part < parts }
+    ensures written { WritesOneOf (IsPartTextOf model bench.now tests.now part parts) result
+        (W.seen out.old) (W.seen out.new) }
+    ensures refused { IfErr result (IsTextFault model bench.now tests.now workers
+        (λ job. IsPartFault job parts part workers (G.passing gate.now) (G.stops gate.now))) }
+    ensures workers { OnOk result ((0 < workers) × (workers ≤ 64)) }
+{
     let job = job_of_any_size(alloc, model, bench, tests)?;
     let bench_sum = sum_of(alloc, bench)?;
     let test_sum = sum_of(alloc, tests)?;
@@ -70,7 +101,7 @@ pub fn part_text_in<R: Threads + Wait, W: Out>(
         bench: bench_sum.as_str(),
         tests: test_sum.as_str(),
     };
-    report_part(rt, alloc, &job, &head, workers, out)
+    report_part(rt, alloc, &job, &head, workers, gate, out)
 }
 
 /// What a part text says of its part in the first line. Parts count from 0.
@@ -102,13 +133,28 @@ fn sum_of(alloc: Global, text: &[u8]) -> Result<String, AllocError>
     encode(alloc, Sha256::digest(text))
 }
 
-/// Runs a part of a job by workers in threads of their own, and writes its part text.
-fn report_part<R: Threads + Wait, W: Out>(
+/// How many classes of a job are of a part.
+fn count_classes(job: &Job, part: u32, parts: u32) -> u32
+    requires { part < parts }
+{
+    let mut count: u32 = 0;
+    for class in 0..job.classes().count() {
+        if part_of(job, class, parts) == part {
+            count = count.saturating_add(1);
+        }
+    }
+    count
+}
+
+/// Runs a part of a job by workers in threads of their own, and writes its part text. The gate is
+/// told when the run begins and when all is settled.
+fn report_part<R: Threads + Wait, G: Watch + Sync, W: Out>(
     rt: &R,
     alloc: Global,
     job: &Job,
     head: &Head<'_>,
     workers: u32,
+    gate: &G,
     out: &mut W,
 ) -> Result<(), SimFault>
     requires job { BelongTogether job.now }
@@ -116,10 +162,14 @@ fn report_part<R: Threads + Wait, W: Out>(
     ensures written { WritesOneOf (IsPartTextOfJob (said_by head.now) job.now) result
         (W.seen out.old) (W.seen out.new) }
     ensures refused { IfErr result (IsJobReportFault workers
-        (IsPartFault job.now head.now.parts head.now.part workers ⊤ (λ _ _ _. ⊥))) }
+        (IsPartFault job.now head.now.parts head.now.part workers (G.passing gate.now)
+        (G.stops gate.now))) }
     ensures workers { OnOk result ((0 < workers) × (workers ≤ 64)) }
 {
-    let verdicts = run_part(rt, alloc, job, head.part, head.parts, workers, &OpenGate)?;
+    let (part, parts) = (head.part, head.parts);
+    gate.starts(count_classes(job, part, parts), job.tests().blocks());
+    let verdicts = run_part(rt, alloc, job, part, parts, workers, gate)?;
+    gate.ends();
     write_part(job.circuit(), job.faults(), head, verdicts.as_slice(), out)?;
     Ok(())
 }

@@ -9,4 +9,4 @@ mod row;
 mod table;
 mod writer;
 
-pub use table::{Format, faults_table_in, run_table_in};
+pub use table::{Format, faults_table_in, run_table_in, run_table_watched};

@@ -1,12 +1,13 @@
 //! Tables of faults, from the bytes of texts.
 
-ghost use Rattle.std.specs.Prelude.{◌<◌, ◌≤◌, List, IfErr, OnOk};
+ghost use Rattle.std.specs.Prelude.{◌<◌, ◌≤◌, List, IfErr, None, OnOk};
 ghost use Rattle.bench_net.specs.Refusal.{IsAccepted};
 ghost use Rattle.bench_net.specs.Statement.{Statement};
 ghost use Rattle.block_sim.specs.Parts.{BelongTogether};
-ghost use Rattle.report.specs.Curve.{IsCurveFault};
-ghost use Rattle.report.specs.EndToEnd.{IsListingFault, IsReportFault};
+ghost use Rattle.report.specs.EndToEnd.{IsJobTextFault, IsListingFault, IsReportFault};
+ghost use Rattle.report.specs.EndToEnd.{IsWatchedFault};
 ghost use Rattle.tables.specs.Refusals.{IsTableFault};
+ghost use Rattle.workers.specs.Refused.{IsPartsFault};
 
 use crate::column::{Column, class_column, first_column};
 use crate::csv_table::write_csv;
@@ -14,11 +15,12 @@ use crate::json_table::write_json;
 use bench_net::{Circuit, read_bench};
 use block_sim::Job;
 use fault_model::{Faults, Model, collapse, list_faults_in};
-use report::{Lines, Out, SimFault, job_of};
+use jobs::{Watch, job_of, run_watched};
+use report::{Lines, OpenGate, Out, SimFault};
 use std::alloc::Global;
 use std::sync::Wait;
 use std::thread::Threads;
-use workers::run_open;
+use workers::parts_for;
 
 /// How a table is written.
 #[derive(Clone, Copy, Debug, PartialEq, Eq)]
@@ -83,25 +85,53 @@ pub fn run_table_in<R: Threads + Wait, W: Out>(
     ensures refused { IfErr result (IsReportFault model bench.now tests.now workers) }
     ensures workers { OnOk result ((0 < workers) × (workers ≤ 64)) }
 {
-    let job = job_of(alloc, model, bench, tests)?;
-    write_run(rt, alloc, &job, workers, lines, format, out)
+    run_table_watched(
+        rt, alloc, model, bench, tests, workers, lines, format, &OpenGate, out,
+    )
 }
 
-/// Runs a job by workers in threads of their own, and writes the table of its first tests.
-fn write_run<R: Threads + Wait, W: Out>(
+/// Writes the table that [`run_table_in`] writes. The gate is told when the run begins and when it
+/// ends, and is asked before each piece of work. It is refused as `report::curve_text_watched` is.
+pub fn run_table_watched<R: Threads + Wait, G: Watch + Sync, W: Out>(
     rt: &R,
     alloc: Global,
-    job: &Job,
+    model: Model,
+    bench: &[u8],
+    tests: &[u8],
     workers: u32,
     lines: Lines,
     format: Format,
+    gate: &G,
     out: &mut W,
 ) -> Result<(), SimFault>
-    requires { BelongTogether job.now }
-    ensures refused { IfErr result (IsCurveFault job.now workers) }
+    ensures refused { IfErr result (IsWatchedFault model bench.now tests.now None workers
+        (G.passing gate.now) (G.stops gate.now)) }
     ensures workers { OnOk result ((0 < workers) × (workers ≤ 64)) }
 {
-    let verdicts = run_open(rt, alloc, job, workers)?;
+    let job = job_of(alloc, model, bench, tests)?;
+    let parts = parts_for(workers);
+    write_run(rt, alloc, &job, parts, workers, lines, format, gate, out)
+}
+
+/// Runs a job in parts by workers in threads of their own, and writes the table of its first tests.
+fn write_run<R: Threads + Wait, G: Watch + Sync, W: Out>(
+    rt: &R,
+    alloc: Global,
+    job: &Job,
+    parts: u32,
+    workers: u32,
+    lines: Lines,
+    format: Format,
+    gate: &G,
+    out: &mut W,
+) -> Result<(), SimFault>
+    requires job { BelongTogether job.now }
+    requires parts { 0 < parts }
+    ensures refused { IfErr result (IsJobTextFault workers
+        (IsPartsFault job.now parts workers (G.passing gate.now) (G.stops gate.now))) }
+    ensures workers { OnOk result ((0 < workers) × (workers ≤ 64)) }
+{
+    let verdicts = run_watched(rt, alloc, job, parts, workers, gate)?;
     let column = first_column(alloc, &verdicts, lines)?;
     write_table(alloc, job.circuit(), job.faults(), &column, format, out)
 }

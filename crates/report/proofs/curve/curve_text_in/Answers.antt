@@ -1,21 +1,13 @@
-use Rattle.report.specs.Curve.{IsCurveFault, IsCurveOf, IsCurveOfJob}
-use Rattle.report.specs.EndToEnd.{IsReportFault}
-use Rattle.report.proofs.Curves.{curve_fault, curve_of_texts}
-use Rattle.report.proofs.Runs.{refused_as, written_as}
+use Rattle.std.specs.Prelude.{⊤, None}
+use Rattle.report.specs.EndToEnd.{IsReportFault, IsWatchedFault}
+use Rattle.report.proofs.Runs.{refused_as}
+use Rattle.report.proofs.Watching.{open_fault}
 use Rattle.report.proofs.curve.curve_text_in.Goals as goal
-
-pub returns-clause-written : goal.returns-clause-written
-returns-clause-written g c =
-    let job = c.in_ok-job.job in
-    written_as (IsCurveOfJob job) (IsCurveOf c.args.model c.args.bench.now c.args.tests.now)
-    c.report_curve.result _ _ (curve_of_texts c.args.model c.args.bench.now c.args.tests.now job
-    c.in_ok-job.ensures.job) c.report_curve.ensures.written
 
 pub returns-clause-refused : goal.returns-clause-refused
 returns-clause-refused g c =
-    let job = c.in_ok-job.job in
-    refused_as (IsCurveFault job c.args.workers)
-    (IsReportFault c.args.model c.args.bench.now c.args.tests.now c.args.workers)
-    c.report_curve.result (curve_fault c.args.model c.args.bench.now c.args.tests.now c.args.workers
-    job (c.in_ok-job.ensures.job, c.in_ok-job.ensures.few))
-    c.report_curve.ensures.refused
+    refused_as (IsWatchedFault c.args.model c.args.bench.now c.args.tests.now None c.args.workers ⊤
+    (λ _ _ _. ⊥)) (IsReportFault c.args.model c.args.bench.now c.args.tests.now c.args.workers)
+    c.curve_text_watched.result (open_fault c.args.model c.args.bench.now c.args.tests.now
+    c.args.workers)
+    c.curve_text_watched.ensures.refused

@@ -39,4 +39,4 @@ returns-clause-written g c =
 
 pub write_curve-requires : goal.write_curve-requires
 write_curve-requires g c = verdicts_counted c.args.job.now c.in_ok-verdicts.verdicts.firsts
-    c.requires c.in_ok-verdicts.ensures.firsts
+    c.requires.job c.in_ok-verdicts.ensures.firsts

@@ -1,12 +1,10 @@
-use Rattle.std.specs.Prelude.{⊤}
+use Rattle.block_sim.specs.Parts.{Parts}
+use Rattle.workers.specs.declared.RunFault.{RunFault}
 use Rattle.workers.specs.Refused.{IsPartFault}
-use Rattle.report.specs.EndToEnd.{IsJobReportFault, IsPartReportFault}
+use Rattle.report.specs.EndToEnd.{IsJobReportFault, IsTextFault}
 use Rattle.report.specs.PartText.{IsPartTextOf, IsPartTextOfJob, head_of}
 use Rattle.report.proofs.Runs.{written_as, refused_as, text_fault}
-use Rattle.report.proofs.part.part_text_in.Goals as goal
-
-pub report_part-requires-clause-job : goal.report_part-requires-clause-job
-report_part-requires-clause-job g c = c.in_ok-job.ensures.job.2
+use Rattle.report.proofs.part.part_text_watched.Goals as goal
 
 pub returns-clause-written : goal.returns-clause-written
 returns-clause-written g c =
@@ -26,11 +24,12 @@ returns-clause-written g c =
 pub returns-clause-refused : goal.returns-clause-refused
 returns-clause-refused g c =
     let job = c.in_ok-job.job in
-    refused_as (IsJobReportFault c.args.workers
-    (IsPartFault job c.args.parts c.args.part c.args.workers ⊤ (λ _ _ _. ⊥)))
-    (IsPartReportFault c.args.model c.args.bench.now c.args.tests.now c.args.part c.args.parts
-    c.args.workers)
+    let passing = g.G.Gate.passing c.args.gate.now in
+    let stops = g.G.Gate.stops c.args.gate.now in
+    let is_fault : Parts → RunFault → Type 0 = λ x. IsPartFault x c.args.parts c.args.part
+    c.args.workers passing stops in
+    refused_as (IsJobReportFault c.args.workers (is_fault job))
+    (IsTextFault c.args.model c.args.bench.now c.args.tests.now c.args.workers is_fault)
     c.report_part.result (text_fault c.args.model c.args.bench.now c.args.tests.now c.args.workers
-    (λ x. IsPartFault x c.args.parts c.args.part c.args.workers ⊤ (λ _ _ _. ⊥)) job
-    c.in_ok-job.ensures.job)
+    is_fault job c.in_ok-job.ensures.job)
     c.report_part.ensures.refused

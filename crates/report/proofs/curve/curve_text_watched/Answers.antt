@@ -1,0 +1,31 @@
+use Rattle.std.specs.Prelude.{None}
+use Rattle.workers.specs.Refused.{IsPartsFault}
+use Rattle.report.specs.Curve.{IsCurveOf, IsCurveOfJob}
+use Rattle.report.specs.EndToEnd.{IsJobTextFault, IsWatchedFault}
+use Rattle.report.proofs.Curves.{curve_of_texts}
+use Rattle.report.proofs.Runs.{refused_as, written_as}
+use Rattle.report.proofs.Watching.{watched_text}
+use Rattle.report.proofs.curve.curve_text_watched.Goals as goal
+
+pub returns-clause-written : goal.returns-clause-written
+returns-clause-written g c =
+    let job = c.in_ok-job.job in
+    written_as (IsCurveOfJob job) (IsCurveOf c.args.model c.args.bench.now c.args.tests.now)
+    c.report_curve.result _ _ (curve_of_texts c.args.model c.args.bench.now c.args.tests.now job
+    c.in_ok-job.ensures.job) c.report_curve.ensures.written
+
+pub returns-clause-refused : goal.returns-clause-refused
+returns-clause-refused g c =
+    let job = c.in_ok-job.job in
+    let passing = g.G.Gate.passing c.args.gate.now in
+    let stops = g.G.Gate.stops c.args.gate.now in
+    refused_as (IsJobTextFault c.args.workers
+    (IsPartsFault job c.parts_for-parts.result c.args.workers passing stops))
+    (IsWatchedFault c.args.model c.args.bench.now c.args.tests.now None c.args.workers passing
+    stops)
+    c.report_curve.result (watched_text c.args.model c.args.bench.now c.args.tests.now
+    c.parts_for-parts.result c.args.workers passing stops job (
+      c.in_ok-job.ensures.job,
+      c.in_ok-job.ensures.few,
+    ))
+    c.report_curve.ensures.refused

@@ -1,0 +1,22 @@
+use Rattle.std.specs.Prelude.{None}
+use Rattle.workers.specs.Refused.{IsPartsFault}
+use Rattle.report.specs.EndToEnd.{IsJobTextFault, IsWatchedFault}
+use Rattle.report.proofs.Runs.{refused_as}
+use Rattle.report.proofs.Watching.{watched_text}
+use Rattle.tables.proofs.table.run_table_watched.Goals as goal
+
+pub returns-clause-refused : goal.returns-clause-refused
+returns-clause-refused g c =
+    let job = c.in_ok-job.job in
+    let passing = g.G.Gate.passing c.args.gate.now in
+    let stops = g.G.Gate.stops c.args.gate.now in
+    refused_as (IsJobTextFault c.args.workers
+    (IsPartsFault job c.parts_for-parts.result c.args.workers passing stops))
+    (IsWatchedFault c.args.model c.args.bench.now c.args.tests.now None c.args.workers passing
+    stops)
+    c.write_run.result (watched_text c.args.model c.args.bench.now c.args.tests.now
+    c.parts_for-parts.result c.args.workers passing stops job (
+      c.in_ok-job.ensures.job,
+      c.in_ok-job.ensures.few,
+    ))
+    c.write_run.ensures.refused
