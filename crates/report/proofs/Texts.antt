@@ -2,27 +2,52 @@
 use Rattle.std.proofs.Common.{◌≡◌, ◌<◌, ◌*◌, ◌/◌, ◌%◌, ℕ, List, [], ◌++◌, append_assoc, arith, refl}
 use Rattle.std.specs.Prelude.{codes, decimal}
 use Rattle.std.proofs.lemmas.Fmt.{decimal_digit}
-use Rattle.std.specs.Prelude.{Bool, IfSome, Some, slice_get}
+use Rattle.std.specs.Prelude.{Bool, true, false, IfSome, Option, Some, slice_get}
 use Rattle.bench_net.specs.Statement.{Statement}
 use Rattle.fault_model.specs.declared.Line.{Line}
 use Rattle.fault_model.specs.declared.Model.{Model}
 use Rattle.fault_model.specs.Fault.{Fault, faults}
-use Rattle.report.specs.Report.{line_text, defect_text, fault_text, coverage_of}
+use Rattle.report.specs.declared.contents.Lines.{Lines}
+use Rattle.report.specs.Report.{line_text, defect_text, fault_text, coverage_of, first_text}
+use Rattle.report.specs.Report.{has_line, wanted_line}
 use Rattle.report.specs.declared.curve.CurvePoint.{CurvePoint}
 use Rattle.report.specs.Curve.{point_line}
 use Rattle.report.proofs.KnownLines.{model_known}
 
 -- a fault of the list by its line, its bit and the model of the list
-pub fault_by_parts : (m : Model) (c : List Statement) (fs : List Fault) (i : ℕ) (f : Fault)
-    (l : Line) (bit : Bool) (said : List ℕ)
-    → fs ≡ faults m c → slice_get fs i ≡ Some f → IfSome (slice_get fs i) (λ f. l ≡ f.line)
-    → IfSome (slice_get fs i) (λ f. bit ≡ f.stuck)
-    → said ≡ defect_text m bit → line_text c l ++ said ≡ fault_text c f
-fault_by_parts m c fs i f l bit said list at line_is bit_is said_is =
+fault_by_parts : (m : Model) (c : List Statement) (fs : List Fault) (i : ℕ) (f : Fault)
+    (l : Line) (bit : Bool) → fs ≡ faults m c → slice_get fs i ≡ Some f
+    → IfSome (slice_get fs i) (λ f. l ≡ f.line) → IfSome (slice_get fs i) (λ f. bit ≡ f.stuck)
+    → line_text c l ++ defect_text m bit ≡ fault_text c f
+fault_by_parts m c fs i f l bit list at line_is bit_is =
     let own_line : l ≡ f.line = rw at at line_is in
     let own_bit : bit ≡ f.stuck = rw at at bit_is in
     let own_model : f.model ≡ m = model_known m c fs i f list at in
-    rw (said_is, own_line, own_bit, ← own_model) refl
+    rw (own_line, own_bit, ← own_model) refl
+
+-- the line of a fault of the list from its pieces: its line, what is wrong with it, and what is
+-- said of it behind a word
+pub fault_line_text : (m : Model) (c : List Statement) (fs : List Fault) (i : ℕ) (f : Fault)
+    (l : Line) (bit : Bool) (front defect word said whole : List ℕ)
+    → fs ≡ faults m c → slice_get fs i ≡ Some f → IfSome (slice_get fs i) (λ f. l ≡ f.line)
+    → IfSome (slice_get fs i) (λ f. bit ≡ f.stuck)
+    → line_text c l ≡ front → defect ≡ defect_text m bit ++ codes " "
+    → whole ≡ front ++ (defect ++ (word ++ (said ++ codes "\n")))
+    → whole ≡ fault_text c f ++ (codes " " ++ word ++ said ++ codes "\n")
+fault_line_text m c fs i f l bit front defect word said whole list at line_is bit_is front_is
+    defect_is is =
+    let own = fault_by_parts m c fs i f l bit list at line_is bit_is in
+    rw (is, ← own, front_is, defect_is) (simp append_assoc)
+
+-- the line of a fault with this first test, where it is asked for, and where it isn't
+pub has_first_line : (lines : Lines) (c : List Statement) (f : Fault) (first : Option ℕ)
+    (said : List ℕ) → has_line lines first ≡ true → said ≡ first_text first
+    → fault_text c f ++ (codes " " ++ said ++ codes "\n") ≡ wanted_line lines c (f, first)
+has_first_line lines c f first said has is = rw (is, has) refl
+
+pub has_no_line : (lines : Lines) (c : List Statement) (f : Fault) (first : Option ℕ)
+    → has_line lines first ≡ false → wanted_line lines c (f, first) ≡ []
+has_no_line lines c f first has = rw has refl
 
 -- a coverage line from its numbers, given as texts
 pub coverage_text : (found total : ℕ) (counted a b whole tens ones : List ℕ) → a ≡ decimal found

@@ -145,7 +145,9 @@ fn put_lines<W: Out>(
         (zip (faults list.now.model circuit.now) counts.now)) }
 {
     for fault in 0..list.count() {
-        put_count_line(circuit, list, fault, count_at(counts, fault), out)?;
+        let mut number = Buffer::new();
+        let count = number.format(count_at(counts, fault));
+        put_fault_line(circuit, list, fault, "", count, out)?;
     }
     Ok(())
 }
@@ -156,21 +158,4 @@ fn count_at(counts: &[u32], fault: u32) -> u32
     ensures { slice_get counts.now fault ≡ Some result }
 {
     counts[fault as usize]
-}
-
-/// Writes the line of a fault.
-fn put_count_line<W: Out>(
-    circuit: &Circuit,
-    list: &Faults,
-    fault: u32,
-    count: u32,
-    out: &mut W,
-) -> Result<(), OutFailed>
-    requires list { list.now.list ≡ faults list.now.model circuit.now }
-    requires in_range { fault < length list.now.list }
-    ensures { (f : Fault) → slice_get list.now.list fault ≡ Some f
-        → Writes result (W.seen out.old) (W.seen out.new) (count_line circuit.now (f, count)) }
-{
-    let mut number = Buffer::new();
-    put_fault_line(circuit, list, fault, " ", number.format(count), out)
 }

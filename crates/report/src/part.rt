@@ -13,10 +13,10 @@ ghost use Rattle.report.specs.PartText.{IsPartTextOf, IsPartTextOfJob, head_line
 ghost use Rattle.report.specs.PartText.{is_found, is_own};
 ghost use Rattle.report.specs.PartText.{end_line, job_part_text, model_name, part_name, rule_name};
 ghost use Rattle.report.specs.PartText.{sum_text};
-ghost use Rattle.report.specs.PartText.{part_line, said_by};
+ghost use Rattle.report.specs.PartText.{part_line, said_by, verdict_text};
 ghost use Rattle.report.specs.Report.{fault_text};
 
-use crate::report::{put_fault_line, put_first_line};
+use crate::report::{first_text, put_fault_line};
 use bench_net::Circuit;
 use block_sim::Job;
 use fault_model::{Faults, Model};
@@ -182,7 +182,9 @@ fn put_verdicts<W: Out>(
         (flat_map (part_line circuit.now) (zip list.now.list verdicts.now)) }
 {
     for fault in 0..list.count() {
-        put_verdict_line(circuit, list, fault, verdict_at(verdicts, fault), out)?;
+        let mut number = Buffer::new();
+        let said = verdict_text(verdict_at(verdicts, fault), &mut number);
+        put_fault_line(circuit, list, fault, "", said, out)?;
     }
     Ok(())
 }
@@ -195,23 +197,14 @@ fn verdict_at(verdicts: &[PartVerdict], fault: u32) -> PartVerdict
     verdicts[fault as usize]
 }
 
-/// Writes the line of a fault: the fault, and the first test that detects it, `none`, or `-` where
-/// it is of another part.
-fn put_verdict_line<W: Out>(
-    circuit: &Circuit,
-    list: &Faults,
-    fault: u32,
-    verdict: PartVerdict,
-    out: &mut W,
-) -> Result<(), OutFailed>
-    requires list { list.now.list ≡ faults list.now.model circuit.now }
-    requires in_range { fault < length list.now.list }
-    ensures { (f : Fault) → slice_get list.now.list fault ≡ Some f
-        → Writes result (W.seen out.old) (W.seen out.new) (part_line circuit.now (f, verdict)) }
+/// What is said of a fault: the first test that detects it, `none`, or `-` where it is of another
+/// part.
+fn verdict_text(verdict: PartVerdict, number: &mut Buffer) -> &str
+    ensures { result.now ≡ verdict_text verdict }
 {
     match verdict {
-        PartVerdict::First(first) => put_first_line(circuit, list, fault, first, out),
-        PartVerdict::OtherPart => put_fault_line(circuit, list, fault, " ", "-", out),
+        PartVerdict::First(first) => first_text(first, number),
+        PartVerdict::OtherPart => "-",
     }
 }
 
