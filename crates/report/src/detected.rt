@@ -1,10 +1,9 @@
 //! How many tests detect each fault, from the bytes of texts to the bytes of a report.
 
-ghost use Rattle.std.specs.Prelude.{◌≡◌, ◌<◌, ◌≤◌, ◌^◌, ◌++◌, ⊤, IfErr, IfOk, OnOk, Some, codes};
-ghost use Rattle.std.specs.Prelude.{decimal, length};
+ghost use Rattle.std.specs.Prelude.{◌≡◌, ◌<◌, ◌≤◌, ◌^◌, ◌++◌, ⊤, IfErr, IfOk, OnOk, Some, length};
 ghost use Rattle.std.specs.Prelude.{slice_get, zip};
 ghost use Rattle.std.specs.List.{flat_map};
-ghost use Rattle.fault_model.specs.Fault.{Fault, faults};
+ghost use Rattle.fault_model.specs.Fault.{faults};
 ghost use Rattle.block_sim.specs.Parts.{BelongTogether};
 ghost use Rattle.detections.specs.Detections.{AreCounts};
 ghost use Rattle.output.specs.Output.{Writes};

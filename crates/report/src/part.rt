@@ -1,20 +1,19 @@
 //! From the bytes of texts to the text of one part of a run.
 
-ghost use Rattle.std.specs.Prelude.{◌≡◌, ◌<◌, ◌≤◌, ◌++◌, ◌+◌, ⊤, codes, count_by, decimal, length};
+ghost use Rattle.std.specs.Prelude.{◌≡◌, ◌<◌, ◌≤◌, ◌++◌, ◌+◌, ⊤, count_by, length};
 ghost use Rattle.std.specs.Prelude.{slice_get};
 ghost use Rattle.std.specs.Prelude.{zip, string_bytes, IfErr, IfOk, OnOk, Some};
 ghost use Rattle.std.specs.List.{flat_map};
-ghost use Rattle.fault_model.specs.Fault.{Fault, faults};
+ghost use Rattle.fault_model.specs.Fault.{faults};
 ghost use Rattle.block_sim.specs.Parts.{BelongTogether};
 ghost use Rattle.output.specs.Output.{Writes};
 ghost use Rattle.workers.specs.Refused.{IsPartFault};
 ghost use Rattle.report.specs.EndToEnd.{IsJobReportFault, IsPartReportFault, WritesOneOf};
-ghost use Rattle.report.specs.PartText.{IsPartTextOf, IsPartTextOfJob, head_line, head_of};
+ghost use Rattle.report.specs.PartText.{IsPartTextOf, IsPartTextOfJob, head_line};
 ghost use Rattle.report.specs.PartText.{is_found, is_own};
-ghost use Rattle.report.specs.PartText.{end_line, job_part_text, model_name, part_name, rule_name};
+ghost use Rattle.report.specs.PartText.{end_line, job_part_text, model_name};
 ghost use Rattle.report.specs.PartText.{sum_text};
 ghost use Rattle.report.specs.PartText.{part_line, said_by, verdict_text};
-ghost use Rattle.report.specs.Report.{fault_text};
 
 use crate::report::{first_text, put_fault_line};
 use bench_net::Circuit;

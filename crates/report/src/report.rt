@@ -8,7 +8,7 @@ ghost use Rattle.fault_model.specs.Fault.{Fault, faults};
 ghost use Rattle.fault_model.specs.Collapse.{AreClassesOf};
 ghost use Rattle.output.specs.Output.{Writes};
 ghost use Rattle.workers.specs.Verdict.{detected};
-ghost use Rattle.report.specs.Report.{IsLineOf, cell_text, class_line, line_text};
+ghost use Rattle.report.specs.Report.{cell_text, class_line};
 ghost use Rattle.report.specs.Report.{defect_text, fault_text, fault_lines, first_text, report};
 ghost use Rattle.report.specs.Report.{listing};
 ghost use Rattle.report.specs.Report.{class_coverage_line, class_firsts, coverage_of, first_at};

@@ -1,7 +1,7 @@
 use Rattle.report.specs.Curve.{IsCurveFault, IsCurveOf, IsCurveOfJob}
 use Rattle.report.specs.EndToEnd.{IsReportFault}
-use Rattle.report.proofs.Curves.{curve_fault, curve_of_texts}
-use Rattle.report.proofs.Runs.{refused_as, written_as}
+use Rattle.report.proofs.CurvePoints.{curve_fault, curve_of_texts}
+use Rattle.report.proofs.ReportsOfTexts.{refused_as, written_as}
 use Rattle.report.proofs.curve.curve_text_in.Goals as goal
 
 pub returns-clause-written : goal.returns-clause-written

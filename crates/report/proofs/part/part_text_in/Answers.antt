@@ -2,7 +2,7 @@ use Rattle.std.specs.Prelude.{⊤}
 use Rattle.workers.specs.Refused.{IsPartFault}
 use Rattle.report.specs.EndToEnd.{IsJobReportFault, IsPartReportFault}
 use Rattle.report.specs.PartText.{IsPartTextOf, IsPartTextOfJob, head_of}
-use Rattle.report.proofs.Runs.{written_as, refused_as, text_fault}
+use Rattle.report.proofs.ReportsOfTexts.{written_as, refused_as, text_fault}
 use Rattle.report.proofs.part.part_text_in.Goals as goal
 
 pub report_part-requires-clause-job : goal.report_part-requires-clause-job

@@ -1,8 +1,8 @@
 use Rattle.std.proofs.Common.{◌++◌, [], ap, refl, sym, append_assoc}
 use Rattle.std.specs.Prelude.{codes, unwrap_or}
 use Rattle.output.proofs.Public.{writes_same}
-use Rattle.report.proofs.KnownLines.{line_known}
-use Rattle.report.proofs.Texts.{fault_line_text}
+use Rattle.report.proofs.LinesOfFaults.{line_known}
+use Rattle.report.proofs.TextPieces.{fault_line_text}
 use Rattle.report.proofs.report.put_fault_line.Goals as goal
 
 pub name_of-name-requires : goal.name_of-name-requires

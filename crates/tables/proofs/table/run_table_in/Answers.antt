@@ -1,7 +1,6 @@
 use Rattle.report.specs.Curve.{IsCurveFault}
 use Rattle.report.specs.EndToEnd.{IsReportFault}
-use Rattle.report.proofs.Curves.{curve_fault}
-use Rattle.report.proofs.Runs.{refused_as}
+use Rattle.report.proofs.Public.{curve_fault, refused_as}
 use Rattle.tables.proofs.table.run_table_in.Goals as goal
 
 pub returns-clause-refused : goal.returns-clause-refused

@@ -9,10 +9,13 @@ use Rattle.fault_model.specs.declared.Model.{Model}
 use Rattle.fault_model.specs.Fault.{Fault, faults}
 use Rattle.report.specs.declared.contents.Lines.{Lines}
 use Rattle.report.specs.Report.{line_text, defect_text, fault_text, coverage_of, first_text}
-use Rattle.report.specs.Report.{has_line, wanted_line}
+use Rattle.report.specs.Report.{has_line, wanted_line, class_line}
+use Rattle.report.specs.Detected.{count_line}
+use Rattle.report.specs.PartText.{part_line, verdict_text}
+use Rattle.workers.specs.declared.parts.PartVerdict.{PartVerdict}
 use Rattle.report.specs.declared.curve.CurvePoint.{CurvePoint}
 use Rattle.report.specs.Curve.{point_line}
-use Rattle.report.proofs.KnownLines.{model_known}
+use Rattle.report.proofs.LinesOfFaults.{model_known}
 
 -- a fault of the list by its line, its bit and the model of the list
 fault_by_parts : (m : Model) (c : List Statement) (fs : List Fault) (i : ℕ) (f : Fault)
@@ -40,14 +43,31 @@ fault_line_text m c fs i f l bit front defect word said whole list at line_is bi
     rw (is, ← own, front_is, defect_is) (simp append_assoc)
 
 -- the line of a fault with this first test, where it is asked for, and where it isn't
-pub has_first_line : (lines : Lines) (c : List Statement) (f : Fault) (first : Option ℕ)
+pub is_first_line : (lines : Lines) (c : List Statement) (f : Fault) (first : Option ℕ)
     (said : List ℕ) → has_line lines first ≡ true → said ≡ first_text first
     → fault_text c f ++ (codes " " ++ said ++ codes "\n") ≡ wanted_line lines c (f, first)
-has_first_line lines c f first said has is = rw (is, has) refl
+is_first_line lines c f first said has is = rw (is, has) refl
 
 pub has_no_line : (lines : Lines) (c : List Statement) (f : Fault) (first : Option ℕ)
     → has_line lines first ≡ false → wanted_line lines c (f, first) ≡ []
 has_no_line lines c f first has = rw has refl
+
+-- the line of a fault with its class, with how many tests detect it, and with its verdict
+pub is_class_line : (c : List Statement) (f : Fault) (class : ℕ) (said : List ℕ)
+    → said ≡ decimal class
+    → fault_text c f ++ (codes " " ++ codes "class " ++ said ++ codes "\n")
+    ≡ class_line c (f, class)
+is_class_line c f class said is = rw is refl
+
+pub is_count_line : (c : List Statement) (f : Fault) (count : ℕ) (said : List ℕ)
+    → said ≡ decimal count
+    → fault_text c f ++ (codes " " ++ said ++ codes "\n") ≡ count_line c (f, count)
+is_count_line c f count said is = rw is refl
+
+pub is_verdict_line : (c : List Statement) (f : Fault) (verdict : PartVerdict) (said : List ℕ)
+    → said ≡ verdict_text verdict
+    → fault_text c f ++ (codes " " ++ said ++ codes "\n") ≡ part_line c (f, verdict)
+is_verdict_line c f verdict said is = rw is refl
 
 -- a coverage line from its numbers, given as texts
 pub coverage_text : (found total : ℕ) (counted a b whole tens ones : List ℕ) → a ≡ decimal found
