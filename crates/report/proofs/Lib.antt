@@ -1,26 +1,27 @@
-pub mod Zips
-pub mod Cells
-pub mod Texts
-pub mod KnownLines
-pub mod RunsOfJobs
-pub mod Runs
-pub mod PartTexts
-pub mod Cuts
-pub mod PartWords
-pub mod PartHeads
-pub mod PartLines
-pub mod PartReadings
-pub mod PartOnce
-pub mod PartRefusals
-pub mod Merges
-pub mod ClassFirsts
-pub mod Endings
-pub mod Curves
-pub mod Compactions
-pub mod Rowed
-pub mod PartNames
-pub mod PartTold
-pub mod MergedReport
-pub mod FaultParts
-pub mod MergeRefusals
-pub mod Watching
+mod LinesByPairs
+mod CellNames
+mod TextPieces
+mod LinesOfFaults
+mod VerdictsOfRuns
+mod ReportsOfTexts
+mod PartPieces
+mod CutTexts
+mod PartWords
+mod PartHeads
+mod PartLines
+mod PartReadings
+mod OnePartText
+mod PartRefusals
+mod JoinedParts
+mod ClassFirsts
+mod MergeEnds
+mod CurvePoints
+mod CompactedTexts
+mod ResponseTexts
+mod FaultNames
+mod WrittenParts
+mod MergedReport
+mod FaultParts
+mod MergeRefusals
+mod WatchedRuns
+pub mod Public

@@ -28,9 +28,9 @@ use Rattle.report.specs.WholeMerge.{IsSomePartToldFrom, IsToldFrom, PartedRun}
 use Rattle.report.specs.PartText.{PartHead, head_of, model_name, sum_text}
 use Rattle.report.specs.PartReading.{IsPart}
 use Rattle.report.specs.Report.{fault_text, report, report_text}
-use Rattle.report.proofs.PartOnce.{one_part}
-use Rattle.report.proofs.PartTexts.{report_of_texts}
-use Rattle.report.proofs.PartTold.{first_of_part, part_is}
+use Rattle.report.proofs.OnePartText.{one_part}
+use Rattle.report.proofs.PartPieces.{report_of_texts}
+use Rattle.report.proofs.WrittenParts.{first_of_part, part_is}
 
 -- a text has one circuit
 abbrev pub OneCircuit : Type 0

@@ -8,7 +8,7 @@ use Rattle.workers.specs.declared.parts.PartVerdict.TheVariants.{First, OtherPar
 use Rattle.report.specs.Cut.{IsCutLast, Lacks}
 use Rattle.report.specs.PartText.{end_line, verdict_line, verdict_text}
 use Rattle.report.specs.PartReading.{IsLine, IsVerdict}
-use Rattle.report.proofs.Cuts.{cut_last, lacks_left}
+use Rattle.report.proofs.CutTexts.{cut_last, lacks_left}
 use Rattle.report.proofs.PartWords.{lacks_decimal}
 
 -- a verdict has no space and no line feed

@@ -13,12 +13,13 @@ use Rattle.report.specs.Cut.{Lacks}
 use Rattle.report.specs.PartText.{PartHead, end_line, head_line, is_found, is_own, verdict_line}
 use Rattle.report.specs.PartReading.{HasMore, IsBadHead, IsBadLine, IsCutLines, IsLine, IsBegun}
 use Rattle.report.specs.PartReading.{IsPart, IsPartRefusal, end_of, head_in, texts_in}
-use Rattle.report.proofs.Cuts.{cut_once, lacks_append, lacks_not}
+use Rattle.report.proofs.CutTexts.{cut_once, lacks_append, lacks_not}
 use Rattle.report.proofs.PartWords.{lacks_decimal}
 use Rattle.report.proofs.PartHeads.{head_body, head_line_is}
 use Rattle.report.proofs.PartLines.{line_body, verdict_line_is}
-use Rattle.report.proofs.PartOnce.{head_lacks, head_once, lacks_literal, lacks_test, line_lacks}
-use Rattle.report.proofs.PartOnce.{line_once, lines_once, not_end, one_part, split_line, zip_once}
+use Rattle.report.proofs.OnePartText.{head_lacks, head_once, lacks_literal, lacks_test, line_lacks}
+use Rattle.report.proofs.OnePartText.{line_once, lines_once, not_end, one_part, split_line}
+use Rattle.report.proofs.OnePartText.{zip_once}
 
 -- the last line without its line feed
 abbrev end_body : ℕ → ℕ → ℕ → ℕ → List ℕ

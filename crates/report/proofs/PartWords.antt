@@ -13,7 +13,7 @@ use Rattle.std.proofs.lemmas.Str.{IsUtf8-from_ascii}
 use Rattle.std.proofs.lemmas.List.{append_cancel_left}
 use Rattle.report.specs.Cut.{IsCutFirst, Lacks}
 use Rattle.report.specs.PartReading.{AreWords, WordTexts, words_text}
-use Rattle.report.proofs.Cuts.{cut_once, lacks_left, lacks_right, lacks_not}
+use Rattle.report.proofs.CutTexts.{cut_once, lacks_left, lacks_right, lacks_not}
 
 -- a number of any size has digits alone
 glyph_is : (d : ℕ) → d < 10 → digit_glyph false d ≡ 48 + d

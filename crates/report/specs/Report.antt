@@ -73,10 +73,6 @@ coverage_line found total = coverage_of [] found total
 abbrev pub name_line : List ℕ × Option ℕ → List ℕ
 name_line at = at.0 ++ (codes " " ++ first_text at.1 ++ codes "\n")
 
--- the line of a fault of a circuit
-abbrev pub first_line : List Statement → Fault × Option ℕ → List ℕ
-first_line c at = name_line (fault_text c at.0, at.1)
-
 -- whether a fault with this first test has a line: none has, all have, or those that no test
 -- detects
 abbrev pub has_line : Lines → Option ℕ → Bool

@@ -1,10 +1,9 @@
 //! How many tests detect each fault, from the bytes of texts to the bytes of a report.
 
-ghost use Rattle.std.specs.Prelude.{◌≡◌, ◌<◌, ◌≤◌, ◌^◌, ◌++◌, ⊤, IfErr, IfOk, OnOk, Some, codes};
-ghost use Rattle.std.specs.Prelude.{decimal, length};
+ghost use Rattle.std.specs.Prelude.{◌≡◌, ◌<◌, ◌≤◌, ◌^◌, ◌++◌, ⊤, IfErr, IfOk, OnOk, Some, length};
 ghost use Rattle.std.specs.Prelude.{slice_get, zip};
 ghost use Rattle.std.specs.List.{flat_map};
-ghost use Rattle.fault_model.specs.Fault.{Fault, faults};
+ghost use Rattle.fault_model.specs.Fault.{faults};
 ghost use Rattle.block_sim.specs.Parts.{BelongTogether};
 ghost use Rattle.detections.specs.Detections.{AreCounts};
 ghost use Rattle.output.specs.Output.{Writes};
@@ -145,7 +144,9 @@ fn put_lines<W: Out>(
         (zip (faults list.now.model circuit.now) counts.now)) }
 {
     for fault in 0..list.count() {
-        put_count_line(circuit, list, fault, count_at(counts, fault), out)?;
+        let mut number = Buffer::new();
+        let count = number.format(count_at(counts, fault));
+        put_fault_line(circuit, list, fault, "", count, out)?;
     }
     Ok(())
 }
@@ -156,21 +157,4 @@ fn count_at(counts: &[u32], fault: u32) -> u32
     ensures { slice_get counts.now fault ≡ Some result }
 {
     counts[fault as usize]
-}
-
-/// Writes the line of a fault.
-fn put_count_line<W: Out>(
-    circuit: &Circuit,
-    list: &Faults,
-    fault: u32,
-    count: u32,
-    out: &mut W,
-) -> Result<(), OutFailed>
-    requires list { list.now.list ≡ faults list.now.model circuit.now }
-    requires in_range { fault < length list.now.list }
-    ensures { (f : Fault) → slice_get list.now.list fault ≡ Some f
-        → Writes result (W.seen out.old) (W.seen out.new) (count_line circuit.now (f, count)) }
-{
-    let mut number = Buffer::new();
-    put_fault_line(circuit, list, fault, " ", number.format(count), out)
 }

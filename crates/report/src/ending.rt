@@ -13,10 +13,10 @@ ghost use Rattle.report.specs.Report.{name_line, report_text, wanted_name};
 use crate::contents::Lines;
 use crate::joining::MergeFault;
 use crate::merged::Merged;
-use crate::report::{put_coverage, put_named};
+use crate::report::put_coverage;
 use itoa::Buffer;
 use jobs::ReportFault;
-use output::{Out, OutFailed, put_all};
+use output::{Out, OutFailed, put_all, put_pieces};
 use std::alloc::{AllocError, Global};
 use workers::PartVerdict;
 
@@ -75,9 +75,9 @@ fn put_name_line<W: Out>(name: &[u8], first: Option<u32>, out: &mut W) -> Result
     match first {
         Some(test) => {
             let mut number = Buffer::new();
-            put_named(" ", number.format(test), "\n", out)
+            put_pieces(&[" ", number.format(test), "\n"], out)
         }
-        None => put_named(" ", "none", "\n", out),
+        None => put_pieces(&[" none\n"], out),
     }
 }
 

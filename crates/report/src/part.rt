@@ -1,23 +1,22 @@
 //! From the bytes of texts to the text of one part of a run.
 
-ghost use Rattle.std.specs.Prelude.{◌≡◌, ◌<◌, ◌≤◌, ◌++◌, ◌+◌, codes, count_by, decimal, length};
+ghost use Rattle.std.specs.Prelude.{◌≡◌, ◌<◌, ◌≤◌, ◌++◌, ◌+◌, count_by, length};
 ghost use Rattle.std.specs.Prelude.{slice_get};
 ghost use Rattle.std.specs.Prelude.{zip, string_bytes, IfErr, IfOk, OnOk, Some};
 ghost use Rattle.std.specs.List.{flat_map};
-ghost use Rattle.fault_model.specs.Fault.{Fault, faults};
+ghost use Rattle.fault_model.specs.Fault.{faults};
 ghost use Rattle.block_sim.specs.Parts.{BelongTogether};
 ghost use Rattle.output.specs.Output.{Writes};
 ghost use Rattle.workers.specs.Refused.{IsPartFault};
 ghost use Rattle.report.specs.EndToEnd.{IsJobReportFault, IsPartReportFault, IsTextFault};
 ghost use Rattle.report.specs.EndToEnd.{WritesOneOf};
-ghost use Rattle.report.specs.PartText.{IsPartTextOf, IsPartTextOfJob, head_line, head_of};
+ghost use Rattle.report.specs.PartText.{IsPartTextOf, IsPartTextOfJob, head_line};
 ghost use Rattle.report.specs.PartText.{is_found, is_own};
-ghost use Rattle.report.specs.PartText.{end_line, job_part_text, model_name, part_name, rule_name};
+ghost use Rattle.report.specs.PartText.{end_line, job_part_text, model_name};
 ghost use Rattle.report.specs.PartText.{sum_text};
-ghost use Rattle.report.specs.PartText.{part_line, said_by};
-ghost use Rattle.report.specs.Report.{fault_text};
+ghost use Rattle.report.specs.PartText.{part_line, said_by, verdict_text};
 
-use crate::report::{put_fault_line, put_first_line};
+use crate::report::{first_text, put_fault_line};
 use bench_net::Circuit;
 use block_sim::Job;
 use fault_model::{Faults, Model};
@@ -232,7 +231,9 @@ fn put_verdicts<W: Out>(
         (flat_map (part_line circuit.now) (zip list.now.list verdicts.now)) }
 {
     for fault in 0..list.count() {
-        put_verdict_line(circuit, list, fault, verdict_at(verdicts, fault), out)?;
+        let mut number = Buffer::new();
+        let said = verdict_text(verdict_at(verdicts, fault), &mut number);
+        put_fault_line(circuit, list, fault, "", said, out)?;
     }
     Ok(())
 }
@@ -245,23 +246,14 @@ fn verdict_at(verdicts: &[PartVerdict], fault: u32) -> PartVerdict
     verdicts[fault as usize]
 }
 
-/// Writes the line of a fault: the fault, and the first test that detects it, `none`, or `-` where
-/// it is of another part.
-fn put_verdict_line<W: Out>(
-    circuit: &Circuit,
-    list: &Faults,
-    fault: u32,
-    verdict: PartVerdict,
-    out: &mut W,
-) -> Result<(), OutFailed>
-    requires list { list.now.list ≡ faults list.now.model circuit.now }
-    requires in_range { fault < length list.now.list }
-    ensures { (f : Fault) → slice_get list.now.list fault ≡ Some f
-        → Writes result (W.seen out.old) (W.seen out.new) (part_line circuit.now (f, verdict)) }
+/// What is said of a fault: the first test that detects it, `none`, or `-` where it is of another
+/// part.
+fn verdict_text(verdict: PartVerdict, number: &mut Buffer) -> &str
+    ensures { result.now ≡ verdict_text verdict }
 {
     match verdict {
-        PartVerdict::First(first) => put_first_line(circuit, list, fault, first, out),
-        PartVerdict::OtherPart => put_fault_line(circuit, list, fault, " ", "-", out),
+        PartVerdict::First(first) => first_text(first, number),
+        PartVerdict::OtherPart => "-",
     }
 }
 

@@ -8,8 +8,8 @@ ghost use Rattle.fault_model.specs.Fault.{Fault, faults};
 ghost use Rattle.fault_model.specs.Collapse.{AreClassesOf};
 ghost use Rattle.output.specs.Output.{Writes};
 ghost use Rattle.workers.specs.Verdict.{detected};
-ghost use Rattle.report.specs.Report.{IsLineOf, cell_text, first_line, class_line, line_text};
-ghost use Rattle.report.specs.Report.{defect_text, fault_text, fault_lines, wanted_line, report};
+ghost use Rattle.report.specs.Report.{cell_text, class_line};
+ghost use Rattle.report.specs.Report.{defect_text, fault_text, fault_lines, first_text, report};
 ghost use Rattle.report.specs.Report.{listing};
 ghost use Rattle.report.specs.Report.{class_coverage_line, class_firsts, coverage_of, first_at};
 ghost use Rattle.report.specs.Report.{whole_report};
@@ -24,33 +24,6 @@ use jobs::ReportFault;
 use output::{Out, OutFailed, put_pieces};
 use workers::Verdicts;
 
-/// Writes a line of another kind than a pin, and what is said of it: the kind, its name or number,
-/// the rest.
-pub(crate) fn put_named<'a, W: Out>(
-    kind: &'a str,
-    name: &'a str,
-    said: &'a str,
-    out: &mut W,
-) -> Result<(), OutFailed>
-    ensures { Writes result (W.seen out.old) (W.seen out.new)
-        (kind.now ++ name.now ++ said.now) }
-{
-    put_pieces(&[kind, name, said], out)
-}
-
-/// Writes a pin, given the gate's name and the pin's place, from 1, and what is said of it.
-fn put_pin<'a, W: Out>(
-    gate: &'a str,
-    place: &'a str,
-    said: &'a str,
-    out: &mut W,
-) -> Result<(), OutFailed>
-    ensures { Writes result (W.seen out.old) (W.seen out.new)
-        (codes "pin " ++ gate.now ++ codes " " ++ place.now ++ said.now) }
-{
-    put_pieces(&["pin ", gate, " ", place, said], out)
-}
-
 /// The name of the signal that a cell drives. Cells count from 0.
 fn cell_name(circuit: &Circuit, cell: u32) -> &str
     requires { cell < length (cells circuit.now) }
@@ -59,59 +32,16 @@ fn cell_name(circuit: &Circuit, cell: u32) -> &str
     circuit.name_of(circuit.scan_cells()[cell as usize].q)
 }
 
-/// What is wrong with a line, by the model of its fault and the bit.
+/// What is wrong with a line, by the model of its fault and the bit, between two spaces.
 fn defect(model: Model, bit: bool) -> &'static str
-    ensures { result.now ≡ defect_text model bit }
+    ensures { result.now ≡ defect_text model bit ++ codes " " }
 {
     match (model, bit) {
-        (Model::StuckAt, false) => " sa0",
-        (Model::StuckAt, true) => " sa1",
-        (Model::Transition | Model::TransitionPairs, false) => " str",
-        (Model::Transition | Model::TransitionPairs, true) => " stf",
+        (Model::StuckAt, false) => " sa0 ",
+        (Model::StuckAt, true) => " sa1 ",
+        (Model::Transition | Model::TransitionPairs, false) => " str ",
+        (Model::Transition | Model::TransitionPairs, true) => " stf ",
     }
-}
-
-/// Writes a line of the circuit, and what is said of it. Pins and OUTPUT lines count from 1 in the
-/// text.
-fn put_line<'a, W: Out>(
-    circuit: &Circuit,
-    line: Line,
-    said: &'a str,
-    out: &mut W,
-) -> Result<(), OutFailed>
-    requires { IsLineOf circuit.now line }
-    ensures { Writes result (W.seen out.old) (W.seen out.new)
-        (line_text circuit.now line ++ said.now) }
-{
-    let mut number = Buffer::new();
-    match line {
-        Line::Stem(signal) => put_named("stem ", circuit.name_of(signal), said, out),
-        Line::Pin { gate, pin } => {
-            let place = number.format(u64::from(pin) + 1);
-            put_pin(circuit.name_of(gate), place, said, out)
-        }
-        Line::Data { cell } => put_named("data ", cell_name(circuit, cell), said, out),
-        Line::Out { output } => {
-            let place = number.format(u64::from(output) + 1);
-            put_named("out ", place, said, out)
-        }
-    }
-}
-
-/// Writes a fault: its line, and what is wrong with it.
-fn put_fault<W: Out>(
-    circuit: &Circuit,
-    list: &Faults,
-    fault: u32,
-    out: &mut W,
-) -> Result<(), OutFailed>
-    requires list { list.now.list ≡ faults list.now.model circuit.now }
-    requires in_range { fault < length list.now.list }
-    ensures { (f : Fault) → slice_get list.now.list fault ≡ Some f
-        → Writes result (W.seen out.old) (W.seen out.new) (fault_text circuit.now f) }
-{
-    let said = defect(list.model(), list.stuck_of(fault));
-    put_line(circuit, list.line_of(fault), said, out)
 }
 
 /// How many hundredths of a percent a part is of a whole, cut off.
@@ -156,12 +86,32 @@ pub(crate) fn put_coverage<'a, W: Out>(
     put_pieces(&pieces, out)
 }
 
-/// Writes a line of the report or of the listing: a fault, and what is said of it.
+/// Writes a line of a text: a line of the circuit by its kind, its name and, behind a gap, its
+/// place, then what is wrong with it, a word and what is said of it.
+fn put_line<'a, W: Out>(
+    kind: &'a str,
+    name: &'a str,
+    gap: &'a str,
+    place: &'a str,
+    defect: &'a str,
+    word: &'a str,
+    said: &'a str,
+    out: &mut W,
+) -> Result<(), OutFailed>
+    ensures { Writes result (W.seen out.old) (W.seen out.new)
+        (kind.now ++ (name.now ++ (gap.now ++ (place.now
+        ++ (defect.now ++ (word.now ++ (said.now ++ codes "\n"))))))) }
+{
+    put_pieces(&[kind, name, gap, place, defect, word, said, "\n"], out)
+}
+
+/// Writes a line of the report or of the listing: a fault, a word and what is said of it. Pins and
+/// OUTPUT lines count from 1 in the text.
 pub(crate) fn put_fault_line<'a, W: Out>(
     circuit: &Circuit,
     list: &Faults,
     fault: u32,
-    before: &'a str,
+    word: &'a str,
     said: &'a str,
     out: &mut W,
 ) -> Result<(), OutFailed>
@@ -169,71 +119,39 @@ pub(crate) fn put_fault_line<'a, W: Out>(
     requires in_range { fault < length list.now.list }
     ensures { (f : Fault) → slice_get list.now.list fault ≡ Some f
         → Writes result (W.seen out.old) (W.seen out.new)
-        (fault_text circuit.now f ++ (before.now ++ said.now ++ codes "\n")) }
+        (fault_text circuit.now f ++ (codes " " ++ word.now ++ said.now ++ codes "\n")) }
 {
-    put_fault(circuit, list, fault, out)?;
-    put_named(before, said, "\n", out)
+    let wrong = defect(list.model(), list.stuck_of(fault));
+    let mut number = Buffer::new();
+    match list.line_of(fault) {
+        Line::Stem(signal) => {
+            let name = circuit.name_of(signal);
+            put_line("stem ", name, "", "", wrong, word, said, out)
+        }
+        Line::Pin { gate, pin } => {
+            let name = circuit.name_of(gate);
+            let place = number.format(u64::from(pin) + 1);
+            put_line("pin ", name, " ", place, wrong, word, said, out)
+        }
+        Line::Data { cell } => {
+            let name = cell_name(circuit, cell);
+            put_line("data ", name, "", "", wrong, word, said, out)
+        }
+        Line::Out { output } => {
+            let place = number.format(u64::from(output) + 1);
+            put_line("out ", place, "", "", wrong, word, said, out)
+        }
+    }
 }
 
-/// Writes the line of the report for a fault: the fault, and the first test that detects it or
-/// `none`.
-pub(crate) fn put_first_line<W: Out>(
-    circuit: &Circuit,
-    list: &Faults,
-    fault: u32,
-    first: Option<u32>,
-    out: &mut W,
-) -> Result<(), OutFailed>
-    requires list { list.now.list ≡ faults list.now.model circuit.now }
-    requires in_range { fault < length list.now.list }
-    ensures { (f : Fault) → slice_get list.now.list fault ≡ Some f
-        → Writes result (W.seen out.old) (W.seen out.new) (first_line circuit.now (f, first)) }
+/// What is said of a fault's first test: its number, or `none`.
+pub(crate) fn first_text(first: Option<u32>, number: &mut Buffer) -> &str
+    ensures { result.now ≡ first_text first }
 {
     match first {
-        Some(test) => {
-            let mut number = Buffer::new();
-            put_fault_line(circuit, list, fault, " ", number.format(test), out)
-        }
-        None => put_fault_line(circuit, list, fault, " ", "none", out),
+        Some(test) => number.format(test),
+        None => "none",
     }
-}
-
-/// Writes the line of the listing for a fault: the fault and its class.
-fn put_class_line<W: Out>(
-    circuit: &Circuit,
-    list: &Faults,
-    fault: u32,
-    class: u32,
-    out: &mut W,
-) -> Result<(), OutFailed>
-    requires list { list.now.list ≡ faults list.now.model circuit.now }
-    requires in_range { fault < length list.now.list }
-    ensures { (f : Fault) → slice_get list.now.list fault ≡ Some f
-        → Writes result (W.seen out.old) (W.seen out.new) (class_line circuit.now (f, class)) }
-{
-    let mut number = Buffer::new();
-    put_fault_line(circuit, list, fault, " class ", number.format(class), out)
-}
-
-/// Writes the line of a fault where it is asked for.
-fn put_wanted_line<W: Out>(
-    circuit: &Circuit,
-    list: &Faults,
-    fault: u32,
-    first: Option<u32>,
-    lines: Lines,
-    out: &mut W,
-) -> Result<(), OutFailed>
-    requires list { list.now.list ≡ faults list.now.model circuit.now }
-    requires in_range { fault < length list.now.list }
-    ensures { (f : Fault) → slice_get list.now.list fault ≡ Some f
-        → Writes result (W.seen out.old) (W.seen out.new)
-        (wanted_line lines circuit.now (f, first)) }
-{
-    if !lines.has(first) {
-        return Ok(());
-    }
-    put_first_line(circuit, list, fault, first, out)
 }
 
 /// Writes the faults of the list that are asked for, each with the first test that detects it, or
@@ -251,7 +169,13 @@ fn put_firsts<W: Out>(
         (fault_lines lines list.now.model circuit.now verdicts.now.firsts) }
 {
     for fault in 0..list.count() {
-        put_wanted_line(circuit, list, fault, verdicts.first(fault), lines, out)?;
+        let first = verdicts.first(fault);
+        if !lines.has(first) {
+            continue;
+        }
+        let mut number = Buffer::new();
+        let said = first_text(first, &mut number);
+        put_fault_line(circuit, list, fault, "", said, out)?;
     }
     Ok(())
 }
@@ -289,7 +213,9 @@ fn put_classes<W: Out>(
         (flat_map (class_line circuit.now) (zip list.now.list classes.now.class_of)) }
 {
     for fault in 0..list.count() {
-        put_class_line(circuit, list, fault, classes.class_of(fault), out)?;
+        let mut number = Buffer::new();
+        let class = number.format(classes.class_of(fault));
+        put_fault_line(circuit, list, fault, "class ", class, out)?;
     }
     Ok(())
 }

@@ -1,9 +1,9 @@
 use Rattle.report.specs.Compacted.{IsCompactionOf, IsCompactionOfJob}
 use Rattle.report.specs.Curve.{IsCurveFault}
 use Rattle.report.specs.EndToEnd.{IsReportFault}
-use Rattle.report.proofs.Curves.{curve_fault}
-use Rattle.report.proofs.Compactions.{compaction_of_texts}
-use Rattle.report.proofs.Runs.{refused_as, written_as}
+use Rattle.report.proofs.CurvePoints.{curve_fault}
+use Rattle.report.proofs.CompactedTexts.{compaction_of_texts}
+use Rattle.report.proofs.ReportsOfTexts.{refused_as, written_as}
 use Rattle.report.proofs.compacted.compact_text_in.Goals as goal
 
 pub returns-clause-written : goal.returns-clause-written

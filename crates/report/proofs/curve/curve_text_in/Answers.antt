@@ -1,7 +1,7 @@
 use Rattle.std.specs.Prelude.{⊤, None}
 use Rattle.report.specs.EndToEnd.{IsReportFault, IsWatchedFault}
-use Rattle.report.proofs.Runs.{refused_as}
-use Rattle.report.proofs.Watching.{open_fault}
+use Rattle.report.proofs.ReportsOfTexts.{refused_as}
+use Rattle.report.proofs.WatchedRuns.{open_fault}
 use Rattle.report.proofs.curve.curve_text_in.Goals as goal
 
 pub returns-clause-refused : goal.returns-clause-refused

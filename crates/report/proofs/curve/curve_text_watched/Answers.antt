@@ -2,9 +2,9 @@ use Rattle.std.specs.Prelude.{None}
 use Rattle.workers.specs.Refused.{IsPartsFault}
 use Rattle.report.specs.Curve.{IsCurveOf, IsCurveOfJob}
 use Rattle.report.specs.EndToEnd.{IsJobTextFault, IsWatchedFault}
-use Rattle.report.proofs.Curves.{curve_of_texts}
-use Rattle.report.proofs.Runs.{refused_as, written_as}
-use Rattle.report.proofs.Watching.{watched_text}
+use Rattle.report.proofs.CurvePoints.{curve_of_texts}
+use Rattle.report.proofs.ReportsOfTexts.{refused_as, written_as}
+use Rattle.report.proofs.WatchedRuns.{watched_text}
 use Rattle.report.proofs.curve.curve_text_watched.Goals as goal
 
 pub returns-clause-written : goal.returns-clause-written

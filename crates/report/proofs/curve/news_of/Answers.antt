@@ -1,5 +1,5 @@
 use Rattle.std.proofs.Common.{◌≡◌, ◌<◌, ◌∙◌, ap, arith, get_or, length, sym}
-use Rattle.report.proofs.Curves.{news_more, written_over}
+use Rattle.report.proofs.CurvePoints.{news_more, written_over}
 use Rattle.report.proofs.curve.news_of.Goals as goal
 
 pub loop-fault-preserved : goal.loop-fault-preserved

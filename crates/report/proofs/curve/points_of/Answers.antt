@@ -1,8 +1,8 @@
 use Rattle.std.proofs.Common.{◌≡◌, ◌<◌, ◌+◌, ◌++◌, ◌∷◌, [], ◌∙◌, ap, arith, get_or, length, sym}
 use Rattle.compaction.specs.Compaction.{is_first}
 use Rattle.report.specs.Curve.{curve}
-use Rattle.report.proofs.Curves.{below_more, below_none, curve_point, curve_same, finds_none}
-use Rattle.report.proofs.Curves.{finds_some, found_below, found_few, point_is}
+use Rattle.report.proofs.CurvePoints.{below_more, below_none, curve_point, curve_same, finds_none}
+use Rattle.report.proofs.CurvePoints.{finds_some, found_below, found_few, point_is}
 use Rattle.report.proofs.curve.points_of.Goals.{then-more-gt0+in_ok-push, else-more-gt0}
 use Rattle.report.proofs.curve.points_of.Goals as goal
 

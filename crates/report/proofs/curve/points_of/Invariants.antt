@@ -1,6 +1,6 @@
 use Rattle.std.proofs.Common.{◌≡◌}
 use Rattle.report.specs.Curve.{curve}
-use Rattle.report.proofs.Curves.{found_below}
+use Rattle.report.proofs.CurvePoints.{found_below}
 use Rattle.report.proofs.curve.points_of.Given as goal
 
 -- the points of the tests so far, and the faults whose first test is among these

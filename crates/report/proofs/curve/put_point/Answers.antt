@@ -1,5 +1,5 @@
 use Rattle.output.proofs.Public.{writes_same}
-use Rattle.report.proofs.Texts.{point_text}
+use Rattle.report.proofs.TextPieces.{point_text}
 use Rattle.report.proofs.curve.put_point.Goals as goal
 
 pub returns : goal.returns

@@ -1,7 +1,7 @@
 use Rattle.std.proofs.Common.{◌≡◌, ◌∙◌, ap, length}
 use Rattle.std.proofs.lemmas.Result.{err_from_is_err_and}
 use Rattle.report.specs.Curve.{curve, curve_text}
-use Rattle.report.proofs.RunsOfJobs.{verdicts_counted}
+use Rattle.report.proofs.VerdictsOfRuns.{verdicts_counted}
 use Rattle.report.proofs.curve.report_curve.Goals as goal
 
 pub returns-in_err-write_curve-clause-written : goal.returns-in_err-write_curve-clause-written

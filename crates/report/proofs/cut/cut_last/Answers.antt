@@ -1,6 +1,6 @@
 use Rattle.std.proofs.Common.{arith, rules}
 use Rattle.std.proofs.lemmas.List.{take_rest}
-use Rattle.report.proofs.Cuts.{cut_at_last, lacks_from}
+use Rattle.report.proofs.CutTexts.{cut_at_last, lacks_from}
 use Rattle.report.proofs.cut.cut_last.Goals as goal
 
 pub returns-then-text-at : goal.returns-then-text-at

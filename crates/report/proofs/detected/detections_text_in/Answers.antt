@@ -2,7 +2,7 @@ use Rattle.std.proofs.Common.{◌∙◌, ap, subst}
 use Rattle.detections.specs.Detections.{AreCounts}
 use Rattle.report.specs.Detected.{IsDetectionReportOf, IsDetectionReportOfJob, detection_report}
 use Rattle.report.specs.EndToEnd.{IsReportFault, IsRunReportFault}
-use Rattle.report.proofs.Runs.{written_as, refused_as, job_run_fault}
+use Rattle.report.proofs.ReportsOfTexts.{written_as, refused_as, job_run_fault}
 use Rattle.report.proofs.detected.detections_text_in.Goals as goal
 
 pub returns-clause-written : goal.returns-clause-written

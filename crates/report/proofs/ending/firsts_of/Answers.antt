@@ -1,5 +1,5 @@
 use Rattle.std.proofs.Common.{arith}
-use Rattle.report.proofs.Endings.{open_fault}
+use Rattle.report.proofs.MergeEnds.{open_fault}
 use Rattle.report.proofs.ending.firsts_of.Goals as goal
 
 pub returns-in-OtherPart-clause-refused : goal.returns-in-OtherPart-clause-refused

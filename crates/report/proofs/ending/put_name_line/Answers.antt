@@ -8,9 +8,9 @@ returns-in_err-put_all g c =
     rw (p.1) (stopped_before _ _ _ _ c.in_err-put_all.ensures)
 
 pub returns-in-Some : goal.returns-in-Some
-returns-in-Some g c = let wrote = rw (c.format.ensures.text) at c.put_named.ensures in
+returns-in-Some g c = let wrote = rw (c.format.ensures.text) at c.put_pieces.ensures in
     rw (c.in-Some.is) (writes_then _ _ _ _ _ _ c.in_ok-put_all.ensures wrote)
 
 pub returns-in-None : goal.returns-in-None
 returns-in-None g c = rw (c.in-None.is)
-    (writes_then _ _ _ _ _ _ c.in_ok-put_all.ensures c.put_named-in-None.ensures)
+    (writes_then _ _ _ _ _ _ c.in_ok-put_all.ensures c.put_pieces-in-None.ensures)

@@ -4,9 +4,9 @@ use Rattle.std.proofs.lemmas.Result.{err_from_is_err_and}
 use Rattle.report.specs.PartReading.{texts_in}
 use Rattle.report.specs.Report.{wanted_name}
 use Rattle.output.proofs.Public.{takes_more, stopped, flat_map_cut, flat_map_taken}
-use Rattle.report.proofs.Endings.{name_at}
-use Rattle.report.proofs.Merges.{texts_count}
-use Rattle.report.proofs.Zips.{all_zipped}
+use Rattle.report.proofs.MergeEnds.{name_at}
+use Rattle.report.proofs.JoinedParts.{texts_count}
+use Rattle.report.proofs.LinesByPairs.{all_zipped}
 use Rattle.report.proofs.ending.put_names.Goals as goal
 
 pub returns-in_err-put_wanted_name : goal.returns-in_err-put_wanted_name

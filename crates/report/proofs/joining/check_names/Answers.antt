@@ -1,5 +1,5 @@
 use Rattle.std.proofs.Common.{refl, arith}
-use Rattle.report.proofs.Merges.{names_all, names_end, names_more}
+use Rattle.report.proofs.JoinedParts.{names_all, names_end, names_more}
 use Rattle.report.proofs.joining.check_names.Goals as goal
 
 pub loop-place-preserved : goal.loop-place-preserved

@@ -1,4 +1,4 @@
-use Rattle.report.proofs.Merges.{AreJoinedTo}
+use Rattle.report.proofs.JoinedParts.{AreJoinedTo}
 use Rattle.report.proofs.joining.join.Given as goal
 
 abbrev pub invariant-loop-place : goal.invariant-loop-place

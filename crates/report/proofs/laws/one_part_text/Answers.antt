@@ -1,4 +1,4 @@
-use Rattle.report.proofs.PartOnce.{one_part}
+use Rattle.report.proofs.OnePartText.{one_part}
 use Rattle.report.proofs.laws.one_part_text.Goals as goal
 
 pub returns : goal.returns

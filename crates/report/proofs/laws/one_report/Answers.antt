@@ -1,4 +1,4 @@
-use Rattle.report.proofs.PartTexts.{report_of_texts}
+use Rattle.report.proofs.PartPieces.{report_of_texts}
 use Rattle.report.proofs.laws.one_report.Goals as goal
 
 pub returns : goal.returns

@@ -1,4 +1,4 @@
-use Rattle.report.proofs.PartTold.{part_is}
+use Rattle.report.proofs.WrittenParts.{part_is}
 use Rattle.report.proofs.laws.part_text_is_read.Goals as goal
 
 pub returns : goal.returns

@@ -3,7 +3,7 @@ use Rattle.workers.specs.declared.RunFault.{RunFault}
 use Rattle.workers.specs.Refused.{IsPartFault}
 use Rattle.report.specs.EndToEnd.{IsJobReportFault, IsTextFault}
 use Rattle.report.specs.PartText.{IsPartTextOf, IsPartTextOfJob, head_of}
-use Rattle.report.proofs.Runs.{written_as, refused_as, text_fault}
+use Rattle.report.proofs.ReportsOfTexts.{written_as, refused_as, text_fault}
 use Rattle.report.proofs.part.part_text_watched.Goals as goal
 
 pub returns-clause-written : goal.returns-clause-written

@@ -1,6 +1,6 @@
 use Rattle.output.proofs.Public.{writes_same}
 use Rattle.report.specs.PartText.{said_by}
-use Rattle.report.proofs.PartTexts.{head_text}
+use Rattle.report.proofs.PartPieces.{head_text}
 use Rattle.report.proofs.part.put_head.Goals as goal
 
 pub returns : goal.returns

@@ -1,6 +1,6 @@
 use Rattle.std.proofs.Common.{sym, ◌∙◌, subst}
 use Rattle.report.specs.Cut.{Lacks}
-use Rattle.report.proofs.Cuts.{lacks_not}
+use Rattle.report.proofs.CutTexts.{lacks_not}
 use Rattle.report.proofs.PartLines.{body_of, line_once, line_read}
 use Rattle.report.proofs.part_reader.line_of.Goals as goal
 

@@ -2,7 +2,7 @@ use Rattle.std.specs.Prelude.{codes}
 use Rattle.std.proofs.Common.{sym, ◌∙◌, subst}
 use Rattle.std.proofs.lemmas.List.{append_cancel_left}
 use Rattle.report.specs.Cut.{Lacks}
-use Rattle.report.proofs.Cuts.{lacks_not}
+use Rattle.report.proofs.CutTexts.{lacks_not}
 use Rattle.report.proofs.PartWords.{rule_on, bench_on, after_model, after_rule, after_bench}
 use Rattle.report.proofs.PartWords.{words_read}
 use Rattle.report.proofs.part_reader.words_of.Goals as goal

@@ -1,40 +1,30 @@
-use Rattle.std.proofs.Common.{ap, ◌<◌, ◌≤◌, length, arith}
-use Rattle.std.specs.Prelude.{zip}
+use Rattle.std.proofs.Common.{◌<◌, ◌≤◌, length, arith}
 use Rattle.std.proofs.lemmas.Result.{err_from_is_err_and}
-use Rattle.lists.proofs.Places.{within_place}
 use Rattle.report.specs.Report.{class_line}
-use Rattle.output.proofs.Public.{takes_more, stopped, flat_map_cut, flat_map_taken}
-use Rattle.report.proofs.Zips.{zipped_by, all_zipped}
+use Rattle.report.proofs.TextPieces.{is_class_line}
+use Rattle.report.proofs.LinesByPairs.{line_taken, line_stopped, lines_taken}
 use Rattle.report.proofs.report.put_classes.Goals as goal
 
-pub returns-in_err-put_class_line : goal.returns-in_err-put_class_line
-returns-in_err-put_class_line g c =
+pub returns-in_err-put_fault_line : goal.returns-in_err-put_fault_line
+returns-in_err-put_fault_line g c =
     let p = err_from_is_err_and c.from_residual.result c.from_residual.ensures.1 in
     let lt : c.loop-fault.fault < length c.args.list.now.list = omega arith in
-    let at = within_place c.args.list.now.list c.loop-fault.fault lt in
-    let zipped = zipped_by c.args.list.now.list c.args.classes.now.class_of c.loop-fault.fault at.0
-    c.class_of.result (at.0, 0) at.1 c.class_of.ensures in
-    rw (p.1) (stopped _ _ _ _ _ _ _ c.loop-fault.invariant
-    (c.in_err-put_class_line.ensures at.0 at.1)
-    (flat_map_cut (class_line c.args.circuit.now)
-    (zip c.args.list.now.list c.args.classes.now.class_of) c.loop-fault.fault _ _ zipped.0
-    (ap (class_line c.args.circuit.now) zipped.1)))
+    rw (p.1) (line_stopped (class_line c.args.circuit.now) c.args.list.now.list
+    c.args.classes.now.class_of c.loop-fault.fault c.class_of.result _ _ _ _ lt
+    c.class_of.ensures (λ f. is_class_line c.args.circuit.now f _ _ c.format-class.ensures.text)
+    c.loop-fault.invariant c.in_err-put_fault_line.ensures)
 
 pub loop-fault-preserved : goal.loop-fault-preserved
 loop-fault-preserved g c =
     let lt : c.loop-fault.fault < length c.args.list.now.list = omega arith in
-    let at = within_place c.args.list.now.list c.loop-fault.fault lt in
-    let zipped = zipped_by c.args.list.now.list c.args.classes.now.class_of c.loop-fault.fault at.0
-    c.class_of.result (at.0, 0) at.1 c.class_of.ensures in
-    let wrote = c.in_ok-put_class_line.ensures at.0 at.1 in
-    rw (flat_map_taken (class_line c.args.circuit.now)
-    (zip c.args.list.now.list c.args.classes.now.class_of) c.loop-fault.fault _ _ zipped.0
-    (ap (class_line c.args.circuit.now) zipped.1))
-    (takes_more _ _ _ _ _ c.loop-fault.invariant wrote)
+    line_taken (class_line c.args.circuit.now) c.args.list.now.list
+    c.args.classes.now.class_of c.loop-fault.fault c.class_of.result _ _ _ _ lt
+    c.class_of.ensures (λ f. is_class_line c.args.circuit.now f _ _ c.format-class.ensures.text)
+    c.loop-fault.invariant c.in_ok-put_fault_line.ensures
 
 pub returns : goal.returns
 returns g c =
     let le : length c.args.list.now.list ≤ c.loop-fault.fault = omega arith in
-    let all = all_zipped c.args.list.now.list c.args.classes.now.class_of c.loop-fault.fault
-    c.requires.count le in
-    (rw (all) at c.loop-fault.invariant)
+    (lines_taken (class_line c.args.circuit.now) c.args.list.now.list
+    c.args.classes.now.class_of c.loop-fault.fault _ _ c.requires.count le
+    c.loop-fault.invariant)

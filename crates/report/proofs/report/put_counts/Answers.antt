@@ -1,5 +1,5 @@
 use Rattle.output.proofs.Public.{writes_same}
-use Rattle.report.proofs.Texts.{counts_text}
+use Rattle.report.proofs.TextPieces.{counts_text}
 use Rattle.report.proofs.report.put_counts.Goals as goal
 
 pub returns : goal.returns

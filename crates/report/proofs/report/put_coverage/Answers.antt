@@ -1,5 +1,5 @@
 use Rattle.output.proofs.Public.{writes_same}
-use Rattle.report.proofs.Texts.{coverage_text}
+use Rattle.report.proofs.TextPieces.{coverage_text}
 use Rattle.report.proofs.report.put_coverage.Goals as goal
 
 pub returns : goal.returns

@@ -1,7 +1,7 @@
 use Rattle.std.proofs.Common.{◌≡◌, ◌∙◌}
 use Rattle.std.proofs.lemmas.Result.{err_from_is_err_and}
 use Rattle.patterns.specs.Making.{test_text}
-use Rattle.report.proofs.Rowed.{input_fault}
+use Rattle.report.proofs.ResponseTexts.{input_fault}
 use Rattle.report.proofs.responses.responses_text_in.Goals as goal
 
 pub responses-requires : goal.responses-requires

@@ -1,7 +1,7 @@
 use Rattle.std.proofs.Common.{refl}
 use Rattle.std.proofs.lemmas.Result.{err_from_is_err_and}
 use Rattle.report.specs.Report.{whole_report}
-use Rattle.report.proofs.RunsOfJobs.{verdicts_counted}
+use Rattle.report.proofs.VerdictsOfRuns.{verdicts_counted}
 use Rattle.report.proofs.text.report_schedule.Goals as goal
 
 pub write_report-requires : goal.write_report-requires

@@ -2,7 +2,7 @@ use Rattle.block_sim.specs.Parts.{piece_count}
 use Rattle.report.specs.EndToEnd.{IsReportOf, IsReportOfJob, IsScheduleReportFault}
 use Rattle.report.specs.EndToEnd.{IsScheduleTextFault}
 use Rattle.jobs.proofs.Public.{job_of_texts}
-use Rattle.report.proofs.Runs.{written_as, refused_as, report_of, moves_fault}
+use Rattle.report.proofs.ReportsOfTexts.{written_as, refused_as, report_of, moves_fault}
 use Rattle.report.proofs.text.schedule_text_in.Goals as goal
 
 pub report_schedule-requires : goal.report_schedule-requires

@@ -1,7 +1,7 @@
 use Rattle.std.specs.Prelude.{⊤}
 use Rattle.workers.specs.Refused.{IsPartsFault}
 use Rattle.report.specs.EndToEnd.{IsReportOf, IsReportOfJob, IsJobReportFault, IsReportFault}
-use Rattle.report.proofs.Runs.{written_as, refused_as, report_of, parts_run_fault}
+use Rattle.report.proofs.ReportsOfTexts.{written_as, refused_as, report_of, parts_run_fault}
 use Rattle.report.proofs.text.simulate_text_in.Goals as goal
 
 pub returns-clause-written : goal.returns-clause-written

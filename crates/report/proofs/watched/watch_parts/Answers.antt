@@ -1,8 +1,8 @@
 use Rattle.std.specs.Prelude.{Some}
 use Rattle.workers.specs.Refused.{IsPartsFault}
 use Rattle.report.specs.EndToEnd.{IsReportOf, IsReportOfJob, IsJobReportFault, IsWatchedFault}
-use Rattle.report.proofs.Runs.{written_as, refused_as, report_of}
-use Rattle.report.proofs.Watching.{watched_parts}
+use Rattle.report.proofs.ReportsOfTexts.{written_as, refused_as, report_of}
+use Rattle.report.proofs.WatchedRuns.{watched_parts}
 use Rattle.report.proofs.watched.watch_parts.Goals as goal
 
 pub returns-clause-written : goal.returns-clause-written

@@ -1,7 +1,6 @@
 use Rattle.std.specs.Prelude.{⊤, None}
 use Rattle.report.specs.EndToEnd.{IsReportFault, IsWatchedFault}
-use Rattle.report.proofs.Runs.{refused_as}
-use Rattle.report.proofs.Watching.{open_fault}
+use Rattle.report.proofs.Public.{open_fault, refused_as}
 use Rattle.tables.proofs.table.run_table_in.Goals as goal
 
 pub returns-clause-refused : goal.returns-clause-refused

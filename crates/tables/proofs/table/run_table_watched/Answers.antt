@@ -1,8 +1,7 @@
 use Rattle.std.specs.Prelude.{None}
 use Rattle.workers.specs.Refused.{IsPartsFault}
 use Rattle.report.specs.EndToEnd.{IsJobTextFault, IsWatchedFault}
-use Rattle.report.proofs.Runs.{refused_as}
-use Rattle.report.proofs.Watching.{watched_text}
+use Rattle.report.proofs.Public.{refused_as, watched_text}
 use Rattle.tables.proofs.table.run_table_watched.Goals as goal
 
 pub returns-clause-refused : goal.returns-clause-refused

@@ -1,6 +1,6 @@
 use Rattle.std.proofs.Common.{◌≡◌, ap, sym, ◌∙◌, arith, refl, length, subst}
 use Rattle.report.specs.PartReading.{IsPart, head_in, texts_in}
-use Rattle.report.proofs.Merges.{fresh_of, joined_items, same_count, texts_count}
+use Rattle.report.proofs.JoinedParts.{fresh_of, joined_items, same_count, texts_count}
 use Rattle.report.proofs.merge.Merge.add.Goals as goal
 
 pub join-requires : goal.join-requires

@@ -3,7 +3,7 @@ use Rattle.std.proofs.lemmas.Result.{err_from_is_err_and}
 use Rattle.workers.specs.declared.parts.PartVerdict.TheVariants.{First}
 use Rattle.report.specs.Merging.{state_of}
 use Rattle.report.specs.PartReading.{texts_in}
-use Rattle.report.proofs.Endings.{open_refused, no_verdict}
+use Rattle.report.proofs.MergeEnds.{open_refused, no_verdict}
 use Rattle.report.proofs.merge.Merge.end.Goals as goal
 
 pub returns-in-Some-clause-refused : goal.returns-in-Some-clause-refused

@@ -21,8 +21,8 @@ use Rattle.jobs.specs.Jobs.{IsJobOf}
 use Rattle.report.specs.PartText.{IsPartTextOf, part_text, head_of, model_name, rule_name, sum_text}
 use Rattle.report.specs.PartReading.{IsHead, IsLine, IsPart, IsVerdict, IsWord}
 use Rattle.report.specs.Report.{fault_text}
-use Rattle.report.proofs.PartNames.{fault_named}
-use Rattle.report.proofs.PartOnce.{lacks_literal, lacks_test}
+use Rattle.report.proofs.FaultNames.{fault_named}
+use Rattle.report.proofs.OnePartText.{lacks_literal, lacks_test}
 
 -- a digit of a table is none that the table lacks
 digit_lacks : (byte : ℕ) (table : List ℕ) (k : ℕ) → 0 ≢ byte → Lacks byte table

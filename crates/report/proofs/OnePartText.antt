@@ -12,7 +12,7 @@ use Rattle.report.specs.Cut.{Lacks}
 use Rattle.report.specs.PartText.{PartHead, end_line, head_line, is_found, is_own, verdict_line}
 use Rattle.report.specs.PartText.{verdict_text}
 use Rattle.report.specs.PartReading.{IsHead, IsLine, IsPart, IsVerdict, WordTexts, words_text}
-use Rattle.report.proofs.Cuts.{cut_last, cut_once, lacks_append}
+use Rattle.report.proofs.CutTexts.{cut_last, cut_once, lacks_append}
 use Rattle.report.proofs.PartWords.{bench_on, lacks_byte, lacks_decimal, next_field, rule_on}
 use Rattle.report.proofs.PartHeads.{head_body, head_line_is, of_on, same_number, small_part}
 use Rattle.report.proofs.PartHeads.{small_parts, words_in_head}

@@ -13,7 +13,7 @@ use Rattle.report.specs.declared.joining.MergeFault.{MergeFault}
 use Rattle.report.specs.declared.joining.MergeFault.TheVariants as fault
 use Rattle.report.specs.Merging.{HasParts, IsEndRefusal, IsOpenRefusal, MergeState}
 use Rattle.report.specs.PartReading.{texts_in}
-use Rattle.report.proofs.Zips.{zipped_by}
+use Rattle.report.proofs.LinesByPairs.{zipped_by}
 
 -- the first fault that is of no part, behind so many first tests
 pub open_fault : (vs : List PartVerdict) (firsts : List (Option ℕ)) (n : ℕ) (z : PartVerdict)

@@ -18,7 +18,7 @@ use Rattle.report.specs.EndToEnd.{IsReportFault, IsRunReportFault, IsJobReportFa
 use Rattle.report.specs.EndToEnd.{IsScheduleReportFault, IsScheduleTextFault}
 use Rattle.report.specs.declared.contents.Contents.{Contents}
 use Rattle.report.specs.Report.{whole_report}
-use Rattle.report.proofs.RunsOfJobs.{schedule_fault}
+use Rattle.report.proofs.VerdictsOfRuns.{schedule_fault}
 
 -- a text of one kind is one of another
 pub written_as : (A B : List ℕ → Type 0) (r : Result (Unit {0}) SimFault) (old new : Output)

@@ -20,9 +20,9 @@ use Rattle.fault_model.specs.Fault.{Fault}
 use Rattle.report.specs.Cut.{Lacks}
 use Rattle.report.specs.PartReading.{IsFaultName}
 use Rattle.report.specs.Report.{cell_text, defect_text, fault_text, line_text, signal_text}
-use Rattle.report.proofs.Cells.{cell_is_named}
-use Rattle.report.proofs.Cuts.{lacks_append}
-use Rattle.report.proofs.PartOnce.{lacks_literal, lacks_test}
+use Rattle.report.proofs.CellNames.{cell_is_named}
+use Rattle.report.proofs.CutTexts.{lacks_append}
+use Rattle.report.proofs.OnePartText.{lacks_literal, lacks_test}
 use Rattle.report.proofs.PartWords.{lacks_decimal}
 
 -- a word of a line is made of word bytes
