@@ -23,6 +23,8 @@ pub use Rattle.fault_model.proofs.OneSolution.{Driven, agree, driven, pins_agree
 pub use Rattle.fault_model.proofs.ReorderedNames.{circuit_reordered, well_reordered}
 pub use Rattle.fault_model.proofs.ReorderedSignals.{named_to, same_signals, same_sources}
 pub use Rattle.fault_model.proofs.ReorderedSignals.{same_definition}
+pub use Rattle.fault_model.proofs.ReorderedSinks.{same_sinks}
 pub use Rattle.fault_model.proofs.ReorderedSolutions.{detected_same, detected_same_at, same_bits}
 pub use Rattle.fault_model.proofs.ReorderedSolutions.{looks_back_same, solved_same}
+pub use Rattle.fault_model.proofs.SpannedNumbers.{Spans, span_within}
 pub use Rattle.fault_model.proofs.StatementOrders.{ordered_by_level}

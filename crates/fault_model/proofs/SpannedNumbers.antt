@@ -8,8 +8,9 @@ use Rattle.std.specs.List.{filter_map}
 use Rattle.std.proofs.lemmas.List.{map-append}
 use Rattle.std.proofs.lemmas.List.Sorted.{IsPermutation-refl, IsPermutation-trans}
 use Rattle.std.proofs.lemmas.List.Sorted.{IsPermutation-sym, IsPermutation-cons}
+use Rattle.std.proofs.lemmas.List.Sorted.{Contains-permutation}
 use Rattle.std.proofs.lemmas.List.Sorted.{IsPermutation-to_front, IsPermutation-middle}
-use Rattle.lists.proofs.Members.{Among, contained, among_append, among_left, among_right}
+use Rattle.lists.proofs.Members.{Among, among, contained, among_append, among_left, among_right}
 use Rattle.lists.proofs.Members.{among_filter, filtered_from, mapped_from}
 
 -- an element stands between two lists
@@ -78,6 +79,13 @@ spans_permuted (suc n) xs h = go (spans_permuted n) (split_at xs n (h.each n (om
         (IsPermutation-sym (p.0 ++ n ∷ p.1) (n ∷ rest) (IsPermutation-middle p.0 n p.1)) in
         subst (λ ys. IsPermutation ys xs) (sym (below_more n))
         (subst (IsPermutation (below n ++ n ∷ [])) (sym p.2) all)
+
+-- so such a list has no other number
+pub span_within : (n : ℕ) (xs : List ℕ) → Spans n xs → (s : ℕ) → Among s xs → s < n
+span_within n xs h s a =
+    let back = IsPermutation-sym (below n) xs (spans_permuted n xs h) in
+    below_within n s
+    (among (below n) s (Contains-permutation xs (below n) s back (contained xs s a)))
 
 -- ---- ascending lists
 

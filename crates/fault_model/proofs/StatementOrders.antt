@@ -25,7 +25,7 @@ use Rattle.bench_net.proofs.Public.{definition_defines, signal-name_of}
 use Rattle.fault_model.specs.Reordered.{IsReordered, place, in_order, IsOrderedByLevel}
 use Rattle.fault_model.proofs.SpannedNumbers.{Spans, below, below_within, spans_permuted}
 use Rattle.fault_model.proofs.SpannedNumbers.{Ascending, pairwise, pairwise_filter, kept_all}
-use Rattle.fault_model.proofs.SpannedNumbers.{kept_same}
+use Rattle.fault_model.proofs.SpannedNumbers.{kept_same, span_within}
 use Rattle.fault_model.proofs.ReorderedNames.{well_reordered}
 
 -- ---- lists of statements
@@ -176,7 +176,7 @@ module _ (c : List Statement) (order : List ℕ) (is : IsLevelOrder c order) whe
       (contained order s a))
 
   within : (s : ℕ) → Among s order → s < length defining
-  within s a = below_within (length defining) s (into_below s a)
+  within = span_within (length defining) order spans
 
   -- ---- the statements are those of the circuit
 

@@ -16,9 +16,9 @@ ghost use Rattle.fault_model.specs.Detection.{ClassesDetectedSame, DetectedAsRep
 ghost use Rattle.fault_model.specs.Laws.{HasSolutions, HasOneSolution, HasRepresentatives};
 ghost use Rattle.fault_model.specs.Laws.{HasClasses, ClassesDetectSame, RepresentativesDetectSame};
 ghost use Rattle.fault_model.specs.Laws.{DetectionIsOfAnySolution};
-ghost use Rattle.fault_model.specs.Reordered.{IsReordered, HasSameSignals, IsSolvedSame};
-ghost use Rattle.fault_model.specs.Reordered.{IsDetectedSame, HasSameBits, IsDetectedSameAt};
-ghost use Rattle.fault_model.specs.Reordered.{IsOrderedByLevel};
+ghost use Rattle.fault_model.specs.Reordered.{IsReordered, HasSameSignals, HasSameSinks};
+ghost use Rattle.fault_model.specs.Reordered.{IsSolvedSame, IsDetectedSame, HasSameBits};
+ghost use Rattle.fault_model.specs.Reordered.{IsDetectedSameAt, IsOrderedByLevel};
 
 /// A circuit without cycles has exactly one solution under each test, without a fault and under
 /// each single stuck-at fault.
@@ -70,6 +70,8 @@ pub fn reordering()
     ensures circuit { (c d : List Statement) → IsReordered c d → IsCircuit c → IsCircuit d }
     ensures signals { (c d : List Statement) → IsWellFormed c → IsReordered c d
         → HasSameSignals c d }
+    ensures sinks { (c d : List Statement) → IsWellFormed c → IsReordered c d
+        → HasSameSinks c d }
     ensures solved_same { (c d : List Statement) → IsWellFormed c → IsReordered c d
         → IsSolvedSame c d }
     ensures detected_same { (c d : List Statement) → IsWellFormed c → IsReordered c d

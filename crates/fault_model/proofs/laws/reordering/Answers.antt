@@ -1,5 +1,6 @@
 use Rattle.fault_model.proofs.ReorderedNames.{circuit_reordered}
 use Rattle.fault_model.proofs.ReorderedSignals.{same_signals}
+use Rattle.fault_model.proofs.ReorderedSinks.{same_sinks}
 use Rattle.fault_model.proofs.ReorderedSolutions.{solved_same, detected_same, same_bits}
 use Rattle.fault_model.proofs.ReorderedSolutions.{detected_same_at}
 use Rattle.fault_model.proofs.StatementOrders.{ordered_by_level}
@@ -10,6 +11,9 @@ returns-clause-circuit goal c d moved is = circuit_reordered c d moved.statement
 
 pub returns-clause-signals : goal.returns-clause-signals
 returns-clause-signals c = same_signals
+
+pub returns-clause-sinks : goal.returns-clause-sinks
+returns-clause-sinks c = same_sinks
 
 pub returns-clause-solved_same : goal.returns-clause-solved_same
 returns-clause-solved_same c = solved_same
