@@ -26,7 +26,7 @@ use Rattle.fault_model.proofs.SignalsDefined.{defined_among}
 use Rattle.fault_model.proofs.ListedFaults.{fault_on, IsOn, listed_on, listed_model, stem_listed}
 use Rattle.fault_model.proofs.ListedFaults.{branch_listed}
 use Rattle.fault_model.proofs.ReorderedNames.{length_reordered}
-use Rattle.fault_model.proofs.ReorderedSignals.{numbered, same_name, to, back}
+use Rattle.fault_model.proofs.ReorderedSignals.{numbered, same_name, stands_there, stands_back}
 
 -- as many sinks of a statement in whichever list it stands
 count_of : (c d : List Statement) (n : Name) (st : Statement)
@@ -105,7 +105,7 @@ module _ (c d : List Statement) (well : IsWellFormed c) (is : IsReordered c d) w
       go (inl a) =
           let from = joined_from (pins_of c n) c k a in
           let st = contained c from.0 from.1 in
-          let there = among d from.0 (to c d well is from.0 st) in
+          let there = among d from.0 (stands_there c d well is from.0 st) in
           let here = among_map (moved_sink c d) (pins_of c n from.0) k from.2 in
           among_left (flat_map (pins_of d n) d) (map sink.Out (places n (outputs d)))
           (moved_sink c d k) (among_joined (pins_of d n) d from.0 (moved_sink c d k) there
@@ -129,7 +129,7 @@ module _ (c d : List Statement) (well : IsWellFormed c) (is : IsReordered c d) w
           → (j : Sink) × Contains (sinks c n) j × (k ≡ moved_sink c d j)
       go (inl a) =
           let from = joined_from (pins_of d n) d k a in
-          let st = back c d well is from.0 (contained d from.0 from.1) in
+          let st = stands_back c d well is from.0 (contained d from.0 from.1) in
           let own = mapped_from (moved_sink c d) (pins_of c n from.0) k
           (subst (Among k) (of_statement n from.0 st) from.2) in (
             own.0,

@@ -1,7 +1,7 @@
 -- A circuit whose statements stand in another order: the same signals by other numbers, and so the
 -- same faults on other lines.
-use Rattle.std.specs.Prelude.{◌≡◌, ◌↔◌, ℕ, Bool, not, List, ◌++◌, map, filter, length, Contains}
-use Rattle.std.specs.Prelude.{IsPermutation, Option, Some, option_map, slice_get}
+use Rattle.std.specs.Prelude.{◌≡◌, ◌↔◌, ◌<◌, ℕ, Bool, not, List, ◌++◌, map, filter, length}
+use Rattle.std.specs.Prelude.{Contains, IsPermutation, Option, Some, option_map, slice_get}
 use Rattle.std.specs.List.{filter_map}
 use Rattle.std.specs.Option.{option_map_or}
 use Rattle.bench_net.specs.declared.Kind.{Kind}
@@ -51,6 +51,7 @@ moved_gate c d gate = (gate.0, map (place c d) gate.1)
 pub record HasSameSignals (c d : List Statement) : Type 0 where
   pub count : length (names d) ≡ length (names c)
   pub apart : (s t : ℕ) → place c d s ≡ place c d t → s ≡ t
+  pub onto : (s : ℕ) → s < length (names d) → (t : ℕ) × (t < length (names c)) × (s ≡ place c d t)
   pub named : (s : ℕ) → name_of d (place c d s) ≡ name_of c s
   pub numbered : (n : Name) → Contains (names c) n → signal d n ≡ place c d (signal c n)
   pub gates : (s : ℕ) → gate_of d (place c d s) ≡ option_map (moved_gate c d) (gate_of c s)
