@@ -143,37 +143,42 @@ below_ascending (suc n) = (first, shifted (below n) (below_ascending n))
             let e : suc p.0 ≡ y = p.2 in
             omega (arith, e, lt)
 
-pub same_ascending : (xs ys : List ℕ) → Ascending xs → Ascending ys
-    → ((s : ℕ) → Among s xs → Among s ys) → ((s : ℕ) → Among s ys → Among s xs) → xs ≡ ys
-same_ascending [] [] up also into from = refl
-same_ascending [] (y ∷ ys) up also into from = absurd (from y (inl refl))
-same_ascending (x ∷ xs) [] up also into from = absurd (into x (inl refl))
-same_ascending (x ∷ xs) (y ∷ ys) up also into from =
+-- two lists with the same elements are the same where both go by a relation that no two elements
+-- stand in both ways
+pub same_ordered : {X : Type 0} (R : X → X → Type 0) → ((x y : X) → R x y → R y x → ⊥)
+    → (xs ys : List X) → Pairwise R xs → Pairwise R ys → ((x : X) → Among x xs → Among x ys)
+    → ((x : X) → Among x ys → Among x xs) → xs ≡ ys
+same_ordered R one_way [] [] up also into from = refl
+same_ordered R one_way [] (y ∷ ys) up also into from = absurd (from y (inl refl))
+same_ordered R one_way (x ∷ xs) [] up also into from = absurd (into x (inl refl))
+same_ordered {X} R one_way (x ∷ xs) (y ∷ ys) up also into from =
     let heads : x ≡ y = first (into x (inl refl)) (from y (inl refl)) in
-    let tails : xs ≡ ys = same_ascending xs ys up.1 also.1 (rest_into heads) (rest_from heads) in
+    let tails : xs ≡ ys =
+    same_ordered R one_way xs ys up.1 also.1 (rest_into heads) (rest_from heads) in
     cc
   where
     first : Among x (y ∷ ys) → Among y (x ∷ xs) → x ≡ y
     first (inl e) b = sym e
     first (inr a) (inl e) = e
-    first (inr a) (inr b) =
-        let one = also.0 x a in
-        let two = up.0 y b in
-        absurd (omega (arith, one, two))
+    first (inr a) (inr b) = absurd (one_way y x (also.0 x a) (up.0 y b))
 
-    rest_into : x ≡ y → (s : ℕ) → Among s xs → Among s ys
-    rest_into e s a = go (into s (inr a))
+    rest_into : x ≡ y → (z : X) → Among z xs → Among z ys
+    rest_into e z a = go (into z (inr a))
       where
-        go : Among s (y ∷ ys) → Among s ys
-        go (inl h) = let lt = up.0 s a in absurd (omega (arith, lt, e, h))
+        go : Among z (y ∷ ys) → Among z ys
         go (inr b) = b
+        go (inl h) =
+            let own : R x x = subst (R x) (sym h ∙ sym e) (up.0 z a) in
+            absurd (one_way x x own own)
 
-    rest_from : x ≡ y → (s : ℕ) → Among s ys → Among s xs
-    rest_from e s a = go (from s (inr a))
+    rest_from : x ≡ y → (z : X) → Among z ys → Among z xs
+    rest_from e z a = go (from z (inr a))
       where
-        go : Among s (x ∷ xs) → Among s xs
-        go (inl h) = let lt = also.0 s a in absurd (omega (arith, lt, e, h))
+        go : Among z (x ∷ xs) → Among z xs
         go (inr b) = b
+        go (inl h) =
+            let own : R y y = subst (R y) (sym h ∙ e) (also.0 z a) in
+            absurd (one_way y y own own)
 
 -- ---- what is kept of such lists
 
@@ -204,7 +209,8 @@ kept_same {Y} h n xs into from up =
   where
     lists : filter (λ s. is_some (h s)) xs ≡ filter (λ s. is_some (h s)) (below n)
     lists =
-        same_ascending (filter (λ s. is_some (h s)) xs) (filter (λ s. is_some (h s)) (below n)) up
+        same_ordered (λ s t. s < t) (λ s t lt more. omega (arith, lt, more))
+        (filter (λ s. is_some (h s)) xs) (filter (λ s. is_some (h s)) (below n)) up
         (pairwise_filter (λ s t. s < t) (λ s t. s < t) (λ s. is_some (h s)) (below n)
         (λ x y a b lt. lt) (below_ascending n))
         (λ s a. let p = filtered_from (λ t. is_some (h t)) xs s a in

@@ -3,7 +3,7 @@
 //! A law is a function without a body. Its clause is the law, and a proof names the function to use
 //! it.
 
-ghost use Rattle.std.specs.Prelude.{◌<◌, ℕ, Bool, List, Contains, length};
+ghost use Rattle.std.specs.Prelude.{◌≡◌, ◌<◌, ℕ, Bool, List, Contains, length};
 ghost use Rattle.bench_net.specs.Statement.{Statement};
 ghost use Rattle.bench_net.specs.Scan.{names};
 ghost use Rattle.bench_net.specs.Circuit.{IsWellFormed, HaveArities, IsCircuit};
@@ -65,7 +65,7 @@ pub fn detection()
 /// A circuit whose statements stand in another order has the same signals by other numbers: the
 /// same valuations solve it, and the same tests detect a fault on the line that its line moves to.
 /// So a simulator may number signals as it likes. In level order a signal's number is its place in
-/// the order.
+/// the order, and a circuit has one level order.
 pub fn reordering()
     ensures circuit { (c d : List Statement) → IsReordered c d → IsCircuit c → IsCircuit d }
     ensures signals { (c d : List Statement) → IsWellFormed c → IsReordered c d
@@ -82,4 +82,6 @@ pub fn reordering()
         → IsDetectedSameAt c d }
     ensures by_level { (c : List Statement) (order : List ℕ) → IsWellFormed c
         → IsLevelOrder c order → IsOrderedByLevel c order }
+    ensures one_order { (c : List Statement) (order other : List ℕ) → IsWellFormed c
+        → IsLevelOrder c order → IsLevelOrder c other → order ≡ other }
 {}
