@@ -1,6 +1,6 @@
 -- The signals in level order: each once, and the pins of a gate before it.
 use Rattle.std.proofs.Common.{◌≡◌, ◌<◌, ◌≤◌, ℕ, zero, suc, ◌+◌, max, refl, sym, ◌∙◌, ap, subst}
-use Rattle.std.proofs.Common.{List, [], ◌∷◌, ◌++◌, length, arith, inl, inr, ◌⊎◌}
+use Rattle.std.proofs.Common.{List, [], ◌∷◌, length, arith, inl, inr, ◌⊎◌}
 use Rattle.std.specs.Prelude.{Contains, Some, map, fold, slice_index_or}
 use Rattle.std.proofs.lemmas.List.{get_or_default}
 use Rattle.std.proofs.lemmas.List.Elements.{Contains-get_or}
@@ -10,57 +10,12 @@ use Rattle.bench_net.specs.Statement.{Name, Statement, Gate}
 use Rattle.bench_net.specs.Scan.{names, signal, sources, inputs, cells}
 use Rattle.bench_net.specs.Circuit.{IsWellFormed}
 use Rattle.bench_net.specs.Level.{AreLevels, HasLevel, IsLevelOrder, GoesBefore, greatest}
-use Rattle.lists.proofs.Members.{Among, among, contained, among_append, among_left, among_right}
+use Rattle.lists.proofs.Members.{Among, among, contained, among_left, among_right}
 use Rattle.lists.proofs.Members.{among_map}
 use Rattle.bench_net.proofs.Public.{name_of-signal, read_named}
 use Rattle.lists.proofs.Places.{place_within}
 use Rattle.fault_model.proofs.Public.{Driven, driven, below_fold, defined_among, signal_apart}
-
--- an element stands between two lists
-split_at : (xs : List ℕ) (x : ℕ) → Among x xs → (ys zs : List ℕ) × (xs ≡ ys ++ x ∷ zs)
-split_at [] x a = absurd a
-split_at (y ∷ xs) x (inl e) = ([], xs, ap (λ z. z ∷ xs) e)
-split_at (y ∷ xs) x (inr a) = let p = split_at xs x a in (y ∷ p.0, p.1, ap (λ zs. y ∷ zs) p.2)
-
-length_split : (ys zs : List ℕ) (x : ℕ) → length (ys ++ x ∷ zs) ≡ suc (length (ys ++ zs))
-length_split [] zs x = refl
-length_split (y ∷ ys) zs x = ap suc (length_split ys zs x)
-
--- the list has each number below n, and no more elements than that
-record Spans (n : ℕ) (xs : List ℕ) : Type 0 where
-  count : length xs ≡ n
-  each : (s : ℕ) → s < n → Among s xs
-
-rest_spans : (n : ℕ) (ys zs : List ℕ) → Spans (suc n) (ys ++ n ∷ zs) → Spans n (ys ++ zs)
-rest_spans n ys zs h = record {
-  count = let e : suc (length (ys ++ zs)) ≡ suc n = sym (length_split ys zs n) ∙ h.count in
-      omega (arith, e);
-  each = λ s lt. go s lt (among_append ys (n ∷ zs) s (h.each s (omega (arith, lt))));
-}
-  where
-    go : (s : ℕ) → s < n → Among s ys ⊎ Among s (n ∷ zs) → Among s (ys ++ zs)
-    go s lt (inl a) = among_left ys zs s a
-    go s lt (inr (inl e)) = absurd (omega (arith, lt, e))
-    go s lt (inr (inr a)) = among_right ys zs s a
-
--- so it has no other number
-within_span : (n : ℕ) (xs : List ℕ) → Spans n xs → (x : ℕ) → Among x xs → x < n
-within_span zero [] h x a = absurd a
-within_span zero (y ∷ xs) h x a = let e : suc (length xs) ≡ 0 = h.count in absurd (omega (arith, e))
-within_span (suc n) xs h x a = go (within_span n) (split_at xs n (h.each n (omega arith)))
-  where
-    go : ((rest : List ℕ) → Spans n rest → (y : ℕ) → Among y rest → y < n)
-        → (ys zs : List ℕ) × (xs ≡ ys ++ n ∷ zs) → x < suc n
-    go ih p = by_place (among_append p.0 (n ∷ p.1) x (subst (Among x) p.2 a))
-      where
-        later : Among x (p.0 ++ p.1) → x < n
-        later b = ih (p.0 ++ p.1) (rest_spans n p.0 p.1 (subst (Spans (suc n)) p.2 h)) x b
-
-        by_place : Among x p.0 ⊎ Among x (n ∷ p.1) → x < suc n
-        by_place (inl b) = let lt : x < n = later (among_left p.0 p.1 x b) in omega (arith, lt)
-        by_place (inr (inl e)) = omega (arith, e)
-        by_place (inr (inr b)) = let lt : x < n = later (among_right p.0 p.1 x b) in
-            omega (arith, lt)
+use Rattle.fault_model.proofs.Public.{Spans, span_within}
 
 order_spans : (c : List Statement) (order : List ℕ) → IsLevelOrder c order
     → Spans (length (names c)) order
@@ -68,7 +23,7 @@ order_spans c order h = record { count = h.count; each = λ s lt. among order s 
 
 pub order_within : (c : List Statement) (order : List ℕ) (i : ℕ) → IsLevelOrder c order
     → i < length order → slice_index_or order i 0 < length (names c)
-order_within c order i h lt = within_span (length (names c)) order (order_spans c order h)
+order_within c order i h lt = span_within (length (names c)) order (order_spans c order h)
     (slice_index_or order i 0) (among order (slice_index_or order i 0)
     (Contains-get_or order i 0 lt))
 

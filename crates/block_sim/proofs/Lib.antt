@@ -46,6 +46,8 @@ mod FlipLanes
 mod FaultLanes
 mod KeptOutcomes
 mod ResponseRows
+mod ReorderedReaders
+mod ReorderedGates
 pub mod Public
 mod Ways
 mod Groups

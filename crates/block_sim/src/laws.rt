@@ -7,6 +7,7 @@ ghost use Rattle.std.specs.Prelude.{◌≡◌, ℕ, List};
 ghost use Rattle.bench_net.specs.Statement.{Statement};
 ghost use Rattle.bench_net.specs.Circuit.{IsWellFormed, HaveArities};
 ghost use Rattle.fault_model.specs.declared.Model.{Model};
+ghost use Rattle.fault_model.specs.Reordered.{IsReordered};
 ghost use Rattle.fault_model.specs.Solution.{Test};
 ghost use Rattle.patterns.specs.declared.Outcome.{Outcome};
 ghost use Rattle.patterns.specs.Least.{Table};
@@ -15,6 +16,8 @@ ghost use Rattle.block_sim.specs.Regions.{FaultLaw, LanesLaw, LeadLaw, ObserverL
 ghost use Rattle.block_sim.specs.Regions.{OneClassStemLaw};
 ghost use Rattle.block_sim.specs.Regions.{OneStemLaw, PinLaw, RegionLaw, SomeClassStemLaw};
 ghost use Rattle.block_sim.specs.Regions.{SomeStemLaw, StemLaw, StepLaw};
+ghost use Rattle.block_sim.specs.Reordered.{HasSameActive, HasSameFlips, HasSameReaders};
+ghost use Rattle.block_sim.specs.Reordered.{HasSameStems};
 ghost use Rattle.block_sim.specs.Ways.{OneWayLaw, SomeWayLaw};
 
 /// The first test that detects a fault is found by blocks: over a table with the true outcome of
@@ -65,4 +68,18 @@ pub fn regions()
     ensures stem { (c : List Statement) → IsWellFormed c → StemLaw c }
     ensures observer { (c : List Statement) → IsWellFormed c → ObserverLaw c }
     ensures lanes { (c : List Statement) → LanesLaw c }
+{}
+
+/// What is simulated of a circuit whose statements stand in another order is true of the circuit,
+/// with each signal by its other number ([`fault_model::laws::reordering`]): readers, observers and
+/// stems, the gates that a fault makes active, and which tests detect a signal turned round.
+pub fn reordering()
+    ensures readers { (c d : List Statement) → IsWellFormed c → IsReordered c d
+        → HasSameReaders c d }
+    ensures stems { (c d : List Statement) → IsWellFormed c → IsReordered c d
+        → HasSameStems c d }
+    ensures active { (c d : List Statement) → IsWellFormed c → IsReordered c d
+        → HasSameActive c d }
+    ensures flips { (c d : List Statement) → IsWellFormed c → IsReordered c d
+        → HasSameFlips c d }
 {}

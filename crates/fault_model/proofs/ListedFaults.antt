@@ -12,7 +12,7 @@ use Rattle.bench_net.specs.Statement.{Name, Statement, Gate}
 use Rattle.bench_net.specs.Scan.{names, signal, name_of, sinks, gate_line}
 use Rattle.bench_net.specs.Circuit.{IsWellFormed}
 use Rattle.lists.proofs.Members.{Among, among, contained, among_append, among_left, among_joined}
-use Rattle.lists.proofs.Members.{joined_from}
+use Rattle.lists.proofs.Members.{among_right, joined_from}
 use Rattle.std.proofs.lemmas.Bool.{and_parts}
 use Rattle.bench_net.proofs.Public.{name_of-signal, signal-name_of}
 use Rattle.fault_model.proofs.SignalsDefined.{definition-signal, defined_among}
@@ -141,6 +141,18 @@ stem_listed m c s n b e =
     (among_numbered (names c) s n e) (among_left (both m (line.Stem s))
     (flat_map (λ k. both m (branch k)) (branches c n)) (fault_on m (line.Stem s) b)
     (stem_both m (line.Stem s) b)))
+
+-- and so is each fault on a branch
+pub branch_listed : (m : Model) (c : List Statement) (s : ℕ) (n : Name) (k : Sink) (b : Bool)
+    → name_of c s ≡ Some n → Among k (branches c n)
+    → Contains (faults m c) (fault_on m (branch k) b)
+branch_listed m c s n k b e a =
+    let there = among_joined (λ j. both m (branch j)) (branches c n) k (fault_on m (branch k) b) a
+    (stem_both m (branch k) b) in
+    contained (faults m c) (fault_on m (branch k) b)
+    (among_joined (faults_of m c) (enumerate_from 0 (names c)) (s, n) (fault_on m (branch k) b)
+    (among_numbered (names c) s n e) (among_right (both m (line.Stem s))
+    (flat_map (λ j. both m (branch j)) (branches c n)) (fault_on m (branch k) b) there))
 
 -- the one reader of a line is a gate pin that reads the name: the line is the name's stem, or the
 -- pin's branch

@@ -21,8 +21,11 @@ pub use Rattle.fault_model.proofs.SignalsOnce.{data_reads, out_reads}
 pub use Rattle.fault_model.proofs.SignalsSinks.{pin_among, pin_reads}
 pub use Rattle.fault_model.proofs.OneSolution.{Driven, agree, driven, pins_agree}
 pub use Rattle.fault_model.proofs.ReorderedNames.{circuit_reordered, well_reordered}
-pub use Rattle.fault_model.proofs.ReorderedSignals.{named_to, same_signals, same_sources}
-pub use Rattle.fault_model.proofs.ReorderedSignals.{same_definition}
+pub use Rattle.fault_model.proofs.ReorderedSignals.{named_back, named_to, same_definition}
+pub use Rattle.fault_model.proofs.ReorderedSignals.{same_signals, same_sources, stands_back}
+pub use Rattle.fault_model.proofs.ReorderedSignals.{stands_there}
+pub use Rattle.fault_model.proofs.ReorderedSinks.{same_sinks}
 pub use Rattle.fault_model.proofs.ReorderedSolutions.{detected_same, detected_same_at, same_bits}
-pub use Rattle.fault_model.proofs.ReorderedSolutions.{looks_back_same, solved_same}
-pub use Rattle.fault_model.proofs.StatementOrders.{ordered_by_level}
+pub use Rattle.fault_model.proofs.ReorderedSolutions.{looks_back_same, solved_same, under_moved}
+pub use Rattle.fault_model.proofs.SpannedNumbers.{Spans, span_within}
+pub use Rattle.fault_model.proofs.StatementOrders.{one_level_order, ordered_by_level}

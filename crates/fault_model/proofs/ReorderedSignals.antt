@@ -11,7 +11,7 @@ use Rattle.bench_net.specs.Scan.{names, name_of, signal, definition, gate_of, ga
 use Rattle.bench_net.specs.Circuit.{IsWellFormed}
 use Rattle.bench_net.specs.Level.{AreLevels, HasLevel}
 use Rattle.lists.proofs.Members.{Among, contained}
-use Rattle.lists.proofs.Places.{at_place, place_within}
+use Rattle.lists.proofs.Places.{at_place, place_within, within_place}
 use Rattle.bench_net.proofs.Public.{name_of-signal, signal-name_of, definition_defines, read_named}
 use Rattle.fault_model.proofs.SignalsDefined.{definition-signal, signal_apart}
 use Rattle.fault_model.proofs.ReorderedNames.{well_reordered, length_reordered, given_reordered}
@@ -21,11 +21,11 @@ module _ (c d : List Statement) (well : IsWellFormed c) (is : IsReordered c d) w
   pub well_there : IsWellFormed d
   well_there = well_reordered c d is.statements well
 
-  pub to : (st : Statement) → Contains c st → Contains d st
-  to st at = Contains-permutation c d st is.statements at
+  pub stands_there : (st : Statement) → Contains c st → Contains d st
+  stands_there st at = Contains-permutation c d st is.statements at
 
-  pub back : (st : Statement) → Contains d st → Contains c st
-  back st at = Contains-permutation d c st (IsPermutation-sym c d is.statements) at
+  pub stands_back : (st : Statement) → Contains d st → Contains c st
+  stands_back st at = Contains-permutation d c st (IsPermutation-sym c d is.statements) at
 
   pub same_sources : sources d ≡ sources c
   same_sources = cc (is.same_inputs, is.same_cells)
@@ -98,6 +98,23 @@ module _ (c d : List Statement) (well : IsWellFormed c) (is : IsReordered c d) w
   numbered n at =
       sym (ap (λ o. option_map_or (signal d) o (signal c n)) (name_of-signal c n at))
 
+  pub named_back : (n : Name) → Contains (names d) n → Contains (names c) n
+  named_back n at =
+      given_reordered defined d c n (IsPermutation-sym c d is.statements) at
+
+  -- each number of a signal in the second list is one that moved there
+  pub onto : (s : ℕ) → s < length (names d)
+      → (t : ℕ) × (t < length (names c)) × (s ≡ place c d t)
+  onto s lt =
+      let at = within_place (names d) s lt in
+      let there = contained (names d) at.0 (at_place (names d) s at.0 at.1) in
+      let here = named_back at.0 there in
+      let own = name_of-signal c at.0 here in (
+        signal c at.0,
+        place_within (names c) (signal c at.0) at.0 own,
+        sym (signal-name_of d s at.0 well_there.once at.1 there) ∙ numbered at.0 here,
+      )
+
   -- ---- what defines a signal
 
   pub same_definition : (s : ℕ) → definition d (place c d s) ≡ definition c s
@@ -111,11 +128,11 @@ module _ (c d : List Statement) (well : IsWellFormed c) (is : IsReordered c d) w
           let there : place c d s ≡ signal d by.0 =
           ap (λ o. option_map_or (signal d) o s) by.2 in
           ap (definition d) there
-          ∙ (definition-signal d st by.0 well_there (to st stands) by.1 ∙ sym e)
+          ∙ (definition-signal d st by.0 well_there (stands_there st stands) by.1 ∙ sym e)
       go None None e g = g ∙ sym e
       go None (Some st) e g =
           let by = definition_defines d (place c d s) st g in
-          let stands = back st (contained d st by.3) in
+          let stands = stands_back st (contained d st by.3) in
           let named : name_of c s ≡ Some by.0 = sym (same_name s) ∙ by.2 in
           let at : Contains (names c) by.0 =
           contained (names c) by.0 (at_place (names c) s by.0 named) in
@@ -153,13 +170,13 @@ module _ (c d : List Statement) (well : IsWellFormed c) (is : IsReordered c d) w
   levels_to : (level : Name → ℕ) → AreLevels c level → AreLevels d level
   levels_to level are = record {
     source = λ n at. are.source n (subst (λ ns. Contains ns n) same_sources at);
-    gate = λ n kind args at. are.gate n kind args (back (Gate n kind args) at);
+    gate = λ n kind args at. are.gate n kind args (stands_back (Gate n kind args) at);
   }
 
   levels_back : (level : Name → ℕ) → AreLevels d level → AreLevels c level
   levels_back level are = record {
     source = λ n at. are.source n (subst (λ ns. Contains ns n) (sym same_sources) at);
-    gate = λ n kind args at. are.gate n kind args (to (Gate n kind args) at);
+    gate = λ n kind args at. are.gate n kind args (stands_there (Gate n kind args) at);
   }
 
   same_level : (s level : ℕ) → HasLevel c s level ↔ HasLevel d (place c d s) level
@@ -172,6 +189,7 @@ module _ (c d : List Statement) (well : IsWellFormed c) (is : IsReordered c d) w
   same_signals = record {
     count = count;
     apart = apart;
+    onto = onto;
     named = same_name;
     numbered = numbered;
     gates = same_gate;

@@ -24,7 +24,7 @@ use Rattle.fault_model.specs.Detection.{carried, argument, IsInitialized, LooksB
 use Rattle.fault_model.specs.Reordered.{IsReordered, place, moved_line, moved}
 use Rattle.fault_model.specs.Reordered.{IsSolvedSame, IsDetectedSame, HasSameBits, IsDetectedSameAt}
 use Rattle.fault_model.proofs.ReorderedSignals.{apart, numbered, same_name, same_definition}
-use Rattle.fault_model.proofs.ReorderedSignals.{same_sources, to, back}
+use Rattle.fault_model.proofs.ReorderedSignals.{same_sources, stands_there, stands_back}
 
 -- two numbers are the same exactly where what they move to is
 same_test : (f : ℕ → ℕ) → ((s t : ℕ) → f s ≡ f t → s ≡ t) → (s t : ℕ)
@@ -45,7 +45,7 @@ module _ (c d : List Statement) (well : IsWellFormed c) (is : IsReordered c d) w
   same_moved (line.Out i) (line.Out j) = refl
   same_moved _ _ = refl
 
-  under_moved : (f : Option Fault) (l : Line) (bit : Bool)
+  pub under_moved : (f : Option Fault) (l : Line) (bit : Bool)
       → under (option_map (moved c d) f) (moved_line c d l) bit ≡ under f l bit
   under_moved None l bit = refl
   under_moved (Some f) l bit = ap (λ b. if b then f.stuck else bit) (same_moved f.line l)
@@ -99,7 +99,7 @@ module _ (c d : List Statement) (well : IsWellFormed c) (is : IsReordered c d) w
           p.source i n here
           ∙ sym (stem_moved f n (slice_index_or t i false) (source_known i n here));
       gate = λ n kind args at.
-          let here = back c d well is (Gate n kind args) at in
+          let here = stands_back c d well is (Gate n kind args) at in
           p.gate n kind args here ∙ sym (gate_moved f v n kind args (gate_known n kind args here));
     },
     λ p. record {
@@ -107,7 +107,7 @@ module _ (c d : List Statement) (well : IsWellFormed c) (is : IsReordered c d) w
           p.source i n (ap (λ ns. slice_get ns i) (same_sources c d well is) ∙ e)
           ∙ stem_moved f n (slice_index_or t i false) (source_known i n e);
       gate = λ n kind args at.
-          p.gate n kind args (to c d well is (Gate n kind args) at)
+          p.gate n kind args (stands_there c d well is (Gate n kind args) at)
           ∙ gate_moved f v n kind args (gate_known n kind args at);
     },
   )

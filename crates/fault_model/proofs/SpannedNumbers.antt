@@ -8,8 +8,9 @@ use Rattle.std.specs.List.{filter_map}
 use Rattle.std.proofs.lemmas.List.{map-append}
 use Rattle.std.proofs.lemmas.List.Sorted.{IsPermutation-refl, IsPermutation-trans}
 use Rattle.std.proofs.lemmas.List.Sorted.{IsPermutation-sym, IsPermutation-cons}
+use Rattle.std.proofs.lemmas.List.Sorted.{Contains-permutation}
 use Rattle.std.proofs.lemmas.List.Sorted.{IsPermutation-to_front, IsPermutation-middle}
-use Rattle.lists.proofs.Members.{Among, contained, among_append, among_left, among_right}
+use Rattle.lists.proofs.Members.{Among, among, contained, among_append, among_left, among_right}
 use Rattle.lists.proofs.Members.{among_filter, filtered_from, mapped_from}
 
 -- an element stands between two lists
@@ -79,6 +80,13 @@ spans_permuted (suc n) xs h = go (spans_permuted n) (split_at xs n (h.each n (om
         subst (λ ys. IsPermutation ys xs) (sym (below_more n))
         (subst (IsPermutation (below n ++ n ∷ [])) (sym p.2) all)
 
+-- so such a list has no other number
+pub span_within : (n : ℕ) (xs : List ℕ) → Spans n xs → (s : ℕ) → Among s xs → s < n
+span_within n xs h s a =
+    let back = IsPermutation-sym (below n) xs (spans_permuted n xs h) in
+    below_within n s
+    (among (below n) s (Contains-permutation xs (below n) s back (contained xs s a)))
+
 -- ---- ascending lists
 
 -- each element stands in the relation to all after it
@@ -135,37 +143,42 @@ below_ascending (suc n) = (first, shifted (below n) (below_ascending n))
             let e : suc p.0 ≡ y = p.2 in
             omega (arith, e, lt)
 
-pub same_ascending : (xs ys : List ℕ) → Ascending xs → Ascending ys
-    → ((s : ℕ) → Among s xs → Among s ys) → ((s : ℕ) → Among s ys → Among s xs) → xs ≡ ys
-same_ascending [] [] up also into from = refl
-same_ascending [] (y ∷ ys) up also into from = absurd (from y (inl refl))
-same_ascending (x ∷ xs) [] up also into from = absurd (into x (inl refl))
-same_ascending (x ∷ xs) (y ∷ ys) up also into from =
+-- two lists with the same elements are the same where both go by a relation that no two elements
+-- stand in both ways
+pub same_ordered : {X : Type 0} (R : X → X → Type 0) → ((x y : X) → R x y → R y x → ⊥)
+    → (xs ys : List X) → Pairwise R xs → Pairwise R ys → ((x : X) → Among x xs → Among x ys)
+    → ((x : X) → Among x ys → Among x xs) → xs ≡ ys
+same_ordered R one_way [] [] up also into from = refl
+same_ordered R one_way [] (y ∷ ys) up also into from = absurd (from y (inl refl))
+same_ordered R one_way (x ∷ xs) [] up also into from = absurd (into x (inl refl))
+same_ordered {X} R one_way (x ∷ xs) (y ∷ ys) up also into from =
     let heads : x ≡ y = first (into x (inl refl)) (from y (inl refl)) in
-    let tails : xs ≡ ys = same_ascending xs ys up.1 also.1 (rest_into heads) (rest_from heads) in
+    let tails : xs ≡ ys =
+    same_ordered R one_way xs ys up.1 also.1 (rest_into heads) (rest_from heads) in
     cc
   where
     first : Among x (y ∷ ys) → Among y (x ∷ xs) → x ≡ y
     first (inl e) b = sym e
     first (inr a) (inl e) = e
-    first (inr a) (inr b) =
-        let one = also.0 x a in
-        let two = up.0 y b in
-        absurd (omega (arith, one, two))
+    first (inr a) (inr b) = absurd (one_way y x (also.0 x a) (up.0 y b))
 
-    rest_into : x ≡ y → (s : ℕ) → Among s xs → Among s ys
-    rest_into e s a = go (into s (inr a))
+    rest_into : x ≡ y → (z : X) → Among z xs → Among z ys
+    rest_into e z a = go (into z (inr a))
       where
-        go : Among s (y ∷ ys) → Among s ys
-        go (inl h) = let lt = up.0 s a in absurd (omega (arith, lt, e, h))
+        go : Among z (y ∷ ys) → Among z ys
         go (inr b) = b
+        go (inl h) =
+            let own : R x x = subst (R x) (sym h ∙ sym e) (up.0 z a) in
+            absurd (one_way x x own own)
 
-    rest_from : x ≡ y → (s : ℕ) → Among s ys → Among s xs
-    rest_from e s a = go (from s (inr a))
+    rest_from : x ≡ y → (z : X) → Among z ys → Among z xs
+    rest_from e z a = go (from z (inr a))
       where
-        go : Among s (x ∷ xs) → Among s xs
-        go (inl h) = let lt = also.0 s a in absurd (omega (arith, lt, e, h))
+        go : Among z (x ∷ xs) → Among z xs
         go (inr b) = b
+        go (inl h) =
+            let own : R y y = subst (R y) (sym h ∙ e) (also.0 z a) in
+            absurd (one_way y y own own)
 
 -- ---- what is kept of such lists
 
@@ -196,7 +209,8 @@ kept_same {Y} h n xs into from up =
   where
     lists : filter (λ s. is_some (h s)) xs ≡ filter (λ s. is_some (h s)) (below n)
     lists =
-        same_ascending (filter (λ s. is_some (h s)) xs) (filter (λ s. is_some (h s)) (below n)) up
+        same_ordered (λ s t. s < t) (λ s t lt more. omega (arith, lt, more))
+        (filter (λ s. is_some (h s)) xs) (filter (λ s. is_some (h s)) (below n)) up
         (pairwise_filter (λ s t. s < t) (λ s t. s < t) (λ s. is_some (h s)) (below n)
         (λ x y a b lt. lt) (below_ascending n))
         (λ s a. let p = filtered_from (λ t. is_some (h t)) xs s a in

@@ -25,7 +25,8 @@ use Rattle.bench_net.proofs.Public.{definition_defines, signal-name_of}
 use Rattle.fault_model.specs.Reordered.{IsReordered, place, in_order, IsOrderedByLevel}
 use Rattle.fault_model.proofs.SpannedNumbers.{Spans, below, below_within, spans_permuted}
 use Rattle.fault_model.proofs.SpannedNumbers.{Ascending, pairwise, pairwise_filter, kept_all}
-use Rattle.fault_model.proofs.SpannedNumbers.{kept_same}
+use Rattle.fault_model.proofs.SpannedNumbers.{kept_same, same_ordered, span_within}
+use Rattle.fault_model.proofs.NextFaultLevels.{one_level}
 use Rattle.fault_model.proofs.ReorderedNames.{well_reordered}
 
 -- ---- lists of statements
@@ -176,7 +177,7 @@ module _ (c : List Statement) (order : List ℕ) (is : IsLevelOrder c order) whe
       (contained order s a))
 
   within : (s : ℕ) → Among s order → s < length defining
-  within s a = below_within (length defining) s (into_below s a)
+  within = span_within (length defining) order spans
 
   -- ---- the statements are those of the circuit
 
@@ -351,3 +352,35 @@ module _ (c : List Statement) (order : List ℕ) (is : IsLevelOrder c order) whe
           let there = contained (names d) at.0 (at_place (names d) i at.0 named) in
           ap (λ o. option_map_or (signal d) o s) at.1
           ∙ signal-name_of d i at.0 (well_reordered c d all_statements well).once named there
+
+-- ---- there is one level order
+
+module _ (c : List Statement) (well : IsWellFormed c) where
+  one_level_of : (s j k : ℕ) → HasLevel c s j → HasLevel c s k → j ≡ k
+  one_level_of s j k p q =
+      let same : q.1 ≡ p.1 = ap (λ o. unwrap_or o p.1) (sym q.3 ∙ p.3) in
+      sym p.4
+      ∙ (one_level c well p.0 q.0 p.2 q.2 p.1 (at_place (names c) s p.1 p.3)
+      ∙ (ap q.0 (sym same) ∙ q.4))
+
+  one_way : (s t : ℕ) → GoesBefore c s t → GoesBefore c t s → ⊥
+  one_way s t p q = go p.4 q.4
+    where
+      first : p.0 ≡ q.1
+      first = one_level_of s p.0 q.1 p.2 q.3
+
+      second : p.1 ≡ q.0
+      second = one_level_of t p.1 q.0 p.3 q.2
+
+      go : (p.0 < p.1) ⊎ ((p.0 ≡ p.1) × (s < t)) → (q.0 < q.1) ⊎ ((q.0 ≡ q.1) × (t < s)) → ⊥
+      go (inl lt) (inl more) = omega (arith, lt, more, first, second)
+      go (inl lt) (inr e) = let same = e.0 in omega (arith, lt, same, first, second)
+      go (inr e) (inl lt) = let same = e.0 in omega (arith, lt, same, first, second)
+      go (inr e) (inr g) = let lt = e.1 in let more = g.1 in omega (arith, lt, more)
+
+  pub one_level_order : (a b : List ℕ) → IsLevelOrder c a → IsLevelOrder c b → a ≡ b
+  one_level_order a b p q =
+      same_ordered (GoesBefore c) one_way a b (pairwise (GoesBefore c) a p.ordered)
+      (pairwise (GoesBefore c) b q.ordered)
+      (λ s at. among b s (q.all s (subst (λ n. s < n) (defining_count c) (within c a p s at))))
+      (λ s at. among a s (p.all s (subst (λ n. s < n) (defining_count c) (within c b q s at))))

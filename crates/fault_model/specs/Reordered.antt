@@ -1,18 +1,23 @@
 -- A circuit whose statements stand in another order: the same signals by other numbers, and so the
 -- same faults on other lines.
-use Rattle.std.specs.Prelude.{◌≡◌, ◌↔◌, ℕ, Bool, not, List, ◌++◌, map, filter, length, Contains}
-use Rattle.std.specs.Prelude.{IsPermutation, Option, Some, option_map, slice_get}
+use Rattle.std.specs.Prelude.{◌≡◌, ◌↔◌, ◌<◌, ℕ, Bool, not, List, ◌++◌, map, filter, length}
+use Rattle.std.specs.Prelude.{Contains, IsPermutation, Option, Some, option_map, slice_get}
 use Rattle.std.specs.List.{filter_map}
 use Rattle.std.specs.Option.{option_map_or}
 use Rattle.bench_net.specs.declared.Kind.{Kind}
+use Rattle.bench_net.specs.declared.Sink.{Sink}
+use Rattle.bench_net.specs.declared.Sink.TheVariants as sink
 use Rattle.bench_net.specs.Statement.{Name, Statement, defines}
 use Rattle.bench_net.specs.Scan.{names, name_of, signal, definition, gate_of, inputs, outputs}
-use Rattle.bench_net.specs.Scan.{cells}
+use Rattle.bench_net.specs.Scan.{cells, sinks}
 use Rattle.bench_net.specs.Level.{HasLevel}
 use Rattle.fault_model.specs.declared.Line.{Line}
 use Rattle.fault_model.specs.declared.Line.TheVariants as line
-use Rattle.fault_model.specs.Fault.{Fault}
+use Rattle.fault_model.specs.declared.Model.{Model}
+use Rattle.fault_model.specs.Fault.{Fault, faults}
 use Rattle.fault_model.specs.Solution.{Test, Solves, Detects}
+use Rattle.fault_model.specs.Collapse.{readers}
+use Rattle.fault_model.specs.Known.{only_gate}
 use Rattle.fault_model.specs.Detection.{HasBit, DetectsAt}
 
 -- The second list has the statements of the first in another order, in which inputs, outputs and
@@ -46,10 +51,29 @@ moved_gate c d gate = (gate.0, map (place c d) gate.1)
 pub record HasSameSignals (c d : List Statement) : Type 0 where
   pub count : length (names d) ≡ length (names c)
   pub apart : (s t : ℕ) → place c d s ≡ place c d t → s ≡ t
+  pub onto : (s : ℕ) → s < length (names d) → (t : ℕ) × (t < length (names c)) × (s ≡ place c d t)
   pub named : (s : ℕ) → name_of d (place c d s) ≡ name_of c s
   pub numbered : (n : Name) → Contains (names c) n → signal d n ≡ place c d (signal c n)
   pub gates : (s : ℕ) → gate_of d (place c d s) ≡ option_map (moved_gate c d) (gate_of c s)
   pub levels : (s level : ℕ) → HasLevel c s level ↔ HasLevel d (place c d s) level
+
+-- a sink in the second list
+abbrev pub moved_sink : List Statement → List Statement → Sink → Sink
+moved_sink c d (sink.Pin gate pin) = sink.Pin (place c d gate) pin
+moved_sink c d (sink.Data cell) = sink.Data cell
+moved_sink c d (sink.Out output) = sink.Out output
+
+-- Each name has the same sinks, be it in another order; a line that a gate's pin alone reads is one
+-- in both lists, and a fault of one list is a fault of the other.
+pub record HasSameSinks (c d : List Statement) : Type 0 where
+  pub count : (n : Name) → length (sinks d n) ≡ length (sinks c n)
+  pub to : (n : Name) (k : Sink) → Contains (sinks c n) k → Contains (sinks d n) (moved_sink c d k)
+  pub back : (n : Name) (k : Sink) → Contains (sinks d n) k
+      → (j : Sink) × Contains (sinks c n) j × (k ≡ moved_sink c d j)
+  pub alone : (l : Line)
+      → only_gate (readers d (moved_line c d l)) ≡ option_map (place c d) (only_gate (readers c l))
+  pub listed : (m : Model) (f : Fault) → Contains (faults m c) f
+      → Contains (faults m d) (moved c d f)
 
 -- the same valuations solve
 abbrev pub IsSolvedSame : List Statement → List Statement → Type 0

@@ -3,7 +3,7 @@
 //! A law is a function without a body. Its clause is the law, and a proof names the function to use
 //! it.
 
-ghost use Rattle.std.specs.Prelude.{◌<◌, ℕ, Bool, List, Contains, length};
+ghost use Rattle.std.specs.Prelude.{◌≡◌, ◌<◌, ℕ, Bool, List, Contains, length};
 ghost use Rattle.bench_net.specs.Statement.{Statement};
 ghost use Rattle.bench_net.specs.Scan.{names};
 ghost use Rattle.bench_net.specs.Circuit.{IsWellFormed, HaveArities, IsCircuit};
@@ -16,9 +16,9 @@ ghost use Rattle.fault_model.specs.Detection.{ClassesDetectedSame, DetectedAsRep
 ghost use Rattle.fault_model.specs.Laws.{HasSolutions, HasOneSolution, HasRepresentatives};
 ghost use Rattle.fault_model.specs.Laws.{HasClasses, ClassesDetectSame, RepresentativesDetectSame};
 ghost use Rattle.fault_model.specs.Laws.{DetectionIsOfAnySolution};
-ghost use Rattle.fault_model.specs.Reordered.{IsReordered, HasSameSignals, IsSolvedSame};
-ghost use Rattle.fault_model.specs.Reordered.{IsDetectedSame, HasSameBits, IsDetectedSameAt};
-ghost use Rattle.fault_model.specs.Reordered.{IsOrderedByLevel};
+ghost use Rattle.fault_model.specs.Reordered.{IsReordered, HasSameSignals, HasSameSinks};
+ghost use Rattle.fault_model.specs.Reordered.{IsSolvedSame, IsDetectedSame, HasSameBits};
+ghost use Rattle.fault_model.specs.Reordered.{IsDetectedSameAt, IsOrderedByLevel};
 
 /// A circuit without cycles has exactly one solution under each test, without a fault and under
 /// each single stuck-at fault.
@@ -65,11 +65,13 @@ pub fn detection()
 /// A circuit whose statements stand in another order has the same signals by other numbers: the
 /// same valuations solve it, and the same tests detect a fault on the line that its line moves to.
 /// So a simulator may number signals as it likes. In level order a signal's number is its place in
-/// the order.
+/// the order, and a circuit has one level order.
 pub fn reordering()
     ensures circuit { (c d : List Statement) → IsReordered c d → IsCircuit c → IsCircuit d }
     ensures signals { (c d : List Statement) → IsWellFormed c → IsReordered c d
         → HasSameSignals c d }
+    ensures sinks { (c d : List Statement) → IsWellFormed c → IsReordered c d
+        → HasSameSinks c d }
     ensures solved_same { (c d : List Statement) → IsWellFormed c → IsReordered c d
         → IsSolvedSame c d }
     ensures detected_same { (c d : List Statement) → IsWellFormed c → IsReordered c d
@@ -80,4 +82,6 @@ pub fn reordering()
         → IsDetectedSameAt c d }
     ensures by_level { (c : List Statement) (order : List ℕ) → IsWellFormed c
         → IsLevelOrder c order → IsOrderedByLevel c order }
+    ensures one_order { (c : List Statement) (order other : List ℕ) → IsWellFormed c
+        → IsLevelOrder c order → IsLevelOrder c other → order ≡ other }
 {}

@@ -1,0 +1,52 @@
+-- What a simulation asks of a circuit whose statements stand in another order.
+use Rattle.std.specs.Prelude.{◌≡◌, ◌↔◌, ℕ, List, map, Contains, option_map}
+use Rattle.bench_net.specs.Statement.{Statement}
+use Rattle.fault_model.specs.declared.Line.{Line}
+use Rattle.fault_model.specs.declared.Model.{Model}
+use Rattle.fault_model.specs.Fault.{Fault, faults}
+use Rattle.fault_model.specs.Solution.{Test}
+use Rattle.fault_model.specs.Reordered.{place, moved_line, moved}
+use Rattle.block_sim.specs.ActiveGates.{HasActive, HasActiveIn}
+use Rattle.block_sim.specs.Events.{Reads, IsObserved, IsLive}
+use Rattle.block_sim.specs.Regions.{lone_reader, IsStemOf, IsStemOfLine, DetectsFlip, HasCome}
+use Rattle.block_sim.specs.Regions.{TellsFirstFlips}
+use Rattle.block_sim.specs.Ways.{IsWayOfLine, HasActiveByFlip}
+use Rattle.block_sim.specs.declared.span.Span.{Span}
+
+-- the same gates read a signal, observers observe it, and it is live in both or in none
+pub record HasSameReaders (c d : List Statement) : Type 0 where
+  pub reads : (g s : ℕ) → Reads c g s → Reads d (place c d g) (place c d s)
+  pub reads_back : (g s : ℕ) → Reads d g (place c d s) → (h : ℕ) × (g ≡ place c d h) × Reads c h s
+  pub observed : (s : ℕ) → IsObserved c s ↔ IsObserved d (place c d s)
+  pub live : (s : ℕ) → IsLive c s ↔ IsLive d (place c d s)
+  pub lone : (s : ℕ) → lone_reader d (place c d s) ≡ option_map (place c d) (lone_reader c s)
+
+-- a signal's region has the same stem, and so has the region of a fault of the list, and it takes
+-- as many gates to go there
+pub record HasSameStems (c d : List Statement) : Type 0 where
+  pub of_signal : (r s : ℕ) → IsStemOf c r s ↔ IsStemOf d (place c d r) (place c d s)
+  pub of_line : (m : Model) (f : Fault) (r : ℕ) → Contains (faults m c) f
+      → IsStemOfLine c r f.line ↔ IsStemOfLine d (place c d r) (moved_line c d f.line)
+  pub way : (l : Line) (n : ℕ) → IsWayOfLine c l n → IsWayOfLine d (moved_line c d l) n
+
+-- a list that names each gate that a fault makes active names them where they moved
+pub record HasSameActive (c d : List Statement) : Type 0 where
+  pub on_block : (tests : List Test) (block : ℕ) (f : Fault) (gates : List ℕ)
+      → HasActive c tests block f gates
+      → HasActive d tests block (moved c d f) (map (place c d) gates)
+  pub in_lanes : (tests : List Test) (group lanes : ℕ) (f : ℕ → Fault) (gates : List ℕ)
+      → HasActiveIn c tests group lanes f gates
+      → HasActiveIn d tests group lanes (λ k. moved c d (f k)) (map (place c d) gates)
+  pub by_flip : (tests : List Test) (span : Span) (s : ℕ) (gates : List ℕ)
+      → HasActiveByFlip c tests span s gates
+      → HasActiveByFlip d tests span (place c d s) (map (place c d) gates)
+
+-- the same tests detect a signal turned round, and the same is told of faults that come to it
+pub record HasSameFlips (c d : List Statement) : Type 0 where
+  pub detected : (t : Test) (s : ℕ) → DetectsFlip c t s ↔ DetectsFlip d t (place c d s)
+  pub come : (tests : List Test) (group : ℕ) (f : Fault) (mask s word : ℕ)
+      → HasCome c tests group f mask s word
+      ↔ HasCome d tests group (moved c d f) mask (place c d s) word
+  pub told : (tests : List Test) (group mask s word : ℕ)
+      → TellsFirstFlips c tests group mask s word
+      ↔ TellsFirstFlips d tests group mask (place c d s) word
