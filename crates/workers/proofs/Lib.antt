@@ -1,16 +1,16 @@
-pub mod Closing
-pub mod Truth
-pub mod Moves
-pub mod Turns
-pub mod Works
-pub mod Reports
-pub mod Crew
-pub mod Finish
-pub mod Partition
-pub mod Ranking
-pub mod Solo
-pub mod Taking
-pub mod Joined
-pub mod Collected
-pub mod PartFaults
+mod SettledLedgers
+mod TrueOutcomes
+mod ScheduleMoves
+mod MoveLists
+mod SeatCalls
+mod TrueReports
+mod ThreadHandles
+mod ClosedLedgers
+mod PartsOfClasses
+mod ClassRanks
+mod LoneWorkers
+mod TakenParts
+mod RunsOfParts
+mod ReturnsByPart
+mod PartRefusals
 pub mod Public

@@ -1,7 +1,7 @@
 use Rattle.std.proofs.Common.{◌+◌, length, arith, subst, refl, sym, ap, ◌∙◌}
 use Rattle.patterns.specs.Tests.{TestList, blocks}
 use Rattle.workers.specs.Alone.{IsLowest, IsOpenBelow}
-use Rattle.workers.proofs.Solo.{open_hit, open_more, open_past}
+use Rattle.workers.proofs.LoneWorkers.{open_hit, open_more, open_past}
 use Rattle.workers.proofs.alone.lowest_open.Goals as goal
 
 pub first_at-requires : goal.first_at-requires

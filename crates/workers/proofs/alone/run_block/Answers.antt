@@ -1,6 +1,7 @@
 use Rattle.std.proofs.Common.{arith, refl}
-use Rattle.workers.proofs.Solo.{found_block, found_clear, found_hit, found_known, undetected_here}
-use Rattle.workers.proofs.Solo.{listed_class}
+use Rattle.workers.proofs.LoneWorkers.{found_block, found_clear, found_hit, found_known}
+use Rattle.workers.proofs.LoneWorkers.{undetected_here}
+use Rattle.workers.proofs.LoneWorkers.{listed_class}
 use Rattle.workers.proofs.alone.run_block.Goals as goal
 
 pub first_at-requires : goal.first_at-requires

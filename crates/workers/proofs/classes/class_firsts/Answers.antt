@@ -4,7 +4,7 @@ use Rattle.std.specs.Prelude.{Option}
 use Rattle.patterns.specs.Least.{below}
 use Rattle.fault_ledger.specs.Settled.{status}
 use Rattle.workers.specs.Verdict.{settled_at}
-use Rattle.workers.proofs.Turns.{below_last}
+use Rattle.workers.proofs.MoveLists.{below_last}
 use Rattle.workers.proofs.classes.class_firsts.Goals as goal
 
 pub unreachable-requires : goal.unreachable-requires

@@ -5,8 +5,8 @@ use Rattle.fault_ledger.specs.Settled.{status}
 use Rattle.workers.specs.Chosen.{AreChosenOf, listed}
 use Rattle.workers.specs.Verdict.{settled_at}
 use Rattle.workers.specs.Work.{HasRun}
-use Rattle.workers.proofs.Closing.{finished_settled}
-use Rattle.workers.proofs.Finish.{run_class_firsts}
+use Rattle.workers.proofs.SettledLedgers.{finished_settled}
+use Rattle.workers.proofs.ClosedLedgers.{run_class_firsts}
 use Rattle.workers.proofs.classes.run_listed.Goals as goal
 
 pub class_firsts-requires-clause-settled : goal.class_firsts-requires-clause-settled

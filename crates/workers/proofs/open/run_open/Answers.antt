@@ -1,4 +1,4 @@
-use Rattle.workers.proofs.PartFaults.{parts_fault}
+use Rattle.workers.proofs.PartRefusals.{parts_fault}
 use Rattle.workers.proofs.open.run_open.Goals as goal
 
 pub returns-in-Err-clause-refused : goal.returns-in-Err-clause-refused

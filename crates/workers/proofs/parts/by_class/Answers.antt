@@ -1,4 +1,4 @@
-use Rattle.workers.proofs.Partition.{verdict_none}
+use Rattle.workers.proofs.PartsOfClasses.{verdict_none}
 use Rattle.workers.proofs.parts.by_class.Goals as goal
 
 pub loop-place-init : goal.loop-place-init

@@ -3,7 +3,7 @@ use Rattle.std.proofs.lemmas.Result.{err_from_is_err_and}
 use Rattle.patterns.specs.Tests.{blocks, max_pieces}
 use Rattle.workers.specs.Part.{ArePartOf}
 use Rattle.workers.specs.Refused.{HasLargePart, IsPartWithin}
-use Rattle.workers.proofs.Partition.{part_few, part_list, start_le, start_within}
+use Rattle.workers.proofs.PartsOfClasses.{part_few, part_list, start_le, start_within}
 use Rattle.workers.proofs.parts.check_parts.Goals as goal
 
 pub between-own-requires-clause-order : goal.between-own-requires-clause-order

@@ -3,7 +3,7 @@ use Rattle.std.specs.Prelude.{slice_get, Option}
 use Rattle.fault_model.specs.Collapse.{Collapsed}
 use Rattle.workers.specs.declared.parts.PartVerdict.TheVariants.{OtherPart}
 use Rattle.workers.specs.Part.{first_in}
-use Rattle.workers.proofs.Truth.{take_more}
+use Rattle.workers.proofs.TrueOutcomes.{take_more}
 use Rattle.workers.proofs.parts.firsts_of_faults.Goals as goal
 
 pub loop-fault-preserved : goal.loop-fault-preserved

@@ -1,4 +1,4 @@
-use Rattle.workers.proofs.Collected.{found_by_part}
+use Rattle.workers.proofs.ReturnsByPart.{found_by_part}
 use Rattle.workers.proofs.parts.gather.Goals as goal
 
 pub join_parts-requires-clause-found : goal.join_parts-requires-clause-found

@@ -1,4 +1,4 @@
-use Rattle.workers.proofs.Partition.{one_part}
+use Rattle.workers.proofs.PartsOfClasses.{one_part}
 use Rattle.workers.proofs.parts.in_one_part.Goals as goal
 
 pub returns : goal.returns

@@ -2,9 +2,9 @@ use Rattle.std.proofs.Common.{◌≡◌, ◌+◌, ◌∙◌, ◌++◌, ◌∷◌
 use Rattle.std.proofs.Common.{append_assoc, subst, sym}
 use Rattle.std.specs.Prelude.{slice_get}
 use Rattle.std.specs.Vec.Iter.{into_iter_items}
-use Rattle.workers.proofs.Collected.{between_others}
-use Rattle.workers.proofs.Joined.{IsGathered, found_there, gathered_all, gathered_more}
-use Rattle.workers.proofs.Joined.{gathered_none, gathered_waits}
+use Rattle.workers.proofs.ReturnsByPart.{between_others}
+use Rattle.workers.proofs.RunsOfParts.{IsGathered, found_there, gathered_all, gathered_more}
+use Rattle.workers.proofs.RunsOfParts.{gathered_none, gathered_waits}
 use Rattle.workers.proofs.parts.join_parts.Goals as goal
 
 pub loop-place-init : goal.loop-place-init

@@ -1,7 +1,7 @@
 use Rattle.std.proofs.Common.{◌≡◌, ◌+◌, ◌++◌, length}
 use Rattle.std.specs.Vec.Iter.{into_iter_items, into_iter_len}
 use Rattle.block_sim.specs.Simulation.{Serves}
-use Rattle.workers.proofs.Joined.{IsGathered}
+use Rattle.workers.proofs.RunsOfParts.{IsGathered}
 use Rattle.workers.proofs.parts.join_parts.Given as goal
 
 abbrev pub invariant-loop-place : goal.invariant-loop-place

@@ -1,6 +1,6 @@
 use Rattle.std.proofs.Common.{◌∙◌, ◌++◌, ◌∷◌, [], sym, ap, append_assoc}
 use Rattle.std.specs.Vec.Iter.{into_iter_items}
-use Rattle.workers.proofs.Collected.{put_more, put_past}
+use Rattle.workers.proofs.ReturnsByPart.{put_more, put_past}
 use Rattle.workers.proofs.parts.put_by_part.Goals as goal
 
 pub loop-done-preserved-then-part-len : goal.loop-done-preserved-then-part-len

@@ -5,7 +5,7 @@ use Rattle.workers.specs.declared.parts.PartVerdict.{PartVerdict}
 use Rattle.workers.specs.declared.parts.PartVerdict.TheVariants.{OtherPart}
 use Rattle.workers.specs.Part.{AreClassVerdicts, first_in}
 use Rattle.workers.specs.Verdict.{AreBehindHits, AreFirsts, pieces_behind}
-use Rattle.workers.proofs.Partition.{cut_firsts, cut_hits, cut_within}
+use Rattle.workers.proofs.PartsOfClasses.{cut_firsts, cut_hits, cut_within}
 use Rattle.workers.proofs.parts.run_in_parts.Goals as goal
 
 pub by_class-requires-clause-within : goal.by_class-requires-clause-within

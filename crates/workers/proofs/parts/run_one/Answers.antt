@@ -1,4 +1,4 @@
-use Rattle.workers.proofs.Partition.{own_fault, part_within}
+use Rattle.workers.proofs.PartsOfClasses.{own_fault, part_within}
 use Rattle.workers.proofs.parts.run_one.Goals as goal
 
 pub run_listed-requires-clause-classes : goal.run_listed-requires-clause-classes

@@ -4,8 +4,8 @@ use Rattle.fault_model.specs.Collapse.{Collapsed}
 use Rattle.workers.specs.declared.parts.PartVerdict.{PartVerdict}
 use Rattle.workers.specs.declared.parts.PartVerdict.TheVariants.{OtherPart}
 use Rattle.workers.specs.Part.{AreClassVerdicts, ArePartOf}
-use Rattle.workers.proofs.Partition.{part_few, part_list, part_verdicts, part_within, start_le}
-use Rattle.workers.proofs.Partition.{start_within}
+use Rattle.workers.proofs.PartsOfClasses.{part_few, part_list, part_verdicts, part_within, start_le}
+use Rattle.workers.proofs.PartsOfClasses.{start_within}
 use Rattle.workers.proofs.parts.run_part.Goals as goal
 
 pub between-own-requires-clause-order : goal.between-own-requires-clause-order

@@ -1,5 +1,5 @@
 use Rattle.std.proofs.Common.{◌<◌, ◌≤◌, ◌^◌, arith, length}
-use Rattle.workers.proofs.Partition.{behind_room, behind_within, small_product}
+use Rattle.workers.proofs.PartsOfClasses.{behind_room, behind_within, small_product}
 use Rattle.workers.proofs.parts.skipped_behind.Goals as goal
 
 pub overflow_add-skipped : goal.overflow_add-skipped

@@ -1,7 +1,7 @@
 use Rattle.std.proofs.Common.{◌∙◌, ◌++◌, ◌∷◌, [], sym, ap, append_assoc, subst}
 use Rattle.std.specs.Vec.Iter.{into_iter_items}
 use Rattle.workers.specs.Alone.{AreGivenBack}
-use Rattle.workers.proofs.Collected.{given_more}
+use Rattle.workers.proofs.ReturnsByPart.{given_more}
 use Rattle.workers.proofs.parts.table_of.Goals as goal
 
 pub loop-dones-preserved : goal.loop-dones-preserved

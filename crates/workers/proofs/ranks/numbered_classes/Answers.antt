@@ -1,7 +1,7 @@
 use Rattle.std.proofs.Common.{◌+◌, ◌∙◌, ap, arith, length, refl, subst, sym}
 use Rattle.fault_model.specs.Collapse.{Collapsed}
 use Rattle.workers.specs.Rank.{AreNumbered}
-use Rattle.workers.proofs.Ranking.{numbered_more}
+use Rattle.workers.proofs.ClassRanks.{numbered_more}
 use Rattle.workers.proofs.ranks.numbered_classes.Goals as goal
 
 pub loop-class-preserved : goal.loop-class-preserved

@@ -1,4 +1,4 @@
-use Rattle.workers.proofs.Ranking.{sorted_ranked}
+use Rattle.workers.proofs.ClassRanks.{sorted_ranked}
 use Rattle.workers.proofs.ranks.ranked_classes.Goals as goal
 
 pub returns : goal.returns

@@ -7,8 +7,8 @@ use Rattle.block_sim.proofs.Public.{true_table}
 use Rattle.fault_ledger.specs.declared.Event.{Event}
 use Rattle.fault_ledger.specs.History.{History}
 use Rattle.workers.specs.Schedule.{moved, drops}
-use Rattle.workers.proofs.Turns.{Done, done_more, done_same, done_none, stepped, not_drop}
-use Rattle.workers.proofs.Turns.{skipped_few}
+use Rattle.workers.proofs.MoveLists.{Done, done_more, done_same, done_none, stepped, not_drop}
+use Rattle.workers.proofs.MoveLists.{skipped_few}
 use Rattle.workers.proofs.schedule.play.Goals.{in-Some+in-Drop, in-Some+in_default-event}
 use Rattle.workers.proofs.schedule.play.Goals.{in_default}
 use Rattle.workers.proofs.schedule.play.Goals as goal

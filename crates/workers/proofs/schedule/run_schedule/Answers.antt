@@ -9,9 +9,9 @@ use Rattle.fault_ledger.specs.Face.{Face, face}
 use Rattle.workers.specs.Schedule.{moved, turns, schedule_history}
 use Rattle.workers.specs.Settling.{AreSettled, IsShapeOf, shape_for}
 use Rattle.workers.specs.Verdict.{AreFirsts, verdicts}
-use Rattle.workers.proofs.Truth.{firsts_of}
-use Rattle.workers.proofs.Closing.{settled_finished}
-use Rattle.workers.proofs.Turns.{played_on, scheduled, skipped_few, moved_true}
+use Rattle.workers.proofs.TrueOutcomes.{firsts_of}
+use Rattle.workers.proofs.SettledLedgers.{settled_finished}
+use Rattle.workers.proofs.MoveLists.{played_on, scheduled, skipped_few, moved_true}
 use Rattle.workers.proofs.schedule.run_schedule.Goals as goal
 
 -- the verdicts that were told of a ledger, under another name of its shape

@@ -6,8 +6,8 @@ use Rattle.fault_ledger.specs.History.{History}
 use Rattle.fault_ledger.specs.Answer.{IsLegal}
 use Rattle.fault_ledger.specs.Face.{face}
 use Rattle.workers.specs.Schedule.{moved, turns, drops}
-use Rattle.workers.proofs.Turns.{Done, played_on, turned_none, turned_more, turned_over}
-use Rattle.workers.proofs.Turns.{skipped_few, all_below, left_of, left_events}
+use Rattle.workers.proofs.MoveLists.{Done, played_on, turned_none, turned_more, turned_over}
+use Rattle.workers.proofs.MoveLists.{skipped_few, all_below, left_of, left_events}
 use Rattle.workers.proofs.schedule.take_turns.Goals as goal
 use Rattle.std.proofs.lemmas.Bool.{not-false, not-true}
 

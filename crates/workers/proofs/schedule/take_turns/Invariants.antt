@@ -4,7 +4,7 @@ use Rattle.fault_ledger.specs.History.{History}
 use Rattle.fault_ledger.specs.Answer.{IsLegal}
 use Rattle.fault_ledger.specs.Face.{face}
 use Rattle.workers.specs.Schedule.{IsTableOf}
-use Rattle.workers.proofs.Turns.{Turned, left_of}
+use Rattle.workers.proofs.MoveLists.{Turned, left_of}
 use Rattle.block_sim.specs.Simulation.{Serves}
 use Rattle.workers.proofs.schedule.take_turns.Given as goal
 

@@ -1,5 +1,5 @@
 use Rattle.std.proofs.Common.{ap, ◌∙◌, ◌++◌, ◌∷◌, []}
-use Rattle.workers.proofs.Turns.{below_last}
+use Rattle.workers.proofs.MoveLists.{below_last}
 use Rattle.workers.proofs.schedule.workers_in_order.Goals as goal
 
 pub loop-worker-preserved : goal.loop-worker-preserved

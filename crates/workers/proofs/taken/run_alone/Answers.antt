@@ -1,7 +1,7 @@
 use Rattle.std.proofs.Common.{◌<◌, ◌+◌, All, arith, length, subst, sym}
 use Rattle.workers.specs.Alone.{AreFoundUpTo}
-use Rattle.workers.proofs.Partition.{start_le, start_within}
-use Rattle.workers.proofs.Taking.{none_found, own_within}
+use Rattle.workers.proofs.PartsOfClasses.{start_le, start_within}
+use Rattle.workers.proofs.TakenParts.{none_found, own_within}
 use Rattle.workers.proofs.taken.run_alone.Goals as goal
 
 pub between-own-requires-clause-order : goal.between-own-requires-clause-order

@@ -1,7 +1,7 @@
 use Rattle.std.proofs.Common.{subst}
 use Rattle.workers.specs.Chosen.{every}
 use Rattle.workers.specs.Work.{HasRun}
-use Rattle.workers.proofs.Finish.{run_settled, run_firsts}
+use Rattle.workers.proofs.ClosedLedgers.{run_settled, run_firsts}
 use Rattle.workers.proofs.threads.run.Goals as goal
 
 pub verdicts_of-requires-clause-settled : goal.verdicts_of-requires-clause-settled

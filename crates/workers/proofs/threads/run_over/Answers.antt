@@ -1,6 +1,6 @@
 use Rattle.std.proofs.Common.{◌<◌, length, subst, sym}
 use Rattle.workers.specs.Work.{WaitsFor}
-use Rattle.workers.proofs.Finish.{back_placed, closed_waiting, closed_run}
+use Rattle.workers.proofs.ClosedLedgers.{back_placed, closed_waiting, closed_run}
 use Rattle.workers.proofs.threads.run_over.Goals as goal
 
 pub close-requires-clause-places : goal.close-requires-clause-places

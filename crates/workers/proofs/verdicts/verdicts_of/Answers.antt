@@ -5,7 +5,7 @@ use Rattle.std.specs.Prelude.{slice_get, Option}
 use Rattle.fault_model.specs.Collapse.{Collapsed}
 use Rattle.fault_ledger.specs.Settled.{status}
 use Rattle.workers.specs.Verdict.{settled_at}
-use Rattle.workers.proofs.Truth.{class_in, take_more}
+use Rattle.workers.proofs.TrueOutcomes.{class_in, take_more}
 use Rattle.workers.proofs.verdicts.verdicts_of.Goals as goal
 
 pub status_of-requires : goal.status_of-requires

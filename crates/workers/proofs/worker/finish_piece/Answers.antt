@@ -1,7 +1,7 @@
 use Rattle.std.proofs.Common.{ap, subst, Err}
 use Rattle.block_sim.specs.First.{IsTrueOutcome}
 use Rattle.fault_ledger.specs.Seats.{FindsNoHit}
-use Rattle.workers.proofs.Works.{dropped, missed, then_reported, then_taken}
+use Rattle.workers.proofs.SeatCalls.{dropped, missed, then_reported, then_taken}
 use Rattle.workers.proofs.worker.finish_piece.Goals as goal
 
 pub returns-in-Ok-clause-works : goal.returns-in-Ok-clause-works

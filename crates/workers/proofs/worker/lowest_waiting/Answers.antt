@@ -1,7 +1,7 @@
 use Rattle.std.proofs.Common.{◌∙◌, sym}
 use Rattle.fault_ledger.proofs.Public.{sees_twice}
-use Rattle.workers.proofs.Works.{settled_sees, not_waiting}
-use Rattle.workers.proofs.Closing.{settled_more}
+use Rattle.workers.proofs.SeatCalls.{settled_sees, not_waiting}
+use Rattle.workers.proofs.SettledLedgers.{settled_more}
 use Rattle.workers.proofs.worker.lowest_waiting.Goals as goal
 
 pub returns-in-Waiting-clause-sees : goal.returns-in-Waiting-clause-sees

@@ -4,8 +4,8 @@ use Rattle.fault_ledger.specs.declared.Event.{Event}
 use Rattle.fault_ledger.specs.declared.Reply.TheVariants.{Claimed}
 use Rattle.fault_ledger.specs.Seats.{Makes, Place}
 use Rattle.fault_ledger.specs.History.{block_count}
-use Rattle.workers.proofs.Works.{claimed, exhausted, fewer, given, stopped_holding, works_twice}
-use Rattle.workers.proofs.Works.{settled_works, sees_works}
+use Rattle.workers.proofs.SeatCalls.{claimed, exhausted, fewer, given, stopped_holding, works_twice}
+use Rattle.workers.proofs.SeatCalls.{settled_works, sees_works}
 use Rattle.fault_ledger.proofs.Public.{held_sees, sees_kept}
 use Rattle.fault_ledger.specs.Settled.{IsSettledAt}
 use Rattle.workers.proofs.worker.work_over.Goals as goal

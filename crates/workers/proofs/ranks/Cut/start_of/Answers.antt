@@ -3,7 +3,7 @@ use Rattle.std.specs.List.Sorted.{IsNonDecreasingBy}
 use Rattle.std.proofs.lemmas.List.Sorted.{IsPartitionPoint-from_clause, IsPartitionedBy-ltb}
 use Rattle.workers.specs.declared.ranks.Ranked.{Ranked}
 use Rattle.workers.specs.Rank.{IsStart}
-use Rattle.workers.proofs.Ranking.{parts_rise, starts}
+use Rattle.workers.proofs.ClassRanks.{parts_rise, starts}
 use Rattle.workers.proofs.ranks.Cut.start_of.Goals as goal
 
 pub returns : goal.returns

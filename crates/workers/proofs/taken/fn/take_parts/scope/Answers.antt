@@ -3,7 +3,7 @@ use Rattle.std.proofs.Common.{sym, subst, ap, ◌∙◌, length, suc}
 use Rattle.std.specs.Vec.Iter.{into_iter_items, into_iter_len}
 use Rattle.std.proofs.iter.Serving.{serving}
 use Rattle.block_sim.specs.Simulation.{Serves}
-use Rattle.workers.proofs.Taking.{given_back}
+use Rattle.workers.proofs.TakenParts.{given_back}
 use Rattle.workers.proofs.taken.fn.take_parts.scope.Goals as goal
 
 pub loop-member-init : goal.loop-member-init

@@ -5,7 +5,8 @@ use Rattle.std.proofs.lemmas.Option.{get_or_from_slice_get, slice_get_within}
 use Rattle.std.proofs.iter.Serving.{serving}
 use Rattle.block_sim.specs.Simulation.{Serves}
 use Rattle.fault_ledger.specs.Seats.{newcomer}
-use Rattle.workers.proofs.Crew.{workers_count, seat_at, serves_at, own_newcomer, returns_along}
+use Rattle.workers.proofs.ThreadHandles.{workers_count, seat_at, serves_at, own_newcomer}
+use Rattle.workers.proofs.ThreadHandles.{returns_along}
 use Rattle.workers.proofs.threads.fn.in_threads.scope.Goals as goal
 
 pub loop-worker-init : goal.loop-worker-init

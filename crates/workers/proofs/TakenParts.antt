@@ -12,8 +12,8 @@ use Rattle.workers.specs.declared.taken.Done.{Done}
 use Rattle.workers.specs.Alone.{AreDone, AreFoundUpTo, HasEnded, IsDone}
 use Rattle.workers.specs.Rank.{IsCutOf, IsStart}
 use Rattle.workers.specs.Work.{Stops}
-use Rattle.workers.proofs.Partition.{part_list, part_within}
-use Rattle.workers.proofs.Solo.{found_none}
+use Rattle.workers.proofs.PartsOfClasses.{part_list, part_within}
+use Rattle.workers.proofs.LoneWorkers.{found_none}
 
 -- a part's classes are the job's
 pub own_within : (job : Parts) (parts part s e : ℕ) (ranked : List Ranked) (classes : List ℕ)

@@ -21,11 +21,12 @@ use Rattle.workers.specs.Part.{ArePartOf}
 use Rattle.workers.specs.Rank.{IsCutOf, IsStart}
 use Rattle.workers.specs.Verdict.{AreClassFirsts}
 use Rattle.workers.specs.Work.{Stops}
-use Rattle.workers.proofs.Collected.{kept, last_of}
-use Rattle.workers.proofs.Partition.{FirstsUpTo, firsts_all, firsts_more, firsts_none, part_list}
-use Rattle.workers.proofs.Partition.{start_le, start_none}
-use Rattle.workers.proofs.Ranking.{pushed}
-use Rattle.workers.proofs.Solo.{done_high, lowest_along, lowest_join}
+use Rattle.workers.proofs.ReturnsByPart.{kept, last_of}
+use Rattle.workers.proofs.PartsOfClasses.{FirstsUpTo, firsts_all, firsts_more, firsts_none}
+use Rattle.workers.proofs.PartsOfClasses.{part_list}
+use Rattle.workers.proofs.PartsOfClasses.{start_le, start_none}
+use Rattle.workers.proofs.ClassRanks.{pushed}
+use Rattle.workers.proofs.LoneWorkers.{done_high, lowest_along, lowest_join}
 
 -- a part has one start
 pub one_start : (ranked : List Ranked) (part a b : ℕ) → IsStart ranked part a

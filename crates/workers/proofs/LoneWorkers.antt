@@ -18,7 +18,7 @@ use Rattle.workers.specs.declared.alone.Waiting.{Waiting}
 use Rattle.workers.specs.Schedule.{IsTableOf}
 use Rattle.workers.specs.Alone.{AreFoundUpTo, IsLowest, IsOpenBelow, IsUndetected, done_before}
 use Rattle.workers.specs.Alone.{lower_of}
-use Rattle.workers.proofs.Truth.{class_count}
+use Rattle.workers.proofs.TrueOutcomes.{class_count}
 
 -- the test that an outcome of a block hits
 abbrev hit_at : ℕ → Outcome → Option ℕ

@@ -28,8 +28,8 @@ use Rattle.fault_ledger.specs.declared.Status.TheVariants as status_is
 use Rattle.workers.specs.Chosen.{Chosen}
 use Rattle.workers.specs.Settling.{AreSettled, IsShapeOver}
 use Rattle.workers.specs.Work.{GivesTrue, IsStopped, ReportsTruly, Stops, WasNoDrop, WorksOver}
-use Rattle.workers.proofs.Truth.{true_fits}
-use Rattle.workers.proofs.Closing.{settled_past}
+use Rattle.workers.proofs.TrueOutcomes.{true_fits}
+use Rattle.workers.proofs.SettledLedgers.{settled_past}
 
 -- where no event is the worker's, none is its report
 pub truly_none : (job : Parts) (over : Chosen) (s : Shape) (w : ℕ) (newer earlier : History)

@@ -22,8 +22,8 @@ use Rattle.fault_ledger.proofs.Public.{claim_accepted, report_accepted, drop_acc
 use Rattle.workers.specs.Schedule.{IsTableOf, drops, is_drop, move, move_holding, moved, turns}
 use Rattle.workers.specs.Schedule.{schedule_history}
 use Rattle.workers.specs.Settling.{AreSettled, IsShapeOf}
-use Rattle.workers.proofs.Closing.{all_settled, none_open}
-use Rattle.workers.proofs.Moves.{move_legal, move_true}
+use Rattle.workers.proofs.SettledLedgers.{all_settled, none_open}
+use Rattle.workers.proofs.ScheduleMoves.{move_legal, move_true}
 use Rattle.patterns.proofs.Public.{length-below, get_or-below}
 
 pub moved_append : (t : Table) (s : Shape) (h : History) (xs ys : List ℕ)

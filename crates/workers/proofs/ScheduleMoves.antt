@@ -27,7 +27,7 @@ use Rattle.fault_ledger.proofs.Public.{drop_answer, report_answer, held_piece, l
 use Rattle.fault_ledger.proofs.Public.{block_of-below, some_class}
 use Rattle.workers.specs.Schedule.{IsTableOf, move, move_holding}
 use Rattle.workers.specs.Settling.{IsShapeOf}
-use Rattle.workers.proofs.Truth.{class_count, true_fits}
+use Rattle.workers.proofs.TrueOutcomes.{class_count, true_fits}
 
 -- a claim is the move of a worker that holds nothing
 pub claim_moves : (t : Table) (s : Shape) (h : History) (w : ℕ) → w < s.workers → held w h ≡ None

@@ -36,7 +36,7 @@ use Rattle.workers.specs.Refused.{IsPartFault, IsRunFaultOver}
 use Rattle.workers.specs.Work.{Stops}
 use Rattle.workers.specs.Settling.{shape_for}
 use Rattle.workers.specs.Verdict.{AreBehindHits, AreClassFirsts, AreFirsts, behind, pieces_behind}
-use Rattle.workers.proofs.Truth.{class_count, class_in}
+use Rattle.workers.proofs.TrueOutcomes.{class_count, class_in}
 
 -- the part of a class is that of its one stem
 pub part_of_stem : (job : Parts) (parts part class stem : ℕ)

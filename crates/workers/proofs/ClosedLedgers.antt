@@ -25,11 +25,11 @@ use Rattle.workers.specs.Settling.{AreSettled, IsShapeOf, IsShapeOver, shape_ove
 use Rattle.fault_ledger.specs.Settled.{is_skipped}
 use Rattle.workers.specs.Work.{AllReportTruly, AreBack, HasRested, HasRun, IsOfHistory, IsStopped}
 use Rattle.workers.specs.Work.{ReportsTruly, Returns, Stops, WaitsFor, stops_over}
-use Rattle.workers.proofs.Closing.{none_open, all_settled, settled_goes_on, settled_finished}
-use Rattle.workers.proofs.Closing.{finished_settled}
+use Rattle.workers.proofs.SettledLedgers.{none_open, all_settled, settled_goes_on, settled_finished}
+use Rattle.workers.proofs.SettledLedgers.{finished_settled}
 use Rattle.workers.specs.Schedule.{IsTableOf}
 use Rattle.workers.specs.Verdict.{AreClassFirsts, AreFirsts, VerdictList, settled_at, verdicts}
-use Rattle.workers.proofs.Truth.{first_over, table_over}
+use Rattle.workers.proofs.TrueOutcomes.{first_over, table_over}
 use Rattle.patterns.specs.Least.{Table, below}
 use Rattle.patterns.proofs.Public.{get_or-below, length-map-below}
 use Rattle.block_sim.specs.First.{IsFirst}
@@ -37,7 +37,7 @@ use Rattle.block_sim.proofs.Public.{true_table}
 use Rattle.fault_model.specs.Collapse.{IsClassOf}
 use Rattle.fault_ledger.specs.Answer.{IsTrueTo}
 use Rattle.lists.proofs.Places.{from_mapped, within_place}
-use Rattle.workers.proofs.Reports.{truly_goes_on, all_true, firsts_truly, true_to}
+use Rattle.workers.proofs.TrueReports.{truly_goes_on, all_true, firsts_truly, true_to}
 
 module _ (job : Parts) (over : Chosen) (p : Place) (P : Type 0) (S : Stops) (seats : List Sitter)
     (h : History) (back : AreBack job over p P S seats) (holds : HoldsAll h seats) where

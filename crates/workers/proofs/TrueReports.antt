@@ -17,8 +17,8 @@ use Rattle.workers.specs.Chosen.{Chosen, AreChosenOf, every}
 use Rattle.workers.specs.Settling.{AreSettled, IsShapeOf, IsShapeOver}
 use Rattle.workers.specs.Verdict.{AreFirsts, verdicts}
 use Rattle.workers.specs.Work.{GivesTrue, ReportsTruly}
-use Rattle.workers.proofs.Truth.{class_count, firsts_of, table_over}
-use Rattle.workers.proofs.Works.{truly_append, truly_none}
+use Rattle.workers.proofs.TrueOutcomes.{class_count, firsts_of, table_over}
+use Rattle.workers.proofs.SeatCalls.{truly_append, truly_none}
 
 -- every report gives the true outcome
 abbrev pub AllTrue : Parts → Chosen → Shape → History → Type 0
