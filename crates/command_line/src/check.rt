@@ -5,7 +5,7 @@ use crate::source::Source;
 use crate::status::{Fault, NO_MEMORY, UNWRITTEN};
 use block_sim::JobFault;
 use clap::ArgMatches;
-use diagnosis::{Answer, Findings, Located, check_texts};
+use diagnosis::{Answer, Excess, Findings, Located, check_texts};
 use report::{Formatted, Out, SimFault};
 use std::alloc::{AllocError, Global};
 use std::fmt::Write;
@@ -48,7 +48,7 @@ fn tell_answer<'a, W: Out, E: Out>(
         }
         Answer::BenchRefused(findings) => Err(tell_findings(matches, "bench", findings, err)),
         Answer::TestsRefused(findings) => Err(tell_findings(matches, "tests", findings, err)),
-        Answer::TooManyPieces => Err(Fault::Sim(SimFault::Job(JobFault::TooManyPieces))),
+        Answer::TooManyPieces(excess) => Err(tell_excess(matches, excess, err)),
     }
 }
 
@@ -67,4 +67,13 @@ fn tell_findings<'a, E: Out>(
         diagnosis::Fault::Bench(fault) => Fault::Sim(SimFault::Bench(fault)),
         diagnosis::Fault::Tests(fault) => Fault::Sim(SimFault::Tests(fault)),
     }
+}
+
+/// Tells by how much the tests are too many for one run, and gives the refusal.
+fn tell_excess<'a, E: Out>(matches: &ArgMatches<'a>, excess: &Excess, err: &mut E) -> Fault<'a> {
+    let fault = JobFault::TooManyPieces;
+    if let Some(path) = matches.get_str("tests") {
+        let _ = write!(Formatted(err), "{path}: {fault}\n    {excess}\n");
+    }
+    Fault::Sim(SimFault::Job(fault))
 }

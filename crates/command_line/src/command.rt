@@ -1,16 +1,15 @@
 //! Commands: what the words ask for is done.
 
-ghost use Rattle.std.specs.Prelude.{◌<◌, ◌≤◌, IfOk, IfSome};
-ghost use Rattle.command_line.specs.Split.{HasParts};
+ghost use Rattle.std.specs.Prelude.{◌≤◌};
 
 use crate::check::do_check;
 use crate::compact::do_compact;
 use crate::curve::do_curve;
 use crate::detected::do_detections;
-use crate::format::{read_format, write_faults_table, write_run_table};
-use crate::options::{MAX_PARTS, Task, command_line, model_named, workers_help};
-use crate::progress::run_watched;
+use crate::format::{read_format, write_faults_table};
+use crate::options::{Task, command_line, model_named, workers_help};
 use crate::responses::do_responses;
+use crate::run::do_run;
 use crate::source::{Source, SourceFault, Stream, is_standard_input};
 use crate::status::{
     DONE, Fault, MISUSED, NO_MEMORY, UNWRITTEN, answer_fault, merge_fault, part_fault,
@@ -19,8 +18,8 @@ use clap::error::ErrorKind;
 use clap::{ArgMatches, Error};
 use fault_model::Model;
 use report::{
-    Contents, Formatted, Lines, Merge, Merged, Out, ReportFault, faults_text_in, part_text_in,
-    schedule_text_in, simulate_text_in, simulate_text_in_parts, write_merged,
+    Contents, Formatted, Lines, Merge, Merged, Out, ReportFault, faults_text_in, schedule_text_in,
+    write_merged,
 };
 use std::alloc::{AllocError, Global};
 use std::fmt::Write;
@@ -117,7 +116,7 @@ fn do_task<'a, R: Threads + Wait, S: Source, W: Out, E: Out + Send>(
     match Task::named(name) {
         Some(Task::Check) => do_check(alloc, options, files, out, err),
         Some(Task::Run) => do_run_or_detections(rt, alloc, options, files, out, err),
-        Some(Task::Curve) => do_curve(rt, alloc, options, files, out),
+        Some(Task::Curve) => do_curve(rt, alloc, options, files, out, err),
         Some(Task::Compact) => do_compact(rt, alloc, options, files, out),
         Some(Task::Responses) => do_responses(alloc, options, files, out),
         Some(Task::Schedule) => do_schedule(alloc, options, files, out),
@@ -205,14 +204,6 @@ pub(crate) fn read_file<'a, S: Source>(
     }
 }
 
-/// What `run` and `schedule` have in common.
-#[derive(Clone, Copy)]
-struct Settings {
-    model: Model,
-    workers: u32,
-    contents: Contents,
-}
-
 /// Which faults the command line asks for.
 fn read_lines<'a>(matches: &ArgMatches<'a>) -> Result<Lines, Fault<'a>> {
     match (matches.get_flag("list"), matches.get_flag("undetected")) {
@@ -231,71 +222,11 @@ pub(crate) fn read_workers<'a>(matches: &ArgMatches<'a>) -> Result<u32, Fault<'a
     }
 }
 
-/// The settings that the command line names.
-fn read_settings<'a>(matches: &ArgMatches<'a>) -> Result<Settings, Fault<'a>> {
-    let model = read_model(matches)?;
-    let workers = read_workers(matches)?;
-    let contents = Contents {
+/// What the command line asks for of a report.
+pub(crate) fn read_contents<'a>(matches: &ArgMatches<'a>) -> Result<Contents, Fault<'a>> {
+    Ok(Contents {
         lines: read_lines(matches)?,
         classes: matches.get_flag("classes"),
-    };
-    Ok(Settings {
-        model,
-        workers,
-        contents,
-    })
-}
-
-/// How `run` shares the classes out.
-#[derive(Clone, Copy)]
-enum Split {
-    Whole,
-    /// In so many parts.
-    Parts(u32),
-    /// One part alone, counted from 0.
-    Part { part: u32, parts: u32 },
-}
-
-/// How the command line shares the classes out.
-fn read_split<'a>(matches: &ArgMatches<'a>) -> Result<Split, Fault<'a>>
-    ensures { IfOk result HasParts }
-{
-    let parts = matches.get_one::<u32>("parts");
-    let part = matches.get_str("part");
-    match (parts, part) {
-        (None, None) => Ok(Split::Whole),
-        (Some(parts), None) if parts > 0 => Ok(Split::Parts(parts)),
-        (None, Some(text)) => read_part(text).ok_or(Fault::Misused("--part")),
-        _ => Err(Fault::Misused("--parts")),
-    }
-}
-
-/// In how many parts a run that is watched goes, where a number is given. One part alone isn't
-/// watched.
-fn parts_in<'a>(split: Split) -> Result<Option<u32>, Fault<'a>>
-    requires { HasParts split }
-    ensures { IfOk result (λ parts. IfSome parts (λ count. 0 < count)) }
-{
-    match split {
-        Split::Whole => Ok(None),
-        Split::Parts(parts) => Ok(Some(parts)),
-        Split::Part { .. } => Err(Fault::Misused("--progress")),
-    }
-}
-
-/// The part that a text `I/N` names, I from 1.
-fn read_part(text: &str) -> Option<Split>
-    ensures { IfSome result HasParts }
-{
-    let (part, parts) = text.split_once('/')?;
-    let number = part.parse::<u32>().ok()?;
-    let parts = parts.parse::<u32>().ok()?;
-    if number == 0 || number > parts || parts > MAX_PARTS {
-        return None;
-    }
-    Some(Split::Part {
-        part: number - 1,
-        parts,
     })
 }
 
@@ -314,53 +245,6 @@ fn do_run_or_detections<'a, R: Threads + Wait, S: Source, W: Out, E: Out + Send>
     }
 }
 
-/// `run`: both files are read before either text is looked at.
-fn do_run<'a, R: Threads + Wait, S: Source, W: Out, E: Out + Send>(
-    rt: &R,
-    alloc: Global,
-    matches: &ArgMatches<'a>,
-    files: &mut S,
-    out: &mut W,
-    err: &mut E,
-) -> Result<(), Fault<'a>> {
-    let Settings {
-        model,
-        workers,
-        contents,
-    } = read_settings(matches)?;
-    let split = read_split(matches)?;
-    let format = read_format(matches)?;
-    let bench = read_option(alloc, matches, "bench", files)?;
-    let tests = read_option(alloc, matches, "tests", files)?;
-    if let Some(format) = format {
-        let lines = contents.lines;
-        return write_run_table(
-            rt, alloc, model, &bench, &tests, workers, lines, format, out,
-        );
-    }
-    if matches.get_flag("progress") {
-        let parts = parts_in(split)?;
-        return run_watched(
-            rt, alloc, model, &bench, &tests, parts, workers, contents, out, err,
-        );
-    }
-    let done = match split {
-        Split::Whole => simulate_text_in(rt, alloc, model, &bench, &tests, workers, contents, out),
-        Split::Parts(parts) => {
-            simulate_text_in_parts(
-                rt, alloc, model, &bench, &tests, parts, workers, contents, out,
-            )
-        }
-        Split::Part { part, parts } => {
-            part_text_in(rt, alloc, model, &bench, &tests, part, parts, workers, out)
-        }
-    };
-    match done {
-        Ok(()) => Ok(()),
-        Err(fault) => Err(Fault::Sim(fault)),
-    }
-}
-
 /// `schedule`: the three files are read before any text is looked at.
 fn do_schedule<'a, S: Source, W: Out>(
     alloc: Global,
@@ -368,11 +252,9 @@ fn do_schedule<'a, S: Source, W: Out>(
     files: &mut S,
     out: &mut W,
 ) -> Result<(), Fault<'a>> {
-    let Settings {
-        model,
-        workers,
-        contents,
-    } = read_settings(matches)?;
+    let model = read_model(matches)?;
+    let workers = read_workers(matches)?;
+    let contents = read_contents(matches)?;
     let bench = read_option(alloc, matches, "bench", files)?;
     let tests = read_option(alloc, matches, "tests", files)?;
     let order = read_option(alloc, matches, "order", files)?;

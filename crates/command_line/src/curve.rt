@@ -1,28 +1,22 @@
 //! The command `curve`.
 
-use crate::command::{read_model, read_option, read_workers};
+use crate::form::{Form, write_form};
 use crate::source::Source;
 use crate::status::Fault;
 use clap::ArgMatches;
-use report::{Out, curve_text_in};
+use report::Out;
 use std::alloc::Global;
 use std::sync::Wait;
 use std::thread::Threads;
 
-/// `curve`: both files are read before either text is looked at.
-pub(crate) fn do_curve<'a, R: Threads + Wait, S: Source, W: Out>(
+/// `curve`.
+pub(crate) fn do_curve<'a, R: Threads + Wait, S: Source, W: Out, E: Out + Send>(
     rt: &R,
     alloc: Global,
     matches: &ArgMatches<'a>,
     files: &mut S,
     out: &mut W,
+    err: &mut E,
 ) -> Result<(), Fault<'a>> {
-    let model = read_model(matches)?;
-    let workers = read_workers(matches)?;
-    let bench = read_option(alloc, matches, "bench", files)?;
-    let tests = read_option(alloc, matches, "tests", files)?;
-    match curve_text_in(rt, alloc, model, &bench, &tests, workers, out) {
-        Ok(()) => Ok(()),
-        Err(fault) => Err(Fault::Sim(fault)),
-    }
+    write_form(rt, alloc, matches, Form::Curve, files, out, err)
 }

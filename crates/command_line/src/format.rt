@@ -3,11 +3,9 @@
 use crate::status::Fault;
 use clap::ArgMatches;
 use fault_model::Model;
-use report::{Lines, Out};
+use report::Out;
 use std::alloc::Global;
-use std::sync::Wait;
-use std::thread::Threads;
-use tables::{Format, faults_table_in, run_table_in};
+use tables::{Format, faults_table_in};
 
 /// The format that the command line names, and none for the program's own text.
 pub(crate) fn read_format<'a>(matches: &ArgMatches<'a>) -> Result<Option<Format>, Fault<'a>> {
@@ -16,24 +14,6 @@ pub(crate) fn read_format<'a>(matches: &ArgMatches<'a>) -> Result<Option<Format>
         Some("csv") => Ok(Some(Format::Csv)),
         Some("json") => Ok(Some(Format::Json)),
         _ => Err(Fault::Misused("--format")),
-    }
-}
-
-/// Writes the table of a run.
-pub(crate) fn write_run_table<'a, R: Threads + Wait, W: Out>(
-    rt: &R,
-    alloc: Global,
-    model: Model,
-    bench: &[u8],
-    tests: &[u8],
-    workers: u32,
-    lines: Lines,
-    format: Format,
-    out: &mut W,
-) -> Result<(), Fault<'a>> {
-    match run_table_in(rt, alloc, model, bench, tests, workers, lines, format, out) {
-        Ok(()) => Ok(()),
-        Err(fault) => Err(Fault::Sim(fault)),
     }
 }
 

@@ -10,10 +10,12 @@ mod command;
 mod compact;
 mod curve;
 mod detected;
+mod form;
 mod format;
 mod options;
 mod progress;
 mod responses;
+mod run;
 mod source;
 mod status;
 

@@ -126,6 +126,8 @@ enum Choice {
     /// The format of a run's list.
     RunFormat,
     Progress,
+    /// The same of a run that may count detections.
+    RunProgress,
     /// The format of the list of faults.
     Format,
     PartTexts,
@@ -147,11 +149,17 @@ static RUN_CHOICES: [Choice; 12] = [
     Choice::Undetected,
     Choice::Classes,
     Choice::RunFormat,
-    Choice::Progress,
+    Choice::RunProgress,
 ];
 
 /// The options of `curve`.
-static CURVE_CHOICES: [Choice; 4] = [Choice::Bench, Choice::Tests, Choice::Model, Choice::Workers];
+static CURVE_CHOICES: [Choice; 5] = [
+    Choice::Bench,
+    Choice::Tests,
+    Choice::Model,
+    Choice::Workers,
+    Choice::Progress,
+];
 
 /// The options of `compact`.
 static COMPACT_CHOICES: [Choice; 4] = [
@@ -201,13 +209,18 @@ pub fn model_named(name: &str) -> Option<Model>
 /// What is said of the models in the long help.
 const ABOUT_MODELS: &str = "\
 Which faults, and which tests look for them:
-stuck             a line is stuck at 0 or at 1; each test detects by itself
-transition        a line is slow to rise or slow to fall; each test but the first is the second
-                  of a pair with the test before it
-transition-pairs  the same faults under a list of launch and capture pairs: tests 0 and 1 are a
-                  pair, 2 and 3, and so on, and only the second of a pair detects
-A list of launch and capture pairs wants transition-pairs: with transition the coverage comes out
-too high, since tests 1 and 2 count as a pair, too.";
+stuck             a line is stuck at 0 or at 1; each test
+                  detects by itself
+transition        a line is slow to rise or slow to fall; each
+                  test but the first is the second of a pair
+                  with the test before it
+transition-pairs  the same faults under a list of launch and
+                  capture pairs: tests 0 and 1 are a pair,
+                  2 and 3, and so on, and only the second of
+                  a pair detects
+A list of launch and capture pairs wants transition-pairs: with
+transition the coverage comes out too high, since tests 1 and 2
+count as a pair, too.";
 
 /// What is said of the files after the options.
 const FILES: &str = "Each FILE is read whole. One FILE can be -, the standard input.";
@@ -228,8 +241,8 @@ tells that all faults are found:
 
     6 of 6 (100.00%)
 
-The exit status is 0 where all was done, 1 where a text is refused, 2 where the command line is,
-and 3 where a file, the output, memory or a thread is.";
+The exit status is 0 where all was done, 1 where a text is refused, 2 where the
+command line is, and 3 where a file, the output, memory or a thread is.";
 
 /// What is said after the long help of `check`.
 const ABOUT_CHECK: &str = "\
@@ -242,8 +255,8 @@ Example, a circuit with two faults:
 
     faultsim check --bench a.bench
 
-tells on standard error all faults of the text, each with its line, a mark and what may be meant,
-and then the refusal that run tells:
+tells on standard error all faults of the text, each with its line, a mark and
+what may be meant, and then the refusal that run tells:
 
     a.bench:3: syntax
         n1 = INV(a)
@@ -255,8 +268,8 @@ and then the refusal that run tells:
         n2 is not defined; is n1 meant?
     faultsim: bench line 3: syntax
 
-Of texts without a fault it tells how much they have of what, how many tests one run takes, and
-warnings of what is seldom meant.
+Of texts without a fault it tells how much they have of what, how many tests one
+run takes, and warnings of what is seldom meant.
 
 Each FILE is read whole. One FILE can be -, the standard input.";
 
@@ -272,7 +285,8 @@ Example, a circuit and tests for it, one a line:
 
     faultsim run --bench a.bench --tests a.tests --list
 
-tells for each fault the first test that detects it, counted from 0, and then the coverage:
+tells for each fault the first test that detects it, counted from 0, and then
+the coverage:
 
     stem a sa0 3
     stem a sa1 1
@@ -282,10 +296,11 @@ tells for each fault the first test that detects it, counted from 0, and then th
     stem z sa1 0
     6 of 6 (100.00%)
 
-A fault that no test detects has none in place of a number. The faults are those of the uncollapsed
-list, and the percentage is cut off after two decimals. --undetected tells the lines of the faults
-alone that no test detects. --classes tells after the coverage how many of the fault classes are
-detected: 4 of 4 classes (100.00%).
+A fault that no test detects has none in place of a number. The faults are those
+of the uncollapsed list, and the percentage is cut off after two decimals.
+--undetected tells the lines of the faults alone that no test detects. --classes
+tells after the coverage how many of the fault classes are detected:
+4 of 4 classes (100.00%).
 
 Each FILE is read whole. One FILE can be -, the standard input.";
 
@@ -301,8 +316,9 @@ Example, a circuit and tests for it, one a line:
 
     faultsim curve --bench a.bench --tests a.tests
 
-tells for each test that is the first to detect some fault, counted from 0, how many faults are
-detected up to it and how much of all that is, and then the coverage. Test 2 finds nothing new:
+tells for each test that is the first to detect some fault, counted from 0, how
+many faults are detected up to it and how much of all that is, and then the
+coverage. Test 2 finds nothing new:
 
     0 1 16.66
     1 2 33.33
@@ -323,16 +339,17 @@ Example, a circuit and tests for it, one a line:
 
     faultsim compact --bench a.bench --tests a.tests > b.tests
 
-writes some of the tests, in order, that detect each fault that all detect. Test 00 detects z stuck
-at 1, and so do the next two:
+writes some of the tests, in order, that detect each fault that all detect. Test
+00 detects z stuck at 1, and so do the next two:
 
     01
     10
     11
 
-Kept are the tests that are the first to detect some fault; then, from the last to the first, those
-of these that detect a fault which no later one detects. Under transition faults the first step is
-the only one, and each test that is kept keeps the test before it.
+Kept are the tests that are the first to detect some fault; then, from the last
+to the first, those of these that detect a fault which no later one detects.
+Under transition faults the first step is the only one, and each test that is
+kept keeps the test before it.
 
 Each FILE is read whole. One FILE can be -, the standard input.";
 
@@ -349,13 +366,14 @@ Example, a circuit with a flip-flop and tests for it, a bit for a and one for q:
 
     faultsim responses --bench a.bench --tests a.tests
 
-writes a row for each test, a bit for each OUTPUT line, and then what each flip-flop captures:
+writes a row for each test, a bit for each OUTPUT line, and then what each
+flip-flop captures:
 
     01
     00
 
-With the bit of a before it, what q captures is the second test of a launch on capture: 01 is
-followed by 01, and 11 by 10.
+With the bit of a before it, what q captures is the second test of a launch on
+capture: 01 is followed by 01, and 11 by 10.
 
 Each FILE is read whole. One FILE can be -, the standard input.";
 
@@ -369,7 +387,7 @@ Example, a circuit, tests for it and an order of moves, one a line:
     OUTPUT(z)        10         1
     z = AND(a, b)    11
 
-    faultsim schedule --bench a.bench --tests a.tests --order a.order --workers 2
+    faultsim schedule -b a.bench -t a.tests --order a.order --workers 2
 
 lets worker 1 move, then worker 0, then worker 1, and then all in turn:
 
@@ -387,7 +405,8 @@ Example, a circuit:
 
     faultsim faults --bench a.bench
 
-tells the class of each fault, counted from 0; faults of one class are detected by the same tests:
+tells the class of each fault, counted from 0; faults of one class are detected
+by the same tests:
 
     stem a sa0 class 1
     stem a sa1 class 0
@@ -415,7 +434,8 @@ tells what the run tells that is not cut into parts:
 
     6 of 6 (100.00%)
 
-The order of the files doesn't matter. All parts of one run must be there, each once.
+The order of the files doesn't matter. All parts of one run must be there, each
+once.
 
 Each FILE is read whole. One FILE can be -, the standard input.";
 
@@ -539,14 +559,16 @@ fn run_format_option<'a>(alloc: Global) -> Result<Arg<'a>, AllocError> {
 }
 
 /// The flag `--progress`.
-fn progress_flag<'a>(alloc: Global) -> Result<Arg<'a>, AllocError> {
+fn progress_flag<'a>(alloc: Global) -> Arg<'a> {
     Arg::new(alloc, "progress")
         .long("progress")
         .action(ArgAction::SetTrue)
         .help("Tell on standard error how far the run is")
-        .conflicts_with("part")?
-        .conflicts_with("detections")?
-        .conflicts_with("format")
+}
+
+/// The flag `--progress` of `run`.
+fn run_progress_flag<'a>(alloc: Global) -> Result<Arg<'a>, AllocError> {
+    progress_flag(alloc).conflicts_with("detections")
 }
 
 /// The files `FILE..` of `merge`.
@@ -581,7 +603,8 @@ fn option<'a>(alloc: Global, choice: Choice, workers: &'a str) -> Result<Arg<'a>
         Choice::Classes => classes_flag(alloc),
         Choice::RunFormat => run_format_option(alloc)?,
         Choice::Format => format_option(alloc),
-        Choice::Progress => progress_flag(alloc)?,
+        Choice::Progress => progress_flag(alloc),
+        Choice::RunProgress => run_progress_flag(alloc)?,
         Choice::PartTexts => part_texts(alloc),
     };
     Ok(option)

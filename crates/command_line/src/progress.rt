@@ -1,15 +1,10 @@
 //! The option `--progress`: how far a run is, on standard error.
 
-ghost use Rattle.std.specs.Prelude.{◌<◌, IfSome};
-
-use crate::status::{Fault, NO_MEMORY};
-use fault_model::Model;
-use report::{Contents, Formatted, Gate, Out, Watch, simulate_text_watched};
+use report::{Formatted, Gate, Out, Watch};
 use std::alloc::{AllocError, Global};
 use std::fmt::Write;
+use std::sync::Mutex;
 use std::sync::atomic::{AtomicU64, Ordering};
-use std::sync::{Mutex, Wait};
-use std::thread::Threads;
 
 /// One piece in so many is watched: that of a class and a block whose numbers leave the same. A
 /// note of each piece would cost more than some pieces do.
@@ -266,33 +261,5 @@ impl<E: Out> Watch for Progress<'_, E> {
         if let Some(mut pen) = self.pen.try_lock() {
             pen.draw_last(self.pieces.load(Ordering::SeqCst));
         }
-    }
-}
-
-/// Runs as `run` does, in so many parts where a number is given, and draws how far it is.
-pub(crate) fn run_watched<'a, R: Threads + Wait, W: Out, E: Out + Send>(
-    rt: &R,
-    alloc: Global,
-    model: Model,
-    bench: &[u8],
-    tests: &[u8],
-    parts: Option<u32>,
-    workers: u32,
-    contents: Contents,
-    out: &mut W,
-    err: &mut E,
-) -> Result<(), Fault<'a>>
-    requires { IfSome parts (λ count. 0 < count) }
-{
-    let Ok(progress) = Progress::new(alloc, workers, err) else {
-        return Err(NO_MEMORY);
-    };
-    let done = simulate_text_watched(
-        rt, alloc, model, bench, tests, parts, workers, contents, &progress, out,
-    );
-    progress.close();
-    match done {
-        Ok(()) => Ok(()),
-        Err(fault) => Err(Fault::Sim(fault)),
     }
 }

@@ -15,13 +15,17 @@ const RUN: &str = "faultsim run --bench bench --tests tests";
 /// What is drawn of C17, which has 22 classes, on one block of tests.
 const ALL_OF_C17: &str = "\r0 of 22 pieces, 0%\r22 of 22 pieces, 100%\n";
 
-/// Options that go with `--progress`.
-static OPTIONS: [&str; 5] = [
-    "--workers 4",
-    "--workers 1 --list",
-    "--undetected --classes",
-    "--parts 3 --workers 2",
-    "--parts 65",
+/// Command lines that go with `--progress`.
+static LINES: [&str; 9] = [
+    "faultsim run --bench bench --tests tests --workers 4",
+    "faultsim run --bench bench --tests tests --workers 1 --list",
+    "faultsim run --bench bench --tests tests --undetected --classes",
+    "faultsim run --bench bench --tests tests --parts 3 --workers 2",
+    "faultsim run --bench bench --tests tests --parts 65",
+    "faultsim run --bench bench --tests tests --part 1/1",
+    "faultsim run --bench bench --tests tests --format csv",
+    "faultsim run --bench bench --tests tests --format json --undetected",
+    "faultsim curve --bench bench --tests tests --workers 2",
 ];
 
 /// Whether two answers are the same but for standard error.
@@ -29,12 +33,11 @@ fn is_same(first: &Answer, second: &Answer) -> bool {
     first.status == second.status && first.out.text() == second.out.text()
 }
 
-/// Whether a run of C17 with these options draws its first line and its last, and without
+/// Whether a run of C17 by this command line draws its first line and its last, and without
 /// `--progress` nothing.
-fn draws_both<R: AllocGlobal + Threads + Wait>(rt: &R, options: &str) -> Result<bool, AllocError> {
-    let line = format!(in rt.alloc(); "{RUN} {options}")?;
+fn draws_both<R: AllocGlobal + Threads + Wait>(rt: &R, line: &str) -> Result<bool, AllocError> {
     let watched = format!(in rt.alloc(); "{line} --progress")?;
-    let plain = run_on(rt, &line, C17_FILES, Screen::new(rt.alloc()))?;
+    let plain = run_on(rt, line, C17_FILES, Screen::new(rt.alloc()))?;
     let told = run_on(rt, &watched, C17_FILES, Screen::new(rt.alloc()))?;
     Ok(
         is_same(&plain, &told)
@@ -46,9 +49,26 @@ fn draws_both<R: AllocGlobal + Threads + Wait>(rt: &R, options: &str) -> Result<
 
 #[test]
 fn lines_are_drawn_with_the_flag_alone(rt: HostRuntime) -> Result<(), Fail> {
-    for options in &OPTIONS {
-        assert!(rt; draws_both(&rt, options)?, "{options}");
+    for line in &LINES {
+        assert!(rt; draws_both(&rt, line)?, "{line}");
     }
+    Ok(())
+}
+
+/// Two buffers of one input: of two parts the second has the two classes of `y`, signal 1.
+const TWO_BUFFERS: Texts<'static> = Texts {
+    bench: "INPUT(a)\nOUTPUT(y)\nOUTPUT(z)\ny = BUFF(a)\nz = BUFF(a)\n",
+    tests: "0\n1\n",
+    order: "",
+};
+
+#[test]
+fn pieces_of_a_part_are_counted(rt: HostRuntime) -> Result<(), Fail> {
+    let line = format!(in rt.alloc(); "{RUN} --part 2/2 --progress")?;
+    let told = run_on(&rt, &line, TWO_BUFFERS, Screen::new(rt.alloc()))?;
+    let drawn = b"\r0 of 2 pieces, 0%\r2 of 2 pieces, 100%\n".as_slice();
+    let end = b"part 2 of 2: 4 of 4\n".as_slice();
+    assert!(rt; told.status == 0 && told.err.text() == drawn && told.out.text().ends_with(end));
     Ok(())
 }
 

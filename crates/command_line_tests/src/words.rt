@@ -146,7 +146,7 @@ pub static MISUSED: [(&str, &str); 43] = [
         "--format",
     ),
     (
-        "faultsim run --bench bench --tests tests --progress --part 1/2",
+        "faultsim compact --bench bench --tests tests --progress",
         "--progress",
     ),
     (
@@ -154,7 +154,7 @@ pub static MISUSED: [(&str, &str); 43] = [
         "--progress",
     ),
     (
-        "faultsim run --bench bench --tests tests --progress --format csv",
+        "faultsim responses --bench bench --tests tests --progress",
         "--progress",
     ),
 ];
@@ -162,7 +162,7 @@ pub static MISUSED: [(&str, &str); 43] = [
 /// What help tells: the version, each option with the name of its value, the defaults, the range of
 /// the workers, a worked example and the status. The outputs of the examples are cases of their
 /// own.
-pub static HELP: [(&str, &str); 37] = [
+pub static HELP: [(&str, &str); 38] = [
     ("faultsim --version", "faultsim 0.2.0\n"),
     ("faultsim --help", "6 of 6 (100.00%)"),
     ("faultsim help run", "--bench <FILE>"),
@@ -199,5 +199,6 @@ pub static HELP: [(&str, &str); 37] = [
     ("faultsim run --help", "uncollapsed"),
     ("faultsim run --help", "text, csv, json"),
     ("faultsim run -h", "--progress"),
+    ("faultsim curve -h", "--progress"),
     ("faultsim check --help", "did you mean NOT?"),
 ];

@@ -5,7 +5,7 @@ ghost use Rattle.diagnosis.specs.Checks.{IsAnswerTo};
 
 use crate::bench::{BenchCheck, check_bench};
 use crate::finding::Findings;
-use crate::summary::{Counts, count_circuit, count_tests};
+use crate::summary::{Counts, Excess, count_circuit, count_tests, excess_of};
 use crate::tests::{TestCheck, check_tests};
 use crate::warning::{Warning, circuit_warnings, test_warnings};
 use bench_net::Circuit;
@@ -23,7 +23,7 @@ pub enum Answer<'a> {
     /// The test text is refused.
     TestsRefused(Findings<'a>),
     /// Classes times blocks are more than `patterns::MAX_PIECES`.
-    TooManyPieces,
+    TooManyPieces(Excess),
 }
 
 /// Checks a bench text, and tests for it where there are any: what both have and a run of them
@@ -40,7 +40,7 @@ pub fn check_texts<'a>(
         BenchCheck::Accepted(circuit) => match answer_for(alloc, model, &circuit, tests)? {
             CircuitAnswer::Accepted(table) => Ok(Answer::Accepted(table)),
             CircuitAnswer::TestsRefused(findings) => Ok(Answer::TestsRefused(findings)),
-            CircuitAnswer::TooManyPieces => Ok(Answer::TooManyPieces),
+            CircuitAnswer::TooManyPieces(excess) => Ok(Answer::TooManyPieces(excess)),
         },
         BenchCheck::Refused(findings) => Ok(Answer::BenchRefused(findings)),
     }
@@ -51,7 +51,7 @@ pub fn check_texts<'a>(
 enum CircuitAnswer<'a> {
     Accepted(String),
     TestsRefused(Findings<'a>),
-    TooManyPieces,
+    TooManyPieces(Excess),
 }
 
 /// The answer for a circuit.
@@ -81,8 +81,8 @@ fn answer_for_tests<'a>(
     tests: &Tests,
 ) -> Result<CircuitAnswer<'a>, AllocError> {
     let taken = count_tests(counts, tests);
-    if taken.are_too_many() {
-        return Ok(CircuitAnswer::TooManyPieces);
+    if let Some(excess) = excess_of(counts, &taken) {
+        return Ok(CircuitAnswer::TooManyPieces(excess));
     }
     let mut table = format!(in alloc; "{counts}{taken}")?;
     add_warnings(&mut table, alloc, &circuit_warnings(alloc, circuit)?)?;

@@ -22,5 +22,5 @@ pub use bench::{BenchCheck, check_bench};
 pub use finding::{Fault, Finding, Findings, Located};
 pub use note::Note;
 pub use scan::{Place, Token};
-pub use summary::{Counts, TestCounts, count_circuit, count_tests};
+pub use summary::{Counts, Excess, TestCounts, count_circuit, count_tests};
 pub use tests::{TestCheck, check_tests};

@@ -1,6 +1,6 @@
 //! What is said of a fault beside the words of the refusal.
 
-use crate::scan::Token;
+use crate::scan::{Short, Token};
 use std::fmt::{self, Display, Formatter};
 
 /// What was found at a fault, what was expected there, and what may have been meant.
@@ -83,6 +83,19 @@ fn write_near<W: fmt::Write>(near: Option<&str>, f: &mut Formatter<W>) -> fmt::R
     }
 }
 
+/// Writes that no line defines a name, and which may have been meant.
+fn write_not_defined<W: fmt::Write>(
+    name: &str,
+    near: Option<&str>,
+    f: &mut Formatter<W>,
+) -> fmt::Result {
+    write!(f, "{} is not defined", Short(name))?;
+    match near {
+        Some(near) => write!(f, "; is {} meant?", Short(near)),
+        None => Ok(()),
+    }
+}
+
 /// How many names of a cycle are told.
 const MAX_NAMES: usize = 12;
 
@@ -95,7 +108,7 @@ fn write_cycle<W: fmt::Write>(names: &[&str], f: &mut Formatter<W>) -> fmt::Resu
         if place > 0 {
             f.write_str(" -> ")?;
         }
-        f.write_str(*name)?;
+        write!(f, "{}", Short(*name))?;
     }
     if names.len() > MAX_NAMES {
         let gates = names.len() - 1;
@@ -133,25 +146,24 @@ impl Display for Note<'_> {
             Note::Nothing => Ok(()),
             Note::Expected { found, expected } => write!(f, "found {found}, expected {expected}"),
             Note::UnknownGate { word, near } => {
-                write!(f, "unknown gate {word}")?;
+                write!(f, "unknown gate {}", Short(*word))?;
                 write_near(*near, f)
             }
             Note::UnknownStatement { word, near } => {
-                write!(f, "unknown statement {word}")?;
+                write!(f, "unknown statement {}", Short(*word))?;
                 write_near(*near, f)
             }
             Note::OneArgument { word, found } => {
-                write!(f, "{word} takes 1 argument, found {found}")
+                write!(f, "{} takes 1 argument, found {found}", Short(*word))
             }
             Note::TestRow | Note::BenchLine => self.fmt_swapped(f),
-            Note::NotDefined { name, near } => match near {
-                Some(near) => write!(f, "{name} is not defined; is {near} meant?"),
-                None => write!(f, "{name} is not defined"),
-            },
-            Note::DefinedAt { name, line } => write!(f, "{name} is defined at line {line} too"),
+            Note::NotDefined { name, near } => write_not_defined(*name, *near, f),
+            Note::DefinedAt { name, line } => {
+                write!(f, "{} is defined at line {line} too", Short(*name))
+            }
             Note::Cycle { names } => write_cycle(names.as_slice(), f),
             Note::FedByCycle { name, names } => {
-                write!(f, "{name} is fed by the cycle ")?;
+                write!(f, "{} is fed by the cycle ", Short(*name))?;
                 write_cycle(names.as_slice(), f)
             }
             Note::TooMany { found, what } => write!(f, "found {found} {what}"),

@@ -40,9 +40,25 @@ impl Display for Token<'_> {
             Token::Close => f.write_str("`)`"),
             Token::Comma => f.write_str("`,`"),
             Token::Equals => f.write_str("`=`"),
-            Token::Word(word) => write!(f, "`{word}`"),
+            Token::Word(word) => write!(f, "`{}`", Short(*word)),
             Token::End => f.write_str("the end of the line"),
             Token::Bad(byte) => write!(f, "the byte 0x{byte:02x}"),
+        }
+    }
+}
+
+/// How many bytes of a word are told.
+const MAX_TOLD: usize = 80;
+
+/// A word as it is told: of a long one the front.
+#[derive(Clone, Copy)]
+pub(crate) struct Short<'a>(pub(crate) &'a str);
+
+impl Display for Short<'_> {
+    fn fmt<W: fmt::Write>(&self, f: &mut Formatter<W>) -> fmt::Result {
+        match self.0.get(..MAX_TOLD) {
+            Some(front) if self.0.len() > MAX_TOLD => write!(f, "{front}.."),
+            _ => f.write_str(self.0),
         }
     }
 }

@@ -9,6 +9,9 @@ use patterns::{BLOCK_SIZE, MAX_PIECES, MAX_TESTS, Tests};
 use std::alloc::{AllocError, Global};
 use std::fmt::{self, Display, Formatter};
 
+/// The blocks of the most tests that a run takes.
+const MAX_BLOCKS: u32 = MAX_TESTS / BLOCK_SIZE;
+
 /// The kinds of gates and their names, in the order of [`Counts::gates`].
 static KINDS: [(Kind, &str); 8] = [
     (Kind::And, "AND"),
@@ -106,29 +109,38 @@ impl Counts {
         blocks.saturating_mul(BLOCK_SIZE).min(MAX_TESTS)
     }
 
-    /// Some bytes that a run of so many blocks takes, by the figures of the README.
-    fn memory(&self, blocks: u64, workers: u64) -> u64 {
+    /// In how many parts at least a run of so many blocks goes.
+    pub(crate) fn parts_of(&self, blocks: u32) -> u64 {
+        let pieces = u64::from(self.classes).saturating_mul(u64::from(blocks));
+        pieces.div_ceil(u64::from(MAX_PIECES)).max(1)
+    }
+
+    /// Some bytes that a run of so many tests takes, by the figures of the README.
+    fn memory(&self, tests: &Tests, workers: u64) -> u64 {
         let signals = u64::from(self.signals);
         let classes = u64::from(self.classes);
         let sources = self.inputs.saturating_add(self.cells) as u64;
-        let circuit = self.all_gates().saturating_mul(290);
-        let words = signals.saturating_add(sources).saturating_mul(blocks);
-        let words = words.saturating_mul(8);
-        let once = signals
-            .saturating_mul(60)
-            .saturating_add(self.pins.saturating_mul(12));
-        let lists = u64::from(self.faults).saturating_mul(4);
-        let lists = lists.saturating_add(classes.saturating_mul(12));
+        let blocks = u64::from(tests.blocks());
+        let text = sources
+            .saturating_add(1)
+            .saturating_mul(u64::from(tests.count()));
+        let words = signals
+            .saturating_mul(16)
+            .saturating_mul(blocks.div_ceil(2))
+            .saturating_add(sources.saturating_mul(8).saturating_mul(blocks));
+        let lists = self
+            .all_gates()
+            .saturating_mul(290)
+            .saturating_add(signals.saturating_mul(60))
+            .saturating_add(self.pins.saturating_mul(12))
+            .saturating_add(u64::from(self.faults).saturating_mul(4))
+            .saturating_add(classes.saturating_mul(12 + 40));
         let each = signals
-            .saturating_mul(25)
-            .saturating_add(classes.saturating_mul(28));
-        let done = classes.saturating_mul(blocks).saturating_mul(2);
-        circuit
-            .saturating_add(words)
-            .saturating_add(once)
+            .saturating_mul(33)
+            .saturating_add(classes.saturating_mul(48));
+        text.saturating_add(words)
             .saturating_add(lists)
             .saturating_add(each.saturating_mul(workers))
-            .saturating_add(done)
     }
 }
 
@@ -156,6 +168,16 @@ fn fmt_gates<W: fmt::Write>(gates: &[u64], f: &mut Formatter<W>) -> fmt::Result 
     Ok(())
 }
 
+impl Counts {
+    /// Writes in how many parts the most tests go, where one run doesn't take so many.
+    fn fmt_parts<W: fmt::Write>(&self, f: &mut Formatter<W>) -> fmt::Result {
+        match self.parts_of(MAX_BLOCKS) {
+            1 => Ok(()),
+            parts => writeln!(f, "parts       {parts:>10} at least, for {MAX_TESTS} tests"),
+        }
+    }
+}
+
 impl Display for Counts {
     fn fmt<W: fmt::Write>(&self, f: &mut Formatter<W>) -> fmt::Result {
         fmt_row("inputs", self.inputs as u64, f)?;
@@ -171,7 +193,8 @@ impl Display for Counts {
         writeln!(f, "faults      {faults:>10} {model}")?;
         fmt_row("classes", u64::from(self.classes), f)?;
         let most = self.tests_a_run();
-        writeln!(f, "tests a run {most:>10} at most")
+        writeln!(f, "tests a run {most:>10} at most")?;
+        self.fmt_parts(f)
     }
 }
 
@@ -199,14 +222,49 @@ pub fn count_tests(counts: &Counts, tests: &Tests) -> TestCounts
         tests: tests.count(),
         blocks,
         pieces: u64::from(counts.classes).saturating_mul(u64::from(blocks)),
-        bytes: counts.memory(u64::from(blocks), USUAL_WORKERS),
+        bytes: counts.memory(tests, USUAL_WORKERS),
     }
 }
 
-impl TestCounts {
-    /// Whether they are too many for one run.
-    pub(crate) fn are_too_many(&self) -> bool {
-        self.pieces > u64::from(MAX_PIECES)
+/// Tests that are too many for one run.
+#[derive(Clone, Copy, Debug, PartialEq, Eq)]
+pub struct Excess {
+    /// Classes of the faults.
+    pub classes: u32,
+    /// Blocks of 64 tests.
+    pub blocks: u32,
+    /// Classes times blocks.
+    pub pieces: u64,
+    /// In how many parts at least a run of them goes.
+    pub parts: u64,
+}
+
+/// What is too much for one run, where tests are too many.
+pub(crate) fn excess_of(counts: &Counts, taken: &TestCounts) -> Option<Excess> {
+    if taken.pieces <= u64::from(MAX_PIECES) {
+        return None;
+    }
+    Some(Excess {
+        classes: counts.classes,
+        blocks: taken.blocks,
+        pieces: taken.pieces,
+        parts: counts.parts_of(taken.blocks),
+    })
+}
+
+impl Display for Excess {
+    fn fmt<W: fmt::Write>(&self, f: &mut Formatter<W>) -> fmt::Result {
+        let Excess {
+            classes,
+            blocks,
+            pieces,
+            parts,
+        } = *self;
+        write!(
+            f,
+            "found {pieces} pieces: {classes} classes on {blocks} blocks of 64 tests; "
+        )?;
+        write!(f, "try --parts {parts} or more")
     }
 }
 

@@ -75,10 +75,10 @@ fn look_at_rows<'a>(
         if bytes.is_empty() {
             continue;
         }
-        if rows >= MAX_TESTS {
-            return tell_too_many(found);
-        }
         rows = rows.saturating_add(1);
+        if rows > MAX_TESTS {
+            continue;
+        }
         let row = Row {
             number,
             line,
@@ -87,11 +87,14 @@ fn look_at_rows<'a>(
         };
         tell_row(alloc, row, width, found)?;
     }
+    if rows > MAX_TESTS {
+        tell_too_many(rows, found)?;
+    }
     Ok(())
 }
 
 /// Tells that there are too many rows.
-fn tell_too_many<'a>(found: &mut Found<'a>) -> Result<(), AllocError> {
+fn tell_too_many<'a>(rows: u32, found: &mut Found<'a>) -> Result<(), AllocError> {
     if found.is_full() {
         found.count();
         return Ok(());
@@ -100,7 +103,10 @@ fn tell_too_many<'a>(found: &mut Found<'a>) -> Result<(), AllocError> {
         fault: Fault::Tests(TestFault::TooMany),
         text: &[],
         place: Place { start: 0, len: 0 },
-        note: Note::Nothing,
+        note: Note::TooMany {
+            found: rows as usize,
+            what: "rows",
+        },
     })
 }
 

@@ -2,6 +2,7 @@
 
 ghost use Rattle.std.specs.Prelude.{◌<◌};
 
+use crate::scan::Short;
 use bench_net::{Circuit, Sink};
 use patterns::Tests;
 use std::alloc::{AllocError, Global};
@@ -48,7 +49,7 @@ impl Display for NameList<'_> {
             if place > 0 {
                 f.write_str(", ")?;
             }
-            f.write_str(*name)?;
+            write!(f, "{}", Short(*name))?;
         }
         match self.more {
             0 => Ok(()),

@@ -1,0 +1,139 @@
+//! Texts that are made of a run, with what is drawn meanwhile.
+
+ghost use Rattle.command_line.specs.Form.{HasParts};
+
+use crate::command::{read_model, read_option, read_workers};
+use crate::progress::Progress;
+use crate::source::Source;
+use crate::status::Fault;
+use clap::ArgMatches;
+use fault_model::Model;
+use report::{
+    Contents, Lines, OpenGate, Out, SimFault, Watch, curve_text_watched, part_text_watched,
+    simulate_text_watched,
+};
+use std::alloc::Global;
+use std::sync::Wait;
+use std::thread::Threads;
+use tables::{Format, run_table_watched};
+
+/// What is made of a run.
+#[derive(Clone, Copy)]
+pub(crate) enum Form {
+    /// The report of a run, in so many parts where a number is given.
+    Report {
+        contents: Contents,
+        parts: Option<u32>,
+    },
+    /// The text of one part, counted from 0.
+    Part {
+        part: u32,
+        parts: u32,
+    },
+    /// The table of a run.
+    Table {
+        lines: Lines,
+        format: Format,
+    },
+    /// The curve of a run.
+    Curve,
+}
+
+/// What a run is of.
+#[derive(Clone, Copy)]
+struct Inputs<'b> {
+    model: Model,
+    bench: &'b [u8],
+    tests: &'b [u8],
+    workers: u32,
+}
+
+/// Runs what the command line names, and writes the text. Both files are read before either text is
+/// looked at.
+pub(crate) fn write_form<'a, R: Threads + Wait, S: Source, W: Out, E: Out + Send>(
+    rt: &R,
+    alloc: Global,
+    matches: &ArgMatches<'a>,
+    form: Form,
+    files: &mut S,
+    out: &mut W,
+    err: &mut E,
+) -> Result<(), Fault<'a>>
+    requires { HasParts form }
+{
+    let model = read_model(matches)?;
+    let workers = read_workers(matches)?;
+    let bench = read_option(alloc, matches, "bench", files)?;
+    let tests = read_option(alloc, matches, "tests", files)?;
+    let inputs = Inputs {
+        model,
+        bench: &bench,
+        tests: &tests,
+        workers,
+    };
+    let done = if matches.get_flag("progress") {
+        write_drawn(rt, alloc, inputs, form, out, err)
+    } else {
+        write_text(rt, alloc, inputs, form, &OpenGate, out)
+    };
+    match done {
+        Ok(()) => Ok(()),
+        Err(fault) => Err(Fault::Sim(fault)),
+    }
+}
+
+/// Runs and writes the text, and draws how far the run is.
+fn write_drawn<R: Threads + Wait, W: Out, E: Out + Send>(
+    rt: &R,
+    alloc: Global,
+    inputs: Inputs<'_>,
+    form: Form,
+    out: &mut W,
+    err: &mut E,
+) -> Result<(), SimFault>
+    requires { HasParts form }
+{
+    let Ok(progress) = Progress::new(alloc, inputs.workers, err) else {
+        return Err(SimFault::Memory);
+    };
+    let done = write_text(rt, alloc, inputs, form, &progress, out);
+    progress.close();
+    done
+}
+
+/// Runs under a gate, and writes the text.
+fn write_text<R: Threads + Wait, G: Watch + Sync, W: Out>(
+    rt: &R,
+    alloc: Global,
+    inputs: Inputs<'_>,
+    form: Form,
+    gate: &G,
+    out: &mut W,
+) -> Result<(), SimFault>
+    requires { HasParts form }
+{
+    let Inputs {
+        model,
+        bench,
+        tests,
+        workers,
+    } = inputs;
+    match form {
+        Form::Report { contents, parts } => {
+            simulate_text_watched(
+                rt, alloc, model, bench, tests, parts, workers, contents, gate, out,
+            )
+        }
+        Form::Part { part, parts } => {
+            part_text_watched(
+                rt, alloc, model, bench, tests, part, parts, workers, gate, out,
+            )
+        }
+        Form::Table { lines, format } => {
+            run_table_watched(
+                rt, alloc, model, bench, tests, workers, lines, format, gate, out,
+            )
+        }
+        Form::Curve => curve_text_watched(rt, alloc, model, bench, tests, workers, gate, out),
+    }
+}
