@@ -15,6 +15,8 @@ ghost use Rattle.fault_model.specs.Detection.{ClassesDetectedSame, DetectedAsRep
 ghost use Rattle.fault_model.specs.Laws.{HasSolutions, HasOneSolution, HasRepresentatives};
 ghost use Rattle.fault_model.specs.Laws.{HasClasses, ClassesDetectSame, RepresentativesDetectSame};
 ghost use Rattle.fault_model.specs.Laws.{DetectionIsOfAnySolution};
+ghost use Rattle.fault_model.specs.Laws.{HavePairsClassOfTransitions};
+ghost use Rattle.fault_model.specs.Laws.{HavePairsClassesOfTransitions};
 
 /// A circuit without cycles has exactly one solution under each test, without a fault and under
 /// each single stuck-at fault.
@@ -56,4 +58,11 @@ pub fn equivalence()
 /// A simulator may take whichever solutions it finds: these decide detection.
 pub fn detection()
     ensures { (c : List Statement) → IsWellFormed c → DetectionIsOfAnySolution c }
+{}
+
+/// Launch and capture pairs have the classes of transition faults under tests in a row: the same
+/// lines and bits are of one class, and the classes have the same numbers.
+pub fn pairs()
+    ensures class { (c : List Statement) → HavePairsClassOfTransitions c }
+    ensures classes { (c : List Statement) → HavePairsClassesOfTransitions c }
 {}
