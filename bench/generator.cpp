@@ -68,7 +68,7 @@ static void keep(const Tests& t, const std::vector<u64>& needed, bool pairs, std
 }
 
 static std::vector<Row> sorted(const Circuit& c, const Faults& f, const std::vector<Row>& rows) {
-    Job j = make_job(c, f, tests_of(rows, c.sources()), 1, false, {true, true});
+    Job j = make_job(c, f, tests_of(rows, c.sources()), 1, false, false, {true, true});
     Plan plan;
     plan.regions = plan.groups = true;
     Totals totals;
@@ -89,7 +89,7 @@ int main(int argc, char** argv) {
     std::mt19937_64 random(argc > 3 ? std::stoul(argv[3]) : 1);
     Circuit c = read_bench(read_file(argv[1]));
     Faults f = list_faults(c, transition);
-    Job j = make_job(c, f, random_tests(c.sources(), random), 1, transition, {false, true});
+    Job j = make_job(c, f, random_tests(c.sources(), random), 1, transition, false, {false, true});
     std::vector<u32> place(j.size), left(f.rep.size());
     for (u32 n = 0; n < j.size; ++n) place[c.order[n]] = n;
     for (u32 k = 0; k < left.size(); ++k) left[k] = k;

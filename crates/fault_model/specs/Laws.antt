@@ -3,10 +3,13 @@ use Rattle.std.specs.Prelude.{◌≡◌, ◌↔◌, ◌≢◌, ℕ, Bool, List, 
 use Rattle.bench_net.specs.declared.Sink.{Sink}
 use Rattle.bench_net.specs.Statement.{Name, Statement}
 use Rattle.bench_net.specs.Scan.{names, observers}
+use Rattle.fault_model.specs.declared.Line.{Line}
 use Rattle.fault_model.specs.declared.Model.{Model}
+use Rattle.fault_model.specs.declared.Model.TheVariants.{Transition, TransitionPairs}
 use Rattle.fault_model.specs.Fault.{Fault, faults}
 use Rattle.fault_model.specs.Solution.{Test, Solves, Detects, shows}
 use Rattle.fault_model.specs.Collapse.{Represents, representatives, IsClassOf, AreEquivalent}
+use Rattle.fault_model.specs.Collapse.{Collapsed, AreClassesOf}
 
 -- under every test, without a fault and under each fault, some valuation solves
 abbrev pub HasSolutions : List Statement → Type 0
@@ -45,3 +48,14 @@ DetectionIsOfAnySolution c = (f : Fault) (t : Test) (v w : Name → Bool) → So
     → Solves c t (Some f) w
     → Detects c t f ↔ ((observer : Sink × Name) × Contains (observers c) observer
     × (shows None v observer ≢ shows (Some f) w observer))
+
+-- under pairs a line slow to leave a bit is of the class of which it is under tests in a row
+abbrev pub HavePairsClassOfTransitions : List Statement → Type 0
+HavePairsClassOfTransitions c = (l : Line) (b : Bool) (class : ℕ)
+    → IsClassOf Transition c (record { model = Transition; line = l; stuck = b }) class
+    ↔ IsClassOf TransitionPairs c (record { model = TransitionPairs; line = l; stuck = b }) class
+
+-- and what contracts see of the classes is the same of both
+abbrev pub HavePairsClassesOfTransitions : List Statement → Type 0
+HavePairsClassesOfTransitions c = (classes : Collapsed)
+    → AreClassesOf Transition c classes ↔ AreClassesOf TransitionPairs c classes

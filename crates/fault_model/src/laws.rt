@@ -19,6 +19,8 @@ ghost use Rattle.fault_model.specs.Laws.{DetectionIsOfAnySolution};
 ghost use Rattle.fault_model.specs.Reordered.{IsReordered, HasSameSignals, HasSameSinks};
 ghost use Rattle.fault_model.specs.Reordered.{IsSolvedSame, IsDetectedSame, HasSameBits};
 ghost use Rattle.fault_model.specs.Reordered.{IsDetectedSameAt, IsOrderedByLevel};
+ghost use Rattle.fault_model.specs.Laws.{HavePairsClassOfTransitions};
+ghost use Rattle.fault_model.specs.Laws.{HavePairsClassesOfTransitions};
 
 /// A circuit without cycles has exactly one solution under each test, without a fault and under
 /// each single stuck-at fault.
@@ -84,4 +86,11 @@ pub fn reordering()
         → IsLevelOrder c order → IsOrderedByLevel c order }
     ensures one_order { (c : List Statement) (order other : List ℕ) → IsWellFormed c
         → IsLevelOrder c order → IsLevelOrder c other → order ≡ other }
+{}
+
+/// Launch and capture pairs have the classes of transition faults under tests in a row: the same
+/// lines and bits are of one class, and the classes have the same numbers.
+pub fn pairs()
+    ensures class { (c : List Statement) → HavePairsClassOfTransitions c }
+    ensures classes { (c : List Statement) → HavePairsClassesOfTransitions c }
 {}
