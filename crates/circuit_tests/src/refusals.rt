@@ -1,106 +1,31 @@
 //! Bench texts that are refused, each with its fault.
 
 use bench_net::{BenchFault, Limit, read_bench};
+use refused_texts::BENCH_TEXTS;
 use std::alloc::{AllocError, Global};
 use std::test::Fail;
 use worked_circuits::C17;
-
-/// Texts whose fault is at this line, counted from 1, and is that the line is no statement.
-static NO_STATEMENTS: [(&[u8], u64); 23] = [
-    (b"INPUT(a", 1),
-    (b"INPUT(G1", 1),
-    (b"INPUT(a)\nz = vdd\n", 2),
-    (b"INPUT(a)\nz = INV(a)\n", 2),
-    (b"INPUT(a)\nz = NOT(a, a)\n", 2),
-    (b"OUTPUT(z)\n)\n", 2),
-    (b"INPUT(a)\rINPUT(b)\n", 1),
-    (b"INPUT(a)\r\r\n", 1),
-    (b"INPUT(a\x80)\n", 1),
-    (b"INPUT(a)\nz = AND(a,)\n", 2),
-    (b"INPUT(a)\nz = AND()\n", 2),
-    (b"INPUT(a)\nz = AND(a a)\n", 2),
-    (b"INPUT(a)\nz = DFF(a, a)\n", 2),
-    (b"INPUT(a)\nz = BUF(a, a)\n", 2),
-    (b"INPUT(a, b)\n", 1),
-    (b"INPUT()\n", 1),
-    (b"INPUT(a) x\n", 1),
-    (b"z == NOT(a)\n", 1),
-    (b"INPUTS(a)\n", 1),
-    (b"INPUT(a)\n\nINPUT(b\nOUTPUT)\n", 3),
-    (b"z = NOT(a)(b)\n", 1),
-    (b"INPUT(a)\n\x7f\n", 2),
-    (b"INPUT(# a)\n", 1),
-];
-
-/// Texts with another fault. Three are c17 up to the end of its line 6, 8 and 12.
-static OTHERS: [(&[u8], BenchFault); 20] = [
-    (b"INPUT(a)\nINPUT(a)\n", BenchFault::Redefined(2)),
-    (b"OUTPUT(x)\nINPUT(a)\nINPUT(a)\n", BenchFault::Redefined(3)),
-    (
-        b"INPUT(a)\nINPUT(b)\nb = NOT(a)\na = NOT(b)\n",
-        BenchFault::Redefined(3),
-    ),
-    (b"q = DFF(a)\n\nINPUT(q)\n", BenchFault::Redefined(3)),
-    (b"OUTPUT(z)\n", BenchFault::Undefined(1)),
-    (b"INPUT(a)\nOUTPUT(A)\n", BenchFault::Undefined(2)),
-    (
-        b"INPUT(a)\nz = AND(a, b)\nOUTPUT(c)\n",
-        BenchFault::Undefined(2),
-    ),
-    (b"INPUT(a)\n# b\n\nq = DFF(b)\n", BenchFault::Undefined(4)),
-    (b"OUTPUT(z)\n)\n", BenchFault::Syntax(2)),
-    (b"a = NOT(a)\nOUTPUT(x)\n", BenchFault::Undefined(2)),
-    (
-        b"INPUT(G1)\nINPUT(G2)\nINPUT(G3)\nINPUT(G6)\nINPUT(G7)\nOUTPUT(G22)\n",
-        BenchFault::Undefined(6),
-    ),
-    (
-        b"\
-            INPUT(G1)\nINPUT(G2)\nINPUT(G3)\nINPUT(G6)\nINPUT(G7)\nOUTPUT(G22)\nOUTPUT(G23)\n\
-            G10 = NAND(G1, G3)\n",
-        BenchFault::Undefined(6),
-    ),
-    (
-        b"\
-            INPUT(G1)\nINPUT(G2)\nINPUT(G3)\nINPUT(G6)\nINPUT(G7)\nOUTPUT(G22)\nOUTPUT(G23)\n\
-            G10 = NAND(G1, G3)\nG11 = NAND(G3, G6)\nG16 = NAND(G2, G11)\n\
-            G19 = NAND(G11, G7)\nG22 = NAND(G10, G16)\n",
-        BenchFault::Undefined(7),
-    ),
-    (b"a = NOT(b)\nb = NOT(a)\n", BenchFault::Cycle(1)),
-    (
-        b"INPUT(a)\nb = NOT(c)\nc = AND(a, d)\nd = BUFF(c)\n",
-        BenchFault::Cycle(2),
-    ),
-    (
-        b"# a loop\n\nINPUT(c)\r\n\na = AND(b, c)\nb = NOT(a)\n",
-        BenchFault::Cycle(5),
-    ),
-    (b"", BenchFault::Empty),
-    (b"# x\n", BenchFault::Empty),
-    (b"# nothing\n", BenchFault::Empty),
-    (b"\r\n \t\n\r", BenchFault::Empty),
-];
 
 /// The refusal of a text, or none where it is accepted.
 fn refusal(alloc: Global, text: &[u8]) -> Option<BenchFault> {
     read_bench(alloc, text).err()
 }
 
-#[test]
-fn lines_that_are_no_statements_are_refused_by_name(rt: HostRuntime) {
-    for (text, line) in &NO_STATEMENTS {
-        let refused = refusal(rt.alloc(), text);
-        assert_eq!(rt; refused, Some(BenchFault::Syntax(*line)));
-    }
+/// Whether a text is refused in these words.
+fn is_refused(alloc: Global, text: &[u8], words: &str) -> Result<bool, AllocError> {
+    let Some(fault) = refusal(alloc, text) else {
+        return Ok(false);
+    };
+    let said = format!(in alloc; "{fault}")?;
+    Ok(said.as_str() == words)
 }
 
 #[test]
-fn other_faulty_texts_are_refused_by_name(rt: HostRuntime) {
-    for (text, fault) in &OTHERS {
-        let refused = refusal(rt.alloc(), text);
-        assert_eq!(rt; refused, Some(*fault));
+fn faulty_texts_are_refused_in_their_words(rt: HostRuntime) -> Result<(), Fail> {
+    for (text, words) in &BENCH_TEXTS {
+        assert!(rt; is_refused(rt.alloc(), text, words)?, "{words}");
     }
+    Ok(())
 }
 
 /// What a beginning of c17 is refused with: each of its 13 lines ends with its one `)`.

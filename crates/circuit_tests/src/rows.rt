@@ -1,6 +1,7 @@
 //! Test texts: the tests that are read, in words of 64, and the texts that are refused.
 
 use patterns::{TestFault, Tests, read_tests};
+use refused_texts::TEST_TEXTS;
 use std::alloc::{AllocError, Global};
 use std::process::Abort;
 use std::test::Fail;
@@ -112,62 +113,8 @@ static CASES: [Case; 6] = [
     },
 ];
 
-/// A text, its width, and the refusal.
-static REFUSED: [(Text, u32, TestFault); 9] = [
-    (
-        Text {
-            row: "",
-            count: 0,
-            last: "11111\n00000\n1111\n",
-        },
-        5,
-        TestFault::BadWidth(3),
-    ),
-    (
-        Text {
-            row: "",
-            count: 0,
-            last: "11211\n",
-        },
-        5,
-        TestFault::BadByte(1),
-    ),
-    (
-        Text {
-            row: "",
-            count: 0,
-            last: "1 1\n",
-        },
-        2,
-        TestFault::BadByte(1),
-    ),
-    (
-        Text {
-            row: "",
-            count: 0,
-            last: "1121\n",
-        },
-        2,
-        TestFault::BadByte(1),
-    ),
-    (
-        Text {
-            row: "",
-            count: 0,
-            last: "1\r#\n",
-        },
-        1,
-        TestFault::BadByte(1),
-    ),
-    (
-        Text {
-            row: "",
-            count: 0,
-            last: "# a\n\n1\n0\n",
-        },
-        2,
-        TestFault::BadWidth(3),
-    ),
+/// Long texts, the width of each, and the refusal.
+static LONG_REFUSED: [(Text, u32, TestFault); 3] = [
     (
         Text {
             row: "00",
@@ -259,17 +206,43 @@ fn tests_of_texts(rt: HostRuntime) -> Result<(), Fail> {
 }
 
 /// How a text is refused.
-fn refusal(rt: &impl Abort, alloc: Global, text: &str, width: u32) -> Option<TestFault> {
+fn refusal(rt: &impl Abort, alloc: Global, text: &[u8], width: u32) -> Option<TestFault> {
     assert!(rt; width >= 1);
-    read_tests(alloc, text.as_bytes(), width).err()
+    read_tests(alloc, text, width).err()
 }
 
 #[test]
-fn refused_texts(rt: HostRuntime) -> Result<(), Fail> {
-    for (text, width, fault) in &REFUSED {
+fn long_texts_are_refused(rt: HostRuntime) -> Result<(), Fail> {
+    for (text, width, fault) in &LONG_REFUSED {
         let text = text_of(rt.alloc(), text)?;
-        let refused = refusal(&rt, rt.alloc(), &text, *width);
+        let refused = refusal(&rt, rt.alloc(), text.as_bytes(), *width);
         assert_eq!(rt; refused, Some(*fault));
+    }
+    Ok(())
+}
+
+/// Whether a text of tests of this width is refused in these words.
+fn is_refused(
+    rt: &impl Abort,
+    alloc: Global,
+    text: &[u8],
+    width: u32,
+    words: &str,
+) -> Result<bool, AllocError> {
+    let Some(fault) = refusal(rt, alloc, text, width) else {
+        return Ok(false);
+    };
+    let said = format!(in alloc; "{fault}")?;
+    Ok(said.as_str() == words)
+}
+
+#[test]
+fn faulty_texts_are_refused_in_their_words(rt: HostRuntime) -> Result<(), Fail> {
+    for (text, width, words) in &TEST_TEXTS {
+        assert!(rt;
+            is_refused(&rt, rt.alloc(), text, *width, words)?,
+            "{words}"
+        );
     }
     Ok(())
 }

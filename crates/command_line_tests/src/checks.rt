@@ -1,58 +1,11 @@
-//! The command `check`: what it tells of good texts and of refused ones, and that it names the same
-//! first fault as the other commands.
+//! The command `check`: what it tells of good texts and of refused ones.
 
-use crate::cases::{Case, REFUSED_CASES};
 use crate::screen::{Screen, Texts, Wanted, answers, run_on};
 use std::alloc::AllocError;
 use std::sync::Wait;
 use std::test::Fail;
 use std::thread::Threads;
 use worked_circuits::C17_TEXT as C17;
-
-/// The command line that checks the texts of a case.
-fn check_line(case: &Case) -> &'static str {
-    if case.line.contains("--tests") {
-        "faultsim check --bench bench --tests tests"
-    } else {
-        "faultsim check --bench bench"
-    }
-}
-
-/// Whether a check of a case's texts tells the refusal last, and tells it first with its file and
-/// its line.
-fn names_the_same<R: AllocGlobal + Threads + Wait>(
-    rt: &R,
-    case: &Case,
-) -> Result<bool, AllocError> {
-    let files = Texts {
-        bench: case.bench,
-        tests: case.tests,
-        order: case.order,
-    };
-    let told = run_on(rt, check_line(case), files, Screen::new(rt.alloc()))?;
-    let refusal = case.stderr.strip_prefix("faultsim: ").unwrap_or("");
-    let first = match refusal.split_once(" line ") {
-        Some((file, rest)) => format!(in rt.alloc(); "{file}:{rest}")?,
-        None => format!(in rt.alloc(); "{refusal}")?,
-    };
-    let text = told.err.text();
-    Ok(
-        told.status == case.status
-            && told.out.text().is_empty()
-            && text.starts_with(first.as_str().as_bytes())
-            && text.ends_with(case.stderr.as_bytes()),
-    )
-}
-
-#[test]
-fn first_fault_is_that_of_a_run(rt: HostRuntime) -> Result<(), Fail> {
-    for case in &REFUSED_CASES {
-        if !case.line.contains("--order") {
-            assert!(rt; names_the_same(&rt, case)?, "{}", case.name);
-        }
-    }
-    Ok(())
-}
 
 /// Texts that are checked, and what must come.
 #[derive(Clone, Copy)]

@@ -157,7 +157,7 @@ fn first_missing_file_is_named(rt: HostRuntime) -> Result<(), Fail> {
 }
 
 /// Whether a text has a part.
-fn has(text: &[u8], part: &str) -> bool {
+pub fn has(text: &[u8], part: &str) -> bool {
     str::from_utf8(text).is_ok_and(|text| text.contains(part))
 }
 

@@ -28,6 +28,8 @@ mod process;
 #[cfg(test)]
 mod progress;
 #[cfg(test)]
+mod refused;
+#[cfg(test)]
 mod rows;
 #[cfg(test)]
 mod screen;

@@ -1,7 +1,9 @@
 //! Texts at a limit and past it.
 
 use crate::cases::BUFFER;
-use crate::screen::{Texts, Wanted, answers};
+use crate::commands::has;
+use crate::refused::{BENCH, BOTH, names_the_same};
+use crate::screen::{Screen, Texts, Wanted, answers, run_on};
 use std::alloc::{AllocError, Global};
 use std::process::Abort;
 use std::sync::Wait;
@@ -156,7 +158,24 @@ fn refuses<R: AllocGlobal + Threads + Wait>(rt: &R, past: &Past) -> Result<bool,
         stderr: past.stderr,
         status: 1,
     };
-    answers(rt, past.line, files, wanted)
+    Ok(answers(rt, past.line, files, wanted)? && is_checked(rt, past, files)?)
+}
+
+/// Whether a check of the files names the same refusal, where it reads all of them.
+fn is_checked<R: AllocGlobal + Threads + Wait>(
+    rt: &R,
+    past: &Past,
+    files: Texts<'_>,
+) -> Result<bool, AllocError> {
+    if past.line.contains("--order") || past.line.contains("--part") {
+        return Ok(true);
+    }
+    let line = if past.line.contains("--tests") {
+        BOTH
+    } else {
+        BENCH
+    };
+    names_the_same(rt, line, files, past.stderr)
 }
 
 /// Checks that all files past a limit are refused.
@@ -234,7 +253,11 @@ fn answers_long<R: AllocGlobal + Threads + Wait>(
         order: "",
     };
     let line = "faultsim run --bench bench --tests tests --workers 4 --list";
-    answers(rt, line, files, wanted)
+    let is_refused = wanted.status == 1;
+    Ok(
+        answers(rt, line, files, wanted)?
+            && (!is_refused || names_the_same(rt, BOTH, files, wanted.stderr)?),
+    )
 }
 
 #[test]
@@ -242,5 +265,44 @@ fn buffer_takes_65536_tests(rt: HostRuntime) -> Result<(), Fail> {
     for (rows, wanted) in &LONG_TESTS {
         assert!(rt; answers_long(&rt, rows, *wanted)?, "{rows}");
     }
+    Ok(())
+}
+
+/// What a check tells of the wide gate before its warnings: of 16,386 classes a run takes 1,023
+/// blocks of tests.
+const ENOUGH: &str = "\
+    tests a run      65472 at most\n\
+    parts                2 at least, for 65536 tests\n\
+    ";
+
+/// What it tells of all tests for it.
+const TOO_MANY: &str = "\
+    tests: more than 16777216 pieces\n\
+    \x20   found 16779264 pieces: 16386 classes on 1024 blocks of 64 tests; try --parts 2 or more\n\
+    faultsim: more than 16777216 pieces\n\
+    ";
+
+/// Whether a check of texts tells this.
+fn tells<R: AllocGlobal + Threads + Wait>(
+    rt: &R,
+    line: &str,
+    files: Texts<'_>,
+    part: &str,
+) -> Result<bool, AllocError> {
+    let told = run_on(rt, line, files, Screen::new(rt.alloc()))?;
+    Ok(has(told.out.text(), part) || has(told.err.text(), part))
+}
+
+#[test]
+fn how_many_parts_are_wanted_is_told(rt: HostRuntime) -> Result<(), Fail> {
+    let bench = spelled(rt.alloc(), &WIDE)?;
+    let tests = spelled(rt.alloc(), &MANY_TESTS)?;
+    let files = Texts {
+        bench: &bench,
+        tests: &tests,
+        order: "",
+    };
+    assert!(rt; tells(&rt, BENCH, files, ENOUGH)?);
+    assert!(rt; tells(&rt, BOTH, files, TOO_MANY)?);
     Ok(())
 }

@@ -1,7 +1,7 @@
 //! Part texts that are merged, and those that are refused.
 
 use crate::parts::text_of;
-use crate::screen::{Screen, Wanted, answers, run_on};
+use crate::screen::{Answer, Screen, Wanted, answers, run_on};
 use command_line::{Source, SourceFault};
 use std::alloc::Global;
 use std::test::Fail;
@@ -146,6 +146,9 @@ fn refused_parts_are_named(rt: HostRuntime) -> Result<(), Fail> {
     Ok(())
 }
 
+/// The report of both parts of one run.
+const REPORT: &str = "stem a sa0 7\nstem a sa1 none\n1 of 2 (50.00%)\n";
+
 #[test]
 fn two_parts_are_merged(rt: HostRuntime) -> Result<(), Fail> {
     let short = Wanted {
@@ -154,12 +157,31 @@ fn two_parts_are_merged(rt: HostRuntime) -> Result<(), Fail> {
         status: 0,
     };
     let long = Wanted {
-        stdout: "stem a sa0 7\nstem a sa1 none\n1 of 2 (50.00%)\n",
+        stdout: REPORT,
         ..short
     };
     let files = Named { files: &FILES };
     assert!(rt; answers(&rt, "faultsim merge first second", files, short)?);
     assert!(rt; answers(&rt, "faultsim merge second first --list", files, long)?);
+    Ok(())
+}
+
+/// Whether a merge tells that its output takes so many bytes alone, and those are the first of the
+/// report.
+fn is_cut(told: &Answer, limit: usize) -> bool {
+    Some(told.out.text()) == REPORT.as_bytes().get(..limit)
+        && told.err.text() == b"faultsim: cannot write\n".as_slice()
+        && told.status == 3
+}
+
+#[test]
+fn a_failing_output_has_a_beginning_of_the_merged_report(rt: HostRuntime) -> Result<(), Fail> {
+    let files = Named { files: &FILES };
+    for limit in 0..REPORT.len() {
+        let out = Screen::cut(rt.alloc(), limit, 4096);
+        let told = run_on(&rt, "faultsim merge first second --list", files, out)?;
+        assert!(rt; is_cut(&told, limit), "{limit}");
+    }
     Ok(())
 }
 

@@ -2,13 +2,14 @@
 //! the two differ.
 
 use crate::cases::{BUFFER, Case};
+use crate::rows::TURNED;
 use worked_circuits::C17_TEXT as C17;
 
 /// Three pairs for C17, and a test without a second.
 const C17_PAIRS: &str = "11111\n00000\n10111\n01011\n00110\n11010\n11111\n";
 
 /// Pairs.
-pub static PAIR_CASES: [Case; 8] = [
+pub static PAIR_CASES: [Case; 9] = [
     Case {
         name: "tests_in_a_row_over_two_pairs",
         line: "faultsim run --bench bench --tests tests --list --model transition",
@@ -119,6 +120,30 @@ pub static PAIR_CASES: [Case; 8] = [
         tests: C17_PAIRS,
         order: "",
         stdout: "1 4 11.76\n3 12 35.29\n5 14 41.17\n14 of 34 (41.17%)\n",
+        stderr: "",
+        status: 0,
+    },
+    Case {
+        name: "pairs_of_launch_on_capture",
+        line: "faultsim run --bench bench --tests tests --list --model transition-pairs",
+        bench: TURNED,
+        tests: "00\n00\n01\n01\n10\n11\n11\n10\n",
+        order: "",
+        stdout: "\
+            stem a str none\n\
+            stem a stf none\n\
+            stem q str 5\n\
+            stem q stf 7\n\
+            pin d 2 str 5\n\
+            pin d 2 stf 7\n\
+            pin z 1 str 5\n\
+            pin z 1 stf 7\n\
+            stem d str 7\n\
+            stem d stf 5\n\
+            stem z str 7\n\
+            stem z stf 5\n\
+            10 of 12 (83.33%)\n\
+            ",
         stderr: "",
         status: 0,
     },

@@ -1,6 +1,7 @@
 //! Cases of `compact` and `responses`, and pairs of launch on capture.
 
 use crate::cases::{BUFFER, Case};
+use crate::daily::C17_TESTS;
 use crate::screen::{Screen, Texts, run_on};
 use std::alloc::AllocError;
 use std::sync::Wait;
@@ -12,10 +13,10 @@ use worked_circuits::C17_TEXT as C17;
 const AND: &str = "INPUT(a)\nINPUT(b)\nOUTPUT(z)\nz = AND(a, b)\n";
 
 /// An input, and a flip-flop that it turns.
-const TURNED: &str = "INPUT(a)\nOUTPUT(z)\nq = DFF(d)\nd = XOR(a, q)\nz = NOT(q)\n";
+pub const TURNED: &str = "INPUT(a)\nOUTPUT(z)\nq = DFF(d)\nd = XOR(a, q)\nz = NOT(q)\n";
 
 /// Fewer tests that detect the same faults.
-pub static COMPACT_CASES: [Case; 6] = [
+pub static COMPACT_CASES: [Case; 8] = [
     Case {
         name: "first_test_left_out_by_the_second_pass",
         line: "faultsim compact --bench bench --tests tests",
@@ -33,6 +34,26 @@ pub static COMPACT_CASES: [Case; 6] = [
         tests: "11\n11\n01\n10\n# none\n",
         order: "",
         stdout: "11\n01\n10\n",
+        stderr: "",
+        status: 0,
+    },
+    Case {
+        name: "both_passes_leave_out_tests_of_c17",
+        line: "faultsim compact --bench bench --tests tests",
+        bench: C17,
+        tests: C17_TESTS,
+        order: "",
+        stdout: "11111\n00000\n00110\n11010\n",
+        stderr: "",
+        status: 0,
+    },
+    Case {
+        name: "pairs_are_kept_and_left_out_whole",
+        line: "faultsim compact --bench bench --tests tests --model transition-pairs",
+        bench: BUFFER,
+        tests: "0\n0\n0\n1\n1\n0\n0\n1\n1\n",
+        order: "",
+        stdout: "0\n1\n1\n0\n",
         stderr: "",
         status: 0,
     },
@@ -94,9 +115,9 @@ pub static RESPONSES_CASES: [Case; 5] = [
         name: "responses_of_c17",
         line: "faultsim responses --bench bench --tests tests",
         bench: C17,
-        tests: "11111\n00000\n",
+        tests: C17_TESTS,
         order: "",
-        stdout: "10\n00\n",
+        stdout: "10\n10\n00\n10\n11\n00\n11\n",
         stderr: "",
         status: 0,
     },

@@ -1,6 +1,7 @@
 //! Command lines for which memory or a thread is refused: they say so, and write nothing else.
 
 use crate::ballast::Ballast;
+use crate::merges::{FIRST, REPORT, SECOND};
 use crate::sweep::{Outcome, Trial, answered, refused, sweep};
 use crate::texts::Screen;
 use command_line::{Source, SourceFault, run_words};
@@ -13,7 +14,8 @@ use std::test::Fail;
 use std::thread::Threads;
 use worked_circuits::C17;
 
-/// The files `bench`, which is C17, and `tests`, which has one test, each read into new memory.
+/// The files `bench`, which is C17, and `tests`, which has one test, and the part texts `first` and
+/// `second`, each read into new memory.
 #[derive(Clone, Copy)]
 struct Files;
 
@@ -22,6 +24,8 @@ impl Source for Files {
         let text = match path {
             "bench" => C17,
             "tests" => b"11111\n".as_slice(),
+            "first" => FIRST,
+            "second" => SECOND,
             _ => return Err(SourceFault::Unreadable),
         };
         Vec::from_slice(alloc, text).map_err(|_| SourceFault::Memory)
@@ -72,6 +76,22 @@ fn sweep_listing<R: Threads + Wait + Abort>(
 fn command_lines_say_that_memory_is_out(rt: HostRuntime) -> Result<(), Fail> {
     let listing = listing_bytes(rt.alloc(), Model::StuckAt, C17)?;
     sweep_listing(&rt, rt.alloc(), listing.as_slice())
+}
+
+/// Tries a merge of two part texts with no memory and then with more and more.
+fn sweep_merge<R: Threads + Wait + Abort>(rt: &R, alloc: Global) -> Result<(), Fail> {
+    let merged = Commanded {
+        rt,
+        words: &["faultsim", "merge", "--list", "first", "second"],
+        text: REPORT,
+        refusal: "faultsim: out of memory\n",
+    };
+    sweep(rt, alloc, &merged)
+}
+
+#[test]
+fn merges_say_that_memory_is_out(rt: HostRuntime) -> Result<(), Fail> {
+    sweep_merge(&rt, rt.alloc())
 }
 
 /// A run of C17 by this number of workers.

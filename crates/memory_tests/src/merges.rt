@@ -7,14 +7,14 @@ use std::alloc::Global;
 use std::test::Fail;
 
 /// The part texts of two faults.
-const FIRST: &[u8] = b"\
+pub(crate) const FIRST: &[u8] = b"\
     part 1 of 2 model stuck rule region bench b tests t\n\
     stem a sa0 7\n\
     stem a sa1 -\n\
     part 1 of 2: 1 of 1\n\
     ";
 
-const SECOND: &[u8] = b"\
+pub(crate) const SECOND: &[u8] = b"\
     part 2 of 2 model stuck rule region bench b tests t\n\
     stem a sa0 -\n\
     stem a sa1 none\n\
@@ -22,7 +22,7 @@ const SECOND: &[u8] = b"\
     ";
 
 /// The report of both.
-const REPORT: &[u8] = b"stem a sa0 7\nstem a sa1 none\n1 of 2 (50.00%)\n";
+pub(crate) const REPORT: &[u8] = b"stem a sa0 7\nstem a sa1 none\n1 of 2 (50.00%)\n";
 
 /// What both part texts say together.
 fn merged(alloc: Global) -> Result<Merged<'static>, MergeFault> {

@@ -3,7 +3,7 @@
 ghost use Rattle.std.specs.Prelude.{◌<◌};
 
 use crate::fixtures::{C17_FIRSTS, check, job_of};
-use crate::gates::Shut;
+use crate::gates::{Shut, ShutFor};
 use block_sim::Job;
 use fault_model::Model;
 use std::alloc::Global;
@@ -22,14 +22,24 @@ const C17_STEMS: [u32; 34] = [
     10, 9, 9, 10, 10,
 ];
 
-/// Checks C17 in several numbers of parts: all parts together, and each alone.
-fn check_parts<R: Threads + Wait + Abort>(rt: &R, alloc: Global, job: &Job) -> Result<(), Fail> {
-    for parts in [1, 2, 3, 22, 23, 64] {
+/// Into how many parts the 22 classes of C17 are cut. Five signals are stems, so from 22 parts on
+/// most parts have no class.
+const NUMBERS_OF_PARTS: [u32; 6] = [1, 2, 3, 22, 23, 64];
+
+/// Checks a job of C17 with these first tests in several numbers of parts: all parts together, and
+/// each alone.
+fn check_parts<R: Threads + Wait + Abort>(
+    rt: &R,
+    alloc: Global,
+    job: &Job,
+    firsts: &[Option<u32>],
+) -> Result<(), Fail> {
+    for parts in NUMBERS_OF_PARTS {
         assert!(rt; parts > 0);
         let verdicts = run_in_parts(rt, alloc, job, parts, 2, &OpenGate)?;
-        check(rt, &verdicts, &C17_FIRSTS);
+        check(rt, &verdicts, firsts);
         for part in 0..parts {
-            check_part(rt, alloc, job, part, parts)?;
+            check_part(rt, alloc, job, firsts, part, parts)?;
         }
     }
     Ok(())
@@ -40,14 +50,15 @@ fn check_part<R: Threads + Wait + Abort>(
     rt: &R,
     alloc: Global,
     job: &Job,
+    firsts: &[Option<u32>],
     part: u32,
     parts: u32,
 ) -> Result<(), Fail>
     requires { part < parts }
 {
     let verdicts = run_part(rt, alloc, job, part, parts, 2, &OpenGate)?;
-    assert_eq!(rt; verdicts.len(), C17_FIRSTS.len());
-    for (fault, (stem, first)) in C17_STEMS.iter().zip(C17_FIRSTS.iter()).enumerate() {
+    assert_eq!(rt; verdicts.len(), firsts.len());
+    for (fault, (stem, first)) in C17_STEMS.iter().zip(firsts).enumerate() {
         let expected = if *stem % parts == part {
             PartVerdict::First(*first)
         } else {
@@ -87,7 +98,44 @@ fn check_stems<R: Abort>(rt: &R, job: &Job) {
 #[test]
 fn c17_in_parts(rt: HostRuntime) -> Result<(), Fail> {
     let job = job_of(rt.alloc(), Model::StuckAt, C17, &[("11111", 1)])?;
-    check_parts(&rt, rt.alloc(), &job)
+    check_parts(&rt, rt.alloc(), &job, &C17_FIRSTS)
+}
+
+#[test]
+fn c17_without_tests_in_parts(rt: HostRuntime) -> Result<(), Fail> {
+    let job = job_of(rt.alloc(), Model::StuckAt, C17, &[])?;
+    check_parts(&rt, rt.alloc(), &job, &[None; 34])
+}
+
+/// Checks that a gate which is shut for one piece stops the run of the part alone that has the
+/// class. The class is that of G23 sa1, the last of the last region, so it is the last of its part
+/// for each number of parts, and all others are settled.
+fn check_stopped_part<R: Threads + Wait + Abort>(rt: &R, alloc: Global, job: &Job) {
+    let gate = ShutFor {
+        class: 21,
+        block: 0,
+    };
+    let waiting = RunFault::Unfinished {
+        class: 21,
+        block: 0,
+    };
+    for parts in NUMBERS_OF_PARTS {
+        assert!(rt; parts > 0);
+        let stopped = run_in_parts(rt, alloc, job, parts, 3, &gate).err();
+        assert_eq!(rt; stopped, Some(waiting));
+        for part in 0..parts {
+            let stopped = run_part(rt, alloc, job, part, parts, 2, &gate).err();
+            let own = (10 % parts == part).then_some(waiting);
+            assert_eq!(rt; stopped, own);
+        }
+    }
+}
+
+#[test]
+fn a_stopped_part_leaves_the_others(rt: HostRuntime) -> Result<(), Fail> {
+    let job = job_of(rt.alloc(), Model::StuckAt, C17, &[("11111", 1)])?;
+    check_stopped_part(&rt, rt.alloc(), &job);
+    Ok(())
 }
 
 /// Checks how runs in parts are refused.
