@@ -13,7 +13,7 @@ use Rattle.diagnosis.specs.declared.tests.TestCheck.{TestCheck}
 use Rattle.diagnosis.specs.declared.tests.TestCheck.TheVariants as test_check
 use Rattle.diagnosis.specs.declared.answer.Answer.{Answer}
 use Rattle.diagnosis.specs.declared.answer.Answer.TheVariants as answer
-use Rattle.diagnosis.specs.declared.finding.Fault.TheVariants as fault
+use Rattle.findings.specs.declared.finding.Fault.TheVariants as fault
 
 -- a bench text is accepted with the circuit that it is found to be, and else refused by the first
 -- of its faults

@@ -4,12 +4,11 @@ ghost use Rattle.std.specs.Prelude.{IfOk};
 ghost use Rattle.diagnosis.specs.Checks.{IsAnswerTo};
 
 use crate::bench::{BenchCheck, check_bench};
-use crate::finding::Findings;
 use crate::summary::{Counts, Excess, count_circuit, count_tests, excess_of};
 use crate::tests::{TestCheck, check_tests};
-use crate::warning::{Warning, circuit_warnings, test_warnings};
 use bench_net::Circuit;
 use fault_model::Model;
+use findings::{Findings, Warning, circuit_warnings, test_warnings};
 use patterns::Tests;
 use std::alloc::{AllocError, Global};
 

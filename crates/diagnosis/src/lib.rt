@@ -2,25 +2,18 @@
 //! their places and what may have been meant, and what a circuit and its tests have.
 //!
 //! [`check_texts`] answers all of it. Whether a text is accepted, and which of its faults is the
-//! first, is what `bench_net` and `patterns` say; the rest is a second look at its lines.
+//! first, is what `bench_net` and `patterns` say; the rest is a second look at its lines, by the
+//! crate `findings`.
 #![tactic(auto)]
 
 mod answer;
 mod bench;
-mod cycle;
-mod finding;
-mod look;
-mod note;
-mod scan;
-mod suggest;
+mod first;
 mod summary;
 mod tests;
-mod warning;
 
 pub use answer::{Answer, check_texts};
 pub use bench::{BenchCheck, check_bench};
-pub use finding::{Fault, Finding, Findings, Located};
-pub use note::Note;
-pub use scan::{Place, Token};
+pub use findings::{Fault, Finding, Findings, Located, Note, Place, Token};
 pub use summary::{Counts, Excess, TestCounts, count_circuit, count_tests};
 pub use tests::{TestCheck, check_tests};

@@ -1,14 +1,12 @@
-//! All faults of a test text.
+//! What a test text is found to be.
 
 ghost use Rattle.std.specs.Prelude.{◌≡◌, IfOk};
 ghost use Rattle.diagnosis.specs.Checks.{IsTestCheckOf};
 
-use crate::finding::{Fault, Finding, Findings, Found};
-use crate::look::{Look, content_of, look_at, without_return};
-use crate::note::Note;
-use crate::scan::Place;
+use crate::first::findings_of;
 use bench_net::Circuit;
-use patterns::{MAX_TESTS, TestFault, Tests, read_tests};
+use findings::{Fault, Findings, find_in_tests};
+use patterns::{TestFault, Tests, read_tests};
 use std::alloc::{AllocError, Global};
 
 /// What a test text is found to be.
@@ -47,151 +45,6 @@ fn test_findings<'a>(
 {
     let inputs = circuit.inputs().len();
     let cells = circuit.scan_cells().len();
-    let mut found = Found::new(alloc);
-    look_at_rows(alloc, text, Width { inputs, cells }, &mut found)?;
-    Ok(found.into_findings(Fault::Tests(fault)))
-}
-
-/// What a test has a bit for.
-#[derive(Clone, Copy)]
-struct Width {
-    inputs: usize,
-    cells: usize,
-}
-
-/// Looks at each row of a text.
-fn look_at_rows<'a>(
-    alloc: Global,
-    text: &'a [u8],
-    width: Width,
-    found: &mut Found<'a>,
-) -> Result<(), AllocError> {
-    let mut number: u64 = 0;
-    let mut rows: u32 = 0;
-    for line in text.split(|byte| *byte == b'\n') {
-        number = number.saturating_add(1);
-        let line = without_return(line);
-        let (bytes, start) = content_of(line);
-        if bytes.is_empty() {
-            continue;
-        }
-        rows = rows.saturating_add(1);
-        if rows > MAX_TESTS {
-            continue;
-        }
-        let row = Row {
-            number,
-            line,
-            bytes,
-            start,
-        };
-        tell_row(alloc, row, width, found)?;
-    }
-    if rows > MAX_TESTS {
-        tell_too_many(rows, found)?;
-    }
-    Ok(())
-}
-
-/// Tells that there are too many rows.
-fn tell_too_many<'a>(rows: u32, found: &mut Found<'a>) -> Result<(), AllocError> {
-    if found.is_full() {
-        found.count();
-        return Ok(());
-    }
-    found.push(Finding {
-        fault: Fault::Tests(TestFault::TooMany),
-        text: &[],
-        place: Place { start: 0, len: 0 },
-        note: Note::TooMany {
-            found: rows as usize,
-            what: "rows",
-        },
-    })
-}
-
-/// What a line holds before a comment, without the blanks at its ends.
-#[derive(Clone, Copy)]
-struct Row<'a> {
-    /// The number of the line, from 1.
-    number: u64,
-    line: &'a [u8],
-    bytes: &'a [u8],
-    /// Where the bytes begin on the line.
-    start: usize,
-}
-
-/// Tells what is wrong with a row, if anything is.
-fn tell_row<'a>(
-    alloc: Global,
-    row: Row<'a>,
-    width: Width,
-    found: &mut Found<'a>,
-) -> Result<(), AllocError> {
-    let bad = row
-        .bytes
-        .iter()
-        .position(|byte| !matches!(*byte, b'0' | b'1'));
-    if bad.is_none() && row.bytes.len() == width.inputs.saturating_add(width.cells) {
-        return Ok(());
-    }
-    if found.is_full() {
-        found.count();
-        return Ok(());
-    }
-    let finding = match bad {
-        Some(at) => bad_byte(alloc, row, at)?,
-        None => bad_width(row, width),
-    };
-    found.push(finding)
-}
-
-/// A row of a wrong width.
-fn bad_width<'a>(row: Row<'a>, width: Width) -> Finding<'a> {
-    let len = row.bytes.len();
-    Finding {
-        fault: Fault::Tests(TestFault::BadWidth(row.number)),
-        text: row.line,
-        place: Place {
-            start: row.start,
-            len,
-        },
-        note: Note::Width {
-            found: len,
-            inputs: width.inputs,
-            cells: width.cells,
-        },
-    }
-}
-
-/// A row with a byte at this place that is no bit.
-fn bad_byte<'a>(alloc: Global, row: Row<'a>, at: usize) -> Result<Finding<'a>, AllocError> {
-    Ok(Finding {
-        fault: Fault::Tests(TestFault::BadByte(row.number)),
-        text: row.line,
-        place: Place {
-            start: row.start.saturating_add(at),
-            len: 1,
-        },
-        note: byte_note(alloc, row, at)?,
-    })
-}
-
-/// What is said of the first byte of a row that is no bit.
-fn byte_note<'a>(alloc: Global, row: Row<'a>, at: usize) -> Result<Note<'a>, AllocError> {
-    if matches!(look_at(alloc, row.line)?, Look::Stated(_)) {
-        return Ok(Note::BenchLine);
-    }
-    let bytes = row.bytes;
-    let digits = bytes
-        .iter()
-        .take_while(|byte| byte.is_ascii_digit())
-        .count();
-    if digits > 0 && bytes.get(digits).copied() == Some(b':') {
-        return Ok(Note::NumberedRow);
-    }
-    match bytes.get(at).copied() {
-        Some(byte) => Ok(Note::NoBit(byte)),
-        None => Ok(Note::Nothing),
-    }
+    let found = find_in_tests(alloc, text, inputs, cells)?;
+    Ok(findings_of(found, Fault::Tests(fault)))
 }

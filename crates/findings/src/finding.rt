@@ -1,7 +1,5 @@
 //! Faults of a text with their places, and how they are told.
 
-ghost use Rattle.std.specs.Prelude.{◌≡◌};
-
 use crate::note::Note;
 use crate::scan::Place;
 use bench_net::BenchFault;
@@ -92,12 +90,15 @@ pub struct Findings<'a> {
 /// How many faults are kept beside the first.
 const MAX_OTHERS: usize = 19;
 
-/// Faults as they are found.
+/// Faults in the order in which they were found.
 #[derive(Drop)]
-pub(crate) struct Found<'a> {
-    first: Option<Finding<'a>>,
-    others: Vec<Finding<'a>>,
-    more: u64,
+pub struct Found<'a> {
+    /// The first that was found.
+    pub first: Option<Finding<'a>>,
+    /// Others, at most 19.
+    pub others: Vec<Finding<'a>>,
+    /// How many were found besides.
+    pub more: u64,
 }
 
 impl<'a> Found<'a> {
@@ -120,45 +121,18 @@ impl<'a> Found<'a> {
         self.more = self.more.saturating_add(1);
     }
 
-    /// Adds a fault.
+    /// Adds a fault, or counts it alone.
     pub(crate) fn push(&mut self, finding: Finding<'a>) -> Result<(), AllocError> {
+        if self.is_full() {
+            self.count();
+            return Ok(());
+        }
         if self.first.is_none() {
             self.first = Some(finding);
             return Ok(());
         }
         self.others.push(finding)?;
         Ok(())
-    }
-
-    /// The faults of a text that is refused by this one, which is to be the first that was found.
-    pub(crate) fn into_findings(self, fault: Fault) -> Findings<'a>
-        ensures { result.first.fault ≡ fault }
-    {
-        let Found {
-            first,
-            others,
-            more,
-        } = self;
-        Findings {
-            first: first_of(first, fault),
-            others,
-            more,
-        }
-    }
-}
-
-/// The finding of a refusal: what was found first, where that is the refusal.
-fn first_of<'a>(first: Option<Finding<'a>>, fault: Fault) -> Finding<'a>
-    ensures { result.fault ≡ fault }
-{
-    match first {
-        Some(finding) if finding.fault == fault => Finding { fault, ..finding },
-        _ => Finding {
-            fault,
-            text: &[],
-            place: Place { start: 0, len: 0 },
-            note: Note::Nothing,
-        },
     }
 }
 

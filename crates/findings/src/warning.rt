@@ -13,7 +13,7 @@ const MAX_NAMES: usize = 5;
 
 /// Names of signals, of many those at the front.
 #[derive(Debug, Drop)]
-pub(crate) struct NameList<'a> {
+pub struct NameList<'a> {
     names: Vec<&'a str>,
     more: u64,
 }
@@ -60,7 +60,7 @@ impl Display for NameList<'_> {
 
 /// What is no fault of a text, but seldom meant.
 #[derive(Debug, Drop)]
-pub(crate) enum Warning<'a> {
+pub enum Warning<'a> {
     /// The circuit has no OUTPUT line and no flip-flop, so no test detects anything.
     Unobserved,
     /// Signals that nothing reads.
@@ -100,8 +100,8 @@ impl Display for Warning<'_> {
     }
 }
 
-/// The warnings of a circuit.
-pub(crate) fn circuit_warnings<'a>(
+/// The warnings of a circuit. Only memory can be refused.
+pub fn circuit_warnings<'a>(
     alloc: Global,
     circuit: &'a Circuit,
 ) -> Result<Vec<Warning<'a>>, AllocError> {
@@ -137,8 +137,8 @@ fn output_lines(sinks: &[Sink]) -> usize {
         .count()
 }
 
-/// The warnings of tests for a circuit.
-pub(crate) fn test_warnings<'a>(
+/// The warnings of tests for a circuit. Only memory can be refused.
+pub fn test_warnings<'a>(
     alloc: Global,
     circuit: &'a Circuit,
     tests: &Tests,
