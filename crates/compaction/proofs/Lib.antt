@@ -1,3 +1,4 @@
 mod Marked
 mod Turned
 mod Kept
+pub mod Public

@@ -83,6 +83,11 @@ marked_few (false ∷ marks) [] = omega arith
 marked_few (true ∷ marks) (x ∷ xs) = let h = marked_few marks xs in omega (arith, h)
 marked_few (false ∷ marks) (x ∷ xs) = let h = marked_few marks xs in omega (arith, h)
 
+-- some elements of a list are no more than all
+pub sublist_few : {X : Type 0} (some xs : List X) → IsSublist some xs → length some ≤ length xs
+sublist_few some xs is =
+    let few = marked_few is.0 xs in let same = ap length is.2 in omega (arith, few, same)
+
 pub marked_below : {X : Type 0} (marks : List Bool) (xs : List X) (t : ℕ)
     → length (marked (take t marks) xs) ≤ t
 marked_below marks xs zero = omega arith
