@@ -1,14 +1,15 @@
 // A generator of random tests over the baseline, as a yardstick for `faultgen`.
 //
 //   g++ -O3 -march=x86-64-v2 -std=c++17 -pthread generator.cpp -o generator
-//   generator BENCH [stuck|transition] [SEED] > TESTS
+//   generator BENCH [stuck|transition] [SEED] [MOST] > TESTS
 //
-// It does what `faultgen` does, in one thread. It tries rounds of five blocks of random tests. A class is
+// It does what `faultgen` does, in one thread. It tries rounds of 20 blocks of random tests. A class is
 // simulated by events, block after block, up to the first that detects it; of the tests of that block
 // that detect it one is kept, unless one that is kept already does. It ends where no class is left, or
-// after 20 blocks in turn without news. Stuck-at tests are then turned round and sorted three times by
-// how many faults each is the first to detect. The tests go to standard output, the seconds and counts
-// to standard error.
+// after a round without news. Stuck-at tests are then turned round and sorted three times by how many
+// faults each is the first to detect. Of the first MOST those are left that are needed: the first for
+// some fault, and for stuck-at faults the last for some fault, too. The tests go to standard output, the
+// seconds and counts to standard error.
 
 #include <algorithm>
 #include <chrono>
@@ -17,7 +18,7 @@
 #include "baseline/report.hpp"
 #include "baseline/workers.hpp"
 
-static const u32 ROUND_BLOCKS = 5, QUIET_BLOCKS = 20, PASSES = 3;
+static const u32 ROUND_BLOCKS = 20, PASSES = 3;
 
 // A test: a 0 or 1 for each source.
 using Row = std::vector<u8>;
@@ -67,14 +68,20 @@ static void keep(const Tests& t, const std::vector<u64>& needed, bool pairs, std
     }
 }
 
-static std::vector<Row> sorted(const Circuit& c, const Faults& f, const std::vector<Row>& rows) {
-    Job j = make_job(c, f, tests_of(rows, c.sources()), 1, false, false, {true, true});
+// For each test how many faults it is the first to detect.
+static std::vector<u32> news_of(const Circuit& c, const Faults& f, const std::vector<Row>& rows, bool transition) {
+    Job j = make_job(c, f, tests_of(rows, c.sources()), 1, transition, false, {true, true});
     Plan plan;
     plan.regions = plan.groups = true;
     Totals totals;
-    std::vector<u32> first = run(j, plan, 1, totals), news(rows.size(), 0), order;
+    std::vector<u32> first = run(j, plan, 1, totals), news(rows.size(), 0);
     for (u32 k = 0; k < f.count(); ++k)
         if (first[f.class_of[k]] != NONE) ++news[first[f.class_of[k]]];
+    return news;
+}
+
+static std::vector<Row> sorted(const Circuit& c, const Faults& f, const std::vector<Row>& rows) {
+    std::vector<u32> news = news_of(c, f, rows, false), order;
     for (u32 n = 0; n < rows.size(); ++n)
         if (news[n] > 0) order.push_back(n);
     std::stable_sort(order.begin(), order.end(), [&](u32 a, u32 b) { return news[a] > news[b]; });
@@ -83,10 +90,25 @@ static std::vector<Row> sorted(const Circuit& c, const Faults& f, const std::vec
     return out;
 }
 
+// The tests that are needed to detect what all detect.
+static std::vector<Row> needed_of(const Circuit& c, const Faults& f, const std::vector<Row>& rows, bool transition) {
+    std::vector<u32> news = news_of(c, f, rows, transition);
+    std::vector<Row> finding, last;
+    for (u32 n = 0; n < rows.size(); ++n)
+        if (news[n] > 0 || (transition && n + 1 < rows.size() && news[n + 1] > 0)) finding.push_back(rows[n]);
+    if (transition) return finding;
+    std::reverse(finding.begin(), finding.end());
+    news = news_of(c, f, finding, false);
+    for (u32 n = u32(finding.size()); n-- > 0;)
+        if (news[n] > 0) last.push_back(finding[n]);
+    return last;
+}
+
 int main(int argc, char** argv) {
     auto start = std::chrono::steady_clock::now();
     bool transition = argc > 2 && std::string(argv[2]) == "transition";
     std::mt19937_64 random(argc > 3 ? std::stoul(argv[3]) : 1);
+    size_t most = argc > 4 ? std::stoul(argv[4]) : 65536;
     Circuit c = read_bench(read_file(argv[1]));
     Faults f = list_faults(c, transition);
     Job j = make_job(c, f, random_tests(c.sources(), random), 1, transition, false, {false, true});
@@ -94,13 +116,13 @@ int main(int argc, char** argv) {
     for (u32 n = 0; n < j.size; ++n) place[c.order[n]] = n;
     for (u32 k = 0; k < left.size(); ++k) left[k] = k;
     std::vector<Row> rows;
-    u32 quiet = 0, rounds = 0;
-    for (; !left.empty() && quiet < QUIET_BLOCKS; ++rounds) {
+    u32 rounds = 0;
+    for (bool news = true; !left.empty() && news; ++rounds) {
         Tests t = random_tests(c.sources(), random);
         find_good_words(c, t, place, 1, j);
         std::vector<u64> needed(ROUND_BLOCKS, 0);
         std::vector<u32> open = one_round(j, left, needed);
-        quiet = open.size() < left.size() ? 0 : quiet + ROUND_BLOCKS;
+        news = open.size() < left.size();
         left.swap(open);
         keep(t, needed, transition, rows);
     }
@@ -109,6 +131,8 @@ int main(int argc, char** argv) {
         std::reverse(rows.begin(), rows.end());
         for (u32 k = 0; k < PASSES; ++k) rows = sorted(c, f, rows);
     }
+    if (rows.size() > most) rows.resize(most);
+    rows = needed_of(c, f, rows, transition);
     for (const Row& row : rows) {
         for (u8 bit : row) putchar('0' + bit);
         putchar('\n');

@@ -19,7 +19,7 @@ struct Case {
     wanted: Wanted,
 }
 
-/// Three tests detect all faults of an AND gate, `11` the most of them; the five blocks of the
+/// Three tests detect all faults of an AND gate, `11` the most of them; the twenty blocks of the
 /// first round have all four tests for nearly every seed. The bits of the buffer, xoshiro256++ of
 /// seed 3, begin with 100101: both changes are there with the test before each.
 static CASES: [Case; 6] = [

@@ -2,13 +2,15 @@
 use Rattle.std.specs.Prelude.{◌≡◌, ◌⊎◌, ⊤, ℕ, ◌*◌, ◌<◌, ◌≤◌, Bool, List, Option, filter, is_none}
 use Rattle.std.specs.Prelude.{length, map, zip}
 use Rattle.bench_net.specs.declared.BenchFault.TheVariants as bench_fault
-use Rattle.bench_net.specs.Refusal.{IsRefused}
+use Rattle.bench_net.specs.Refusal.{IsAccepted, IsRefused}
+use Rattle.bench_net.specs.Statement.{Statement}
 use Rattle.fault_model.specs.declared.Model.{Model}
 use Rattle.patterns.specs.Making.{test_text}
 use Rattle.patterns.specs.Tests.{blocks, max_pieces}
 use Rattle.patterns.specs.declared.TestFault.TheVariants as test_fault
 use Rattle.block_sim.specs.declared.job.JobFault.TheVariants as job_fault
 use Rattle.block_sim.specs.Parts.{Parts}
+use Rattle.compaction.specs.Compaction.{IsCompaction}
 use Rattle.workers.specs.declared.RunFault.{RunFault}
 use Rattle.workers.specs.declared.RunFault.TheVariants.{NoWorkers, TooManyWorkers, Memory, Threads}
 use Rattle.jobs.specs.declared.fault.SimFault.{SimFault}
@@ -18,6 +20,12 @@ use Rattle.jobs.specs.Jobs.{IsJobWithin}
 -- the text is that of at most so many tests
 abbrev pub HasFewRows : ℕ → List ℕ → Type 0
 HasFewRows most text = (tests : List (List Bool)) × (text ≡ test_text tests) × (length tests ≤ most)
+
+-- the text is that of tests which are a compaction of others, for the circuit of a bench text under a
+-- model, so that each of them is needed
+abbrev pub IsCompacted : Model → List ℕ → List ℕ → Type 0
+IsCompacted m bench text = (c : List Statement) × (found kept : List (List Bool))
+    × IsAccepted bench c × IsCompaction m c found kept × (text ≡ test_text kept)
 
 -- the two texts have a job under the model, within the limit of pieces
 abbrev pub HasJob : Model → List ℕ → List ℕ → Type 0

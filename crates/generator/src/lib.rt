@@ -17,9 +17,9 @@ mod search;
 ghost use Rattle.std.specs.Prelude.{◌<◌, ◌≤◌, IfErr, IfOk, OnOk, false};
 ghost use Rattle.report.specs.EndToEnd.{IsReportOf};
 ghost use Rattle.report.specs.declared.contents.Lines.TheVariants.{Omitted};
-ghost use Rattle.generator.specs.Generated.{HasFewRows, HasJob, IsGeneratorFault};
+ghost use Rattle.generator.specs.Generated.{HasFewRows, HasJob, IsCompacted, IsGeneratorFault};
 
-use crate::best::best_tests;
+use crate::best::{best_tests, needed_of_best};
 use crate::search::search;
 pub use arguments::run_arguments;
 use bench_net::one_answer;
@@ -57,7 +57,8 @@ pub struct Generated {
 /// Makes tests for the circuit of a bench text.
 ///
 /// The coverage is what [`report::report_bytes`] tells of the tests that are given, by a run of its
-/// own over their text: nothing is told of tests that were tried and left out.
+/// own over their text: nothing is told of tests that were tried and left out. The tests are a
+/// compaction of the best that were found ([`compaction::compact`]), so each is needed.
 ///
 /// It is refused for the bench text first, then for the number of workers.
 pub fn generate<R: Threads + Wait>(
@@ -72,6 +73,8 @@ pub fn generate<R: Threads + Wait>(
           classes = false;
         }) made.coverage.items) }
     ensures few { IfOk result (λ made. HasFewRows settings.most made.tests.items) }
+    ensures compacted { IfOk result (λ made.
+        IsCompacted settings.model bench.now made.tests.items) }
     ensures workers { OnOk result ((0 < settings.workers) × (settings.workers ≤ 64)) }
     ensures refused { IfErr result (IsGeneratorFault bench.now settings.workers) }
 {
@@ -88,7 +91,8 @@ pub fn generate<R: Threads + Wait>(
     Ok(Generated { tests, coverage })
 }
 
-/// The text of tests for the circuit of a bench text, within the limit of pieces.
+/// The text of tests for the circuit of a bench text, each of which is needed, within the limit of
+/// pieces.
 fn test_rows<R: Threads + Wait>(
     rt: &R,
     alloc: Global,
@@ -96,12 +100,14 @@ fn test_rows<R: Threads + Wait>(
     settings: Settings,
 ) -> Result<Vec<u8>, SimFault>
     ensures few { IfOk result (λ text. HasFewRows settings.most text.items) }
+    ensures compacted { IfOk result (λ text. IsCompacted settings.model bench.now text.items) }
     ensures job { IfOk result (λ text. HasJob settings.model bench.now text.items) }
     ensures refused { IfErr result (IsGeneratorFault bench.now settings.workers) }
 {
     let mut job = job_of(alloc, settings.model, bench, b"")?;
     let found = search(rt, alloc, &mut job, settings)?;
     let best = best_tests(rt, alloc, &mut job, found, settings)?;
-    let _width = best.width();
-    Ok(write_tests(alloc, &best)?)
+    let needed = needed_of_best(rt, alloc, &mut job, best, settings.workers)?;
+    let _width = needed.width();
+    Ok(write_tests(alloc, &needed)?)
 }

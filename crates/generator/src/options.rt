@@ -27,7 +27,7 @@ writes tests to a.tests, one a line, and tells on the standard error what they d
 
 It tries random tests, a block of 64 after another, keeps those that detect something new, and ends
 where nothing is left, where 20 blocks in turn detect nothing new, or at the greatest number of
-tests.
+tests. Of the best of these it writes those that are needed to detect what all detect.
 
 The exit status is 0 where all was done, 1 where the circuit is refused, 2 where the command line
 is, and 3 where a file, the output, memory or a thread is.";

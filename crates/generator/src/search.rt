@@ -22,8 +22,8 @@ use workers::{OpenGate, run_classes};
 /// After how many blocks in turn that detect nothing new the search ends.
 const QUIET_BLOCKS: u32 = 20;
 
-/// How many blocks are tried at a time.
-const ROUND_BLOCKS: u32 = 5;
+/// How many blocks are tried at a time. Each round makes room for its workers anew.
+const ROUND_BLOCKS: u32 = 20;
 
 /// Tries random tests on a job, and gives those that detect something new.
 pub(crate) fn search<R: Threads + Wait>(
@@ -34,6 +34,7 @@ pub(crate) fn search<R: Threads + Wait>(
 ) -> Result<Tests, SimFault>
     ensures classes { job.new.classes ≡ job.old.classes }
     ensures circuit { job.new.circuit ≡ job.old.circuit }
+    ensures list { job.new.list ≡ job.old.list }
     ensures some { IfOk result (λ kept. 1 ≤ kept.width) }
     ensures width { IfOk result (λ kept. kept.width ≡ length (sources job.old.circuit)) }
     ensures pieces { IfOk result (λ kept.
@@ -98,6 +99,7 @@ fn take_random_tests(
     requires pieces { AreFewPieces (length job.old.classes.representative) (64 * blocks) }
     ensures classes { job.new.classes ≡ job.old.classes }
     ensures circuit { job.new.circuit ≡ job.old.circuit }
+    ensures list { job.new.list ≡ job.old.list }
     ensures few { OnOk result (piece_count job.new ≤ max_pieces) }
     ensures refused { IfErr result (λ fault. fault ≡ JobFault.Memory) }
 {

@@ -22,6 +22,7 @@ loop-round-preserved g c =
     subst (λ (xs : List ℕ). All (λ x. x < n) xs) (sym c.deref-in-loop-round-3.ensures.value) own in
     record {
       circuit = c.take_random_tests.ensures.circuit ∙ was.circuit;
+      list = c.take_random_tests.ensures.list ∙ was.list;
       classes = classes ∙ was.classes;
       few = omega (arith, number, less, is, same, was.few);
       within = subst (λ (xs : List ℕ). All (λ x. x < n) xs) (sym c.in_ok-still.ensures)

@@ -6,10 +6,11 @@ use Rattle.generator.proofs.search.search.Given as goal
 abbrev pub invariant-loop-round : goal.invariant-loop-round
 invariant-loop-round g l = record {
   circuit : l.job.circuit ≡ l.fn.job.circuit;
+  list : l.job.list ≡ l.fn.job.list;
   classes : l.job.classes ≡ l.fn.job.classes;
   few : length l.left.items ≤ length l.job.classes.representative;
   within : All (λ class. class < length l.job.classes.representative) l.left.items;
   width : l.kept.width ≡ l.initial.kept.width;
   kept : length l.kept.tests ≤ l.room;
-  quiet : l.quiet < 32;
+  quiet : l.quiet < 64;
 }
