@@ -1,21 +1,19 @@
 -- The way of a fault to the stem of a region: it leads on from gate to gate, a level higher at
 -- each, and a fault at a signal that is not live is not detected.
-use Rattle.std.proofs.Common.{◌≡◌, ◌≢◌, ◌<◌, ◌≤◌, ℕ, ◌+◌, Bool, refl, sym, ◌∙◌, ap, subst, List}
-use Rattle.std.proofs.Common.{map, length, arith, inr, ◌⊎◌}
+use Rattle.std.proofs.Common.{◌≡◌, ◌≢◌, ◌<◌, ◌≤◌, ℕ, ◌+◌, Bool, refl, sym, ◌∙◌, subst, List}
+use Rattle.std.proofs.Common.{length, arith, inr, ◌⊎◌}
 use Rattle.std.specs.Prelude.{Contains, Option, Some, None}
-use Rattle.std.specs.Option.{option_map_or}
 use Rattle.bench_net.specs.declared.Kind.{Kind}
 use Rattle.bench_net.specs.declared.Sink.{Sink}
 use Rattle.bench_net.specs.Statement.{Name, Statement, Gate}
 use Rattle.bench_net.specs.Scan.{names, signal, observers}
 use Rattle.bench_net.specs.Circuit.{IsWellFormed}
-use Rattle.bench_net.specs.Level.{HasDepth, HasLevel}
-use Rattle.lists.proofs.Members.{Among, among, among_map, contained}
-use Rattle.lists.proofs.Places.{at_place, within_place}
+use Rattle.bench_net.specs.Level.{HasLevel}
+use Rattle.lists.proofs.Members.{Among, among, contained}
 use Rattle.fault_model.specs.declared.Line.TheVariants as line
 use Rattle.fault_model.specs.Fault.{branch}
 use Rattle.fault_model.specs.Solution.{Test, Solves, shows}
-use Rattle.fault_model.proofs.Public.{below_greatest, detection_is_of_any_solution, has_solutions}
+use Rattle.fault_model.proofs.Public.{detection_is_of_any_solution, has_solutions}
 use Rattle.fault_model.proofs.Public.{under_other, observes}
 use Rattle.block_sim.specs.Events.{IsLive, level_at, observed, through}
 use Rattle.block_sim.specs.Regions.{DetectsFlip, IsStem, LeadsTo, flip, here, lone_reader, onward}
@@ -41,27 +39,18 @@ deeper c s g step well within alone deep k h =
     omega (arith, low, up, is)
 
 -- after as many steps as the circuit is deep it has come to the stem
-pub stem_at_depth : (c : List Statement) (depth s step : ℕ) → IsWellFormed c → HasDepth c depth
+pub stem_at_depth : (c : List Statement) (depth s step : ℕ) → IsWellFormed c
+    → ((t : ℕ) → t < length (names c) → (k : ℕ) × HasLevel c t k × (k ≤ depth))
     → s < length (names c) → depth ≤ step
     → ((k : ℕ) → HasLevel c s k → step ≤ k) → IsStem c s
 stem_at_depth c depth s step well has within long deep = go (lone_reader c s) refl
   where
     go : (o : Option ℕ) → lone_reader c s ≡ o → lone_reader c s ≡ None
     go None is = is
-    go (Some g) is = absurd (omega (arith, long, high, most))
-      where
-        high : step + 1 ≤ level_at c has.0 g
-        high = deeper c s g step well within is deep (level_at c has.0 g)
-            (has_level c has.0 g has.1 (lone_within c well s g is))
-
-        most : level_at c has.0 g ≤ depth
-        most =
-            let n = within_place (names c) g (lone_within c well s g is) in
-            let le = below_greatest (map has.0 (names c)) (has.0 n.0)
-            (among_map has.0 (names c) n.0 (at_place (names c) g n.0 n.1)) in
-            let named : level_at c has.0 g ≡ has.0 n.0 =
-            ap (λ (o : Option Name). option_map_or has.0 o 0) n.1 in
-            omega (arith, le, named, has.2)
+    go (Some g) is =
+        let at = has g (lone_within c well s g is) in
+        let high = deeper c s g step well within is deep at.0 at.1 in
+        absurd (omega (arith, long, high, at.2))
 
 -- ---- a signal that is not live
 module _ (c : List Statement) (well : IsWellFormed c) (t : Test) (s : ℕ) (dead : ¬ IsLive c s) where

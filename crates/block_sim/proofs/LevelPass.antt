@@ -8,6 +8,8 @@ use Rattle.bench_net.specs.Statement.{Statement}
 use Rattle.bench_net.specs.Scan.{names}
 use Rattle.bench_net.specs.Circuit.{IsWellFormed}
 use Rattle.bench_net.specs.Level.{IsLevelOrder}
+use Rattle.patterns.specs.Least.{below}
+use Rattle.patterns.proofs.Public.{get_or-below, length-below}
 use Rattle.fault_model.specs.Fault.{Fault}
 use Rattle.fault_model.specs.Solution.{Test}
 use Rattle.block_sim.specs.Words.{AreWords, IsSignalWord}
@@ -64,3 +66,18 @@ module _ (c : List Statement) (tests : List Test) (group : ℕ) (f : Option Faul
       let there : slice_index_or order at.0 0 ≡ s = get_or_default order at.0 0 s at.1 ∙ at.2 in
       subst (λ m. IsRight c tests group f m (slice_index_or words m 0)) there
       (passed at.0 (omega (arith, at.1, le))))
+
+-- one signal more, where the numbers are the order
+pub natural_more : (c : List Statement) (tests : List Test) (group : ℕ) (f : Option Fault)
+    (words : List ℕ) (i word : ℕ) → IsWellFormed c → IsLevelOrder c (below (length (names c)))
+    → length (names c) ≤ length words → i < length (names c)
+    → ArePassed c tests group f (below (length (names c))) words i
+    → IsSignalWord c tests group f words i word
+    → ArePassed c tests group f (below (length (names c))) (set words i word) (i + 1)
+natural_more c tests group f words i word well ordered room lt passed equation =
+    let order = below (length (names c)) in
+    let here : slice_index_or order i 0 ≡ i = get_or-below (length (names c)) i 0 lt in
+    let long : length order ≡ length (names c) = length-below (length (names c)) in
+    subst (λ s. ArePassed c tests group f order (set words s word) (i + 1)) here
+    (passed_more c tests group f order well ordered words i word room (omega (arith, lt, long))
+    passed (subst (λ s. IsSignalWord c tests group f words s word) (sym here) equation))

@@ -46,8 +46,12 @@ mod FlipLanes
 mod FaultLanes
 mod KeptOutcomes
 mod ResponseRows
+mod PlaceTables
+mod LevelledSignals
+mod LevelledWords
 mod ReorderedReaders
 mod ReorderedGates
+mod LevelledRows
 pub mod Public
 mod Ways
 mod Groups

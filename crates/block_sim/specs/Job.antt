@@ -13,13 +13,13 @@ abbrev pub AreFaultFree : List Statement → List Test → List (List ℕ) → T
 AreFaultFree c tests rows = (group : ℕ) (row : List ℕ) → slice_get rows group ≡ Some row
     → (length row ≡ length (names c)) × AreWords c tests group None row
 
--- The parts belong together, the rows are the fault-free words of all groups, and each class has
--- its
--- stem and a next class.
-pub record IsJob (parts : Parts) (rows : List (List ℕ)) (class_stems next : List ℕ) : Type 0 where
+-- The parts belong together, the rows are the fault-free words of all groups, of the signals in
+-- level order, and each class has its stem and a next class.
+pub record IsJob (parts : Parts) (levelled : List Statement) (rows : List (List ℕ))
+    (class_stems next : List ℕ) : Type 0 where
   pub together : BelongTogether parts
   pub count : length rows ≡ groups (length parts.tests.tests)
-  pub fault_free : AreFaultFree parts.circuit parts.tests.tests rows
+  pub fault_free : AreFaultFree levelled parts.tests.tests rows
   pub stem_count : length class_stems ≡ length parts.classes.representative
   pub stems : HaveStems parts.list.model parts.circuit class_stems
   pub nexts : length next ≡ length parts.classes.representative

@@ -24,20 +24,20 @@ use fault_model::Line;
 /// than without it; where first hits are asked for, some of them with those. No gate is
 /// evaluated where the fault is excited in none of the lanes.
 pub fn effect(view: BlockView<'_>, fault: Stuck, extent: Extent<'_>, changes: &mut Changes) -> u128
-    requires view { HasWords view.circuit.now view.good.now }
+    requires view { HasWords view.circuit.now.levelled view.good.now }
     requires words { (tests : List Test) × (group : ℕ)
-        × AreWords view.circuit.now tests group None view.good.now }
-    requires listed { Contains (faults fault.model view.circuit.now) (stuck_fault fault) }
-    requires room { HasRoomFor view.circuit.now changes.old }
+        × AreWords view.circuit.now.levelled tests group None view.good.now }
+    requires listed { Contains (faults fault.model view.circuit.now.levelled) (stuck_fault fault) }
+    requires room { HasRoomFor view.circuit.now.levelled changes.old }
     requires clear { IsClear changes.old }
     ensures shown { (tests : List Test) (group : ℕ)
-        → AreWords view.entry.circuit.now tests group None view.entry.good.now
-        → AreShown view.entry.circuit.now tests group (λ _. stuck_fault fault) view.entry.good.now
-        view.entry.lanes (IsSettled extent.entry result) result }
+        → AreWords view.entry.circuit.now.levelled tests group None view.entry.good.now
+        → AreShown view.entry.circuit.now.levelled tests group (λ _. stuck_fault fault)
+        view.entry.good.now view.entry.lanes (IsSettled extent.entry result) result }
     ensures counted { (tests : List Test) (group : ℕ) (gates : List ℕ)
-        → AreWords view.entry.circuit.now tests group None view.entry.good.now
+        → AreWords view.entry.circuit.now.levelled tests group None view.entry.good.now
         → AreInGroup tests group view.entry.lanes
-        → HasActiveIn view.entry.circuit.now tests group view.entry.lanes
+        → HasActiveIn view.entry.circuit.now.levelled tests group view.entry.lanes
         (λ _. stuck_fault fault) gates
         → changes.new.evaluations ≤ changes.old.evaluations + length gates }
     ensures grown { changes.old.evaluations ≤ changes.new.evaluations }
@@ -62,13 +62,14 @@ pub fn effect(view: BlockView<'_>, fault: Stuck, extent: Extent<'_>, changes: &m
 /// The lanes, of those that are asked for, in which a fault on a pin of a gate changes the gate's
 /// word.
 pub fn gate_change(view: BlockView<'_>, fault: Stuck, gate: u32, changes: &mut Changes) -> u128
-    requires view { HasWords view.circuit.now view.good.now }
-    requires room { HasRoomFor view.circuit.now changes.old }
-    requires gate { gate < length (names view.circuit.now) }
-    requires driven { (line : Kind × List ℕ) × (gate_of view.circuit.now gate ≡ Some line) }
+    requires view { HasWords view.circuit.now.levelled view.good.now }
+    requires room { HasRoomFor view.circuit.now.levelled changes.old }
+    requires gate { gate < length (names view.circuit.now.levelled) }
+    requires driven { (line : Kind × List ℕ)
+        × (gate_of view.circuit.now.levelled gate ≡ Some line) }
     ensures inside { (k : ℕ) → k < 128 → lane result k ≡ true → lane view.entry.lanes k ≡ true }
     ensures changed { (kind : Kind) (pins : List ℕ) (k : ℕ)
-        → gate_of view.entry.circuit.now gate ≡ Some (kind, pins) → k < 128
+        → gate_of view.entry.circuit.now.levelled gate ≡ Some (kind, pins) → k < 128
         → lane view.entry.lanes k ≡ true
         → lane (bit_xor (slice_index_or view.entry.good.now gate 0) result) k
         ≡ value kind (pin_bits (Some (stuck_fault fault)) gate pins view.entry.good.now

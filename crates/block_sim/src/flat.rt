@@ -1,23 +1,30 @@
 //! The circuit in flat arrays, as the simulation reads it: a row for each signal, at the
-//! signal's number.
+//! signal's place in level order.
 
-ghost use Rattle.std.specs.Prelude.{◌≡◌, ◌↔◌, ◌<◌, ◌++◌, ℕ, List, IfOk, IfSome, IsTrue, length};
+ghost use Rattle.std.specs.Prelude.{◌≡◌, ◌≢◌, ◌↔◌, ◌<◌, ◌≤◌, ◌++◌, ℕ, All, List, IfOk, IfSome};
+ghost use Rattle.std.specs.Prelude.{IfNone, IsTrue, OnOk, Some, length, map, slice_get};
 ghost use Rattle.std.specs.Prelude.{slice_index_or};
 ghost use Rattle.std.specs.Option.{option_map};
 ghost use Rattle.bench_net.specs.declared.Kind.{Kind};
-ghost use Rattle.bench_net.specs.Scan.{names, gate_of};
+ghost use Rattle.bench_net.specs.Statement.{Name};
+ghost use Rattle.bench_net.specs.Scan.{names, name_of, gate_of, sources};
 ghost use Rattle.bench_net.specs.Circuit.{IsCircuit};
-ghost use Rattle.bench_net.specs.Level.{HasLevel};
+ghost use Rattle.bench_net.specs.Level.{HasLevel, IsLevelOrder};
+ghost use Rattle.fault_model.specs.Detection.{carried};
 ghost use Rattle.fault_model.specs.Known.{only_gate};
+ghost use Rattle.fault_model.specs.Reordered.{in_order, moved_line, place};
 ghost use Rattle.block_sim.specs.Events.{IsLive, IsObserved};
-ghost use Rattle.block_sim.specs.Flat.{AreLive, AreReaders, HasMore, IsDriver, IsFlat, IsRow};
+ghost use Rattle.block_sim.specs.Flat.{AreLevels, AreReaders, HasMore, IsDriver, IsFlat, IsRow};
 ghost use Rattle.block_sim.specs.Flat.{HasEnds, IsStanding};
 ghost use Rattle.block_sim.specs.Forms.{IsFormOf};
+ghost use Rattle.block_sim.specs.Levelled.{ArePlaces, IsLevelled};
 ghost use Rattle.block_sim.specs.Regions.{lone_reader};
 
 use crate::form::Form;
 use crate::live::live_signals;
+use crate::places::places_of;
 use bench_net::{Circuit, Kind, Sink};
+use fault_model::Line;
 use std::alloc::{AllocError, Global};
 use std::marker::Model;
 
@@ -84,48 +91,150 @@ struct Lists {
 }
 
 /// A circuit with what a simulation asks of its signals in flat arrays.
+///
+/// The simulation goes from gates to the gates that read them, level by level. So what it reads of
+/// signals stands in level order: a signal's number in the lists, its place, is that in the circuit
+/// with its statements in level order.
 #[derive(Drop)]
 pub struct FlatCircuit {
     circuit: Circuit,
+    /// The signal at each place.
+    order: Vec<u32>,
+    /// The place of each signal.
+    places: Vec<u32>,
     lists: Lists,
 }
 
 impl Model for FlatCircuit {
-    ghost use Rattle.std.specs.Prelude.{List};
-    ghost use Rattle.bench_net.specs.Statement.{Statement};
-    ghost use Rattle.block_sim.specs.Flat.{IsFlat};
+    ghost use Rattle.fault_model.specs.Reordered.{in_order};
+    ghost use Rattle.block_sim.specs.Flat.{IsLevelledFlat};
+    ghost use Rattle.block_sim.specs.Levelled.{Levelled};
 
-    ghost Value = { List Statement };
+    ghost Value = { Levelled };
 
-    ghost view = { λ flat. flat.circuit };
+    ghost view = { λ flat. record {
+      statements = flat.circuit;
+      levelled = in_order flat.circuit flat.order.items;
+    } };
 
-    ghost invariant = { λ flat. IsFlat flat.circuit flat.lists.pins.items
-        flat.lists.readers.items flat.lists.rows.items flat.lists.standings.items };
+    ghost invariant = { λ flat. IsLevelledFlat flat.circuit flat.order.items flat.places.items
+        flat.lists.pins.items flat.lists.readers.items flat.lists.rows.items
+        flat.lists.standings.items };
 }
 
 impl FlatCircuit {
-    /// The circuit with its rows. It takes a row for each signal and a few numbers for each pin.
+    /// The circuit with its rows. It takes a row and two numbers for each signal, and a few numbers
+    /// for each pin.
     pub fn new(alloc: Global, circuit: Circuit) -> Result<FlatCircuit, AllocError>
-        ensures { IfOk result (λ flat. flat ≡ circuit) }
+        ensures { IfOk result (λ flat. flat.statements ≡ circuit) }
     {
-        let lists = lists_of(alloc, &circuit)?;
-        Ok(FlatCircuit { circuit, lists })
+        let order = level_order(alloc, &circuit)?;
+        let places = places_of(alloc, &circuit)?;
+        let lists = lists_of(alloc, &circuit, order.as_slice(), places.as_slice())?;
+        Ok(FlatCircuit {
+            circuit,
+            order,
+            places,
+            lists,
+        })
     }
 
-    /// The circuit.
+    /// The circuit as it was given.
     #[inline(always)]
     pub fn circuit(&self) -> &Circuit
-        ensures { result.now ≡ self.now }
+        ensures { result.now ≡ self.now.statements }
     {
         &self.circuit
+    }
+
+    /// The number of signals.
+    pub fn signals(&self) -> u32
+        ensures count { result ≡ length (names self.now.levelled) }
+        ensures given_count { result ≡ length (names self.now.statements) }
+        ensures circuit { IsCircuit self.now.levelled }
+        ensures given { IsCircuit self.now.statements }
+        ensures levelled { IsLevelled self.now.statements self.now.levelled }
+    {
+        self.circuit.signals()
+    }
+
+    /// The greatest level of a signal.
+    #[inline(always)]
+    pub fn depth(&self) -> u32
+        ensures { (signal : ℕ) → signal < length (names self.now.levelled)
+            → (level : ℕ) × HasLevel self.now.levelled signal level × (level ≤ result) }
+    {
+        let _signals = self.circuit.signals();
+        self.circuit.depth()
+    }
+
+    /// The place of a signal in level order.
+    #[inline(always)]
+    pub fn place_of(&self, signal: u32) -> u32
+        requires { signal < length (names self.now.statements) }
+        ensures place { result ≡ place self.now.statements self.now.levelled signal }
+        ensures within { result < length (names self.now.levelled) }
+    {
+        let _signals = self.circuit.signals();
+        self.places[signal as usize]
+    }
+
+    /// The signal at a place in level order.
+    #[inline(always)]
+    pub fn signal_at(&self, at: u32) -> u32
+        requires { at < length (names self.now.levelled) }
+        ensures place { place self.now.statements self.now.levelled result ≡ at }
+        ensures within { result < length (names self.now.statements) }
+    {
+        let _signals = self.circuit.signals();
+        self.order[at as usize]
+    }
+
+    /// The places of signals, in their order.
+    pub fn placed(&self, alloc: Global, signals: &[u32]) -> Result<Vec<u32>, AllocError>
+        requires { All (λ signal. signal < length (names self.now.statements)) signals.now }
+        ensures { IfOk result (λ placed. placed.items
+            ≡ map (place self.now.statements self.now.levelled) signals.now) }
+    {
+        let _signals = self.circuit.signals();
+        let mut placed = Vec::new(alloc);
+        push_places(self.places.as_slice(), signals, &mut placed)?;
+        Ok(placed)
+    }
+
+    /// The line of the circuit as the lists have it.
+    pub fn moved_line(&self, line: Line) -> Line
+        requires { (n : Name) × (carried self.now.statements line ≡ Some n) }
+        ensures { result ≡ moved_line self.now.statements self.now.levelled line }
+    {
+        match line {
+            Line::Stem(signal) => Line::Stem(self.place_of(signal)),
+            Line::Pin { gate, pin } => Line::Pin {
+                gate: self.place_of(gate),
+                pin,
+            },
+            Line::Data { .. } | Line::Out { .. } => line,
+        }
+    }
+
+    /// The place of a signal in a test row, from 0; `None` for the signal of a gate.
+    pub fn source_of(&self, signal: u32) -> Option<u32>
+        requires { signal < length (names self.now.levelled) }
+        ensures place { IfSome result (λ i.
+            slice_get (sources self.now.levelled) i ≡ name_of self.now.levelled signal) }
+        ensures none { IfNone result ((i : ℕ) →
+            slice_get (sources self.now.levelled) i ≢ name_of self.now.levelled signal) }
+    {
+        let _signals = self.circuit.signals();
+        self.circuit.source_of(self.order[signal as usize])
     }
 
     /// The gate that drives a signal; `None` for a source.
     #[inline(always)]
     pub fn gate_of(&self, signal: u32) -> Option<Gate<'_>>
-        requires { signal < length (names self.now) }
+        requires { signal < length (names self.now.levelled) }
         ensures gate { option_map {U = Kind × List ℕ} (λ g. (g.kind, g.pins.now)) result
-            ≡ gate_of self.now signal }
+            ≡ gate_of self.now.levelled signal }
         ensures form { IfSome result (λ g. IsFormOf g.kind g.form) }
         ensures ends { IfSome result (λ g. HasEnds g.pins.now g.first g.last) }
     {
@@ -146,8 +255,8 @@ impl FlatCircuit {
     /// it twice may stand there twice.
     #[inline(always)]
     pub fn readers_of(&self, signal: u32) -> &[Reader]
-        requires { signal < length (names self.now) }
-        ensures { AreReaders self.now signal result.now }
+        requires { signal < length (names self.now.levelled) }
+        ensures { AreReaders self.now.levelled signal result.now }
     {
         let row = &self.lists.rows[signal as usize];
         &self.lists.readers[row.readers_start as usize..row.readers_end as usize]
@@ -157,8 +266,8 @@ impl FlatCircuit {
     /// no pin or several pins read, or an observer.
     #[inline(always)]
     pub fn lone_reader(&self, signal: u32) -> Option<u32>
-        requires { signal < length (names self.now) }
-        ensures { result ≡ lone_reader self.now signal }
+        requires { signal < length (names self.now.levelled) }
+        ensures { result ≡ lone_reader self.now.levelled signal }
     {
         self.lists.standings[signal as usize].lone_reader
     }
@@ -166,8 +275,8 @@ impl FlatCircuit {
     /// Whether an observer observes a signal.
     #[inline(always)]
     pub fn is_observed(&self, signal: u32) -> bool
-        requires { signal < length (names self.now) }
-        ensures { IsTrue result ↔ IsObserved self.now signal }
+        requires { signal < length (names self.now.levelled) }
+        ensures { IsTrue result ↔ IsObserved self.now.levelled signal }
     {
         self.lists.rows[signal as usize].observed
     }
@@ -175,8 +284,8 @@ impl FlatCircuit {
     /// Whether a signal is live: whether an observer is reached from it.
     #[inline(always)]
     pub fn is_live(&self, signal: u32) -> bool
-        requires { signal < length (names self.now) }
-        ensures { IsTrue result ↔ IsLive self.now signal }
+        requires { signal < length (names self.now.levelled) }
+        ensures { IsTrue result ↔ IsLive self.now.levelled signal }
     {
         self.lists.standings[signal as usize].live
     }
@@ -184,28 +293,61 @@ impl FlatCircuit {
     /// The level of a signal.
     #[inline(always)]
     pub fn level_of(&self, signal: u32) -> u32
-        requires { signal < length (names self.now) }
-        ensures { HasLevel self.now signal result }
+        requires { signal < length (names self.now.levelled) }
+        ensures { HasLevel self.now.levelled signal result }
     {
         self.lists.standings[signal as usize].level
     }
 }
 
-/// The lists of a circuit.
-fn lists_of(alloc: Global, circuit: &Circuit) -> Result<Lists, AllocError>
-    ensures { IfOk result (λ lists. IsFlat circuit.now lists.pins.items lists.readers.items
-        lists.rows.items lists.standings.items) }
+/// The signals of a circuit in level order.
+fn level_order(alloc: Global, circuit: &Circuit) -> Result<Vec<u32>, AllocError>
+    ensures { IfOk result (λ order. IsLevelOrder circuit.now order.items) }
+{
+    let mut order = Vec::new(alloc);
+    order.extend_from_slice(circuit.in_level_order())?;
+    Ok(order)
+}
+
+/// A circuit with the signals in level order, the place of each there, and whether it is live.
+#[derive(Clone, Copy)]
+struct Levels<'a> {
+    circuit: &'a Circuit,
+    order: &'a [u32],
+    places: &'a [u32],
+    live: &'a [bool],
+}
+
+/// The lists of a circuit in level order.
+fn lists_of(
+    alloc: Global,
+    circuit: &Circuit,
+    order: &[u32],
+    places: &[u32],
+) -> Result<Lists, AllocError>
+    requires order { IsLevelOrder circuit.now order.now }
+    requires room { length places.now ≡ length (names circuit.now) }
+    requires places { ArePlaces circuit.now (in_order circuit.now order.now) places.now }
+    ensures { IfOk result (λ lists. IsFlat (in_order circuit.now order.now) lists.pins.items
+        lists.readers.items lists.rows.items lists.standings.items) }
 {
     let signals = circuit.signals();
     let live = live_signals(alloc, circuit)?;
+    let levels = Levels {
+        circuit,
+        order,
+        places,
+        live: live.as_slice(),
+    };
     let mut rows = Vec::with_capacity(alloc, signals as usize)?;
     let mut standings = Vec::with_capacity(alloc, signals as usize)?;
     let mut pins = Vec::new(alloc);
     let mut readers = Vec::new(alloc);
-    for signal in 0..signals {
-        let row = add_row(circuit, live.as_slice(), signal, &mut pins, &mut readers)?;
+    for place in 0..order.len() {
+        let signal = order[place];
+        let row = add_row(levels, signal, &mut pins, &mut readers)?;
         rows.push(row)?;
-        standings.push(standing_of(circuit, live.as_slice(), signal))?;
+        standings.push(standing_of(levels, signal))?;
     }
     Ok(Lists {
         rows,
@@ -216,17 +358,34 @@ fn lists_of(alloc: Global, circuit: &Circuit) -> Result<Lists, AllocError>
 }
 
 /// Where a signal stands.
-fn standing_of(circuit: &Circuit, live: &[bool], signal: u32) -> Standing
-    requires circuit { IsCircuit circuit.now }
-    requires room { length live.now ≡ length (names circuit.now) }
-    requires live { AreLive circuit.now live.now }
-    requires signal { signal < length (names circuit.now) }
-    ensures { IsStanding circuit.now signal result }
+fn standing_of(levels: Levels<'_>, signal: u32) -> Standing
+    requires levels { AreLevels levels.circuit.now levels.order.now levels.places.now
+        levels.live.now }
+    requires signal { signal < length (names levels.circuit.now) }
+    ensures { IsStanding (in_order levels.entry.circuit.now levels.entry.order.now)
+        (place levels.entry.circuit.now
+        (in_order levels.entry.circuit.now levels.entry.order.now) signal) result }
 {
     Standing {
-        lone_reader: only_gate(circuit.sinks_of(signal)),
-        level: circuit.level_of(signal),
-        live: live[signal as usize],
+        lone_reader: lone_place(levels, signal),
+        level: levels.circuit.level_of(signal),
+        live: levels.live[signal as usize],
+    }
+}
+
+/// The place of the gate of the pin that is all that reads a signal.
+fn lone_place(levels: Levels<'_>, signal: u32) -> Option<u32>
+    requires levels { AreLevels levels.circuit.now levels.order.now levels.places.now
+        levels.live.now }
+    requires signal { signal < length (names levels.circuit.now) }
+    ensures { result ≡ lone_reader
+        (in_order levels.entry.circuit.now levels.entry.order.now)
+        (place levels.entry.circuit.now
+        (in_order levels.entry.circuit.now levels.entry.order.now) signal) }
+{
+    match lone_reader_of(levels.circuit, signal) {
+        Some(gate) => Some(levels.places[gate as usize]),
+        None => None,
     }
 }
 
@@ -253,28 +412,29 @@ fn place_of(length: usize) -> Result<u32, AllocError>
 
 /// The row of a signal, whose pins and readers are added behind the others.
 fn add_row(
-    circuit: &Circuit,
-    live: &[bool],
+    levels: Levels<'_>,
     signal: u32,
     pins: &mut Vec<u32>,
     readers: &mut Vec<Reader>,
 ) -> Result<Row, AllocError>
-    requires circuit { IsCircuit circuit.now }
-    requires room { length live.now ≡ length (names circuit.now) }
-    requires live { AreLive circuit.now live.now }
-    requires signal { signal < length (names circuit.now) }
-    ensures row { IfOk result (IsRow circuit.now pins.new.items readers.new.items signal) }
+    requires levels { AreLevels levels.circuit.now levels.order.now levels.places.now
+        levels.live.now }
+    requires signal { signal < length (names levels.circuit.now) }
+    ensures row { IfOk result (IsRow (in_order levels.entry.circuit.now levels.entry.order.now)
+        pins.new.items readers.new.items
+        (place levels.entry.circuit.now
+        (in_order levels.entry.circuit.now levels.entry.order.now) signal)) }
     ensures pins { IfOk result (λ _. HasMore pins.old.items pins.new.items) }
     ensures readers { IfOk result (λ _. HasMore readers.old.items readers.new.items) }
 {
     let pins_start = place_of(pins.len())?;
-    let driver = add_pins(circuit, signal, pins)?;
+    let driver = add_pins(levels, signal, pins)?;
     let pins_end = place_of(pins.len())?;
     let first = at(pins.as_slice(), pins_start as usize);
     let last_place = pins_end.saturating_sub(1).max(pins_start);
     let last = at(pins.as_slice(), last_place as usize);
     let readers_start = place_of(readers.len())?;
-    let observed = add_readers(circuit, live, signal, readers)?;
+    let observed = add_readers(levels, signal, readers)?;
     Ok(Row {
         driver,
         observed,
@@ -287,25 +447,50 @@ fn add_row(
     })
 }
 
-/// The kind and the form of the gate that drives a signal. The signals that its pins read are added
-/// behind the others.
+/// The kind and the form of the gate that drives a signal. The places of the signals that its pins
+/// read are added behind the others.
 fn add_pins(
-    circuit: &Circuit,
+    levels: Levels<'_>,
     signal: u32,
     pins: &mut Vec<u32>,
 ) -> Result<Option<Driver>, AllocError>
-    requires { signal < length (names circuit.now) }
-    ensures { IfOk result (IsDriver circuit.now signal pins.old.items pins.new.items) }
+    requires levels { AreLevels levels.circuit.now levels.order.now levels.places.now
+        levels.live.now }
+    requires signal { signal < length (names levels.circuit.now) }
+    ensures { IfOk result (IsDriver (in_order levels.entry.circuit.now levels.entry.order.now)
+        (place levels.entry.circuit.now
+        (in_order levels.entry.circuit.now levels.entry.order.now) signal)
+        pins.old.items pins.new.items) }
 {
-    match circuit.gate_of(signal) {
+    match levels.circuit.gate_of(signal) {
         Some(gate) => {
-            pins.extend_from_slice(gate.pins.as_slice())?;
+            push_places(levels.places, gate.pins.as_slice(), pins)?;
             let kind = gate.kind;
             let form = Form::of(kind);
             Ok(Some(Driver { kind, form }))
         }
         None => Ok(None),
     }
+}
+
+/// Adds the places of signals behind others.
+fn push_places(places: &[u32], signals: &[u32], pins: &mut Vec<u32>) -> Result<(), AllocError>
+    requires { All (λ signal. signal < length places.now) signals.now }
+    ensures { OnOk result (pins.new.items
+        ≡ pins.old.items ++ map (λ signal. slice_index_or places.now signal 0) signals.now) }
+{
+    for signal in signals {
+        pins.push(places[*signal as usize])?;
+    }
+    Ok(())
+}
+
+/// The gate of the pin that is all that reads a signal of a circuit.
+pub fn lone_reader_of(circuit: &Circuit, signal: u32) -> Option<u32>
+    requires { signal < length (names circuit.now) }
+    ensures { result ≡ lone_reader circuit.now signal }
+{
+    only_gate(circuit.sinks_of(signal))
 }
 
 /// The gate whose pin is the only one of these sinks.
@@ -318,30 +503,35 @@ fn only_gate(sinks: &[Sink]) -> Option<u32>
     }
 }
 
-/// Whether an observer observes a signal. The live gates that read it are added behind the others.
+/// Whether an observer observes a signal. The places of the live gates that read it are added
+/// behind the others.
 fn add_readers(
-    circuit: &Circuit,
-    live: &[bool],
+    levels: Levels<'_>,
     signal: u32,
     readers: &mut Vec<Reader>,
 ) -> Result<bool, AllocError>
-    requires circuit { IsCircuit circuit.now }
-    requires room { length live.now ≡ length (names circuit.now) }
-    requires live { AreLive circuit.now live.now }
-    requires signal { signal < length (names circuit.now) }
+    requires levels { AreLevels levels.circuit.now levels.order.now levels.places.now
+        levels.live.now }
+    requires signal { signal < length (names levels.circuit.now) }
     ensures readers { IfOk result (λ _. (more : List Reader)
         × (readers.new.items ≡ readers.old.items ++ more)
-        × AreReaders circuit.now signal more) }
-    ensures observed { IfOk result (λ observed. IsTrue observed ↔ IsObserved circuit.now signal) }
+        × AreReaders (in_order levels.entry.circuit.now levels.entry.order.now)
+        (place levels.entry.circuit.now
+        (in_order levels.entry.circuit.now levels.entry.order.now) signal) more) }
+    ensures observed { IfOk result (λ observed. IsTrue observed
+        ↔ IsObserved (in_order levels.entry.circuit.now levels.entry.order.now)
+        (place levels.entry.circuit.now
+        (in_order levels.entry.circuit.now levels.entry.order.now) signal)) }
 {
     let mut observed = false;
-    for sink in circuit.sinks_of(signal) {
+    for sink in levels.circuit.sinks_of(signal) {
         match *sink {
             Sink::Pin { gate, pin: _ } => {
-                if !live[gate as usize] {
+                if !levels.live[gate as usize] {
                     continue;
                 }
-                let level = circuit.level_of(gate);
+                let level = levels.circuit.level_of(gate);
+                let gate = levels.places[gate as usize];
                 readers.push(Reader { gate, level })?;
             }
             Sink::Data { .. } => observed = true,

@@ -3,11 +3,12 @@
 ghost use Rattle.std.specs.Prelude.{◌≡◌, ◌↔◌, ◌<◌, ◌≤◌, ◌*◌, Contains, List, ℕ, None, length, map};
 ghost use Rattle.std.specs.Prelude.{Err, IfErr, IfOk, IsTrue, OnOk, Some, slice_get};
 ghost use Rattle.bench_net.specs.Scan.{names, sources};
-ghost use Rattle.bench_net.specs.Circuit.{IsCircuit};
+ghost use Rattle.bench_net.specs.Statement.{Statement};
 ghost use Rattle.fault_model.specs.Fault.{faults};
 ghost use Rattle.fault_model.specs.Collapse.{representatives};
 ghost use Rattle.patterns.specs.Tests.{IsTestList, blocks, max_pieces};
 ghost use Rattle.block_sim.specs.Job.{AreFaultFree};
+ghost use Rattle.block_sim.specs.Levelled.{IsLevelled};
 ghost use Rattle.block_sim.specs.Parts.{BelongTogether, piece_count, with_tests};
 ghost use Rattle.block_sim.specs.Regions.{IsStemOfClass};
 ghost use Rattle.block_sim.specs.Spans.{groups};
@@ -68,18 +69,18 @@ impl Model for Job {
     ghost Value = { Parts };
 
     ghost view = { λ j. record {
-      circuit = j.flat;
+      circuit = j.flat.statements;
       list = j.faults;
       classes = j.classes;
       tests = j.tests;
     } };
 
     ghost invariant = { λ j. IsJob (record {
-      circuit = j.flat;
+      circuit = j.flat.statements;
       list = j.faults;
       classes = j.classes;
       tests = j.tests;
-    })
+    }) j.flat.levelled
         (map (λ row. row.items) j.rows.items) j.class_stems.items j.next_in_region.items };
 }
 
@@ -149,8 +150,8 @@ impl Job {
     {
         let flat = FlatCircuit::new(alloc, circuit)?;
         let rows = fault_free_rows(alloc, &flat, &tests)?;
-        let class_stems = class_stems(alloc, &flat, &faults, &classes)?;
-        let signals = flat.circuit().signals();
+        let class_stems = class_stems(alloc, flat.circuit(), &faults, &classes)?;
+        let signals = flat.signals();
         let next_in_region = next_with_stem(alloc, class_stems.as_slice(), signals)?;
         Ok(Job {
             flat,
@@ -207,9 +208,11 @@ impl Job {
 
     /// The circuit in flat arrays.
     pub(crate) fn flat(&self) -> &FlatCircuit
-        ensures part { result.now ≡ self.now.circuit }
+        ensures part { result.now.statements ≡ self.now.circuit }
+        ensures levelled { IsLevelled self.now.circuit result.now.levelled }
         ensures together { BelongTogether self.now }
     {
+        let _signals = self.flat.signals();
         &self.flat
     }
 
@@ -281,15 +284,20 @@ impl Job {
         requires signal { signal < length (names self.now.circuit) }
         ensures { IsFaultFreeWord self.now.circuit self.now.tests.tests block signal result }
     {
-        block_word(self.rows[(block / 2) as usize][signal as usize], block)
+        let _signals = self.flat.signals();
+        let place = self.flat.place_of(signal);
+        block_word(self.rows[(block / 2) as usize][place as usize], block)
     }
 
-    /// The words of a group of two blocks without a fault, one a signal.
+    /// The words of a group of two blocks without a fault, one a signal, at the signal's place in
+    /// level order.
     pub(crate) fn fault_free(&self, group: u32) -> &[u128]
         requires { group < groups (length self.now.tests.tests) }
         ensures count { length result.now ≡ length (names self.now.circuit) }
-        ensures words { AreWords self.now.circuit self.now.tests.tests group None result.now }
+        ensures words { (levelled : List Statement) → IsLevelled self.now.circuit levelled
+            → AreWords levelled self.now.tests.tests group None result.now }
     {
+        let _signals = self.flat.signals();
         self.rows[group as usize].as_slice()
     }
 }
@@ -308,14 +316,13 @@ fn fault_free_rows(
     circuit: &FlatCircuit,
     tests: &Tests,
 ) -> Result<Vec<Vec<u128>>, AllocError>
-    requires circuit { IsCircuit circuit.now }
-    requires width { tests.now.width ≡ length (sources circuit.now) }
+    requires width { tests.now.width ≡ length (sources circuit.now.statements) }
     ensures count { IfOk result (λ rows. length (map (λ row. row.items) rows.items)
         ≡ groups (length tests.now.tests)) }
-    ensures rows { IfOk result (λ rows. AreFaultFree circuit.now tests.now.tests
+    ensures rows { IfOk result (λ rows. AreFaultFree circuit.now.levelled tests.now.tests
         (map (λ row. row.items) rows.items)) }
 {
-    let signals = circuit.circuit().signals() as usize;
+    let signals = circuit.signals() as usize;
     let same = vec![in alloc; 0u128; signals]?;
     let mut evaluations = 0;
     let mut rows = Vec::new(alloc);

@@ -3,16 +3,17 @@
 //! faults by pairs of patterns: Waicukauski, Lindbloom, Rosen and Iyengar, Transition Fault
 //! Simulation). In a list of pairs it has to be the first of the pair, too.
 
-ghost use Rattle.std.specs.Prelude.{◌≡◌, ◌↔◌, ◌+◌, ◌*◌, ◌<◌, Bool, Contains, ℕ, suc, Some, []};
-ghost use Rattle.std.specs.Prelude.{length, slice_get, slice_index_or, map};
+ghost use Rattle.std.specs.Prelude.{◌≡◌, ◌↔◌, ◌+◌, ◌*◌, ◌<◌, Bool, Contains, List, ℕ, suc, Some};
+ghost use Rattle.std.specs.Prelude.{[], length, slice_get, slice_index_or, map};
 ghost use Rattle.std.specs.Bool.{Decides};
-ghost use Rattle.bench_net.specs.Statement.{Name};
+ghost use Rattle.bench_net.specs.Statement.{Name, Statement};
 ghost use Rattle.bench_net.specs.Scan.{names, signal};
 ghost use Rattle.bench_net.specs.Circuit.{IsWellFormed};
 ghost use Rattle.fault_model.specs.declared.Line.{Line};
 ghost use Rattle.fault_model.specs.Fault.{faults};
 ghost use Rattle.fault_model.specs.Detection.{HasBit, IsInitialized, IsSecondOfPair, LooksBack};
 ghost use Rattle.fault_model.specs.Detection.{carried};
+ghost use Rattle.block_sim.specs.Levelled.{IsLevelled};
 ghost use Rattle.block_sim.specs.Spans.{groups};
 ghost use Rattle.block_sim.specs.Stuck.{stuck_fault};
 ghost use Rattle.block_sim.specs.Words.{lane};
@@ -59,30 +60,33 @@ fn initialized_lanes(job: &Job, group: u32, fault: Stuck) -> u128
         → Decides (lane result k) (IsInitialized job.now.circuit job.now.tests.tests fault.line
         fault.at_one (128 * group + k)) }
 {
-    let before = word_before(job, group, carried(job.flat(), fault.line));
+    let circuit = job.flat();
+    let line = circuit.moved_line(fault.line);
+    let before = word_before(job, group, carried(circuit, line));
     let fits = if fault.at_one { before } else { !before };
     let earlier = if group == 0 { !1 } else { !0 };
     fits & earlier
 }
 
-/// The word of the signal of this number without a fault, one test earlier: lane `k` has its bit
-/// under test `128 * group + k - 1`, where there is one.
-fn word_before(job: &Job, group: u32, number: u32) -> u128
+/// The word of the signal at this place in level order without a fault, one test earlier: lane `k`
+/// has its bit under test `128 * group + k - 1`, where there is one.
+fn word_before(job: &Job, group: u32, place: u32) -> u128
     requires group { group < groups (length job.now.tests.tests) }
-    requires circuit { IsWellFormed job.now.circuit }
-    requires signal { number < length (names job.now.circuit) }
-    ensures { (k t : ℕ) (line : Line) (n : Name) (bit : Bool) → k < 128 → suc t ≡ 128 * group + k
-        → carried job.now.circuit line ≡ Some n → Contains (names job.now.circuit) n
-        → number ≡ signal job.now.circuit n
-        → (lane result k ≡ bit) ↔ HasBit job.now.circuit (slice_index_or job.now.tests.tests t [])
+    requires signal { place < length (names job.now.circuit) }
+    ensures { (levelled : List Statement) (k t : ℕ) (line : Line) (n : Name) (bit : Bool)
+        → IsWellFormed levelled → IsLevelled job.now.circuit levelled
+        → k < 128 → suc t ≡ 128 * group + k
+        → carried levelled line ≡ Some n → Contains (names levelled) n
+        → place ≡ signal levelled n
+        → (lane result k ≡ bit) ↔ HasBit levelled (slice_index_or job.now.tests.tests t [])
         line bit }
 {
     let last = if group == 0 {
         0
     } else {
-        job.fault_free(group - 1)[number as usize]
+        job.fault_free(group - 1)[place as usize]
     };
-    one_lane_up(job.fault_free(group)[number as usize], last)
+    one_lane_up(job.fault_free(group)[place as usize], last)
 }
 
 /// The lanes of a word one up, and in lane 0 the last lane of the word before it.

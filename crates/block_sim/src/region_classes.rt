@@ -9,15 +9,16 @@ ghost use Rattle.fault_model.specs.Collapse.{AreClassesOf};
 ghost use Rattle.fault_model.specs.Detection.{carried};
 ghost use Rattle.block_sim.specs.Regions.{HasStem, HaveStems, IsStemOf, lone_reader, way_from};
 
-use crate::flat::FlatCircuit;
-use crate::line_signals::carried;
+use crate::flat::lone_reader_of;
+use crate::line_signals::{data_signal, output_signal};
+use bench_net::Circuit;
 use fault_model::{Classes, Faults, Line};
 use std::alloc::{AllocError, Global};
 
 /// The stem of each class: that of the region in which its representative's line lies.
 pub fn class_stems(
     alloc: Global,
-    circuit: &FlatCircuit,
+    circuit: &Circuit,
     faults: &Faults,
     classes: &Classes,
 ) -> Result<Vec<u32>, AllocError>
@@ -81,7 +82,7 @@ fn join_circles(stems: &[u32], last: &mut [Option<u32>], next: &mut [u32])
 
 /// The signal at which a line's way to its stem begins: the gate's for a pin, and for any other
 /// line the one that it carries.
-fn way_from(circuit: &FlatCircuit, line: Line) -> u32
+fn way_from(circuit: &Circuit, line: Line) -> u32
     requires circuit { IsCircuit circuit.now }
     requires named { (n : Name) × (carried circuit.now line ≡ Some n) }
     ensures { way_from circuit.now line ≡ Some result }
@@ -89,18 +90,19 @@ fn way_from(circuit: &FlatCircuit, line: Line) -> u32
     match line {
         Line::Stem(signal) => signal,
         Line::Pin { gate, pin: _ } => gate,
-        Line::Data { .. } | Line::Out { .. } => carried(circuit, line),
+        Line::Data { cell } => data_signal(circuit, cell),
+        Line::Out { output } => output_signal(circuit, output),
     }
 }
 
 /// For each signal the stem of its region.
-fn stems_of(alloc: Global, circuit: &FlatCircuit) -> Result<Vec<u32>, AllocError>
+fn stems_of(alloc: Global, circuit: &Circuit) -> Result<Vec<u32>, AllocError>
     requires circuit { IsCircuit circuit.now }
     ensures count { IfOk result (λ stems. length stems.items ≡ length (names circuit.now)) }
     ensures stems { IfOk result (λ stems. (signal : ℕ) → signal < length (names circuit.now)
         → HasStem circuit.now stems.items signal) }
 {
-    let signals = circuit.circuit().signals() as usize;
+    let signals = circuit.signals() as usize;
     let mut stems = vec![in alloc; 0u32; signals]?;
     find_stems(circuit, &mut stems);
     Ok(stems)
@@ -108,13 +110,13 @@ fn stems_of(alloc: Global, circuit: &FlatCircuit) -> Result<Vec<u32>, AllocError
 
 /// Finds the stem of each signal, from the last in level order on: a gate comes behind the signals
 /// that it reads.
-fn find_stems(circuit: &FlatCircuit, stems: &mut [u32])
+fn find_stems(circuit: &Circuit, stems: &mut [u32])
     requires circuit { IsCircuit circuit.now }
     requires room { length stems.old ≡ length (names circuit.now) }
     ensures { (signal : ℕ) → signal < length (names circuit.now)
         → HasStem circuit.now stems.new signal }
 {
-    let order = circuit.circuit().in_level_order();
+    let order = circuit.in_level_order();
     for place in (0..order.len()).rev() {
         let signal = order[place];
         let stem = next_stem(circuit, stems, signal);
@@ -124,7 +126,7 @@ fn find_stems(circuit: &FlatCircuit, stems: &mut [u32])
 
 /// The stem of a signal, where that of the gate that alone reads it is known: the signal itself,
 /// or the stem of that gate.
-fn next_stem(circuit: &FlatCircuit, stems: &[u32], signal: u32) -> u32
+fn next_stem(circuit: &Circuit, stems: &[u32], signal: u32) -> u32
     requires circuit { IsCircuit circuit.now }
     requires room { length stems.now ≡ length (names circuit.now) }
     requires signal { signal < length (names circuit.now) }
@@ -133,7 +135,7 @@ fn next_stem(circuit: &FlatCircuit, stems: &[u32], signal: u32) -> u32
     ensures stem { IsStemOf circuit.now result signal }
     ensures within { result < length (names circuit.now) }
 {
-    match circuit.lone_reader(signal) {
+    match lone_reader_of(circuit, signal) {
         Some(gate) => stems[gate as usize],
         None => signal,
     }

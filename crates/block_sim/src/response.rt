@@ -34,12 +34,14 @@ pub fn responses(alloc: Global, circuit: Circuit, tests: &Tests) -> Result<Tests
 
 /// The responses of a circuit in flat rows.
 fn response_rows(alloc: Global, circuit: &FlatCircuit, tests: &Tests) -> Result<Tests, AllocError>
-    requires { tests.now.width ≡ length (sources circuit.now) }
-    ensures responses { IfOk result (λ rows. AreResponses circuit.now tests.now.tests rows) }
+    requires { tests.now.width ≡ length (sources circuit.now.statements) }
+    ensures responses { IfOk result (λ rows. AreResponses circuit.now.statements tests.now.tests
+        rows) }
     ensures list { IfOk result (λ rows. IsTestList rows) }
 {
-    let observed = observed_signals(alloc, circuit.circuit())?;
-    let signals = circuit.circuit().signals() as usize;
+    let signals = circuit.signals() as usize;
+    let shown = observed_signals(alloc, circuit.circuit())?;
+    let observed = circuit.placed(alloc, &shown)?;
     let same = vec![in alloc; 0u128; signals]?;
     let mut words = vec![in alloc; 0u128; signals]?;
     let mut row = vec![in alloc; false; observed.len()]?;
@@ -79,17 +81,18 @@ fn add_groups(
     row: &mut [bool],
     rows: &mut Tests,
 ) -> Result<(), AllocError>
-    requires circuit { IsCircuit circuit.now }
-    requires tests { tests.now.width ≡ length (sources circuit.now) }
-    requires observed { observed.now ≡ map (λ o. signal circuit.now o.1) (observers circuit.now) }
-    requires within { All (λ s. s < length (names circuit.now)) observed.now }
+    requires circuit { IsCircuit circuit.now.levelled }
+    requires tests { tests.now.width ≡ length (sources circuit.now.levelled) }
+    requires observed { observed.now
+        ≡ map (λ o. signal circuit.now.levelled o.1) (observers circuit.now.levelled) }
+    requires within { All (λ s. s < length (names circuit.now.levelled)) observed.now }
     requires same { All (λ word. word ≡ 0) same.now }
-    requires room { length same.now ≡ length (names circuit.now) }
-    requires words { length words.old ≡ length (names circuit.now) }
+    requires room { length same.now ≡ length (names circuit.now.levelled) }
+    requires words { length words.old ≡ length (names circuit.now.levelled) }
     requires row { length row.old ≡ length observed.now }
     requires width { rows.old.width ≡ length observed.now }
     requires empty { rows.old.tests ≡ [] }
-    ensures { OnOk result (AreResponses circuit.now tests.now.tests rows.new) }
+    ensures { OnOk result (AreResponses circuit.now.levelled tests.now.tests rows.new) }
 {
     let _width = tests.width();
     let mut evaluations = 0;

@@ -277,12 +277,13 @@ fn follow_alone(job: &Job, class: u32, span: Span, changes: &mut Changes) -> App
     let fault = job.representative(class);
     let group = span.first / 2;
     let lanes = span.test_lanes(job.tests()) & lanes_that_fit(job, group, fault);
+    let circuit = job.flat();
     let view = BlockView {
-        circuit: job.flat(),
+        circuit,
         good: job.fault_free(group),
         lanes,
     };
-    match follow(view, fault, changes) {
+    match follow(view, fault.moved(circuit), changes) {
         Reach::Observed(word) => Approach::Known(word),
         Reach::Stem(at) => {
             let lanes = lanes & at.lanes;
@@ -290,7 +291,7 @@ fn follow_alone(job: &Job, class: u32, span: Span, changes: &mut Changes) -> App
                 return Approach::Known(0);
             }
             Approach::Stem(Arrival {
-                signal: at.signal,
+                signal: circuit.signal_at(at.signal),
                 lanes,
             })
         }
@@ -412,12 +413,13 @@ fn flip_stem(job: &Job, span: Span, stem: u32, followed: &[Followed], changes: &
     ensures room { IsAsLarge changes.old changes.new }
     ensures clear { IsClear changes.new }
 {
+    let circuit = job.flat();
     let view = BlockView {
-        circuit: job.flat(),
+        circuit,
         good: job.fault_free(span.first / 2),
         lanes: 0,
     };
-    flip(view, followed, stem, changes)
+    flip(view, followed, circuit.place_of(stem), changes)
 }
 
 /// Keeps the outcomes of all classes that were followed.

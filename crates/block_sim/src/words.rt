@@ -5,11 +5,14 @@
 //! once (parallel-pattern simulation: Bushnell and Agrawal, Essentials of Electronic Testing).
 
 ghost use Rattle.std.specs.Prelude.{◌≡◌, ℕ, ◌+◌, ◌-◌, ◌^◌, ◌<◌, ◌≤◌, All, min, length, None};
-ghost use Rattle.std.specs.Prelude.{slice_get, slice_index_or};
+ghost use Rattle.std.specs.Prelude.{Some, slice_get, slice_index_or};
 ghost use Rattle.std.specs.List.{list_all};
+ghost use Rattle.bench_net.specs.Statement.{Name};
 ghost use Rattle.bench_net.specs.Scan.{names, sources, name_of, gate_of};
 ghost use Rattle.bench_net.specs.Circuit.{IsCircuit, max_sinks};
 ghost use Rattle.fault_model.specs.declared.Line.TheVariants.{Pin};
+ghost use Rattle.fault_model.specs.Detection.{carried};
+ghost use Rattle.fault_model.specs.Reordered.{moved};
 ghost use Rattle.fault_model.specs.Solution.{is_odd, value, under};
 ghost use Rattle.patterns.specs.Tests.{IsWord, blocks};
 ghost use Rattle.block_sim.specs.Spans.{groups};
@@ -17,11 +20,10 @@ ghost use Rattle.block_sim.specs.Flat.{HasEnds};
 ghost use Rattle.block_sim.specs.Forms.{IsFormOf, inverted};
 ghost use Rattle.block_sim.specs.Words.{lane, overlaid, pin_bits, AreWords, IsGroupWord};
 ghost use Rattle.block_sim.specs.Words.{IsSignalWord};
-ghost use Rattle.block_sim.specs.Stuck.{fault_of};
+ghost use Rattle.block_sim.specs.Stuck.{fault_of, stuck_fault};
 
 use crate::block_lanes::{group_word, in_each_lane};
 use crate::flat::{FlatCircuit, Gate};
-use bench_net::Circuit;
 use fault_model::Line;
 use patterns::Tests;
 
@@ -42,6 +44,19 @@ impl Stuck {
         ensures { (k : ℕ) → k < 128 → lane result k ≡ self.at_one }
     {
         in_each_lane(self.at_one)
+    }
+
+    /// The fault as the lists of the circuit have it.
+    pub fn moved(self, circuit: &FlatCircuit) -> Stuck
+        requires { (n : Name) × (carried circuit.now.statements self.line ≡ Some n) }
+        ensures { stuck_fault result
+            ≡ moved circuit.now.statements circuit.now.levelled (stuck_fault self) }
+    {
+        Stuck {
+            model: self.model,
+            line: circuit.moved_line(self.line),
+            at_one: self.at_one,
+        }
     }
 }
 
@@ -178,14 +193,14 @@ fn word_at(tests: &Tests, count: u32, block: u32, source: u32) -> u64
 }
 
 /// The word that a group's tests give a source.
-fn source_word(circuit: &Circuit, tests: &Tests, group: u32, signal: u32) -> u128
-    requires circuit { IsCircuit circuit.now }
-    requires signal { signal < length (names circuit.now) }
-    requires source { gate_of circuit.now signal ≡ None }
-    requires width { tests.now.width ≡ length (sources circuit.now) }
+fn source_word(circuit: &FlatCircuit, tests: &Tests, group: u32, signal: u32) -> u128
+    requires circuit { IsCircuit circuit.now.levelled }
+    requires signal { signal < length (names circuit.now.levelled) }
+    requires source { gate_of circuit.now.levelled signal ≡ None }
+    requires width { tests.now.width ≡ length (sources circuit.now.levelled) }
     requires group { group < groups (length tests.now.tests) }
-    ensures { (i : ℕ) → slice_get (sources circuit.now) i ≡ name_of circuit.now signal
-        → IsGroupWord tests.now.tests group i result }
+    ensures { (i : ℕ) → slice_get (sources circuit.now.levelled) i
+        ≡ name_of circuit.now.levelled signal → IsGroupWord tests.now.tests group i result }
 {
     match circuit.source_of(signal) {
         Some(source) => {
@@ -210,22 +225,23 @@ fn signal_word(
     signal: u32,
     evaluations: &mut u64,
 ) -> u128
-    requires circuit { IsCircuit circuit.now }
-    requires signal { signal < length (names circuit.now) }
-    requires words { length (names circuit.now) ≤ length words.now }
+    requires circuit { IsCircuit circuit.now.levelled }
+    requires signal { signal < length (names circuit.now.levelled) }
+    requires words { length (names circuit.now.levelled) ≤ length words.now }
     requires room { length words.now ≤ length same.now }
     requires same { All (λ word. word ≡ 0) same.now }
-    requires width { tests.now.width ≡ length (sources circuit.now) }
+    requires width { tests.now.width ≡ length (sources circuit.now.levelled) }
     requires group { group < groups (length tests.now.tests) }
-    ensures { IsSignalWord circuit.now tests.now.tests group None words.now signal result }
+    ensures { IsSignalWord circuit.now.levelled tests.now.tests group None words.now signal
+        result }
 {
     match circuit.gate_of(signal) {
         Some(gate) => evaluate_gate(gate, signal, None, words, same, evaluations),
-        None => source_word(circuit.circuit(), tests, group, signal),
+        None => source_word(circuit, tests, group, signal),
     }
 }
 
-/// Writes the fault-free word of every signal on a group, at the signal's number. It goes in level
+/// Writes the fault-free word of every signal on a group, at the signal's place. It goes in level
 /// order, so a gate comes after the signals that it reads.
 pub fn evaluate(
     circuit: &FlatCircuit,
@@ -235,18 +251,16 @@ pub fn evaluate(
     same: &[u128],
     evaluations: &mut u64,
 )
-    requires circuit { IsCircuit circuit.now }
-    requires words { length (names circuit.now) ≤ length words.old }
+    requires circuit { IsCircuit circuit.now.levelled }
+    requires words { length (names circuit.now.levelled) ≤ length words.old }
     requires room { length words.old ≤ length same.now }
     requires same { All (λ word. word ≡ 0) same.now }
-    requires width { tests.now.width ≡ length (sources circuit.now) }
+    requires width { tests.now.width ≡ length (sources circuit.now.levelled) }
     requires group { group < groups (length tests.now.tests) }
-    ensures words { AreWords circuit.now tests.now.tests group None words.new }
+    ensures words { AreWords circuit.now.levelled tests.now.tests group None words.new }
     ensures room { length words.new ≡ length words.old }
 {
-    let order = circuit.circuit().in_level_order();
-    for signal in order {
-        let signal = *signal;
+    for signal in 0..circuit.signals() {
         let word = signal_word(circuit, tests, group, words, same, signal, evaluations);
         words[signal as usize] = word;
     }

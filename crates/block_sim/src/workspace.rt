@@ -195,10 +195,11 @@ fn told(job: &Job, workspace: &mut Workspace, class: u32, block: u32, extent: Ex
         last: block,
     };
     let lanes = span.test_lanes(job.tests()) & lanes_that_fit(job, group, fault);
+    let circuit = job.flat();
     let view = BlockView {
-        circuit: job.flat(),
+        circuit,
         good: job.fault_free(group),
         lanes,
     };
-    effect(view, fault, extent, &mut workspace.changes)
+    effect(view, fault.moved(circuit), extent, &mut workspace.changes)
 }

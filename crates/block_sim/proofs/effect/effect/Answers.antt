@@ -27,7 +27,7 @@ use Rattle.block_sim.proofs.effect.effect.Goals as goal
 
 pub carried-signal-requires-clause-named : goal.carried-signal-requires-clause-named
 carried-signal-requires-clause-named c =
-    let circuit = c.args.view.circuit.now in
+    let circuit = c.args.view.circuit.now.levelled in
     let well = c.requires.view.circuit.well_formed in
     let good = c.args.view.good.now in
     let lanes = c.args.view.lanes in
@@ -37,7 +37,7 @@ carried-signal-requires-clause-named c =
 
 pub bounds-view-signal : goal.bounds-view-signal
 bounds-view-signal c =
-    let circuit = c.args.view.circuit.now in
+    let circuit = c.args.view.circuit.now.levelled in
     let well = c.requires.view.circuit.well_formed in
     let good = c.args.view.good.now in
     let lanes = c.args.view.lanes in
@@ -49,7 +49,7 @@ bounds-view-signal c =
 
 pub returns-then-excited-eq0-clause-shown : goal.returns-then-excited-eq0-clause-shown
 returns-then-excited-eq0-clause-shown c = λ tests group words.
-    let circuit = c.args.view.circuit.now in
+    let circuit = c.args.view.circuit.now.levelled in
     let well = c.requires.view.circuit.well_formed in
     let good = c.args.view.good.now in
     let lanes = c.args.view.lanes in
@@ -63,7 +63,7 @@ returns-then-excited-eq0-clause-shown c = λ tests group words.
 
 pub spread-requires-clause-start : goal.spread-requires-clause-start
 spread-requires-clause-start c =
-    let circuit = c.args.view.circuit.now in
+    let circuit = c.args.view.circuit.now.levelled in
     let well = c.requires.view.circuit.well_formed in
     let good = c.args.view.good.now in
     let lanes = c.args.view.lanes in
@@ -76,7 +76,7 @@ spread-requires-clause-inside c = λ k lt e. only_lanes _ c.args.view.lanes k e
 
 pub spread-requires-clause-first : goal.spread-requires-clause-first
 spread-requires-clause-first c =
-    let circuit = c.args.view.circuit.now in
+    let circuit = c.args.view.circuit.now.levelled in
     let well = c.requires.view.circuit.well_formed in
     let good = c.args.view.good.now in
     let lanes = c.args.view.lanes in
@@ -108,7 +108,7 @@ spread-requires-clause-first c =
 
 pub gate_change-diff-requires-clause-gate : goal.gate_change-diff-requires-clause-gate
 gate_change-diff-requires-clause-gate c =
-    let circuit = c.args.view.circuit.now in
+    let circuit = c.args.view.circuit.now.levelled in
     let well = c.requires.view.circuit.well_formed in
     let good = c.args.view.good.now in
     let lanes = c.args.view.lanes in
@@ -125,7 +125,7 @@ gate_change-diff-requires-clause-gate c =
 
 pub gate_change-diff-requires-clause-driven : goal.gate_change-diff-requires-clause-driven
 gate_change-diff-requires-clause-driven c =
-    let circuit = c.args.view.circuit.now in
+    let circuit = c.args.view.circuit.now.levelled in
     let well = c.requires.view.circuit.well_formed in
     let good = c.args.view.good.now in
     let lanes = c.args.view.lanes in
@@ -142,7 +142,7 @@ gate_change-diff-requires-clause-driven c =
 
 pub spread-requires-in-Pin-clause-start : goal.spread-requires-in-Pin-clause-start
 spread-requires-in-Pin-clause-start c =
-    let circuit = c.args.view.circuit.now in
+    let circuit = c.args.view.circuit.now.levelled in
     let well = c.requires.view.circuit.well_formed in
     let good = c.args.view.good.now in
     let lanes = c.args.view.lanes in
@@ -159,7 +159,7 @@ spread-requires-in-Pin-clause-start c =
 
 pub spread-requires-in-Pin-clause-first : goal.spread-requires-in-Pin-clause-first
 spread-requires-in-Pin-clause-first c =
-    let circuit = c.args.view.circuit.now in
+    let circuit = c.args.view.circuit.now.levelled in
     let well = c.requires.view.circuit.well_formed in
     let good = c.args.view.good.now in
     let lanes = c.args.view.lanes in
@@ -198,7 +198,7 @@ spread-requires-in-Pin-clause-first c =
 
 pub returns-in-Stem-clause-shown : goal.returns-in-Stem-clause-shown
 returns-in-Stem-clause-shown c = λ tests group words.
-    let circuit = c.args.view.circuit.now in
+    let circuit = c.args.view.circuit.now.levelled in
     let well = c.requires.view.circuit.well_formed in
     let good = c.args.view.good.now in
     let lanes = c.args.view.lanes in
@@ -222,7 +222,7 @@ returns-in-Stem-clause-shown c = λ tests group words.
 
 pub returns-in-Stem-clause-counted : goal.returns-in-Stem-clause-counted
 returns-in-Stem-clause-counted c = λ tests group gates words sized all.
-    let circuit = c.args.view.circuit.now in
+    let circuit = c.args.view.circuit.now.levelled in
     let well = c.requires.view.circuit.well_formed in
     let good = c.args.view.good.now in
     let lanes = c.args.view.lanes in
@@ -248,7 +248,7 @@ returns-in-Stem-clause-counted c = λ tests group gates words sized all.
 
 pub returns-in-Pin-clause-shown : goal.returns-in-Pin-clause-shown
 returns-in-Pin-clause-shown c = λ tests group words.
-    let circuit = c.args.view.circuit.now in
+    let circuit = c.args.view.circuit.now.levelled in
     let well = c.requires.view.circuit.well_formed in
     let good = c.args.view.good.now in
     let lanes = c.args.view.lanes in
@@ -279,7 +279,7 @@ returns-in-Pin-clause-shown c = λ tests group words.
 
 pub returns-in-Pin-clause-counted : goal.returns-in-Pin-clause-counted
 returns-in-Pin-clause-counted c = λ tests group gates words sized all.
-    let circuit = c.args.view.circuit.now in
+    let circuit = c.args.view.circuit.now.levelled in
     let well = c.requires.view.circuit.well_formed in
     let good = c.args.view.good.now in
     let lanes = c.args.view.lanes in
@@ -334,7 +334,7 @@ returns-in-Pin-clause-counted c = λ tests group gates words sized all.
 
 pub returns-in-Data-clause-shown : goal.returns-in-Data-clause-shown
 returns-in-Data-clause-shown c = λ tests group words.
-    let circuit = c.args.view.circuit.now in
+    let circuit = c.args.view.circuit.now.levelled in
     let well = c.requires.view.circuit.well_formed in
     let good = c.args.view.good.now in
     let lanes = c.args.view.lanes in
@@ -361,5 +361,5 @@ spread-requires-in-Pin-clause-room c =
       gates = ap (λ b. length b.at) c.gate_change-diff.ensures.buckets;
       levels = ap (λ b. b.levels) c.gate_change-diff.ensures.buckets;
     } in
-    large_enough c.args.view.circuit.now c.args.changes.now c.gate_change-diff.new.changes
+    large_enough c.args.view.circuit.now.levelled c.args.changes.now c.gate_change-diff.new.changes
     c.requires.room large

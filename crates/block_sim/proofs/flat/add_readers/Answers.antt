@@ -1,52 +1,68 @@
-use Rattle.std.proofs.Common.{◌≢◌, ℕ, ◌∙◌, [], ◌∷◌, ◌++◌, ap, arith, refl, sym, subst, ◌+◌}
+use Rattle.std.proofs.Common.{◌≡◌, ◌≢◌, ℕ, ◌∙◌, [], ◌∷◌, ◌++◌, ap, arith, refl, sym, subst, ◌+◌}
 use Rattle.std.proofs.lemmas.Bool.{false≢true}
-use Rattle.std.proofs.lemmas.List.{append_assoc, append-nil}
+use Rattle.std.specs.Prelude.{map, slice_index_or}
+use Rattle.std.proofs.lemmas.List.{append_assoc, append-nil, map-append}
 use Rattle.bench_net.specs.declared.Sink.TheVariants as sink
 use Rattle.bench_net.specs.Scan.{names}
 use Rattle.lists.proofs.Places.{within_place}
+use Rattle.fault_model.specs.Reordered.{in_order, place}
 use Rattle.block_sim.specs.declared.flat.Reader.{Reader}
 use Rattle.block_sim.proofs.Flats.{gathered_none, gathered_passed, gathered_dead, gathered_more}
 use Rattle.block_sim.proofs.Flats.{gathered_all}
+use Rattle.block_sim.proofs.LevelledRows.{moved_reader, readers_moved}
+use Rattle.block_sim.proofs.LevelledSignals.{reordered}
 use Rattle.block_sim.proofs.Readers.{reader_within}
+use Rattle.block_sim.proofs.ReorderedReaders.{same_readers}
 use Rattle.block_sim.proofs.ScheduledGates.{HasObserver, observer_none, sink_gate, observer_passed}
 use Rattle.block_sim.proofs.ScheduledGates.{observer_found, observer_all}
 use Rattle.block_sim.proofs.flat.add_readers.Goals as goal
-use Rattle.block_sim.proofs.flat.add_readers.Goals.{in-Pin+else-not-live-gate+in_ok-push-in-Pin}
+use Rattle.block_sim.proofs.flat.add_readers.Goals.{in-Pin+else-not-levels-gate+in_ok-push-in-Pin}
 use Rattle.block_sim.proofs.flat.add_readers.Goals.{in-Data, in-Out}
 
 pub loop-sink-init : goal.loop-sink-init
 loop-sink-init c = record {
   more = [];
   is = sym (append-nil c.args.readers.now.items);
-  gathered = gathered_none c.args.circuit.now c.args.signal c.sinks_of-sink-items.result.now;
-  observer = observer_none c.args.circuit.now c.args.signal c.sinks_of-sink-items.result.now;
+  gathered = gathered_none c.args.levels.circuit.now c.args.signal c.sinks_of-sink-items.result.now;
+  observer = observer_none c.args.levels.circuit.now c.args.signal c.sinks_of-sink-items.result.now;
 }
 
 pub level_of-level-requires : goal.level_of-level-requires
 level_of-level-requires c =
-    let circuit = c.args.circuit.now in
+    let circuit = c.args.levels.circuit.now in
     let n = within_place (names circuit) c.args.signal c.requires.signal in
-    let reads = sink_gate circuit c.requires.circuit.well_formed c.args.signal n.0 n.1
+    let reads = sink_gate circuit c.requires.levels.circuit.well_formed c.args.signal n.0 n.1
     c.sinks_of-sink-items.result.now (c.sinks_of-sink-items.ensures n.0 n.1)
     c.loop-sink.sink-index c.in-Pin.gate c.in-Pin.pin (sink.Pin 0 0) c.loop-sink-test.true
     c.in-Pin.is in
     reader_within circuit c.in-Pin.gate c.args.signal reads
 
-pub bounds-live-gate : goal.bounds-live-gate
-bounds-live-gate c =
-    let circuit = c.args.circuit.now in
+pub bounds-levels-gate : goal.bounds-levels-gate
+bounds-levels-gate c =
+    let circuit = c.args.levels.circuit.now in
     let n = within_place (names circuit) c.args.signal c.requires.signal in
-    let reads = sink_gate circuit c.requires.circuit.well_formed c.args.signal n.0 n.1
+    let reads = sink_gate circuit c.requires.levels.circuit.well_formed c.args.signal n.0 n.1
     c.sinks_of-sink-items.result.now (c.sinks_of-sink-items.ensures n.0 n.1)
     c.loop-sink.sink-index c.in-Pin.gate c.in-Pin.pin (sink.Pin 0 0) c.loop-sink-test.true
     c.in-Pin.is in
     let lt = reader_within circuit c.in-Pin.gate c.args.signal reads in
-    omega (arith, lt, c.requires.room)
+    omega (arith, lt, c.requires.levels.live_room)
 
-pub loop-sink-preserved-then-not-live-gate : goal.loop-sink-preserved-then-not-live-gate
-loop-sink-preserved-then-not-live-gate c =
-    let circuit = c.args.circuit.now in
-    let well = c.requires.circuit.well_formed in
+pub bounds-levels-gate-in-Pin : goal.bounds-levels-gate-in-Pin
+bounds-levels-gate-in-Pin c =
+    let circuit = c.args.levels.circuit.now in
+    let n = within_place (names circuit) c.args.signal c.requires.signal in
+    let reads = sink_gate circuit c.requires.levels.circuit.well_formed c.args.signal n.0 n.1
+    c.sinks_of-sink-items.result.now (c.sinks_of-sink-items.ensures n.0 n.1)
+    c.loop-sink.sink-index c.in-Pin.gate c.in-Pin.pin (sink.Pin 0 0) c.loop-sink-test.true
+    c.in-Pin.is in
+    let lt = reader_within circuit c.in-Pin.gate c.args.signal reads in
+    omega (arith, lt, c.requires.levels.room)
+
+pub loop-sink-preserved-then-not-levels-gate : goal.loop-sink-preserved-then-not-levels-gate
+loop-sink-preserved-then-not-levels-gate c =
+    let circuit = c.args.levels.circuit.now in
+    let well = c.requires.levels.circuit.well_formed in
     let s = c.args.signal in
     let n = within_place (names circuit) s c.requires.signal in
     let items = c.sinks_of-sink-items.result.now in
@@ -61,8 +77,8 @@ loop-sink-preserved-then-not-live-gate c =
       gathered = gathered_dead circuit well s n.0 n.1 items are i c.loop-sink.invariant.more
           c.loop-sink.invariant.gathered gate c.in-Pin.pin (sink.Pin 0 0) c.loop-sink-test.true
           c.in-Pin.is
-          (λ live. false≢true (sym c.if-not-live-gate.true
-          ∙ (c.requires.live gate (reader_within circuit gate s reads)).1 live));
+          (λ live. false≢true (sym c.if-not-levels-gate.true
+          ∙ (c.requires.levels.alive gate (reader_within circuit gate s reads)).1 live));
       observer = observer_passed circuit well s n.0 n.1 items are i gate c.in-Pin.pin
           (sink.Pin 0 0) c.loop-sink.observed c.loop-sink-test.true c.in-Pin.is
           c.loop-sink.invariant.observer;
@@ -70,8 +86,8 @@ loop-sink-preserved-then-not-live-gate c =
 
 pub loop-sink-preserved : goal.loop-sink-preserved
 loop-sink-preserved c =
-    let circuit = c.args.circuit.now in
-    let well = c.requires.circuit.well_formed in
+    let circuit = c.args.levels.circuit.now in
+    let well = c.requires.levels.circuit.well_formed in
     let s = c.args.signal in
     let n = within_place (names circuit) s c.requires.signal in
     let items = c.sinks_of-sink-items.result.now in
@@ -79,20 +95,35 @@ loop-sink-preserved c =
     let i = c.loop-sink.sink-index in
     let more = c.loop-sink.invariant.more in
     let before = c.loop-sink.invariant.gathered in
+    let there = in_order circuit c.args.levels.order.now in
     elim c.match-sink.branch [
-      | in-Pin+else-not-live-gate+in_ok-push-in-Pin w ↦
+      | in-Pin+else-not-levels-gate+in_ok-push-in-Pin w ↦
           let reads = sink_gate circuit well s n.0 n.1 items are i w.in-Pin.gate w.in-Pin.pin
           (sink.Pin 0 0) c.loop-sink-test.true w.in-Pin.is in
           let reader : Reader = record { gate = w.in-Pin.gate; level = w.level_of-level.result } in
+          let placed : slice_index_or c.args.levels.places.now w.in-Pin.gate 0
+          ≡ place circuit there w.in-Pin.gate =
+          c.requires.levels.placed w.in-Pin.gate (reader_within circuit w.in-Pin.gate s reads) in
+          let moved : Reader = record {
+            gate = slice_index_or c.args.levels.places.now w.in-Pin.gate 0;
+            level = w.level_of-level.result;
+          } in
+          let same : moved ≡ moved_reader circuit there reader =
+          ap (λ g. record { gate = g; level = w.level_of-level.result }) placed in
           record {
             more = more ++ reader ∷ [];
             is = ap (λ r. r.items) w.readers-is ∙ (w.in_ok-push-in-Pin.ensures.items
-                ∙ (ap (λ l. l ++ reader ∷ []) c.loop-sink.invariant.is
-                ∙ append_assoc c.args.readers.now.items more (reader ∷ [])));
+                ∙ (ap (λ l. l ++ moved ∷ []) c.loop-sink.invariant.is
+                ∙ (append_assoc c.args.readers.now.items (map (moved_reader circuit there) more)
+                (moved ∷ [])
+                ∙ ap (λ l. c.args.readers.now.items ++ l)
+                (ap (λ r. map (moved_reader circuit there) more ++ r ∷ []) same
+                ∙ sym (map-append (moved_reader circuit there) more (reader ∷ []))))));
             gathered = gathered_more circuit well s n.0 n.1 items are i more before w.in-Pin.gate
                 w.in-Pin.pin (sink.Pin 0 0) reader c.loop-sink-test.true w.in-Pin.is refl reads
-                ((c.requires.live w.in-Pin.gate (reader_within circuit w.in-Pin.gate s reads)).0
-                w.if-not-live-gate.false) w.level_of-level.ensures;
+                ((c.requires.levels.alive w.in-Pin.gate
+                (reader_within circuit w.in-Pin.gate s reads)).0
+                w.if-not-levels-gate.false) w.level_of-level.ensures;
             observer = subst (HasObserver circuit s items (i + 1)) (sym w.observed-is)
                 (observer_passed circuit well s n.0 n.1 items are i w.in-Pin.gate w.in-Pin.pin
                 (sink.Pin 0 0) c.loop-sink.observed c.loop-sink-test.true w.in-Pin.is
@@ -126,21 +157,33 @@ loop-sink-preserved c =
 
 pub returns-clause-readers : goal.returns-clause-readers
 returns-clause-readers c =
-    let circuit = c.args.circuit.now in
+    let circuit = c.args.levels.circuit.now in
+    let well = c.requires.levels.circuit.well_formed in
+    let order = c.args.levels.order.now in
+    let there = in_order circuit order in
+    let more = c.loop-sink.invariant.more in
     let n = within_place (names circuit) c.args.signal c.requires.signal in (
-      c.loop-sink.invariant.more,
+      map (moved_reader circuit there) more,
       c.loop-sink.invariant.is,
-      gathered_all circuit c.requires.circuit.well_formed c.args.signal n.0 n.1
+      readers_moved circuit there well
+          (reordered circuit there well (order, c.requires.levels.ordered, refl)) c.args.signal more
+          (gathered_all circuit well c.args.signal n.0 n.1
           c.sinks_of-sink-items.result.now (c.sinks_of-sink-items.ensures n.0 n.1)
-          c.loop-sink.sink-index c.loop-sink.invariant.more c.loop-sink.invariant.gathered
-          c.loop-sink-test.false,
+          c.loop-sink.sink-index more c.loop-sink.invariant.gathered c.loop-sink-test.false),
     )
 
 pub returns-clause-observed : goal.returns-clause-observed
 returns-clause-observed c =
-    let circuit = c.args.circuit.now in
+    let circuit = c.args.levels.circuit.now in
+    let well = c.requires.levels.circuit.well_formed in
+    let order = c.args.levels.order.now in
+    let there = in_order circuit order in
     let n = within_place (names circuit) c.args.signal c.requires.signal in
-    observer_all circuit c.requires.circuit.well_formed c.args.signal n.0 n.1
+    let own = observer_all circuit well c.args.signal n.0 n.1
     c.sinks_of-sink-items.result.now (c.sinks_of-sink-items.ensures n.0 n.1)
     c.loop-sink.sink-index
-    c.loop-sink.observed c.loop-sink-test.false c.loop-sink.invariant.observer
+    c.loop-sink.observed c.loop-sink-test.false c.loop-sink.invariant.observer in
+    let moved = (same_readers circuit there well
+    (reordered circuit there well (order, c.requires.levels.ordered, refl))).observed c.args.signal
+    in
+    (λ e. moved.0 (own.0 e), λ o. own.1 (moved.1 o))

@@ -1,30 +1,74 @@
-use Rattle.std.proofs.Common.{◌+◌, ◌∙◌, ap, subst, sym, length}
+use Rattle.std.proofs.Common.{◌≡◌, ◌+◌, ◌∙◌, ap, arith, refl, subst, sym, length}
+use Rattle.std.specs.Prelude.{slice_index_or}
 use Rattle.std.proofs.lemmas.List.{length_push}
-use Rattle.block_sim.specs.Flat.{AreRows, AreStandings}
+use Rattle.bench_net.specs.Scan.{names}
+use Rattle.fault_model.specs.Reordered.{in_order, place}
+use Rattle.block_sim.specs.Flat.{AreRows, AreStandings, IsRow, IsStanding}
+use Rattle.block_sim.specs.Levelled.{IsLevelled}
 use Rattle.block_sim.proofs.Flats.{rows_with, standings_with}
+use Rattle.block_sim.proofs.LevelOrder.{order_within}
+use Rattle.block_sim.proofs.LevelledSignals.{at_order, count_there}
 use Rattle.block_sim.proofs.flat.lists_of.Goals as goal
 
-pub loop-signal-preserved : goal.loop-signal-preserved
-loop-signal-preserved c =
+pub add_row-requires-clause-signal : goal.add_row-requires-clause-signal
+add_row-requires-clause-signal c =
+    order_within c.args.circuit.now c.args.order.now c.loop-place.place c.requires.order
+    c.loop-place-test.true
+
+pub standing_of-requires-clause-signal : goal.standing_of-requires-clause-signal
+standing_of-requires-clause-signal c =
+    order_within c.args.circuit.now c.args.order.now c.loop-place.place c.requires.order
+    c.loop-place-test.true
+
+pub loop-place-preserved : goal.loop-place-preserved
+loop-place-preserved c =
     let circuit = c.args.circuit.now in
-    let rows = c.loop-signal.rows.items in
+    let order = c.args.order.now in
+    let there = in_order circuit order in
+    let levelled : IsLevelled circuit there = (order, c.requires.order, refl) in
+    let at = c.loop-place.place in
+    let is : place circuit there (slice_index_or order at 0) ≡ at =
+    at_order circuit there c.signals-signals.ensures.circuit.well_formed levelled at
+    c.loop-place-test.true in
+    let rows = c.loop-place.rows.items in
     let row = c.in_ok-row.row in
-    let standings = c.loop-signal.standings.items in
+    let standings = c.loop-place.standings.items in
     let standing = c.standing_of.result in
     record {
       count = ap length c.in_ok-push.ensures.items
-          ∙ (length_push rows row ∙ ap (λ n. n + 1) c.loop-signal.invariant.count);
-      numbered = subst (AreRows circuit c.add_row.new.pins.items c.add_row.new.readers.items)
+          ∙ (length_push rows row ∙ ap (λ n. n + 1) c.loop-place.invariant.count);
+      numbered = subst (AreRows there c.add_row.new.pins.items c.add_row.new.readers.items)
           (sym c.in_ok-push.ensures.items)
-          (rows_with circuit c.loop-signal.pins.items c.add_row.new.pins.items
-          c.loop-signal.readers.items c.add_row.new.readers.items rows c.loop-signal.signal row
-          c.loop-signal.invariant.count
-          c.loop-signal.invariant.numbered c.in_ok-row.ensures.pins c.in_ok-row.ensures.readers
-          c.in_ok-row.ensures.row);
+          (rows_with there c.loop-place.pins.items c.add_row.new.pins.items
+          c.loop-place.readers.items c.add_row.new.readers.items rows at row
+          c.loop-place.invariant.count
+          c.loop-place.invariant.numbered c.in_ok-row.ensures.pins c.in_ok-row.ensures.readers
+          (subst (λ s. IsRow there c.add_row.new.pins.items c.add_row.new.readers.items s row) is
+          c.in_ok-row.ensures.row));
       stand = ap length c.in_ok-push-2.ensures.items
-          ∙ (length_push standings standing ∙ ap (λ n. n + 1) c.loop-signal.invariant.stand);
-      standing = subst (AreStandings circuit) (sym c.in_ok-push-2.ensures.items)
-          (standings_with circuit standings c.loop-signal.signal standing
-          c.loop-signal.invariant.stand
-          c.loop-signal.invariant.standing c.standing_of.ensures);
+          ∙ (length_push standings standing ∙ ap (λ n. n + 1) c.loop-place.invariant.stand);
+      standing = subst (AreStandings there) (sym c.in_ok-push-2.ensures.items)
+          (standings_with there standings at standing c.loop-place.invariant.stand
+          c.loop-place.invariant.standing
+          (subst (λ s. IsStanding there s standing) is c.standing_of.ensures));
+    }
+
+pub returns : goal.returns
+returns c =
+    let circuit = c.args.circuit.now in
+    let there = in_order circuit c.args.order.now in
+    let levelled : IsLevelled circuit there = (c.args.order.now, c.requires.order, refl) in
+    let count = count_there circuit there c.signals-signals.ensures.circuit.well_formed levelled in
+    let end : c.loop-place.place ≡ length (names there) = omega (
+      arith,
+      c.loop-place-test.false,
+      c.loop-place.auto.place-end,
+      c.requires.order.count,
+      count,
+    ) in
+    record {
+      count = c.loop-place.invariant.count ∙ end;
+      numbered = c.loop-place.invariant.numbered;
+      stand = c.loop-place.invariant.stand ∙ end;
+      standing = c.loop-place.invariant.standing;
     }

@@ -1,6 +1,5 @@
-use Rattle.std.proofs.Common.{arith, sym, subst, ◌∙◌}
+use Rattle.std.proofs.Common.{arith, sym, ◌∙◌}
 use Rattle.std.proofs.lemmas.Bool.{false≢true}
-use Rattle.bench_net.specs.Level.{HasDepth}
 use Rattle.block_sim.specs.Regions.{here}
 use Rattle.block_sim.specs.Words.{test_of}
 use Rattle.block_sim.proofs.Arrivals.{dead_flip, deeper, leads_further, stem_at_depth}
@@ -13,7 +12,7 @@ use Rattle.block_sim.proofs.region.arrive.Goals as goal
 
 pub returns-then-not-is_live-clause-come : goal.returns-then-not-is_live-clause-come
 returns-then-not-is_live-clause-come c = λ tests group f words come k lt asked.
-    let circuit = c.args.view.circuit.now in (
+    let circuit = c.args.view.circuit.now.levelled in (
       λ d. absurd (dead_flip circuit c.requires.view.circuit.well_formed (test_of tests group k)
           c.args.from.signal
           (λ live. false≢true (sym c.if-not-is_live.true ∙ c.is_live.ensures.1 live))
@@ -35,17 +34,19 @@ loop-step-init c = record {
 
 pub cross-lanes-requires-clause-room : goal.cross-lanes-requires-clause-room
 cross-lanes-requires-clause-room c =
-    large_enough c.args.view.circuit.now c.args.changes.now c.loop-step.changes c.requires.room
+    large_enough c.args.view.circuit.now.levelled c.args.changes.now c.loop-step.changes
+    c.requires.room
     c.loop-step.invariant.room
 
 pub cross-lanes-requires-clause-read : goal.cross-lanes-requires-clause-read
 cross-lanes-requires-clause-read c =
-    pin_law c.args.view.circuit.now c.requires.view.circuit.well_formed c.loop-step.at.signal
+    pin_law c.args.view.circuit.now.levelled c.requires.view.circuit.well_formed
+    c.loop-step.at.signal
     c.in-Some.gate (sym c.in-Some.ensures)
 
 pub loop-step-preserved : goal.loop-step-preserved
 loop-step-preserved c =
-    let circuit = c.args.view.circuit.now in
+    let circuit = c.args.view.circuit.now.levelled in
     let well = c.requires.view.circuit.well_formed in
     let last = c.loop-step.invariant in
     let next = c.cross-lanes.ensures in
@@ -74,13 +75,12 @@ returns-in-None-clause-stem c = λ some. (c.loop-step.invariant.leads, sym c.in-
 -- the way is no longer than there are levels
 pub returns-after-loop-step-clause-stem : goal.returns-after-loop-step-clause-stem
 returns-after-loop-step-clause-stem c = λ some.
-    let circuit = c.args.view.circuit.now in
+    let circuit = c.args.view.circuit.now.levelled in
     let last = c.loop-step.invariant in (
       last.leads,
       stem_at_depth circuit c.depth-step-end.result c.loop-step.at.signal c.loop-step._step
           c.requires.view.circuit.well_formed
-          (subst (λ x. HasDepth x c.depth-step-end.result) c.circuit.ensures
-          c.depth-step-end.ensures) last.within c.loop-step-test.false last.deep,
+          c.depth-step-end.ensures last.within c.loop-step-test.false last.deep,
     )
 
 pub returns-after-loop-step-clause-counted : goal.returns-after-loop-step-clause-counted

@@ -19,7 +19,7 @@ use Rattle.block_sim.proofs.region.follow.Goals as goal
 
 pub carried-signal-requires-clause-named : goal.carried-signal-requires-clause-named
 carried-signal-requires-clause-named c =
-    let circuit = c.args.view.circuit.now in
+    let circuit = c.args.view.circuit.now.levelled in
     let well = c.requires.view.circuit.well_formed in
     let good = c.args.view.good.now in
     let lanes = c.args.view.lanes in
@@ -29,7 +29,7 @@ carried-signal-requires-clause-named c =
 
 pub bounds-view-signal : goal.bounds-view-signal
 bounds-view-signal c =
-    let circuit = c.args.view.circuit.now in
+    let circuit = c.args.view.circuit.now.levelled in
     let well = c.requires.view.circuit.well_formed in
     let good = c.args.view.good.now in
     let lanes = c.args.view.lanes in
@@ -41,7 +41,7 @@ bounds-view-signal c =
 
 pub returns-then-excited-eq0-clause-reached : goal.returns-then-excited-eq0-clause-reached
 returns-then-excited-eq0-clause-reached c = λ tests group words k lt.
-    let circuit = c.args.view.circuit.now in
+    let circuit = c.args.view.circuit.now.levelled in
     let well = c.requires.view.circuit.well_formed in
     let good = c.args.view.good.now in
     let lanes = c.args.view.lanes in
@@ -56,7 +56,7 @@ returns-then-excited-eq0-clause-reached c = λ tests group words k lt.
 
 pub arrive-requires-clause-signal : goal.arrive-requires-clause-signal
 arrive-requires-clause-signal c =
-    let circuit = c.args.view.circuit.now in
+    let circuit = c.args.view.circuit.now.levelled in
     let well = c.requires.view.circuit.well_formed in
     let good = c.args.view.good.now in
     let lanes = c.args.view.lanes in
@@ -66,7 +66,7 @@ arrive-requires-clause-signal c =
 
 pub gate_change-lanes-requires-clause-gate : goal.gate_change-lanes-requires-clause-gate
 gate_change-lanes-requires-clause-gate c =
-    let circuit = c.args.view.circuit.now in
+    let circuit = c.args.view.circuit.now.levelled in
     let well = c.requires.view.circuit.well_formed in
     let good = c.args.view.good.now in
     let lanes = c.args.view.lanes in
@@ -83,7 +83,7 @@ gate_change-lanes-requires-clause-gate c =
 
 pub gate_change-lanes-requires-clause-driven : goal.gate_change-lanes-requires-clause-driven
 gate_change-lanes-requires-clause-driven c =
-    let circuit = c.args.view.circuit.now in
+    let circuit = c.args.view.circuit.now.levelled in
     let well = c.requires.view.circuit.well_formed in
     let good = c.args.view.good.now in
     let lanes = c.args.view.lanes in
@@ -105,12 +105,12 @@ arrive-requires-in-Pin-clause-room c =
       gates = ap (λ b. length b.at) c.gate_change-lanes.ensures.buckets;
       levels = ap (λ b. b.levels) c.gate_change-lanes.ensures.buckets;
     } in
-    large_enough c.args.view.circuit.now c.args.changes.now c.gate_change-lanes.new.changes
+    large_enough c.args.view.circuit.now.levelled c.args.changes.now c.gate_change-lanes.new.changes
     c.requires.room large
 
 pub arrive-requires-in-Pin-clause-signal : goal.arrive-requires-in-Pin-clause-signal
 arrive-requires-in-Pin-clause-signal c =
-    let circuit = c.args.view.circuit.now in
+    let circuit = c.args.view.circuit.now.levelled in
     let well = c.requires.view.circuit.well_formed in
     let good = c.args.view.good.now in
     let lanes = c.args.view.lanes in
@@ -127,7 +127,7 @@ arrive-requires-in-Pin-clause-signal c =
 
 pub returns-in-Stem-clause-reached : goal.returns-in-Stem-clause-reached
 returns-in-Stem-clause-reached c = λ tests group words.
-    let circuit = c.args.view.circuit.now in
+    let circuit = c.args.view.circuit.now.levelled in
     let well = c.requires.view.circuit.well_formed in
     let good = c.args.view.good.now in
     let lanes = c.args.view.lanes in
@@ -145,7 +145,7 @@ returns-in-Stem-clause-reached c = λ tests group words.
 
 pub returns-in-Pin-clause-reached : goal.returns-in-Pin-clause-reached
 returns-in-Pin-clause-reached c = λ tests group words.
-    let circuit = c.args.view.circuit.now in
+    let circuit = c.args.view.circuit.now.levelled in
     let well = c.requires.view.circuit.well_formed in
     let good = c.args.view.good.now in
     let lanes = c.args.view.lanes in
@@ -167,7 +167,7 @@ returns-in-Pin-clause-reached c = λ tests group words.
 
 pub returns-in-Data-clause-reached : goal.returns-in-Data-clause-reached
 returns-in-Data-clause-reached c = λ tests group words k lt.
-    let circuit = c.args.view.circuit.now in
+    let circuit = c.args.view.circuit.now.levelled in
     let well = c.requires.view.circuit.well_formed in
     let good = c.args.view.good.now in
     let lanes = c.args.view.lanes in
@@ -187,11 +187,11 @@ returns-in-Data-clause-reached c = λ tests group words k lt.
 
 pub returns-in-Stem-clause-counted : goal.returns-in-Stem-clause-counted
 returns-in-Stem-clause-counted c = λ way w.
-    c.arrive.ensures.counted way (subst (λ l. IsWayOfLine c.args.view.circuit.now l way)
+    c.arrive.ensures.counted way (subst (λ l. IsWayOfLine c.args.view.circuit.now.levelled l way)
     c.in-Stem.is w)
 
 pub returns-in-Pin-clause-counted : goal.returns-in-Pin-clause-counted
 returns-in-Pin-clause-counted c = λ way w.
-    let more = subst (λ l. IsWayOfLine c.args.view.circuit.now l way) c.in-Pin.is w in
+    let more = subst (λ l. IsWayOfLine c.args.view.circuit.now.levelled l way) c.in-Pin.is w in
     let le = c.arrive-in-Pin.ensures.counted more.0 more.1 in
     omega (arith, le, more.2, c.gate_change-lanes.ensures.counted)

@@ -41,7 +41,8 @@ loop-group-preserved c =
       here,
     ) in
     record {
-      rows = group_more c.args.circuit.now c.args.tests.now.tests group (min (128 * group) n)
+      rows = group_more c.args.circuit.now.levelled c.args.tests.now.tests group
+          (min (128 * group) n)
           (min (128 * (group + 1)) n) size
           c.loop-group.rows.tests c.add_lanes.new.rows.tests c.evaluate.new.words
           c.args.observed.now c.requires.circuit.well_formed c.evaluate.ensures.words
@@ -63,7 +64,8 @@ returns c =
     record {
       width = c.loop-group.invariant.width
           ∙ (ap length c.requires.observed
-          ∙ length-map (observers c.args.circuit.now) (λ o. signal c.args.circuit.now o.1));
+          ∙ length-map (observers c.args.circuit.now.levelled)
+          (λ o. signal c.args.circuit.now.levelled o.1));
       count = c.loop-group.invariant.rows.count ∙ all;
       each = λ t test v at solves. (let lt = slice_get_within c.args.tests.now.tests t test at in
           c.loop-group.invariant.rows.each t test v (omega (arith, lt, all)) at solves);

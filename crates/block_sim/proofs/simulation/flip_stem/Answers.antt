@@ -1,45 +1,77 @@
-use Rattle.std.proofs.Common.{arith, sym, subst}
-use Rattle.std.specs.Prelude.{None}
+use Rattle.std.proofs.Common.{◌≡◌, ◌∙◌, ap, arith, map, sym, subst}
+use Rattle.std.proofs.lemmas.List.{length-map}
+use Rattle.fault_model.specs.Reordered.{place}
 use Rattle.block_sim.specs.Regions.{TellsFirstFlips}
 use Rattle.block_sim.specs.Spans.{group_of}
 use Rattle.block_sim.specs.Ways.{HasActiveByFlip}
-use Rattle.block_sim.specs.Words.{AreWords}
 use Rattle.block_sim.proofs.KeptOutcomes.{arrived_within}
+use Rattle.block_sim.proofs.LevelledSignals.{count_there, reordered, room_there}
+use Rattle.block_sim.proofs.LevelledWords.{circuit_there}
+use Rattle.block_sim.proofs.ReorderedGates.{same_active, same_flips}
 use Rattle.block_sim.proofs.simulation.flip_stem.Goals as goal
 
 pub flip-requires-clause-words : goal.flip-requires-clause-words
-flip-requires-clause-words c =
-    let tests = c.args.job.now.tests.tests in (
-      tests,
-      group_of c.args.span,
-      subst (λ x. AreWords x tests (group_of c.args.span) None c.fault_free.result.now)
-          (sym c.flat.ensures.part) c.fault_free.ensures.words,
-    )
+flip-requires-clause-words c = (
+  c.args.job.now.tests.tests,
+  group_of c.args.span,
+  c.fault_free.ensures.words c.flat-circuit.result.now.levelled c.flat-circuit.ensures.levelled,
+)
+
+pub flip-requires-clause-view : goal.flip-requires-clause-view
+flip-requires-clause-view c =
+    let circuit = c.args.job.now.circuit in
+    let there = c.flat-circuit.result.now.levelled in
+    let whole = c.flat-circuit.ensures.together.circuit in
+    let levelled = c.flat-circuit.ensures.levelled in
+    record {
+      circuit = circuit_there circuit there whole levelled;
+      count = c.fault_free.ensures.count
+          ∙ sym (count_there circuit there whole.well_formed levelled);
+    }
+
+pub flip-requires-clause-room : goal.flip-requires-clause-room
+flip-requires-clause-room c =
+    room_there c.args.job.now.circuit c.flat-circuit.result.now.levelled
+    c.flat-circuit.ensures.together.circuit.well_formed c.flat-circuit.ensures.levelled
+    c.args.changes.now c.requires.room
 
 pub returns-clause-told : goal.returns-clause-told
-returns-clause-told c = λ one there.
+returns-clause-told c = λ one at.
+    let circuit = c.args.job.now.circuit in
+    let there = c.flat-circuit.result.now.levelled in
+    let well = c.flat-circuit.ensures.together.circuit.well_formed in
     let tests = c.args.job.now.tests.tests in
-    let span = c.args.span in
-    let group = group_of span in
-    let words = subst (λ x. AreWords x tests group None c.fault_free.result.now)
-    (sym c.flat.ensures.part) c.fault_free.ensures.words in
-    subst (λ x. TellsFirstFlips x tests group one.lanes c.args.stem c.flip.result)
-    c.flat.ensures.part
-    (c.flip.ensures.told tests group words one there)
+    let group = group_of c.args.span in
+    let words = c.fault_free.ensures.words there c.flat-circuit.ensures.levelled in
+    let stem : c.place_of.result ≡ place circuit there c.args.stem = c.place_of.ensures.place
+    ∙ ap (λ x. place x there c.args.stem) c.flat-circuit.ensures.part in
+    ((same_flips circuit there well
+    (reordered circuit there well c.flat-circuit.ensures.levelled)).told tests group one.lanes
+    c.args.stem c.flip.result).1
+    (subst (λ s. TellsFirstFlips there tests group one.lanes s c.flip.result) stem
+    (c.flip.ensures.told tests group words one at))
 
 pub returns-clause-counted : goal.returns-clause-counted
 returns-clause-counted c = λ gates active.
     let job = c.args.job.now in
+    let circuit = job.circuit in
+    let there = c.flat-circuit.result.now.levelled in
+    let well = c.flat-circuit.ensures.together.circuit.well_formed in
     let tests = job.tests.tests in
     let span = c.args.span in
-    let group = group_of span in
-    let stem = c.args.stem in
-    let words = subst (λ x. AreWords x tests group None c.fault_free.result.now)
-    (sym c.flat.ensures.part) c.fault_free.ensures.words in
-    c.flip.ensures.counted tests span gates words
-    (λ one there. arrived_within job span stem one.class one.lanes
-    (c.requires.followed one there).1)
-    (subst (λ x. HasActiveByFlip x tests span stem gates) (sym c.flat.ensures.part) active)
+    let words = c.fault_free.ensures.words there c.flat-circuit.ensures.levelled in
+    let stem : c.place_of.result ≡ place circuit there c.args.stem = c.place_of.ensures.place
+    ∙ ap (λ x. place x there c.args.stem) c.flat-circuit.ensures.part in
+    let moved = (same_active circuit there well
+    (reordered circuit there well c.flat-circuit.ensures.levelled)).by_flip tests span c.args.stem
+    gates active in
+    let le = c.flip.ensures.counted tests span (map (place circuit there) gates) words
+    (λ one at. arrived_within job span c.args.stem one.class one.lanes
+    (c.requires.followed one at).1)
+    (subst (λ s. HasActiveByFlip there tests span s (map (place circuit there) gates)) (sym stem)
+    moved) in
+    let long = length-map gates (place circuit there) in
+    omega (arith, le, long)
 
 pub fault_free-requires : goal.fault_free-requires
 fault_free-requires c = let within = c.requires.span.within in omega (arith, within)

@@ -17,7 +17,8 @@ use Rattle.block_sim.proofs.spread.spread.Goals.{then-loop-level-test+then-is_em
 pub returns-then-diff-eq0-clause-shown : goal.returns-then-diff-eq0-clause-shown
 returns-then-diff-eq0-clause-shown c = λ tests group f first.
     let overlay = c.args.changes.now.overlay in
-    shown_unchanged c.args.view.circuit.now tests group f c.args.view.good.now c.args.view.lanes
+    shown_unchanged c.args.view.circuit.now.levelled tests group f c.args.view.good.now
+    c.args.view.lanes
     overlay c.args.start c.args.diff (IsSettled c.args.extent 0)
     c.requires.view.circuit.well_formed
     (λ t. index_zero overlay t c.requires.clear.words) (omega (
@@ -34,12 +35,13 @@ pub loop-level-init : goal.loop-level-init
 loop-level-init c = record {
   room = large_none c.change-seen.new.changes;
   settled = λ k lt in_lanes out. c.followed-kept.ensures.rest k lt in_lanes out;
-  leads = leads_none c.args.view.circuit.now c.args.view.good.now c.args.view.lanes _;
+  leads = leads_none c.args.view.circuit.now.levelled c.args.view.good.now c.args.view.lanes _;
 }
 
 pub evaluate_level-found-requires-clause-room : goal.evaluate_level-found-requires-clause-room
 evaluate_level-found-requires-clause-room c =
-    large_enough c.args.view.circuit.now c.args.changes.now c.loop-level.changes c.requires.room
+    large_enough c.args.view.circuit.now.levelled c.args.changes.now c.loop-level.changes
+    c.requires.room
     (large_on c.args.changes.now c.change-seen.new.changes c.loop-level.changes
     c.change-seen.ensures.room c.loop-level.invariant.room)
 
@@ -53,7 +55,7 @@ evaluate_level-found-requires-clause-level c = omega (
 
 pub evaluate_level-found-requires-clause-spreads : goal.evaluate_level-found-requires-clause-spreads
 evaluate_level-found-requires-clause-spreads c =
-    let circuit = c.args.view.circuit.now in
+    let circuit = c.args.view.circuit.now.levelled in
     let well = c.requires.view.circuit.well_formed in
     let good = c.args.view.good.now in
     let lanes = c.args.view.lanes in
@@ -77,13 +79,13 @@ loop-level-preserved c = record {
   room = large_on c.change-seen.new.changes c.loop-level.changes c.evaluate_level-found.new.changes
       c.loop-level.invariant.room c.evaluate_level-found.ensures.room;
   settled = c.evaluate_level-found.ensures.settled c.loop-level.invariant.settled;
-  leads = leads_on c.args.view.circuit.now c.args.view.good.now c.args.view.lanes _ _ _
+  leads = leads_on c.args.view.circuit.now.levelled c.args.view.good.now c.args.view.lanes _ _ _
       c.loop-level.invariant.leads c.evaluate_level-found.ensures.leads;
 }
 
 pub returns-clause-shown : goal.returns-clause-shown
 returns-clause-shown c = λ tests group f first.
-    let circuit = c.args.view.circuit.now in
+    let circuit = c.args.view.circuit.now.levelled in
     let well = c.requires.view.circuit.well_formed in
     let good = c.args.view.good.now in
     let lanes = c.args.view.lanes in
@@ -131,7 +133,7 @@ returns-clause-shown c = λ tests group f first.
 
 pub returns-clause-counted : goal.returns-clause-counted
 returns-clause-counted c = λ tests group f gates first sized all.
-    let circuit = c.args.view.circuit.now in
+    let circuit = c.args.view.circuit.now.levelled in
     let well = c.requires.view.circuit.well_formed in
     let good = c.args.view.good.now in
     let lanes = c.args.view.lanes in
@@ -177,7 +179,7 @@ returns-clause-room c =
 
 pub returns-clause-clear : goal.returns-clause-clear
 returns-clause-clear c =
-    let circuit = c.args.view.circuit.now in
+    let circuit = c.args.view.circuit.now.levelled in
     let well = c.requires.view.circuit.well_formed in
     let good = c.args.view.good.now in
     let lanes = c.args.view.lanes in

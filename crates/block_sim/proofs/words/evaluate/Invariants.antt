@@ -1,10 +1,13 @@
 use Rattle.std.proofs.Common.{◌≡◌, length}
 use Rattle.std.specs.Prelude.{None}
+use Rattle.bench_net.specs.Scan.{names}
+use Rattle.patterns.specs.Least.{below}
 use Rattle.block_sim.proofs.LevelPass.{ArePassed}
 use Rattle.block_sim.proofs.words.evaluate.Given as goal
 
 abbrev pub invariant-loop-signal : goal.invariant-loop-signal
 invariant-loop-signal l = record {
-  passed : ArePassed l.circuit l.tests.tests l.group None l.order l.words l.signal-index;
+  passed : ArePassed l.circuit.levelled l.tests.tests l.group None
+      (below (length (names l.circuit.levelled))) l.words l.signal;
   room : length l.words ≡ length l.fn.words;
 }

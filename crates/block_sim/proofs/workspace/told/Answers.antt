@@ -1,109 +1,153 @@
 use Rattle.std.proofs.Common.{◌≡◌, ◌<◌, ℕ, ◌+◌, ◌*◌, sym, ◌∙◌, ap, subst, length, arith}
-use Rattle.std.specs.Prelude.{◌/◌, None, Option, bit_and, unwrap_or}
+use Rattle.std.specs.Prelude.{◌/◌, Contains, Option, bit_and, map, unwrap_or}
 use Rattle.std.specs.Bool.{Decides}
-use Rattle.bench_net.specs.Scan.{names}
-use Rattle.bench_net.specs.Level.{HasLevel}
-use Rattle.fault_model.specs.Fault.{Fault}
+use Rattle.std.proofs.lemmas.List.{length-map}
 use Rattle.patterns.specs.Tests.{TestList}
+use Rattle.fault_model.specs.Detection.{carried}
+use Rattle.fault_model.specs.Fault.{Fault, faults}
+use Rattle.fault_model.specs.Reordered.{moved, place}
+use Rattle.fault_model.proofs.Public.{carries}
 use Rattle.block_sim.specs.Spreading.{AreShown, IsSettled}
 use Rattle.block_sim.specs.Regions.{AreLanesFor}
 use Rattle.block_sim.specs.Spans.{AreInSpan, IsInSpan, one_block}
 use Rattle.block_sim.specs.ActiveGates.{HasActive, HasActiveIn}
 use Rattle.block_sim.specs.Stuck.{stuck_fault}
-use Rattle.block_sim.specs.Words.{lane, AreWords}
+use Rattle.block_sim.specs.Words.{lane}
 use Rattle.block_sim.proofs.LevelCount.{level_within}
-use Rattle.block_sim.proofs.EndOfSpread.{told_of_shown}
+use Rattle.block_sim.proofs.LevelledSignals.{count_there, reordered, room_there}
+use Rattle.block_sim.proofs.LevelledWords.{circuit_there, listed_there, told_there}
 use Rattle.block_sim.proofs.Steps.{lanes_decide}
 use Rattle.block_sim.proofs.DetectingTests.{active_on_block}
+use Rattle.block_sim.proofs.ReorderedGates.{same_active}
 use Rattle.block_sim.proofs.workspace.told.Goals as goal
 
+pub moved-requires : goal.moved-requires
+moved-requires c =
+    let fault = c.representative-fault.result in
+    let named = carries fault.model c.args.job.now.circuit (stuck_fault fault)
+    c.flat-circuit.ensures.together.circuit.well_formed c.representative-fault.ensures.listed in
+    (named.0, ap (λ x. carried x fault.line) c.flat-circuit.ensures.part ∙ named.1)
+
+pub effect-requires-clause-view : goal.effect-requires-clause-view
+effect-requires-clause-view c =
+    let circuit = c.args.job.now.circuit in
+    let there = c.flat-circuit.result.now.levelled in
+    let whole = c.flat-circuit.ensures.together.circuit in
+    let levelled = c.flat-circuit.ensures.levelled in
+    record {
+      circuit = circuit_there circuit there whole levelled;
+      count = c.fault_free.ensures.count
+          ∙ sym (count_there circuit there whole.well_formed levelled);
+    }
+
+pub effect-requires-clause-listed : goal.effect-requires-clause-listed
+effect-requires-clause-listed c =
+    let job = c.args.job.now in
+    let circuit = job.circuit in
+    let there = c.flat-circuit.result.now.levelled in
+    let levelled = c.flat-circuit.ensures.levelled in
+    let well = c.flat-circuit.ensures.together.circuit.well_formed in
+    let fault = stuck_fault c.representative-fault.result in
+    let is : stuck_fault c.moved.result ≡ moved circuit there fault = c.moved.ensures
+    ∙ ap (λ x. moved x there fault) c.flat-circuit.ensures.part in
+    subst (λ f. Contains (faults f.model there) f) (sym is)
+    (listed_there circuit there well levelled c.representative-fault.result.model fault
+    c.representative-fault.ensures.listed)
+
 pub effect-requires-clause-words : goal.effect-requires-clause-words
-effect-requires-clause-words c =
-    let tests = c.args.job.now.tests.tests in (
-      tests,
-      c.args.block / 2,
-      subst (λ x. AreWords x tests (c.args.block / 2) None c.fault_free.result.now)
-          (sym c.flat.ensures.part) c.fault_free.ensures.words,
-    )
+effect-requires-clause-words c = (
+  c.args.job.now.tests.tests,
+  c.args.block / 2,
+  c.fault_free.ensures.words c.flat-circuit.result.now.levelled c.flat-circuit.ensures.levelled,
+)
 
 pub effect-requires-clause-room : goal.effect-requires-clause-room
 effect-requires-clause-room c =
     let circuit = c.args.job.now.circuit in
+    let well = c.flat-circuit.ensures.together.circuit.well_formed in
     let changes = c.workspace.inside.changes in
     let signals : length changes.overlay ≡ c.args.workspace.now.signals =
     ap (λ r. r.signals) c.workspace.view_is in
-    let same = ap (λ x. length (names x)) c.flat.ensures.part in
-    record {
-      overlay = omega (arith, same, signals, c.requires.fits);
-      gates = omega (arith, same, signals, c.requires.fits, c.workspace.invariant.gates);
+    room_there circuit c.flat-circuit.result.now.levelled well c.flat-circuit.ensures.levelled
+    changes (record {
+      overlay = omega (arith, signals, c.requires.fits);
+      gates = omega (arith, signals, c.requires.fits, c.workspace.invariant.gates);
       levels = λ g k h.
-          let le = level_within circuit g k c.flat.ensures.together.circuit.well_formed
-          (subst (λ x. HasLevel x g k) c.flat.ensures.part h) in
+          let le = level_within circuit g k well h in
           omega (arith, le, signals, c.requires.fits, c.workspace.invariant.levels);
-    }
+    })
 
 pub returns-clause-told : goal.returns-clause-told
 returns-clause-told c =
     let job = c.args.job.now in
-    let well = c.flat.ensures.together.circuit.well_formed in
+    let circuit = job.circuit in
+    let there = c.flat-circuit.result.now.levelled in
+    let levelled = c.flat-circuit.ensures.levelled in
+    let well = c.flat-circuit.ensures.together.circuit.well_formed in
+    let fault = stuck_fault c.representative-fault.result in
     let tests = job.tests.tests in
     let block = c.args.block in
     let span = one_block block in
     let group = block / 2 in
-    let fault = stuck_fault c.representative-fault.result in
-    let good = c.fault_free.result.now in
     let lanes = bit_and c.test_lanes.result c.lanes_that_fit.result in
     let own = subst (λ (t : TestList). (k : ℕ) → k < 128
     → Decides (lane c.test_lanes.result k) (IsInSpan (length t.tests) span (128 * group + k)))
     c.tests.ensures.part c.test_lanes.ensures in
-    let decides : AreLanesFor tests span job.circuit fault lanes =
+    let decides : AreLanesFor tests span circuit fault lanes =
     λ k lt. lanes_decide c.test_lanes.result c.lanes_that_fit.result k (own k lt)
     (λ is. c.lanes_that_fit.ensures k lt is.listed) in
-    let words : AreWords c.flat.result.now tests group None good =
-    subst (λ x. AreWords x tests group None good) (sym c.flat.ensures.part)
-    c.fault_free.ensures.words in
+    let is : stuck_fault c.moved.result ≡ moved circuit there fault = c.moved.ensures
+    ∙ ap (λ x. moved x there fault) c.flat-circuit.ensures.part in
+    let words = c.fault_free.ensures.words there levelled in
+    let good = c.fault_free.result.now in
     let settled = IsSettled c.args.extent c.effect.result in
-    let shown : AreShown job.circuit tests group (λ _. fault) good lanes settled c.effect.result =
-    subst (λ x. AreShown x tests group (λ _. fault) good lanes settled c.effect.result)
-    c.flat.ensures.part (c.effect.ensures.shown tests group words) in (
+    let shown : AreShown there tests group (λ _. moved circuit there fault) good lanes settled
+    c.effect.result =
+    subst (λ f. AreShown there tests group (λ _. f) good lanes settled c.effect.result) is
+    (c.effect.ensures.shown tests group words) in (
       fault,
       c.representative-fault.ensures.representative,
-      told_of_shown job.circuit tests span fault good lanes c.effect.result well
-          c.fault_free.ensures.words decides settled shown,
+      told_there circuit there well levelled tests span fault good lanes c.effect.result words
+          decides settled shown,
     )
 
 pub returns-clause-counted : goal.returns-clause-counted
 returns-clause-counted c = λ r gates at all.
     let job = c.args.job.now in
-    let well = c.flat.ensures.together.circuit.well_formed in
+    let circuit = job.circuit in
+    let there = c.flat-circuit.result.now.levelled in
+    let levelled = c.flat-circuit.ensures.levelled in
+    let well = c.flat-circuit.ensures.together.circuit.well_formed in
+    let fault = stuck_fault c.representative-fault.result in
     let tests = job.tests.tests in
     let block = c.args.block in
     let span = one_block block in
     let group = block / 2 in
-    let fault = stuck_fault c.representative-fault.result in
-    let good = c.fault_free.result.now in
     let lanes = bit_and c.test_lanes.result c.lanes_that_fit.result in
     let own = subst (λ (t : TestList). (k : ℕ) → k < 128
     → Decides (lane c.test_lanes.result k) (IsInSpan (length t.tests) span (128 * group + k)))
     c.tests.ensures.part c.test_lanes.ensures in
-    let decides : AreLanesFor tests span job.circuit fault lanes =
+    let decides : AreLanesFor tests span circuit fault lanes =
     λ k lt. lanes_decide c.test_lanes.result c.lanes_that_fit.result k (own k lt)
     (λ is. c.lanes_that_fit.ensures k lt is.listed) in
-    let words : AreWords c.flat.result.now tests group None good =
-    subst (λ x. AreWords x tests group None good) (sym c.flat.ensures.part)
-    c.fault_free.ensures.words in
+    let is : stuck_fault c.moved.result ≡ moved circuit there fault = c.moved.ensures
+    ∙ ap (λ x. moved x there fault) c.flat-circuit.ensures.part in
+    let words = c.fault_free.ensures.words there levelled in
     let same : r ≡ fault = ap (λ (o : Option Fault). unwrap_or o r) (sym at
     ∙ c.representative-fault.ensures.representative) in
     let within : AreInSpan tests span lanes = λ k lt e. ((decides k lt).0 e).0 in
-    let active : HasActiveIn c.flat.result.now tests group lanes (λ _. fault) gates =
-    subst (λ x. HasActiveIn x tests group lanes (λ _. fault) gates) (sym c.flat.ensures.part)
-    (active_on_block job.circuit tests block fault lanes gates within
-    (subst (λ x. HasActive job.circuit tests block x gates) same all)) in
-    let le = c.effect.ensures.counted tests group gates words (λ k lt e. (within k lt e).listed)
-    active in
+    let active = (same_active circuit there well (reordered circuit there well levelled)).in_lanes
+    tests group lanes (λ _. fault) gates
+    (active_on_block circuit tests block fault lanes gates within
+    (subst (λ x. HasActive circuit tests block x gates) same all)) in
+    let le = c.effect.ensures.counted tests group (map (place circuit there) gates) words
+    (λ k lt e. (within k lt e).listed)
+    (subst (λ f. HasActiveIn there tests group lanes (λ _. f) (map (place circuit there) gates))
+    (sym is) active) in
+    let long = length-map gates (place circuit there) in
     let before : c.workspace.inside.changes.evaluations ≡ c.args.workspace.now.evaluations =
     ap (λ x. x.evaluations) c.workspace.view_is in
-    omega (arith, le, before)
+    omega (arith, le, long, before)
 
 pub fault_free-requires : goal.fault_free-requires
 fault_free-requires c = omega (arith, c.requires.block)

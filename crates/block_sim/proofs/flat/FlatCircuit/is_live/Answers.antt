@@ -1,6 +1,7 @@
-use Rattle.std.proofs.Common.{◌<◌, sym, subst, length}
+use Rattle.std.proofs.Common.{◌<◌, ap, sym, subst, length}
 use Rattle.std.specs.Prelude.{IsTrue, ◌↔◌}
 use Rattle.bench_net.specs.Scan.{names}
+use Rattle.fault_model.specs.Reordered.{in_order}
 use Rattle.block_sim.specs.Events.{IsLive}
 use Rattle.block_sim.proofs.Flats.{standing_of}
 use Rattle.block_sim.proofs.flat.FlatCircuit.is_live.Goals as goal
@@ -8,10 +9,12 @@ use Rattle.block_sim.proofs.flat.FlatCircuit.is_live.Goals as goal
 pub returns : goal.returns
 returns c =
     let own = c.self.inside in
-    let standing = standing_of own.circuit own.lists.pins.items own.lists.readers.items
+    let circuit = in_order own.circuit own.order.items in
+    let levels = ap (λ x. x.levelled) c.self.view_is in
+    let standing = standing_of circuit own.lists.pins.items own.lists.readers.items
     own.lists.rows.items own.lists.standings.items c.args.signal c.index.result.now
-    c.self.invariant
-    (subst (λ x. c.args.signal < length (names x)) (sym c.self.view_is) c.requires)
+    c.self.invariant.flat
+    (subst (λ x. c.args.signal < length (names x)) (sym levels) c.requires)
     c.index.ensures in
-    subst (λ x. IsTrue c.index.result.now.live ↔ IsLive x c.args.signal) c.self.view_is
+    subst (λ x. IsTrue c.index.result.now.live ↔ IsLive x c.args.signal) levels
     standing.live

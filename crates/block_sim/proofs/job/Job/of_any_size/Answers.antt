@@ -3,6 +3,7 @@ use Rattle.std.specs.Prelude.{slice_index_or}
 use Rattle.std.proofs.lemmas.Option.{slice_get-get_or}
 use Rattle.bench_net.specs.Scan.{names}
 use Rattle.block_sim.specs.Parts.{BelongTogether}
+use Rattle.block_sim.specs.Regions.{HaveStems}
 use Rattle.block_sim.proofs.job.Job.of_any_size.Goals as goal
 
 pub next_with_stem-requires-clause-stems : goal.next_with_stem-requires-clause-stems
@@ -13,7 +14,7 @@ next_with_stem-requires-clause-stems c = λ k d lt.
     let within = (c.in_ok-class_stems.ensures.stems k (slice_index_or items k d)
     (slice_get-get_or items k d long)).0 in
     let signals = ap (λ x. length (names x)) c.circuit.ensures in
-    omega (arith, within, same, signals, c.signals-signals.ensures.count)
+    omega (arith, within, same, signals, c.signals-signals.ensures.given_count)
 
 pub invariant_of-result : goal.invariant_of-result
 invariant_of-result c =
@@ -29,7 +30,8 @@ invariant_of-result c =
       count = c.in_ok-rows.ensures.count;
       fault_free = c.in_ok-rows.ensures.rows;
       stem_count = c.in_ok-class_stems.ensures.count;
-      stems = c.in_ok-class_stems.ensures.stems;
+      stems = subst (λ x. HaveStems c.args.faults.model x c.in_ok-class_stems.class_stems.items)
+          c.circuit.ensures c.in_ok-class_stems.ensures.stems;
       nexts = c.in_ok-next_in_region.ensures.count ∙ counted;
       next_within = λ k d lt. (let low = c.in_ok-next_in_region.ensures.within k d lt in
           omega (arith, low, counted));

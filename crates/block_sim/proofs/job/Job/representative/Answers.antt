@@ -7,20 +7,22 @@ use Rattle.block_sim.proofs.job.Job.representative.Goals as goal
 
 pub line_of-requires : goal.line_of-requires
 line_of-requires c =
-    representative_within c.self.inside.faults.model c.self.inside.flat c.self.inside.faults
+    representative_within c.self.inside.faults.model c.self.inside.flat.statements
+    c.self.inside.faults
     c.self.inside.classes c.args.class c.representative-fault.result
     c.self.invariant.together.classes c.self.invariant.together.list c.representative-fault.ensures
 
 pub stuck_of-requires : goal.stuck_of-requires
 stuck_of-requires c =
-    representative_within c.self.inside.faults.model c.self.inside.flat c.self.inside.faults
+    representative_within c.self.inside.faults.model c.self.inside.flat.statements
+    c.self.inside.faults
     c.self.inside.classes c.args.class c.representative-fault.result
     c.self.invariant.together.classes c.self.invariant.together.list c.representative-fault.ensures
 
 pub returns-clause-representative : goal.returns-clause-representative
 returns-clause-representative c =
     let own = c.self.inside in
-    let fault = fault_is own.faults.model own.flat own.faults own.classes c.args.class
+    let fault = fault_is own.faults.model own.flat.statements own.faults own.classes c.args.class
     c.representative-fault.result c.model.result c.line_of.result c.stuck_of.result
     c.self.invariant.together.classes c.self.invariant.together.list c.representative-fault.ensures
     c.model.ensures c.line_of.ensures c.stuck_of.ensures in
@@ -30,7 +32,7 @@ returns-clause-representative c =
 pub returns-clause-listed : goal.returns-clause-listed
 returns-clause-listed c =
     let own = c.self.inside in
-    let fault = fault_is own.faults.model own.flat own.faults own.classes c.args.class
+    let fault = fault_is own.faults.model own.flat.statements own.faults own.classes c.args.class
     c.representative-fault.result c.model.result c.line_of.result c.stuck_of.result
     c.self.invariant.together.classes c.self.invariant.together.list c.representative-fault.ensures
     c.model.ensures c.line_of.ensures c.stuck_of.ensures in

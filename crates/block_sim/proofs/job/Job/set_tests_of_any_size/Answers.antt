@@ -1,4 +1,4 @@
-use Rattle.std.proofs.Common.{◌∙◌, ap, arith, length, sym}
+use Rattle.std.proofs.Common.{◌∙◌, ap, length, sym}
 use Rattle.bench_net.specs.Scan.{sources}
 use Rattle.block_sim.proofs.job.Job.set_tests_of_any_size.Goals as goal
 

@@ -1,9 +1,9 @@
 use Rattle.std.proofs.Common.{◌≡◌, ◌<◌, ◌/◌, ◌∙◌, ap, subst, arith, length, get_or}
 use Rattle.std.proofs.lemmas.List.{length-map, get_or_read}
-use Rattle.bench_net.specs.Scan.{names}
 use Rattle.block_sim.specs.Spans.{groups}
 use Rattle.block_sim.specs.Words.{IsFaultFreeWord, lane}
 use Rattle.block_sim.proofs.BitBefore.{fault_free_lane}
+use Rattle.block_sim.proofs.LevelledWords.{word_there}
 use Rattle.block_sim.proofs.Rows.{mapped_get}
 use Rattle.block_sim.proofs.job.Job.word.Goals as goal
 
@@ -27,13 +27,7 @@ index-requires-2 c =
     let row = c.self.invariant.fault_free (c.args.block / 2) c.index.result.now.items
     (mapped_get (λ row. row.items) c.self.inside.rows.items
     (c.args.block / 2) c.index.result.now within c.index.ensures) in
-    omega (
-      arith,
-      row.0,
-      ap (λ p. length (names p.circuit)) c.self.view_is,
-      c.requires.signal,
-      c.index.result.now.ok.0,
-    )
+    omega (arith, row.0, c.place_of-place.ensures.within, c.index.result.now.ok.0)
 
 pub returns : goal.returns
 returns c =
@@ -49,17 +43,23 @@ returns c =
     let row = c.self.invariant.fault_free (c.args.block / 2) c.index.result.now.items
     (mapped_get (λ row. row.items) c.self.inside.rows.items
     (c.args.block / 2) c.index.result.now within c.index.ensures) in
-    let in_row : c.args.signal < length c.index.result.now.items = omega (
+    let own = c.self.inside.flat in
+    let at = c.place_of-place.result in
+    let in_row : at < length c.index.result.now.items = omega (
       arith,
       row.0,
-      ap (λ p. length (names p.circuit)) c.self.view_is,
-      c.requires.signal,
+      c.place_of-place.ensures.within,
     ) in
-    let read : c.index-2.result.now ≡ get_or c.index.result.now.items c.args.signal 0 =
-    get_or_read c.index.result.now.items c.args.signal _ in_row c.index-2.ensures 0 in
+    let read : c.index-2.result.now ≡ get_or c.index.result.now.items at 0 =
+    get_or_read c.index.result.now.items at _ in_row c.index-2.ensures 0 in
     subst (λ p. IsFaultFreeWord p.circuit p.tests.tests c.args.block c.args.signal
     c.block_word.result) c.self.view_is
-    (fault_free_lane c.self.inside.flat c.self.inside.tests.tests c.args.block c.args.signal
-    c.index.result.now.items c.block_word.result c.self.invariant.together.circuit.well_formed
+    (word_there own.statements own.levelled c.signals-signals.ensures.given.well_formed
+    c.signals-signals.ensures.levelled c.self.inside.tests.tests c.args.block c.args.signal
+    c.block_word.result
+    (subst (λ s. IsFaultFreeWord own.levelled c.self.inside.tests.tests c.args.block s
+    c.block_word.result) c.place_of-place.ensures.place
+    (fault_free_lane own.levelled c.self.inside.tests.tests c.args.block at
+    c.index.result.now.items c.block_word.result c.signals-signals.ensures.circuit.well_formed
     row.1
-    (λ k j lt place. c.block_word.ensures k j lt place ∙ ap (λ w. lane w j) read))
+    (λ k j lt place. c.block_word.ensures k j lt place ∙ ap (λ w. lane w j) read))))

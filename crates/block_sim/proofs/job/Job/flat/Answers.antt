@@ -1,0 +1,8 @@
+use Rattle.std.proofs.Common.{subst}
+use Rattle.block_sim.specs.Levelled.{IsLevelled}
+use Rattle.block_sim.proofs.job.Job.flat.Goals as goal
+
+pub returns-clause-levelled : goal.returns-clause-levelled
+returns-clause-levelled c =
+    subst (λ p. IsLevelled p.circuit c.self.inside.flat.levelled) c.self.view_is
+    c.signals-signals.ensures.levelled
