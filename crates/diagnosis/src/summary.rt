@@ -131,7 +131,7 @@ impl Counts {
         let lists = self
             .all_gates()
             .saturating_mul(290)
-            .saturating_add(signals.saturating_mul(60))
+            .saturating_add(signals.saturating_mul(70))
             .saturating_add(self.pins.saturating_mul(12))
             .saturating_add(u64::from(self.faults).saturating_mul(4))
             .saturating_add(classes.saturating_mul(12 + 40));

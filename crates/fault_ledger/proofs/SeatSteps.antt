@@ -4,11 +4,12 @@ use Rattle.std.proofs.Common.{if◌then◌else◌, eqb, eqb-true, eq-eqb, List, 
 use Rattle.std.proofs.Common.{slice_index_or, Option, Some, None, refl, sym, ap, ◌∙◌, subst, arith}
 use Rattle.std.proofs.Common.{lt-ltb, le-ltb}
 use Rattle.std.proofs.lemmas.List.{get_or-set_other}
+use Rattle.patterns.specs.Tests.{size_of}
 use Rattle.patterns.specs.declared.Outcome.{Outcome}
 use Rattle.fault_ledger.specs.declared.Shape.{Shape}
 use Rattle.fault_ledger.specs.declared.Event.{Event}
 use Rattle.fault_ledger.specs.declared.shared.Remembered.{Remembered}
-use Rattle.fault_ledger.specs.declared.Refusal.TheVariants.{NoSuchWorker, NoEarlierHit}
+use Rattle.fault_ledger.specs.declared.Refusal.TheVariants.{BadOutcome, NoSuchWorker, NoEarlierHit}
 use Rattle.fault_ledger.specs.declared.Claim.TheVariants as claim_is
 use Rattle.fault_ledger.specs.declared.Call.TheVariants as call
 use Rattle.fault_ledger.specs.declared.Reply.{Reply}
@@ -16,10 +17,10 @@ use Rattle.fault_ledger.specs.declared.Reply.TheVariants.{Claimed, Done, Refused
 use Rattle.fault_ledger.specs.History.{History, claims, held, piece_at, piece_count, class_of}
 use Rattle.fault_ledger.specs.History.{block_of, ContinuesWithout}
 use Rattle.fault_ledger.specs.Answer.{answer, has_earlier_hit, is_hit, claim_reply, drop_reply}
-use Rattle.fault_ledger.specs.Answer.{IsLegal}
+use Rattle.fault_ledger.specs.Answer.{IsLegal, fits_size, report_reply}
 use Rattle.fault_ledger.specs.Settled.{AreClear}
 use Rattle.fault_ledger.specs.Seats.{Sitter, IsSitter, Recalls, Remembers, nothing_seen, IsSeated}
-use Rattle.fault_ledger.specs.Seats.{Sees, Makes, FindsNoHit}
+use Rattle.fault_ledger.specs.Seats.{Sees, Makes, FindsNoHit, Stays}
 use Rattle.fault_ledger.proofs.Histories.{claims_past, entry_past, entry_goes_on, held_goes_on}
 use Rattle.fault_ledger.proofs.Histories.{goes_on_twice, goes_on_same}
 use Rattle.fault_ledger.proofs.LegalHistories.{legal_claims, held_piece}
@@ -194,6 +195,19 @@ pub reported_free : (a b : Sitter) (o : Outcome) (r : Reply) → Makes a (Event.
 reported_free a b o r m =
     ap (λ (x : Sitter). held a.worker x.seen) m.seat
     ∙ ap (λ y. if y then None else held a.worker m.before) (eq-eqb a.worker a.worker refl)
+
+-- a report of a hit at a test that the piece's block hasn't is no step
+pub reported_badly : (a : Sitter) (p : ℕ) (o : Outcome) → IsSitter a → held a.worker a.seen ≡ Some p
+    → fits_size (size_of a.place.shape.tests (block_of a.place.shape p)) o ≡ false
+    → Stays a (call.Report a.worker o) (Refused BadOutcome) a
+reported_badly a p o i holds bad =
+    let s = a.place.shape in
+    record {
+      seat = refl;
+      replied = sym (ap (λ b. if b then report_reply s o (held a.worker a.seen)
+          else Refused NoSuchWorker) (lt-ltb a.worker s.workers i.among)
+          ∙ ap (report_reply s o) holds ∙ ap (λ b. if b then Done else Refused BadOutcome) bad);
+    }
 
 pub dropped_free : (a b : Sitter) (r : Reply) → Makes a (Event.Drop a.worker) r b
     → held a.worker b.seen ≡ None

@@ -21,7 +21,7 @@ mod words;
 ghost use Rattle.std.specs.Prelude.{◌≡◌, ◌<◌, min};
 ghost use Rattle.patterns.specs.Tests.{size_of};
 ghost use Rattle.fault_ledger.specs.Answer.{fits_size};
-ghost use Rattle.fault_ledger.specs.History.{block_count, block_of, piece_count, state_of};
+ghost use Rattle.fault_ledger.specs.History.{block_count, piece_count, state_of};
 ghost use Rattle.fault_ledger.specs.Face.{shape_fault};
 
 pub use calls::replay;
@@ -223,14 +223,14 @@ impl Shape {
         (self.tests - BLOCK_SIZE * block).min(BLOCK_SIZE)
     }
 
-    /// Whether the block of a piece has the test that an outcome names.
-    pub(crate) fn takes(self, piece: u32, outcome: Outcome) -> bool
-        requires { piece < piece_count self }
-        ensures { result ≡ fits_size (size_of self.tests (block_of self piece)) outcome }
+    /// Whether a block has the test that an outcome names.
+    pub(crate) fn takes(self, block: u32, outcome: Outcome) -> bool
+        requires { block < block_count self }
+        ensures { result ≡ fits_size (size_of self.tests block) outcome }
     {
         match outcome {
             Outcome::Clear => true,
-            Outcome::Hit(test) => test < self.size_of(piece / self.classes),
+            Outcome::Hit(test) => test < self.size_of(block),
         }
     }
 

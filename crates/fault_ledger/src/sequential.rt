@@ -5,7 +5,7 @@ ghost use Rattle.std.specs.Prelude.{slice_get, IfOk, IfErr, OnErr, Some, None};
 ghost use Rattle.std.specs.Option.{option_map};
 ghost use Rattle.fault_ledger.specs.declared.Call.{Call};
 ghost use Rattle.fault_ledger.specs.declared.Reply.{Reply};
-ghost use Rattle.fault_ledger.specs.Answer.{fits_size, is_hit, claim_reply_of, done_reply_of};
+ghost use Rattle.fault_ledger.specs.Answer.{is_hit, claim_reply_of, done_reply_of};
 ghost use Rattle.fault_ledger.specs.History.{History, held, state_of};
 ghost use Rattle.fault_ledger.specs.Seats.{class_and_block};
 ghost use Rattle.fault_ledger.specs.Face.{face, shape_of, shape_fault, Answers, IsLedger};
@@ -147,7 +147,7 @@ impl Ledger {
     {
         let piece = held_by(&self.holding, worker)?;
         let block = piece / self.shape.classes;
-        if !fits(self.shape.size_of(block), outcome) {
+        if !self.shape.takes(block, outcome) {
             return Err(Refusal::BadOutcome);
         }
         let class = (piece % self.shape.classes) as usize;
@@ -207,16 +207,6 @@ fn held_by(holding: &[Option<u32>], worker: u32) -> Result<u32, Refusal>
         None => Err(Refusal::NoSuchWorker),
         Some(None) => Err(Refusal::NothingHeld),
         Some(Some(piece)) => Ok(*piece),
-    }
-}
-
-/// Whether a block of this size has the test that an outcome names.
-fn fits(size: u32, outcome: Outcome) -> bool
-    ensures { result ≡ fits_size size outcome }
-{
-    match outcome {
-        Outcome::Clear => true,
-        Outcome::Hit(test) => test < size,
     }
 }
 

@@ -213,7 +213,8 @@ impl SharedLedger {
         let Some(piece) = seat.piece else {
             return Err(Refusal::NothingHeld);
         };
-        if !self.shape.takes(piece, outcome) {
+        let (_class, block) = seat.row.class_and_block(piece);
+        if !self.shape.takes(block, outcome) {
             return Err(Refusal::BadOutcome);
         }
         self.words.report(&mut seat.token, piece, outcome);

@@ -1,23 +1,24 @@
 -- From the report of a job to that of the texts that the job was read from.
-use Rattle.std.proofs.Common.{◌∙◌, ℕ, ap, subst, List}
-use Rattle.std.specs.Prelude.{⊤, Result, Ok, Err, IfErr}
+use Rattle.std.proofs.Common.{◌≡◌, ◌∙◌, ℕ, ap, length, refl, subst, List}
+use Rattle.std.specs.Prelude.{Result, Ok, Err, IfErr}
+use Rattle.bench_net.specs.Refusal.{IsAccepted}
+use Rattle.bench_net.specs.Statement.{Statement}
 use Rattle.fault_model.specs.declared.Model.{Model}
-use Rattle.fault_model.specs.Collapse.{AreClassesOf}
+use Rattle.fault_model.specs.Collapse.{AreClassesOf, Collapsed}
+use Rattle.fault_model.specs.Fault.{FaultList, fault_list}
 use Rattle.orders.specs.Order.{HasMoves}
 use Rattle.block_sim.specs.Parts.{Parts, piece_count}
 use Rattle.workers.specs.declared.RunFault.{RunFault}
-use Rattle.workers.specs.Refused.{IsPartsFault}
-use Rattle.workers.proofs.Public.{parts_fault}
 use Rattle.workers.specs.Verdict.{AreFirsts}
 use Rattle.output.specs.Output.{Output}
 use Rattle.jobs.specs.declared.fault.SimFault.{SimFault}
 use Rattle.jobs.specs.declared.fault.SimFault.TheVariants as fault
 use Rattle.jobs.specs.Jobs.{IsJobOf, IsJobWithin}
-use Rattle.report.specs.EndToEnd.{WritesOneOf, IsReportOf, IsReportOfJob}
+use Rattle.report.specs.EndToEnd.{WritesOneOf, IsListingOf, IsReportOf, IsReportOfJob}
 use Rattle.report.specs.EndToEnd.{IsReportFault, IsRunReportFault, IsJobReportFault, IsTextFault}
 use Rattle.report.specs.EndToEnd.{IsScheduleReportFault, IsScheduleTextFault}
 use Rattle.report.specs.declared.contents.Contents.{Contents}
-use Rattle.report.specs.Report.{whole_report}
+use Rattle.report.specs.Report.{listing, whole_report}
 use Rattle.report.proofs.VerdictsOfRuns.{schedule_fault}
 
 -- a text of one kind is one of another
@@ -56,6 +57,16 @@ report_of m bench text contents job is bytes of_job =
       of_job.2 ∙ ap (λ k. whole_report k job.circuit job.classes of_job.0 contents) is.3,
     )
 
+-- what is written of a job of texts is written of the texts
+pub written_of_texts : (m : Model) (bench text : List ℕ) (contents : Contents) (job : Parts)
+    (r : Result (Unit {0}) SimFault) (old new : Output) → IsJobOf m bench text job
+    → WritesOneOf (IsReportOfJob job contents) r old new
+    → WritesOneOf (IsReportOf m bench text contents) r old new
+written_of_texts m bench text contents job r old new is =
+    written_as (IsReportOfJob job contents) (IsReportOf m bench text contents) r old new
+    (report_of m bench text contents job is)
+
+-- a refused run of a job of texts is refused of the texts
 pub job_run_fault : (m : Model) (bench text : List ℕ) (workers : ℕ) (job : Parts)
     → IsJobWithin m bench text job → (f : SimFault) → IsRunReportFault job workers f
     → IsReportFault m bench text workers f
@@ -67,21 +78,7 @@ job_run_fault m bench text workers job within (fault.Order f) h = absurd h
 job_run_fault m bench text workers job within (fault.Job f) h = absurd h
 job_run_fault m bench text workers job within fault.Memory h = absurd h
 
--- the same of a run in parts of such a job
-pub parts_run_fault : (m : Model) (bench text : List ℕ) (parts workers : ℕ) (job : Parts)
-    → IsJobWithin m bench text job → (f : SimFault)
-    → IsJobReportFault workers (IsPartsFault job parts workers ⊤ (λ _ _ _. ⊥)) f
-    → IsReportFault m bench text workers f
-parts_run_fault m bench text parts workers job within (fault.Run f) h =
-    (job, within, parts_fault job parts workers f h)
-parts_run_fault m bench text parts workers job within (fault.Report f) h = (job, within, h.0, h.1)
-parts_run_fault m bench text parts workers job within (fault.Bench f) h = absurd h
-parts_run_fault m bench text parts workers job within (fault.Tests f) h = absurd h
-parts_run_fault m bench text parts workers job within (fault.Order f) h = absurd h
-parts_run_fault m bench text parts workers job within (fault.Job f) h = absurd h
-parts_run_fault m bench text parts workers job within fault.Memory h = absurd h
-
--- and of a run of a job of any size
+-- the same of a run of a job of any size
 pub text_fault : (m : Model) (bench text : List ℕ) (workers : ℕ)
     (IsFault : Parts → RunFault → Type 0) (job : Parts) → IsJobOf m bench text job
     → (f : SimFault) → IsJobReportFault workers (IsFault job) f
@@ -107,3 +104,17 @@ moves_fault m bench text order workers job moves within has (fault.Tests f) h = 
 moves_fault m bench text order workers job moves within has (fault.Order f) h = absurd h
 moves_fault m bench text order workers job moves within has (fault.Job f) h = absurd h
 moves_fault m bench text order workers job moves within has fault.Memory h = absurd h
+
+-- the listing that is written of the circuit of a text is one of the text
+pub taken_of_text : (m : Model) (bench : List ℕ) (c : List Statement) (list : FaultList)
+    (classes : Collapsed) (IsTaken : List ℕ → Type 0) → IsAccepted bench c → list ≡ fault_list m c
+    → AreClassesOf list.model c classes
+    → IsTaken (listing list.model c classes.class_of (length classes.representative))
+    → (text : List ℕ) × IsListingOf m bench text × IsTaken text
+taken_of_text m bench c list classes IsTaken accepted listed are taken =
+    let of_model : list.model ≡ m = ap (λ l. l.model) listed in (
+      listing m c classes.class_of (length classes.representative),
+      (c, classes, accepted, subst (λ k. AreClassesOf k c classes) of_model are, refl),
+      subst (λ k. IsTaken (listing k c classes.class_of (length classes.representative))) of_model
+          taken,
+    )

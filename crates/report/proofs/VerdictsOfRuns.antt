@@ -1,6 +1,6 @@
 -- What a run says of a job: a verdict for each fault, and, by the moves of an order text, when it
 -- is refused.
-use Rattle.std.proofs.Common.{◌≡◌, ◌<◌, ◌≤◌, ℕ, get_or, arith, sym, ap, List, length, ◌∙◌}
+use Rattle.std.proofs.Common.{◌≡◌, ◌<◌, ◌≤◌, ℕ, get_or, arith, refl, sym, ap, List, length, ◌∙◌}
 use Rattle.std.specs.Prelude.{Option, Some, nat_le, position}
 use Rattle.std.proofs.lemmas.Bool.{leb-true}
 use Rattle.std.proofs.lemmas.List.Elements.{All-get_or}
@@ -15,7 +15,9 @@ use Rattle.workers.specs.Refused.{IsScheduleFault}
 use Rattle.workers.specs.Verdict.{AreFirsts}
 use Rattle.jobs.specs.declared.fault.SimFault.TheVariants as fault
 use Rattle.jobs.specs.Jobs.{IsJobWithin}
-use Rattle.report.specs.EndToEnd.{IsScheduleTextFault}
+use Rattle.report.specs.declared.contents.Contents.{Contents}
+use Rattle.report.specs.EndToEnd.{IsReportOfJob, IsScheduleTextFault}
+use Rattle.report.specs.Report.{whole_report}
 
 -- a run's verdicts are one for each fault of the job
 pub verdicts_counted : (job : Parts) (firsts : List (Option ℕ)) → BelongTogether job
@@ -23,6 +25,14 @@ pub verdicts_counted : (job : Parts) (firsts : List (Option ℕ)) → BelongToge
     → length firsts ≡ length job.list.list
 verdicts_counted job firsts together are =
     are.count ∙ sym (ap (λ l. length l.list) together.list)
+
+-- the whole report of a run's verdicts is a report of the job
+pub taken_of_job : (job : Parts) (contents : Contents) (firsts : List (Option ℕ))
+    (IsTaken : List ℕ → Type 0) → AreFirsts job.list.model job.circuit job.tests.tests firsts
+    → IsTaken (whole_report job.list.model job.circuit job.classes firsts contents)
+    → (text : List ℕ) × IsReportOfJob job contents text × IsTaken text
+taken_of_job job contents firsts IsTaken are taken =
+    (whole_report job.list.model job.circuit job.classes firsts contents, (firsts, are, refl), taken)
 
 -- moves of an order text are all of workers of its number
 no_other_worker : (order : List ℕ) (workers index : ℕ) (moves : List ℕ)

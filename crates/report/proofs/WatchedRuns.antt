@@ -1,5 +1,5 @@
 -- When the report of a run that a gate watches is refused, by the refusals of its job.
-use Rattle.std.specs.Prelude.{⊤, ℕ, List, Some, None}
+use Rattle.std.specs.Prelude.{⊤, ℕ, List, Some, None, Result, IfErr}
 use Rattle.fault_model.specs.declared.Model.{Model}
 use Rattle.block_sim.specs.Parts.{Parts}
 use Rattle.workers.specs.declared.RunFault.TheVariants as run_fault
@@ -7,42 +7,33 @@ use Rattle.workers.specs.Refused.{IsPartsFault}
 use Rattle.workers.specs.Work.{Stops}
 use Rattle.jobs.specs.declared.fault.SimFault.{SimFault}
 use Rattle.jobs.specs.declared.fault.SimFault.TheVariants as fault
-use Rattle.jobs.specs.Jobs.{IsJobOf, IsJobWithin}
-use Rattle.report.specs.EndToEnd.{IsJobReportFault, IsJobTextFault, IsReportFault, IsWatchedFault}
+use Rattle.jobs.specs.Jobs.{IsJobWithin}
+use Rattle.report.specs.EndToEnd.{IsJobReportFault, IsJobTextFault, IsReportFault, IsTextFault}
+use Rattle.report.specs.EndToEnd.{IsWatchedFault}
 use Rattle.workers.proofs.Public.{parts_fault}
+use Rattle.report.proofs.ReportsOfTexts.{refused_as}
 
--- a refused run in parts of a job of the texts
+-- a refused run in parts, of which a number is given
 pub watched_parts : (m : Model) (bench text : List ℕ) (parts workers : ℕ) (passing : Type 0)
-    (stops : Stops) (job : Parts) → IsJobOf m bench text job → (f : SimFault)
-    → IsJobReportFault workers (IsPartsFault job parts workers passing stops) f
+    (stops : Stops) (f : SimFault)
+    → IsTextFault m bench text workers (λ job. IsPartsFault job parts workers passing stops) f
     → IsWatchedFault m bench text (Some parts) workers passing stops f
-watched_parts m bench text parts workers passing stops job is (fault.Run run_fault.NoWorkers) h =
-    (job, is, h)
-watched_parts m bench text parts workers passing stops job is (fault.Run run_fault.TooManyWorkers) h
-    =
-    (job, is, h)
-watched_parts m bench text parts workers passing stops job is (fault.Run (run_fault.NoSuchMove i)) h
-    =
-    (job, is, h)
-watched_parts m bench text parts workers passing stops job is (fault.Run run_fault.TooManyPieces) h
-    =
-    (job, is, h)
-watched_parts m bench text parts workers passing stops job is (fault.Run run_fault.Memory) h =
-    (job, is, h)
-watched_parts m bench text parts workers passing stops job is (fault.Run run_fault.Threads) h =
-    (job, is, h)
-watched_parts m bench text parts workers passing stops job is (fault.Run (run_fault.Unfinished c b))
-    h =
-    (job, is, h)
-watched_parts m bench text parts workers passing stops job is (fault.Report f) h =
-    (job, is, h.0, h.1)
-watched_parts m bench text parts workers passing stops job is (fault.Bench f) h = absurd h
-watched_parts m bench text parts workers passing stops job is (fault.Tests f) h = absurd h
-watched_parts m bench text parts workers passing stops job is (fault.Order f) h = absurd h
-watched_parts m bench text parts workers passing stops job is (fault.Job f) h = absurd h
-watched_parts m bench text parts workers passing stops job is fault.Memory h = absurd h
+watched_parts m bench text parts workers passing stops (fault.Run run_fault.NoWorkers) h = h
+watched_parts m bench text parts workers passing stops (fault.Run run_fault.TooManyWorkers) h = h
+watched_parts m bench text parts workers passing stops (fault.Run (run_fault.NoSuchMove i)) h = h
+watched_parts m bench text parts workers passing stops (fault.Run run_fault.TooManyPieces) h = h
+watched_parts m bench text parts workers passing stops (fault.Run run_fault.Memory) h = h
+watched_parts m bench text parts workers passing stops (fault.Run run_fault.Threads) h = h
+watched_parts m bench text parts workers passing stops (fault.Run (run_fault.Unfinished c b)) h = h
+watched_parts m bench text parts workers passing stops (fault.Report f) h = h
+watched_parts m bench text parts workers passing stops (fault.Bench f) h = h
+watched_parts m bench text parts workers passing stops (fault.Tests f) h = h
+watched_parts m bench text parts workers passing stops (fault.Order f) h = h
+watched_parts m bench text parts workers passing stops (fault.Job f) h = h
+watched_parts m bench text parts workers passing stops fault.Memory h = h
 
--- the same where no number of parts is given, so that the job is within the limit of pieces
+-- a refused run of a job of the texts where no number of parts is given, so that the job is within
+-- the limit of pieces
 pub watched_whole : (m : Model) (bench text : List ℕ) (parts workers : ℕ) (passing : Type 0)
     (stops : Stops) (job : Parts) → IsJobWithin m bench text job → (f : SimFault)
     → IsJobReportFault workers (IsPartsFault job parts workers passing stops) f
@@ -105,3 +96,11 @@ open_fault m bench text workers (fault.Tests f) h = h
 open_fault m bench text workers (fault.Order f) h = h
 open_fault m bench text workers (fault.Job f) h = h
 open_fault m bench text workers fault.Memory h = h
+
+-- the same of what a call gave
+pub refused_open : (m : Model) (bench text : List ℕ) (workers : ℕ) (r : Result (Unit {0}) SimFault)
+    → IfErr r (IsWatchedFault m bench text None workers ⊤ (λ _ _ _. ⊥))
+    → IfErr r (IsReportFault m bench text workers)
+refused_open m bench text workers r =
+    refused_as (IsWatchedFault m bench text None workers ⊤ (λ _ _ _. ⊥))
+    (IsReportFault m bench text workers) r (open_fault m bench text workers)

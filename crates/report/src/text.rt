@@ -3,26 +3,24 @@
 ghost use Rattle.std.specs.Prelude.{◌≢◌, ◌<◌, ◌≤◌, Err, IfOk, IfErr, OnOk};
 ghost use Rattle.fault_model.specs.declared.Model.TheVariants as model;
 ghost use Rattle.block_sim.specs.Parts.{BelongTogether, piece_count};
-ghost use Rattle.workers.specs.Refused.{IsPartsFault};
 ghost use Rattle.report.specs.EndToEnd.{WritesOneOf, IsReportOf, IsReportFault, IsReportOfJob};
 ghost use Rattle.report.specs.EndToEnd.{IsScheduleTextFault, HasSomeMoves, IsListingOf};
-ghost use Rattle.report.specs.EndToEnd.{IsListingFault, IsJobReportFault, IsPartsReportFault};
+ghost use Rattle.report.specs.EndToEnd.{IsListingFault, IsPartsReportFault};
 ghost use Rattle.report.specs.EndToEnd.{IsScheduleReportFault};
 
 use crate::contents::Contents;
 use crate::report::{write_listing, write_report};
+use crate::watched::{watch_parts, watch_whole};
 use bench_net::read_bench;
 use block_sim::Job;
 use fault_model::{Model, collapse, list_faults_in};
-use jobs::{
-    ReportFault, SimFault, Watch, job_for, job_of, job_of_any_size, read_inputs, run_watched,
-};
+use jobs::{ReportFault, SimFault, job_for, read_inputs};
 use orders::read_order;
 use output::{Out, Plain};
 use std::alloc::Global;
 use std::sync::Wait;
 use std::thread::Threads;
-use workers::{OpenGate, parts_for, run_schedule};
+use workers::{OpenGate, run_schedule};
 
 /// Reads a circuit and tests for it, and writes the report of the stuck-at faults:
 /// [`simulate_text_in`] under [`Model::StuckAt`].
@@ -66,9 +64,9 @@ pub fn simulate_text_in<R: Threads + Wait, W: Out>(
     ensures refused { IfErr result (IsReportFault model bench.now tests.now workers) }
     ensures workers { OnOk result ((0 < workers) × (workers ≤ 64)) }
 {
-    let job = job_of(alloc, model, bench, tests)?;
-    let parts = parts_for(workers);
-    report_run(rt, alloc, &job, parts, workers, contents, &OpenGate, out)
+    watch_whole(
+        rt, alloc, model, bench, tests, workers, contents, &OpenGate, out,
+    )
 }
 
 /// Reads a circuit and tests for it, and writes the report that [`simulate_text_in`] writes, with
@@ -95,33 +93,9 @@ pub fn simulate_text_in_parts<R: Threads + Wait, W: Out>(
         (IsPartsReportFault model bench.now tests.now parts workers) }
     ensures workers { OnOk result ((0 < workers) × (workers ≤ 64)) }
 {
-    let job = job_of_any_size(alloc, model, bench, tests)?;
-    report_run(rt, alloc, &job, parts, workers, contents, &OpenGate, out)
-}
-
-/// Runs a job in parts by workers in threads of their own, and writes its report. The gate is told
-/// when the run begins and when all is settled.
-pub(crate) fn report_run<R: Threads + Wait, G: Watch + Sync, W: Out>(
-    rt: &R,
-    alloc: Global,
-    job: &Job,
-    parts: u32,
-    workers: u32,
-    contents: Contents,
-    gate: &G,
-    out: &mut W,
-) -> Result<(), SimFault>
-    requires job { BelongTogether job.now }
-    requires parts { 0 < parts }
-    ensures written { WritesOneOf (IsReportOfJob job.now contents) result
-        (W.seen out.old) (W.seen out.new) }
-    ensures refused { IfErr result (IsJobReportFault workers
-        (IsPartsFault job.now parts workers (G.passing gate.now) (G.stops gate.now))) }
-    ensures workers { OnOk result ((0 < workers) × (workers ≤ 64)) }
-{
-    let verdicts = run_watched(rt, alloc, job, parts, workers, gate)?;
-    write_report(job, &verdicts, contents, out)?;
-    Ok(())
+    watch_parts(
+        rt, alloc, model, bench, tests, parts, workers, contents, &OpenGate, out,
+    )
 }
 
 /// Reads a circuit, tests for it and an order of moves, and writes the report of the stuck-at

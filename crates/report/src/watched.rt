@@ -1,12 +1,16 @@
 //! The report of a run that a gate watches.
 
-ghost use Rattle.std.specs.Prelude.{◌<◌, ◌≤◌, IfErr, IfSome, None, OnOk, Some};
-ghost use Rattle.report.specs.EndToEnd.{IsReportOf, IsWatchedFault, WritesOneOf};
+ghost use Rattle.std.specs.Prelude.{◌<◌, ◌≤◌, IfErr, IfSome, None, OnOk};
+ghost use Rattle.block_sim.specs.Parts.{BelongTogether};
+ghost use Rattle.workers.specs.Refused.{IsPartsFault};
+ghost use Rattle.report.specs.EndToEnd.{IsJobReportFault, IsReportOf, IsReportOfJob, IsTextFault};
+ghost use Rattle.report.specs.EndToEnd.{IsWatchedFault, WritesOneOf};
 
 use crate::contents::Contents;
-use crate::text::report_run;
+use crate::report::write_report;
+use block_sim::Job;
 use fault_model::Model;
-use jobs::{SimFault, Watch, job_of, job_of_any_size};
+use jobs::{SimFault, Watch, job_of, job_of_any_size, run_watched};
 use output::Out;
 use std::alloc::Global;
 use std::sync::Wait;
@@ -50,7 +54,7 @@ pub fn simulate_text_watched<R: Threads + Wait, G: Watch + Sync, W: Out>(
 }
 
 /// The report of a run in so many parts, whatever the number of pieces of the whole.
-fn watch_parts<R: Threads + Wait, G: Watch + Sync, W: Out>(
+pub(crate) fn watch_parts<R: Threads + Wait, G: Watch + Sync, W: Out>(
     rt: &R,
     alloc: Global,
     model: Model,
@@ -65,8 +69,8 @@ fn watch_parts<R: Threads + Wait, G: Watch + Sync, W: Out>(
     requires { 0 < parts }
     ensures written { WritesOneOf (IsReportOf model bench.now tests.now contents) result
         (W.seen out.old) (W.seen out.new) }
-    ensures refused { IfErr result (IsWatchedFault model bench.now tests.now (Some parts) workers
-        (G.passing gate.now) (G.stops gate.now)) }
+    ensures refused { IfErr result (IsTextFault model bench.now tests.now workers
+        (λ job. IsPartsFault job parts workers (G.passing gate.now) (G.stops gate.now))) }
     ensures workers { OnOk result ((0 < workers) × (workers ≤ 64)) }
 {
     let job = job_of_any_size(alloc, model, bench, tests)?;
@@ -74,7 +78,7 @@ fn watch_parts<R: Threads + Wait, G: Watch + Sync, W: Out>(
 }
 
 /// The report of a run in as many parts as serve so many workers.
-fn watch_whole<R: Threads + Wait, G: Watch + Sync, W: Out>(
+pub(crate) fn watch_whole<R: Threads + Wait, G: Watch + Sync, W: Out>(
     rt: &R,
     alloc: Global,
     model: Model,
@@ -94,4 +98,29 @@ fn watch_whole<R: Threads + Wait, G: Watch + Sync, W: Out>(
     let job = job_of(alloc, model, bench, tests)?;
     let parts = parts_for(workers);
     report_run(rt, alloc, &job, parts, workers, contents, gate, out)
+}
+
+/// Runs a job in parts by workers in threads of their own, and writes its report. The gate is told
+/// when the run begins and when all is settled.
+fn report_run<R: Threads + Wait, G: Watch + Sync, W: Out>(
+    rt: &R,
+    alloc: Global,
+    job: &Job,
+    parts: u32,
+    workers: u32,
+    contents: Contents,
+    gate: &G,
+    out: &mut W,
+) -> Result<(), SimFault>
+    requires job { BelongTogether job.now }
+    requires parts { 0 < parts }
+    ensures written { WritesOneOf (IsReportOfJob job.now contents) result
+        (W.seen out.old) (W.seen out.new) }
+    ensures refused { IfErr result (IsJobReportFault workers
+        (IsPartsFault job.now parts workers (G.passing gate.now) (G.stops gate.now))) }
+    ensures workers { OnOk result ((0 < workers) × (workers ≤ 64)) }
+{
+    let verdicts = run_watched(rt, alloc, job, parts, workers, gate)?;
+    write_report(job, &verdicts, contents, out)?;
+    Ok(())
 }

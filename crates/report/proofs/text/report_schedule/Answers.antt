@@ -1,7 +1,6 @@
-use Rattle.std.proofs.Common.{refl}
 use Rattle.std.proofs.lemmas.Result.{err_from_is_err_and}
-use Rattle.report.specs.Report.{whole_report}
-use Rattle.report.proofs.VerdictsOfRuns.{verdicts_counted}
+use Rattle.output.specs.Output.{TakesAll, TakesFront}
+use Rattle.report.proofs.VerdictsOfRuns.{taken_of_job, verdicts_counted}
 use Rattle.report.proofs.text.report_schedule.Goals as goal
 
 pub write_report-requires : goal.write_report-requires
@@ -15,19 +14,10 @@ pub returns-in_err-write_report-clause-written : goal.returns-in_err-write_repor
 returns-in_err-write_report-clause-written g c =
     let p = err_from_is_err_and c.from_residual-in_err-write_report.result
     c.from_residual-in_err-write_report.ensures.1 in
-    let job = c.args.job.now in
-    let firsts = c.in_ok-verdicts.verdicts.firsts in
-    rw (p.1, p.2) (
-      whole_report job.list.model job.circuit job.classes firsts c.args.contents,
-      (firsts, c.in_ok-verdicts.ensures.firsts, refl),
-      c.in_err-write_report.ensures,
-    )
+    rw (p.1, p.2) (taken_of_job c.args.job.now c.args.contents c.in_ok-verdicts.verdicts.firsts
+    (TakesFront _ _) c.in_ok-verdicts.ensures.firsts c.in_err-write_report.ensures)
 
 pub returns-clause-written : goal.returns-clause-written
 returns-clause-written g c =
-    let job = c.args.job.now in
-    let firsts = c.in_ok-verdicts.verdicts.firsts in (
-      whole_report job.list.model job.circuit job.classes firsts c.args.contents,
-      (firsts, c.in_ok-verdicts.ensures.firsts, refl),
-      c.in_ok-write_report.ensures,
-    )
+    taken_of_job c.args.job.now c.args.contents c.in_ok-verdicts.verdicts.firsts
+    (TakesAll _ _) c.in_ok-verdicts.ensures.firsts c.in_ok-write_report.ensures

@@ -1,8 +1,7 @@
 use Rattle.block_sim.specs.Parts.{piece_count}
-use Rattle.report.specs.EndToEnd.{IsReportOf, IsReportOfJob, IsScheduleReportFault}
-use Rattle.report.specs.EndToEnd.{IsScheduleTextFault}
+use Rattle.report.specs.EndToEnd.{IsScheduleReportFault, IsScheduleTextFault}
 use Rattle.jobs.proofs.Public.{job_of_texts}
-use Rattle.report.proofs.ReportsOfTexts.{written_as, refused_as, report_of, moves_fault}
+use Rattle.report.proofs.ReportsOfTexts.{moves_fault, refused_as, written_of_texts}
 use Rattle.report.proofs.text.schedule_text_in.Goals as goal
 
 pub report_schedule-requires : goal.report_schedule-requires
@@ -14,10 +13,8 @@ returns-clause-written g c =
     let made = job_of_texts c.args.model c.args.bench.now c.args.tests.now c.in_ok-circuit.circuit
     c.in_ok-circuit.tests job
     c.in_ok-circuit.ensures.circuit c.in_ok-circuit.ensures.tests c.in_ok-job.ensures.job in
-    written_as (IsReportOfJob job c.args.contents)
-    (IsReportOf c.args.model c.args.bench.now c.args.tests.now c.args.contents)
-    c.report_schedule.result _ _ (report_of c.args.model c.args.bench.now c.args.tests.now
-    c.args.contents job made) c.report_schedule.ensures.written
+    written_of_texts c.args.model c.args.bench.now c.args.tests.now c.args.contents job
+    c.report_schedule.result _ _ made c.report_schedule.ensures.written
 
 pub returns-clause-refused : goal.returns-clause-refused
 returns-clause-refused g c =

@@ -1,17 +1,14 @@
 use Rattle.std.specs.Prelude.{None}
 use Rattle.workers.specs.Refused.{IsPartsFault}
-use Rattle.report.specs.EndToEnd.{IsReportOf, IsReportOfJob, IsJobReportFault, IsWatchedFault}
-use Rattle.report.proofs.ReportsOfTexts.{written_as, refused_as, report_of}
+use Rattle.report.specs.EndToEnd.{IsJobReportFault, IsWatchedFault}
+use Rattle.report.proofs.ReportsOfTexts.{refused_as, written_of_texts}
 use Rattle.report.proofs.WatchedRuns.{watched_whole}
 use Rattle.report.proofs.watched.watch_whole.Goals as goal
 
 pub returns-clause-written : goal.returns-clause-written
 returns-clause-written g c =
-    let job = c.in_ok-job.job in
-    written_as (IsReportOfJob job c.args.contents)
-    (IsReportOf c.args.model c.args.bench.now c.args.tests.now c.args.contents)
-    c.report_run.result _ _ (report_of c.args.model c.args.bench.now c.args.tests.now
-    c.args.contents job c.in_ok-job.ensures.job) c.report_run.ensures.written
+    written_of_texts c.args.model c.args.bench.now c.args.tests.now c.args.contents c.in_ok-job.job
+    c.report_run.result _ _ c.in_ok-job.ensures.job c.report_run.ensures.written
 
 pub returns-clause-refused : goal.returns-clause-refused
 returns-clause-refused g c =

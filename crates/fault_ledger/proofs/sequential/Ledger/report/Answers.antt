@@ -46,21 +46,20 @@ pub nonzero_div-block : goal.nonzero_div-block
 nonzero_div-block c = some_class c.self.inside.shape c.in_ok-piece.piece
     (in_range (goal.at.nonzero_div-block c).In_ok-piece)
 
-pub size_of-requires : goal.size_of-requires
-size_of-requires c = block_of-below c.self.inside.shape c.in_ok-piece.piece
-    (in_range (goal.at.size_of-requires c).In_ok-piece)
+pub takes-requires : goal.takes-requires
+takes-requires c = block_of-below c.self.inside.shape c.in_ok-piece.piece
+    (in_range (goal.at.takes-requires c).In_ok-piece)
 
-pub returns-then-not-fits-clause-answer : goal.returns-then-not-fits-clause-answer
-returns-then-not-fits-clause-answer c =
+pub returns-then-not-takes-clause-answer : goal.returns-then-not-takes-clause-answer
+returns-then-not-takes-clause-answer c =
     let s = c.self.inside in
     let f = faced s.shape s.claimed s.holding.items s.states.items in
     let w = c.args.worker in
-    let bad = ap (λ (n : ℕ). fits_size n c.args.outcome) (sym c.size_of.ensures)
-    ∙ sym c.fits.ensures ∙ c.if-not-fits.true in
+    let bad = sym c.takes.ensures ∙ c.if-not-takes.true in
     subst (λ (g : Face).
     Answers g (call.Report w c.args.outcome) (Refused BadOutcome) g) c.self.view_is
     (report-bad f w c.in_ok-piece.piece c.args.outcome
-    (found (goal.at.returns-then-not-fits-clause-answer c).In_ok-piece) bad)
+    (found (goal.at.returns-then-not-takes-clause-answer c).In_ok-piece) bad)
 
 pub nonzero_rem-class : goal.nonzero_rem-class
 nonzero_rem-class c = some_class c.self.inside.shape c.in_ok-piece.piece
@@ -138,8 +137,7 @@ pub invariant_of-self : goal.invariant_of-self
 invariant_of-self c =
     let s = c.self.inside in
     let at = (goal.at.invariant_of-self c).In_ok-piece in
-    let good = ap (λ (n : ℕ). fits_size n c.args.outcome) (sym c.size_of.ensures)
-    ∙ sym c.fits.ensures ∙ c.if-not-fits.false in (
+    let good = sym c.takes.ensures ∙ c.if-not-takes.false in (
       ledger-after (faced s.shape s.claimed s.holding.items s.states.items) s.claimed
           (set s.holding.items c.args.worker None)
           (set s.states.items c.in_ok-piece.piece c.state_after.result)
@@ -153,8 +151,7 @@ invariant_of-self c =
 pub returns-clause-answer : goal.returns-clause-answer
 returns-clause-answer c =
     let s = c.self.inside in
-    let good = ap (λ (n : ℕ). fits_size n c.args.outcome) (sym c.size_of.ensures)
-    ∙ sym c.fits.ensures ∙ c.if-not-fits.false in
+    let good = sym c.takes.ensures ∙ c.if-not-takes.false in
     let new = faced s.shape s.claimed (set s.holding.items c.args.worker None)
     (set s.states.items c.in_ok-piece.piece c.state_after.result) in
     subst
