@@ -322,6 +322,15 @@ verdict_none count classes firsts verdicts e =
     at (suc n) zero lt = refl
     at (suc n) (suc class) lt = at n class (omega (arith, lt))
 
+-- verdicts by class are so under other names of the lists and of their number
+pub verdicts_under : (m n : ℕ) (xs ys : List ℕ) (fs gs : List (Option ℕ)) (table : List PartVerdict)
+    → m ≡ n → xs ≡ ys → fs ≡ gs → AreClassVerdicts m xs fs (length xs) table
+    → AreClassVerdicts n ys gs (length ys) table
+verdicts_under m n xs ys fs gs table a b c are =
+    subst (λ k. AreClassVerdicts k ys gs (length ys) table) a
+    (subst (λ l. AreClassVerdicts m l gs (length l) table) b
+    (subst (λ l. AreClassVerdicts m xs l (length xs) table) c are))
+
 -- the verdicts of a part's run
 pub part_verdicts : (job : Parts) (parts part : ℕ) (classes : List ℕ) (firsts : List (Option ℕ))
     (table verdicts : List PartVerdict) → BelongTogether job → ArePartOf job parts part classes

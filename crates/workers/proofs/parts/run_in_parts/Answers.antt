@@ -3,9 +3,9 @@ use Rattle.fault_model.specs.Collapse.{Collapsed}
 use Rattle.patterns.specs.Tests.{TestList, blocks}
 use Rattle.workers.specs.declared.parts.PartVerdict.{PartVerdict}
 use Rattle.workers.specs.declared.parts.PartVerdict.TheVariants.{OtherPart}
-use Rattle.workers.specs.Part.{AreClassVerdicts, first_in}
+use Rattle.workers.specs.Part.{first_in}
 use Rattle.workers.specs.Verdict.{AreBehindHits, AreFirsts, pieces_behind}
-use Rattle.workers.proofs.PartsOfClasses.{cut_firsts, cut_hits, cut_within}
+use Rattle.workers.proofs.PartsOfClasses.{cut_firsts, cut_hits, cut_within, verdicts_under}
 use Rattle.workers.proofs.parts.run_in_parts.Goals as goal
 
 pub by_class-requires-clause-within : goal.by_class-requires-clause-within
@@ -21,18 +21,13 @@ by_class-requires-clause-within g c =
 pub returns-clause-firsts : goal.returns-clause-firsts
 returns-clause-firsts g c =
     let job = c.args.job.now in
-    let n = length job.classes.representative in
     let classes = c.in_ok-cut.cut.classes.items in
     let firsts = c.in_ok-gathered.gathered.items in
     let table = c.in_ok-table.table.items in
     let count = c.count-count.ensures
     ∙ ap (λ (x : Collapsed). length x.representative) c.classes.ensures.part in
-    let by : AreClassVerdicts n classes firsts (length classes) table =
-    subst (λ k. AreClassVerdicts k classes firsts (length classes) table) count
-    (subst (λ l. AreClassVerdicts c.count-count.result l firsts (length l) table)
-    c.as_slice.ensures.value
-    (subst (λ l. AreClassVerdicts c.count-count.result c.as_slice.result.now l
-    (length c.as_slice.result.now) table) c.as_slice-2.ensures.value c.in_ok-table.ensures)) in
+    let by = verdicts_under c.count-count.result (length job.classes.representative) _ classes _ firsts
+    table count c.as_slice.ensures.value c.as_slice-2.ensures.value c.in_ok-table.ensures in
     let is : c.in_ok-found.found.items ≡ map (λ class. first_in (get_or table class OtherPart))
     job.classes.class_of =
     c.in_ok-found.ensures.firsts ∙ ap
@@ -46,18 +41,13 @@ returns-clause-firsts g c =
 pub returns-clause-skipped : goal.returns-clause-skipped
 returns-clause-skipped g c =
     let job = c.args.job.now in
-    let n = length job.classes.representative in
     let classes = c.in_ok-cut.cut.classes.items in
     let firsts = c.in_ok-gathered.gathered.items in
     let table = c.in_ok-table.table.items in
     let count = c.count-count.ensures
     ∙ ap (λ (x : Collapsed). length x.representative) c.classes.ensures.part in
-    let by : AreClassVerdicts n classes firsts (length classes) table =
-    subst (λ k. AreClassVerdicts k classes firsts (length classes) table) count
-    (subst (λ l. AreClassVerdicts c.count-count.result l firsts (length l) table)
-    c.as_slice.ensures.value
-    (subst (λ l. AreClassVerdicts c.count-count.result c.as_slice.result.now l
-    (length c.as_slice.result.now) table) c.as_slice-2.ensures.value c.in_ok-table.ensures)) in
+    let by = verdicts_under c.count-count.result (length job.classes.representative) _ classes _ firsts
+    table count c.as_slice.ensures.value c.as_slice-2.ensures.value c.in_ok-table.ensures in
     let all : c.blocks-blocks.result ≡ blocks (length job.tests.tests) = c.blocks-blocks.ensures
     ∙ ap (λ (t : TestList). blocks (length t.tests)) c.tests.ensures.part in
     let is : c.skipped_behind-skipped.result ≡ pieces_behind c.blocks-blocks.result

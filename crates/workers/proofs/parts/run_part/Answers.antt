@@ -1,11 +1,11 @@
-use Rattle.std.proofs.Common.{◌≡◌, ◌+◌, ◌∙◌, ◌<◌, ◌≤◌, List, All, ap, get_or, length, map, subst}
+use Rattle.std.proofs.Common.{◌≡◌, ◌+◌, ◌∙◌, ◌<◌, ◌≤◌, List, All, ap, get_or, length, map, refl, subst}
 use Rattle.std.proofs.Common.{sym}
 use Rattle.fault_model.specs.Collapse.{Collapsed}
 use Rattle.workers.specs.declared.parts.PartVerdict.{PartVerdict}
 use Rattle.workers.specs.declared.parts.PartVerdict.TheVariants.{OtherPart}
-use Rattle.workers.specs.Part.{AreClassVerdicts, ArePartOf}
+use Rattle.workers.specs.Part.{ArePartOf}
 use Rattle.workers.proofs.PartsOfClasses.{part_few, part_list, part_verdicts, part_within, start_le}
-use Rattle.workers.proofs.PartsOfClasses.{start_within}
+use Rattle.workers.proofs.PartsOfClasses.{start_within, verdicts_under}
 use Rattle.workers.proofs.parts.run_part.Goals as goal
 
 pub between-own-requires-clause-order : goal.between-own-requires-clause-order
@@ -51,7 +51,6 @@ by_class-requires-clause-within g c =
 pub returns-clause-verdicts : goal.returns-clause-verdicts
 returns-clause-verdicts g c =
     let job = c.args.job.now in
-    let n = length job.classes.representative in
     let classes = c.between-own.result.now in
     let firsts = c.in_ok-found.found.firsts.items in
     let table = c.in_ok-table.table.items in
@@ -62,10 +61,8 @@ returns-clause-verdicts g c =
     c.start_of-start.ensures c.start_of-end.ensures) in
     let count = c.count-count.ensures
     ∙ ap (λ (x : Collapsed). length x.representative) c.classes.ensures.part in
-    let by : AreClassVerdicts n classes firsts (length classes) table =
-    subst (λ k. AreClassVerdicts k classes firsts (length classes) table) count
-    (subst (λ l. AreClassVerdicts c.count-count.result classes l (length classes) table)
-    c.as_slice.ensures.value c.in_ok-table.ensures) in
+    let by = verdicts_under c.count-count.result (length job.classes.representative) classes classes _
+    firsts table count refl c.as_slice.ensures.value c.in_ok-table.ensures in
     let is : c.in_ok-verdicts.verdicts.items ≡ map (λ class. get_or table class OtherPart)
     job.classes.class_of =
     c.in_ok-verdicts.ensures ∙ ap (λ (l : List PartVerdict). map (λ class. get_or l class OtherPart)
