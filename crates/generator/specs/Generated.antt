@@ -21,8 +21,8 @@ use Rattle.jobs.specs.Jobs.{IsJobWithin}
 abbrev pub HasFewRows : ℕ → List ℕ → Type 0
 HasFewRows most text = (tests : List (List Bool)) × (text ≡ test_text tests) × (length tests ≤ most)
 
--- the text is that of tests which are a compaction of others, for the circuit of a bench text under a
--- model, so that each of them is needed
+-- the text is that of tests which are a compaction of others, for the circuit of a bench text under
+-- a model, so that each of them is needed
 abbrev pub IsCompacted : Model → List ℕ → List ℕ → Type 0
 IsCompacted m bench text = (c : List Statement) × (found kept : List (List Bool))
     × IsAccepted bench c × IsCompaction m c found kept × (text ≡ test_text kept)
