@@ -157,11 +157,17 @@ fn works(alloc: Global, job: &Job) -> Result<bool, Fail> {
     Ok(works_at(alloc, job, &ledger, &mut seat)?)
 }
 
+/// Lets one worker work on a job, and asks whether all went well.
+fn works_well<R: Abort>(rt: &R, alloc: Global, job: &Job) -> Result<(), Fail> {
+    let is_well = works(alloc, job)?;
+    assert!(rt; is_well);
+    Ok(())
+}
+
 #[test]
 fn a_worker_works(rt: HostRuntime) -> Result<(), Fail> {
     let job = c17_job(rt.alloc())?;
-    assert!(rt; works(rt.alloc(), &job)?);
-    Ok(())
+    works_well(&rt, rt.alloc(), &job)
 }
 
 /// Lets 64 workers start where few find room for a stack, and then where all do.

@@ -100,31 +100,61 @@ impl Trial for Making<'_> {
 
     fn attempt(&self, alloc: Global) -> Outcome {
         match self.part {
-            Part::Circuit => match read_bench(alloc, C17) {
-                Ok(circuit) => answered(circuit.signals() == 11),
-                Err(fault) => refused(fault == BenchFault::Memory),
-            },
-            Part::Faults => match list_faults(alloc, self.job.circuit()) {
-                Ok(faults) => answered(faults.count() == 34),
-                Err(AllocError) => Outcome::Refused,
-            },
-            Part::Classes => match collapse(alloc, self.job.circuit(), self.job.faults()) {
-                Ok(classes) => answered(classes.count() == 22),
-                Err(AllocError) => Outcome::Refused,
-            },
-            Part::Tests => match read_tests(alloc, self.tests, 5) {
-                Ok(tests) => answered(tests.count() == 65),
-                Err(fault) => refused(fault == TestFault::Memory),
-            },
-            Part::Whole => match job_of(alloc, Model::StuckAt, C17, self.tests) {
-                Ok(job) => answered(job.classes().count() == 22),
-                Err(fault) => refused(is_want(fault)),
-            },
-            Part::NewTests => match job_of(alloc, Model::StuckAt, C17, b"") {
-                Ok(mut job) => try_tests(alloc, &mut job, self.tests),
-                Err(fault) => refused(is_want(fault)),
-            },
+            Part::Circuit => make_circuit(alloc),
+            Part::Faults => make_faults(alloc, self.job),
+            Part::Classes => make_classes(alloc, self.job),
+            Part::Tests => make_tests(alloc, self.tests),
+            Part::Whole => make_job(alloc, self.tests),
+            Part::NewTests => make_new_tests(alloc, self.tests),
         }
+    }
+}
+
+/// What comes of reading C17.
+fn make_circuit(alloc: Global) -> Outcome {
+    match read_bench(alloc, C17) {
+        Ok(circuit) => answered(circuit.signals() == 11),
+        Err(fault) => refused(fault == BenchFault::Memory),
+    }
+}
+
+/// What comes of listing the faults of C17.
+fn make_faults(alloc: Global, job: &Job) -> Outcome {
+    match list_faults(alloc, job.circuit()) {
+        Ok(faults) => answered(faults.count() == 34),
+        Err(AllocError) => Outcome::Refused,
+    }
+}
+
+/// What comes of collapsing the faults of C17.
+fn make_classes(alloc: Global, job: &Job) -> Outcome {
+    match collapse(alloc, job.circuit(), job.faults()) {
+        Ok(classes) => answered(classes.count() == 22),
+        Err(AllocError) => Outcome::Refused,
+    }
+}
+
+/// What comes of reading 65 tests.
+fn make_tests(alloc: Global, text: &[u8]) -> Outcome {
+    match read_tests(alloc, text, 5) {
+        Ok(tests) => answered(tests.count() == 65),
+        Err(fault) => refused(fault == TestFault::Memory),
+    }
+}
+
+/// What comes of making the job of C17 under the tests of a text.
+fn make_job(alloc: Global, text: &[u8]) -> Outcome {
+    match job_of(alloc, Model::StuckAt, C17, text) {
+        Ok(job) => answered(job.classes().count() == 22),
+        Err(fault) => refused(is_want(fault)),
+    }
+}
+
+/// What comes of making the job of C17 without tests, and of giving it the tests of a text.
+fn make_new_tests(alloc: Global, text: &[u8]) -> Outcome {
+    match job_of(alloc, Model::StuckAt, C17, b"") {
+        Ok(mut job) => try_tests(alloc, &mut job, text),
+        Err(fault) => refused(is_want(fault)),
     }
 }
 
