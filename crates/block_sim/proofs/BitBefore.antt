@@ -13,7 +13,7 @@ use Rattle.bench_net.specs.Scan.{names, signal, name_of}
 use Rattle.bench_net.specs.Circuit.{IsWellFormed}
 use Rattle.fault_model.specs.declared.Line.{Line}
 use Rattle.fault_model.specs.Solution.{Test, Solves}
-use Rattle.fault_model.specs.Detection.{carried, HasBit, IsInitialized}
+use Rattle.fault_model.specs.Detection.{name_on, HasBit, IsInitialized}
 use Rattle.fault_model.proofs.Public.{agree}
 use Rattle.bench_net.proofs.Public.{signal-name_of}
 use Rattle.lists.proofs.Members.{contained}
@@ -24,7 +24,7 @@ use Rattle.block_sim.proofs.Lanes.{lane_and, lane_not, lane_ones}
 
 pub lane_has_bit : (c : List Statement) (tests : List Test) (group k : ℕ) (row : List ℕ) (l : Line)
     (n : Name) (bit : Bool) → IsWellFormed c → AreWords c tests group None row → k < 128
-    → carried c l ≡ Some n → Contains (names c) n
+    → name_on c l ≡ Some n → Contains (names c) n
     → (lane (slice_index_or row (signal c n) 0) k ≡ bit) ↔ HasBit c (test_of tests group k) l
     bit
 lane_has_bit c tests group k row l n bit well words lt at named = (there, back)
@@ -97,7 +97,7 @@ looks_at c tests l bit t j e lt =
 -- group, and lane 0 by the last lane of the group before
 pub bits_before : (c : List Statement) (tests : List Test) (group k t number up : ℕ) (l : Line)
     (n : Name) (bit : Bool) → IsWellFormed c → k < 128 → suc t ≡ 128 * group + k
-    → carried c l ≡ Some n → Contains (names c) n → number ≡ signal c n
+    → name_on c l ≡ Some n → Contains (names c) n → number ≡ signal c n
     → (here : List ℕ) → AreWords c tests group None here
     → ((j : ℕ) → j < 127 → lane up (suc j) ≡ lane (slice_index_or here number 0) j)
     → ((b : ℕ) → suc b ≡ group → (row : List ℕ) × AreWords c tests b None row

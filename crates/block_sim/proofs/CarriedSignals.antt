@@ -11,7 +11,7 @@ use Rattle.bench_net.specs.Scan.{names, signal, definition, gate_line, gate_of, 
 use Rattle.bench_net.proofs.Public.{definition_defines}
 use Rattle.lists.proofs.Places.{place_within}
 use Rattle.fault_model.specs.declared.Line.TheVariants as line
-use Rattle.fault_model.specs.Detection.{argument, carried}
+use Rattle.fault_model.specs.Detection.{argument, name_on}
 use Rattle.block_sim.proofs.DataPins.{data_signals}
 use Rattle.block_sim.proofs.ListPlaces.{mapped_at}
 
@@ -93,7 +93,7 @@ pub data_signal : (c : List Statement) (stored : List ScanCell) (i : ℕ) (n : N
     → map {B = ℕ × ℕ} (λ cell. (cell.q, cell.d)) stored ≡ map (λ cell. (
       signal c cell.0,
       signal c cell.1,
-    )) (cells c) → carried c (line.Data i) ≡ Some n
+    )) (cells c) → name_on c (line.Data i) ≡ Some n
     → (i < length stored) × (slice_index_or (map (λ (cell : ScanCell). cell.d) stored) i 0
     ≡ signal c n)
 data_signal c stored i n e at =

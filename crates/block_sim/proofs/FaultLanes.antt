@@ -16,7 +16,7 @@ use Rattle.fault_model.specs.declared.Line.TheVariants as line
 use Rattle.fault_model.specs.declared.Model.{Model}
 use Rattle.fault_model.specs.Fault.{Fault, faults}
 use Rattle.fault_model.specs.Solution.{Test, Solves, Detects, value, pins_see}
-use Rattle.fault_model.specs.Detection.{HasBit, carried}
+use Rattle.fault_model.specs.Detection.{HasBit, name_on}
 use Rattle.fault_model.proofs.Public.{agree, carries as carries_named, detection_is_of_any_solution}
 use Rattle.fault_model.proofs.Public.{has_solutions, pins_agree, under_other}
 use Rattle.event_queue.proofs.Public.{index_zero}
@@ -173,7 +173,7 @@ module _ (c : List Statement) (well : IsWellFormed c) (tests : List Test) (group
 
   -- at an observer what is excited is detected
   pub observer_told : (m : Model) (excited : ℕ) (n : Name) → Contains (faults m c) f
-      → start_of f.line ≡ None → carried c f.line ≡ Some n
+      → start_of f.line ≡ None → name_on c f.line ≡ Some n
       → ((k : ℕ) → k < 128 → Decides (lane excited k) ((lane lanes k ≡ true)
       × (lane_bits c good k n ≢ f.stuck))) → (k : ℕ) → k < 128
       → Decides (lane excited k) ((lane lanes k ≡ true) × Detects c (test_of tests group k) f)

@@ -20,7 +20,7 @@ use Rattle.bench_net.proofs.Public.{name_of-signal}
 use Rattle.lists.proofs.Places.{among_numbered, numbered_at, at_place, within_place}
 use Rattle.fault_model.specs.declared.Line.{Line}
 use Rattle.fault_model.specs.declared.Line.TheVariants as line
-use Rattle.fault_model.specs.Detection.{argument, carried}
+use Rattle.fault_model.specs.Detection.{argument, name_on}
 use Rattle.fault_model.specs.Fault.{Fault, branch, same_line}
 use Rattle.fault_model.specs.Solution.{Test, Solves, sees, under, value}
 use Rattle.fault_model.proofs.Public.{has_solutions, same_lines, under_other, under_own, observes}
@@ -44,7 +44,7 @@ under_same f l bit stuck = go (same_line f.line l) refl
 
 -- an observer's branch carries the name that it observes
 observer_carries : (c : List Statement) (o : Sink × Name) → Contains (observers c) o
-    → carried c (branch o.0) ≡ Some o.1
+    → name_on c (branch o.0) ≡ Some o.1
 observer_carries c o at = go (among_append
     (map (λ at. (sink.Out at.0, at.1)) (enumerate_from 0 (outputs c)))
     (map (λ at. (sink.Data at.0, at.1.1)) (enumerate_from 0 (cells c))) o
@@ -52,20 +52,20 @@ observer_carries c o at = go (among_append
   where
     go : Among o (map (λ at. (sink.Out at.0, at.1)) (enumerate_from 0 (outputs c)))
         ⊎ Among o (map (λ at. (sink.Data at.0, at.1.1)) (enumerate_from 0 (cells c)))
-        → carried c (branch o.0) ≡ Some o.1
+        → name_on c (branch o.0) ≡ Some o.1
     go (inl h) =
         let p = mapped_from (λ at. (sink.Out at.0, at.1)) (enumerate_from 0 (outputs c)) o h in
         let place : slice_get (outputs c) p.0.0 ≡ Some p.0.1 = numbered_at (outputs c) p.0 p.1 in
         let it : (sink.Out p.0.0, p.0.1) ≡ o = p.2 in
-        subst (λ x. carried c (branch x.0) ≡ Some x.1) it place
+        subst (λ x. name_on c (branch x.0) ≡ Some x.1) it place
     go (inr h) =
         let p = mapped_from (λ at. (sink.Data at.0, at.1.1)) (enumerate_from 0 (cells c)) o h in
         let place : slice_get (cells c) p.0.0 ≡ Some p.0.1 = numbered_at (cells c) p.0 p.1 in
         let it : (sink.Data p.0.0, p.0.1.1) ≡ o = p.2 in
-        subst (λ x. carried c (branch x.0) ≡ Some x.1) it (ap (option_map (λ qd. qd.1)) place)
+        subst (λ x. name_on c (branch x.0) ≡ Some x.1) it (ap (option_map (λ qd. qd.1)) place)
 
 -- an observer's line that carries a name is the branch of an observer of it
-pub output_observed : (c : List Statement) (i : ℕ) (n : Name) → carried c (line.Out i) ≡ Some n
+pub output_observed : (c : List Statement) (i : ℕ) (n : Name) → name_on c (line.Out i) ≡ Some n
     → Contains (observers c) (sink.Out i, n)
 output_observed c i n e =
     contained (observers c) (
@@ -98,7 +98,7 @@ some_mapped : {X Y : Type 0} (h : X → Y) (o : Option X) (y : Y) → option_map
 some_mapped h None y e = let bad : None ≡ Some y = e in cc
 some_mapped h (Some x) y e = let is : Some (h x) ≡ Some y = e in (x, refl, cc)
 
-pub data_observed : (c : List Statement) (i : ℕ) (n : Name) → carried c (line.Data i) ≡ Some n
+pub data_observed : (c : List Statement) (i : ℕ) (n : Name) → name_on c (line.Data i) ≡ Some n
     → Contains (observers c) (sink.Data i, n)
 data_observed c i n e =
     let p = some_mapped (λ (qd : Name × Name). qd.1) (slice_get (cells c) i) n e in
@@ -106,7 +106,7 @@ data_observed c i n e =
 
 module _ (c : List Statement) (tests : List Test) (group : ℕ) (f : Fault) (good : List ℕ) (n : Name)
     (well : IsWellFormed c) (words : AreWords c tests group None good)
-    (carries : carried c f.line ≡ Some n) where
+    (carries : name_on c f.line ≡ Some n) where
   -- ---- a lane in which the line has the stuck bit anyway
   module _ (k : ℕ) (lt : k < 128) (stuck : lane_bits c good k n ≡ f.stuck) where
     stuck_name : (m : Name) → Some m ≡ Some n → lane_bits c good k m ≡ f.stuck
@@ -115,7 +115,7 @@ module _ (c : List Statement) (tests : List Test) (group : ℕ) (f : Fault) (goo
     on_stem : (m : Name) → Among m (names c) → f.line ≡ line.Stem (signal c m)
         → lane_bits c good k m ≡ f.stuck
     on_stem m a own = stuck_name m (sym (name_of-signal c m (contained (names c) m a))
-        ∙ (ap (carried c) (sym own) ∙ carries))
+        ∙ (ap (name_on c) (sym own) ∙ carries))
 
     pins_from : (s from : ℕ) (args : List Name) → ((i : ℕ) (a : Name) → slice_get args i ≡ Some a
         → f.line ≡ line.Pin s (from + i) → lane_bits c good k a ≡ f.stuck)
@@ -143,7 +143,7 @@ module _ (c : List Statement) (tests : List Test) (group : ℕ) (f : Fault) (goo
           definition-signal c (Gate m kind args) m well at refl in
           let pins = pins_from (signal c m) 0 args (λ i b here own. stuck_name b (sym here
           ∙ (ap (λ o. argument o i) (sym defined)
-          ∙ (ap (carried c) (sym (own ∙ ap (line.Pin (signal c m)) (omega arith)))
+          ∙ (ap (name_on c) (sym (own ∙ ap (line.Pin (signal c m)) (omega arith)))
           ∙ carries)))) in
           let now = plain ∙ ap (value kind) pins in
           now ∙ sym (under_same f (line.Stem (signal c m)) _ (λ own. sym now
@@ -153,7 +153,7 @@ module _ (c : List Statement) (tests : List Test) (group : ℕ) (f : Fault) (goo
     unapart : IsApart c f good k (lane_bits c good k) → ⊥
     unapart h = h.2 (sym (under_same f (branch h.0.0) (lane_bits c good k h.0.1)
         (λ own. stuck_name h.0.1 (sym (observer_carries c h.0 h.1)
-        ∙ (ap (carried c) (sym own) ∙ carries)))))
+        ∙ (ap (name_on c) (sym own) ∙ carries)))))
 
   -- ---- the lanes in which the fault is excited
   module _ (settled : ℕ → Type 0) (lanes excited : ℕ) (is : (k : ℕ) → k < 128

@@ -17,7 +17,7 @@ use Rattle.lists.proofs.Places.{at_place, place_within, within_place}
 use Rattle.patterns.specs.Least.{below}
 use Rattle.patterns.proofs.Public.{get_or-below, length-below}
 use Rattle.fault_model.specs.declared.Line.TheVariants as line
-use Rattle.fault_model.specs.Detection.{carried}
+use Rattle.fault_model.specs.Detection.{name_on}
 use Rattle.fault_model.specs.Reordered.{HasSameSignals, IsReordered, in_order, place}
 use Rattle.fault_model.proofs.Public.{below_greatest, one_level_order, ordered_by_level}
 use Rattle.fault_model.proofs.Public.{same_signals, same_sources, well_reordered}
@@ -64,17 +64,17 @@ module _ (c d : List Statement) (well : IsWellFormed c) (levelled : IsLevelled c
     ap (place c d) is ∙ sym (signals_there.numbered n at),
   )
 
-  pub data_same : (i : ℕ) → carried d (line.Data i) ≡ carried c (line.Data i)
+  pub data_same : (i : ℕ) → name_on d (line.Data i) ≡ name_on c (line.Data i)
   data_same i = rw reordered.same_cells refl
 
-  pub output_same : (o : ℕ) → carried d (line.Out o) ≡ carried c (line.Out o)
+  pub output_same : (o : ℕ) → name_on d (line.Out o) ≡ name_on c (line.Out o)
   output_same o = rw reordered.same_outputs refl
 
-  pub data_named : (i : ℕ) (n : Name) → carried c (line.Data i) ≡ Some n → Contains (names c) n
+  pub data_named : (i : ℕ) (n : Name) → name_on c (line.Data i) ≡ Some n → Contains (names c) n
   data_named i n e = observed_named c (sink.Data i, n) well
       (among (observers c) (sink.Data i, n) (data_observed c i n e))
 
-  pub output_named : (o : ℕ) (n : Name) → carried c (line.Out o) ≡ Some n → Contains (names c) n
+  pub output_named : (o : ℕ) (n : Name) → name_on c (line.Out o) ≡ Some n → Contains (names c) n
   output_named o n e = observed_named c (sink.Out o, n) well
       (among (observers c) (sink.Out o, n) (output_observed c o n e))
 

@@ -8,10 +8,10 @@ use Rattle.bench_net.specs.Scan.{names, observers, signal}
 use Rattle.bench_net.specs.Circuit.{IsCircuit, IsWellFormed}
 use Rattle.patterns.specs.Tests.{TestList}
 use Rattle.fault_model.specs.declared.Model.{Model}
-use Rattle.fault_model.specs.Detection.{carried}
+use Rattle.fault_model.specs.Detection.{name_on}
 use Rattle.fault_model.specs.Fault.{Fault, faults}
 use Rattle.fault_model.specs.Solution.{Solves, Test, shows}
-use Rattle.fault_model.specs.Reordered.{moved, moved_line, place}
+use Rattle.fault_model.specs.Reordered.{moved_fault, moved_line, place}
 use Rattle.fault_model.proofs.Public.{carries, circuit_reordered, detected_same}
 use Rattle.fault_model.proofs.Public.{detected_same_at, looks_back_same, same_sinks, solved_same}
 use Rattle.lists.proofs.Members.{Among}
@@ -35,15 +35,15 @@ circuit_there c d is levelled =
 module _ (c d : List Statement) (well : IsWellFormed c) (levelled : IsLevelled c d) where
   -- a fault of the list moves to one of the list there
   pub listed_there : (m : Model) (f : Fault) → Contains (faults m c) f
-      → Contains (faults m d) (moved c d f)
+      → Contains (faults m d) (moved_fault c d f)
   listed_there m f listed =
       (same_sinks c d well (reordered c d well levelled)).listed m f listed
 
   -- and the line carries a name there
   pub carries_there : (m : Model) (f : Fault) → Contains (faults m c) f
-      → (n : Name) × (carried d (moved_line c d f.line) ≡ Some n) × Contains (names d) n
+      → (n : Name) × (name_on d (moved_line c d f.line) ≡ Some n) × Contains (names d) n
   carries_there m f listed =
-      carries m d (moved c d f) (well_there c d well levelled) (listed_there m f listed)
+      carries m d (moved_fault c d f) (well_there c d well levelled) (listed_there m f listed)
 
   solved : (t : Test) (v : Name → Bool) → Solves c t None v → Solves d t None v
   solved t v h = (solved_same c d well (reordered c d well levelled) t None v).0 h
@@ -85,7 +85,7 @@ module _ (c d : List Statement) (well : IsWellFormed c) (levelled : IsLevelled c
 
   -- the same tests of a group detect a fault
   pub reached_there : (tests : List Test) (group : ℕ) (f : Fault) (mask word : ℕ)
-      → IsReached d tests group (moved c d f) mask (Observed word)
+      → IsReached d tests group (moved_fault c d f) mask (Observed word)
       → IsReached c tests group f mask (Observed word)
   reached_there tests group f mask word h k lt =
       let same = detected_same c d well (reordered c d well levelled) (test_of tests group k) f in (
@@ -97,16 +97,16 @@ module _ (c d : List Statement) (well : IsWellFormed c) (levelled : IsLevelled c
   pub told_there : (tests : List Test) (span : Span) (f : Fault) (good : List ℕ)
       (lanes seen : ℕ) → AreWords d tests (group_of span) None good
       → AreLanesFor tests span c f lanes → (settled : ℕ → Type 0)
-      → AreShown d tests (group_of span) (λ _. moved c d f) good lanes settled seen
+      → AreShown d tests (group_of span) (λ _. moved_fault c d f) good lanes settled seen
       → AreTold c tests span f settled seen
   told_there tests span f good lanes seen words decides settled shown =
       let same = reordered c d well levelled in
-      let there : AreLanesFor tests span d (moved c d f) lanes = λ k lt.
+      let there : AreLanesFor tests span d (moved_fault c d f) lanes = λ k lt.
       let own = decides k lt in
       let back = looks_back_same c d well same tests f.model f.line f.stuck
       (128 * group_of span + k) in
       (λ e. ((own.0 e).0, back.0 (own.0 e).1), λ e. own.1 (e.0, back.1 e.1)) in
-      let told = told_of_shown d tests span (moved c d f) good lanes seen
+      let told = told_of_shown d tests span (moved_fault c d f) good lanes seen
       (well_there c d well levelled) words there settled shown in
       record {
         found = λ k lt e. (

@@ -16,7 +16,7 @@ use Rattle.fault_model.specs.declared.Line.TheVariants as line
 use Rattle.fault_model.specs.declared.Model.{Model}
 use Rattle.fault_model.specs.Fault.{Fault, branch, faults, same_line}
 use Rattle.fault_model.specs.Solution.{Test, Solves, Detects, value}
-use Rattle.fault_model.specs.Detection.{HasBit, carried}
+use Rattle.fault_model.specs.Detection.{HasBit, name_on}
 use Rattle.fault_model.proofs.Public.{IsOn, defined_among, definition-signal, has_solutions}
 use Rattle.fault_model.proofs.Public.{listed_on, observes, same_lines, signal_apart, under_own}
 use Rattle.block_sim.specs.Regions.{Alters, Arrives, there, over, DetectsFlip, FaultLaw, IsReadBy}
@@ -211,7 +211,7 @@ stem_law c well m f t s at on = subst (λ x. Alters c t f x ↔ HasBit c t f.lin
           a.fault_free,
           n.0,
           a.solves,
-          ap (carried c) own ∙ named,
+          ap (name_on c) own ∙ named,
           not_back (a.faulty n.0) (a.fault_free n.0) turned ∙ ap not stuck,
         )
 
@@ -234,7 +234,7 @@ stem_law c well m f t s at on = subst (λ x. Alters c t f x ↔ HasBit c t f.lin
 -- ---- a fault at an observer
 -- the line of an observer carries what it observes
 observer_carries : (c : List Statement) (o : Sink × Name) → Contains (observers c) o
-    → carried c (branch o.0) ≡ Some o.1
+    → name_on c (branch o.0) ≡ Some o.1
 observer_carries c o at = go (among_append
     (map (λ at. (sink.Out at.0, at.1)) (enumerate_from 0 (outputs c)))
     (map (λ at. (sink.Data at.0, at.1.1)) (enumerate_from 0 (cells c))) o
@@ -242,14 +242,14 @@ observer_carries c o at = go (among_append
   where
     go : Among o (map (λ at. (sink.Out at.0, at.1)) (enumerate_from 0 (outputs c)))
         ⊎ Among o (map (λ at. (sink.Data at.0, at.1.1)) (enumerate_from 0 (cells c)))
-        → carried c (branch o.0) ≡ Some o.1
+        → name_on c (branch o.0) ≡ Some o.1
     go (inl h) =
         let p = mapped_from (λ at. (sink.Out at.0, at.1)) (enumerate_from 0 (outputs c)) o h in
-        subst (λ (x : Sink × Name). carried c (branch x.0) ≡ Some x.1) p.2
+        subst (λ (x : Sink × Name). name_on c (branch x.0) ≡ Some x.1) p.2
         (numbered_at (outputs c) p.0 p.1)
     go (inr h) =
         let p = mapped_from (λ at. (sink.Data at.0, at.1.1)) (enumerate_from 0 (cells c)) o h in
-        subst (λ (x : Sink × Name). carried c (branch x.0) ≡ Some x.1) p.2
+        subst (λ (x : Sink × Name). name_on c (branch x.0) ≡ Some x.1) p.2
         (ap (option_map (λ qd. qd.1)) (numbered_at (cells c) p.0 p.1))
 
 module _ (c : List Statement) (well : IsWellFormed c) (f : Fault) (t : Test)
@@ -277,7 +277,7 @@ module _ (c : List Statement) (well : IsWellFormed c) (f : Fault) (t : Test)
             d.0,
             d.2.1,
             d.3,
-            ap (carried c) own ∙ observer_carries c d.2 d.5,
+            ap (name_on c) own ∙ observer_carries c d.2 d.5,
             turned_of f.stuck (d.0 d.2.1)
                 (λ x. d.6 (sym x ∙ sym (under_own f (branch d.2.0) (d.1 d.2.1) own))),
           )
@@ -303,9 +303,9 @@ module _ (c : List Statement) (well : IsWellFormed c) (f : Fault) (t : Test)
       go : (l : Line) → f.line ≡ l → start_of l ≡ None → Detects c t f
       go (line.Stem s) on none = let bad : Some s ≡ None = none in cc
       go (line.Pin g p) on none = let bad : Some g ≡ None = none in cc
-      go (line.Data i) on none = at (sink.Data i) on (data_observed c i h.1 (ap (carried c) (sym on)
+      go (line.Data i) on none = at (sink.Data i) on (data_observed c i h.1 (ap (name_on c) (sym on)
           ∙ h.3))
-      go (line.Out i) on none = at (sink.Out i) on (output_observed c i h.1 (ap (carried c) (sym on)
+      go (line.Out i) on none = at (sink.Out i) on (output_observed c i h.1 (ap (name_on c) (sym on)
           ∙ h.3))
 
 pub observer_law : (c : List Statement) → IsWellFormed c → ObserverLaw c

@@ -8,7 +8,7 @@ use Rattle.lists.proofs.Members.{among, contained, among_map}
 use Rattle.fault_model.specs.declared.Line.TheVariants as line
 use Rattle.fault_model.specs.Fault.{Fault}
 use Rattle.fault_model.specs.Solution.{Test, sees, under}
-use Rattle.fault_model.specs.Reordered.{IsReordered, place, moved, HasSameSignals}
+use Rattle.fault_model.specs.Reordered.{IsReordered, place, moved_fault, HasSameSignals}
 use Rattle.fault_model.proofs.Public.{same_signals, stands_back, defined_among, solved_same}
 use Rattle.fault_model.proofs.Public.{under_moved, same_bits, detected_same}
 use Rattle.block_sim.specs.ActiveGates.{IsActiveBy, HasActive, HasActiveIn}
@@ -22,7 +22,7 @@ module _ (c d : List Statement) (well : IsWellFormed c) (is : IsReordered c d) w
   signals : HasSameSignals c d
   signals = same_signals c d well is
 
-  active_back : (t : Test) (f : Fault) (gate : ℕ) → IsActiveBy d t (moved c d f) gate
+  active_back : (t : Test) (f : Fault) (gate : ℕ) → IsActiveBy d t (moved_fault c d f) gate
       → (g : ℕ) × (gate ≡ place c d g) × IsActiveBy c t f g
   active_back t f gate a = (
     signal c a.name,
@@ -52,10 +52,10 @@ module _ (c d : List Statement) (well : IsWellFormed c) (is : IsReordered c d) w
           (defined_among c (Gate a.name a.kind a.args) a.name
           (among c (Gate a.name a.kind a.args) stands) refl))
 
-      seen : sees (Some (moved c d f)) a.faulty (line.Pin gate a.pin) a.read
+      seen : sees (Some (moved_fault c d f)) a.faulty (line.Pin gate a.pin) a.read
           ≡ sees (Some f) a.faulty (line.Pin (signal c a.name) a.pin) a.read
       seen =
-          ap (λ g. under (Some (moved c d f)) (line.Pin g a.pin) (a.faulty a.read)) number
+          ap (λ g. under (Some (moved_fault c d f)) (line.Pin g a.pin) (a.faulty a.read)) number
           ∙ under_moved c d well is (Some f) (line.Pin (signal c a.name) a.pin) (a.faulty a.read)
 
   named_there : (gates : List ℕ) (gate g : ℕ) → gate ≡ place c d g → Contains gates g
@@ -67,14 +67,14 @@ module _ (c d : List Statement) (well : IsWellFormed c) (is : IsReordered c d) w
 
   on_block : (tests : List Test) (block : ℕ) (f : Fault) (gates : List ℕ)
       → HasActive c tests block f gates
-      → HasActive d tests block (moved c d f) (map (place c d) gates)
+      → HasActive d tests block (moved_fault c d f) (map (place c d) gates)
   on_block tests block f gates has gate a =
       let own = active_back a.1 f gate a.4 in
       named_there gates gate own.0 own.1 (has own.0 (a.0, a.1, a.2, a.3, own.2))
 
   in_lanes : (tests : List Test) (group lanes : ℕ) (f : ℕ → Fault) (gates : List ℕ)
       → HasActiveIn c tests group lanes f gates
-      → HasActiveIn d tests group lanes (λ k. moved c d (f k)) (map (place c d) gates)
+      → HasActiveIn d tests group lanes (λ k. moved_fault c d (f k)) (map (place c d) gates)
   in_lanes tests group lanes f gates has gate a =
       let own = active_back a.1 (f a.0) gate a.5 in
       named_there gates gate own.0 own.1 (has own.0 (a.0, a.1, a.2, a.3, a.4, own.2))
@@ -109,7 +109,7 @@ module _ (c d : List Statement) (well : IsWellFormed c) (is : IsReordered c d) w
 
   come : (tests : List Test) (group : ℕ) (f : Fault) (mask s word : ℕ)
       → HasCome c tests group f mask s word
-      ↔ HasCome d tests group (moved c d f) mask (place c d s) word
+      ↔ HasCome d tests group (moved_fault c d f) mask (place c d s) word
   come tests group f mask s word = (
     λ h k lt on. (
       λ x. let y = (h k lt on).0 ((detected_same c d well is (test_of tests group k) f).1 x) in

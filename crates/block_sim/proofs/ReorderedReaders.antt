@@ -11,7 +11,7 @@ use Rattle.fault_model.specs.declared.Line.{Line}
 use Rattle.fault_model.specs.declared.Line.TheVariants as line
 use Rattle.fault_model.specs.declared.Model.{Model}
 use Rattle.fault_model.specs.Fault.{Fault, faults}
-use Rattle.fault_model.specs.Detection.{carried}
+use Rattle.fault_model.specs.Detection.{name_on}
 use Rattle.fault_model.specs.Reordered.{IsReordered, place, moved_line, HasSameSignals}
 use Rattle.fault_model.specs.Reordered.{HasSameSinks}
 use Rattle.fault_model.proofs.Public.{same_signals, same_sinks, stands_there, stands_back, carries}
@@ -178,7 +178,7 @@ module _ (c d : List Statement) (well : IsWellFormed c) (is : IsReordered c d) w
 
   -- ---- faults of the list, and ways
 
-  way_moved : (l : Line) (n : Name) → carried c l ≡ Some n → Contains (names c) n
+  way_moved : (l : Line) (n : Name) → name_on c l ≡ Some n → Contains (names c) n
       → way_from d (moved_line c d l) ≡ option_map (place c d) (way_from c l)
   way_moved (line.Stem s) n e at = refl
   way_moved (line.Pin gate pin) n e at = refl

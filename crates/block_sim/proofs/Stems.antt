@@ -18,7 +18,7 @@ use Rattle.fault_model.specs.declared.Line.TheVariants as line
 use Rattle.fault_model.specs.declared.Model.{Model}
 use Rattle.fault_model.specs.Fault.{Fault, FaultList, fault_list, faults}
 use Rattle.fault_model.specs.Collapse.{AreClassesOf, Collapsed, representatives}
-use Rattle.fault_model.specs.Detection.{carried}
+use Rattle.fault_model.specs.Detection.{name_on}
 use Rattle.fault_model.proofs.Public.{below_greatest, carries, defined_among}
 use Rattle.block_sim.specs.Events.{Reads, level_at}
 use Rattle.block_sim.specs.Regions.{HasStem, HaveStems, IsStem, IsStemOf, IsStemOfClass, LeadLaw}
@@ -118,7 +118,7 @@ module _ (c : List Statement) (well : IsWellFormed c) where
       → (s : ℕ) × (way_from c f.line ≡ Some s) × (s < length (names c))
   way_of m f at = let n = carries m c f well at in go f.line n.0 n.1 n.2
     where
-      go : (l : Line) (n : Name) → carried c l ≡ Some n → Contains (names c) n
+      go : (l : Line) (n : Name) → name_on c l ≡ Some n → Contains (names c) n
           → (s : ℕ) × (way_from c l ≡ Some s) × (s < length (names c))
       go (line.Stem r) n e named = (r, refl, place_within (names c) r n e)
       go (line.Pin g p) n e named = (g, refl, gate_within c g p n e)
@@ -240,8 +240,8 @@ module _ (m : Model) (c : List Statement) (well : IsWellFormed c) (list : FaultL
   listed : Contains (faults m c) found.0
   listed = contained (faults m c) found.0 (at_place (faults m c) k found.0 found.1)
 
-  pub line_named : (n : Name) × (carried c l ≡ Some n)
-  line_named = let n = carries m c found.0 well listed in (n.0, ap (carried c) line_is ∙ n.1)
+  pub line_named : (n : Name) × (name_on c l ≡ Some n)
+  line_named = let n = carries m c found.0 well listed in (n.0, ap (name_on c) line_is ∙ n.1)
 
   pub way_within : (s : ℕ) → way_from c l ≡ Some s → s < length (names c)
   way_within s e =

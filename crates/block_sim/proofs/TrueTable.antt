@@ -17,7 +17,7 @@ use Rattle.fault_model.specs.declared.Model.TheVariants.{StuckAt, Transition, Tr
 use Rattle.fault_model.specs.Fault.{Fault, faults}
 use Rattle.fault_model.specs.Solution.{Test, Solves, Detects, shows}
 use Rattle.fault_model.specs.Collapse.{next, representatives}
-use Rattle.fault_model.specs.Detection.{carried, HasBit, IsInitialized, IsSecondOfPair, LooksBack}
+use Rattle.fault_model.specs.Detection.{name_on, HasBit, IsInitialized, IsSecondOfPair, LooksBack}
 use Rattle.fault_model.specs.Detection.{DetectsAt}
 use Rattle.fault_model.proofs.Public.{carries, has_solutions, detection_is_of_any_solution, agree}
 use Rattle.patterns.specs.declared.Outcome.{Outcome}
@@ -79,7 +79,7 @@ module _ (c : List Statement) (tests : List Test) (well : IsWellFormed c) where
       go (inr n) = inr (λ d. n ((detection_is_of_any_solution c well f t v.0 w.0 v.1 w.1).0 d))
 
   -- the one solution without a fault says whether a line has a bit
-  bit_or : (t : Test) (l : Line) (n : Name) (b : Bool) → carried c l ≡ Some n → Contains (names c) n
+  bit_or : (t : Test) (l : Line) (n : Name) (b : Bool) → name_on c l ≡ Some n → Contains (names c) n
       → Or (HasBit c t l b)
   bit_or t l n b at named = go (same_or (v.0 n) b)
     where
@@ -92,7 +92,7 @@ module _ (c : List Statement) (tests : List Test) (well : IsWellFormed c) where
           let same : h.1 ≡ n = ap (λ o. unwrap_or o n) (sym h.3 ∙ at) in
           not (agree c t None v.0 h.0 well v.1 h.2 n named ∙ subst (λ x. h.0 x ≡ b) same h.4))
 
-  initialized_or : (l : Line) (n : Name) (b : Bool) (t : ℕ) → carried c l ≡ Some n
+  initialized_or : (l : Line) (n : Name) (b : Bool) (t : ℕ) → name_on c l ≡ Some n
       → Contains (names c) n → Or (IsInitialized c tests l b t)
   initialized_or l n b zero at named = inr (λ no. no)
   initialized_or l n b (suc t) at named = go (slice_get tests t) refl
@@ -106,7 +106,7 @@ module _ (c : List Statement) (tests : List Test) (well : IsWellFormed c) where
           pick (inr not) = inr (λ h. let same : h.0 ≡ before = ap (λ o. unwrap_or o before) (sym h.1
               ∙ e) in not (subst (λ x. HasBit c x l b) same h.2))
 
-  looks_or : (m : Model) (l : Line) (n : Name) (b : Bool) (t : ℕ) → carried c l ≡ Some n
+  looks_or : (m : Model) (l : Line) (n : Name) (b : Bool) (t : ℕ) → name_on c l ≡ Some n
       → Contains (names c) n → Or (LooksBack c tests m l b t)
   looks_or StuckAt l n b t at named = inl tt
   looks_or Transition l n b t at named = initialized_or l n b t at named
@@ -121,7 +121,7 @@ module _ (c : List Statement) (tests : List Test) (well : IsWellFormed c) where
   at_or : (m : Model) (f : Fault) (t : ℕ) → Contains (faults m c) f → Or (DetectsAt c tests f t)
   at_or m f t listed = go (slice_get tests t) refl
     where
-      line : (n : Name) × (carried c f.line ≡ Some n) × Contains (names c) n
+      line : (n : Name) × (name_on c f.line ≡ Some n) × Contains (names c) n
       line = carries m c f well listed
 
       go : (o : Option Test) → slice_get tests t ≡ o → Or (DetectsAt c tests f t)

@@ -16,7 +16,7 @@ use Rattle.fault_model.specs.Fault.{Fault, faults}
 use Rattle.fault_model.specs.Solution.{Test, Solves, Detects, value}
 use Rattle.fault_model.specs.Collapse.{readers, representatives}
 use Rattle.fault_model.specs.Known.{only_gate}
-use Rattle.fault_model.specs.Detection.{HasBit, LooksBack, carried}
+use Rattle.fault_model.specs.Detection.{HasBit, LooksBack, name_on}
 use Rattle.block_sim.specs.Events.{Reads, IsObserved}
 use Rattle.block_sim.specs.First.{TellsFirst}
 use Rattle.block_sim.specs.Spans.{IsInSpan, group_of}
@@ -78,8 +78,8 @@ LeadLaw c = (s r : ℕ) → LeadsTo c s r → RunsTo c s r
 abbrev pub way_from : List Statement → Line → Option ℕ
 way_from c (line.Stem s) = Some s
 way_from c (line.Pin gate pin) = Some gate
-way_from c (line.Data cell) = option_map (signal c) (carried c (line.Data cell))
-way_from c (line.Out output) = option_map (signal c) (carried c (line.Out output))
+way_from c (line.Data cell) = option_map (signal c) (name_on c (line.Data cell))
+way_from c (line.Out output) = option_map (signal c) (name_on c (line.Out output))
 
 -- the stem of a line's region
 abbrev pub IsStemOfLine : List Statement → ℕ → Line → Type 0

@@ -5,7 +5,7 @@ use Rattle.fault_model.specs.declared.Line.{Line}
 use Rattle.fault_model.specs.declared.Model.{Model}
 use Rattle.fault_model.specs.Fault.{Fault, faults}
 use Rattle.fault_model.specs.Solution.{Test}
-use Rattle.fault_model.specs.Reordered.{place, moved_line, moved}
+use Rattle.fault_model.specs.Reordered.{place, moved_line, moved_fault}
 use Rattle.block_sim.specs.ActiveGates.{HasActive, HasActiveIn}
 use Rattle.block_sim.specs.Events.{Reads, IsObserved, IsLive}
 use Rattle.block_sim.specs.Regions.{lone_reader, IsStemOf, IsStemOfLine, DetectsFlip, HasCome}
@@ -33,10 +33,10 @@ pub record HasSameStems (c d : List Statement) : Type 0 where
 pub record HasSameActive (c d : List Statement) : Type 0 where
   pub on_block : (tests : List Test) (block : ℕ) (f : Fault) (gates : List ℕ)
       → HasActive c tests block f gates
-      → HasActive d tests block (moved c d f) (map (place c d) gates)
+      → HasActive d tests block (moved_fault c d f) (map (place c d) gates)
   pub in_lanes : (tests : List Test) (group lanes : ℕ) (f : ℕ → Fault) (gates : List ℕ)
       → HasActiveIn c tests group lanes f gates
-      → HasActiveIn d tests group lanes (λ k. moved c d (f k)) (map (place c d) gates)
+      → HasActiveIn d tests group lanes (λ k. moved_fault c d (f k)) (map (place c d) gates)
   pub by_flip : (tests : List Test) (span : Span) (s : ℕ) (gates : List ℕ)
       → HasActiveByFlip c tests span s gates
       → HasActiveByFlip d tests span (place c d s) (map (place c d) gates)
@@ -46,7 +46,7 @@ pub record HasSameFlips (c d : List Statement) : Type 0 where
   pub detected : (t : Test) (s : ℕ) → DetectsFlip c t s ↔ DetectsFlip d t (place c d s)
   pub come : (tests : List Test) (group : ℕ) (f : Fault) (mask s word : ℕ)
       → HasCome c tests group f mask s word
-      ↔ HasCome d tests group (moved c d f) mask (place c d s) word
+      ↔ HasCome d tests group (moved_fault c d f) mask (place c d s) word
   pub told : (tests : List Test) (group mask s word : ℕ)
       → TellsFirstFlips c tests group mask s word
       ↔ TellsFirstFlips d tests group mask (place c d s) word

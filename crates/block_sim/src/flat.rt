@@ -10,7 +10,7 @@ ghost use Rattle.bench_net.specs.Statement.{Name};
 ghost use Rattle.bench_net.specs.Scan.{names, name_of, gate_of, sources};
 ghost use Rattle.bench_net.specs.Circuit.{IsCircuit};
 ghost use Rattle.bench_net.specs.Level.{HasLevel, IsLevelOrder};
-ghost use Rattle.fault_model.specs.Detection.{carried};
+ghost use Rattle.fault_model.specs.Detection.{name_on};
 ghost use Rattle.fault_model.specs.Known.{only_gate};
 ghost use Rattle.fault_model.specs.Reordered.{in_order, moved_line, place};
 ghost use Rattle.block_sim.specs.Events.{IsLive, IsObserved};
@@ -204,7 +204,7 @@ impl FlatCircuit {
 
     /// The line of the circuit as the lists have it.
     pub fn moved_line(&self, line: Line) -> Line
-        requires { (n : Name) × (carried self.now.statements line ≡ Some n) }
+        requires { (n : Name) × (name_on self.now.statements line ≡ Some n) }
         ensures { result ≡ moved_line self.now.statements self.now.levelled line }
     {
         match line {

@@ -5,7 +5,7 @@ ghost use Rattle.bench_net.specs.Statement.{Name};
 ghost use Rattle.bench_net.specs.Scan.{names, signal, definition};
 ghost use Rattle.bench_net.specs.Circuit.{IsCircuit};
 ghost use Rattle.fault_model.specs.declared.Line.TheVariants.{Data, Out};
-ghost use Rattle.fault_model.specs.Detection.{argument, carried};
+ghost use Rattle.fault_model.specs.Detection.{argument, name_on};
 
 use crate::flat::FlatCircuit;
 use bench_net::Circuit;
@@ -15,8 +15,8 @@ use fault_model::Line;
 /// its branch leads from.
 pub fn carried(circuit: &FlatCircuit, line: Line) -> u32
     requires circuit { IsCircuit circuit.now.levelled }
-    requires named { (n : Name) × (carried circuit.now.levelled line ≡ Some n) }
-    ensures { (n : Name) → carried circuit.now.levelled line ≡ Some n
+    requires named { (n : Name) × (name_on circuit.now.levelled line ≡ Some n) }
+    ensures { (n : Name) → name_on circuit.now.levelled line ≡ Some n
         → result ≡ signal circuit.now.levelled n }
 {
     let _signals = circuit.signals();
@@ -30,8 +30,8 @@ pub fn carried(circuit: &FlatCircuit, line: Line) -> u32
 
 /// The signal of the data pin of a cell.
 pub fn data_signal(circuit: &Circuit, cell: u32) -> u32
-    requires named { (n : Name) × (carried circuit.now (Data cell) ≡ Some n) }
-    ensures { (n : Name) → carried circuit.now (Data cell) ≡ Some n
+    requires named { (n : Name) × (name_on circuit.now (Data cell) ≡ Some n) }
+    ensures { (n : Name) → name_on circuit.now (Data cell) ≡ Some n
         → result ≡ signal circuit.now n }
 {
     circuit.scan_cells()[cell as usize].d
@@ -39,8 +39,8 @@ pub fn data_signal(circuit: &Circuit, cell: u32) -> u32
 
 /// The signal of an output.
 pub fn output_signal(circuit: &Circuit, output: u32) -> u32
-    requires named { (n : Name) × (carried circuit.now (Out output) ≡ Some n) }
-    ensures { (n : Name) → carried circuit.now (Out output) ≡ Some n
+    requires named { (n : Name) × (name_on circuit.now (Out output) ≡ Some n) }
+    ensures { (n : Name) → name_on circuit.now (Out output) ≡ Some n
         → result ≡ signal circuit.now n }
 {
     circuit.outputs()[output as usize]

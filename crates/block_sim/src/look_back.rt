@@ -12,7 +12,7 @@ ghost use Rattle.bench_net.specs.Circuit.{IsWellFormed};
 ghost use Rattle.fault_model.specs.declared.Line.{Line};
 ghost use Rattle.fault_model.specs.Fault.{faults};
 ghost use Rattle.fault_model.specs.Detection.{HasBit, IsInitialized, IsSecondOfPair, LooksBack};
-ghost use Rattle.fault_model.specs.Detection.{carried};
+ghost use Rattle.fault_model.specs.Detection.{name_on};
 ghost use Rattle.block_sim.specs.Levelled.{IsLevelled};
 ghost use Rattle.block_sim.specs.Spans.{groups};
 ghost use Rattle.block_sim.specs.Stuck.{stuck_fault};
@@ -76,7 +76,7 @@ fn word_before(job: &Job, group: u32, place: u32) -> u128
     ensures { (levelled : List Statement) (k t : ℕ) (line : Line) (n : Name) (bit : Bool)
         → IsWellFormed levelled → IsLevelled job.now.circuit levelled
         → k < 128 → suc t ≡ 128 * group + k
-        → carried levelled line ≡ Some n → Contains (names levelled) n
+        → name_on levelled line ≡ Some n → Contains (names levelled) n
         → place ≡ signal levelled n
         → (lane result k ≡ bit) ↔ HasBit levelled (slice_index_or job.now.tests.tests t [])
         line bit }

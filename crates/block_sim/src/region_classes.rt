@@ -6,7 +6,7 @@ ghost use Rattle.bench_net.specs.Scan.{names};
 ghost use Rattle.bench_net.specs.Circuit.{IsCircuit};
 ghost use Rattle.fault_model.specs.Fault.{fault_list};
 ghost use Rattle.fault_model.specs.Collapse.{AreClassesOf};
-ghost use Rattle.fault_model.specs.Detection.{carried};
+ghost use Rattle.fault_model.specs.Detection.{name_on};
 ghost use Rattle.block_sim.specs.Regions.{HasStem, HaveStems, IsStemOf, lone_reader, way_from};
 
 use crate::flat::lone_reader_of;
@@ -84,7 +84,7 @@ fn join_circles(stems: &[u32], last: &mut [Option<u32>], next: &mut [u32])
 /// line the one that it carries.
 fn way_from(circuit: &Circuit, line: Line) -> u32
     requires circuit { IsCircuit circuit.now }
-    requires named { (n : Name) × (carried circuit.now line ≡ Some n) }
+    requires named { (n : Name) × (name_on circuit.now line ≡ Some n) }
     ensures { way_from circuit.now line ≡ Some result }
 {
     match line {

@@ -11,8 +11,8 @@ ghost use Rattle.bench_net.specs.Statement.{Name};
 ghost use Rattle.bench_net.specs.Scan.{names, sources, name_of, gate_of};
 ghost use Rattle.bench_net.specs.Circuit.{IsCircuit, max_sinks};
 ghost use Rattle.fault_model.specs.declared.Line.TheVariants.{Pin};
-ghost use Rattle.fault_model.specs.Detection.{carried};
-ghost use Rattle.fault_model.specs.Reordered.{moved};
+ghost use Rattle.fault_model.specs.Detection.{name_on};
+ghost use Rattle.fault_model.specs.Reordered.{moved_fault};
 ghost use Rattle.fault_model.specs.Solution.{is_odd, value, under};
 ghost use Rattle.patterns.specs.Tests.{IsWord, blocks};
 ghost use Rattle.block_sim.specs.Spans.{groups};
@@ -48,9 +48,9 @@ impl Stuck {
 
     /// The fault as the lists of the circuit have it.
     pub fn moved(self, circuit: &FlatCircuit) -> Stuck
-        requires { (n : Name) × (carried circuit.now.statements self.line ≡ Some n) }
+        requires { (n : Name) × (name_on circuit.now.statements self.line ≡ Some n) }
         ensures { stuck_fault result
-            ≡ moved circuit.now.statements circuit.now.levelled (stuck_fault self) }
+            ≡ moved_fault circuit.now.statements circuit.now.levelled (stuck_fault self) }
     {
         Stuck {
             model: self.model,

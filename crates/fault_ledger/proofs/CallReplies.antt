@@ -20,7 +20,8 @@ use Rattle.fault_ledger.specs.declared.Call.{Call}
 use Rattle.fault_ledger.specs.declared.Call.TheVariants as call
 use Rattle.fault_ledger.specs.declared.Reply.{Reply}
 use Rattle.fault_ledger.specs.declared.Reply.TheVariants.{Claimed, Done, Refused}
-use Rattle.fault_ledger.specs.History.{History, claims, held, holds, state_of, entry, piece_count}
+use Rattle.fault_ledger.specs.History.{History, claims, held_by, holds, state_of, entry}
+use Rattle.fault_ledger.specs.History.{piece_count}
 use Rattle.fault_ledger.specs.History.{class_of, block_of, piece_at}
 use Rattle.fault_ledger.specs.Answer.{fits_size, is_hit, has_earlier_hit, claim_reply, report_reply}
 use Rattle.fault_ledger.specs.Answer.{drop_reply, answer, added, after, IsLegal}
@@ -42,7 +43,7 @@ pub claimed-is : (f : Face) (h : History) → f ≡ face f.shape h → f.claimed
 claimed-is f h e = ap (λ (g : Face). g.claimed) e
 
 pub holding-is : (f : Face) (h : History) → f ≡ face f.shape h
-    → f.holding ≡ map (λ w. held w h) (below f.shape.workers)
+    → f.holding ≡ map (λ w. held_by w h) (below f.shape.workers)
 holding-is f h e = ap (λ (g : Face). g.holding) e
 
 pub states-is : (f : Face) (h : History) → f ≡ face f.shape h
@@ -52,7 +53,7 @@ states-is f h e = ap (λ (g : Face). g.states) e
 pub holding-length : (f : Face) (h : History) → f ≡ face f.shape h
     → length f.holding ≡ f.shape.workers
 holding-length f h e = ap (λ (l : List (Option ℕ)). length l) (holding-is f h e)
-    ∙ length-map-below (λ w. held w h) f.shape.workers
+    ∙ length-map-below (λ w. held_by w h) f.shape.workers
 
 pub states-length : (f : Face) (h : History) → f ≡ face f.shape h
     → length f.states ≡ piece_count f.shape
@@ -66,9 +67,9 @@ found-worker f h w x e g = let a = slice_get_within f.holding w x g in
     let b = holding-length f h e in omega arith
 
 pub found-held : (f : Face) (h : History) (w : ℕ) (x : Option ℕ) → f ≡ face f.shape h
-    → slice_get f.holding w ≡ Some x → held w h ≡ x
+    → slice_get f.holding w ≡ Some x → held_by w h ≡ x
 found-held f h w x e g =
-    sym (get_or-map-below (λ v. held v h) f.shape.workers w None (found-worker f h w x e g))
+    sym (get_or-map-below (λ v. held_by v h) f.shape.workers w None (found-worker f h w x e g))
     ∙ ap (λ l. slice_index_or l w None) (sym (holding-is f h e))
     ∙ get_or_from_slice_get f.holding w x None g
 
@@ -119,7 +120,7 @@ some_of (Some p) e = (p, refl)
 pub claim-no_worker : (f : Face) (w : ℕ) → f.shape.workers ≤ w
     → Answers f (call.Claim w) (Refused NoSuchWorker) f
 claim-no_worker f w l = answered f f (call.Claim w) (Refused NoSuchWorker) (λ h legal e. (
-  sym (ap (λ b. if b then claim_reply f.shape h (held w h) else Refused NoSuchWorker)
+  sym (ap (λ b. if b then claim_reply f.shape h (held_by w h) else Refused NoSuchWorker)
       (le-ltb w f.shape.workers l)),
   e,
 ))
@@ -127,7 +128,7 @@ claim-no_worker f w l = answered f f (call.Claim w) (Refused NoSuchWorker) (λ h
 pub claim-holding : (f : Face) (w p : ℕ) → slice_get f.holding w ≡ Some (Some p)
     → Answers f (call.Claim w) (Refused Holding) f
 claim-holding f w p g = answered f f (call.Claim w) (Refused Holding) (λ h legal e. (
-  sym (ap (λ b. if b then claim_reply f.shape h (held w h) else Refused NoSuchWorker)
+  sym (ap (λ b. if b then claim_reply f.shape h (held_by w h) else Refused NoSuchWorker)
       (lt-ltb w f.shape.workers (found-worker f h w (Some p) e g))
       ∙ ap (claim_reply f.shape h) (found-held f h w (Some p) e g)),
   e,
@@ -138,7 +139,7 @@ pub claim-exhausted : (f : Face) (w : ℕ) → slice_get f.holding w ≡ Some No
 claim-exhausted f w g l = answered f f (call.Claim w) (Claimed claim_is.Exhausted) (λ h legal e.
     let few : piece_count f.shape ≤ claims h =
     (let a = claimed-is f h e in let b = states-length f h e in omega arith) in (
-      sym (ap (λ b. if b then claim_reply f.shape h (held w h) else Refused NoSuchWorker)
+      sym (ap (λ b. if b then claim_reply f.shape h (held_by w h) else Refused NoSuchWorker)
           (lt-ltb w f.shape.workers (found-worker f h w None e g))
           ∙ ap (claim_reply f.shape h) (found-held f h w None e g)
           ∙ ap (λ b. if b then Claimed
@@ -157,7 +158,7 @@ claim-piece f w g l = answered f (faced f.shape (f.claimed + 1)
     (claim_is.Piece (f.claimed % f.shape.classes) (f.claimed / f.shape.classes))) (λ h legal e.
     let c = claimed-is f h e in
     let some : claims h < piece_count f.shape = (let b = states-length f h e in omega arith) in (
-      sym (ap (λ b. if b then claim_reply f.shape h (held w h) else Refused NoSuchWorker)
+      sym (ap (λ b. if b then claim_reply f.shape h (held_by w h) else Refused NoSuchWorker)
           (lt-ltb w f.shape.workers (found-worker f h w None e g))
           ∙ ap (claim_reply f.shape h) (found-held f h w None e g)
           ∙ ap (λ b. if b then Claimed
@@ -166,10 +167,10 @@ claim-piece f w g l = answered f (faced f.shape (f.claimed + 1)
           ∙ ap (λ n. Claimed (claim_is.Piece (class_of f.shape n) (block_of f.shape n))) (sym c)),
       λ i. faced f.shape (c i + 1)
           ((ap (λ l. set l w (Some f.claimed)) (holding-is f h e)
-          ∙ set-below (λ v. held v h) (λ v. held v (Event.Claim w ∷ h)) f.shape.workers w
+          ∙ set-below (λ v. held_by v h) (λ v. held_by v (Event.Claim w ∷ h)) f.shape.workers w
           (Some f.claimed) (found-worker f h w None e g)
-          (ap Some c ∙ sym (ap (λ b. if b then Some (claims h) else held w h) (eq-eqb w w refl)))
-          (λ k n. sym (ap (λ b. if b then Some (claims h) else held k h) (ne_eqb k w n)))) i)
+          (ap Some c ∙ sym (ap (λ b. if b then Some (claims h) else held_by w h) (eq-eqb w w refl)))
+          (λ k n. sym (ap (λ b. if b then Some (claims h) else held_by k h) (ne_eqb k w n)))) i)
           (states-is f h e i),
     ))
 
@@ -182,7 +183,7 @@ FoundNone f w r = ((r ≡ NoSuchWorker) × (length f.holding ≤ w))
 pub report-no_worker : (f : Face) (w : ℕ) (o : Outcome) → f.shape.workers ≤ w
     → Answers f (call.Report w o) (Refused NoSuchWorker) f
 report-no_worker f w o l = answered f f (call.Report w o) (Refused NoSuchWorker) (λ h legal e. (
-  sym (ap (λ b. if b then report_reply f.shape o (held w h) else Refused NoSuchWorker)
+  sym (ap (λ b. if b then report_reply f.shape o (held_by w h) else Refused NoSuchWorker)
       (le-ltb w f.shape.workers l)),
   e,
 ))
@@ -191,7 +192,7 @@ report-no_worker f w o l = answered f f (call.Report w o) (Refused NoSuchWorker)
 report-answer : (f : Face) (h : History) (w : ℕ) (o : Outcome) (x : Option ℕ) → f ≡ face f.shape h
     → slice_get f.holding w ≡ Some x → answer f.shape h (call.Report w o) ≡ report_reply f.shape o x
 report-answer f h w o x e g =
-    ap (λ b. if b then report_reply f.shape o (held w h) else Refused NoSuchWorker)
+    ap (λ b. if b then report_reply f.shape o (held_by w h) else Refused NoSuchWorker)
     (lt-ltb w f.shape.workers (found-worker f h w x e g))
     ∙ ap (report_reply f.shape o) (found-held f h w x e g)
 
@@ -219,17 +220,17 @@ report-bad f w p o g b = answered f f (call.Report w o) (Refused BadOutcome) (λ
 -- the face after the worker of a piece has reported or dropped it
 settled-face : (f : Face) (h now : History) (w p : ℕ) (x : PieceState) → IsLegal f.shape h
     → f ≡ face f.shape h → slice_get f.holding w ≡ Some (Some p)
-    → claims now ≡ claims h → ((v : ℕ) → held v now ≡ (if eqb v w then None else held v h))
+    → claims now ≡ claims h → ((v : ℕ) → held_by v now ≡ (if eqb v w then None else held_by v h))
     → ((q : ℕ) → entry q now ≡ (if holds w q h then x else entry q h))
     → faced f.shape f.claimed (set f.holding w None) (set f.states p x) ≡ face f.shape now
 settled-face f h now w p x legal e g a b d =
     let is = found-held f h w (Some p) e g in
     λ i. faced f.shape ((claimed-is f h e ∙ sym a) i)
     ((ap (λ l. set l w None) (holding-is f h e)
-    ∙ set-below (λ v. held v h) (λ v. held v now) f.shape.workers w None
+    ∙ set-below (λ v. held_by v h) (λ v. held_by v now) f.shape.workers w None
     (found-worker f h w (Some p) e g)
-    (sym (b w ∙ ap (λ y. if y then None else held w h) (eq-eqb w w refl)))
-    (λ k n. sym (b k ∙ ap (λ y. if y then None else held k h) (ne_eqb k w n)))) i)
+    (sym (b w ∙ ap (λ y. if y then None else held_by w h) (eq-eqb w w refl)))
+    (λ k n. sym (b k ∙ ap (λ y. if y then None else held_by k h) (ne_eqb k w n)))) i)
     ((ap (λ l. set l p x) (states-is f h e)
     ∙ set-below (λ q. entry q h) (λ q. entry q now) (piece_count f.shape) p x
     (held_piece f.shape w p h legal is)
@@ -252,7 +253,7 @@ report-done f w p o g b = answered f (faced f.shape f.claimed (set f.holding w N
 pub drop-no_worker : (f : Face) (w : ℕ) → f.shape.workers ≤ w
     → Answers f (call.Drop w) (Refused NoSuchWorker) f
 drop-no_worker f w l = answered f f (call.Drop w) (Refused NoSuchWorker) (λ h legal e. (
-  sym (ap (λ b. if b then drop_reply f.shape h (held w h) else Refused NoSuchWorker)
+  sym (ap (λ b. if b then drop_reply f.shape h (held_by w h) else Refused NoSuchWorker)
       (le-ltb w f.shape.workers l)),
   e,
 ))
@@ -260,7 +261,7 @@ drop-no_worker f w l = answered f f (call.Drop w) (Refused NoSuchWorker) (λ h l
 drop-answer : (f : Face) (h : History) (w : ℕ) (x : Option ℕ) → f ≡ face f.shape h
     → slice_get f.holding w ≡ Some x → answer f.shape h (call.Drop w) ≡ drop_reply f.shape h x
 drop-answer f h w x e g =
-    ap (λ b. if b then drop_reply f.shape h (held w h) else Refused NoSuchWorker)
+    ap (λ b. if b then drop_reply f.shape h (held_by w h) else Refused NoSuchWorker)
     (lt-ltb w f.shape.workers (found-worker f h w x e g))
     ∙ ap (drop_reply f.shape h) (found-held f h w x e g)
 

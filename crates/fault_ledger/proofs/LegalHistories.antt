@@ -18,7 +18,8 @@ use Rattle.fault_ledger.specs.declared.Call.{Call}
 use Rattle.fault_ledger.specs.declared.Call.TheVariants as call
 use Rattle.fault_ledger.specs.declared.Reply.{Reply}
 use Rattle.fault_ledger.specs.declared.Reply.TheVariants.{Claimed, Done, Refused}
-use Rattle.fault_ledger.specs.History.{History, claims, held, holds, state_of, entry, piece_count}
+use Rattle.fault_ledger.specs.History.{History, claims, held_by, holds, state_of, entry}
+use Rattle.fault_ledger.specs.History.{piece_count}
 use Rattle.fault_ledger.specs.History.{class_of, block_of, piece_at, ContinuesWithout}
 use Rattle.fault_ledger.specs.Answer.{fits_size, is_hit, has_earlier_hit, claim_reply, report_reply}
 use Rattle.fault_ledger.specs.Answer.{drop_reply, answer, added, after, IsLegal}
@@ -31,8 +32,8 @@ grew h e p = let q = ap (λ (l : History). length l) p in omega arith
 
 -- what holds before an accepted event
 pub claim_accepted : (s : Shape) (h : History) (w : ℕ) → after s h (call.Claim w)
-    ≡ Event.Claim w ∷ h → (w < s.workers) × (held w h ≡ None) × (claims h < piece_count s)
-claim_accepted s h w e = go (nat_lt w s.workers) (held w h) refl refl e
+    ≡ Event.Claim w ∷ h → (w < s.workers) × (held_by w h ≡ None) × (claims h < piece_count s)
+claim_accepted s h w e = go (nat_lt w s.workers) (held_by w h) refl refl e
   where
     more : (m : Bool) → added (call.Claim w)
         (if m then Claimed (claim_is.Piece (class_of s (claims h)) (block_of s (claims h)))
@@ -40,9 +41,9 @@ claim_accepted s h w e = go (nat_lt w s.workers) (held w h) refl refl e
     more true e = refl
     more false e = absurd (grew h (Event.Claim w) e)
 
-    go : (b : Bool) (o : Option ℕ) → nat_lt w s.workers ≡ b → held w h ≡ o → added (call.Claim w)
+    go : (b : Bool) (o : Option ℕ) → nat_lt w s.workers ≡ b → held_by w h ≡ o → added (call.Claim w)
         (if b then claim_reply s h o else Refused NoSuchWorker) ++ h ≡ Event.Claim w ∷ h
-        → (w < s.workers) × (held w h ≡ None) × (claims h < piece_count s)
+        → (w < s.workers) × (held_by w h ≡ None) × (claims h < piece_count s)
     go true None x y e = (
       ltb-true w s.workers x,
       y,
@@ -53,17 +54,18 @@ claim_accepted s h w e = go (nat_lt w s.workers) (held w h) refl refl e
 
 pub report_accepted : (s : Shape) (h : History) (w : ℕ) (o : Outcome)
     → after s h (call.Report w o) ≡ Event.Report w o ∷ h → (p : ℕ) × (w < s.workers)
-    × (held w h ≡ Some p) × (fits_size (size_of s.tests (block_of s p)) o ≡ true)
-report_accepted s h w o e = go (nat_lt w s.workers) (held w h) refl refl e
+    × (held_by w h ≡ Some p) × (fits_size (size_of s.tests (block_of s p)) o ≡ true)
+report_accepted s h w o e = go (nat_lt w s.workers) (held_by w h) refl refl e
   where
     more : (m : Bool) → added (call.Report w o) (if m then Done else Refused BadOutcome) ++ h
         ≡ Event.Report w o ∷ h → m ≡ true
     more true e = refl
     more false e = absurd (grew h (Event.Report w o) e)
 
-    go : (b : Bool) (x : Option ℕ) → nat_lt w s.workers ≡ b → held w h ≡ x → added (call.Report w o)
+    go : (b : Bool) (x : Option ℕ) → nat_lt w s.workers ≡ b → held_by w h ≡ x
+        → added (call.Report w o)
         (if b then report_reply s o x else Refused NoSuchWorker) ++ h ≡ Event.Report w o ∷ h
-        → (p : ℕ) × (w < s.workers) × (held w h ≡ Some p)
+        → (p : ℕ) × (w < s.workers) × (held_by w h ≡ Some p)
         × (fits_size (size_of s.tests (block_of s p)) o ≡ true)
     go true None y z e = absurd (grew h (Event.Report w o) e)
     go true (Some p) y z e =
@@ -71,17 +73,17 @@ report_accepted s h w o e = go (nat_lt w s.workers) (held w h) refl refl e
     go false x y z e = absurd (grew h (Event.Report w o) e)
 
 pub drop_accepted : (s : Shape) (h : History) (w : ℕ) → after s h (call.Drop w) ≡ Event.Drop w ∷ h
-    → (p : ℕ) × (w < s.workers) × (held w h ≡ Some p) × (has_earlier_hit s h p ≡ true)
-drop_accepted s h w e = go (nat_lt w s.workers) (held w h) refl refl e
+    → (p : ℕ) × (w < s.workers) × (held_by w h ≡ Some p) × (has_earlier_hit s h p ≡ true)
+drop_accepted s h w e = go (nat_lt w s.workers) (held_by w h) refl refl e
   where
     more : (m : Bool) → added (call.Drop w) (if m then Done else Refused NoEarlierHit) ++ h
         ≡ Event.Drop w ∷ h → m ≡ true
     more true e = refl
     more false e = absurd (grew h (Event.Drop w) e)
 
-    go : (b : Bool) (x : Option ℕ) → nat_lt w s.workers ≡ b → held w h ≡ x → added (call.Drop w)
+    go : (b : Bool) (x : Option ℕ) → nat_lt w s.workers ≡ b → held_by w h ≡ x → added (call.Drop w)
         (if b then drop_reply s h x else Refused NoSuchWorker) ++ h ≡ Event.Drop w ∷ h
-        → (p : ℕ) × (w < s.workers) × (held w h ≡ Some p) × (has_earlier_hit s h p ≡ true)
+        → (p : ℕ) × (w < s.workers) × (held_by w h ≡ Some p) × (has_earlier_hit s h p ≡ true)
     go true None y z e = absurd (grew h (Event.Drop w) e)
     go true (Some p) y z e = (p, ltb-true w s.workers y, z, more (has_earlier_hit s h p) e)
     go false x y z e = absurd (grew h (Event.Drop w) e)
@@ -114,7 +116,7 @@ legal_claims s (Event.Report w o ∷ h) l = legal_claims s h l.1
 legal_claims s (Event.Drop w ∷ h) l = legal_claims s h l.1
 
 -- a piece that is held is one of the pieces
-pub held_piece : (s : Shape) (w p : ℕ) (h : History) → IsLegal s h → held w h ≡ Some p
+pub held_piece : (s : Shape) (w p : ℕ) (h : History) → IsLegal s h → held_by w h ≡ Some p
     → p < piece_count s
 held_piece s w p h l e = let a = legal_claims s h l in let b = held_below w p h e in omega arith
 

@@ -14,7 +14,7 @@ use Rattle.fault_ledger.specs.declared.Claim.TheVariants as claim_is
 use Rattle.fault_ledger.specs.declared.Call.TheVariants as call
 use Rattle.fault_ledger.specs.declared.Reply.{Reply}
 use Rattle.fault_ledger.specs.declared.Reply.TheVariants.{Claimed, Done, Refused}
-use Rattle.fault_ledger.specs.History.{History, claims, held, piece_at, piece_count, class_of}
+use Rattle.fault_ledger.specs.History.{History, claims, held_by, piece_at, piece_count, class_of}
 use Rattle.fault_ledger.specs.History.{block_of, ContinuesWithout}
 use Rattle.fault_ledger.specs.Answer.{answer, has_earlier_hit, is_hit, claim_reply, drop_reply}
 use Rattle.fault_ledger.specs.Answer.{IsLegal, fits_size, report_reply}
@@ -131,7 +131,7 @@ seated_sees a b worker told classes piece clear i s = record {
   told_is = i.told_is ∙ ap (λ (x : Sitter). x.told) (sym s.seat);
   classes_is = i.classes_is ∙ ap (λ (x : Sitter). x.place.shape.classes) (sym s.seat);
   piece_is = i.piece_is ∙ sym (held_goes_on a.worker b.seen a.seen s.newer)
-      ∙ ap (λ (x : Sitter). held x.worker b.seen) (sym s.seat);
+      ∙ ap (λ (x : Sitter). held_by x.worker b.seen) (sym s.seat);
   remembers = remembers_sees a b a.told clear s i.remembers;
 }
 
@@ -172,7 +172,7 @@ untold a worker told classes piece clear p i e = go a.told refl
 pub seated_makes : (a b : Sitter) (e : Event) (r : Reply) (worker : ℕ) (told : Bool) (classes : ℕ)
     (piece now : Option ℕ) (clear : List Remembered)
     → IsSeated a worker told classes piece clear → a.told ≡ false → Makes a e r b
-    → held a.worker b.seen ≡ now → IsSeated b worker told classes now clear
+    → held_by a.worker b.seen ≡ now → IsSeated b worker told classes now clear
 seated_makes a b e r worker told classes piece now clear i free m holds =
     subst (λ (x : Sitter). IsSeated x worker told classes now clear) (sym m.seat) (record {
       sitter = record {
@@ -184,36 +184,37 @@ seated_makes a b e r worker told classes piece now clear i free m holds =
       worker_is = i.worker_is;
       told_is = i.told_is;
       classes_is = i.classes_is;
-      piece_is = sym holds ∙ ap (λ (x : Sitter). held a.worker x.seen) m.seat;
+      piece_is = sym holds ∙ ap (λ (x : Sitter). held_by a.worker x.seen) m.seat;
       remembers = subst (λ (x : Sitter). Remembers x clear) m.seat
           (remembers_makes a b e r clear m i.remembers);
     })
 
 -- after a report or a drop it holds nothing
 pub reported_free : (a b : Sitter) (o : Outcome) (r : Reply) → Makes a (Event.Report a.worker o) r b
-    → held a.worker b.seen ≡ None
+    → held_by a.worker b.seen ≡ None
 reported_free a b o r m =
-    ap (λ (x : Sitter). held a.worker x.seen) m.seat
-    ∙ ap (λ y. if y then None else held a.worker m.before) (eq-eqb a.worker a.worker refl)
+    ap (λ (x : Sitter). held_by a.worker x.seen) m.seat
+    ∙ ap (λ y. if y then None else held_by a.worker m.before) (eq-eqb a.worker a.worker refl)
 
 -- a report of a hit at a test that the piece's block hasn't is no step
-pub reported_badly : (a : Sitter) (p : ℕ) (o : Outcome) → IsSitter a → held a.worker a.seen ≡ Some p
+pub reported_badly : (a : Sitter) (p : ℕ) (o : Outcome) → IsSitter a
+    → held_by a.worker a.seen ≡ Some p
     → fits_size (size_of a.place.shape.tests (block_of a.place.shape p)) o ≡ false
     → Stays a (call.Report a.worker o) (Refused BadOutcome) a
 reported_badly a p o i holds bad =
     let s = a.place.shape in
     record {
       seat = refl;
-      replied = sym (ap (λ b. if b then report_reply s o (held a.worker a.seen)
+      replied = sym (ap (λ b. if b then report_reply s o (held_by a.worker a.seen)
           else Refused NoSuchWorker) (lt-ltb a.worker s.workers i.among)
           ∙ ap (report_reply s o) holds ∙ ap (λ b. if b then Done else Refused BadOutcome) bad);
     }
 
 pub dropped_free : (a b : Sitter) (r : Reply) → Makes a (Event.Drop a.worker) r b
-    → held a.worker b.seen ≡ None
+    → held_by a.worker b.seen ≡ None
 dropped_free a b r m =
-    ap (λ (x : Sitter). held a.worker x.seen) m.seat
-    ∙ ap (λ y. if y then None else held a.worker m.before) (eq-eqb a.worker a.worker refl)
+    ap (λ (x : Sitter). held_by a.worker x.seen) m.seat
+    ∙ ap (λ y. if y then None else held_by a.worker m.before) (eq-eqb a.worker a.worker refl)
 
 -- a piece that a seat holds is one of the pieces
 pub seated_piece : (a : Sitter) (worker : ℕ) (told : Bool) (classes : ℕ) (piece : Option ℕ)
@@ -226,10 +227,10 @@ seated_piece a worker told classes piece clear p i e =
 pub seated_same : (a b : Sitter) (worker : ℕ) (told : Bool) (classes : ℕ) (piece : Option ℕ)
     (clear : List Remembered)
     (p q : ℕ) → IsSeated a worker told classes piece clear → a ≡ b → piece ≡ Some p
-    → held b.worker b.seen ≡ Some q → q ≡ p
+    → held_by b.worker b.seen ≡ Some q → q ≡ p
 seated_same a b worker told classes piece clear p q i view is holds =
     let e : Some q ≡ Some p =
-    sym holds ∙ ap (λ (x : Sitter). held x.worker x.seen) (sym view) ∙ sym i.piece_is ∙ is in
+    sym holds ∙ ap (λ (x : Sitter). held_by x.worker x.seen) (sym view) ∙ sym i.piece_is ∙ is in
     cc
 
 -- looks, and then an event
@@ -261,21 +262,21 @@ pub sees_same : (a : Sitter) → IsSitter a → Sees a a.told a
 sees_same a i = record { seat = refl; newer = goes_on_same a.worker a.seen; legal = i.legal }
 
 -- the replies after what a seat has seen
-pub claim_at : (a : Sitter) (h : History) (x : Option ℕ) → IsSitter a → held a.worker h ≡ x
+pub claim_at : (a : Sitter) (h : History) (x : Option ℕ) → IsSitter a → held_by a.worker h ≡ x
     → answer a.place.shape h (call.Claim a.worker) ≡ claim_reply a.place.shape h x
 claim_at a h x i e =
-    ap (λ b. if b then claim_reply a.place.shape h (held a.worker h) else Refused NoSuchWorker)
+    ap (λ b. if b then claim_reply a.place.shape h (held_by a.worker h) else Refused NoSuchWorker)
     (lt-ltb a.worker a.place.shape.workers i.among) ∙ ap (claim_reply a.place.shape h) e
 
-pub drop_at : (a : Sitter) (h : History) (x : Option ℕ) → IsSitter a → held a.worker h ≡ x
+pub drop_at : (a : Sitter) (h : History) (x : Option ℕ) → IsSitter a → held_by a.worker h ≡ x
     → answer a.place.shape h (call.Drop a.worker) ≡ drop_reply a.place.shape h x
 drop_at a h x i e =
-    ap (λ b. if b then drop_reply a.place.shape h (held a.worker h) else Refused NoSuchWorker)
+    ap (λ b. if b then drop_reply a.place.shape h (held_by a.worker h) else Refused NoSuchWorker)
     (lt-ltb a.worker a.place.shape.workers i.among) ∙ ap (drop_reply a.place.shape h) e
 
 -- a claim where all pieces are claimed
 pub exhausted_at : (a : Sitter) (h : History) → IsSitter a
-    → held a.worker h ≡ None → claims h ≡ piece_count a.place.shape
+    → held_by a.worker h ≡ None → claims h ≡ piece_count a.place.shape
     → Claimed claim_is.Exhausted ≡ answer a.place.shape h (call.Claim a.worker)
 exhausted_at a h i e all =
     let s = a.place.shape in
@@ -285,12 +286,12 @@ exhausted_at a h i e all =
     else Claimed claim_is.Exhausted) (le-ltb (claims h) (piece_count s) few))
 
 -- what a seat holds after it has seen more
-pub held_sees : (a b : Sitter) → Sees a a.told b → held b.worker b.seen ≡ held a.worker a.seen
-held_sees a b s = let h = b.seen in ap (λ (x : Sitter). held x.worker h) s.seat
+pub held_sees : (a b : Sitter) → Sees a a.told b → held_by b.worker b.seen ≡ held_by a.worker a.seen
+held_sees a b s = let h = b.seen in ap (λ (x : Sitter). held_by x.worker h) s.seat
     ∙ held_goes_on a.worker h a.seen s.newer
 
 -- a drop that finds no hit
-pub finds_nothing : (a b : Sitter) (p : ℕ) → IsSitter a → held a.worker a.seen ≡ Some p
+pub finds_nothing : (a b : Sitter) (p : ℕ) → IsSitter a → held_by a.worker a.seen ≡ Some p
     → Sees a a.told b
     → (at : History) × ContinuesWithout a.worker at a.seen × ContinuesWithout a.worker b.seen at
     × (has_earlier_hit a.place.shape at p ≡ false) → FindsNoHit a b

@@ -21,7 +21,7 @@ use Rattle.fault_ledger.specs.declared.Event.{Event}
 use Rattle.fault_ledger.specs.declared.Call.TheVariants as call
 use Rattle.fault_ledger.specs.declared.words.View.{View}
 use Rattle.fault_ledger.specs.History.{History, piece_count, block_of, worker_of, state_of, claims}
-use Rattle.fault_ledger.specs.History.{held, holds, entry}
+use Rattle.fault_ledger.specs.History.{held_by, holds, entry}
 use Rattle.fault_ledger.specs.Answer.{fits_size, has_earlier_hit, added, after, call_of}
 use Rattle.fault_ledger.specs.Words.{code_of, field, field_in, in_field, word_with, total, times}
 use Rattle.fault_ledger.specs.Words.{told_of, ForEach, Knows, IsKeptBy, IsKept, one, post, Claims}
@@ -127,11 +127,11 @@ module _ (s : Shape) (h : History) (words : List ℕ) (views : List View)
             );
       }
 
-  held_still : held w h ≡ held w seen
+  held_still : held_by w h ≡ held_by w seen
   held_still = held_goes_on w h seen knows.newer
 
   -- who holds a piece was not told that all are claimed
-  holder_untold : (p : ℕ) → held w seen ≡ Some p → told ≡ false
+  holder_untold : (p : ℕ) → held_by w seen ≡ Some p → told ≡ false
   holder_untold p holds = go told refl
     where
       go : (b : Bool) → told ≡ b → told ≡ false
@@ -143,7 +143,7 @@ next-small n l = mod-eq_of_lt (omega arith)
 
 -- a claim
 module _ {S : Type 0} (s : Shape) (slots id w : ℕ) (seen : History) (out : List (ℕ × S))
-    (free : held w seen ≡ None) where
+    (free : held_by w seen ≡ None) where
   abbrev me : Me S View
   me = (one s w false seen, out)
 
@@ -228,7 +228,7 @@ module _ {S : Type 0} (s : Shape) (slots id w : ℕ) (seen : History) (out : Lis
       (λ n. claims_none t kept.0 kept.1 at (omega arith))
 
 -- the words after the field of a held piece, which was 0, was set by an `or`
-made : (p q : ℕ) (h : History) (w : ℕ) (words : List ℕ) (x now : PieceState) → held w h ≡ Some p
+made : (p q : ℕ) (h : History) (w : ℕ) (words : List ℕ) (x now : PieceState) → held_by w h ≡ Some p
     → word_with p < length words → code_of x < 256
     → field_in words p ≡ code_of (entry p h) → field_in words q ≡ code_of (entry q h)
     → now ≡ (if holds w q h then x else entry q h)
@@ -251,7 +251,7 @@ fits_small (outcome.Hit k) size fits l = let a = ltb-true k size fits in omega a
 
 -- a report or a drop of the piece that a worker holds
 module _ {S : Type 0} (s : Shape) (slots id w p : ℕ) (told : Bool) (seen : History)
-    (out : List (ℕ × S)) (holding : held w seen ≡ Some p) where
+    (out : List (ℕ × S)) (holding : held_by w seen ≡ Some p) where
   abbrev me' : Me S View
   me' = (one s w told seen, out)
 
@@ -265,7 +265,7 @@ module _ {S : Type 0} (s : Shape) (slots id w p : ℕ) (told : Bool) (seen : His
       (set t.views id (one s w told (e ∷ h)))
   settles e x t h kept at by accepts same entries below small =
       let now = marked_words t.words p (code_of x) in
-      let here : held w h ≡ Some p = held_still s h t.words t.views kept id w told seen at
+      let here : held_by w h ≡ Some p = held_still s h t.words t.views kept id w told seen at
       ∙ holding in
       let sized = kept.sized in
       let first : slice_index now 0 ≡ slice_index t.words 0 = marked_cursor t.words p (code_of x) in
@@ -285,7 +285,7 @@ module _ {S : Type 0} (s : Shape) (slots id w p : ℕ) (told : Bool) (seen : His
   by_sum c T below small allowed t kept homes at lt =
       let h = kept.0 in
       let n = slice_index t.words (word_with p) in
-      let here : held w h ≡ Some p = held_still s h t.words t.views kept.1 id w told seen at
+      let here : held_by w h ≡ Some p = held_still s h t.words t.views kept.1 id w told seen at
       ∙ holding in
       let free : field n (p % 8) ≡ 0 = kept.1.marked p below ∙ ap code_of (held_open w p h here) in
       subst (λ m. (v : View) × (a : Act S) × Valid t.homes me'.1 a
@@ -301,7 +301,7 @@ module _ {S : Type 0} (s : Shape) (slots id w p : ℕ) (told : Bool) (seen : His
       let h = kept.0 in
       let e = Event.Report w o in
       let mine = knows s h t.words t.views kept.1 id w told seen at in
-      let here : held w h ≡ Some p = held_still s h t.words t.views kept.1 id w told seen at
+      let here : held_by w h ≡ Some p = held_still s h t.words t.views kept.1 id w told seen at
       ∙ holding in
       let accepts : after s h (call.Report w o) ≡ e ∷ h =
       ap (λ r. added (call.Report w o) r ++ h) (report_answer s h w p o mine.among here fits) in (
@@ -331,7 +331,7 @@ module _ {S : Type 0} (s : Shape) (slots id w p : ℕ) (told : Bool) (seen : His
       let h = kept.0 in
       let e = Event.Drop w in
       let mine = knows s h t.words t.views kept.1 id w told seen at in
-      let here : held w h ≡ Some p = held_still s h t.words t.views kept.1 id w told seen at
+      let here : held_by w h ≡ Some p = held_still s h t.words t.views kept.1 id w told seen at
       ∙ holding in
       let accepts : after s h (call.Drop w) ≡ e ∷ h = ap (λ r. added (call.Drop w) r ++ h)
       (drop_answer s h w p mine.among here (hit_goes_on s w p h seen mine.newer hit)) in (

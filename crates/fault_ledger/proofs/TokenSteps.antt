@@ -13,7 +13,7 @@ use Rattle.fault_ledger.specs.declared.Shape.{Shape}
 use Rattle.fault_ledger.specs.declared.Event.{Event}
 use Rattle.fault_ledger.specs.declared.Reply.TheVariants.{Done}
 use Rattle.fault_ledger.specs.declared.words.View.{View}
-use Rattle.fault_ledger.specs.History.{History, piece_count, block_of, state_of, held, entry}
+use Rattle.fault_ledger.specs.History.{History, piece_count, block_of, state_of, held_by, entry}
 use Rattle.fault_ledger.specs.Answer.{fits_size, has_earlier_hit, answer, call_of, IsLegal}
 use Rattle.fault_ledger.specs.Seats.{Place, Sitter, sitter_at, Makes}
 use Rattle.fault_ledger.specs.Words.{code_of, word_with, field, in_field, state_at, one, post}
@@ -61,7 +61,7 @@ module _ {shape : Shape} {table : TableId} {a : Sitter} {t : TableId} {me : Me �
       ap state_at (l.1.1 p place below) ∙ legal_decoded shape p h l.1.2 ∙ ap (λ (x : Sitter).
       entry p x.seen) (sym (put_back is a.told h now b same l.1.4 table_of views_of))
 
-  pub claim_allowed : (slots id : ℕ) → a.told ≡ false → held a.worker a.seen ≡ None → Allows
+  pub claim_allowed : (slots id : ℕ) → a.told ≡ false → held_by a.worker a.seen ≡ None → Allows
       (IsKept shape) slots id me 0 (λ n. (n + 1) % 2 ^ 64) (Claims (step slots 0 1 0 none) me)
   claim_allowed slots id untold free =
       subst (λ (m : Me ℕ View). Allows (IsKept shape) slots id m 0
@@ -92,7 +92,7 @@ module _ {shape : Shape} {table : TableId} {a : Sitter} {t : TableId} {me : Me �
       subst (λ (m : Me ℕ View). P m i k) (sym is.me_is)
       (subst (λ x. P here x k) (sym place) (subst (λ x. P here j x) (sym bits) so))
 
-  pub report_allowed : (slots id p i k : ℕ) (o : Outcome) → held a.worker a.seen ≡ Some p
+  pub report_allowed : (slots id p i k : ℕ) (o : Outcome) → held_by a.worker a.seen ≡ Some p
       → p < piece_count shape → fits_size (size_of shape.tests (block_of shape p)) o ≡ true
       → i ≡ word_with p → k ≡ in_field p (code_of (state_of o))
       → Allows (IsKept shape) slots id me i (λ n. (n + k) % 2 ^ 64)
@@ -103,7 +103,7 @@ module _ {shape : Shape} {table : TableId} {a : Sitter} {t : TableId} {me : Me �
       (reports_allowed shape slots id a.worker p a.told a.seen [] holding o below fits)
 
   pub report_done : (slots p i k n : ℕ) (o : Outcome) {now_t : TableId} (now : Me ℕ View)
-      (b : Badge View) → held a.worker a.seen ≡ Some p → k ≡ in_field p (code_of (state_of o))
+      (b : Badge View) → held_by a.worker a.seen ≡ Some p → k ≡ in_field p (code_of (state_of o))
       → now_t ≡ t → Reports (step slots i k 0 none) me n now → b.table_id ≡ now_t
       → b.views ≡ now.0 ∷ []
       → Makes a (Event.Report a.worker o) Done (sitter b.table_id b.views)
@@ -118,7 +118,7 @@ module _ {shape : Shape} {table : TableId} {a : Sitter} {t : TableId} {me : Me �
       made e now.0 b it (report_answered shape it.0 a.worker o it.2.0)
       (put_back is a.told (e ∷ it.0) now b same it.3 table_of views_of)
 
-  pub drop_allowed : (slots id p i k : ℕ) → held a.worker a.seen ≡ Some p → p < piece_count shape
+  pub drop_allowed : (slots id p i k : ℕ) → held_by a.worker a.seen ≡ Some p → p < piece_count shape
       → has_earlier_hit shape a.seen p ≡ true → i ≡ word_with p → k ≡ in_field p 2 → Allows
       (IsKept shape) slots id me i (λ n. (n + k) % 2 ^ 64) (Drops (step slots i k 0 none) me)
   drop_allowed slots id p i k holding below hit place bits =

@@ -14,7 +14,7 @@ use Rattle.fault_ledger.specs.declared.Call.TheVariants as call
 use Rattle.fault_ledger.specs.declared.Reply.{Reply}
 use Rattle.fault_ledger.specs.declared.Reply.TheVariants.{Refused}
 use Rattle.fault_ledger.specs.History.{History, piece_count, piece_at, class_of, block_of, claims}
-use Rattle.fault_ledger.specs.History.{held, entry, ContinuesWithout, states_of}
+use Rattle.fault_ledger.specs.History.{held_by, entry, ContinuesWithout, states_of}
 use Rattle.fault_ledger.specs.Answer.{answer, call_of, is_hit, IsLegal}
 use Rattle.fault_ledger.specs.Settled.{AreClear}
 use Rattle.fault_ledger.specs.Face.{shape_fault}
@@ -39,7 +39,7 @@ pub record IsSitter (a : Sitter) : Type 0 where
   pub among : a.worker < a.place.shape.workers
   pub legal : IsLegal a.place.shape a.seen
   pub ended : a.told ≡ true
-      → (held a.worker a.seen ≡ None) × (claims a.seen ≡ piece_count a.place.shape)
+      → (held_by a.worker a.seen ≡ None) × (claims a.seen ≡ piece_count a.place.shape)
 
 -- what is remembered of a class is so in a history: so many first blocks are Clear, and the one
 -- behind them is a Hit where it is known to be
@@ -62,7 +62,7 @@ pub record IsSeated (a : Sitter) (worker : ℕ) (told : Bool) (classes : ℕ) (p
   pub worker_is : worker ≡ a.worker
   pub told_is : told ≡ a.told
   pub classes_is : classes ≡ a.place.shape.classes
-  pub piece_is : piece ≡ held a.worker a.seen
+  pub piece_is : piece ≡ held_by a.worker a.seen
   pub remembers : Remembers a remembered
 
 -- The clear blocks at the head of a class, below an end: so many, and then a block in this state,

@@ -14,7 +14,7 @@ use Rattle.fault_ledger.specs.declared.PieceState.TheVariants as state
 use Rattle.fault_ledger.specs.declared.Event.{Event}
 use Rattle.fault_ledger.specs.declared.words.Post.{Post}
 use Rattle.fault_ledger.specs.declared.words.View.{View}
-use Rattle.fault_ledger.specs.History.{History, piece_count, state_of, claims, held, entry}
+use Rattle.fault_ledger.specs.History.{History, piece_count, state_of, claims, held_by, entry}
 use Rattle.fault_ledger.specs.History.{ContinuesWithout}
 use Rattle.fault_ledger.specs.Answer.{IsLegal}
 use Rattle.fault_ledger.specs.Face.{shape_fault}
@@ -81,7 +81,7 @@ pub record Knows (shape : Shape) (h : History) (of : Shape) (p : Post) : Type 0 
   pub same : of ≡ shape
   pub among : p.worker < shape.workers
   pub newer : ContinuesWithout p.worker h p.seen
-  pub done : p.told ≡ true → (held p.worker p.seen ≡ None) × (claims p.seen ≡ piece_count shape)
+  pub done : p.told ≡ true → (held_by p.worker p.seen ≡ None) × (claims p.seen ≡ piece_count shape)
 
 -- The words and the views are those of this legal history. Word 0 is the cursor, which counts the
 -- claims that were tried, and field p % 8 of word p / 8 + 1 has the code of piece p. Past the
@@ -138,7 +138,7 @@ Claims step me n me' = (me'.1 ≡ me.1) × OfPosts me.0.posts (λ p.
 abbrev pub Reports : {S : Type 0} → Step S → Me S View → ℕ → Me S View → Type 0
 Reports step me n me' = (me'.1 ≡ me.1) × OfPosts me.0.posts (λ p.
     (o : Outcome)
-    × ((piece : ℕ) → held p.worker p.seen ≡ Some piece
+    × ((piece : ℕ) → held_by p.worker p.seen ≡ Some piece
     → step.first ≡ in_field piece (code_of (state_of o)))
     × Adds me.0.shape p (Event.Report p.worker o) me'.0)
 

@@ -4,7 +4,7 @@ ghost use Rattle.std.specs.Prelude.{◌≡◌, ◌≢◌, ◌↔◌, ℕ, Option
 ghost use Rattle.patterns.specs.Least.{Table};
 ghost use Rattle.fault_ledger.specs.declared.Shape.{Shape};
 ghost use Rattle.fault_ledger.specs.declared.PieceState.{PieceState};
-ghost use Rattle.fault_ledger.specs.History.{History, Continues, held, entry};
+ghost use Rattle.fault_ledger.specs.History.{History, Continues, held_by, entry};
 ghost use Rattle.fault_ledger.specs.Answer.{IsLegal, IsTrueTo, SettlesAtLeast, SkippedIsNeverFirst};
 ghost use Rattle.fault_ledger.specs.Settled.{IsFirstHit, IsSettledAt};
 
@@ -35,6 +35,6 @@ pub fn pieces_change_once()
 
 /// No two workers hold one piece.
 pub fn no_piece_is_held_twice()
-    ensures { (first second piece : ℕ) (h : History) → held first h ≡ Some piece
-        → held second h ≡ Some piece → first ≡ second }
+    ensures { (first second piece : ℕ) (h : History) → held_by first h ≡ Some piece
+        → held_by second h ≡ Some piece → first ≡ second }
 {}

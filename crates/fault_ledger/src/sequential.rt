@@ -6,7 +6,7 @@ ghost use Rattle.std.specs.Option.{option_map};
 ghost use Rattle.fault_ledger.specs.declared.Call.{Call};
 ghost use Rattle.fault_ledger.specs.declared.Reply.{Reply};
 ghost use Rattle.fault_ledger.specs.Answer.{is_hit, claim_reply_of, done_reply_of};
-ghost use Rattle.fault_ledger.specs.History.{History, held, state_of};
+ghost use Rattle.fault_ledger.specs.History.{History, held_by, state_of};
 ghost use Rattle.fault_ledger.specs.Seats.{class_and_block};
 ghost use Rattle.fault_ledger.specs.Face.{face, shape_of, shape_fault, Answers, IsLedger};
 
@@ -96,7 +96,7 @@ impl Ledger {
     pub fn held(&self, worker: u32) -> Option<(u32, u32)>
         requires { worker < self.now.shape.workers }
         ensures held { (h : History) → self.now ≡ face self.now.shape h
-            → result ≡ option_map {U = ℕ × ℕ} (class_and_block self.now.shape) (held worker h) }
+            → result ≡ option_map {U = ℕ × ℕ} (class_and_block self.now.shape) (held_by worker h) }
         ensures ledger { IsLedger self.now }
     {
         match self.holding[worker as usize] {
@@ -145,7 +145,7 @@ impl Ledger {
         ensures shape { self.new.shape ≡ self.old.shape }
         ensures refused { OnErr result (self.new ≡ self.old) }
     {
-        let piece = held_by(&self.holding, worker)?;
+        let piece = piece_held(&self.holding, worker)?;
         let block = piece / self.shape.classes;
         if !self.shape.takes(block, outcome) {
             return Err(Refusal::BadOutcome);
@@ -167,7 +167,7 @@ impl Ledger {
         ensures shape { self.new.shape ≡ self.old.shape }
         ensures refused { OnErr result (self.new ≡ self.old) }
     {
-        let piece = held_by(&self.holding, worker)?;
+        let piece = piece_held(&self.holding, worker)?;
         let class = (piece % self.shape.classes) as usize;
         if self.lowest_hits[class] >= piece / self.shape.classes {
             return Err(Refusal::NoEarlierHit);
@@ -197,7 +197,7 @@ impl Ledger {
 }
 
 /// The piece that a worker holds.
-fn held_by(holding: &[Option<u32>], worker: u32) -> Result<u32, Refusal>
+fn piece_held(holding: &[Option<u32>], worker: u32) -> Result<u32, Refusal>
     ensures held { IfOk result (λ piece. slice_get holding.now worker ≡ Some (Some piece)) }
     ensures refused { IfErr result (λ refusal.
         ((refusal ≡ Refusal.NoSuchWorker) × (length holding.now ≤ worker))

@@ -7,7 +7,7 @@ ghost use Rattle.fault_ledger.specs.declared.Call.TheVariants as call;
 ghost use Rattle.fault_ledger.specs.declared.Event.{Event};
 ghost use Rattle.fault_ledger.specs.declared.Reply.TheVariants.{Done};
 ghost use Rattle.fault_ledger.specs.History.{History, ContinuesWithout, block_count, block_of};
-ghost use Rattle.fault_ledger.specs.History.{entry, held, piece_at, piece_count};
+ghost use Rattle.fault_ledger.specs.History.{entry, held_by, piece_at, piece_count};
 ghost use Rattle.fault_ledger.specs.Answer.{answer, claim_reply_of, done_reply_of, has_earlier_hit};
 ghost use Rattle.fault_ledger.specs.Answer.{is_hit};
 ghost use Rattle.fault_ledger.specs.Settled.{status, finish, AreClear};
@@ -105,7 +105,7 @@ impl Seat {
     /// The class and the block of the piece that the seat holds.
     pub fn held(&self) -> Option<(u32, u32)>
         ensures held { result ≡ option_map (class_and_block self.now.place.shape)
-            (held self.now.worker self.now.seen) }
+            (held_by self.now.worker self.now.seen) }
         ensures sitter { IsSitter self.now }
     {
         let piece = self.piece?;
@@ -246,7 +246,7 @@ impl SharedLedger {
         ensures nothing_held { result ≡ Err Refusal.NothingHeld
             → Stays seat.old (call.Drop seat.old.worker) (done_reply_of result) seat.new }
         ensures no_earlier_hit { result ≡ Err Refusal.NoEarlierHit → FindsNoHit seat.old seat.new }
-        ensures block_zero { (piece : ℕ) → held seat.old.worker seat.old.seen ≡ Some piece
+        ensures block_zero { (piece : ℕ) → held_by seat.old.worker seat.old.seen ≡ Some piece
             → block_of self.now.shape piece ≡ 0
             → (result ≡ Err Refusal.NoEarlierHit) × (seat.new ≡ seat.old) }
     {

@@ -32,7 +32,7 @@ ghost use Rattle.fault_ledger.specs.declared.words.View.{View};
 ghost use Rattle.fault_ledger.specs.declared.Claim.TheVariants as claim_is;
 ghost use Rattle.fault_ledger.specs.declared.Reply.TheVariants.{Claimed, Done};
 ghost use Rattle.fault_ledger.specs.History.{History, ContinuesWithout, block_of, claims, class_of};
-ghost use Rattle.fault_ledger.specs.History.{entry, held, piece_count, state_of, states_of};
+ghost use Rattle.fault_ledger.specs.History.{entry, held_by, piece_count, state_of, states_of};
 ghost use Rattle.fault_ledger.specs.Answer.{fits_size, has_earlier_hit, IsLegal};
 ghost use Rattle.fault_ledger.specs.Face.{shape_fault};
 ghost use Rattle.fault_ledger.specs.Seats.{Sees, Makes, Meets};
@@ -266,14 +266,15 @@ impl Words {
     /// worker's, where there is one, and else all are claimed.
     pub(crate) fn claim(&self, token: &mut Token) -> u64
         requires place { token.old.place ≡ self.now }
-        requires free { (token.old.told ≡ false) × (held token.old.worker token.old.seen ≡ None) }
+        requires free { (token.old.told ≡ false)
+            × (held_by token.old.worker token.old.seen ≡ None) }
         ensures piece { result < piece_count self.now.shape
             → Makes token.old (Event.Claim token.old.worker)
             (Claimed (claim_is.Piece (class_of self.now.shape result)
             (block_of self.now.shape result)))
             token.new }
         ensures held { result < piece_count self.now.shape
-            → held token.old.worker token.new.seen ≡ Some result }
+            → held_by token.old.worker token.new.seen ≡ Some result }
         ensures none { piece_count self.now.shape ≤ result
             → Sees token.old true token.new × (claims token.new.seen ≡ piece_count self.now.shape) }
     {
@@ -290,7 +291,7 @@ impl Words {
     pub(crate) fn report(&self, token: &mut Token, piece: u32, outcome: Outcome)
         requires place { token.old.place ≡ self.now }
         requires piece { piece < piece_count self.now.shape }
-        requires held { held token.old.worker token.old.seen ≡ Some piece }
+        requires held { held_by token.old.worker token.old.seen ≡ Some piece }
         requires fits { fits_size (size_of self.now.shape.tests (block_of self.now.shape piece))
             outcome ≡ true }
         ensures { Makes token.old (Event.Report token.old.worker outcome) Done token.new }
@@ -311,7 +312,7 @@ impl Words {
     pub(crate) fn drop_piece(&self, token: &mut Token, piece: u32)
         requires place { token.old.place ≡ self.now }
         requires piece { piece < piece_count self.now.shape }
-        requires held { held token.old.worker token.old.seen ≡ Some piece }
+        requires held { held_by token.old.worker token.old.seen ≡ Some piece }
         requires hit { has_earlier_hit self.now.shape token.old.seen piece ≡ true }
         ensures { Makes token.old (Event.Drop token.old.worker) Done token.new }
     {

@@ -15,12 +15,12 @@ use Rattle.fault_model.proofs.SignalsOnce.{data_reads, out_reads, q_among}
 use Rattle.fault_model.specs.declared.Line.TheVariants as line
 use Rattle.fault_model.specs.declared.Model.{Model}
 use Rattle.fault_model.specs.Fault.{Fault, faults, branch}
-use Rattle.fault_model.specs.Detection.{carried, argument}
+use Rattle.fault_model.specs.Detection.{name_on, argument}
 use Rattle.fault_model.proofs.ListedFaults.{IsOn, listed_on, branch_among}
 
 -- the cell whose data pin reads a name
 data_carries : (c : List Statement) (i : ℕ) (n : Name) → IsWellFormed c
-    → Among (sink.Data i) (sinks c n) → carried c (line.Data i) ≡ Some n
+    → Among (sink.Data i) (sinks c n) → name_on c (line.Data i) ≡ Some n
 data_carries c i n well a =
     let r = data_reads c n i a in
     let at = at_position (map (λ cell. cell.0) (cells c)) r.q (q_among c r.q n r.stands) in
@@ -36,12 +36,12 @@ data_carries c i n well a =
     ∙ (ap (option_map (λ qd. qd.1)) p.1 ∙ ap Some read)
 
 pub carries : (m : Model) (c : List Statement) (f : Fault) → IsWellFormed c
-    → Contains (faults m c) f → (n : Name) × (carried c f.line ≡ Some n) × Contains (names c) n
+    → Contains (faults m c) f → (n : Name) × (name_on c f.line ≡ Some n) × Contains (names c) n
 carries m c f well at =
     let p = listed_on m c f at in
     (p.1, go p.0 p.1 p.2 p.3, contained (names c) p.1 (at_place (names c) p.0 p.1 p.2))
   where
-    by_sink : (n : Name) (k : Sink) → Among k (sinks c n) → carried c (branch k) ≡ Some n
+    by_sink : (n : Name) (k : Sink) → Among k (sinks c n) → name_on c (branch k) ≡ Some n
     by_sink n (sink.Pin g p) a =
         let r = pin_reads c n g p a in
         ap (λ s. argument (definition c s) p) (sym r.number)
@@ -50,6 +50,6 @@ carries m c f well at =
     by_sink n (sink.Data i) a = data_carries c i n well a
     by_sink n (sink.Out o) a = out_reads c n o a
 
-    go : (s : ℕ) (n : Name) → name_of c s ≡ Some n → IsOn c s n f.line → carried c f.line ≡ Some n
-    go s n named (inl on) = ap (carried c) on ∙ named
-    go s n named (inr b) = ap (carried c) b.2 ∙ by_sink n b.0 (branch_among c n b.0 b.1)
+    go : (s : ℕ) (n : Name) → name_of c s ≡ Some n → IsOn c s n f.line → name_on c f.line ≡ Some n
+    go s n named (inl on) = ap (name_on c) on ∙ named
+    go s n named (inr b) = ap (name_on c) b.2 ∙ by_sink n b.0 (branch_among c n b.0 b.1)

@@ -13,7 +13,7 @@ use Rattle.fault_model.specs.declared.Line.TheVariants as line
 use Rattle.fault_model.specs.declared.Model.TheVariants.{Transition, TransitionPairs}
 use Rattle.fault_model.specs.Fault.{Fault}
 use Rattle.fault_model.specs.Solution.{Test, Solves, Detects, value, under, pins_see, shows}
-use Rattle.fault_model.specs.Detection.{carried, HasBit, IsInitialized, IsSecondOfPair, DetectsAt}
+use Rattle.fault_model.specs.Detection.{name_on, HasBit, IsInitialized, IsSecondOfPair, DetectsAt}
 use Rattle.fault_model.proofs.PlainPrograms.{bit_within, has_bit_within, detects_within, differs}
 use Rattle.lists.proofs.Places.{among_numbered_from}
 
@@ -87,9 +87,9 @@ bits_alike false false e = refl
 has_bit : (k : ℕ) (c : List Statement) (t : Test) (f : Fault)
     → is_solved c t None (bit_within k c t None) ≡ true → has_bit_within k c t f ≡ true
     → HasBit c t f.line f.stuck
-has_bit k c t f e h = go (carried c f.line) refl h
+has_bit k c t f e h = go (name_on c f.line) refl h
   where
-    go : (o : Option Name) → carried c f.line ≡ o
+    go : (o : Option Name) → name_on c f.line ≡ o
         → option_map_or (λ n. not (differs (bit_within k c t None n) f.stuck)) o false ≡ true
         → HasBit c t f.line f.stuck
     go None at h = let bad : false ≡ true = h in cc

@@ -19,7 +19,7 @@ use Rattle.fault_model.specs.declared.Model.TheVariants.{StuckAt, Transition, Tr
 use Rattle.fault_model.specs.Fault.{Fault, faults}
 use Rattle.fault_model.specs.Solution.{Test, Solves, value, sees, pins_see}
 use Rattle.fault_model.specs.Collapse.{next_stuck, Reaches, here, onward, IsClassOf}
-use Rattle.fault_model.specs.Detection.{carried, argument, HasBit, IsInitialized, LooksBack}
+use Rattle.fault_model.specs.Detection.{name_on, argument, HasBit, IsInitialized, LooksBack}
 use Rattle.fault_model.specs.Detection.{ClassesDetectedSame, DetectedAsRepresentative}
 use Rattle.fault_model.proofs.ListedFaults.{IsReadBy, Step, step_of, next_listed}
 use Rattle.fault_model.proofs.NextFaultChains.{read_defined, gate_defined}
@@ -61,21 +61,21 @@ same_rows Buff a = refl
 
 module _ (c : List Statement) (f g : Fault) (well : IsWellFormed c) (arities : HaveArities c)
     (s : Step c f g) where
-  from_carried : carried c f.line ≡ Some s.read
+  from_carried : name_on c f.line ≡ Some s.read
   from_carried = go s.on
     where
-      go : IsReadBy c f.line s.read (signal c s.name) s.pin → carried c f.line ≡ Some s.read
+      go : IsReadBy c f.line s.read (signal c s.name) s.pin → name_on c f.line ≡ Some s.read
       go (inl on) =
-          ap (carried c) on.0
+          ap (name_on c) on.0
           ∙ name_of-signal c s.read (contained (names c) s.read (read_defined c well f g s))
       go (inr on) =
-          ap (carried c) on
+          ap (name_on c) on
           ∙ (ap (λ o. argument o s.pin) (definition-signal c (Gate s.name s.kind s.args) s.name well
           (contained c (Gate s.name s.kind s.args) s.stands) refl) ∙ s.reads)
 
-  to_carried : carried c g.line ≡ Some s.name
+  to_carried : name_on c g.line ≡ Some s.name
   to_carried =
-      ap (λ x. carried c x.line) (sym s.gives)
+      ap (λ x. name_on c x.line) (sym s.gives)
       ∙ name_of-signal c s.name (contained (names c) s.name (gate_defined c well f g s))
 
   to_bit : g.stuck ≡ s.bit
@@ -107,12 +107,12 @@ module _ (c : List Statement) (f g : Fault) (well : IsWellFormed c) (arities : H
     λ h. (h.0, s.read, h.2, from_carried, (bit_passes t h.0 fixes h.2).1 (on_name h.0 h.1 h.3 h.4)),
   )
     where
-      on_read : (v : Name → Bool) (n : Name) → carried c f.line ≡ Some n → v n ≡ f.stuck
+      on_read : (v : Name → Bool) (n : Name) → name_on c f.line ≡ Some n → v n ≡ f.stuck
           → v s.read ≡ f.stuck
       on_read v n at e =
           subst (λ x. v x ≡ f.stuck) (ap (λ o. unwrap_or o n) (sym at ∙ from_carried)) e
 
-      on_name : (v : Name → Bool) (n : Name) → carried c g.line ≡ Some n → v n ≡ g.stuck
+      on_name : (v : Name → Bool) (n : Name) → name_on c g.line ≡ Some n → v n ≡ g.stuck
           → v s.name ≡ g.stuck
       on_name v n at e =
           subst (λ x. v x ≡ g.stuck) (ap (λ o. unwrap_or o n) (sym at ∙ to_carried)) e

@@ -13,7 +13,7 @@ use Rattle.fault_model.specs.declared.Model.TheVariants.{StuckAt, Transition, Tr
 use Rattle.fault_model.specs.Fault.{Fault, same_line}
 use Rattle.fault_model.specs.Solution.{Test, value, under, pins_see, shows}
 use Rattle.fault_model.specs.Collapse.{next, Reaches, here, onward, Represents, representatives}
-use Rattle.fault_model.specs.Detection.{carried}
+use Rattle.fault_model.specs.Detection.{name_on}
 
 -- the fault after at most this many next faults
 abbrev pub rep_within : ℕ → List Statement → Fault → Fault
@@ -55,7 +55,7 @@ detects_within k c t f =
 -- whether a test gives the line of the fault its bit
 abbrev pub has_bit_within : ℕ → List Statement → Test → Fault → Bool
 has_bit_within k c t f =
-    option_map_or (λ n. not (differs (bit_within k c t None n) f.stuck)) (carried c f.line) false
+    option_map_or (λ n. not (differs (bit_within k c t None n) f.stuck)) (name_on c f.line) false
 
 -- whether the test before fits, if there is one, for a test that is the second of its pair or not
 abbrev fits_within : ℕ → List Statement → Fault → Model → Bool → Option Test → Bool

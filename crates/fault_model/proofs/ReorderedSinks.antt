@@ -20,7 +20,7 @@ use Rattle.fault_model.specs.declared.Model.{Model}
 use Rattle.fault_model.specs.Fault.{Fault, branch, branches, faults}
 use Rattle.fault_model.specs.Collapse.{readers}
 use Rattle.fault_model.specs.Known.{only_gate}
-use Rattle.fault_model.specs.Reordered.{IsReordered, place, moved_line, moved, moved_sink}
+use Rattle.fault_model.specs.Reordered.{IsReordered, place, moved_line, moved_fault, moved_sink}
 use Rattle.fault_model.specs.Reordered.{HasSameSinks}
 use Rattle.fault_model.proofs.SignalsDefined.{defined_among}
 use Rattle.fault_model.proofs.ListedFaults.{fault_on, IsOn, listed_on, listed_model, stem_listed}
@@ -216,16 +216,17 @@ module _ (c d : List Statement) (well : IsWellFormed c) (is : IsReordered c d) w
           rw many (among (sinks d n) (moved_sink c d k)
           (sinks_to n k (contained (sinks c n) k own)))
 
-  listed : (m : Model) (f : Fault) → Contains (faults m c) f → Contains (faults m d) (moved c d f)
+  listed : (m : Model) (f : Fault) → Contains (faults m c) f
+      → Contains (faults m d) (moved_fault c d f)
   listed m f at = let p = listed_on m c f at in go p.0 p.1 p.2 p.3
     where
-      same : (l : Line) → moved_line c d f.line ≡ l → fault_on m l f.stuck ≡ moved c d f
+      same : (l : Line) → moved_line c d f.line ≡ l → fault_on m l f.stuck ≡ moved_fault c d f
       same l e =
           ap (λ x. fault_on x l f.stuck) (sym (listed_model m c f at))
           ∙ ap (λ x. fault_on f.model x f.stuck) (sym e)
 
       go : (s : ℕ) (n : Name) → name_of c s ≡ Some n → IsOn c s n f.line
-          → Contains (faults m d) (moved c d f)
+          → Contains (faults m d) (moved_fault c d f)
       go s n named (inl on) =
           let there = stem_listed m d (place c d s) n f.stuck (same_name c d well is s ∙ named) in
           subst (Contains (faults m d))

@@ -20,8 +20,8 @@ use Rattle.fault_model.specs.declared.Model.{Model}
 use Rattle.fault_model.specs.declared.Model.TheVariants.{StuckAt, Transition, TransitionPairs}
 use Rattle.fault_model.specs.Fault.{Fault, branch, same_line}
 use Rattle.fault_model.specs.Solution.{Test, under, sees, pins_see, shows, value}
-use Rattle.fault_model.specs.Detection.{carried, argument, IsInitialized, LooksBack}
-use Rattle.fault_model.specs.Reordered.{IsReordered, place, moved_line, moved}
+use Rattle.fault_model.specs.Detection.{name_on, argument, IsInitialized, LooksBack}
+use Rattle.fault_model.specs.Reordered.{IsReordered, place, moved_line, moved_fault}
 use Rattle.fault_model.specs.Reordered.{IsSolvedSame, IsDetectedSame, HasSameBits, IsDetectedSameAt}
 use Rattle.fault_model.proofs.ReorderedSignals.{apart, numbered, same_name, same_definition}
 use Rattle.fault_model.proofs.ReorderedSignals.{same_sources, stands_there, stands_back}
@@ -46,21 +46,21 @@ module _ (c d : List Statement) (well : IsWellFormed c) (is : IsReordered c d) w
   same_moved _ _ = refl
 
   pub under_moved : (f : Option Fault) (l : Line) (bit : Bool)
-      → under (option_map (moved c d) f) (moved_line c d l) bit ≡ under f l bit
+      → under (option_map (moved_fault c d) f) (moved_line c d l) bit ≡ under f l bit
   under_moved None l bit = refl
   under_moved (Some f) l bit = ap (λ b. if b then f.stuck else bit) (same_moved f.line l)
 
   -- ---- solutions
 
   stem_moved : (f : Option Fault) (n : Name) (bit : Bool) → Contains (names c) n
-      → under (option_map (moved c d) f) (line.Stem (signal d n)) bit
+      → under (option_map (moved_fault c d) f) (line.Stem (signal d n)) bit
       ≡ under f (line.Stem (signal c n)) bit
   stem_moved f n bit at =
-      ap (λ s. under (option_map (moved c d) f) (line.Stem s) bit) (numbered c d well is n at)
+      ap (λ s. under (option_map (moved_fault c d) f) (line.Stem s) bit) (numbered c d well is n at)
       ∙ under_moved f (line.Stem (signal c n)) bit
 
   pins_moved : (f : Option Fault) (v : Name → Bool) (gate : ℕ) (from : ℕ) (args : List Name)
-      → map (λ at. sees (option_map (moved c d) f) v (line.Pin (place c d gate) at.0) at.1)
+      → map (λ at. sees (option_map (moved_fault c d) f) v (line.Pin (place c d gate) at.0) at.1)
       (enumerate_from from args)
       ≡ map (λ at. sees f v (line.Pin gate at.0) at.1) (enumerate_from from args)
   pins_moved f v gate from [] = refl
@@ -71,15 +71,16 @@ module _ (c d : List Statement) (well : IsWellFormed c) (is : IsReordered c d) w
 
   gate_moved : (f : Option Fault) (v : Name → Bool) (n : Name) (kind : Kind) (args : List Name)
       → Contains (names c) n
-      → under (option_map (moved c d) f) (line.Stem (signal d n))
-      (value kind (pins_see (option_map (moved c d) f) v (signal d n) args))
+      → under (option_map (moved_fault c d) f) (line.Stem (signal d n))
+      (value kind (pins_see (option_map (moved_fault c d) f) v (signal d n) args))
       ≡ under f (line.Stem (signal c n)) (value kind (pins_see f v (signal c n) args))
   gate_moved f v n kind args at =
-      let pins : pins_see (option_map (moved c d) f) v (signal d n) args
+      let pins : pins_see (option_map (moved_fault c d) f) v (signal d n) args
       ≡ pins_see f v (signal c n) args =
-      ap (λ s. pins_see (option_map (moved c d) f) v s args) (numbered c d well is n at)
+      ap (λ s. pins_see (option_map (moved_fault c d) f) v s args) (numbered c d well is n at)
       ∙ pins_moved f v (signal c n) 0 args in
-      ap (λ bits. under (option_map (moved c d) f) (line.Stem (signal d n)) (value kind bits)) pins
+      ap (λ bits. under (option_map (moved_fault c d) f) (line.Stem (signal d n)) (value kind bits))
+          pins
       ∙ stem_moved f n (value kind (pins_see f v (signal c n) args)) at
 
   source_known : (i : ℕ) (n : Name) → slice_get (sources c) i ≡ Some n → Contains (names c) n
@@ -136,9 +137,9 @@ module _ (c d : List Statement) (well : IsWellFormed c) (is : IsReordered c d) w
           subst (λ k. moved_line c d (branch k.0) ≡ branch k.0) p.2 refl
 
   shows_same : (f : Option Fault) (v : Name → Bool) (o : Sink × Name) → Contains (observers c) o
-      → shows (option_map (moved c d) f) v o ≡ shows f v o
+      → shows (option_map (moved_fault c d) f) v o ≡ shows f v o
   shows_same f v o at =
-      ap (λ l. under (option_map (moved c d) f) l (v o.1)) (sym (stays o at))
+      ap (λ l. under (option_map (moved_fault c d) f) l (v o.1)) (sym (stays o at))
       ∙ under_moved f (branch o.0) (v o.1)
 
   pub detected_same : IsDetectedSame c d
@@ -165,7 +166,7 @@ module _ (c d : List Statement) (well : IsWellFormed c) (is : IsReordered c d) w
 
   -- ---- a list of tests
 
-  carried_same : (l : Line) → carried d (moved_line c d l) ≡ carried c l
+  carried_same : (l : Line) → name_on d (moved_line c d l) ≡ name_on c l
   carried_same (line.Stem s) = same_name c d well is s
   carried_same (line.Pin gate pin) =
       ap (λ o. argument o pin) (same_definition c d well is gate)

@@ -17,15 +17,15 @@ argument (Some (Gate n kind args)) pin = slice_get args pin
 argument _ pin = None
 
 -- the name that a line carries: that of the stem, or the one that the sink of a branch reads
-abbrev pub carried : List Statement → Line → Option Name
-carried c (line.Stem s) = name_of c s
-carried c (line.Pin gate pin) = argument (definition c gate) pin
-carried c (line.Data cell) = option_map (λ qd. qd.1) (slice_get (cells c) cell)
-carried c (line.Out output) = slice_get (outputs c) output
+abbrev pub name_on : List Statement → Line → Option Name
+name_on c (line.Stem s) = name_of c s
+name_on c (line.Pin gate pin) = argument (definition c gate) pin
+name_on c (line.Data cell) = option_map (λ qd. qd.1) (slice_get (cells c) cell)
+name_on c (line.Out output) = slice_get (outputs c) output
 
 -- without a fault a test gives the line this bit
 abbrev pub HasBit : List Statement → Test → Line → Bool → Type 0
-HasBit c t l b = (v : Name → Bool) × (n : Name) × Solves c t None v × (carried c l ≡ Some n)
+HasBit c t l b = (v : Name → Bool) × (n : Name) × Solves c t None v × (name_on c l ≡ Some n)
     × (v n ≡ b)
 
 -- The test before the one of this number initializes the line at the bit: without a fault it gives

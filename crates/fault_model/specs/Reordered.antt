@@ -40,8 +40,8 @@ moved_line c d (line.Pin gate pin) = line.Pin (place c d gate) pin
 moved_line c d (line.Data cell) = line.Data cell
 moved_line c d (line.Out output) = line.Out output
 
-abbrev pub moved : List Statement → List Statement → Fault → Fault
-moved c d f = record { model = f.model; line = moved_line c d f.line; stuck = f.stuck }
+abbrev pub moved_fault : List Statement → List Statement → Fault → Fault
+moved_fault c d f = record { model = f.model; line = moved_line c d f.line; stuck = f.stuck }
 
 -- a gate's kind and the numbers of its arguments in the second list
 abbrev pub moved_gate : List Statement → List Statement → Kind × List ℕ → Kind × List ℕ
@@ -73,16 +73,16 @@ pub record HasSameSinks (c d : List Statement) : Type 0 where
   pub alone : (l : Line)
       → only_gate (readers d (moved_line c d l)) ≡ option_map (place c d) (only_gate (readers c l))
   pub listed : (m : Model) (f : Fault) → Contains (faults m c) f
-      → Contains (faults m d) (moved c d f)
+      → Contains (faults m d) (moved_fault c d f)
 
 -- the same valuations solve
 abbrev pub IsSolvedSame : List Statement → List Statement → Type 0
 IsSolvedSame c d = (t : Test) (f : Option Fault) (v : Name → Bool)
-    → Solves c t f v ↔ Solves d t (option_map (moved c d) f) v
+    → Solves c t f v ↔ Solves d t (option_map (moved_fault c d) f) v
 
 -- the same tests detect a fault, give a line a bit, and detect a fault in a list of tests
 abbrev pub IsDetectedSame : List Statement → List Statement → Type 0
-IsDetectedSame c d = (t : Test) (f : Fault) → Detects c t f ↔ Detects d t (moved c d f)
+IsDetectedSame c d = (t : Test) (f : Fault) → Detects c t f ↔ Detects d t (moved_fault c d f)
 
 abbrev pub HasSameBits : List Statement → List Statement → Type 0
 HasSameBits c d = (t : Test) (l : Line) (b : Bool)
@@ -90,7 +90,7 @@ HasSameBits c d = (t : Test) (l : Line) (b : Bool)
 
 abbrev pub IsDetectedSameAt : List Statement → List Statement → Type 0
 IsDetectedSameAt c d = (tests : List Test) (f : Fault) (t : ℕ)
-    → DetectsAt c tests f t ↔ DetectsAt d tests (moved c d f) t
+    → DetectsAt c tests f t ↔ DetectsAt d tests (moved_fault c d f) t
 
 -- the statements in an order of signals: the outputs, and then what defines each signal
 abbrev pub in_order : List Statement → List ℕ → List Statement

@@ -31,8 +31,11 @@ pub taken_of_job : (job : Parts) (contents : Contents) (firsts : List (Option �
     (IsTaken : List ℕ → Type 0) → AreFirsts job.list.model job.circuit job.tests.tests firsts
     → IsTaken (whole_report job.list.model job.circuit job.classes firsts contents)
     → (text : List ℕ) × IsReportOfJob job contents text × IsTaken text
-taken_of_job job contents firsts IsTaken are taken =
-    (whole_report job.list.model job.circuit job.classes firsts contents, (firsts, are, refl), taken)
+taken_of_job job contents firsts IsTaken are taken = (
+  whole_report job.list.model job.circuit job.classes firsts contents,
+  (firsts, are, refl),
+  taken,
+)
 
 -- moves of an order text are all of workers of its number
 no_other_worker : (order : List ℕ) (workers index : ℕ) (moves : List ℕ)

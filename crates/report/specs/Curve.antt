@@ -8,7 +8,7 @@ use Rattle.fault_model.specs.declared.Model.{Model}
 use Rattle.patterns.specs.Least.{below}
 use Rattle.patterns.specs.Tests.{TestList, HasTests}
 use Rattle.block_sim.specs.Parts.{Parts}
-use Rattle.workers.specs.Verdict.{AreFirsts, detected}
+use Rattle.workers.specs.Verdict.{AreFirsts, detected_count}
 use Rattle.compaction.specs.Compaction.{finds, is_first}
 use Rattle.report.specs.declared.curve.CurvePoint.{CurvePoint}
 use Rattle.jobs.specs.declared.fault.SimFault.{SimFault}
@@ -34,7 +34,7 @@ found_by firsts t = count_by (is_found_by t) firsts
 
 -- the point of a test
 abbrev pub point_at : List (Option ℕ) → ℕ → CurvePoint
-point_at firsts t = record { test = t; detected = found_by firsts t }
+point_at firsts t = record { test = t; detected_count = found_by firsts t }
 
 -- the points of the tests that detect a fault first, in order, of so many tests
 abbrev pub curve : ℕ → List (Option ℕ) → List CurvePoint
@@ -48,7 +48,7 @@ point_line total point = decimal point.test ++ codes " " ++ decimal point.detect
 -- the text of points: a line each, and the coverage line
 abbrev pub curve_text : List CurvePoint → List (Option ℕ) → List ℕ
 curve_text points firsts = flat_map (point_line (length firsts)) points
-    ++ coverage_line (detected firsts) (length firsts)
+    ++ coverage_line (detected_count firsts) (length firsts)
 
 -- the bytes are the curve of a bench text and a test text under a model
 abbrev pub IsCurveOf : Model → List ℕ → List ℕ → List ℕ → Type 0

@@ -10,7 +10,7 @@ use Rattle.fault_model.specs.declared.Model.{Model}
 use Rattle.fault_model.specs.declared.Model.TheVariants.{StuckAt, Transition, TransitionPairs}
 use Rattle.fault_model.specs.Fault.{Fault, faults}
 use Rattle.fault_model.specs.Collapse.{Collapsed}
-use Rattle.workers.specs.Verdict.{detected}
+use Rattle.workers.specs.Verdict.{detected_count}
 use Rattle.report.specs.declared.contents.Contents.{Contents}
 use Rattle.report.specs.declared.contents.Lines.{Lines}
 use Rattle.report.specs.declared.contents.Lines.TheVariants.{Omitted, All, Undetected}
@@ -95,7 +95,7 @@ fault_lines lines m c firsts = flat_map (wanted_line lines c) (zip (faults m c) 
 -- the report: the fault lines that are asked for, and the coverage line
 abbrev pub report : Model → List Statement → List (Option ℕ) → Lines → List ℕ
 report m c firsts lines = fault_lines lines m c firsts
-    ++ coverage_line (detected firsts) (length firsts)
+    ++ coverage_line (detected_count firsts) (length firsts)
 
 -- the first test of the fault of a number
 abbrev pub first_at : List (Option ℕ) → ℕ → Option ℕ
@@ -108,7 +108,7 @@ class_firsts classes firsts = map (first_at firsts) classes.representative
 -- the coverage line of the classes, `D of C classes (P.PP%)`: D classes have a first test
 abbrev pub class_coverage_line : Collapsed → List (Option ℕ) → List ℕ
 class_coverage_line classes firsts =
-    coverage_of (codes " classes") (detected (class_firsts classes firsts))
+    coverage_of (codes " classes") (detected_count (class_firsts classes firsts))
     (length classes.representative)
 
 -- the report with all that is asked for: that of the classes is the last line
@@ -119,7 +119,7 @@ whole_report m c classes firsts contents = report m c firsts contents.lines
 -- the same of faults that are given as texts
 abbrev pub report_text : List (List ℕ) → List (Option ℕ) → Lines → List ℕ
 report_text names firsts lines = flat_map (wanted_name lines) (zip names firsts)
-    ++ coverage_line (detected firsts) (length firsts)
+    ++ coverage_line (detected_count firsts) (length firsts)
 
 -- a line of the listing: `FAULT class N`
 abbrev pub class_line : List Statement → Fault × ℕ → List ℕ

@@ -5,7 +5,7 @@ ghost use Rattle.std.specs.Prelude.{MatchOption, OnOk, length, map, zip};
 ghost use Rattle.std.specs.List.{flat_map};
 ghost use Rattle.output.specs.Output.{Writes};
 ghost use Rattle.workers.specs.declared.parts.PartVerdict.TheVariants.{First};
-ghost use Rattle.workers.specs.Verdict.{detected};
+ghost use Rattle.workers.specs.Verdict.{detected_count};
 ghost use Rattle.report.specs.Merging.{HasParts, IsOpenRefusal, run_of};
 ghost use Rattle.report.specs.PartReading.{texts_in};
 ghost use Rattle.report.specs.Report.{name_line, report_text, wanted_name};
@@ -61,7 +61,7 @@ fn add_first(firsts: &mut Vec<Option<u32>>, first: Option<u32>) -> Result<(), Al
 /// How many faults a test detects.
 fn count_detected(firsts: &[Option<u32>]) -> u32
     requires { length firsts.now < 2 ^ 32 }
-    ensures { result ≡ detected firsts.now }
+    ensures { result ≡ detected_count firsts.now }
 {
     firsts.iter().filter(|first| first.is_some()).count() as u32
 }

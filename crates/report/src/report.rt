@@ -7,7 +7,7 @@ ghost use Rattle.bench_net.specs.Scan.{cells};
 ghost use Rattle.fault_model.specs.Fault.{Fault, faults};
 ghost use Rattle.fault_model.specs.Collapse.{AreClassesOf};
 ghost use Rattle.output.specs.Output.{Writes};
-ghost use Rattle.workers.specs.Verdict.{detected};
+ghost use Rattle.workers.specs.Verdict.{detected_count};
 ghost use Rattle.report.specs.Report.{cell_text, class_line};
 ghost use Rattle.report.specs.Report.{defect_text, fault_text, fault_lines, first_text, report};
 ghost use Rattle.report.specs.Report.{listing};
@@ -189,7 +189,7 @@ fn is_detected(verdicts: &Verdicts, fault: u32) -> bool
 
 /// The number of classes whose faults are detected.
 fn detected_classes(classes: &Classes, verdicts: &Verdicts) -> u32
-    ensures { result ≡ detected (class_firsts classes.now verdicts.now.firsts) }
+    ensures { result ≡ detected_count (class_firsts classes.now verdicts.now.firsts) }
 {
     let mut found = 0;
     for class in 0..classes.count() {

@@ -8,7 +8,7 @@ use Rattle.fault_model.specs.declared.Model.TheVariants.{Transition}
 use Rattle.fault_model.specs.Fault.{faults}
 use Rattle.fault_model.specs.Solution.{Test}
 use Rattle.fault_model.specs.Collapse.{representatives}
-use Rattle.fault_model.specs.Detection.{DetectsAt, carried}
+use Rattle.fault_model.specs.Detection.{DetectsAt, name_on}
 use Rattle.fault_model.proofs.Public.{class_of, first_within, slow_at}
 use Rattle.vectors.proofs.Circuits.{c17, and_of_two, buffer, output_and_inverter, scan_cell}
 
@@ -60,16 +60,16 @@ c17_firsts : firsts c17 (rows (codes "11111" ∷ [])) ≡ replicate 34 None
 c17_firsts = refl
 
 -- what the four kinds of line carry
-carried_stem : carried c17 (line.Stem 5) ≡ Some (codes "G10")
+carried_stem : name_on c17 (line.Stem 5) ≡ Some (codes "G10")
 carried_stem = refl
 
-carried_pin : carried c17 (line.Pin 9 1) ≡ Some (codes "G16")
+carried_pin : name_on c17 (line.Pin 9 1) ≡ Some (codes "G16")
 carried_pin = refl
 
-carried_data : carried scan_cell (line.Data 0) ≡ Some (codes "y")
+carried_data : name_on scan_cell (line.Data 0) ≡ Some (codes "y")
 carried_data = refl
 
-carried_out : carried output_and_inverter (line.Out 0) ≡ Some (codes "a")
+carried_out : name_on output_and_inverter (line.Out 0) ≡ Some (codes "a")
 carried_out = refl
 
 -- a pin, slow to rise, at the relation: test 1 after test 0

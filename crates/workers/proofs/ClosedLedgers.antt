@@ -14,7 +14,7 @@ use Rattle.fault_ledger.specs.declared.Status.{Status}
 use Rattle.fault_ledger.specs.declared.Status.TheVariants as status_is
 use Rattle.fault_ledger.specs.declared.Finish.TheVariants as finish_is
 use Rattle.fault_ledger.specs.History.{History, ContinuesWithout, block_count, piece_at}
-use Rattle.fault_ledger.specs.History.{piece_count, claims, held, entry, states_of}
+use Rattle.fault_ledger.specs.History.{piece_count, claims, held_by, entry, states_of}
 use Rattle.fault_ledger.specs.Answer.{IsLegal}
 use Rattle.fault_ledger.specs.Settled.{status, status_from, finish, finish_from}
 use Rattle.fault_ledger.specs.Seats.{ClosedFace, Closes, Place, Sitter, HoldsAll, closed_face}
@@ -57,10 +57,10 @@ module _ (job : Parts) (over : Chosen) (p : Place) (P : Type 0) (S : Stops) (sea
   each_truly w lt = let x = seat_of w lt in
       truly_goes_on job over p.shape w h x.0.seen x.1 x.2.truly
 
-  free : P → (w : ℕ) → w < p.shape.workers → held w h ≡ None
+  free : P → (w : ℕ) → w < p.shape.workers → held_by w h ≡ None
   free sure w lt =
       let x = seat_of w lt in
-      held_goes_on w h x.0.seen x.1 ∙ subst (λ v. held v x.0.seen ≡ None) x.2.worker_is
+      held_goes_on w h x.0.seen x.1 ∙ subst (λ v. held_by v x.0.seen ≡ None) x.2.worker_is
       (x.2.rested sure).free
 
   -- with a gate that always lets pass all classes are settled

@@ -15,11 +15,12 @@ use Rattle.block_sim.specs.Parts.{Parts, BelongTogether, piece_count as job_piec
 use Rattle.fault_ledger.specs.declared.Event.{Event}
 use Rattle.fault_ledger.specs.declared.Shape.{Shape}
 use Rattle.fault_ledger.specs.History.{History, piece_count, block_count, class_of, block_of}
-use Rattle.fault_ledger.specs.History.{claims, held}
+use Rattle.fault_ledger.specs.History.{claims, held_by}
 use Rattle.fault_ledger.specs.Answer.{IsLegal, IsTrueTo, has_earlier_hit}
 use Rattle.fault_ledger.specs.Face.{Face, face}
 use Rattle.fault_ledger.proofs.Public.{claim_accepted, report_accepted, drop_accepted, legal_claims}
-use Rattle.workers.specs.Schedule.{IsTableOf, drops, is_drop, move, move_holding, moved, turns}
+use Rattle.workers.specs.Schedule.{IsTableOf, drops, is_drop, move, move_holding, after_moves}
+use Rattle.workers.specs.Schedule.{turns}
 use Rattle.workers.specs.Schedule.{schedule_history}
 use Rattle.workers.specs.Settling.{AreSettled, IsShapeOf}
 use Rattle.workers.proofs.SettledLedgers.{all_settled, none_open}
@@ -27,14 +28,14 @@ use Rattle.workers.proofs.ScheduleMoves.{move_legal, move_true}
 use Rattle.patterns.proofs.Public.{length-below, get_or-below}
 
 pub moved_append : (t : Table) (s : Shape) (h : History) (xs ys : List ℕ)
-    → moved t s h (xs ++ ys) ≡ moved t s (moved t s h xs) ys
+    → after_moves t s h (xs ++ ys) ≡ after_moves t s (after_moves t s h xs) ys
 moved_append t s h [] ys = refl
 moved_append t s h (x ∷ xs) ys = moved_append t s (move t s h x) xs ys
 
 -- what each of the moves keeps
 pub moved_legal : (job : Parts) (t : Table) (s : Shape) (h : History) (xs : List ℕ)
     → BelongTogether job → IsShapeOf job s → IsTableOf job t → IsLegal s h
-    → All (λ w. w < s.workers) xs → IsLegal s (moved t s h xs)
+    → All (λ w. w < s.workers) xs → IsLegal s (after_moves t s h xs)
 moved_legal job t s h [] b is each l a = l
 moved_legal job t s h (x ∷ xs) b is each l a =
     moved_legal job t s (move t s h x) xs b is each
@@ -42,7 +43,7 @@ moved_legal job t s h (x ∷ xs) b is each l a =
     (λ k d lt. a (suc k) d (omega (arith, lt)))
 
 pub moved_true : (t : Table) (s : Shape) (h : History) (xs : List ℕ) → IsTrueTo s t h
-    → IsTrueTo s t (moved t s h xs)
+    → IsTrueTo s t (after_moves t s h xs)
 moved_true t s h [] to = to
 moved_true t s h (x ∷ xs) to = moved_true t s (move t s h x) xs (move_true t s h x to)
 
@@ -64,7 +65,7 @@ is_one (Some p) = 1
 
 abbrev holders : History → ℕ → ℕ
 holders h zero = 0
-holders h (suc n) = is_one (held n h) + holders h n
+holders h (suc n) = is_one (held_by n h) + holders h n
 
 -- a sum of which one term is less by one
 total : (ℕ → ℕ) → ℕ → ℕ
@@ -98,41 +99,43 @@ total_less f g u (suc n) lt e one = go (cases_lt u n) (λ l. total_less f g u n 
         total_same f g n (λ k m. e k (λ r. omega (arith, m, r, q))) in
         omega (arith, own, rest)
 
-holders_total : (h : History) (n : ℕ) → holders h n ≡ total (λ w. is_one (held w h)) n
+holders_total : (h : History) (n : ℕ) → holders h n ≡ total (λ w. is_one (held_by w h)) n
 unfolding total
 holders_total h zero = refl
-holders_total h (suc n) = ap (λ k. is_one (held n h) + k) (holders_total h n)
+holders_total h (suc n) = ap (λ k. is_one (held_by n h) + k) (holders_total h n)
 
 -- a claim gives one worker more a piece
-claim_holders : (h : History) (u n : ℕ) → u < n → held u h ≡ None
+claim_holders : (h : History) (u n : ℕ) → u < n → held_by u h ≡ None
     → holders h n + 1 ≡ holders (Event.Claim u ∷ h) n
 claim_holders h u n lt free =
-    let others : (k : ℕ) → k ≢ u → is_one (held k h) ≡ is_one (held k (Event.Claim u ∷ h)) =
-    λ k d. ap is_one (sym (ap (λ b. cond b (Some (claims h)) (held k h)) (ne_eqb k u d))) in
-    let own : is_one (held u h) + 1 ≡ is_one (held u (Event.Claim u ∷ h)) =
+    let others : (k : ℕ) → k ≢ u → is_one (held_by k h) ≡ is_one (held_by k (Event.Claim u ∷ h)) =
+    λ k d. ap is_one (sym (ap (λ b. cond b (Some (claims h)) (held_by k h)) (ne_eqb k u d))) in
+    let own : is_one (held_by u h) + 1 ≡ is_one (held_by u (Event.Claim u ∷ h)) =
     ap (λ x. is_one x + 1) free ∙ ap is_one
-    (sym (ap (λ b. cond b (Some (claims h)) (held u h)) (eq-eqb u u refl))) in
+    (sym (ap (λ b. cond b (Some (claims h)) (held_by u h)) (eq-eqb u u refl))) in
     omega (
       arith,
       holders_total h n,
       holders_total (Event.Claim u ∷ h) n,
-      total_less (λ w. is_one (held w h)) (λ w. is_one (held w (Event.Claim u ∷ h))) u n lt others
+      total_less (λ w. is_one (held_by w h))
+          (λ w. is_one (held_by w (Event.Claim u ∷ h))) u n lt others
           own,
     )
 
-drop_holders : (h : History) (u n p : ℕ) → u < n → held u h ≡ Some p
+drop_holders : (h : History) (u n p : ℕ) → u < n → held_by u h ≡ Some p
     → holders (Event.Drop u ∷ h) n + 1 ≡ holders h n
 drop_holders h u n p lt here =
-    let others : (k : ℕ) → k ≢ u → is_one (held k (Event.Drop u ∷ h)) ≡ is_one (held k h) =
-    λ k d. ap is_one (ap (λ b. cond b None (held k h)) (ne_eqb k u d)) in
-    let own : is_one (held u (Event.Drop u ∷ h)) + 1 ≡ is_one (held u h) =
-    ap (λ x. is_one x + 1) (ap (λ b. cond b None (held u h)) (eq-eqb u u refl))
+    let others : (k : ℕ) → k ≢ u → is_one (held_by k (Event.Drop u ∷ h)) ≡ is_one (held_by k h) =
+    λ k d. ap is_one (ap (λ b. cond b None (held_by k h)) (ne_eqb k u d)) in
+    let own : is_one (held_by u (Event.Drop u ∷ h)) + 1 ≡ is_one (held_by u h) =
+    ap (λ x. is_one x + 1) (ap (λ b. cond b None (held_by u h)) (eq-eqb u u refl))
     ∙ ap is_one (sym here) in
     omega (
       arith,
       holders_total h n,
       holders_total (Event.Drop u ∷ h) n,
-      total_less (λ w. is_one (held w (Event.Drop u ∷ h))) (λ w. is_one (held w h)) u n lt others
+      total_less (λ w. is_one (held_by w (Event.Drop u ∷ h)))
+          (λ w. is_one (held_by w h)) u n lt others
           own,
     )
 
@@ -198,15 +201,15 @@ pub left_of : Face → ℕ
 left_of f = 2 * piece_count f.shape + count_by is_some f.holding - 2 * f.claimed
 
 count_holders : (h : History) (n : ℕ)
-    → count_by is_some (map (λ w. held w h) (below n)) ≡ holders h n
+    → count_by is_some (map (λ w. held_by w h) (below n)) ≡ holders h n
 count_holders h zero = refl
 count_holders h (suc n) =
-    ap (λ (l : List ℕ). count_by is_some (map (λ w. held w h) l)) (sym (below_more n))
+    ap (λ (l : List ℕ). count_by is_some (map (λ w. held_by w h) l)) (sym (below_more n))
     ∙ ap (λ (l : List (Option ℕ)). count_by is_some l)
-    (map-append (λ w. held w h) (below n) (n ∷ []))
-    ∙ sum_by-append (λ (o : Option ℕ). cond (is_some o) 1 0) (map (λ w. held w h) (below n))
-    (held n h ∷ [])
-    ∙ add (count_holders h n) (one (held n h))
+    (map-append (λ w. held_by w h) (below n) (n ∷ []))
+    ∙ sum_by-append (λ (o : Option ℕ). cond (is_some o) 1 0) (map (λ w. held_by w h) (below n))
+    (held_by n h ∷ [])
+    ∙ add (count_holders h n) (one (held_by n h))
   where
     one : (o : Option ℕ) → count_by is_some (o ∷ []) ≡ is_one o
     one None = refl
@@ -222,17 +225,17 @@ left_events s h l = omega (arith, count_holders h s.workers, events_held s h l, 
 
 -- a move that adds nothing is of a worker that has nothing left to do
 pub idle : (t : Table) (s : Shape) (h : History) (w : ℕ) → IsLegal s h → move t s h w ≡ h
-    → (claims h ≡ piece_count s) × (held w h ≡ None)
-idle t s h w l same = go (held w h) refl
+    → (claims h ≡ piece_count s) × (held_by w h ≡ None)
+idle t s h w l same = go (held_by w h) refl
   where
     longer : (e : Event) → e ∷ h ≡ h → ⊥
     longer e q = let n = ap length q in omega (arith, n)
 
-    go : (x : Option ℕ) → held w h ≡ x → (claims h ≡ piece_count s) × (held w h ≡ None)
+    go : (x : Option ℕ) → held_by w h ≡ x → (claims h ≡ piece_count s) × (held_by w h ≡ None)
     go None e = pick (cases_lt (claims h) (piece_count s))
       where
         pick : (claims h < piece_count s) ⊎ (piece_count s ≤ claims h) → (claims h ≡ piece_count s)
-            × (held w h ≡ None)
+            × (held_by w h ≡ None)
         pick (inl lt) = absurd (longer (Event.Claim w) (sym (ap (move_holding t s h w) e
             ∙ ap (λ b. cond b (Event.Claim w ∷ h) h) (lt-ltb (claims h) (piece_count s) lt))
             ∙ same))
@@ -252,11 +255,12 @@ idle t s h w l same = go (held w h) refl
 -- an event; where
 -- there was none, no worker that moved has anything left to do.
 abbrev pub Done : Table → Shape → History → List ℕ → Face → ℕ → Bool → Type 0
-Done t s h xs new skipped changed = (new ≡ face s (moved t s h xs)) × IsLegal s (moved t s h xs)
-    × (drops (moved t s h xs) ≡ drops h + skipped)
-    × (changed ≡ true → length h < length (moved t s h xs))
-    × (changed ≡ false → (moved t s h xs ≡ h)
-    × All (λ w. (claims h ≡ piece_count s) × (held w h ≡ None)) xs)
+Done t s h xs new skipped changed = (new ≡ face s (after_moves t s h xs))
+    × IsLegal s (after_moves t s h xs)
+    × (drops (after_moves t s h xs) ≡ drops h + skipped)
+    × (changed ≡ true → length h < length (after_moves t s h xs))
+    × (changed ≡ false → (after_moves t s h xs ≡ h)
+    × All (λ w. (claims h ≡ piece_count s) × (held_by w h ≡ None)) xs)
 
 pub done_none : (t : Table) (s : Shape) (h : History) (f : Face) → IsLegal s h → f ≡ face s h
     → Done t s h [] f 0 false
@@ -265,11 +269,11 @@ done_none t s h f l e = (
   l,
   omega arith,
   (λ q. absurd (cc)),
-  (λ q. (refl, All-nil (λ w. (claims h ≡ piece_count s) × (held w h ≡ None)))),
+  (λ q. (refl, All-nil (λ w. (claims h ≡ piece_count s) × (held_by w h ≡ None)))),
 )
 
 moved_last : (t : Table) (s : Shape) (h : History) (xs : List ℕ) (w : ℕ)
-    → moved t s h (xs ++ w ∷ []) ≡ move t s (moved t s h xs) w
+    → after_moves t s h (xs ++ w ∷ []) ≡ move t s (after_moves t s h xs) w
 moved_last t s h xs w = moved_append t s h xs (w ∷ [])
 
 abbrev dropped_by : Option Event → ℕ
@@ -278,18 +282,18 @@ dropped_by (Some e) = cond (is_drop e) 1 0
 
 module _ (t : Table) (s : Shape) (h : History) (xs : List ℕ) (w : ℕ) (f new : Face) (n : ℕ)
     (changed : Bool) (was : Done t s h xs f n changed)
-    (moves : new ≡ face s (move t s (moved t s h xs) w))
-    (legal : IsLegal s (move t s (moved t s h xs) w)) where
+    (moves : new ≡ face s (move t s (after_moves t s h xs) w))
+    (legal : IsLegal s (move t s (after_moves t s h xs) w)) where
   abbrev g : History
-  g = moved t s h xs
+  g = after_moves t s h xs
 
   -- a move that adds an event
-  pub done_more : (e : Event) (m : ℕ) → move t s (moved t s h xs) w ≡ e ∷ moved t s h xs
+  pub done_more : (e : Event) (m : ℕ) → move t s (after_moves t s h xs) w ≡ e ∷ after_moves t s h xs
       → m ≡ n + cond (is_drop e) 1 0 → Done t s h (xs ++ w ∷ []) new m true
   done_more e m adds count =
       subst (λ x. (new ≡ face s x) × IsLegal s x × (drops x ≡ drops h + m)
       × (true ≡ true → length h < length x)
-      × (true ≡ false → (x ≡ h) × All (λ w. (claims h ≡ piece_count s) × (held w h ≡ None)) (xs
+      × (true ≡ false → (x ≡ h) × All (λ w. (claims h ≡ piece_count s) × (held_by w h ≡ None)) (xs
       ++ w ∷ [])))
       (sym (moved_last t s h xs w))
       (moves, legal, ap (λ (x : History). drops x) adds ∙ sum, (λ q. longer), (λ q. absurd (cc)))
@@ -306,12 +310,13 @@ module _ (t : Table) (s : Shape) (h : History) (xs : List ℕ) (w : ℕ) (f new 
           omega (arith, a, b)
 
   -- a move that adds none
-  pub done_same : move t s (moved t s h xs) w ≡ moved t s h xs
+  pub done_same : move t s (after_moves t s h xs) w ≡ after_moves t s h xs
       → Done t s h (xs ++ w ∷ []) new n changed
   done_same adds =
       subst (λ x. (new ≡ face s x) × IsLegal s x × (drops x ≡ drops h + n) × (changed ≡ true
       → length h < length x)
-      × (changed ≡ false → (x ≡ h) × All (λ w. (claims h ≡ piece_count s) × (held w h ≡ None)) (xs
+      × (changed ≡ false → (x ≡ h) × All (λ w. (claims h ≡ piece_count s) × (held_by w h ≡ None))
+      (xs
       ++ w ∷ [])))
       (sym (moved_last t s h xs w ∙ adds)) (
         moves ∙ ap (face s) adds,
@@ -322,10 +327,10 @@ module _ (t : Table) (s : Shape) (h : History) (xs : List ℕ) (w : ℕ) (f new 
             let a = was.4 q in
             let i = idle t s g w was.1 adds in (
               a.0,
-              All-append (λ w. (claims h ≡ piece_count s) × (held w h ≡ None)) xs (w ∷ []) a.1
-                  (All-cons (λ w. (claims h ≡ piece_count s) × (held w h ≡ None)) w []
-                  (subst (λ x. (claims x ≡ piece_count s) × (held w x ≡ None)) a.0 i)
-                  (All-nil (λ w. (claims h ≡ piece_count s) × (held w h ≡ None)))),
+              All-append (λ w. (claims h ≡ piece_count s) × (held_by w h ≡ None)) xs (w ∷ []) a.1
+                  (All-cons (λ w. (claims h ≡ piece_count s) × (held_by w h ≡ None)) w []
+                  (subst (λ x. (claims x ≡ piece_count s) × (held_by w x ≡ None)) a.0 i)
+                  (All-nil (λ w. (claims h ≡ piece_count s) × (held_by w h ≡ None)))),
             ),
       )
 
@@ -351,8 +356,8 @@ turns_sum w (suc n) m = ap (turns w) (let q : suc n + m ≡ suc (n + m) = omega 
 
 -- where all pieces are claimed and no worker holds one, moves change nothing
 over_moved : (t : Table) (s : Shape) (h : History) (xs : List ℕ) → claims h ≡ piece_count s
-    → ((w : ℕ) → w < s.workers → held w h ≡ None) → All (λ w. w < s.workers) xs
-    → moved t s h xs ≡ h
+    → ((w : ℕ) → w < s.workers → held_by w h ≡ None) → All (λ w. w < s.workers) xs
+    → after_moves t s h xs ≡ h
 over_moved t s h [] all free a = refl
 over_moved t s h (x ∷ xs) all free a =
     let e : move t s h x ≡ h =
@@ -361,16 +366,16 @@ over_moved t s h (x ∷ xs) all free a =
       arith,
       all,
     ))) in
-    ap (λ g. moved t s g xs) e ∙ over_moved t s h xs all free
+    ap (λ g. after_moves t s g xs) e ∙ over_moved t s h xs all free
     (λ k d lt. a (suc k) d (omega (arith, lt)))
 
 -- After some turns: how many there were is at most the number of their events.
 pub record Turned (t : Table) (s : Shape) (h : History) (f : Face) (skipped : ℕ) : Type 0 where
   pub turns_done : ℕ
-  pub shows : f ≡ face s (moved t s h (turns s.workers turns_done))
-  pub legal : IsLegal s (moved t s h (turns s.workers turns_done))
-  pub dropped : drops (moved t s h (turns s.workers turns_done)) ≡ drops h + skipped
-  pub few : turns_done ≤ length (moved t s h (turns s.workers turns_done))
+  pub shows : f ≡ face s (after_moves t s h (turns s.workers turns_done))
+  pub legal : IsLegal s (after_moves t s h (turns s.workers turns_done))
+  pub dropped : drops (after_moves t s h (turns s.workers turns_done)) ≡ drops h + skipped
+  pub few : turns_done ≤ length (after_moves t s h (turns s.workers turns_done))
 
 pub turned_none : (t : Table) (s : Shape) (h : History) (f : Face) → IsLegal s h → f ≡ face s h
     → Turned t s h f 0
@@ -385,14 +390,15 @@ turned_none t s h f l e = record {
 module _ (t : Table) (s : Shape) (h : History) (f new : Face) (n m : ℕ)
     (was : Turned t s h f n) where
   abbrev h1 : History
-  h1 = moved t s h (turns s.workers was.turns_done)
+  h1 = after_moves t s h (turns s.workers was.turns_done)
 
-  next : moved t s h1 (below s.workers) ≡ moved t s h (turns s.workers (suc was.turns_done))
+  next : after_moves t s h1 (below s.workers)
+      ≡ after_moves t s h (turns s.workers (suc was.turns_done))
   next = sym (moved_append t s h (turns s.workers was.turns_done) (below s.workers))
-      ∙ ap (moved t s h) (turns_last s.workers was.turns_done)
+      ∙ ap (after_moves t s h) (turns_last s.workers was.turns_done)
 
   -- a turn more
-  pub turned_more : Done t s (moved t s h (turns s.workers was.turns_done))
+  pub turned_more : Done t s (after_moves t s h (turns s.workers was.turns_done))
       (below s.workers) new m true → Turned t s h new (n + m)
   turned_more turn = record {
     turns_done = suc was.turns_done;
@@ -406,11 +412,11 @@ module _ (t : Table) (s : Shape) (h : History) (f new : Face) (n m : ℕ)
 
   -- a turn in which nobody had anything to do is the last that counts
   pub turned_over : 0 < s.workers
-      → Done t s (moved t s h (turns s.workers was.turns_done)) (below s.workers) new m false
-      → (new ≡ face s (moved t s h (turns s.workers (2 * piece_count s))))
-      × IsLegal s (moved t s h (turns s.workers (2 * piece_count s)))
-      × (drops (moved t s h (turns s.workers (2 * piece_count s))) ≡ drops h + (n + m))
-      × AreSettled s (moved t s h (turns s.workers (2 * piece_count s))) s.classes
+      → Done t s (after_moves t s h (turns s.workers was.turns_done)) (below s.workers) new m false
+      → (new ≡ face s (after_moves t s h (turns s.workers (2 * piece_count s))))
+      × IsLegal s (after_moves t s h (turns s.workers (2 * piece_count s)))
+      × (drops (after_moves t s h (turns s.workers (2 * piece_count s))) ≡ drops h + (n + m))
+      × AreSettled s (after_moves t s h (turns s.workers (2 * piece_count s))) s.classes
   turned_over some turn =
       subst (λ x. (new ≡ face s x) × IsLegal s x × (drops x ≡ drops h + (n + m))
       × AreSettled s x s.classes) (sym whole) (
@@ -421,19 +427,19 @@ module _ (t : Table) (s : Shape) (h : History) (f new : Face) (n m : ℕ)
         all_settled s h1 was.legal (none_open s h1 was.legal all free),
       )
     where
-      stays : moved t s h1 (below s.workers) ≡ h1
+      stays : after_moves t s h1 (below s.workers) ≡ h1
       stays = (turn.4 refl).0
 
-      each : (w : ℕ) → w < s.workers → (claims h1 ≡ piece_count s) × (held w h1 ≡ None)
+      each : (w : ℕ) → w < s.workers → (claims h1 ≡ piece_count s) × (held_by w h1 ≡ None)
       each w lt =
           let l = length-below s.workers in
-          subst (λ k. (claims h1 ≡ piece_count s) × (held k h1 ≡ None))
+          subst (λ k. (claims h1 ≡ piece_count s) × (held_by k h1 ≡ None))
           (get_or-below s.workers w 0 lt) ((turn.4 refl).1 w 0 (omega (arith, l, lt)))
 
       all : claims h1 ≡ piece_count s
       all = (each 0 some).0
 
-      free : (w : ℕ) → w < s.workers → held w h1 ≡ None
+      free : (w : ℕ) → w < s.workers → held_by w h1 ≡ None
       free w lt = (each w lt).1
 
       rest : ℕ
@@ -442,10 +448,10 @@ module _ (t : Table) (s : Shape) (h : History) (f new : Face) (n m : ℕ)
       sum : 2 * piece_count s ≡ was.turns_done + rest
       sum = let a = was.few in let b = events_few s h1 was.legal in omega (arith, a, b)
 
-      whole : moved t s h (turns s.workers (2 * piece_count s)) ≡ h1
+      whole : after_moves t s h (turns s.workers (2 * piece_count s)) ≡ h1
       whole =
-          ap (λ k. moved t s h (turns s.workers k)) sum
-          ∙ ap (moved t s h) (turns_sum s.workers was.turns_done rest)
+          ap (λ k. after_moves t s h (turns s.workers k)) sum
+          ∙ ap (after_moves t s h) (turns_sum s.workers was.turns_done rest)
           ∙ moved_append t s h (turns s.workers was.turns_done) (turns s.workers rest)
           ∙ over_moved t s h1 (turns s.workers rest) all free (all_turns s.workers rest)
 
@@ -460,10 +466,10 @@ played_on job t s f new g xs m changed e is l shows played =
 
 -- all turns have been made, and every class is settled
 abbrev pub Over : Table → Shape → History → Face → ℕ → Type 0
-Over t s h new n = (new ≡ face s (moved t s h (turns s.workers (2 * piece_count s))))
-    × IsLegal s (moved t s h (turns s.workers (2 * piece_count s)))
-    × (drops (moved t s h (turns s.workers (2 * piece_count s))) ≡ drops h + n)
-    × AreSettled s (moved t s h (turns s.workers (2 * piece_count s))) s.classes
+Over t s h new n = (new ≡ face s (after_moves t s h (turns s.workers (2 * piece_count s))))
+    × IsLegal s (after_moves t s h (turns s.workers (2 * piece_count s)))
+    × (drops (after_moves t s h (turns s.workers (2 * piece_count s))) ≡ drops h + n)
+    × AreSettled s (after_moves t s h (turns s.workers (2 * piece_count s))) s.classes
 
 pub turned_on : (job : Parts) (t : Table) (s : Shape) (f new : Face) (g : History) (n : ℕ)
     → f.shape ≡ s → IsTableOf job t → IsLegal s g → f ≡ face s g
@@ -517,7 +523,8 @@ pub scheduled : (job : Parts) (t : Table) (s : Shape) (moves : List ℕ) (f seco
 scheduled job t s moves f second third n m changed is begins played turned =
     let a = played_on job t s f second [] moves n changed (ap (λ (x : Face). x.shape) begins) is tt
     begins played in
-    let b = turned_on job t s second third (moved t s [] moves) m (ap (λ (x : Face). x.shape) a.0)
+    let b = turned_on job t s second third (after_moves t s [] moves) m
+    (ap (λ (x : Face). x.shape) a.0)
     is a.1 a.0 turned in
     subst (λ (h : History). (third ≡ face s h) × IsLegal s h × (drops h ≡ n + m)
     × AreSettled s h s.classes)

@@ -19,7 +19,7 @@ use Rattle.fault_ledger.specs.declared.Refusal.{Refusal}
 use Rattle.fault_ledger.specs.declared.Refusal.TheVariants.{NoSuchWorker, NoEarlierHit}
 use Rattle.fault_ledger.specs.declared.Reply.{Reply}
 use Rattle.fault_ledger.specs.declared.Reply.TheVariants.{Claimed, Done, Refused}
-use Rattle.fault_ledger.specs.History.{History, piece_count, class_of, block_of, claims, held}
+use Rattle.fault_ledger.specs.History.{History, piece_count, class_of, block_of, claims, held_by}
 use Rattle.fault_ledger.specs.Answer.{IsLegal, Gives, IsTrueTo, added, after, answer, fits_size}
 use Rattle.fault_ledger.specs.Answer.{has_earlier_hit, claim_reply, drop_reply}
 use Rattle.fault_ledger.specs.Seats.{class_and_block}
@@ -30,10 +30,10 @@ use Rattle.workers.specs.Settling.{IsShapeOf}
 use Rattle.workers.proofs.TrueOutcomes.{class_count, true_fits}
 
 -- a claim is the move of a worker that holds nothing
-pub claim_moves : (t : Table) (s : Shape) (h : History) (w : ℕ) → w < s.workers → held w h ≡ None
+pub claim_moves : (t : Table) (s : Shape) (h : History) (w : ℕ) → w < s.workers → held_by w h ≡ None
     → after s h (call.Claim w) ≡ move t s h w
 claim_moves t s h w among free =
-    ap (λ x. added (call.Claim w) (cond x (claim_reply s h (held w h)) (Refused NoSuchWorker))
+    ap (λ x. added (call.Claim w) (cond x (claim_reply s h (held_by w h)) (Refused NoSuchWorker))
     ++ h) (lt-ltb w s.workers among)
     ∙ ap (λ x. added (call.Claim w) (claim_reply s h x) ++ h) free
     ∙ same (nat_lt (claims h) (piece_count s))
@@ -46,7 +46,8 @@ claim_moves t s h w among free =
     same false = refl
 
 -- a drop is the move of a worker whose piece stands behind a hit
-pub drop_moves : (t : Table) (s : Shape) (h : History) (w p : ℕ) → w < s.workers → held w h ≡ Some p
+pub drop_moves : (t : Table) (s : Shape) (h : History) (w p : ℕ) → w < s.workers
+    → held_by w h ≡ Some p
     → has_earlier_hit s h p ≡ true → after s h (call.Drop w) ≡ move t s h w
 drop_moves t s h w p among here hit =
     ap (λ r. added (call.Drop w) r ++ h) (drop_answer s h w p among here hit)
@@ -56,7 +57,7 @@ drop_moves t s h w p among here hit =
 
 -- and else a report of the table's outcome is
 pub report_moves : (t : Table) (s : Shape) (h : History) (w p : ℕ) → w < s.workers
-    → held w h ≡ Some p → has_earlier_hit s h p ≡ false
+    → held_by w h ≡ Some p → has_earlier_hit s h p ≡ false
     → fits_size (size_of s.tests (block_of s p)) (t (class_of s p) (block_of s p)) ≡ true
     → after s h (call.Report w (t (class_of s p) (block_of s p))) ≡ move t s h w
 report_moves t s h w p among here miss fits =
@@ -69,9 +70,9 @@ report_moves t s h w p among here miss fits =
 -- a move of one of the workers is legal
 pub move_legal : (job : Parts) (t : Table) (s : Shape) (h : History) (w : ℕ) → BelongTogether job
     → IsShapeOf job s → IsTableOf job t → IsLegal s h → w < s.workers → IsLegal s (move t s h w)
-move_legal job t s h w b is each l among = go (held w h) refl
+move_legal job t s h w b is each l among = go (held_by w h) refl
   where
-    go : (x : Option ℕ) → held w h ≡ x → IsLegal s (move t s h w)
+    go : (x : Option ℕ) → held_by w h ≡ x → IsLegal s (move t s h w)
     go None e = subst (IsLegal s) (claim_moves t s h w among e) (legal_after s h (call.Claim w) l)
     go (Some p) e = pick (has_earlier_hit s h p) refl
       where
@@ -97,9 +98,9 @@ move_legal job t s h w b is each l among = go (held w h) refl
 -- and true to the table
 pub move_true : (t : Table) (s : Shape) (h : History) (w : ℕ) → IsTrueTo s t h
     → IsTrueTo s t (move t s h w)
-move_true t s h w to = go (held w h) refl
+move_true t s h w to = go (held_by w h) refl
   where
-    go : (x : Option ℕ) → held w h ≡ x → IsTrueTo s t (move t s h w)
+    go : (x : Option ℕ) → held_by w h ≡ x → IsTrueTo s t (move t s h w)
     go None e = subst (IsTrueTo s t) (sym (ap (move_holding t s h w) e))
         (pick (nat_lt (claims h) (piece_count s)))
       where
@@ -128,10 +129,10 @@ piece_of s (Some p) class block e = (
 
 -- it is one of the job's
 pub told_range : (job : Parts) (s : Shape) (h : History) (w class block : ℕ) → IsShapeOf job s
-    → IsLegal s h → Some (class, block) ≡ option_map {U = ℕ × ℕ} (class_and_block s) (held w h)
+    → IsLegal s h → Some (class, block) ≡ option_map {U = ℕ × ℕ} (class_and_block s) (held_by w h)
     → (class < length job.classes.representative) × (block < blocks (length job.tests.tests))
 told_range job s h w class block is l e =
-    let p = piece_of s (held w h) class block e in
+    let p = piece_of s (held_by w h) class block e in
     let lt = held_piece s w p.0 h l p.1 in (
       subst (λ n. n < length job.classes.representative) (sym p.2)
           (subst (λ n. class_of s p.0 < n) is.classes (mod-lt p.0 (some_class s p.0 lt))),
@@ -140,7 +141,8 @@ told_range job s h w class block is l e =
     )
 
 -- a drop that was refused found no hit
-drop_missed : (s : Shape) (h : History) (w p : ℕ) (r : Refusal) → w < s.workers → held w h ≡ Some p
+drop_missed : (s : Shape) (h : History) (w p : ℕ) (r : Refusal) → w < s.workers
+    → held_by w h ≡ Some p
     → Refused r ≡ answer s h (call.Drop w) → has_earlier_hit s h p ≡ false
 drop_missed s h w p r among here e = go (has_earlier_hit s h p) refl
   where
@@ -152,12 +154,12 @@ drop_missed s h w p r among here e = go (has_earlier_hit s h p) refl
 pub reported_moves : (job : Parts) (t : Table) (s : Shape) (h : History) (w class block : ℕ)
     (o : Outcome) (r : Refusal) → BelongTogether job → IsShapeOf job s → IsTableOf job t
     → IsLegal s h → w < s.workers
-    → Some (class, block) ≡ option_map {U = ℕ × ℕ} (class_and_block s) (held w h)
+    → Some (class, block) ≡ option_map {U = ℕ × ℕ} (class_and_block s) (held_by w h)
     → Refused r ≡ answer s h (call.Drop w)
     → IsTrueOutcome job.list.model job.circuit job.tests.tests class block o
     → after s h (call.Report w o) ≡ move t s h w
 reported_moves job t s h w class block o r b is each l among e refused truth =
-    let p = piece_of s (held w h) class block e in
+    let p = piece_of s (held_by w h) class block e in
     let range = told_range job s h w class block is l e in
     let own = each class block (subst (λ n. class < n) (class_count job b) range.0) range.1 in
     let same : o ≡ t class block = one_outcome job.list.model job.circuit job.tests.tests class
@@ -173,12 +175,13 @@ reported_moves job t s h w class block o r b is each l among e refused truth =
 
 -- the event that a move adds, by the reply to its call
 pub claim_event : (t : Table) (s : Shape) (h : History) (w : ℕ) (r : Reply) → w < s.workers
-    → held w h ≡ None → r ≡ answer s h (call.Claim w)
+    → held_by w h ≡ None → r ≡ answer s h (call.Claim w)
     → move t s h w ≡ added (call.Claim w) r ++ h
 claim_event t s h w r among free e = sym (claim_moves t s h w among free)
     ∙ ap (λ x. added (call.Claim w) x ++ h) (sym e)
 
-pub drop_event : (t : Table) (s : Shape) (h : History) (w p : ℕ) → w < s.workers → held w h ≡ Some p
+pub drop_event : (t : Table) (s : Shape) (h : History) (w p : ℕ) → w < s.workers
+    → held_by w h ≡ Some p
     → Done ≡ answer s h (call.Drop w) → move t s h w ≡ Event.Drop w ∷ h
 drop_event t s h w p among here e = go (has_earlier_hit s h p) refl
   where
@@ -187,7 +190,7 @@ drop_event t s h w p among here e = go (has_earlier_hit s h p) refl
         ∙ ap (λ x. added (call.Drop w) x ++ h) (sym e)
     go false q =
         let refused : answer s h (call.Drop w) ≡ Refused NoEarlierHit =
-        ap (λ x. cond x (drop_reply s h (held w h)) (Refused NoSuchWorker))
+        ap (λ x. cond x (drop_reply s h (held_by w h)) (Refused NoSuchWorker))
         (lt-ltb w s.workers among) ∙ ap (drop_reply s h) here
         ∙ ap (λ x. cond x Done (Refused NoEarlierHit)) q in
         let bad = e ∙ refused in

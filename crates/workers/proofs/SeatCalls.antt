@@ -15,7 +15,7 @@ use Rattle.fault_ledger.specs.declared.Refusal.{Refusal}
 use Rattle.fault_ledger.specs.declared.Refusal.TheVariants.{Holding, NothingHeld, NoEarlierHit}
 use Rattle.fault_ledger.specs.declared.Call.TheVariants as call
 use Rattle.fault_ledger.specs.History.{History, ContinuesWithout, NoneOf, block_count, piece_at}
-use Rattle.fault_ledger.specs.History.{piece_count, class_of, block_of, claims, held}
+use Rattle.fault_ledger.specs.History.{piece_count, class_of, block_of, claims, held_by}
 use Rattle.fault_ledger.specs.Answer.{IsLegal, fits_size, has_earlier_hit}
 use Rattle.fault_ledger.specs.Seats.{Place, Sitter, IsSitter, Sees, Makes, Stays, FindsNoHit}
 use Rattle.fault_ledger.proofs.Public.{claims_past, held_goes_on, claim_accepted, claim_answer}
@@ -51,7 +51,7 @@ truly_append job over s w [] newer earlier t u = t
 truly_append job over s w (Event.Claim v ∷ later) newer earlier t u =
     truly_append job over s w later newer earlier t u
 truly_append job over s w (Event.Report v o ∷ later) newer earlier t u = (
-  (λ e. subst (λ h. GivesTrue job over s (held w h) o × WasNoDrop s w h)
+  (λ e. subst (λ h. GivesTrue job over s (held_by w h) o × WasNoDrop s w h)
       (sym (append_assoc later newer earlier)) (u.0 e)),
   truly_append job over s w later newer earlier t u.1,
 )
@@ -134,7 +134,7 @@ makes_works job over a b e r m t = record {
 -- what a seat that was given a piece holds, and that it was given one piece more
 pub given : (a b : Sitter) (class block : ℕ)
     → Makes a (Event.Claim a.worker) (Claimed (claim_is.Piece class block)) b
-    → (held b.worker b.seen ≡ Some (piece_at a.place.shape class block))
+    → (held_by b.worker b.seen ≡ Some (piece_at a.place.shape class block))
     × (class < a.place.shape.classes) × (block < block_count a.place.shape)
     × (claims a.seen < claims b.seen)
     × (claims b.seen ≤ piece_count a.place.shape)
@@ -150,12 +150,12 @@ given a b class block m =
     let place : piece_at s class block ≡ claims h = ap (λ k. piece_at s k block) c
     ∙ ap (piece_at s (class_of s (claims h))) d ∙ at-of s (claims h) in
     let same : b.seen ≡ Event.Claim a.worker ∷ h = ap (λ (y : Sitter). y.seen) m.seat in
-    let own : held a.worker (Event.Claim a.worker ∷ h) ≡ Some (claims h) =
-    ap (λ t. cond t (Some (claims h)) (held a.worker h)) (eq-eqb a.worker a.worker refl) in
+    let own : held_by a.worker (Event.Claim a.worker ∷ h) ≡ Some (claims h) =
+    ap (λ t. cond t (Some (claims h)) (held_by a.worker h)) (eq-eqb a.worker a.worker refl) in
     let past : claims a.seen ≤ claims h = subst (λ l. claims a.seen ≤ claims l) (sym m.newer.1)
     (claims_past m.newer.0 a.seen) in
     let count : claims b.seen ≡ claims h + 1 = ap claims same in (
-      ap (λ (y : Sitter). held y.worker y.seen) m.seat ∙ own ∙ ap Some (sym place),
+      ap (λ (y : Sitter). held_by y.worker y.seen) m.seat ∙ own ∙ ap Some (sym place),
       subst (λ k. k < s.classes) (sym c) (mod-lt (claims h) (some_class s (claims h) x.2)),
       subst (λ k. k < block_count s) (sym d) (block_of-below s (claims h) x.2),
       omega arith,
@@ -165,20 +165,20 @@ given a b class block m =
 -- a drop that was made
 pub dropped : (job : Parts) (over : Chosen) (a b : Sitter) (r : Reply)
     → Makes a (Event.Drop a.worker) r b → WorksOver job over a b × (b.told ≡ a.told)
-    × (held b.worker b.seen ≡ None)
+    × (held_by b.worker b.seen ≡ None)
 dropped job over a b r m = (
   makes_works job over a b (Event.Drop a.worker) r m tt,
   ap (λ (x : Sitter). x.told) m.seat,
-  ap (λ (x : Sitter). held x.worker x.seen) m.seat
-      ∙ ap (λ t. cond t None (held a.worker m.before)) (eq-eqb a.worker a.worker refl),
+  ap (λ (x : Sitter). held_by x.worker x.seen) m.seat
+      ∙ ap (λ t. cond t None (held_by a.worker m.before)) (eq-eqb a.worker a.worker refl),
 )
 
 -- a report of the true outcome that was made, of a piece that could not be dropped
 pub reported : (job : Parts) (over : Chosen) (a b : Sitter) (o : Outcome) (r : Reply)
     → Makes a (Event.Report a.worker o) r b
-    → GivesTrue job over a.place.shape (held a.worker a.seen) o
+    → GivesTrue job over a.place.shape (held_by a.worker a.seen) o
     → WasNoDrop a.place.shape a.worker a.seen → WorksOver job over a b × (b.told ≡ a.told)
-    × (held b.worker b.seen ≡ None)
+    × (held_by b.worker b.seen ≡ None)
 reported job over a b o r m t n = (
   makes_works job over a b (Event.Report a.worker o) r m (
     (λ e. (
@@ -189,12 +189,12 @@ reported job over a b o r m t n = (
     tt,
   ),
   ap (λ (x : Sitter). x.told) m.seat,
-  ap (λ (x : Sitter). held x.worker x.seen) m.seat
-      ∙ ap (λ t. cond t None (held a.worker m.before)) (eq-eqb a.worker a.worker refl),
+  ap (λ (x : Sitter). held_by x.worker x.seen) m.seat
+      ∙ ap (λ t. cond t None (held_by a.worker m.before)) (eq-eqb a.worker a.worker refl),
 )
 
 -- a seat that holds a piece is not told that it holds none
-pub holds_some : (a b : Sitter) (p : ℕ) → IsSitter a → held a.worker a.seen ≡ Some p
+pub holds_some : (a b : Sitter) (p : ℕ) → IsSitter a → held_by a.worker a.seen ≡ Some p
     → Stays a (call.Drop a.worker) (Refused NothingHeld) b → ⊥
 holds_some a b p i e s = go (has_earlier_hit a.place.shape a.seen p) (s.replied
     ∙ drop_at a a.seen (Some p) i e)
@@ -204,7 +204,7 @@ holds_some a b p i e s = go (has_earlier_hit a.place.shape a.seen p) (s.replied
     go false q = absurd (cc)
 
 -- a seat that holds none is not told that it holds a piece
-pub holds_none : (a b : Sitter) → IsSitter a → held a.worker a.seen ≡ None
+pub holds_none : (a b : Sitter) → IsSitter a → held_by a.worker a.seen ≡ None
     → Stays a (call.Claim a.worker) (Refused Holding) b → ⊥
 holds_none a b i e s = go (nat_lt (claims a.seen) (piece_count a.place.shape)) (s.replied
     ∙ claim_at a a.seen None i e)
@@ -230,7 +230,7 @@ true_of_piece job over s class block o x lt e t =
 -- a true outcome of the piece that a seat holds is not refused
 pub report_taken : (job : Parts) (over : Chosen) (a b : Sitter) (class block : ℕ) (o : Outcome)
     (r : _) → IsSitter a → IsShapeOver job over a.place.shape → class < a.place.shape.classes
-    → held a.worker a.seen ≡ Some (piece_at a.place.shape class block)
+    → held_by a.worker a.seen ≡ Some (piece_at a.place.shape class block)
     → IsTrueOutcome job.list.model job.circuit job.tests.tests (over.class_at class) block o
     → Stays a (call.Report a.worker o) (Refused r) b → ⊥
 report_taken job over a b class block o r i is lt e t s =
@@ -246,15 +246,15 @@ report_taken job over a b class block o r i is lt e t s =
 module _ (job : Parts) (over : Chosen) (a b : Sitter) (p : Place) (class block : ℕ)
     (at : a.place ≡ p) (i : IsSitter a) (is : IsShapeOver job over p.shape)
     (lt : class < p.shape.classes)
-    (holding : held a.worker a.seen ≡ Some (piece_at p.shape class block)) where
+    (holding : held_by a.worker a.seen ≡ Some (piece_at p.shape class block)) where
   own : IsShapeOver job over a.place.shape
   own = subst (λ (q : Place). IsShapeOver job over q.shape) (sym at) is
 
   own_class : class < a.place.shape.classes
   own_class = subst (λ (q : Place). class < q.shape.classes) (sym at) lt
 
-  own_piece : held a.worker a.seen ≡ Some (piece_at a.place.shape class block)
-  own_piece = subst (λ (q : Place). held a.worker a.seen ≡ Some (piece_at q.shape class block))
+  own_piece : held_by a.worker a.seen ≡ Some (piece_at a.place.shape class block)
+  own_piece = subst (λ (q : Place). held_by a.worker a.seen ≡ Some (piece_at q.shape class block))
       (sym at) holding
 
   -- a drop of a seat that holds a piece, where it was refused
@@ -278,8 +278,8 @@ module _ (job : Parts) (over : Chosen) (a b : Sitter) (p : Place) (class block :
     here : b.place ≡ a.place
     here = ap (λ (x : Sitter). x.place) sees.seat
 
-    still : held b.worker b.seen ≡ Some (piece_at b.place.shape class block)
-    still = held_sees a b sees ∙ subst (λ (q : Place). held a.worker a.seen
+    still : held_by b.worker b.seen ≡ Some (piece_at b.place.shape class block)
+    still = held_sees a b sees ∙ subst (λ (q : Place). held_by a.worker a.seen
         ≡ Some (piece_at q.shape class block)) (sym here) own_piece
 
     own_class_b : class < b.place.shape.classes
@@ -297,7 +297,7 @@ module _ (job : Parts) (over : Chosen) (a b : Sitter) (p : Place) (class block :
     then_reported r m =
         works_twice job over a b d (sees_works job over a b a.told sees)
         (reported job over b d o r m (true_of_piece job over b.place.shape class block o
-        (held b.worker b.seen) own_class_b still true) no_drop).0
+        (held_by b.worker b.seen) own_class_b still true) no_drop).0
 
     pub then_taken : (r : Refusal) → Stays b (call.Report b.worker o) (Refused r) d → ⊥
     then_taken r s =
@@ -341,11 +341,11 @@ fewer job over a b d p class block at m x =
 -- what finish_piece asks after a claim
 pub then_held : (a b : Sitter) (p : Place) (class block : ℕ) → a.place ≡ p
     → Makes a (Event.Claim a.worker) (Claimed (claim_is.Piece class block)) b
-    → (held b.worker b.seen ≡ Some (piece_at p.shape class block)) × (class < p.shape.classes)
+    → (held_by b.worker b.seen ≡ Some (piece_at p.shape class block)) × (class < p.shape.classes)
     × (block < block_count p.shape)
 then_held a b p class block at m =
     let g = given a b class block m in
-    subst (λ (q : Place). (held b.worker b.seen ≡ Some (piece_at q.shape class block))
+    subst (λ (q : Place). (held_by b.worker b.seen ≡ Some (piece_at q.shape class block))
     × (class < q.shape.classes) × (block < block_count q.shape)) at (g.0, g.1, g.2)
 
 -- a worker that its gate stopped for a piece that it has just claimed
@@ -357,7 +357,7 @@ stopped_holding stops a b class block m s =
     let g = given a b class block m in
     subst (λ (x : Sitter). IsStopped x.place.shape stops x.worker b.seen) (sym m.seat) (
       piece_at a.place.shape class block,
-      ap (λ (x : Sitter). held x.worker b.seen) (sym m.seat) ∙ g.0,
+      ap (λ (x : Sitter). held_by x.worker b.seen) (sym m.seat) ∙ g.0,
       subst (λ k. stops a.worker k (block_of a.place.shape (piece_at a.place.shape class block)))
           (sym (class_of-at a.place.shape class block g.1))
           (subst (λ k. stops a.worker class k) (sym (block_of-at a.place.shape class block g.1)) s),

@@ -14,7 +14,7 @@ use Rattle.fault_ledger.specs.declared.Status.{Status}
 use Rattle.fault_ledger.specs.declared.Status.TheVariants as status_is
 use Rattle.fault_ledger.specs.declared.Finish.TheVariants as finish_is
 use Rattle.fault_ledger.specs.History.{History, ContinuesWithout, worker_of, block_count, piece_at}
-use Rattle.fault_ledger.specs.History.{piece_count, claims, held, holds, entry, state_of}
+use Rattle.fault_ledger.specs.History.{piece_count, claims, held_by, holds, entry, state_of}
 use Rattle.fault_ledger.specs.Answer.{IsLegal}
 use Rattle.fault_ledger.specs.Settled.{status, finish, finish_from, IsSettledAt}
 use Rattle.fault_ledger.proofs.Public.{held-holds, claim_accepted, piece_at-below, ClearBelow}
@@ -24,55 +24,55 @@ use Rattle.workers.specs.Settling.{AreSettled}
 
 -- an open piece that was claimed is held by one of the workers
 pub open_held : (s : Shape) (p : ℕ) (h : History) → IsLegal s h → p < claims h
-    → entry p h ≡ state.Open → (w : ℕ) × (w < s.workers) × (held w h ≡ Some p)
+    → entry p h ≡ state.Open → (w : ℕ) × (w < s.workers) × (held_by w h ≡ Some p)
 open_held s p [] l c e = absurd (omega arith)
 open_held s p (Event.Claim u ∷ h) l c e =
     go (λ lt. open_held s p h l.1 lt e) (cases_lt p (claims h))
   where
-    a : (u < s.workers) × (held u h ≡ None) × (claims h < piece_count s)
+    a : (u < s.workers) × (held_by u h ≡ None) × (claims h < piece_count s)
     a = claim_accepted s h u l.0
 
-    go : (p < claims h → (w : ℕ) × (w < s.workers) × (held w h ≡ Some p))
+    go : (p < claims h → (w : ℕ) × (w < s.workers) × (held_by w h ≡ Some p))
         → (p < claims h) ⊎ (claims h ≤ p) → (w : ℕ) × (w < s.workers)
-        × (held w (Event.Claim u ∷ h) ≡ Some p)
+        × (held_by w (Event.Claim u ∷ h) ≡ Some p)
     go before (inl lt) =
         let i = before lt in
-        let apart : eqb i.0 u ≡ false = ne_eqb i.0 u (λ q. let x : held u h ≡ Some p =
-        subst (λ w. held w h ≡ Some p) q i.2 in let y = a.1 in absurd (cc)) in
-        (i.0, i.1, ap (λ b. cond b (Some (claims h)) (held i.0 h)) apart ∙ i.2)
+        let apart : eqb i.0 u ≡ false = ne_eqb i.0 u (λ q. let x : held_by u h ≡ Some p =
+        subst (λ w. held_by w h ≡ Some p) q i.2 in let y = a.1 in absurd (cc)) in
+        (i.0, i.1, ap (λ b. cond b (Some (claims h)) (held_by i.0 h)) apart ∙ i.2)
     go before (inr le) =
         let q : claims h ≡ p = omega arith in
-        (u, a.0, ap (λ b. cond b (Some (claims h)) (held u h)) (eq-eqb u u refl) ∙ ap Some q)
+        (u, a.0, ap (λ b. cond b (Some (claims h)) (held_by u h)) (eq-eqb u u refl) ∙ ap Some q)
 open_held s p (Event.Report u o ∷ h) l c e = go (λ q. open_held s p h l.1 c q) (holds u p h) refl e
   where
     reported : (o : Outcome) → state_of o ≡ state.Open → ⊥
     reported outcome.Clear q = absurd (cc)
     reported (outcome.Hit k) q = absurd (cc)
 
-    go : (entry p h ≡ state.Open → (w : ℕ) × (w < s.workers) × (held w h ≡ Some p)) → (b : Bool)
+    go : (entry p h ≡ state.Open → (w : ℕ) × (w < s.workers) × (held_by w h ≡ Some p)) → (b : Bool)
         → holds u p h ≡ b → cond b (state_of o) (entry p h) ≡ state.Open → (w : ℕ) × (w < s.workers)
-        × (held w (Event.Report u o ∷ h) ≡ Some p)
+        × (held_by w (Event.Report u o ∷ h) ≡ Some p)
     go before true x q = absurd (reported o q)
     go before false x q =
         let i = before q in
-        let apart : eqb i.0 u ≡ false = ne_eqb i.0 u (λ r. let y : held u h ≡ Some p =
-        subst (λ w. held w h ≡ Some p) r i.2 in let z = held-holds u p h y in absurd (cc)) in
-        (i.0, i.1, ap (λ b. cond b None (held i.0 h)) apart ∙ i.2)
+        let apart : eqb i.0 u ≡ false = ne_eqb i.0 u (λ r. let y : held_by u h ≡ Some p =
+        subst (λ w. held_by w h ≡ Some p) r i.2 in let z = held-holds u p h y in absurd (cc)) in
+        (i.0, i.1, ap (λ b. cond b None (held_by i.0 h)) apart ∙ i.2)
 open_held s p (Event.Drop u ∷ h) l c e = go (λ q. open_held s p h l.1 c q) (holds u p h) refl e
   where
-    go : (entry p h ≡ state.Open → (w : ℕ) × (w < s.workers) × (held w h ≡ Some p)) → (b : Bool)
+    go : (entry p h ≡ state.Open → (w : ℕ) × (w < s.workers) × (held_by w h ≡ Some p)) → (b : Bool)
         → holds u p h ≡ b → cond b state.Skipped (entry p h) ≡ state.Open
-        → (w : ℕ) × (w < s.workers) × (held w (Event.Drop u ∷ h) ≡ Some p)
+        → (w : ℕ) × (w < s.workers) × (held_by w (Event.Drop u ∷ h) ≡ Some p)
     go before true x q = absurd (cc)
     go before false x q =
         let i = before q in
-        let apart : eqb i.0 u ≡ false = ne_eqb i.0 u (λ r. let y : held u h ≡ Some p =
-        subst (λ w. held w h ≡ Some p) r i.2 in let z = held-holds u p h y in absurd (cc)) in
-        (i.0, i.1, ap (λ b. cond b None (held i.0 h)) apart ∙ i.2)
+        let apart : eqb i.0 u ≡ false = ne_eqb i.0 u (λ r. let y : held_by u h ≡ Some p =
+        subst (λ w. held_by w h ≡ Some p) r i.2 in let z = held-holds u p h y in absurd (cc)) in
+        (i.0, i.1, ap (λ b. cond b None (held_by i.0 h)) apart ∙ i.2)
 
 -- where all pieces are claimed and no worker holds one, none is open
 pub none_open : (s : Shape) (h : History) → IsLegal s h → claims h ≡ piece_count s
-    → ((w : ℕ) → w < s.workers → held w h ≡ None) → (p : ℕ) → p < piece_count s
+    → ((w : ℕ) → w < s.workers → held_by w h ≡ None) → (p : ℕ) → p < piece_count s
     → entry p h ≢ state.Open
 none_open s h l all free p lt e =
     let i = open_held s p h l (omega arith) e in

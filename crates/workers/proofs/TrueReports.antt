@@ -9,7 +9,7 @@ use Rattle.block_sim.specs.Parts.{Parts, BelongTogether}
 use Rattle.block_sim.proofs.Public.{one_outcome, true_table}
 use Rattle.fault_ledger.specs.declared.Event.{Event}
 use Rattle.fault_ledger.specs.declared.Shape.{Shape}
-use Rattle.fault_ledger.specs.History.{History, ContinuesWithout, class_of, block_of, held}
+use Rattle.fault_ledger.specs.History.{History, ContinuesWithout, class_of, block_of, held_by}
 use Rattle.fault_ledger.specs.Answer.{IsLegal, Gives, IsTrueTo}
 use Rattle.fault_ledger.proofs.Public.{report_accepted, held_piece, block_of-below, some_class}
 use Rattle.workers.specs.Schedule.{IsTableOf}
@@ -23,7 +23,8 @@ use Rattle.workers.proofs.SeatCalls.{truly_append, truly_none}
 -- every report gives the true outcome
 abbrev pub AllTrue : Parts → Chosen → Shape → History → Type 0
 AllTrue job over s [] = Unit {0}
-AllTrue job over s (Event.Report u o ∷ h) = GivesTrue job over s (held u h) o × AllTrue job over s h
+AllTrue job over s (Event.Report u o ∷ h) = GivesTrue job over s (held_by u h) o
+    × AllTrue job over s h
 AllTrue job over s (Event.Claim u ∷ h) = AllTrue job over s h
 AllTrue job over s (Event.Drop u ∷ h) = AllTrue job over s h
 
@@ -35,7 +36,7 @@ all_true job over s (Event.Claim u ∷ h) l t = all_true job over s h l.1 t
 all_true job over s (Event.Drop u ∷ h) l t = all_true job over s h l.1 t
 all_true job over s (Event.Report u o ∷ h) l t =
     let a = report_accepted s h u o l.0 in (
-      subst (λ x. GivesTrue job over s (held u x) o) (append-nil h) (((t u a.1).0 refl).0),
+      subst (λ x. GivesTrue job over s (held_by u x) o) (append-nil h) (((t u a.1).0 refl).0),
       all_true job over s h l.1 (λ w lt. (t w lt).1),
     )
 
@@ -59,11 +60,11 @@ true_to job over s table (Event.Claim u ∷ h) b among is each l t =
 true_to job over s table (Event.Drop u ∷ h) b among is each l t =
     true_to job over s table h b among is each l.1 t
 true_to job over s table (Event.Report u o ∷ h) b among is each l t = (
-  go (held u h) refl t.0,
+  go (held_by u h) refl t.0,
   true_to job over s table h b among is each l.1 t.1,
 )
   where
-    go : (x : Option ℕ) → held u h ≡ x → GivesTrue job over s x o
+    go : (x : Option ℕ) → held_by u h ≡ x → GivesTrue job over s x o
         → Gives s (table_over over table) x o
     go None e g = absurd g
     go (Some p) e g =

@@ -7,7 +7,7 @@ use Rattle.block_sim.specs.Parts.{Parts}
 use Rattle.fault_ledger.specs.declared.Shape.{Shape}
 use Rattle.fault_ledger.specs.declared.Event.{Event}
 use Rattle.fault_ledger.specs.declared.Event.TheVariants.{Claim, Report, Drop}
-use Rattle.fault_ledger.specs.History.{History, claims, held, piece_count, class_of, block_of}
+use Rattle.fault_ledger.specs.History.{History, claims, held_by, piece_count, class_of, block_of}
 use Rattle.fault_ledger.specs.declared.Finish.TheVariants.{Finished}
 use Rattle.fault_ledger.specs.Answer.{has_earlier_hit}
 use Rattle.fault_ledger.specs.Settled.{finish}
@@ -23,12 +23,12 @@ move_holding table shape h w (Some piece) =
     else Report w (table (class_of shape piece) (block_of shape piece)) ∷ h
 
 abbrev pub move : Table → Shape → History → ℕ → History
-move table shape h w = move_holding table shape h w (held w h)
+move table shape h w = move_holding table shape h w (held_by w h)
 
 -- the history after these moves
-abbrev pub moved : Table → Shape → History → List ℕ → History
-moved table shape h [] = h
-moved table shape h (w ∷ moves) = moved table shape (move table shape h w) moves
+abbrev pub after_moves : Table → Shape → History → List ℕ → History
+after_moves table shape h [] = h
+after_moves table shape h (w ∷ moves) = after_moves table shape (move table shape h w) moves
 
 -- all workers in turn, this many times
 abbrev pub turns : ℕ → ℕ → List ℕ
@@ -38,7 +38,7 @@ turns workers (suc n) = below workers ++ turns workers n
 -- the history of a schedule: its moves, and then twice as many turns as there are pieces
 abbrev pub schedule_history : Table → Shape → List ℕ → History
 schedule_history table shape moves =
-    moved table shape [] (moves ++ turns shape.workers (2 * piece_count shape))
+    after_moves table shape [] (moves ++ turns shape.workers (2 * piece_count shape))
 
 abbrev pub is_drop : Event → Bool
 is_drop (Drop w) = true

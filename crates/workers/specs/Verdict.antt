@@ -39,8 +39,8 @@ pub record AreClassFirsts (m : Model) (c : List Statement) (tests : List Test) (
       → IsClassOf m c f class → slice_get firsts k ≡ Some first → IsFirst c tests f first
 
 -- the number of detected faults
-abbrev pub detected : List (Option ℕ) → ℕ
-detected firsts = count_by is_some firsts
+abbrev pub detected_count : List (Option ℕ) → ℕ
+detected_count firsts = count_by is_some firsts
 
 -- each fault of the circuit's list, before collapsing, has the first test that detects it, or
 -- none where no test does

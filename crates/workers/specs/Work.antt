@@ -10,7 +10,7 @@ use Rattle.fault_ledger.specs.declared.Call.TheVariants as call
 use Rattle.fault_ledger.specs.declared.Finish.TheVariants.{Finished, Waiting}
 use Rattle.fault_ledger.specs.declared.Refusal.TheVariants.{NoEarlierHit}
 use Rattle.fault_ledger.specs.declared.Reply.TheVariants.{Refused}
-use Rattle.fault_ledger.specs.History.{History, piece_count, class_of, block_of, claims, held}
+use Rattle.fault_ledger.specs.History.{History, piece_count, class_of, block_of, claims, held_by}
 use Rattle.fault_ledger.specs.History.{ContinuesWithout, states_of}
 use Rattle.fault_ledger.specs.Answer.{IsLegal, answer}
 use Rattle.fault_ledger.specs.Settled.{finish, is_skipped}
@@ -39,7 +39,7 @@ WasNoDrop shape w h = (at : History) × ContinuesWithout w h at
 abbrev pub ReportsTruly : Parts → Chosen → Shape → ℕ → History → History → Type 0
 ReportsTruly job chosen shape w [] earlier = Unit {0}
 ReportsTruly job chosen shape w (Event.Report u o ∷ newer) earlier =
-    (u ≡ w → GivesTrue job chosen shape (held w (newer ++ earlier)) o
+    (u ≡ w → GivesTrue job chosen shape (held_by w (newer ++ earlier)) o
     × WasNoDrop shape w (newer ++ earlier))
     × ReportsTruly job chosen shape w newer earlier
 ReportsTruly job chosen shape w (_ ∷ newer) earlier =
@@ -69,23 +69,23 @@ stops_over chosen stops worker class block = stops worker (chosen.class_at class
 
 -- a worker that its gate stopped holds the piece that it was stopped for
 abbrev pub IsStopped : Shape → Stops → ℕ → History → Type 0
-IsStopped shape stops w h = (piece : ℕ) × (held w h ≡ Some piece)
+IsStopped shape stops w h = (piece : ℕ) × (held_by w h ≡ Some piece)
     × stops w (class_of shape piece) (block_of shape piece)
 
 -- how a seat stands at each end of its work
 abbrev pub EndsAs : Stops → Sitter → End → Type 0
 EndsAs stops seat Exhausted =
-    (seat.told ≡ true) × (held seat.worker seat.seen ≡ None)
+    (seat.told ≡ true) × (held_by seat.worker seat.seen ≡ None)
     × (claims seat.seen ≡ piece_count seat.place.shape)
 EndsAs stops seat AllSettled =
-    (held seat.worker seat.seen ≡ None)
+    (held_by seat.worker seat.seen ≡ None)
     × AreSettled seat.place.shape seat.seen seat.place.shape.classes
 EndsAs stops seat Stopped = IsStopped seat.place.shape stops seat.worker seat.seen
 
 -- a seat whose worker was not stopped: it holds nothing, and all pieces are claimed or all
 -- classes settled
 pub record HasRested (seat : Sitter) : Type 0 where
-  pub free : held seat.worker seat.seen ≡ None
+  pub free : held_by seat.worker seat.seen ≡ None
   pub over : (claims seat.seen ≡ piece_count seat.place.shape)
       ⊎ AreSettled seat.place.shape seat.seen seat.place.shape.classes
 

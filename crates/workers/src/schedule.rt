@@ -10,9 +10,9 @@ ghost use Rattle.block_sim.specs.Simulation.{Serves};
 ghost use Rattle.fault_ledger.specs.declared.Shape.{Shape};
 ghost use Rattle.fault_ledger.specs.Answer.{IsLegal};
 ghost use Rattle.fault_ledger.specs.Face.{HasHistory, face};
-ghost use Rattle.fault_ledger.specs.History.{History, claims, held, piece_count};
+ghost use Rattle.fault_ledger.specs.History.{History, claims, held_by, piece_count};
 ghost use Rattle.workers.specs.Refused.{IsScheduleFault};
-ghost use Rattle.workers.specs.Schedule.{IsScheduled, IsTableOf, drops, move, moved, turns};
+ghost use Rattle.workers.specs.Schedule.{IsScheduled, IsTableOf, drops, move, after_moves, turns};
 ghost use Rattle.workers.specs.Settling.{AreSettled, IsShapeOf, shape_for};
 ghost use Rattle.workers.specs.Verdict.{AreFirsts};
 
@@ -76,12 +76,12 @@ fn play(job: &Job, ledger: &mut Ledger, simulation: &mut Simulation, moves: &[u3
     ensures shape { ledger.new.shape ≡ ledger.old.shape }
     ensures moved { (table : Table) (h : History) → IsTableOf job.now table
         → IsLegal ledger.old.shape h → ledger.old ≡ face ledger.old.shape h
-        → let later : History = moved table ledger.old.shape h moves.now in
+        → let later : History = after_moves table ledger.old.shape h moves.now in
         (ledger.new ≡ face ledger.old.shape later) × IsLegal ledger.old.shape later
         × (drops later ≡ drops h + result.skipped)
         × (result.changed ≡ true → length h < length later)
         × (result.changed ≡ false → (later ≡ h)
-        × All (λ w. (claims h ≡ piece_count ledger.old.shape) × (held w h ≡ None)) moves.now) }
+        × All (λ w. (claims h ≡ piece_count ledger.old.shape) × (held_by w h ≡ None)) moves.now) }
     ensures serves { Serves simulation.new job.now }
 {
     let _parts = job.classes();
@@ -111,7 +111,8 @@ fn take_turns(job: &Job, ledger: &mut Ledger, simulation: &mut Simulation, every
     ensures moved { (table : Table) (h : History) → IsTableOf job.now table
         → IsLegal ledger.old.shape h → ledger.old ≡ face ledger.old.shape h
         → let shape : Shape = ledger.old.shape in
-        let later : History = moved table shape h (turns shape.workers (2 * piece_count shape)) in
+        let later : History = after_moves table shape h
+        (turns shape.workers (2 * piece_count shape)) in
         (ledger.new ≡ face shape later) × IsLegal shape later
         × (drops later ≡ drops h + result) × AreSettled shape later shape.classes }
 {

@@ -5,7 +5,7 @@ ghost use Rattle.fault_ledger.specs.Answer.{IsLegal};
 ghost use Rattle.fault_ledger.specs.History.{History};
 ghost use Rattle.fault_ledger.specs.Settled.{status};
 ghost use Rattle.workers.specs.Settling.{AreSettled, IsShapeOf};
-ghost use Rattle.workers.specs.Verdict.{detected, verdicts};
+ghost use Rattle.workers.specs.Verdict.{detected_count, verdicts};
 
 use crate::RunFault;
 use block_sim::Job;
@@ -22,7 +22,7 @@ pub struct Verdicts {
 
 impl Model for Verdicts {
     ghost use Rattle.std.specs.Prelude.{◌≡◌, ◌<◌, ◌^◌, length};
-    ghost use Rattle.workers.specs.Verdict.{VerdictList, detected as detected_in};
+    ghost use Rattle.workers.specs.Verdict.{VerdictList, detected_count as detected_in};
 
     ghost Value = { VerdictList };
 
@@ -57,7 +57,7 @@ impl Verdicts {
 
     /// The number of faults that a test detects. It takes constant time.
     pub fn detected(&self) -> u32
-        ensures { result ≡ detected self.now.firsts }
+        ensures { result ≡ detected_count self.now.firsts }
     {
         let _firsts = &self.firsts;
         self.detected

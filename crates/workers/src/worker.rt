@@ -1,7 +1,7 @@
 //! One worker.
 
 ghost use Rattle.std.specs.Prelude.{◌≡◌, ◌⊎◌, ◌<◌, ◌≤◌, ℕ, true, false, IsTrue, Some, None};
-ghost use Rattle.fault_ledger.specs.History.{block_count, held, claims, piece_at, piece_count};
+ghost use Rattle.fault_ledger.specs.History.{block_count, held_by, claims, piece_at, piece_count};
 ghost use Rattle.fault_ledger.specs.Seats.{IsSitter, Sees};
 ghost use Rattle.block_sim.specs.Parts.{HasRoom};
 ghost use Rattle.workers.specs.Chosen.{AreChosenOf};
@@ -66,14 +66,14 @@ fn finish_piece<C: Chosen, K: Simulator>(
     requires chosen { AreChosenOf job.now (C.chosen classes.now) }
     requires shape { IsShapeOver job.now (C.chosen classes.now) ledger.now.shape }
     requires place { seat.old.place ≡ ledger.now }
-    requires piece { held seat.old.worker seat.old.seen
+    requires piece { held_by seat.old.worker seat.old.seen
         ≡ Some (piece_at ledger.now.shape class block) }
     requires sitter { IsSitter seat.old }
     requires range { (class < ledger.now.shape.classes) × (block < block_count ledger.now.shape) }
     requires serves { K.serves simulator.old job.now }
     ensures works { WorksOver job.now (C.chosen classes.now) seat.old seat.new }
     ensures told { seat.new.told ≡ seat.old.told }
-    ensures free { held seat.new.worker seat.new.seen ≡ None }
+    ensures free { held_by seat.new.worker seat.new.seen ≡ None }
     ensures serves { K.serves simulator.new job.now }
 {
     match ledger.drop_piece(seat) {
@@ -121,7 +121,7 @@ pub fn work<G: Gate>(
 ) -> End
     requires shape { IsShapeOf job.now ledger.now.shape }
     requires place { seat.old.place ≡ ledger.now }
-    requires free { held seat.old.worker seat.old.seen ≡ None }
+    requires free { held_by seat.old.worker seat.old.seen ≡ None }
     requires fits { HasRoom workspace.old job.now }
     ensures works { Works job.now seat.old seat.new }
     ensures ends { EndsAs (G.stops gate.now) seat.new result }
@@ -143,7 +143,7 @@ pub(crate) fn work_over<G: Gate, C: Chosen, K: Simulator>(
     requires chosen { AreChosenOf job.now (C.chosen chosen.now) }
     requires shape { IsShapeOver job.now (C.chosen chosen.now) ledger.now.shape }
     requires place { seat.old.place ≡ ledger.now }
-    requires free { held seat.old.worker seat.old.seen ≡ None }
+    requires free { held_by seat.old.worker seat.old.seen ≡ None }
     requires serves { K.serves simulator.old job.now }
     ensures works { WorksOver job.now (C.chosen chosen.now) seat.old seat.new }
     ensures ends { EndsAs (stops_over (C.chosen chosen.now) (G.stops gate.now)) seat.new result }

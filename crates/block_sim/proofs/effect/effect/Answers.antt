@@ -7,7 +7,7 @@ use Rattle.bench_net.specs.Scan.{names, signal, name_of, definition, gate_of, ga
 use Rattle.lists.proofs.Members.{contained}
 use Rattle.bench_net.proofs.Public.{definition_defines, name_of-signal, signal-name_of}
 use Rattle.lists.proofs.Places.{at_place, place_within}
-use Rattle.fault_model.specs.Detection.{argument, carried}
+use Rattle.fault_model.specs.Detection.{argument, name_on}
 use Rattle.fault_model.specs.Solution.{value}
 use Rattle.fault_model.proofs.Public.{carries}
 use lib.Bits.{and_le_r}
@@ -69,7 +69,7 @@ spread-requires-clause-start c =
     let lanes = c.args.view.lanes in
     let fault = stuck_fault c.args.fault in
     let n = carries c.args.fault.model circuit fault well c.requires.listed in
-    place_within (names circuit) c.in-Stem.start n.0 (ap (carried circuit) (sym c.in-Stem.is) ∙ n.1)
+    place_within (names circuit) c.in-Stem.start n.0 (ap (name_on circuit) (sym c.in-Stem.is) ∙ n.1)
 
 pub spread-requires-clause-inside : goal.spread-requires-clause-inside
 spread-requires-clause-inside c = λ k lt e. only_lanes _ c.args.view.lanes k e
@@ -83,7 +83,7 @@ spread-requires-clause-first c =
     let fault = stuck_fault c.args.fault in
     let n = carries c.args.fault.model circuit fault well c.requires.listed in
     let number : c.carried-signal.result ≡ signal circuit n.0 = c.carried-signal.ensures n.0 n.1 in
-    let named : name_of circuit c.in-Stem.start ≡ Some n.0 = ap (carried circuit) (sym c.in-Stem.is)
+    let named : name_of circuit c.in-Stem.start ≡ Some n.0 = ap (name_on circuit) (sym c.in-Stem.is)
     ∙ n.1 in
     let same : c.carried-signal.result ≡ c.in-Stem.start = number
     ∙ signal-name_of circuit c.in-Stem.start n.0 well.once named n.2 in
@@ -115,7 +115,7 @@ gate_change-diff-requires-clause-gate c =
     let fault = stuck_fault c.args.fault in
     let n = carries c.args.fault.model circuit fault well c.requires.listed in
     let reads : argument (definition circuit c.in-Pin.gate) c.in-Pin.pin ≡ Some n.0 =
-    ap (carried circuit) (sym c.in-Pin.is) ∙ n.1 in
+    ap (name_on circuit) (sym c.in-Pin.is) ∙ n.1 in
     let p = pin_of circuit c.in-Pin.gate c.in-Pin.pin n.0 reads in
     let gate_is : gate_of circuit c.in-Pin.gate ≡ Some (p.kind, map (signal circuit) p.args) =
     ap (gate_line circuit) p.is in
@@ -132,7 +132,7 @@ gate_change-diff-requires-clause-driven c =
     let fault = stuck_fault c.args.fault in
     let n = carries c.args.fault.model circuit fault well c.requires.listed in
     let reads : argument (definition circuit c.in-Pin.gate) c.in-Pin.pin ≡ Some n.0 =
-    ap (carried circuit) (sym c.in-Pin.is) ∙ n.1 in
+    ap (name_on circuit) (sym c.in-Pin.is) ∙ n.1 in
     let p = pin_of circuit c.in-Pin.gate c.in-Pin.pin n.0 reads in
     let gate_is : gate_of circuit c.in-Pin.gate ≡ Some (p.kind, map (signal circuit) p.args) =
     ap (gate_line circuit) p.is in
@@ -149,7 +149,7 @@ spread-requires-in-Pin-clause-start c =
     let fault = stuck_fault c.args.fault in
     let n = carries c.args.fault.model circuit fault well c.requires.listed in
     let reads : argument (definition circuit c.in-Pin.gate) c.in-Pin.pin ≡ Some n.0 =
-    ap (carried circuit) (sym c.in-Pin.is) ∙ n.1 in
+    ap (name_on circuit) (sym c.in-Pin.is) ∙ n.1 in
     let p = pin_of circuit c.in-Pin.gate c.in-Pin.pin n.0 reads in
     let gate_is : gate_of circuit c.in-Pin.gate ≡ Some (p.kind, map (signal circuit) p.args) =
     ap (gate_line circuit) p.is in
@@ -166,7 +166,7 @@ spread-requires-in-Pin-clause-first c =
     let fault = stuck_fault c.args.fault in
     let n = carries c.args.fault.model circuit fault well c.requires.listed in
     let reads : argument (definition circuit c.in-Pin.gate) c.in-Pin.pin ≡ Some n.0 =
-    ap (carried circuit) (sym c.in-Pin.is) ∙ n.1 in
+    ap (name_on circuit) (sym c.in-Pin.is) ∙ n.1 in
     let p = pin_of circuit c.in-Pin.gate c.in-Pin.pin n.0 reads in
     let gate_is : gate_of circuit c.in-Pin.gate ≡ Some (p.kind, map (signal circuit) p.args) =
     ap (gate_line circuit) p.is in
@@ -205,7 +205,7 @@ returns-in-Stem-clause-shown c = λ tests group words.
     let fault = stuck_fault c.args.fault in
     let n = carries c.args.fault.model circuit fault well c.requires.listed in
     let number : c.carried-signal.result ≡ signal circuit n.0 = c.carried-signal.ensures n.0 n.1 in
-    let named : name_of circuit c.in-Stem.start ≡ Some n.0 = ap (carried circuit) (sym c.in-Stem.is)
+    let named : name_of circuit c.in-Stem.start ≡ Some n.0 = ap (name_on circuit) (sym c.in-Stem.is)
     ∙ n.1 in
     let same : c.carried-signal.result ≡ c.in-Stem.start = number
     ∙ signal-name_of circuit c.in-Stem.start n.0 well.once named n.2 in
@@ -229,7 +229,7 @@ returns-in-Stem-clause-counted c = λ tests group gates words sized all.
     let fault = stuck_fault c.args.fault in
     let n = carries c.args.fault.model circuit fault well c.requires.listed in
     let number : c.carried-signal.result ≡ signal circuit n.0 = c.carried-signal.ensures n.0 n.1 in
-    let named : name_of circuit c.in-Stem.start ≡ Some n.0 = ap (carried circuit) (sym c.in-Stem.is)
+    let named : name_of circuit c.in-Stem.start ≡ Some n.0 = ap (name_on circuit) (sym c.in-Stem.is)
     ∙ n.1 in
     let same : c.carried-signal.result ≡ c.in-Stem.start = number
     ∙ signal-name_of circuit c.in-Stem.start n.0 well.once named n.2 in
@@ -255,7 +255,7 @@ returns-in-Pin-clause-shown c = λ tests group words.
     let fault = stuck_fault c.args.fault in
     let n = carries c.args.fault.model circuit fault well c.requires.listed in
     let reads : argument (definition circuit c.in-Pin.gate) c.in-Pin.pin ≡ Some n.0 =
-    ap (carried circuit) (sym c.in-Pin.is) ∙ n.1 in
+    ap (name_on circuit) (sym c.in-Pin.is) ∙ n.1 in
     let p = pin_of circuit c.in-Pin.gate c.in-Pin.pin n.0 reads in
     let gate_is : gate_of circuit c.in-Pin.gate ≡ Some (p.kind, map (signal circuit) p.args) =
     ap (gate_line circuit) p.is in
@@ -286,7 +286,7 @@ returns-in-Pin-clause-counted c = λ tests group gates words sized all.
     let fault = stuck_fault c.args.fault in
     let n = carries c.args.fault.model circuit fault well c.requires.listed in
     let reads : argument (definition circuit c.in-Pin.gate) c.in-Pin.pin ≡ Some n.0 =
-    ap (carried circuit) (sym c.in-Pin.is) ∙ n.1 in
+    ap (name_on circuit) (sym c.in-Pin.is) ∙ n.1 in
     let p = pin_of circuit c.in-Pin.gate c.in-Pin.pin n.0 reads in
     let gate_is : gate_of circuit c.in-Pin.gate ≡ Some (p.kind, map (signal circuit) p.args) =
     ap (gate_line circuit) p.is in
@@ -349,9 +349,9 @@ returns-in-Data-clause-shown c = λ tests group words.
     c.word.ensures) in
     elim c.in-Data.is [
       | inl x ↦ at_observer (sink.Data x.0) (sym x.1)
-          (data_observed circuit x.0 n.0 (ap (carried circuit) (sym x.1) ∙ n.1))
+          (data_observed circuit x.0 n.0 (ap (name_on circuit) (sym x.1) ∙ n.1))
       | inr x ↦ at_observer (sink.Out x.0) (sym x.1)
-          (output_observed circuit x.0 n.0 (ap (carried circuit) (sym x.1) ∙ n.1))
+          (output_observed circuit x.0 n.0 (ap (name_on circuit) (sym x.1) ∙ n.1))
     ]
 
 pub spread-requires-in-Pin-clause-room : goal.spread-requires-in-Pin-clause-room

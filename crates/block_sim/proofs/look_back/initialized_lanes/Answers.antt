@@ -3,7 +3,7 @@ use Rattle.std.specs.Prelude.{[], slice_index_or}
 use Rattle.bench_net.specs.Scan.{names, signal}
 use Rattle.bench_net.proofs.Public.{name_of-signal}
 use Rattle.lists.proofs.Places.{place_within}
-use Rattle.fault_model.specs.Detection.{carried}
+use Rattle.fault_model.specs.Detection.{name_on}
 use Rattle.fault_model.specs.Reordered.{moved_line}
 use Rattle.fault_model.proofs.Public.{carries, same_bits}
 use Rattle.block_sim.specs.Stuck.{stuck_fault}
@@ -18,7 +18,7 @@ pub moved_line-line-requires : goal.moved_line-line-requires
 moved_line-line-requires c =
     let named = carries c.args.fault.model c.args.job.now.circuit (stuck_fault c.args.fault)
     c.flat-circuit.ensures.together.circuit.well_formed c.requires.listed in
-    (named.0, ap (λ x. carried x c.args.fault.line) c.flat-circuit.ensures.part ∙ named.1)
+    (named.0, ap (λ x. name_on x c.args.fault.line) c.flat-circuit.ensures.part ∙ named.1)
 
 pub carried-requires-clause-circuit : goal.carried-requires-clause-circuit
 carried-requires-clause-circuit c =
@@ -35,7 +35,7 @@ carried-requires-clause-named c =
     let named = carries_there circuit there c.flat-circuit.ensures.together.circuit.well_formed
     c.flat-circuit.ensures.levelled c.args.fault.model (stuck_fault c.args.fault)
     c.requires.listed in
-    (named.0, ap (carried there) line ∙ named.1)
+    (named.0, ap (name_on there) line ∙ named.1)
 
 pub word_before-before-requires-clause-signal : goal.word_before-before-requires-clause-signal
 word_before-before-requires-clause-signal c =
@@ -48,7 +48,7 @@ word_before-before-requires-clause-signal c =
     let named = carries_there circuit there well c.flat-circuit.ensures.levelled
     c.args.fault.model (stuck_fault c.args.fault) c.requires.listed in
     let is : c.carried.result ≡ signal there named.0 =
-    c.carried.ensures named.0 (ap (carried there) line ∙ named.1) in
+    c.carried.ensures named.0 (ap (name_on there) line ∙ named.1) in
     let lt = place_within (names there) (signal there named.0) named.0
     (name_of-signal there named.0 named.2) in
     let count = count_there circuit there well c.flat-circuit.ensures.levelled in
@@ -70,7 +70,7 @@ returns c = λ k lt listed.
     let named = carries_there circuit there well levelled
     c.args.fault.model (stuck_fault c.args.fault) c.requires.listed in
     let is : c.carried.result ≡ signal there named.0 =
-    c.carried.ensures named.0 (ap (carried there) line ∙ named.1) in
+    c.carried.ensures named.0 (ap (name_on there) line ∙ named.1) in
     let fit = fits_where bit before c.if-fault.fits k within lt (elim c.if-fault.branch [
       | then-fault w ↦ inl (w.if-fault.true, w.fits-is)
       | else-fault w ↦ inr (w.if-fault.false, w.fits-is)

@@ -3,7 +3,7 @@ use Rattle.std.specs.Prelude.{Some, None, slice_index_or, bit_and, bit_xor}
 use Rattle.bench_net.specs.Scan.{names, signal, name_of, definition, gate_of, gate_line}
 use Rattle.bench_net.proofs.Public.{name_of-signal}
 use Rattle.lists.proofs.Places.{place_within}
-use Rattle.fault_model.specs.Detection.{argument, carried}
+use Rattle.fault_model.specs.Detection.{argument, name_on}
 use Rattle.fault_model.proofs.Public.{carries}
 use Rattle.block_sim.specs.Changes.{IsAsLarge}
 use Rattle.block_sim.specs.Stuck.{stuck_fault}
@@ -62,7 +62,7 @@ arrive-requires-clause-signal c =
     let lanes = c.args.view.lanes in
     let fault = stuck_fault c.args.fault in
     let n = carries c.args.fault.model circuit fault well c.requires.listed in
-    place_within (names circuit) c.in-Stem.start n.0 (ap (carried circuit) (sym c.in-Stem.is) ∙ n.1)
+    place_within (names circuit) c.in-Stem.start n.0 (ap (name_on circuit) (sym c.in-Stem.is) ∙ n.1)
 
 pub gate_change-lanes-requires-clause-gate : goal.gate_change-lanes-requires-clause-gate
 gate_change-lanes-requires-clause-gate c =
@@ -73,7 +73,7 @@ gate_change-lanes-requires-clause-gate c =
     let fault = stuck_fault c.args.fault in
     let n = carries c.args.fault.model circuit fault well c.requires.listed in
     let reads : argument (definition circuit c.in-Pin.gate) c.in-Pin.pin ≡ Some n.0 =
-    ap (carried circuit) (sym c.in-Pin.is) ∙ n.1 in
+    ap (name_on circuit) (sym c.in-Pin.is) ∙ n.1 in
     let p = pin_of circuit c.in-Pin.gate c.in-Pin.pin n.0 reads in
     let gate_is : gate_of circuit c.in-Pin.gate ≡ Some (p.kind, map (signal circuit) p.args) =
     ap (gate_line circuit) p.is in
@@ -90,7 +90,7 @@ gate_change-lanes-requires-clause-driven c =
     let fault = stuck_fault c.args.fault in
     let n = carries c.args.fault.model circuit fault well c.requires.listed in
     let reads : argument (definition circuit c.in-Pin.gate) c.in-Pin.pin ≡ Some n.0 =
-    ap (carried circuit) (sym c.in-Pin.is) ∙ n.1 in
+    ap (name_on circuit) (sym c.in-Pin.is) ∙ n.1 in
     let p = pin_of circuit c.in-Pin.gate c.in-Pin.pin n.0 reads in
     let gate_is : gate_of circuit c.in-Pin.gate ≡ Some (p.kind, map (signal circuit) p.args) =
     ap (gate_line circuit) p.is in
@@ -117,7 +117,7 @@ arrive-requires-in-Pin-clause-signal c =
     let fault = stuck_fault c.args.fault in
     let n = carries c.args.fault.model circuit fault well c.requires.listed in
     let reads : argument (definition circuit c.in-Pin.gate) c.in-Pin.pin ≡ Some n.0 =
-    ap (carried circuit) (sym c.in-Pin.is) ∙ n.1 in
+    ap (name_on circuit) (sym c.in-Pin.is) ∙ n.1 in
     let p = pin_of circuit c.in-Pin.gate c.in-Pin.pin n.0 reads in
     let gate_is : gate_of circuit c.in-Pin.gate ≡ Some (p.kind, map (signal circuit) p.args) =
     ap (gate_line circuit) p.is in
@@ -134,7 +134,7 @@ returns-in-Stem-clause-reached c = λ tests group words.
     let fault = stuck_fault c.args.fault in
     let n = carries c.args.fault.model circuit fault well c.requires.listed in
     let number : c.carried-signal.result ≡ signal circuit n.0 = c.carried-signal.ensures n.0 n.1 in
-    let named : name_of circuit c.in-Stem.start ≡ Some n.0 = ap (carried circuit) (sym c.in-Stem.is)
+    let named : name_of circuit c.in-Stem.start ≡ Some n.0 = ap (name_on circuit) (sym c.in-Stem.is)
     ∙ n.1 in
     c.arrive.ensures.come tests group fault words
     (stem_come circuit well tests group fault good words lanes c.in-Stem.start
@@ -152,7 +152,7 @@ returns-in-Pin-clause-reached c = λ tests group words.
     let fault = stuck_fault c.args.fault in
     let n = carries c.args.fault.model circuit fault well c.requires.listed in
     let reads : argument (definition circuit c.in-Pin.gate) c.in-Pin.pin ≡ Some n.0 =
-    ap (carried circuit) (sym c.in-Pin.is) ∙ n.1 in
+    ap (name_on circuit) (sym c.in-Pin.is) ∙ n.1 in
     let p = pin_of circuit c.in-Pin.gate c.in-Pin.pin n.0 reads in
     let gate_is : gate_of circuit c.in-Pin.gate ≡ Some (p.kind, map (signal circuit) p.args) =
     ap (gate_line circuit) p.is in

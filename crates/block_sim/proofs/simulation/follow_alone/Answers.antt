@@ -5,9 +5,9 @@ use Rattle.std.specs.Int.Bits.{and_zero_r}
 use Rattle.std.proofs.lemmas.Bool.{false≢true}
 use Rattle.bench_net.specs.Scan.{names}
 use Rattle.patterns.specs.Tests.{TestList}
-use Rattle.fault_model.specs.Detection.{carried}
+use Rattle.fault_model.specs.Detection.{name_on}
 use Rattle.fault_model.specs.Fault.{Fault, faults}
-use Rattle.fault_model.specs.Reordered.{moved, place}
+use Rattle.fault_model.specs.Reordered.{moved_fault, place}
 use Rattle.fault_model.proofs.Public.{carries}
 use Rattle.block_sim.specs.Spans.{IsInSpan, group_of}
 use Rattle.block_sim.specs.declared.region.Reach.TheVariants.{Observed, Stem}
@@ -31,7 +31,7 @@ moved-requires c =
     let fault = c.representative-fault.result in
     let named = carries fault.model c.args.job.now.circuit (stuck_fault fault)
     c.flat-circuit.ensures.together.circuit.well_formed c.representative-fault.ensures.listed in
-    (named.0, ap (λ x. carried x fault.line) c.flat-circuit.ensures.part ∙ named.1)
+    (named.0, ap (λ x. name_on x fault.line) c.flat-circuit.ensures.part ∙ named.1)
 
 pub follow-requires-clause-view : goal.follow-requires-clause-view
 follow-requires-clause-view c =
@@ -53,8 +53,8 @@ follow-requires-clause-listed c =
     let levelled = c.flat-circuit.ensures.levelled in
     let well = c.flat-circuit.ensures.together.circuit.well_formed in
     let fault = stuck_fault c.representative-fault.result in
-    let is : stuck_fault c.moved.result ≡ moved circuit there fault = c.moved.ensures
-    ∙ ap (λ x. moved x there fault) c.flat-circuit.ensures.part in
+    let is : stuck_fault c.moved.result ≡ moved_fault circuit there fault = c.moved.ensures
+    ∙ ap (λ x. moved_fault x there fault) c.flat-circuit.ensures.part in
     subst (λ f. Contains (faults f.model there) f) (sym is)
     (listed_there circuit there well levelled c.representative-fault.result.model fault
     c.representative-fault.ensures.listed)
@@ -90,8 +90,8 @@ returns-in-Observed-clause-approach c =
     let decides : AreLanesFor tests span circuit fault lanes =
     λ k lt. lanes_decide c.test_lanes.result c.lanes_that_fit.result k (own k lt)
     (λ is. c.lanes_that_fit.ensures k lt is.listed) in
-    let is : stuck_fault c.moved.result ≡ moved circuit there fault = c.moved.ensures
-    ∙ ap (λ x. moved x there fault) c.flat-circuit.ensures.part in
+    let is : stuck_fault c.moved.result ≡ moved_fault circuit there fault = c.moved.ensures
+    ∙ ap (λ x. moved_fault x there fault) c.flat-circuit.ensures.part in
     let words = c.fault_free.ensures.words there levelled in
     let word = c.in-Observed.word in
     let reached = reached_there circuit there well levelled tests group fault lanes word
@@ -122,8 +122,8 @@ returns-then-lanes-eq0-clause-approach c =
     let decides : AreLanesFor tests span circuit fault lanes =
     λ k lt. lanes_decide c.test_lanes.result c.lanes_that_fit.result k (own k lt)
     (λ is. c.lanes_that_fit.ensures k lt is.listed) in
-    let is : stuck_fault c.moved.result ≡ moved circuit there fault = c.moved.ensures
-    ∙ ap (λ x. moved x there fault) c.flat-circuit.ensures.part in
+    let is : stuck_fault c.moved.result ≡ moved_fault circuit there fault = c.moved.ensures
+    ∙ ap (λ x. moved_fault x there fault) c.flat-circuit.ensures.part in
     let words = c.fault_free.ensures.words there levelled in
     let at = c.in-Stem.at in
     let from = (signals_there circuit there well levelled).onto at.signal
@@ -131,7 +131,8 @@ returns-then-lanes-eq0-clause-approach c =
     let come : HasCome circuit tests group fault lanes from.0 at.lanes =
     ((same_flips circuit there well (reordered circuit there well levelled)).come tests group
     fault lanes from.0 at.lanes).1
-    (subst (λ s. HasCome there tests group (moved circuit there fault) lanes s at.lanes) from.2
+    (subst (λ s. HasCome there tests group (moved_fault circuit there fault) lanes s at.lanes)
+    from.2
     (subst (λ f. IsReached there tests group f lanes (Stem at)) is
     (c.in-Stem.ensures.reached tests group words))) in (
       fault,
@@ -161,8 +162,8 @@ returns-else-lanes-eq0-clause-approach c =
     let decides : AreLanesFor tests span circuit fault lanes =
     λ k lt. lanes_decide c.test_lanes.result c.lanes_that_fit.result k (own k lt)
     (λ is. c.lanes_that_fit.ensures k lt is.listed) in
-    let is : stuck_fault c.moved.result ≡ moved circuit there fault = c.moved.ensures
-    ∙ ap (λ x. moved x there fault) c.flat-circuit.ensures.part in
+    let is : stuck_fault c.moved.result ≡ moved_fault circuit there fault = c.moved.ensures
+    ∙ ap (λ x. moved_fault x there fault) c.flat-circuit.ensures.part in
     let words = c.fault_free.ensures.words there levelled in
     let at = c.in-Stem.at in
     let here = c.signal_at.result in
@@ -171,7 +172,7 @@ returns-else-lanes-eq0-clause-approach c =
     let come : HasCome circuit tests group fault lanes here at.lanes =
     ((same_flips circuit there well (reordered circuit there well levelled)).come tests group
     fault lanes here at.lanes).1
-    (subst (λ s. HasCome there tests group (moved circuit there fault) lanes s at.lanes) stem
+    (subst (λ s. HasCome there tests group (moved_fault circuit there fault) lanes s at.lanes) stem
     (subst (λ f. IsReached there tests group f lanes (Stem at)) is
     (c.in-Stem.ensures.reached tests group words))) in (
       subst (λ x. here < length (names x)) c.flat-circuit.ensures.part c.signal_at.ensures.within,
@@ -194,8 +195,8 @@ returns-else-lanes-eq0-clause-stem c = λ end e.
     let levelled = c.flat-circuit.ensures.levelled in
     let well = c.flat-circuit.ensures.together.circuit.well_formed in
     let fault = stuck_fault c.representative-fault.result in
-    let is : stuck_fault c.moved.result ≡ moved circuit there fault = c.moved.ensures
-    ∙ ap (λ x. moved x there fault) c.flat-circuit.ensures.part in
+    let is : stuck_fault c.moved.result ≡ moved_fault circuit there fault = c.moved.ensures
+    ∙ ap (λ x. moved_fault x there fault) c.flat-circuit.ensures.part in
     let lanes = bit_and c.test_lanes.result c.lanes_that_fit.result in
     let at = c.in-Stem.at in
     let here = c.signal_at.result in
@@ -203,7 +204,7 @@ returns-else-lanes-eq0-clause-stem c = λ end e.
     ∙ ap (λ x. place x there here) c.flat-circuit.ensures.part in
     let some : at.lanes ≢ 0 = λ z.
     c.if-lanes-eq0.false (ap (bit_and lanes) z ∙ and_zero_r lanes) in
-    let own = subst (λ s. IsStemOfLine there s (moved circuit there fault).line) stem
+    let own = subst (λ s. IsStemOfLine there s (moved_fault circuit there fault).line) stem
     (subst (λ f. IsStemOfLine there at.signal f.line) is
     (c.in-Stem.ensures.stem at refl some)) in
     let back = ((same_stems circuit there well (reordered circuit there well levelled)).of_line
@@ -224,8 +225,8 @@ returns-in-Observed-clause-counted c = λ way w.
     let levelled = c.flat-circuit.ensures.levelled in
     let well = c.flat-circuit.ensures.together.circuit.well_formed in
     let fault = stuck_fault c.representative-fault.result in
-    let is : stuck_fault c.moved.result ≡ moved circuit there fault = c.moved.ensures
-    ∙ ap (λ x. moved x there fault) c.flat-circuit.ensures.part in
+    let is : stuck_fault c.moved.result ≡ moved_fault circuit there fault = c.moved.ensures
+    ∙ ap (λ x. moved_fault x there fault) c.flat-circuit.ensures.part in
     let same : w.0 ≡ fault = ap (λ (o : Option Fault). unwrap_or o w.0) (sym w.1
     ∙ c.representative-fault.ensures.representative) in
     let own = subst (λ f. IsWayOfLine circuit f.line way) same w.2 in
@@ -242,8 +243,8 @@ returns-then-lanes-eq0-clause-counted c = λ way w.
     let levelled = c.flat-circuit.ensures.levelled in
     let well = c.flat-circuit.ensures.together.circuit.well_formed in
     let fault = stuck_fault c.representative-fault.result in
-    let is : stuck_fault c.moved.result ≡ moved circuit there fault = c.moved.ensures
-    ∙ ap (λ x. moved x there fault) c.flat-circuit.ensures.part in
+    let is : stuck_fault c.moved.result ≡ moved_fault circuit there fault = c.moved.ensures
+    ∙ ap (λ x. moved_fault x there fault) c.flat-circuit.ensures.part in
     let same : w.0 ≡ fault = ap (λ (o : Option Fault). unwrap_or o w.0) (sym w.1
     ∙ c.representative-fault.ensures.representative) in
     let own = subst (λ f. IsWayOfLine circuit f.line way) same w.2 in
@@ -260,8 +261,8 @@ returns-else-lanes-eq0-clause-counted c = λ way w.
     let levelled = c.flat-circuit.ensures.levelled in
     let well = c.flat-circuit.ensures.together.circuit.well_formed in
     let fault = stuck_fault c.representative-fault.result in
-    let is : stuck_fault c.moved.result ≡ moved circuit there fault = c.moved.ensures
-    ∙ ap (λ x. moved x there fault) c.flat-circuit.ensures.part in
+    let is : stuck_fault c.moved.result ≡ moved_fault circuit there fault = c.moved.ensures
+    ∙ ap (λ x. moved_fault x there fault) c.flat-circuit.ensures.part in
     let same : w.0 ≡ fault = ap (λ (o : Option Fault). unwrap_or o w.0) (sym w.1
     ∙ c.representative-fault.ensures.representative) in
     let own = subst (λ f. IsWayOfLine circuit f.line way) same w.2 in

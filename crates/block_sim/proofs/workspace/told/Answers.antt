@@ -3,9 +3,9 @@ use Rattle.std.specs.Prelude.{◌/◌, Contains, Option, bit_and, map, unwrap_or
 use Rattle.std.specs.Bool.{Decides}
 use Rattle.std.proofs.lemmas.List.{length-map}
 use Rattle.patterns.specs.Tests.{TestList}
-use Rattle.fault_model.specs.Detection.{carried}
+use Rattle.fault_model.specs.Detection.{name_on}
 use Rattle.fault_model.specs.Fault.{Fault, faults}
-use Rattle.fault_model.specs.Reordered.{moved, place}
+use Rattle.fault_model.specs.Reordered.{moved_fault, place}
 use Rattle.fault_model.proofs.Public.{carries}
 use Rattle.block_sim.specs.Spreading.{AreShown, IsSettled}
 use Rattle.block_sim.specs.Regions.{AreLanesFor}
@@ -26,7 +26,7 @@ moved-requires c =
     let fault = c.representative-fault.result in
     let named = carries fault.model c.args.job.now.circuit (stuck_fault fault)
     c.flat-circuit.ensures.together.circuit.well_formed c.representative-fault.ensures.listed in
-    (named.0, ap (λ x. carried x fault.line) c.flat-circuit.ensures.part ∙ named.1)
+    (named.0, ap (λ x. name_on x fault.line) c.flat-circuit.ensures.part ∙ named.1)
 
 pub effect-requires-clause-view : goal.effect-requires-clause-view
 effect-requires-clause-view c =
@@ -48,8 +48,8 @@ effect-requires-clause-listed c =
     let levelled = c.flat-circuit.ensures.levelled in
     let well = c.flat-circuit.ensures.together.circuit.well_formed in
     let fault = stuck_fault c.representative-fault.result in
-    let is : stuck_fault c.moved.result ≡ moved circuit there fault = c.moved.ensures
-    ∙ ap (λ x. moved x there fault) c.flat-circuit.ensures.part in
+    let is : stuck_fault c.moved.result ≡ moved_fault circuit there fault = c.moved.ensures
+    ∙ ap (λ x. moved_fault x there fault) c.flat-circuit.ensures.part in
     subst (λ f. Contains (faults f.model there) f) (sym is)
     (listed_there circuit there well levelled c.representative-fault.result.model fault
     c.representative-fault.ensures.listed)
@@ -96,12 +96,12 @@ returns-clause-told c =
     let decides : AreLanesFor tests span circuit fault lanes =
     λ k lt. lanes_decide c.test_lanes.result c.lanes_that_fit.result k (own k lt)
     (λ is. c.lanes_that_fit.ensures k lt is.listed) in
-    let is : stuck_fault c.moved.result ≡ moved circuit there fault = c.moved.ensures
-    ∙ ap (λ x. moved x there fault) c.flat-circuit.ensures.part in
+    let is : stuck_fault c.moved.result ≡ moved_fault circuit there fault = c.moved.ensures
+    ∙ ap (λ x. moved_fault x there fault) c.flat-circuit.ensures.part in
     let words = c.fault_free.ensures.words there levelled in
     let good = c.fault_free.result.now in
     let settled = IsSettled c.args.extent c.effect.result in
-    let shown : AreShown there tests group (λ _. moved circuit there fault) good lanes settled
+    let shown : AreShown there tests group (λ _. moved_fault circuit there fault) good lanes settled
     c.effect.result =
     subst (λ f. AreShown there tests group (λ _. f) good lanes settled c.effect.result) is
     (c.effect.ensures.shown tests group words) in (
@@ -130,8 +130,8 @@ returns-clause-counted c = λ r gates at all.
     let decides : AreLanesFor tests span circuit fault lanes =
     λ k lt. lanes_decide c.test_lanes.result c.lanes_that_fit.result k (own k lt)
     (λ is. c.lanes_that_fit.ensures k lt is.listed) in
-    let is : stuck_fault c.moved.result ≡ moved circuit there fault = c.moved.ensures
-    ∙ ap (λ x. moved x there fault) c.flat-circuit.ensures.part in
+    let is : stuck_fault c.moved.result ≡ moved_fault circuit there fault = c.moved.ensures
+    ∙ ap (λ x. moved_fault x there fault) c.flat-circuit.ensures.part in
     let words = c.fault_free.ensures.words there levelled in
     let same : r ≡ fault = ap (λ (o : Option Fault). unwrap_or o r) (sym at
     ∙ c.representative-fault.ensures.representative) in

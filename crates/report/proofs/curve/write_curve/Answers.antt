@@ -2,7 +2,7 @@ use Rattle.std.proofs.Common.{◌≡◌, false, ap, arith, length}
 use Rattle.std.proofs.lemmas.Result.{err_from_is_err_and}
 use Rattle.bench_net.proofs.Public.{some_signal}
 use Rattle.fault_model.specs.Fault.{faults}
-use Rattle.workers.specs.Verdict.{detected}
+use Rattle.workers.specs.Verdict.{detected_count}
 use Rattle.output.proofs.Public.{takes_more, stopped_after, stopped_before}
 use Rattle.report.specs.Report.{coverage_line}
 use Rattle.report.proofs.curve.write_curve.Goals as goal
@@ -22,7 +22,7 @@ returns-in_err-put_points g c =
     let p = err_from_is_err_and c.from_residual.result c.from_residual.ensures.1 in
     let firsts = c.args.verdicts.now.firsts in
     let wrote = rw (c.total-total.ensures) at c.in_err-put_points.ensures in
-    rw (p.1) (stopped_before _ (coverage_line (detected firsts) (length firsts)) _ _ wrote)
+    rw (p.1) (stopped_before _ (coverage_line (detected_count firsts) (length firsts)) _ _ wrote)
 
 pub returns-in_err-put_coverage : goal.returns-in_err-put_coverage
 returns-in_err-put_coverage g c =

@@ -1,6 +1,6 @@
 use Rattle.std.proofs.Common.{length}
 use Rattle.std.proofs.lemmas.Result.{err_from_is_err_and}
-use Rattle.workers.specs.Verdict.{detected}
+use Rattle.workers.specs.Verdict.{detected_count}
 use Rattle.output.proofs.Public.{takes_more, stopped_before, stopped_after}
 use Rattle.report.specs.Report.{coverage_line}
 use Rattle.report.proofs.ending.write_merged.Goals as goal
@@ -10,7 +10,7 @@ returns-in_err-put_names g c =
     let p = err_from_is_err_and c.from_residual.result c.from_residual.ensures.1 in
     let wrote = rw (c.faults.ensures, c.firsts-firsts.ensures) at c.in_err-put_names.ensures in
     rw (p.1)
-    (stopped_before _ (coverage_line (detected c.args.merged.now.firsts.items)
+    (stopped_before _ (coverage_line (detected_count c.args.merged.now.firsts.items)
     (length c.args.merged.now.firsts.items)) _ _ wrote)
 
 pub returns-in_err-put_coverage : goal.returns-in_err-put_coverage

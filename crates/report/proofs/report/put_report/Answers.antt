@@ -1,6 +1,6 @@
 use Rattle.std.proofs.Common.{length, arith}
 use Rattle.std.proofs.lemmas.Result.{err_from_is_err_and}
-use Rattle.workers.specs.Verdict.{detected}
+use Rattle.workers.specs.Verdict.{detected_count}
 use Rattle.output.proofs.Public.{writes_then, stopped_before}
 use Rattle.bench_net.proofs.Public.{some_signal}
 use Rattle.report.specs.Report.{coverage_line}
@@ -19,7 +19,7 @@ returns-in_err-put_firsts g c =
       c.faults.ensures.part,
     ) at c.in_err-put_firsts.ensures in
     rw (p.1)
-    (stopped_before _ (coverage_line (detected c.args.verdicts.now.firsts)
+    (stopped_before _ (coverage_line (detected_count c.args.verdicts.now.firsts)
     (length c.args.verdicts.now.firsts)) _ _ wrote)
 
 pub returns : goal.returns

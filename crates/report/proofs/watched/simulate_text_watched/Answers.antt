@@ -17,7 +17,8 @@ returns-in-Some-clause-refused g c =
     subst (λ (given : Option ℕ). IfErr c.watch_parts.result
     (IsWatchedFault m bench text given workers passing stops)) (sym c.in-Some.is)
     (refused_as
-    (IsTextFault m bench text workers (λ job. IsPartsFault job c.in-Some.parts workers passing stops))
+    (IsTextFault m bench text workers (λ job. IsPartsFault job c.in-Some.parts workers passing
+    stops))
     (IsWatchedFault m bench text (Some c.in-Some.parts) workers passing stops) c.watch_parts.result
     (watched_parts m bench text c.in-Some.parts workers passing stops)
     c.watch_parts.ensures.refused)

@@ -26,7 +26,8 @@ returns-clause-firsts g c =
     let table = c.in_ok-table.table.items in
     let count = c.count-count.ensures
     ∙ ap (λ (x : Collapsed). length x.representative) c.classes.ensures.part in
-    let by = verdicts_under c.count-count.result (length job.classes.representative) _ classes _ firsts
+    let by = verdicts_under c.count-count.result
+    (length job.classes.representative) _ classes _ firsts
     table count c.as_slice.ensures.value c.as_slice-2.ensures.value c.in_ok-table.ensures in
     let is : c.in_ok-found.found.items ≡ map (λ class. first_in (get_or table class OtherPart))
     job.classes.class_of =
@@ -46,7 +47,8 @@ returns-clause-skipped g c =
     let table = c.in_ok-table.table.items in
     let count = c.count-count.ensures
     ∙ ap (λ (x : Collapsed). length x.representative) c.classes.ensures.part in
-    let by = verdicts_under c.count-count.result (length job.classes.representative) _ classes _ firsts
+    let by = verdicts_under c.count-count.result
+    (length job.classes.representative) _ classes _ firsts
     table count c.as_slice.ensures.value c.as_slice-2.ensures.value c.in_ok-table.ensures in
     let all : c.blocks-blocks.result ≡ blocks (length job.tests.tests) = c.blocks-blocks.ensures
     ∙ ap (λ (t : TestList). blocks (length t.tests)) c.tests.ensures.part in

@@ -1,4 +1,5 @@
-use Rattle.std.proofs.Common.{◌≡◌, ◌+◌, ◌∙◌, ◌<◌, ◌≤◌, List, All, ap, get_or, length, map, refl, subst}
+use Rattle.std.proofs.Common.{◌≡◌, ◌+◌, ◌∙◌, ◌<◌, ◌≤◌, List, All, ap, get_or, length, map, refl}
+use Rattle.std.proofs.Common.{subst}
 use Rattle.std.proofs.Common.{sym}
 use Rattle.fault_model.specs.Collapse.{Collapsed}
 use Rattle.workers.specs.declared.parts.PartVerdict.{PartVerdict}
@@ -61,7 +62,8 @@ returns-clause-verdicts g c =
     c.start_of-start.ensures c.start_of-end.ensures) in
     let count = c.count-count.ensures
     ∙ ap (λ (x : Collapsed). length x.representative) c.classes.ensures.part in
-    let by = verdicts_under c.count-count.result (length job.classes.representative) classes classes _
+    let by = verdicts_under c.count-count.result
+    (length job.classes.representative) classes classes _
     firsts table count refl c.as_slice.ensures.value c.in_ok-table.ensures in
     let is : c.in_ok-verdicts.verdicts.items ≡ map (λ class. get_or table class OtherPart)
     job.classes.class_of =

@@ -6,7 +6,7 @@ use Rattle.std.proofs.lemmas.List.{take_all}
 use Rattle.block_sim.proofs.Public.{true_table}
 use Rattle.fault_ledger.specs.declared.Event.{Event}
 use Rattle.fault_ledger.specs.History.{History}
-use Rattle.workers.specs.Schedule.{moved, drops}
+use Rattle.workers.specs.Schedule.{after_moves, drops}
 use Rattle.workers.proofs.MoveLists.{Done, done_more, done_same, done_none, stepped, not_drop}
 use Rattle.workers.proofs.MoveLists.{skipped_few}
 use Rattle.workers.proofs.schedule.play.Goals.{in-Some+in-Drop, in-Some+in_default-event}
@@ -31,7 +31,7 @@ overflow_add-skipped c =
     let t = true_table job.list.model job.circuit job.tests.tests together.circuit.well_formed in
     let h = c.requires.history in
     let at = was.done t.0 h.0 t.1 h.1 h.2 in
-    let g : History = moved t.0 s h.0 (take k c.args.moves.now) in
+    let g : History = after_moves t.0 s h.0 (take k c.args.moves.now) in
     let m = stepped job t.0 s c.loop-worker.ledger c.step.new.ledger g w c.step.result was.shape
     together c.requires.shape t.1 (c.requires.workers k 0 c.loop-worker-test.true) at.1 at.0
     c.step.ensures.moved in
@@ -40,7 +40,8 @@ overflow_add-skipped c =
     let more = done_more t.0 s h.0 (take k c.args.moves.now) w c.loop-worker.ledger
     c.step.new.ledger c.loop-worker.skipped c.loop-worker.changed at m.0 m.1
     (Event.Drop c.in-Drop.field-0) (c.loop-worker.skipped + 1) adds refl in
-    let few = skipped_few job s (moved t.0 s h.0 (take k c.args.moves.now ++ w ∷ [])) (drops h.0)
+    let few = skipped_few job s (after_moves t.0 s h.0 (take k c.args.moves.now ++ w ∷ []))
+    (drops h.0)
     (c.loop-worker.skipped + 1) c.requires.shape c.requires.few more.1 more.2 in
     omega (arith, few)
 
@@ -57,7 +58,7 @@ loop-worker-preserved c =
       serves = c.step.ensures.serves;
       done = λ t h is l e.
           let at = was.done t h is l e in
-          let g : History = moved t s h (take k xs) in
+          let g : History = after_moves t s h (take k xs) in
           let m = stepped c.args.job.now t s c.loop-worker.ledger c.step.new.ledger g w
           c.step.result was.shape c.classes-parts.ensures.together c.requires.shape is
           (c.requires.workers k 0 c.loop-worker-test.true) at.1 at.0 c.step.ensures.moved in

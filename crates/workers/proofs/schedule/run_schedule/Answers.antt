@@ -6,7 +6,7 @@ use Rattle.block_sim.specs.Parts.{Parts}
 use Rattle.fault_ledger.specs.History.{History, piece_count}
 use Rattle.fault_ledger.specs.Answer.{IsLegal}
 use Rattle.fault_ledger.specs.Face.{Face, face}
-use Rattle.workers.specs.Schedule.{moved, turns, schedule_history}
+use Rattle.workers.specs.Schedule.{after_moves, turns, schedule_history}
 use Rattle.workers.specs.Settling.{AreSettled, IsShapeOf, shape_for}
 use Rattle.workers.specs.Verdict.{AreFirsts, verdicts}
 use Rattle.workers.proofs.TrueOutcomes.{firsts_of}
@@ -36,7 +36,7 @@ take_turns-turned-requires-clause-history c =
     (ap (λ (x : Face). x.shape) begins) t.1 tt
     begins c.play-played.ensures.moved in
     subst (λ (x : Shape). (g : History) × IsLegal x g × (c.play-played.new.ledger ≡ face x g))
-    (sym (ap (λ (x : Face). x.shape) a.0)) (moved t.0 s [] c.args.moves.now, a.1, a.0)
+    (sym (ap (λ (x : Face). x.shape) a.0)) (after_moves t.0 s [] c.args.moves.now, a.1, a.0)
 
 pub overflow_add-skipped : goal.overflow_add-skipped
 overflow_add-skipped c =

@@ -5,7 +5,7 @@ use Rattle.fault_ledger.specs.declared.Shape.{Shape}
 use Rattle.fault_ledger.specs.History.{History}
 use Rattle.fault_ledger.specs.Answer.{IsLegal}
 use Rattle.fault_ledger.specs.Face.{face}
-use Rattle.workers.specs.Schedule.{moved, turns, drops}
+use Rattle.workers.specs.Schedule.{after_moves, turns, drops}
 use Rattle.workers.proofs.MoveLists.{Done, played_on, turned_none, turned_more, turned_over}
 use Rattle.workers.proofs.MoveLists.{skipped_few, all_below, left_of, left_events}
 use Rattle.workers.proofs.schedule.take_turns.Goals as goal
@@ -27,7 +27,8 @@ play-turn-requires-clause-history c =
     let x = c.turns.invariant.turned t.0 h.0 t.1 h.1 h.2 in
     subst (λ (s : Shape). (g : History) × IsLegal s g × (c.turns.ledger ≡ face s g))
     (sym c.turns.invariant.shape) (
-      moved t.0 c.args.ledger.now.shape h.0 (turns c.args.ledger.now.shape.workers x.turns_done),
+      after_moves t.0 c.args.ledger.now.shape h.0
+          (turns c.args.ledger.now.shape.workers x.turns_done),
       x.legal,
       x.shows,
     )
@@ -47,15 +48,15 @@ overflow_add-skipped c =
     c.classes-parts.ensures.together.circuit.well_formed in
     let h = c.requires.history in
     let x = c.turns.invariant.turned t.0 h.0 t.1 h.1 h.2 in
-    let g : History = moved t.0 s h.0 (turns s.workers x.turns_done) in
+    let g : History = after_moves t.0 s h.0 (turns s.workers x.turns_done) in
     let turn = played_on job t.0 s c.turns.ledger c.play-turn.new.ledger g c.args.everyone.now
     c.play-turn.result.skipped c.play-turn.result.changed c.turns.invariant.shape t.1 x.legal
     x.shows
     c.play-turn.ensures.moved in
-    let sum : drops (moved t.0 s g c.args.everyone.now) ≡ drops h.0
+    let sum : drops (after_moves t.0 s g c.args.everyone.now) ≡ drops h.0
     + (c.turns.skipped + c.play-turn.result.skipped) = let a = turn.2 in let b = x.dropped in
     omega (arith, a, b) in
-    let few = skipped_few job s (moved t.0 s g c.args.everyone.now) (drops h.0)
+    let few = skipped_few job s (after_moves t.0 s g c.args.everyone.now) (drops h.0)
     (c.turns.skipped + c.play-turn.result.skipped) c.requires.shape c.requires.few turn.1 sum in
     omega (arith, few)
 
@@ -64,7 +65,7 @@ returns-then-not-turn-clause-moved c = λ t h is l e.
     let job = c.args.job.now in
     let s = c.args.ledger.now.shape in
     let x = c.turns.invariant.turned t h is l e in
-    let g : History = moved t s h (turns s.workers x.turns_done) in
+    let g : History = after_moves t s h (turns s.workers x.turns_done) in
     let turn = played_on job t s c.turns.ledger c.play-turn.new.ledger g c.args.everyone.now
     c.play-turn.result.skipped c.play-turn.result.changed c.turns.invariant.shape is x.legal
     x.shows
@@ -84,7 +85,7 @@ turns-preserved c = record {
       let job = c.args.job.now in
       let s = c.args.ledger.now.shape in
       let x = c.turns.invariant.turned t h is l e in
-      let g : History = moved t s h (turns s.workers x.turns_done) in
+      let g : History = after_moves t s h (turns s.workers x.turns_done) in
       let turn = played_on job t s c.turns.ledger c.play-turn.new.ledger g c.args.everyone.now
       c.play-turn.result.skipped c.play-turn.result.changed c.turns.invariant.shape is x.legal
       x.shows
@@ -105,14 +106,14 @@ turns-smaller c =
     c.classes-parts.ensures.together.circuit.well_formed in
     let h = c.requires.history in
     let x = c.turns.invariant.turned t.0 h.0 t.1 h.1 h.2 in
-    let g : History = moved t.0 s h.0 (turns s.workers x.turns_done) in
+    let g : History = after_moves t.0 s h.0 (turns s.workers x.turns_done) in
     let turn = played_on job t.0 s c.turns.ledger c.play-turn.new.ledger g c.args.everyone.now
     c.play-turn.result.skipped c.play-turn.result.changed c.turns.invariant.shape t.1 x.legal
     x.shows
     c.play-turn.ensures.moved in
     let longer = turn.3 (not-false c.play-turn.result.changed c.if-not-turn.false) in
     let before = left_events s g x.legal in
-    let after = left_events s (moved t.0 s g c.args.everyone.now) turn.1 in
+    let after = left_events s (after_moves t.0 s g c.args.everyone.now) turn.1 in
     let a = ap left_of x.shows in
     let b = ap left_of turn.0 in
     omega (arith, longer, before, after, a, b)

@@ -1,6 +1,6 @@
 use Rattle.std.proofs.Common.{◌≡◌, ◌-◌, ◌≤◌}
 use Rattle.std.specs.Prelude.{None}
-use Rattle.fault_ledger.specs.History.{claims, held, piece_count}
+use Rattle.fault_ledger.specs.History.{claims, held_by, piece_count}
 use Rattle.workers.specs.Settling.{AreSettled}
 use Rattle.workers.specs.Work.{WorksOver}
 use Rattle.workers.proofs.worker.work_over.Given as goal
@@ -8,7 +8,7 @@ use Rattle.workers.proofs.worker.work_over.Given as goal
 abbrev pub invariant-claims : goal.invariant-claims
 invariant-claims g l = record {
   works : WorksOver l.job (g.C.Chosen.chosen l.chosen) l.fn.seat l.seat;
-  free : held l.seat.worker l.seat.seen ≡ None;
+  free : held_by l.seat.worker l.seat.seen ≡ None;
   serves : g.K.Simulator.serves l.simulator l.job;
   range : l.lowest ≤ l.classes;
   settled : AreSettled l.ledger.shape l.seat.seen l.lowest;

@@ -2,7 +2,7 @@ use Rattle.std.proofs.Common.{◌≡◌, ◌<◌, ℕ, Option, Some, None, get_o
 use Rattle.std.proofs.Common.{subst, arith}
 use Rattle.std.specs.Option.{option_map}
 use Rattle.std.proofs.lemmas.Option.{slice_get_read}
-use Rattle.fault_ledger.specs.History.{History, held}
+use Rattle.fault_ledger.specs.History.{History, held_by}
 use Rattle.fault_ledger.specs.Face.{Face, face, IsLedger}
 use Rattle.fault_ledger.specs.Seats.{class_and_block}
 use Rattle.fault_ledger.proofs.PieceNumbers.{some_class}
@@ -17,9 +17,9 @@ at f w x y i lt e is = slice_get_read f.holding f.shape.workers w x (sym (ledger
 
 says : (f g : Face) (w : ℕ) (y : Option ℕ) (h : History) → f ≡ g → slice_get f.holding w ≡ Some y
     → g ≡ face g.shape h → option_map {U = ℕ × ℕ} (class_and_block f.shape) y
-    ≡ option_map {U = ℕ × ℕ} (class_and_block g.shape) (held w h)
+    ≡ option_map {U = ℕ × ℕ} (class_and_block g.shape) (held_by w h)
 says f g w y h same place e =
-    let here : held w h ≡ y =
+    let here : held_by w h ≡ y =
     found-held f h w y (subst (λ (x : Face). x ≡ face x.shape h) (sym same) e) place in
     ap (λ (x : Face). option_map {U = ℕ × ℕ} (class_and_block x.shape) y) same
     ∙ ap (option_map {U = ℕ × ℕ} (class_and_block g.shape)) (sym here)

@@ -3,7 +3,7 @@ use Rattle.std.proofs.Common.{subst}
 use Rattle.fault_ledger.specs.declared.Shape.{Shape}
 use Rattle.fault_ledger.specs.declared.PieceState.{PieceState}
 use Rattle.fault_ledger.specs.declared.PieceState.TheVariants.{Open}
-use Rattle.fault_ledger.specs.History.{held, entry, block_count, piece_count}
+use Rattle.fault_ledger.specs.History.{held_by, entry, block_count, piece_count}
 use Rattle.fault_ledger.specs.Face.{face}
 use Rattle.fault_ledger.specs.Lowest.{AreLowestHits}
 use Rattle.fault_ledger.proofs.ListsByPlace.{replicate-below}
@@ -23,7 +23,7 @@ opens c =
     let a : c.in_ok-holding.holding.items ≡ replicate s.workers None =
     c.in_ok-holding.ensures.items_if_clones_equal (λ y is. search rules) in
     let b = c.in_ok-states.ensures.items_if_clones_equal (λ y is. is) in
-    λ i. faced s 0 ((a ∙ replicate-below None (λ w. held w []) s.workers (λ w. refl)) i)
+    λ i. faced s 0 ((a ∙ replicate-below None (λ w. held_by w []) s.workers (λ w. refl)) i)
     ((b ∙ ap (λ (n : ℕ). replicate n Open) c.pieces.ensures
     ∙ replicate-below Open (λ p. entry p []) (piece_count s) (λ p. refl)) i)
 

@@ -1,7 +1,7 @@
 use Rattle.std.proofs.Common.{◌≡◌, ◌<◌, Some, None, false, true≢false, refl, ap, sym, ◌∙◌, subst}
 use Rattle.fault_ledger.specs.declared.Event.{Event}
 use Rattle.fault_ledger.specs.declared.Reply.TheVariants.{Done}
-use Rattle.fault_ledger.specs.History.{History, ContinuesWithout, held, block_of, piece_count}
+use Rattle.fault_ledger.specs.History.{History, ContinuesWithout, held_by, block_of, piece_count}
 use Rattle.fault_ledger.specs.Answer.{has_earlier_hit}
 use Rattle.fault_ledger.specs.Seats.{Place, Sitter, IsSitter, Makes}
 use Rattle.fault_ledger.proofs.SeatSteps.{seated_piece, seated_same, seated_makes, untold}
@@ -10,8 +10,8 @@ use Rattle.fault_ledger.proofs.shared.SharedLedger.drop_piece.Goals as goal
 use Rattle.fault_ledger.proofs.shared.SharedLedger.drop_piece.Goals.{In-Some}
 
 -- the seat holds the piece
-holding : (c : In-Some) → held c.args.seat.now.worker c.args.seat.now.seen ≡ Some c.in-Some.piece
-holding c = ap (λ (x : Sitter). held x.worker x.seen) (sym c.seat.view_is)
+holding : (c : In-Some) → held_by c.args.seat.now.worker c.args.seat.now.seen ≡ Some c.in-Some.piece
+holding c = ap (λ (x : Sitter). held_by x.worker x.seen) (sym c.seat.view_is)
     ∙ sym c.seat.invariant.piece_is ∙ c.in-Some.is
 
 pub finds_earlier_hit-requires-clause-piece : goal.finds_earlier_hit-requires-clause-piece
@@ -37,7 +37,7 @@ returns-then-not-finds_earlier_hit-clause-no_earlier_hit c = λ _.
 
 pub drop_piece-requires-clause-held : goal.drop_piece-requires-clause-held
 drop_piece-requires-clause-held c =
-    ap (λ (x : Sitter). held x.worker x.seen) c.seat-2.view_is
+    ap (λ (x : Sitter). held_by x.worker x.seen) c.seat-2.view_is
     ∙ held_sees c.args.seat.now c.finds_earlier_hit.new.seat c.finds_earlier_hit.ensures.sees
     ∙ holding (goal.at.drop_piece-requires-clause-held c).In-Some
 
@@ -54,7 +54,7 @@ invariant_of-seat c =
     let i = c.seat-2.inside in
     let now = c.drop_piece.new.token in
     let here = c.seat-2.invariant.piece_is
-    ∙ ap (λ (x : Sitter). held x.worker x.seen) c.seat-2.view_is
+    ∙ ap (λ (x : Sitter). held_by x.worker x.seen) c.seat-2.view_is
     ∙ held_sees c.args.seat.now c.finds_earlier_hit.new.seat c.finds_earlier_hit.ensures.sees
     ∙ holding (goal.at.invariant_of-seat c).In-Some in
     seated_makes i.token now (Event.Drop i.token.worker) Done i.worker i.told i.row i.piece None

@@ -3,14 +3,15 @@ use Rattle.patterns.specs.Tests.{size_of}
 use Rattle.fault_ledger.specs.declared.Shape.{Shape}
 use Rattle.fault_ledger.specs.declared.Event.{Event}
 use Rattle.fault_ledger.specs.declared.Reply.TheVariants.{Done}
-use Rattle.fault_ledger.specs.History.{block_count, block_of, held, piece_count}
+use Rattle.fault_ledger.specs.History.{block_count, block_of, held_by, piece_count}
 use Rattle.fault_ledger.specs.Answer.{fits_size}
 use Rattle.fault_ledger.specs.Seats.{IsSitter, Place, Sitter, class_and_block}
 use Rattle.fault_ledger.proofs.PieceNumbers.{block_of-below, some_class}
 use Rattle.fault_ledger.proofs.SeatSteps.{reported_badly, reported_free, seated_makes, seated_piece}
 use Rattle.fault_ledger.proofs.SeatSteps.{untold}
 use Rattle.fault_ledger.proofs.shared.SharedLedger.report.Goals as goal
-use Rattle.fault_ledger.proofs.shared.SharedLedger.report.Goals.{In-Some, After-class_and_block-class}
+use Rattle.fault_ledger.proofs.shared.SharedLedger.report.Goals.{In-Some}
+use Rattle.fault_ledger.proofs.shared.SharedLedger.report.Goals.{After-class_and_block-class}
 
 -- the piece is one of the ledger's
 within : (c : In-Some) → c.in-Some.piece < piece_count c.args.self.now.shape
@@ -62,8 +63,8 @@ returns-then-not-takes-clause-refused c =
     ≡ false) same (sym c.takes.ensures ∙ c.if-not-takes.true) in
     let bad_at = subst (λ (x : ℕ × ℕ). fits_size (size_of c.args.self.now.shape.tests x.1) o
     ≡ false) is bad in
-    let holding : held a.worker a.seen ≡ Some p =
-    ap (λ (x : Sitter). held x.worker x.seen) (sym c.seat.view_is)
+    let holding : held_by a.worker a.seen ≡ Some p =
+    ap (λ (x : Sitter). held_by x.worker x.seen) (sym c.seat.view_is)
     ∙ sym c.seat.invariant.piece_is ∙ c.in-Some.is in
     reported_badly a p o (subst IsSitter c.seat.view_is c.seat.invariant.sitter) holding
     (subst (λ (x : Place). fits_size (size_of x.shape.tests (block_of x.shape p)) o ≡ false)
