@@ -12,8 +12,11 @@ use std::alloc::Global;
 use std::sync::Wait;
 use std::thread::Threads;
 
-/// How many parts there are for each of several workers.
-const PARTS_OF_A_WORKER: u32 = 16;
+/// How many parts there are for each of several workers. Each part reads the fault-free words of
+/// all tests once more: four workers on a circuit of 5,000 gates and 16,384 tests took 1.02 of the
+/// processor time of one worker with 2 parts each, 1.04 with 4, 1.07 with 8 and 1.14 with 16. Fewer
+/// parts end less evenly, as a worker that has ended takes a part that is left.
+const PARTS_OF_A_WORKER: u32 = 4;
 
 /// In how many parts so many workers run a job where no number of parts is given: one worker in one
 /// part, and several in some times more parts than they are, so that all end at about one time.
