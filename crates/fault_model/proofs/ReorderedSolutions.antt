@@ -80,7 +80,7 @@ module _ (c d : List Statement) (well : IsWellFormed c) (is : IsReordered c d) w
       ap (λ s. pins_see (option_map (moved_fault c d) f) v s args) (numbered c d well is n at)
       ∙ pins_moved f v (signal c n) 0 args in
       ap (λ bits. under (option_map (moved_fault c d) f) (line.Stem (signal d n)) (value kind bits))
-          pins
+      pins
       ∙ stem_moved f n (value kind (pins_see f v (signal c n) args)) at
 
   source_known : (i : ℕ) (n : Name) → slice_get (sources c) i ≡ Some n → Contains (names c) n

@@ -33,10 +33,10 @@ shows_as_rep c ts = list_all (λ f.
 
 small : map (λ c. shows_as_rep c (all_tests (length (sources c))))
     (and_of_two ∷ inverter_loop ∷ buffer ∷ nor_of_two ∷ output_and_inverter ∷ xor_of_one ∷ scan_cell
-        ∷ cell_of_itself ∷ []) ≡ true ∷ true ∷ true ∷ true ∷ true ∷ true ∷ true ∷ true ∷ []
+    ∷ cell_of_itself ∷ []) ≡ true ∷ true ∷ true ∷ true ∷ true ∷ true ∷ true ∷ true ∷ []
 small = refl
 
 c17_some : shows_as_rep c17
     ((true ∷ true ∷ true ∷ true ∷ true ∷ []) ∷ (false ∷ true ∷ false ∷ true ∷ true ∷ []) ∷
-        (true ∷ false ∷ true ∷ false ∷ false ∷ []) ∷ []) ≡ true
+    (true ∷ false ∷ true ∷ false ∷ false ∷ []) ∷ []) ≡ true
 c17_some = refl
