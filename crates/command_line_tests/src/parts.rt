@@ -80,37 +80,63 @@ pub fn text_of<R: AllocGlobal + Threads + Wait>(rt: &R, line: &str) -> Result<St
     String::from_str(rt.alloc(), text)
 }
 
-/// How many of the texts of so many parts have a line, between line feeds.
-fn parts_with<R: AllocGlobal>(rt: &R, texts: &[String], line: &str) -> Result<usize, AllocError> {
+/// The texts of so many parts of a run on C17.
+fn texts_of_parts<R: AllocGlobal + Threads + Wait>(
+    rt: &R,
+    count: usize,
+) -> Result<Vec<String>, AllocError> {
+    let mut texts = Vec::new(rt.alloc());
+    for part in 1..=count {
+        let line = format!(in rt.alloc();
+            "faultsim run --bench bench --tests tests --part {part}/{count}"
+        )?;
+        texts.push(text_of(rt, &line)?)?;
+    }
+    Ok(texts)
+}
+
+/// How many of the texts have a line, between line feeds.
+fn texts_with<R: AllocGlobal>(rt: &R, texts: &[String], line: &str) -> Result<usize, AllocError> {
     let whole = format!(in rt.alloc(); "\n{line}\n")?;
-    Ok(
-        texts
-            .iter()
-            .filter(|text| text.contains(whole.as_str()))
-            .count(),
-    )
+    let having = texts.iter().filter(|text| text.contains(whole.as_str()));
+    Ok(having.count())
+}
+
+/// Whether one text alone has a line of the report, and the others say that it is of another part.
+fn is_of_one_part<R: AllocGlobal>(
+    rt: &R,
+    texts: &[String],
+    line: &str,
+) -> Result<bool, AllocError> {
+    let fault = line.rsplit_once(' ').map_or(line, |(fault, _)| fault);
+    let other = format!(in rt.alloc(); "{fault} -")?;
+    Ok(texts_with(rt, texts, line)? == 1 && texts_with(rt, texts, &other)? + 1 == texts.len())
+}
+
+/// Whether the lines of the first so many faults of a report are each of one part, of so many.
+fn are_of_one_part<R: AllocGlobal + Threads + Wait>(
+    rt: &R,
+    report: &str,
+    faults: usize,
+    count: usize,
+) -> Result<bool, AllocError> {
+    let texts = texts_of_parts(rt, count)?;
+    for line in report.lines().take(faults) {
+        if !is_of_one_part(rt, texts.as_slice(), line)? {
+            return Ok(false);
+        }
+    }
+    Ok(true)
 }
 
 #[test]
 fn each_fault_is_of_one_part(rt: HostRuntime) -> Result<(), Fail> {
     let report = text_of(&rt, "faultsim run --bench bench --tests tests --list")?;
     for count in [1usize, 2, 3, 22, 23] {
-        let mut texts = Vec::new(rt.alloc());
-        for part in 1..=count {
-            let line = format!(in rt.alloc();
-                "faultsim run --bench bench --tests tests --part {part}/{count}"
-            )?;
-            texts.push(text_of(&rt, &line)?)?;
-        }
-        for line in report.lines().take(34) {
-            let fault = line.rsplit_once(' ').map_or(line, |(fault, _)| fault);
-            let other = format!(in rt.alloc(); "{fault} -")?;
-            assert!(rt; parts_with(&rt, &texts, line)? == 1, "{line} {count}");
-            assert!(rt;
-                parts_with(&rt, &texts, &other)? == count - 1,
-                "{line} {count}"
-            );
-        }
+        assert!(rt;
+            are_of_one_part(&rt, report.as_str(), 34, count)?,
+            "{count} parts"
+        );
     }
     Ok(())
 }

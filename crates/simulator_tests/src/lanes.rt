@@ -1,8 +1,5 @@
-//! Which tests of a block detect a class, and the words of signals, on worked circuits and against
-//! a plain evaluation.
+//! Which tests of a block detect a class, on worked circuits.
 
-use crate::plain::{plain_bit, plain_lanes};
-use crate::texts::{Numbers, push_bench, push_rows};
 use block_sim::{Job, Workspace, detecting};
 use fault_model::Model;
 use jobs::job_of;
@@ -130,77 +127,6 @@ fn worked_circuits_have_their_detecting_tests(rt: HostRuntime) -> Result<(), Fai
         let mut tests = Vec::new(rt.alloc());
         push_tests(&mut tests, worked)?;
         check_under(&rt, rt.alloc(), worked, tests.as_slice())?;
-    }
-    Ok(())
-}
-
-/// Checks the lanes of all classes in a block against those of plain evaluation.
-fn check_lanes<R: Abort>(rt: &R, alloc: Global, job: &Job, block: u32) -> Result<(), Fail> {
-    let mut workspace = Workspace::new(alloc, job)?;
-    for class in 0..job.classes().count() {
-        let plain = plain_lanes(alloc, job, class, block)?;
-        let lanes = lanes_of(job, &mut workspace, class, block);
-        assert_eq!(rt; lanes, Some(plain), "class {class}, block {block}");
-    }
-    Ok(())
-}
-
-/// The bit of a signal in a lane of a block.
-fn bit_of_word(job: &Job, block: u32, lane: u32, signal: u32) -> Option<bool> {
-    if block < job.tests().blocks() && signal < job.circuit().signals() {
-        return Some(job.word(block, signal).wrapping_shr(lane) & 1 == 1);
-    }
-    None
-}
-
-/// Checks the bits of all signals in a lane against those of plain evaluation.
-fn check_bits<R: Abort>(
-    rt: &R,
-    alloc: Global,
-    job: &Job,
-    block: u32,
-    lane: u32,
-) -> Result<(), Fail> {
-    for signal in 0..job.circuit().signals() {
-        let plain = plain_bit(alloc, job, block, lane, signal)?;
-        let bit = bit_of_word(job, block, lane, signal);
-        assert_eq!(rt; bit, Some(plain), "signal {signal}, lane {lane}");
-    }
-    Ok(())
-}
-
-/// Checks all blocks of a job.
-fn check_job<R: Abort>(rt: &R, alloc: Global, job: &Job) -> Result<(), Fail> {
-    for block in 0..job.tests().blocks() {
-        check_lanes(rt, alloc, job, block)?;
-    }
-    for lane in 0..6u32 {
-        check_bits(rt, alloc, job, 1, lane)?;
-    }
-    Ok(())
-}
-
-/// Checks the job of texts under a model.
-fn check_model<R: Abort>(
-    rt: &R,
-    alloc: Global,
-    model: Model,
-    bench: &[u8],
-    tests: &[u8],
-) -> Result<(), Fail> {
-    let job = job_of(alloc, model, bench, tests)?;
-    check_job(rt, alloc, &job)
-}
-
-#[test]
-fn a_random_circuit_has_the_lanes_of_plain_evaluation(rt: HostRuntime) -> Result<(), Fail> {
-    let mut numbers = Numbers::new(11);
-    let mut bench = Vec::new(rt.alloc());
-    push_bench(&mut bench, &mut numbers, 8, 40)?;
-    let mut tests = Vec::new(rt.alloc());
-    push_rows(&mut tests, &mut numbers, 12, 70)?;
-    for model in [Model::StuckAt, Model::Transition, Model::TransitionPairs] {
-        check_model(&rt, rt.alloc(), model, bench.as_slice(), tests.as_slice())?;
     }
     Ok(())
 }

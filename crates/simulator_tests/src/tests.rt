@@ -1,11 +1,9 @@
-//! Counts and outcomes on worked circuits, and outcomes against those of a plain evaluation.
+//! Counts and outcomes on worked circuits.
 
 ghost use Rattle.std.specs.Prelude.{◌<◌, ◌≤◌, length};
 ghost use Rattle.patterns.specs.Tests.{blocks};
 ghost use Rattle.block_sim.specs.Parts.{HasRoom};
 
-use crate::plain::plain_outcome;
-use crate::texts::{Numbers, push_bench, push_rows};
 use block_sim::{Job, Workspace, first_hit, simulate};
 use fault_model::Model;
 use jobs::job_of;
@@ -354,72 +352,4 @@ fn worked_circuits_have_their_first_tests(rt: HostRuntime) -> Result<(), Fail> {
         check_under(&rt, rt.alloc(), worked, tests.as_slice())?;
     }
     Ok(())
-}
-
-/// Checks the outcomes of a class on all blocks against those of plain evaluation.
-fn check_class<R: Abort>(
-    rt: &R,
-    alloc: Global,
-    job: &Job,
-    class: u32,
-    outcomes: &[Outcome],
-) -> Result<(), Fail> {
-    let blocks = job.tests().blocks();
-    for block in 0..blocks {
-        let plain = plain_outcome(alloc, job, class, block)?;
-        let place = class.saturating_mul(blocks).saturating_add(block);
-        let found = outcomes.get(place as usize);
-        assert_eq!(rt; found, Some(&plain), "class {class}, block {block}");
-    }
-    Ok(())
-}
-
-/// Checks the outcomes of a job against those of plain evaluation.
-fn check_plainly<R: Abort>(rt: &R, alloc: Global, job: &Job) -> Result<(), Fail> {
-    let both = outcomes_of(alloc, job)?;
-    assert!(rt; both.whole.as_slice() == both.first.as_slice());
-    for class in 0..job.classes().count() {
-        check_class(rt, alloc, job, class, both.whole.as_slice())?;
-    }
-    Ok(())
-}
-
-/// Checks the outcomes of texts under all models against those of plain evaluation.
-fn check_texts<R: Abort>(rt: &R, alloc: Global, bench: &[u8], tests: &[u8]) -> Result<(), Fail> {
-    for model in [Model::StuckAt, Model::Transition, Model::TransitionPairs] {
-        check_model(rt, alloc, model, bench, tests)?;
-    }
-    Ok(())
-}
-
-/// Checks the outcomes of texts under a model against those of plain evaluation.
-fn check_model<R: Abort>(
-    rt: &R,
-    alloc: Global,
-    model: Model,
-    bench: &[u8],
-    tests: &[u8],
-) -> Result<(), Fail> {
-    let job = job_of(alloc, model, bench, tests)?;
-    check_plainly(rt, alloc, &job)
-}
-
-/// Makes random tests of a circuit, and checks the outcomes.
-fn check_circuit<R: Abort>(
-    rt: &R,
-    alloc: Global,
-    numbers: &mut Numbers,
-    bench: &[u8],
-) -> Result<(), Fail> {
-    let mut tests = Vec::new(alloc);
-    push_rows(&mut tests, numbers, 16, 70)?;
-    check_texts(rt, alloc, bench, tests.as_slice())
-}
-
-#[test]
-fn a_random_circuit_has_the_outcomes_of_plain_evaluation(rt: HostRuntime) -> Result<(), Fail> {
-    let mut numbers = Numbers::new(7);
-    let mut bench = Vec::new(rt.alloc());
-    push_bench(&mut bench, &mut numbers, 12, 200)?;
-    check_circuit(&rt, rt.alloc(), &mut numbers, bench.as_slice())
 }
