@@ -55,3 +55,4 @@ mod LevelledRows
 pub mod Public
 mod Ways
 mod Groups
+mod PartsOfJobs

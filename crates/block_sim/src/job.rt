@@ -50,8 +50,16 @@ impl From<AllocError> for JobFault {
 
 /// A circuit, its faults and classes, and tests for it, with the fault-free words of every block,
 /// the stem of each class, and the classes of each fan-out-free region in a circle.
+///
+/// All of it stands in one place of memory, so a job moves as cheaply as a number.
 #[derive(Drop)]
 pub struct Job {
+    parts: Box<JobParts>,
+}
+
+/// What a job has.
+#[derive(Drop)]
+struct JobParts {
     flat: FlatCircuit,
     faults: Faults,
     classes: Classes,
@@ -69,19 +77,20 @@ impl Model for Job {
     ghost Value = { Parts };
 
     ghost view = { λ j. record {
-      circuit = j.flat.statements;
-      list = j.faults;
-      classes = j.classes;
-      tests = j.tests;
+      circuit = j.parts.value.flat.statements;
+      list = j.parts.value.faults;
+      classes = j.parts.value.classes;
+      tests = j.parts.value.tests;
     } };
 
     ghost invariant = { λ j. IsJob (record {
-      circuit = j.flat.statements;
-      list = j.faults;
-      classes = j.classes;
-      tests = j.tests;
-    }) j.flat.levelled
-        (map (λ row. row.items) j.rows.items) j.class_stems.items j.next_in_region.items };
+      circuit = j.parts.value.flat.statements;
+      list = j.parts.value.faults;
+      classes = j.parts.value.classes;
+      tests = j.parts.value.tests;
+    }) j.parts.value.flat.levelled
+        (map (λ row. row.items) j.parts.value.rows.items) j.parts.value.class_stems.items
+        j.parts.value.next_in_region.items };
 }
 
 impl Job {
@@ -153,15 +162,19 @@ impl Job {
         let class_stems = class_stems(alloc, flat.circuit(), &faults, &classes)?;
         let signals = flat.signals();
         let next_in_region = next_with_stem(alloc, class_stems.as_slice(), signals)?;
-        Ok(Job {
-            flat,
-            faults,
-            classes,
-            tests,
-            rows,
-            class_stems,
-            next_in_region,
-        })
+        let parts = Box::new(
+            alloc,
+            JobParts {
+                flat,
+                faults,
+                classes,
+                tests,
+                rows,
+                class_stems,
+                next_in_region,
+            },
+        )?;
+        Ok(Job { parts })
     }
 
     /// Takes other tests of the same width in place of the job's. The circuit, its faults and its
@@ -178,7 +191,7 @@ impl Job {
         ensures job { OnOk result (self.new ≡ with_tests self.old tests) }
         ensures kept { IfErr result (λ fault. self.new ≡ self.old) }
     {
-        if has_too_many_pieces(&self.classes, &tests) {
+        if has_too_many_pieces(&self.parts.classes, &tests) {
             return Err(JobFault::TooManyPieces);
         }
         Ok(self.set_tests_of_any_size(alloc, tests)?)
@@ -192,9 +205,10 @@ impl Job {
         ensures job { OnOk result (self.new ≡ with_tests self.old tests) }
         ensures kept { IfErr result (λ fault. self.new ≡ self.old) }
     {
-        let rows = fault_free_rows(alloc, &self.flat, &tests)?;
-        self.tests = tests;
-        self.rows = rows;
+        let rows = fault_free_rows(alloc, &self.parts.flat, &tests)?;
+        let parts = &mut *self.parts;
+        parts.tests = tests;
+        parts.rows = rows;
         Ok(())
     }
 
@@ -203,7 +217,7 @@ impl Job {
         ensures part { result.now ≡ self.now.circuit }
         ensures together { BelongTogether self.now }
     {
-        self.flat.circuit()
+        self.parts.flat.circuit()
     }
 
     /// The circuit in flat arrays.
@@ -212,8 +226,9 @@ impl Job {
         ensures levelled { IsLevelled self.now.circuit result.now.levelled }
         ensures together { BelongTogether self.now }
     {
-        let _signals = self.flat.signals();
-        &self.flat
+        let parts = &*self.parts;
+        let _signals = parts.flat.signals();
+        &parts.flat
     }
 
     /// The fault list.
@@ -221,7 +236,7 @@ impl Job {
         ensures part { result.now ≡ self.now.list }
         ensures together { BelongTogether self.now }
     {
-        &self.faults
+        &self.parts.faults
     }
 
     /// The classes of the faults.
@@ -229,7 +244,7 @@ impl Job {
         ensures part { result.now ≡ self.now.classes }
         ensures together { BelongTogether self.now }
     {
-        &self.classes
+        &self.parts.classes
     }
 
     /// The tests.
@@ -237,7 +252,7 @@ impl Job {
         ensures part { result.now ≡ self.now.tests }
         ensures together { BelongTogether self.now }
     {
-        &self.tests
+        &self.parts.tests
     }
 
     /// The representative of a class.
@@ -248,11 +263,12 @@ impl Job {
             ≡ Some (stuck_fault result) }
         ensures listed { Contains (faults result.model self.now.circuit) (stuck_fault result) }
     {
-        let fault = self.classes.representative(class);
+        let parts = &*self.parts;
+        let fault = parts.classes.representative(class);
         Stuck {
-            model: self.faults.model(),
-            line: self.faults.line_of(fault),
-            at_one: self.faults.stuck_of(fault),
+            model: parts.faults.model(),
+            line: parts.faults.line_of(fault),
+            at_one: parts.faults.stuck_of(fault),
         }
     }
 
@@ -265,7 +281,8 @@ impl Job {
         ensures stem { IsStemOfClass self.now.list.model self.now.circuit class result }
         ensures within { result < length (names self.now.circuit) }
     {
-        self.class_stems[class as usize]
+        let parts = &*self.parts;
+        parts.class_stems[class as usize]
     }
 
     /// The class after this one in the circle of its region.
@@ -273,7 +290,8 @@ impl Job {
         requires { class < length self.now.classes.representative }
         ensures { result < length self.now.classes.representative }
     {
-        self.next_in_region[class as usize]
+        let parts = &*self.parts;
+        parts.next_in_region[class as usize]
     }
 
     /// The word of a signal without a fault, by the signal's number from 0: bit k, from the least,
@@ -284,9 +302,10 @@ impl Job {
         requires signal { signal < length (names self.now.circuit) }
         ensures { IsFaultFreeWord self.now.circuit self.now.tests.tests block signal result }
     {
-        let _signals = self.flat.signals();
-        let place = self.flat.place_of(signal);
-        block_word(self.rows[(block / 2) as usize][place as usize], block)
+        let parts = &*self.parts;
+        let _signals = parts.flat.signals();
+        let place = parts.flat.place_of(signal);
+        block_word(parts.rows[(block / 2) as usize][place as usize], block)
     }
 
     /// The words of a group of two blocks without a fault, one a signal, at the signal's place in
@@ -297,8 +316,9 @@ impl Job {
         ensures words { (levelled : List Statement) → IsLevelled self.now.circuit levelled
             → AreWords levelled self.now.tests.tests group None result.now }
     {
-        let _signals = self.flat.signals();
-        self.rows[group as usize].as_slice()
+        let parts = &*self.parts;
+        let _signals = parts.flat.signals();
+        parts.rows[group as usize].as_slice()
     }
 }
 

@@ -7,44 +7,45 @@ use Rattle.block_sim.specs.Spans.{groups}
 use Rattle.block_sim.specs.Words.{AreWords}
 use Rattle.block_sim.proofs.LevelledSignals.{one_levelled}
 use Rattle.block_sim.proofs.Rows.{mapped_get}
+use Rattle.block_sim.proofs.PartsOfJobs.{whole, seen}
 use Rattle.block_sim.proofs.job.Job.fault_free.Goals as goal
 
 pub returns-clause-count : goal.returns-clause-count
 returns-clause-count c =
-    let view = c.self.view_is in
-    let counted = length-map c.self.inside.rows.items (λ row. row.items) in
+    let view = (seen c.deref-parts.ensures c.self.view_is) in
+    let counted = length-map c.deref-parts.result.now.rows.items (λ row. row.items) in
     let tests = ap (λ p. groups (length p.tests.tests)) view in
-    let within : c.args.group < length c.self.inside.rows.items = omega (
+    let within : c.args.group < length c.deref-parts.result.now.rows.items = omega (
       arith,
-      c.self.invariant.count,
+      (whole c.deref-parts.ensures c.self.invariant).count,
       counted,
       tests,
     ) in
-    let row = c.self.invariant.fault_free c.args.group c.index.result.now.items
-    (mapped_get (λ row. row.items) c.self.inside.rows.items c.args.group c.index.result.now
+    let row = (whole c.deref-parts.ensures c.self.invariant).fault_free c.args.group c.index.result.now.items
+    (mapped_get (λ row. row.items) c.deref-parts.result.now.rows.items c.args.group c.index.result.now
     within c.index.ensures) in
     ap length c.as_slice.ensures.value ∙ (row.0 ∙ (sym c.signals-signals.ensures.count
     ∙ (c.signals-signals.ensures.given_count ∙ ap (λ p. length (names p.circuit)) view)))
 
 pub returns-clause-words : goal.returns-clause-words
 returns-clause-words c = λ levelled is.
-    let own = c.self.inside.flat in
-    let view = c.self.view_is in
-    let counted = length-map c.self.inside.rows.items (λ row. row.items) in
+    let own = c.deref-parts.result.now.flat in
+    let view = (seen c.deref-parts.ensures c.self.view_is) in
+    let counted = length-map c.deref-parts.result.now.rows.items (λ row. row.items) in
     let tests = ap (λ p. groups (length p.tests.tests)) view in
-    let within : c.args.group < length c.self.inside.rows.items = omega (
+    let within : c.args.group < length c.deref-parts.result.now.rows.items = omega (
       arith,
-      c.self.invariant.count,
+      (whole c.deref-parts.ensures c.self.invariant).count,
       counted,
       tests,
     ) in
-    let row = c.self.invariant.fault_free c.args.group c.index.result.now.items
-    (mapped_get (λ row. row.items) c.self.inside.rows.items c.args.group c.index.result.now
+    let row = (whole c.deref-parts.ensures c.self.invariant).fault_free c.args.group c.index.result.now.items
+    (mapped_get (λ row. row.items) c.deref-parts.result.now.rows.items c.args.group c.index.result.now
     within c.index.ensures) in
     let same = one_levelled own.statements own.levelled levelled
     c.signals-signals.ensures.given.well_formed c.signals-signals.ensures.levelled
     (subst (λ p. IsLevelled p.circuit levelled) (sym view) is) in
     subst (λ x. AreWords x c.args.self.now.tests.tests c.args.group None c.as_slice.result.now) same
     (subst (λ p. AreWords own.levelled p.tests.tests c.args.group None c.as_slice.result.now) view
-    (subst (λ words. AreWords own.levelled c.self.inside.tests.tests c.args.group None words)
+    (subst (λ words. AreWords own.levelled c.deref-parts.result.now.tests.tests c.args.group None words)
     (sym c.as_slice.ensures.value) row.1))

@@ -4,6 +4,7 @@ use Rattle.std.proofs.lemmas.Option.{slice_get-get_or}
 use Rattle.bench_net.specs.Scan.{names}
 use Rattle.block_sim.specs.Parts.{BelongTogether}
 use Rattle.block_sim.specs.Regions.{HaveStems}
+use Rattle.block_sim.proofs.PartsOfJobs.{whole}
 use Rattle.block_sim.proofs.job.Job.of_any_size.Goals as goal
 
 pub next_with_stem-requires-clause-stems : goal.next_with_stem-requires-clause-stems
@@ -20,7 +21,7 @@ pub invariant_of-result : goal.invariant_of-result
 invariant_of-result c =
     let counted : length c.as_slice.result.now ≡ length c.args.classes.representative =
     ap length c.as_slice.ensures.value ∙ c.in_ok-class_stems.ensures.count in
-    record {
+    whole c.in_ok-parts.ensures.ok (record {
       together = subst (λ x. BelongTogether (record {
         circuit = x;
         list = c.args.faults;
@@ -35,4 +36,4 @@ invariant_of-result c =
       nexts = c.in_ok-next_in_region.ensures.count ∙ counted;
       next_within = λ k d lt. (let low = c.in_ok-next_in_region.ensures.within k d lt in
           omega (arith, low, counted));
-    }
+    })

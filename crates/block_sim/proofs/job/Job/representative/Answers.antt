@@ -3,42 +3,43 @@ use Rattle.std.specs.Prelude.{Contains, slice_get}
 use Rattle.fault_model.specs.Fault.{faults}
 use Rattle.fault_model.specs.Collapse.{representatives}
 use Rattle.block_sim.proofs.Representatives.{representative_within, fault_is}
+use Rattle.block_sim.proofs.PartsOfJobs.{whole, seen}
 use Rattle.block_sim.proofs.job.Job.representative.Goals as goal
 
 pub line_of-requires : goal.line_of-requires
 line_of-requires c =
-    representative_within c.self.inside.faults.model c.self.inside.flat.statements
-    c.self.inside.faults
-    c.self.inside.classes c.args.class c.representative-fault.result
-    c.self.invariant.together.classes c.self.invariant.together.list c.representative-fault.ensures
+    representative_within c.deref-parts.result.now.faults.model c.deref-parts.result.now.flat.statements
+    c.deref-parts.result.now.faults
+    c.deref-parts.result.now.classes c.args.class c.representative-fault.result
+    (whole c.deref-parts.ensures c.self.invariant).together.classes (whole c.deref-parts.ensures c.self.invariant).together.list c.representative-fault.ensures
 
 pub stuck_of-requires : goal.stuck_of-requires
 stuck_of-requires c =
-    representative_within c.self.inside.faults.model c.self.inside.flat.statements
-    c.self.inside.faults
-    c.self.inside.classes c.args.class c.representative-fault.result
-    c.self.invariant.together.classes c.self.invariant.together.list c.representative-fault.ensures
+    representative_within c.deref-parts.result.now.faults.model c.deref-parts.result.now.flat.statements
+    c.deref-parts.result.now.faults
+    c.deref-parts.result.now.classes c.args.class c.representative-fault.result
+    (whole c.deref-parts.ensures c.self.invariant).together.classes (whole c.deref-parts.ensures c.self.invariant).together.list c.representative-fault.ensures
 
 pub returns-clause-representative : goal.returns-clause-representative
 returns-clause-representative c =
-    let own = c.self.inside in
+    let own = c.deref-parts.result.now in
     let fault = fault_is own.faults.model own.flat.statements own.faults own.classes c.args.class
     c.representative-fault.result c.model.result c.line_of.result c.stuck_of.result
-    c.self.invariant.together.classes c.self.invariant.together.list c.representative-fault.ensures
+    (whole c.deref-parts.ensures c.self.invariant).together.classes (whole c.deref-parts.ensures c.self.invariant).together.list c.representative-fault.ensures
     c.model.ensures c.line_of.ensures c.stuck_of.ensures in
-    ap (λ p. slice_get (representatives p.list.model p.circuit) c.args.class) (sym c.self.view_is)
+    ap (λ p. slice_get (representatives p.list.model p.circuit) c.args.class) (sym (seen c.deref-parts.ensures c.self.view_is))
     ∙ fault.0
 
 pub returns-clause-listed : goal.returns-clause-listed
 returns-clause-listed c =
-    let own = c.self.inside in
+    let own = c.deref-parts.result.now in
     let fault = fault_is own.faults.model own.flat.statements own.faults own.classes c.args.class
     c.representative-fault.result c.model.result c.line_of.result c.stuck_of.result
-    c.self.invariant.together.classes c.self.invariant.together.list c.representative-fault.ensures
+    (whole c.deref-parts.ensures c.self.invariant).together.classes (whole c.deref-parts.ensures c.self.invariant).together.list c.representative-fault.ensures
     c.model.ensures c.line_of.ensures c.stuck_of.ensures in
     subst (λ x. Contains (faults c.model.result x) (record {
       model = c.model.result;
       line = c.line_of.result;
       stuck = c.stuck_of.result;
-    })) (ap (λ p. p.circuit) c.self.view_is)
+    })) (ap (λ p. p.circuit) (seen c.deref-parts.ensures c.self.view_is))
     fault.1
