@@ -110,7 +110,9 @@ fn is_of_one_part<R: AllocGlobal>(
 ) -> Result<bool, AllocError> {
     let fault = line.rsplit_once(' ').map_or(line, |(fault, _)| fault);
     let other = format!(in rt.alloc(); "{fault} -")?;
-    Ok(texts_with(rt, texts, line)? == 1 && texts_with(rt, texts, &other)? + 1 == texts.len())
+    let own = texts_with(rt, texts, line)?;
+    let others = texts_with(rt, texts, &other)?;
+    Ok(own == 1 && others.saturating_add(own) == texts.len())
 }
 
 /// Whether the lines of the first so many faults of a report are each of one part, of so many.
