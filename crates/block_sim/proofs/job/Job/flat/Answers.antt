@@ -5,5 +5,7 @@ use Rattle.block_sim.proofs.job.Job.flat.Goals as goal
 
 pub returns-clause-levelled : goal.returns-clause-levelled
 returns-clause-levelled c =
-    subst (λ p. IsLevelled p.circuit c.deref-parts.result.now.flat.levelled) (seen c.deref-parts.ensures c.self.view_is)
+    let own = c.deref-parts.result.now in
+    let view = seen c.deref-parts.ensures c.self.view_is in
+    subst (λ p. IsLevelled p.circuit own.flat.levelled) view
     c.signals-signals.ensures.levelled

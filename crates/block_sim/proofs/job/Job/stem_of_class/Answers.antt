@@ -8,14 +8,15 @@ use Rattle.block_sim.proofs.job.Job.stem_of_class.Goals as goal
 pub returns-clause-stem : goal.returns-clause-stem
 returns-clause-stem c =
     let own = c.deref-parts.result.now in
-    let view = (seen c.deref-parts.ensures c.self.view_is) in
+    let job = whole c.deref-parts.ensures c.self.invariant in
+    let view = seen c.deref-parts.ensures c.self.view_is in
     let within : c.args.class < length own.class_stems.items = omega (
       arith,
-      (whole c.deref-parts.ensures c.self.invariant).stem_count,
+      job.stem_count,
       ap (λ p. length p.classes.representative) view,
       c.requires,
     ) in
-    let stem = (whole c.deref-parts.ensures c.self.invariant).stems c.args.class c.index.result.now
+    let stem = job.stems c.args.class c.index.result.now
     (slice_get_read own.class_stems.items (length own.class_stems.items) c.args.class
     c.index.result.now refl within c.index.ensures) in
     subst (λ p. IsStemOfClass p.list.model p.circuit c.args.class c.index.result.now) view stem.1
@@ -23,14 +24,15 @@ returns-clause-stem c =
 pub returns-clause-within : goal.returns-clause-within
 returns-clause-within c =
     let own = c.deref-parts.result.now in
-    let view = (seen c.deref-parts.ensures c.self.view_is) in
+    let job = whole c.deref-parts.ensures c.self.invariant in
+    let view = seen c.deref-parts.ensures c.self.view_is in
     let within : c.args.class < length own.class_stems.items = omega (
       arith,
-      (whole c.deref-parts.ensures c.self.invariant).stem_count,
+      job.stem_count,
       ap (λ p. length p.classes.representative) view,
       c.requires,
     ) in
-    let stem = (whole c.deref-parts.ensures c.self.invariant).stems c.args.class c.index.result.now
+    let stem = job.stems c.args.class c.index.result.now
     (slice_get_read own.class_stems.items (length own.class_stems.items) c.args.class
     c.index.result.now refl within c.index.ensures) in
     subst (λ p. c.index.result.now < length (names p.circuit)) view stem.0

@@ -10,41 +10,49 @@ use Rattle.block_sim.proofs.job.Job.word.Goals as goal
 
 pub index-requires : goal.index-requires
 index-requires c =
-    let counted = length-map c.deref-parts.result.now.rows.items (λ row. row.items) in
-    let tests = ap (λ p. groups (length p.tests.tests)) (seen c.deref-parts.ensures c.self.view_is) in
-    omega (arith, (whole c.deref-parts.ensures c.self.invariant).count, counted, tests, c.requires.block, c.deref-parts.result.now.rows.ok.0)
+    let own = c.deref-parts.result.now in
+    let job = whole c.deref-parts.ensures c.self.invariant in
+    let view = seen c.deref-parts.ensures c.self.view_is in
+    let counted = length-map own.rows.items (λ row. row.items) in
+    let tests = ap (λ p. groups (length p.tests.tests)) view in
+    omega (arith, job.count, counted, tests, c.requires.block, own.rows.ok.0)
 
 pub index-requires-2 : goal.index-requires-2
 index-requires-2 c =
-    let counted = length-map c.deref-parts.result.now.rows.items (λ row. row.items) in
-    let tests = ap (λ p. groups (length p.tests.tests)) (seen c.deref-parts.ensures c.self.view_is) in
-    let within : c.args.block / 2 < length c.deref-parts.result.now.rows.items = omega (
+    let own = c.deref-parts.result.now in
+    let job = whole c.deref-parts.ensures c.self.invariant in
+    let view = seen c.deref-parts.ensures c.self.view_is in
+    let counted = length-map own.rows.items (λ row. row.items) in
+    let tests = ap (λ p. groups (length p.tests.tests)) view in
+    let within : c.args.block / 2 < length own.rows.items = omega (
       arith,
-      (whole c.deref-parts.ensures c.self.invariant).count,
+      job.count,
       counted,
       tests,
       c.requires.block,
     ) in
-    let row = (whole c.deref-parts.ensures c.self.invariant).fault_free (c.args.block / 2) c.index.result.now.items
-    (mapped_get (λ row. row.items) c.deref-parts.result.now.rows.items
+    let row = job.fault_free (c.args.block / 2) c.index.result.now.items
+    (mapped_get (λ row. row.items) own.rows.items
     (c.args.block / 2) c.index.result.now within c.index.ensures) in
     omega (arith, row.0, c.place_of-place.ensures.within, c.index.result.now.ok.0)
 
 pub returns : goal.returns
 returns c =
-    let counted = length-map c.deref-parts.result.now.rows.items (λ row. row.items) in
-    let tests = ap (λ p. groups (length p.tests.tests)) (seen c.deref-parts.ensures c.self.view_is) in
-    let within : c.args.block / 2 < length c.deref-parts.result.now.rows.items = omega (
+    let own = c.deref-parts.result.now in
+    let job = whole c.deref-parts.ensures c.self.invariant in
+    let view = seen c.deref-parts.ensures c.self.view_is in
+    let counted = length-map own.rows.items (λ row. row.items) in
+    let tests = ap (λ p. groups (length p.tests.tests)) view in
+    let within : c.args.block / 2 < length own.rows.items = omega (
       arith,
-      (whole c.deref-parts.ensures c.self.invariant).count,
+      job.count,
       counted,
       tests,
       c.requires.block,
     ) in
-    let row = (whole c.deref-parts.ensures c.self.invariant).fault_free (c.args.block / 2) c.index.result.now.items
-    (mapped_get (λ row. row.items) c.deref-parts.result.now.rows.items
+    let row = job.fault_free (c.args.block / 2) c.index.result.now.items
+    (mapped_get (λ row. row.items) own.rows.items
     (c.args.block / 2) c.index.result.now within c.index.ensures) in
-    let own = c.deref-parts.result.now.flat in
     let at = c.place_of-place.result in
     let in_row : at < length c.index.result.now.items = omega (
       arith,
@@ -54,13 +62,13 @@ returns c =
     let read : c.index-2.result.now ≡ get_or c.index.result.now.items at 0 =
     get_or_read c.index.result.now.items at _ in_row c.index-2.ensures 0 in
     subst (λ p. IsFaultFreeWord p.circuit p.tests.tests c.args.block c.args.signal
-    c.block_word.result) (seen c.deref-parts.ensures c.self.view_is)
-    (word_there own.statements own.levelled c.signals-signals.ensures.given.well_formed
-    c.signals-signals.ensures.levelled c.deref-parts.result.now.tests.tests c.args.block c.args.signal
+    c.block_word.result) view
+    (word_there own.flat.statements own.flat.levelled c.signals-signals.ensures.given.well_formed
+    c.signals-signals.ensures.levelled own.tests.tests c.args.block c.args.signal
     c.block_word.result
-    (subst (λ s. IsFaultFreeWord own.levelled c.deref-parts.result.now.tests.tests c.args.block s
+    (subst (λ s. IsFaultFreeWord own.flat.levelled own.tests.tests c.args.block s
     c.block_word.result) c.place_of-place.ensures.place
-    (fault_free_lane own.levelled c.deref-parts.result.now.tests.tests c.args.block at
+    (fault_free_lane own.flat.levelled own.tests.tests c.args.block at
     c.index.result.now.items c.block_word.result c.signals-signals.ensures.circuit.well_formed
     row.1
     (λ k j lt place. c.block_word.ensures k j lt place ∙ ap (λ w. lane w j) read))))
