@@ -49,6 +49,7 @@ returns-clause-words c = λ levelled is.
     c.signals-signals.ensures.given.well_formed c.signals-signals.ensures.levelled
     (subst (λ p. IsLevelled p.circuit levelled) (sym view) is) in
     subst (λ x. AreWords x c.args.self.now.tests.tests c.args.group None c.as_slice.result.now) same
-    (subst (λ p. AreWords own.flat.levelled p.tests.tests c.args.group None c.as_slice.result.now) view
+    (subst (λ p. AreWords own.flat.levelled p.tests.tests c.args.group None c.as_slice.result.now)
+    view
     (subst (λ words. AreWords own.flat.levelled own.tests.tests c.args.group None words)
     (sym c.as_slice.ensures.value) row.1))
