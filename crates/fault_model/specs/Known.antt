@@ -1,6 +1,6 @@
 -- What the parts of collapsing compute.
 use Rattle.std.specs.Prelude.{◌≡◌, ℕ, ◌<◌, Bool, List, [], ◌∷◌, length, Option, Some, None}
-use Rattle.std.specs.Prelude.{slice_get}
+use Rattle.std.specs.Prelude.{option_and_then, option_map, slice_get, slice_index_or}
 use Rattle.bench_net.specs.declared.Sink.{Sink}
 use Rattle.bench_net.specs.declared.Sink.TheVariants as sink
 use Rattle.bench_net.specs.Statement.{Statement}
@@ -40,6 +40,13 @@ HasNext m c class_of i = (j : ℕ) (f g : Fault) → slice_get (faults m c) i �
 abbrev pub HasStems : Model → List Statement → List ℕ → Type 0
 HasStems m c class_of = (i s : ℕ) (b : Bool) → slice_get (faults m c) i ≡ Some
     (record { model = m; line = line.Stem s; stuck = b }) → HasClassAt m c class_of i
+
+-- a table has the number of the next fault of each of the first so many faults
+pub record HaveNexts (m : Model) (c : List Statement) (n : ℕ) (nexts : List (Option ℕ)) : Type 0
+  where
+    pub count : length nexts ≡ n
+    pub each : (i : ℕ) → i < n → option_map (slice_get (faults m c)) (slice_index_or nexts i None)
+        ≡ option_map Some (option_and_then (next c) (slice_get (faults m c) i))
 
 -- what is known of one table is known of the other
 abbrev pub KeepsClasses : Model → List Statement → List ℕ → List ℕ → Type 0

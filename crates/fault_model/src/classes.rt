@@ -8,7 +8,7 @@ ghost use Rattle.fault_model.specs.Fault.{Fault, faults};
 ghost use Rattle.fault_model.specs.Collapse.{next, next_stuck, readers, representatives};
 ghost use Rattle.fault_model.specs.Collapse.{AreClassesOf, ClassesShowSame};
 ghost use Rattle.fault_model.specs.Known.{only_gate, IsInCircuit, HasClassAt, HasEnds, HasNext};
-ghost use Rattle.fault_model.specs.Known.{HasStems, KeepsClasses};
+ghost use Rattle.fault_model.specs.Known.{HasStems, HaveNexts, KeepsClasses};
 
 use crate::Line;
 use crate::faults::Faults;
@@ -123,6 +123,34 @@ fn next_fault(circuit: &Circuit, list: &Faults, fault: u32) -> Option<u32>
     Some(list.stem_fault(gate, stuck))
 }
 
+/// The number of each fault's next fault, if it has one.
+fn next_faults(
+    alloc: Global,
+    circuit: &Circuit,
+    list: &Faults,
+) -> Result<Vec<Option<u32>>, AllocError>
+    requires { list.now.list ≡ faults list.now.model circuit.now }
+    ensures { IfOk result (λ nexts.
+        HaveNexts list.now.model circuit.now (length list.now.list) nexts.items) }
+{
+    let mut nexts = Vec::with_capacity(alloc, list.count() as usize)?;
+    for fault in 0..list.count() {
+        nexts.push(next_fault(circuit, list, fault))?;
+    }
+    Ok(nexts)
+}
+
+/// The number of a fault's next fault in the table of all.
+fn next_in(circuit: &Circuit, list: &Faults, nexts: &[Option<u32>], fault: u32) -> Option<u32>
+    requires same { list.now.list ≡ faults list.now.model circuit.now }
+    requires nexts { HaveNexts list.now.model circuit.now (length list.now.list) nexts.now }
+    requires in_range { fault < length list.now.list }
+    ensures { option_map (slice_get list.now.list) result ≡ option_map Some
+        (option_and_then (next circuit.now) (slice_get list.now.list fault)) }
+{
+    nexts[fault as usize]
+}
+
 /// Two tables under way: the class of each fault, which is right where a fault has no next, and the
 /// representative of each class.
 #[derive(Drop)]
@@ -132,8 +160,14 @@ struct Ends {
 }
 
 /// The classes of the faults that have no next, in the order of the list.
-fn number_ends(alloc: Global, circuit: &Circuit, list: &Faults) -> Result<Ends, AllocError>
-    requires { list.now.list ≡ faults list.now.model circuit.now }
+fn number_ends(
+    alloc: Global,
+    circuit: &Circuit,
+    list: &Faults,
+    nexts: &[Option<u32>],
+) -> Result<Ends, AllocError>
+    requires same { list.now.list ≡ faults list.now.model circuit.now }
+    requires nexts { HaveNexts list.now.model circuit.now (length list.now.list) nexts.now }
     ensures count { IfOk result (λ ends. length ends.class_of.items ≡ length list.now.list) }
     ensures few { IfOk result (λ ends. length ends.representative.items ≤ length list.now.list) }
     ensures classes { IfOk result (λ ends. HasEnds list.now.model circuit.now ends.class_of.items) }
@@ -145,7 +179,7 @@ fn number_ends(alloc: Global, circuit: &Circuit, list: &Faults) -> Result<Ends, 
     let mut representative = Vec::new(alloc);
     for fault in 0..list.count() {
         class_of.push(representative.len() as u32)?;
-        if next_fault(circuit, list, fault).is_none() {
+        if next_in(circuit, list, nexts, fault).is_none() {
             representative.push(fault)?;
         }
     }
@@ -156,8 +190,9 @@ fn number_ends(alloc: Global, circuit: &Circuit, list: &Faults) -> Result<Ends, 
 }
 
 /// A fault's class is that of its next fault.
-fn follow(circuit: &Circuit, list: &Faults, class_of: &mut [u32], fault: u32)
+fn follow(circuit: &Circuit, list: &Faults, nexts: &[Option<u32>], class_of: &mut [u32], fault: u32)
     requires same { list.now.list ≡ faults list.now.model circuit.now }
+    requires nexts { HaveNexts list.now.model circuit.now (length list.now.list) nexts.now }
     requires count { length class_of.old ≡ length list.now.list }
     requires in_range { fault < length list.now.list }
     requires ends { HasEnds list.now.model circuit.now class_of.old }
@@ -165,15 +200,16 @@ fn follow(circuit: &Circuit, list: &Faults, class_of: &mut [u32], fault: u32)
     ensures known { HasClassAt list.now.model circuit.now class_of.new fault }
     ensures kept { KeepsClasses list.now.model circuit.now class_of.old class_of.new }
 {
-    if let Some(next) = next_fault(circuit, list, fault) {
+    if let Some(next) = next_in(circuit, list, nexts, fault) {
         class_of[fault as usize] = class_of[next as usize];
     }
 }
 
 /// The classes of the faults on stems. Signals go from the highest level down, since a next fault
 /// is on the stem of a signal of a higher level.
-fn follow_stems(circuit: &Circuit, list: &Faults, class_of: &mut [u32])
+fn follow_stems(circuit: &Circuit, list: &Faults, nexts: &[Option<u32>], class_of: &mut [u32])
     requires same { list.now.list ≡ faults list.now.model circuit.now }
+    requires nexts { HaveNexts list.now.model circuit.now (length list.now.list) nexts.now }
     requires count { length class_of.old ≡ length list.now.list }
     requires ends { HasEnds list.now.model circuit.now class_of.old }
     ensures stems { HasStems list.now.model circuit.now class_of.new }
@@ -183,14 +219,27 @@ fn follow_stems(circuit: &Circuit, list: &Faults, class_of: &mut [u32])
     let order = circuit.in_level_order();
     for place in (0..circuit.signals()).rev() {
         let signal = order[place as usize];
-        follow(circuit, list, class_of, list.stem_fault(signal, false));
-        follow(circuit, list, class_of, list.stem_fault(signal, true));
+        follow(
+            circuit,
+            list,
+            nexts,
+            class_of,
+            list.stem_fault(signal, false),
+        );
+        follow(
+            circuit,
+            list,
+            nexts,
+            class_of,
+            list.stem_fault(signal, true),
+        );
     }
 }
 
 /// The classes of all faults, from those on stems, since a next fault is on a stem.
-fn follow_all(circuit: &Circuit, list: &Faults, class_of: &mut [u32])
+fn follow_all(circuit: &Circuit, list: &Faults, nexts: &[Option<u32>], class_of: &mut [u32])
     requires same { list.now.list ≡ faults list.now.model circuit.now }
+    requires nexts { HaveNexts list.now.model circuit.now (length list.now.list) nexts.now }
     requires count { length class_of.old ≡ length list.now.list }
     requires ends { HasEnds list.now.model circuit.now class_of.old }
     requires stems { HasStems list.now.model circuit.now class_of.old }
@@ -198,21 +247,22 @@ fn follow_all(circuit: &Circuit, list: &Faults, class_of: &mut [u32])
         → HasClassAt list.now.model circuit.now class_of.new i }
 {
     for fault in 0..list.count() {
-        follow(circuit, list, class_of, fault);
+        follow(circuit, list, nexts, class_of, fault);
     }
 }
 
 /// The classes of all faults, from those that have no next.
-fn follow_chains(circuit: &Circuit, list: &Faults, class_of: &mut [u32])
+fn follow_chains(circuit: &Circuit, list: &Faults, nexts: &[Option<u32>], class_of: &mut [u32])
     requires same { list.now.list ≡ faults list.now.model circuit.now }
+    requires nexts { HaveNexts list.now.model circuit.now (length list.now.list) nexts.now }
     requires count { length class_of.old ≡ length list.now.list }
     requires ends { HasEnds list.now.model circuit.now class_of.old }
     ensures known { (i : ℕ) → i < length list.now.list
         → HasClassAt list.now.model circuit.now class_of.new i }
     ensures circuit { IsCircuit circuit.now }
 {
-    follow_stems(circuit, list, class_of);
-    follow_all(circuit, list, class_of);
+    follow_stems(circuit, list, nexts, class_of);
+    follow_all(circuit, list, nexts, class_of);
 }
 
 /// The classes of the faults of a circuit. A fault whose line is read by one gate pin alone goes
@@ -229,11 +279,12 @@ pub fn collapse(alloc: Global, circuit: &Circuit, list: &Faults) -> Result<Class
     ensures classes { IfOk result (λ classes. AreClassesOf list.now.model circuit.now classes) }
     ensures same { IfOk result (λ _. ClassesShowSame circuit.now) }
 {
+    let nexts = next_faults(alloc, circuit, list)?;
     let Ends {
         mut class_of,
         representative,
-    } = number_ends(alloc, circuit, list)?;
-    follow_chains(circuit, list, class_of.as_mut_slice());
+    } = number_ends(alloc, circuit, list, &nexts)?;
+    follow_chains(circuit, list, &nexts, class_of.as_mut_slice());
     Ok(Classes {
         class_of,
         representative,

@@ -21,10 +21,10 @@ loop-fault-preserved c =
     let class_of = c.loop-fault.class_of.items in
     let reps = c.loop-fault.representative.items in
     let p = within_place (faults m circuit) k (subst (λ n. k < n)
-    (c.count-fault-end.ensures ∙ ap length c.requires) c.loop-fault-test.true) in
-    let found : option_map (slice_get (faults m circuit)) c.next_fault.result
+    (c.count-fault-end.ensures ∙ ap length c.requires.same) c.loop-fault-test.true) in
+    let found : option_map (slice_get (faults m circuit)) c.next_in.result
     ≡ option_map Some (option_and_then (next circuit) (slice_get (faults m circuit) k)) =
-    rw c.requires at c.next_fault.ensures in
+    rw c.requires.same at c.next_in.ensures in
     let count : c.len.result ≡ length reps =
     omega (arith, c.len.ensures, c.loop-fault.representative.ok.0) in
     let classes_are : class_of ++ length reps ∷ [] ≡ c.push.new.self.items =
@@ -32,8 +32,8 @@ loop-fault-preserved c =
     elim c.if-is_none.branch [
       | then-is_none+in_ok-push-2 w ↦
           let none : next circuit p.0 ≡ None =
-          answer_none m circuit k p.0 c.next_fault.result p.1 found
-          (opposite (is_some c.next_fault.result) c.is_none.result true c.is_none.ensures
+          answer_none m circuit k p.0 c.next_in.result p.1 found
+          (opposite (is_some c.next_in.result) c.is_none.result true c.is_none.ensures
           w.if-is_none.true) in
           let reps_are : reps ++ k ∷ [] ≡ c.if-is_none.representative.items =
           rw (w.representative-is, w.in_ok-push-2.ensures.items) in
@@ -41,8 +41,8 @@ loop-fault-preserved c =
           (subst (λ xs. Numbered m circuit (k + 1) (class_of ++ length reps ∷ []) xs) reps_are
           (numbered_end m circuit k p.0 class_of reps p.1 c.loop-fault.invariant none))
       | else-is_none w ↦
-          let some = answer_is_some m circuit k p.0 c.next_fault.result p.1 found
-          (opposite (is_some c.next_fault.result) c.is_none.result false c.is_none.ensures
+          let some = answer_is_some m circuit k p.0 c.next_in.result p.1 found
+          (opposite (is_some c.next_in.result) c.is_none.result false c.is_none.ensures
           w.if-is_none.false) in
           let reps_are : reps ≡ c.if-is_none.representative.items = rw w.representative-is in
           subst (λ xs. Numbered m circuit (k + 1) xs c.if-is_none.representative.items) classes_are
@@ -60,7 +60,7 @@ returns-clause-classes c =
       c.loop-fault-test.false,
       c.loop-fault.auto.fault-end,
       c.count-fault-end.ensures,
-      ap length c.requires,
+      ap length c.requires.same,
     ) in
     let numbered : Numbered m circuit (length (faults m circuit)) c.loop-fault.class_of.items
     c.loop-fault.representative.items =
