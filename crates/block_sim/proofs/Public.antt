@@ -1,7 +1,10 @@
 -- Lemmas on outcomes, representatives and stems: there is a true table, each outcome is one, each
--- test detects or doesn't, each class has one stem.
+-- test detects or doesn't, each class has one stem. Lemmas on what has a number: the signals of a
+-- level order, and the gates whose pins are sinks.
 -- Proofs of the crates above cite these alone.
 pub use Rattle.block_sim.proofs.LawOfTable.{least_is_first}
 pub use Rattle.block_sim.proofs.TrueTable.{one_outcome, true_table, which_detect}
 pub use Rattle.block_sim.proofs.Stems.{class_has_stem, one_class_stem}
 pub use Rattle.block_sim.proofs.Representatives.{representative_at}
+pub use Rattle.block_sim.proofs.LevelOrder.{order_within}
+pub use Rattle.block_sim.proofs.ScheduledGates.{pin_within}

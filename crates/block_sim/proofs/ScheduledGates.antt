@@ -19,7 +19,7 @@ use Rattle.block_sim.specs.declared.flat.Reader.{Reader}
 use Rattle.block_sim.specs.Events.{Reads, IsLive, IsObserved, AreScheduled, level_at}
 use Rattle.block_sim.specs.Flat.{AreReaders}
 use Rattle.block_sim.proofs.ListPlaces.{index_of}
-use Rattle.block_sim.proofs.Readers.{sink_reads}
+use Rattle.block_sim.proofs.Readers.{reader_within, sink_reads}
 use Rattle.block_sim.proofs.LevelsRise.{level_is}
 use Rattle.block_sim.proofs.FaultStart.{output_observed, cell_observed}
 
@@ -203,6 +203,10 @@ module _ (c : List Statement) (well : IsWellFormed c) (s : ℕ) (n : Name)
       → slice_index_or items i d ≡ sink.Pin gate pin → Reads c gate s
   sink_gate i gate pin d lt e = sink_reads c well s n named gate pin
       (among_sinks i (sink.Pin gate pin) (listed i (sink.Pin gate pin) d lt e))
+
+  pub pin_within : (i gate pin : ℕ) (d : Sink) → i < length items
+      → slice_index_or items i d ≡ sink.Pin gate pin → gate < length (names c)
+  pin_within i gate pin d lt e = reader_within c gate s (sink_gate i gate pin d lt e)
 
   pub same_gate : (i j gate pin : ℕ) (k d : Sink) → i < length items → slice_index_or items i d ≡ k
       → j ≡ i → slice_get items j ≡ Some (sink.Pin gate pin) → sink.Pin gate pin ≡ k

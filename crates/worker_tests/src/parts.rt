@@ -108,24 +108,18 @@ fn c17_without_tests_in_parts(rt: HostRuntime) -> Result<(), Fail> {
 }
 
 /// Checks that a gate which is shut for one piece stops the run of the part alone that has the
-/// class. The class is that of G23 sa1, the last of the last region, so it is the last of its part
-/// for each number of parts, and all others are settled.
+/// class. The class is that of G3 sa1, the last of the region that is visited last, so it is the
+/// last of its part for each number of parts, and all others are settled.
 fn check_stopped_part<R: Threads + Wait + Abort>(rt: &R, alloc: Global, job: &Job) {
-    let gate = ShutFor {
-        class: 21,
-        block: 0,
-    };
-    let waiting = RunFault::Unfinished {
-        class: 21,
-        block: 0,
-    };
+    let gate = ShutFor { class: 3, block: 0 };
+    let waiting = RunFault::Unfinished { class: 3, block: 0 };
     for parts in NUMBERS_OF_PARTS {
         assert!(rt; parts > 0);
         let stopped = run_in_parts(rt, alloc, job, parts, 3, &gate).err();
         assert_eq!(rt; stopped, Some(waiting));
         for part in 0..parts {
             let stopped = run_part(rt, alloc, job, part, parts, 2, &gate).err();
-            let own = (10 % parts == part).then_some(waiting);
+            let own = (2 % parts == part).then_some(waiting);
             assert_eq!(rt; stopped, own);
         }
     }
@@ -138,12 +132,13 @@ fn a_stopped_part_leaves_the_others(rt: HostRuntime) -> Result<(), Fail> {
     Ok(())
 }
 
-/// Checks how runs in parts are refused.
+/// Checks how runs in parts are refused. The regions of part 1 of 3 have the stems G16 and G23, those
+/// of part 0 have G11 and G22. G23 and G22 are visited first, as no gate reads them.
 fn check_refused<R: Threads + Wait + Abort>(rt: &R, alloc: Global, job: &Job) {
     let stopped = run_part(rt, alloc, job, 1, 3, 1, &Shut).err();
-    assert_eq!(rt; stopped, Some(RunFault::Unfinished { class: 1, block: 0 }));
+    assert_eq!(rt; stopped, Some(RunFault::Unfinished { class: 7, block: 0 }));
     let stopped = run_part(rt, alloc, job, 0, 3, 1, &Shut).err();
-    assert_eq!(rt; stopped, Some(RunFault::Unfinished { class: 5, block: 0 }));
+    assert_eq!(rt; stopped, Some(RunFault::Unfinished { class: 0, block: 0 }));
     let stopped = run_in_parts(rt, alloc, job, 3, 1, &Shut).err();
     assert_eq!(rt; stopped, Some(RunFault::Unfinished { class: 0, block: 0 }));
     let none = run_in_parts(rt, alloc, job, 3, 0, &OpenGate).err();

@@ -3,7 +3,7 @@ use Rattle.std.proofs.Common.{◌≡◌, ◌≢◌, ◌<◌, ◌≤◌, ◌+◌,
 use Rattle.std.proofs.Common.{suc, List, [], ◌∷◌, ◌++◌, map, set, take, drop, length, get_or, All}
 use Rattle.std.proofs.Common.{Option, Some, None, refl, sym, ap, ◌∙◌, subst, arith, replicate}
 use Rattle.std.proofs.Common.{length-drop}
-use Rattle.std.specs.Prelude.{option_map, slice_get, slice_range}
+use Rattle.std.specs.Prelude.{option_map, slice_get, slice_index_or, slice_range}
 use Rattle.bench_net.specs.Statement.{Statement}
 use Rattle.fault_model.specs.declared.Model.{Model}
 use Rattle.fault_model.specs.Solution.{Test}
@@ -138,6 +138,7 @@ pub part_list : (job : Parts) (parts part s e : ℕ) (ranked : List Ranked) (cla
     → IsCutOf job parts ranked classes → IsStart ranked part s → IsStart ranked (part + 1) e
     → ArePartOf job parts part (slice_range classes s e)
 part_list job parts part s e ranked classes cut from to = record {
+  visits = cut.ranked_are.visits;
   each = λ k class at.
       let x = found k class at in
       let is = cut.ranked_are.each (s + k) x.0 x.1 in (
@@ -171,7 +172,10 @@ part_list job parts part s e ranked classes cut from to = record {
       (subst (λ c. IsStemOfClass job.list.model job.circuit c x.0.stem) x.2 left.stem) ra in
       let qs : y.0.stem ≡ q = one_class_stem job.list.model job.circuit second y.0.stem q
       (subst (λ c. IsStemOfClass job.list.model job.circuit c y.0.stem) y.2 right.stem) qb in
-      later x.0 y.0 first second r q x.2 y.2 rs qs (own i x.0 x.3 x.1) (own k y.0 y.3 y.1)
+      later x.0 y.0 first second r q x.2 y.2 rs qs
+      (left.visit ∙ ap (λ t. slice_index_or cut.ranked_are.visits t 0) rs)
+      (right.visit ∙ ap (λ t. slice_index_or cut.ranked_are.visits t 0) qs)
+      (own i x.0 x.3 x.1) (own k y.0 y.3 y.1)
       (cut.ranked_are.ordered (s + i) (s + k) x.0 y.0 (omega (arith, lt)) x.1 y.1);
   few = part_few job parts s e ranked classes cut le to.within;
 }
@@ -210,14 +214,23 @@ part_list job parts part s e ranked classes cut from to = record {
         go (inr x) = let bad = to.behind k at x is in absurd (omega (arith, bad, same))
 
     later : (a b : Ranked) (first second r q : ℕ) → a.class ≡ first → b.class ≡ second → a.stem ≡ r
-        → b.stem ≡ q → a.part ≡ part → b.part ≡ part → RanksBefore a b
-        → (r < q) ⊎ ((r ≡ q) × (first < second))
-    later a b first second r q ca cb sa sb pa pb (inl x) = absurd (omega (arith, x, pa, pb))
-    later a b first second r q ca cb sa sb pa pb (inr (_, inl x)) = inl (omega (arith, x, sa, sb))
-    later a b first second r q ca cb sa sb pa pb (inr (_, inr x)) = inr (
-      omega (arith, x.0, sa, sb),
-      omega (arith, x.1, ca, cb),
-    )
+        → b.stem ≡ q → a.visit ≡ slice_index_or cut.ranked_are.visits r 0
+        → b.visit ≡ slice_index_or cut.ranked_are.visits q 0 → a.part ≡ part → b.part ≡ part
+        → RanksBefore a b
+        → (slice_index_or cut.ranked_are.visits r 0 < slice_index_or cut.ranked_are.visits q 0)
+        ⊎ ((slice_index_or cut.ranked_are.visits r 0 ≡ slice_index_or cut.ranked_are.visits q 0)
+        × ((r < q) ⊎ ((r ≡ q) × (first < second))))
+    later a b first second r q ca cb sa sb va vb pa pb (inl x) =
+        absurd (omega (arith, x, pa, pb))
+    later a b first second r q ca cb sa sb va vb pa pb (inr (_, inl x)) =
+        inl (omega (arith, x, va, vb))
+    later a b first second r q ca cb sa sb va vb pa pb (inr (_, inr (v, inl x))) =
+        inr (omega (arith, v, va, vb), inl (omega (arith, x, sa, sb)))
+    later a b first second r q ca cb sa sb va vb pa pb (inr (_, inr (v, inr x))) =
+        inr (
+          omega (arith, v, va, vb),
+          inr (omega (arith, x.0, sa, sb), omega (arith, x.1, ca, cb)),
+        )
 
 -- each is a class of the job
 pub part_within : (job : Parts) (parts part : ℕ) (classes : List ℕ)

@@ -1,6 +1,6 @@
 -- The parts of the classes, and what a run over a part says of each fault.
 use Rattle.std.specs.Prelude.{◌≡◌, ◌≢◌, ◌⊎◌, ◌<◌, ◌≤◌, ℕ, ◌%◌, List, length, slice_get, Option}
-use Rattle.std.specs.Prelude.{Some, None}
+use Rattle.std.specs.Prelude.{Some, None, slice_index_or}
 use Rattle.fault_model.specs.Fault.{Fault, faults}
 use Rattle.block_sim.specs.First.{IsFirst}
 use Rattle.block_sim.specs.Parts.{Parts}
@@ -19,24 +19,28 @@ abbrev pub IsInOnePart : Parts → ℕ → ℕ → Type 0
 IsInOnePart job parts class = (part : ℕ) × (part < parts) × IsOfPart job parts part class
     × ((other : ℕ) → IsOfPart job parts other class → other ≡ part)
 
--- one class comes before another: by the numbers of the stems of their regions, and in a region by
--- its own number
-abbrev pub ComesBefore : Parts → ℕ → ℕ → Type 0
-ComesBefore job first second = (r q : ℕ)
+-- one class comes before another: by the visits to the stems of their regions, then by the numbers
+-- of these, and in a region by its own number
+abbrev pub ComesBefore : Parts → List ℕ → ℕ → ℕ → Type 0
+ComesBefore job visits first second = (r q : ℕ)
     → IsStemOfClass job.list.model job.circuit first r
     → IsStemOfClass job.list.model job.circuit second q
-    → (r < q) ⊎ ((r ≡ q) × (first < second))
+    → (slice_index_or visits r 0 < slice_index_or visits q 0)
+    ⊎ ((slice_index_or visits r 0 ≡ slice_index_or visits q 0)
+    × ((r < q) ⊎ ((r ≡ q) × (first < second))))
 
 -- The classes of a part, of so many parts, region by region: each is one of the part, each of the
--- part is among them, and each comes before those behind it, so that it stands there once and those
--- of one region stand next to each other. So they are no more than the job's.
+-- part is among them, and each comes before those behind it by some visits to the stems, so that it
+-- stands there once and those of one region stand next to each other. So they are no more than the
+-- job's.
 pub record ArePartOf (job : Parts) (parts part : ℕ) (classes : List ℕ) : Type 0 where
+  pub visits : List ℕ
   pub each : (k class : ℕ) → slice_get classes k ≡ Some class
       → (class < length job.classes.representative) × IsOfPart job parts part class
   pub all : (class : ℕ) → class < length job.classes.representative
       → IsOfPart job parts part class → (k : ℕ) × (slice_get classes k ≡ Some class)
   pub ordered : (i k first second : ℕ) → i < k → slice_get classes i ≡ Some first
-      → slice_get classes k ≡ Some second → ComesBefore job first second
+      → slice_get classes k ≡ Some second → ComesBefore job visits first second
   pub few : length classes ≤ length job.classes.representative
 
 -- The verdict on a class by the first tests of the classes of a list, up to some place: that of the

@@ -25,6 +25,7 @@ mod simulator;
 mod taken;
 mod threads;
 mod verdicts;
+mod visits;
 mod worker;
 
 ghost use Rattle.std.specs.Prelude.{◌≡◌, ◌<◌, ◌≤◌, ◌*◌, IfErr, OnOk, length};

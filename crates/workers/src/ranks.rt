@@ -1,22 +1,25 @@
 //! The classes of a job in the order of its parts.
 
-ghost use Rattle.std.specs.Prelude.{◌≡◌, ◌<◌, ◌≤◌, ℕ, IfOk, length, slice_range};
+ghost use Rattle.std.specs.Prelude.{◌≡◌, ◌<◌, ◌≤◌, ℕ, IfOk, List, length, slice_index_or};
+ghost use Rattle.std.specs.Prelude.{slice_range};
 ghost use Rattle.block_sim.specs.Parts.{Parts};
 ghost use Rattle.workers.specs.Rank.{AreNumbered, AreRanked, IsCutOf, IsStart};
 
+use crate::visits::visit_order;
 use block_sim::Job;
 use std::alloc::{AllocError, Global};
 
-/// A class of a job, with its part and the number of its region's stem. It is ordered by its part,
-/// then by its stem, then by its own number.
+/// A class of a job, with its part, the visit to its region's stem and the number of that. It is
+/// ordered by its part, then by the visit and the stem, then by its own number.
 #[derive(Clone, Copy, Debug, PartialEq, Eq, PartialOrd, Ord)]
 pub(crate) struct Ranked {
     part: u32,
+    visit: u32,
     stem: u32,
     class: u32,
 }
 
-/// All classes of a job, part by part, and in each part region by region.
+/// All classes of a job, part by part, and in each part region by region, as they are visited.
 #[derive(Drop)]
 pub(crate) struct Cut {
     ranked: Vec<Ranked>,
@@ -68,15 +71,32 @@ fn ranked_classes(alloc: Global, job: &Job, parts: u32) -> Result<Vec<Ranked>, A
 /// All classes of a job by their own numbers.
 fn numbered_classes(alloc: Global, job: &Job, parts: u32) -> Result<Vec<Ranked>, AllocError>
     requires { 0 < parts }
-    ensures { IfOk result (λ ranked. AreNumbered job.now parts
+    ensures { IfOk result (λ ranked. (visits : List ℕ) × AreNumbered job.now parts visits
         (length job.now.classes.representative) ranked.items) }
 {
     let count = job.classes().count();
+    let visits = visit_order(alloc, job.circuit())?;
     let mut ranked = Vec::with_capacity(alloc, count as usize)?;
     for class in 0..count {
         let stem = job.stem_of_class(class);
         let part = stem % parts;
-        ranked.push(Ranked { part, stem, class })?;
+        let visit = visit_to(visits.as_slice(), stem);
+        ranked.push(Ranked {
+            part,
+            visit,
+            stem,
+            class,
+        })?;
     }
     Ok(ranked)
+}
+
+/// The visit to a signal, among those to all.
+fn visit_to(visits: &[u32], signal: u32) -> u32
+    ensures { result ≡ slice_index_or visits.now signal 0 }
+{
+    match visits.get(signal as usize) {
+        Some(visit) => *visit,
+        None => 0,
+    }
 }

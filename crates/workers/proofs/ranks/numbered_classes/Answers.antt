@@ -1,4 +1,5 @@
 use Rattle.std.proofs.Common.{◌+◌, ◌∙◌, ap, arith, length, refl, subst, sym}
+use Rattle.std.specs.Prelude.{slice_index_or}
 use Rattle.fault_model.specs.Collapse.{Collapsed}
 use Rattle.workers.specs.Rank.{AreNumbered}
 use Rattle.workers.proofs.ClassRanks.{numbered_more}
@@ -9,9 +10,12 @@ loop-class-preserved c =
     let job = c.args.job.now in
     let count = c.count-count.ensures
     ∙ ap (λ (x : Collapsed). length x.representative) c.classes.ensures.part in
-    subst (AreNumbered job c.args.parts (c.loop-class.class + 1)) (sym c.in_ok-push.ensures.items)
-    (numbered_more job c.args.parts c.loop-class.class c.loop-class.ranked.items (record {
+    let visits = c.in_ok-visits.visits.items in
+    subst (AreNumbered job c.args.parts visits (c.loop-class.class + 1))
+    (sym c.in_ok-push.ensures.items)
+    (numbered_more job c.args.parts visits c.loop-class.class c.loop-class.ranked.items (record {
       part = _;
+      visit = _;
       stem = _;
       class = _;
     }) c.loop-class.invariant refl
@@ -19,4 +23,6 @@ loop-class-preserved c =
       within = omega (arith, c.loop-class-test.true, count);
       stem = c.stem_of_class-stem.ensures.stem;
       part = refl;
+      visit = c.visit_to-visit.ensures
+          ∙ ap (λ l. slice_index_or l c.stem_of_class-stem.result 0) c.as_slice.ensures.value;
     }))
