@@ -56,8 +56,8 @@ def try_program(folder, library):
     texts = ["--bench", str(DATA / "c17.bench"), "--tests", str(DATA / "one.tests"), "--list"]
     for command, words in (
         ("faults", texts[:2]),
-        ("run", [*texts, "--workers", "2"]),
-        ("run", [*texts, "--workers", "64"]),
+        ("run", [*texts, "--workers", "2", "--parts", "2"]),
+        ("run", [*texts, "--workers", "64", "--parts", "64"]),
         ("schedule", [*texts, "--workers", "2", "--order", str(order)]),
     ):
         words = [str(compare.PROGRAM), command, *words]

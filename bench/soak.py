@@ -5,9 +5,9 @@
 
 It builds baseline.cpp with g++ and the program with `rt run`, as compare.py does; --built takes the program that stands
 in out/ already. Each run is of a circuit of generate.py's `tiny_circuit` or of 10 to 200 random gates, with 1 to 300
-tests, of one of the fault models, and of 2 to 64 workers. What the program writes with the list, and its status, must
-be the same byte for byte as with `--workers 1` and as the baseline's. It ends with status 1 at the first run that
-differs, and names its seed.
+tests, of one of the fault models, and of 2 to 64 workers with one to three parts each, since a plain run of a small
+circuit has one thread. What the program writes with the list, and its status, must be the same byte for byte as with
+`--workers 1` and as the baseline's. It ends with status 1 at the first run that differs, and names its seed.
 """
 
 import argparse
@@ -51,7 +51,9 @@ def main():
             bench_file.write_text(bench)
             tests_file.write_text(tests)
             words = ["run", "--bench", str(bench_file), "--tests", str(tests_file), "--list", "--model", model]
-            _, many = compare.timed([str(compare.PROGRAM), *words, "--workers", str(workers)])
+            parts = workers * (1 + seed % 3)
+            many_words = [*words, "--workers", str(workers), "--parts", str(parts)]
+            _, many = compare.timed([str(compare.PROGRAM), *many_words])
             _, one = compare.timed([str(compare.PROGRAM), *words, "--workers", "1"])
             _, other = compare.timed([str(baseline), *words, "--workers", "1"])
             if not many == one == other:

@@ -94,8 +94,8 @@ fn merges_say_that_memory_is_out(rt: HostRuntime) -> Result<(), Fail> {
     sweep_merge(&rt, rt.alloc())
 }
 
-/// A run of C17 by this number of workers.
-fn run_by<'a, R>(rt: &'a R, words: &'a [&'a str; 8]) -> Commanded<'a, R> {
+/// A run of C17 by this number of workers, each with a part of its own.
+fn run_by<'a, R>(rt: &'a R, words: &'a [&'a str; 10]) -> Commanded<'a, R> {
     Commanded {
         rt,
         words,
@@ -104,8 +104,8 @@ fn run_by<'a, R>(rt: &'a R, words: &'a [&'a str; 8]) -> Commanded<'a, R> {
     }
 }
 
-/// The words of a run of C17 by this number of workers.
-fn run_words_by<'a>(workers: &'a str) -> [&'a str; 8] {
+/// The words of a run of C17 by this number of workers and in as many parts.
+fn run_words_by<'a>(workers: &'a str) -> [&'a str; 10] {
     [
         "faultsim",
         "run",
@@ -114,6 +114,8 @@ fn run_words_by<'a>(workers: &'a str) -> [&'a str; 8] {
         "--tests",
         "tests",
         "--workers",
+        workers,
+        "--parts",
         workers,
     ]
 }

@@ -77,7 +77,7 @@ pub fn curve_text_watched<R: Threads + Wait, G: Watch + Sync, W: Out>(
     ensures workers { OnOk result ((0 < workers) × (workers ≤ 64)) }
 {
     let job = job_of(alloc, model, bench, tests)?;
-    let parts = parts_for(workers);
+    let parts = parts_for(&job, workers);
     report_curve(rt, alloc, &job, parts, workers, gate, out)
 }
 

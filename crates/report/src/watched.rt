@@ -96,7 +96,7 @@ pub(crate) fn watch_whole<R: Threads + Wait, G: Watch + Sync, W: Out>(
     ensures workers { OnOk result ((0 < workers) × (workers ≤ 64)) }
 {
     let job = job_of(alloc, model, bench, tests)?;
-    let parts = parts_for(workers);
+    let parts = parts_for(&job, workers);
     report_run(rt, alloc, &job, parts, workers, contents, gate, out)
 }
 

@@ -109,7 +109,7 @@ pub fn run_table_watched<R: Threads + Wait, G: Watch + Sync, W: Out>(
     ensures workers { OnOk result ((0 < workers) × (workers ≤ 64)) }
 {
     let job = job_of(alloc, model, bench, tests)?;
-    let parts = parts_for(workers);
+    let parts = parts_for(&job, workers);
     write_run(rt, alloc, &job, parts, workers, lines, format, gate, out)
 }
 

@@ -1,5 +1,5 @@
 -- What workers give back, by part, and what it is together.
-use Rattle.std.proofs.Common.{◌≡◌, ◌<◌, ◌⊎◌, inl, inr, ℕ, zero, suc, List, [], ◌∷◌, ◌++◌, set}
+use Rattle.std.proofs.Common.{◌≡◌, ◌<◌, ◌≤◌, ◌⊎◌, inl, inr, ℕ, zero, suc, List, [], ◌∷◌, ◌++◌, set}
 use Rattle.std.proofs.Common.{length, All, Option, Some, None, IfSome, refl, sym, ap, ◌∙◌, subst}
 use Rattle.std.proofs.Common.{arith}
 use Rattle.std.specs.Prelude.{slice_get, Result, Ok, IfOk}
@@ -115,7 +115,7 @@ given_more {Z} {E} parts back given was table before put =
 -- what threads gave back is what workers found
 pub found_by_part : {Z E : Type 0} (job : Parts) (ranked : List Ranked) (classes : List ℕ)
     (workers n parts : ℕ) (P : Type 0) (S : Stops) (back : List (Result (Vec Done Z) E))
-    (table : List (Option Done)) → n ≡ workers
+    (table : List (Option Done)) → n ≤ workers
     → All (λ one. IfOk one (λ all. (worker : ℕ) × (worker < n)
     × AreDone job ranked classes worker P S all.items)) back → AreGivenBack parts back table
     → AreFoundByPart job ranked classes workers P S table

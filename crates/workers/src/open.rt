@@ -18,12 +18,23 @@ use std::thread::Threads;
 /// parts end less evenly, as a worker that has ended takes a part that is left.
 const PARTS_OF_A_WORKER: u32 = 4;
 
+/// A job is small where its pieces times its signals are fewer: a run of it takes some
+/// milliseconds, and the start of threads would take longer than they save.
+const SMALL_JOB: u64 = 1 << 26;
+
+/// Whether a job is so small that several workers are no faster than one.
+fn is_small(job: &Job) -> bool {
+    let pieces = u64::from(job.classes().count()) * u64::from(job.tests().blocks());
+    pieces.saturating_mul(u64::from(job.circuit().signals())) < SMALL_JOB
+}
+
 /// In how many parts so many workers run a job where no number of parts is given: one worker in one
-/// part, and several in some times more parts than they are, so that all end at about one time.
-pub fn parts_for(workers: u32) -> u32
+/// part, and several in some times more parts than they are, so that all end at about one time. A
+/// small job is run in one part, and so by one worker.
+pub fn parts_for(job: &Job, workers: u32) -> u32
     ensures { 0 < result }
 {
-    if workers < 2 {
+    if workers < 2 || is_small(job) {
         1
     } else {
         PARTS_OF_A_WORKER * workers.min(MAX_WORKERS)
@@ -45,7 +56,7 @@ pub fn run_open<R: Threads + Wait>(
     ensures workers { OnOk result ((0 < workers) × (workers ≤ 64)) }
     ensures refused { IfErr result (IsRunFault job.now workers ⊤ (λ _ _ _. ⊥)) }
 {
-    let parts = parts_for(workers);
+    let parts = parts_for(job, workers);
     match run_in_parts(rt, alloc, job, parts, workers, &OpenGate) {
         Ok(verdicts) => Ok(verdicts),
         Err(fault) => Err(fault),

@@ -133,8 +133,8 @@ fn first_in(verdict: PartVerdict) -> Option<u32>
 /// for each fault of the list, before collapsing, the first test that detects it, or none, where
 /// its class is of the part, and else that it is of another part.
 ///
-/// It is refused as [`crate::run_classes`] is for the classes of the part, whose pieces alone
-/// count.
+/// It is refused as [`crate::run_classes`] is for the classes of the part in the order in which
+/// their regions are visited, whose pieces alone count.
 pub fn run_part<G: Gate + Sync, R: Threads + Wait>(
     rt: &R,
     alloc: Global,
@@ -164,8 +164,8 @@ pub fn run_part<G: Gate + Sync, R: Threads + Wait>(
     Ok(verdicts)
 }
 
-/// Runs all classes of a job in parts, by workers in threads of their own, numbered from 0. A
-/// worker takes a part that none has taken, runs it alone, and goes on to the next. It simulates
+/// Runs all classes of a job in parts, by workers in threads of their own, numbered from 0, of
+/// which no more are started than there are parts. A worker takes a part that none has taken, runs it alone, and goes on to the next. It simulates
 /// the part's classes block after block, and leaves out a class that an earlier block detects. So
 /// workers share no ledger, and none is made. The verdicts are the first tests, for every number of
 /// parts and of workers, whatever the workers do in whatever order. The skipped pieces are those
@@ -368,7 +368,7 @@ fn gather<G: Gate + Sync, R: Threads + Wait>(
     ensures refused { IfErr result (IsPartsFault job.now parts workers (G.passing gate.now)
         (G.stops gate.now)) }
 {
-    let crew = crew_of(alloc, job, workers)?;
+    let crew = crew_of(alloc, job, workers.min(parts))?;
     let back = take_parts(rt, alloc, job, cut, parts, gate, crew)?;
     let table = table_of(alloc, parts, back)?;
     join_parts(alloc, job, cut, parts, workers, gate, table)
