@@ -172,8 +172,9 @@ fn a_worker_works(rt: HostRuntime) -> Result<(), Fail> {
 
 /// Lets 64 workers start where few find room for a stack, and then where all do.
 fn starts<R: Threads + Wait + Abort>(rt: &R, alloc: Global, job: &Job) -> Result<(), Fail> {
-    // No stack of a thread finds room, but for those that are kept from threads that ended.
-    let ballast = Ballast::large(alloc, 20)?;
+    // No stack of a thread finds room, 8 MB, but for those that are kept from threads that ended.
+    // Up to 4 MB do, so that small blocks are there though the heap may have no room to grow.
+    let ballast = Ballast::large(alloc, 22)?;
     let refused = run(rt, alloc, job, 64, &OpenGate).err();
     drop(ballast);
     assert_eq!(rt; refused, Some(RunFault::Threads));
