@@ -127,7 +127,7 @@ fn command_lines_start_as_many_workers_as_they_name(rt: HostRuntime) -> Result<(
     let few = run_words_by("4");
     let many = run_words_by("64");
     assert_eq!(rt; run_by(&rt, &few).attempt(rt.alloc()), Outcome::Right);
-    let ballast = Ballast::large(rt.alloc(), 22)?;
+    let ballast = Ballast::large(rt.alloc(), 20)?;
     let outcome = run_by(&rt, &many).attempt(rt.alloc());
     drop(ballast);
     assert_eq!(rt; outcome, Outcome::Refused);
