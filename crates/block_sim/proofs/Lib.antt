@@ -45,6 +45,7 @@ mod RegionLanes
 mod FlipLanes
 mod FaultLanes
 mod KeptOutcomes
+mod RegionHits
 mod ResponseRows
 mod PlaceTables
 mod LevelledSignals

@@ -1,6 +1,6 @@
 -- Blocks that are simulated at once: one block, or the two blocks of a group.
 use Rattle.std.specs.Prelude.{◌≡◌, ℕ, ◌+◌, ◌*◌, ◌/◌, ◌<◌, ◌≤◌, List, length, nat_lt, true}
-use Rattle.std.specs.Prelude.{if◌then◌else◌}
+use Rattle.std.specs.Prelude.{◌&&◌, if◌then◌else◌}
 use Rattle.fault_model.specs.Solution.{Test}
 use Rattle.patterns.specs.Tests.{blocks}
 use Rattle.block_sim.specs.declared.span.Span.{Span}
@@ -41,4 +41,13 @@ abbrev pub span_from : ℕ → Span
 span_from block = record {
   first = block;
   last = if nat_lt block 2 then block else block / 2 * 2 + 1;
+}
+
+-- of so many tests the blocks that are simulated at once for the sake of one: from the third block
+-- on it and what is behind it in its group, before that it alone
+abbrev pub span_of : ℕ → ℕ → Span
+span_of tests block = record {
+  first = block;
+  last = if nat_lt 1 block && nat_lt (block / 2 * 2 + 1) (blocks tests) then block / 2 * 2 + 1
+      else block;
 }

@@ -9,15 +9,19 @@ ghost use Rattle.fault_model.specs.Collapse.{representatives};
 ghost use Rattle.patterns.specs.Tests.{IsTestList, blocks, max_pieces};
 ghost use Rattle.block_sim.specs.Job.{AreFaultFree};
 ghost use Rattle.block_sim.specs.Levelled.{IsLevelled};
+ghost use Rattle.block_sim.specs.Origins.{IsListed, IsOriginOf};
 ghost use Rattle.block_sim.specs.Parts.{BelongTogether, piece_count, with_tests};
 ghost use Rattle.block_sim.specs.Regions.{IsStemOfClass};
-ghost use Rattle.block_sim.specs.Spans.{groups};
+ghost use Rattle.block_sim.specs.Spans.{groups, span_of};
 ghost use Rattle.block_sim.specs.Stuck.{stuck_fault};
 ghost use Rattle.block_sim.specs.Words.{AreWords, IsFaultFreeWord};
 
 use crate::block_lanes::block_word;
 use crate::flat::FlatCircuit;
+use crate::line_signals::carried;
+use crate::origin::{Listed, Origin};
 use crate::region_classes::{class_stems, next_with_stem};
+use crate::span::Span;
 use crate::words::{Stuck, evaluate};
 use bench_net::Circuit;
 use fault_model::{Classes, Faults};
@@ -270,6 +274,41 @@ impl Job {
             line: parts.faults.line_of(fault),
             at_one: parts.faults.stuck_of(fault),
         }
+    }
+
+    /// What the simulation of a class starts from.
+    pub(crate) fn origin(&self, class: u32) -> Origin
+        requires { class < length self.now.classes.representative }
+        ensures { IsOriginOf self.now class result }
+    {
+        let circuit = self.flat();
+        let fault = self.representative(class).moved(circuit);
+        Origin {
+            fault,
+            carried: carried(circuit, fault.line),
+        }
+    }
+
+    /// A class as a list of classes has it.
+    pub fn listed(&self, class: u32) -> Listed
+        requires { class < length self.now.classes.representative }
+        ensures class { result.class ≡ class }
+        ensures listed { IsListed self.now result }
+    {
+        Listed {
+            class,
+            stem: self.stem_of_class(class),
+            origin: self.origin(class),
+        }
+    }
+
+    /// The last block that is simulated at once with a block and what is behind that: from the third
+    /// block on the other one of its group of two, where it comes behind it.
+    pub fn last_together(&self, block: u32) -> u32
+        requires { block < blocks (length self.now.tests.tests) }
+        ensures { result ≡ (span_of (length self.now.tests.tests) block).last }
+    {
+        Span::from(&self.parts.tests, block).last
     }
 
     /// The number of the signal that is the stem of a class, from 0: the stem of the fan-out-free

@@ -10,33 +10,33 @@ ghost use Rattle.bench_net.specs.Statement.{Name, Statement};
 ghost use Rattle.bench_net.specs.Scan.{names, signal};
 ghost use Rattle.bench_net.specs.Circuit.{IsWellFormed};
 ghost use Rattle.fault_model.specs.declared.Line.{Line};
-ghost use Rattle.fault_model.specs.Fault.{faults};
+ghost use Rattle.fault_model.specs.Fault.{Fault};
 ghost use Rattle.fault_model.specs.Detection.{HasBit, IsInitialized, IsSecondOfPair, LooksBack};
 ghost use Rattle.fault_model.specs.Detection.{name_on};
 ghost use Rattle.block_sim.specs.Levelled.{IsLevelled};
+ghost use Rattle.block_sim.specs.Origins.{Starts};
 ghost use Rattle.block_sim.specs.Spans.{groups};
-ghost use Rattle.block_sim.specs.Stuck.{stuck_fault};
 ghost use Rattle.block_sim.specs.Words.{lane};
 
 use crate::job::Job;
-use crate::line_signals::carried;
-use crate::words::Stuck;
+use crate::origin::Origin;
 
 /// The lanes of a group whose test before lets the fault be detected: for a stuck-at fault all
 /// lanes, for a transition fault those in which that test gives its line the bit that the line is
 /// slow to leave, and in a list of pairs of these the second tests of the pairs.
-pub fn lanes_that_fit(job: &Job, group: u32, fault: Stuck) -> u128
+pub fn lanes_that_fit(job: &Job, group: u32, origin: Origin) -> u128
     requires group { group < groups (length job.now.tests.tests) }
-    requires listed { Contains (faults fault.model job.now.circuit) (stuck_fault fault) }
-    ensures { (k : ℕ) → k < 128 → 128 * group + k < length job.now.tests.tests
-        → Decides (lane result k) (LooksBack job.now.circuit job.now.tests.tests fault.model
-        fault.line fault.at_one (128 * group + k)) }
+    requires origin { (f : Fault) × Starts job.now.circuit f origin }
+    ensures { (f : Fault) (k : ℕ) → Starts job.now.circuit f origin → k < 128
+        → 128 * group + k < length job.now.tests.tests
+        → Decides (lane result k) (LooksBack job.now.circuit job.now.tests.tests f.model
+        f.line f.stuck (128 * group + k)) }
 {
-    match fault.model {
+    match origin.fault.model {
         fault_model::Model::StuckAt => !0,
-        fault_model::Model::Transition => initialized_lanes(job, group, fault),
+        fault_model::Model::Transition => initialized_lanes(job, group, origin),
         fault_model::Model::TransitionPairs => {
-            second_lanes() & initialized_lanes(job, group, fault)
+            second_lanes() & initialized_lanes(job, group, origin)
         }
     }
 }
@@ -53,17 +53,17 @@ fn second_lanes() -> u128
 
 /// The lanes of a group whose test before gives the line of a fault the fault's bit. The first test
 /// of all has none before it.
-fn initialized_lanes(job: &Job, group: u32, fault: Stuck) -> u128
+fn initialized_lanes(job: &Job, group: u32, origin: Origin) -> u128
     requires group { group < groups (length job.now.tests.tests) }
-    requires listed { Contains (faults fault.model job.now.circuit) (stuck_fault fault) }
-    ensures { (k : ℕ) → k < 128 → 128 * group + k < length job.now.tests.tests
-        → Decides (lane result k) (IsInitialized job.now.circuit job.now.tests.tests fault.line
-        fault.at_one (128 * group + k)) }
+    requires origin { (f : Fault) × Starts job.now.circuit f origin }
+    ensures { (f : Fault) (k : ℕ) → Starts job.now.circuit f origin → k < 128
+        → 128 * group + k < length job.now.tests.tests
+        → Decides (lane result k) (IsInitialized job.now.circuit job.now.tests.tests f.line
+        f.stuck (128 * group + k)) }
 {
-    let circuit = job.flat();
-    let line = circuit.moved_line(fault.line);
-    let before = word_before(job, group, carried(circuit, line));
-    let fits = if fault.at_one { before } else { !before };
+    let _circuit = job.flat();
+    let before = word_before(job, group, origin.carried);
+    let fits = if origin.fault.at_one { before } else { !before };
     let earlier = if group == 0 { !1 } else { !0 };
     fits & earlier
 }

@@ -7,6 +7,7 @@ ghost use Rattle.bench_net.specs.Scan.{names};
 ghost use Rattle.fault_model.specs.Fault.{Fault, faults};
 ghost use Rattle.fault_model.specs.Solution.{Test};
 ghost use Rattle.block_sim.specs.Changes.{HasRoomFor, IsAsLarge, IsClear};
+ghost use Rattle.block_sim.specs.Origins.{Carries};
 ghost use Rattle.block_sim.specs.Regions.{HasCome, IsReached, IsReadBy, IsStemOf, IsStemOfLine};
 ghost use Rattle.block_sim.specs.Regions.{TellsFirstFlips};
 ghost use Rattle.block_sim.specs.Spans.{AreInSpan, group_of};
@@ -17,10 +18,10 @@ ghost use Rattle.block_sim.specs.Words.{lane, AreWords, HasWords};
 
 use crate::changes::Changes;
 use crate::effect::gate_change;
-use crate::line_signals::carried;
+use crate::origin::Origin;
 use crate::spread::{Extent, Followed, spread};
 use crate::view::BlockView;
-use crate::words::{Stuck, evaluate_gate};
+use crate::words::evaluate_gate;
 use fault_model::Line;
 
 /// A signal to which a fault has come, and the lanes in which it did.
@@ -119,29 +120,31 @@ pub enum Reach {
 
 /// Follows a fault from its line to the stem of its region: a fault on a signal from that, one on a
 /// gate's pin from the gate's signal. One on an observer's line is detected where it turns that.
-pub fn follow(view: BlockView<'_>, fault: Stuck, changes: &mut Changes) -> Reach
+pub fn follow(view: BlockView<'_>, origin: Origin, changes: &mut Changes) -> Reach
     requires view { HasWords view.circuit.now.levelled view.good.now }
     requires words { (tests : List Test) × (group : ℕ)
         × AreWords view.circuit.now.levelled tests group None view.good.now }
-    requires listed { Contains (faults fault.model view.circuit.now.levelled) (stuck_fault fault) }
+    requires listed { Contains (faults origin.fault.model view.circuit.now.levelled)
+        (stuck_fault origin.fault) }
+    requires carried { Carries view.circuit.now.levelled origin.fault.line origin.carried }
     requires room { HasRoomFor view.circuit.now.levelled changes.old }
     requires clear { IsClear changes.old }
     ensures reached { (tests : List Test) (group : ℕ)
         → AreWords view.entry.circuit.now.levelled tests group None view.entry.good.now
-        → IsReached view.entry.circuit.now.levelled tests group (stuck_fault fault)
+        → IsReached view.entry.circuit.now.levelled tests group (stuck_fault origin.fault)
         view.entry.lanes result }
     ensures signal { (at : Arrival) → result ≡ Reach.Stem at
         → at.signal < length (names view.entry.circuit.now.levelled) }
     ensures stem { (at : Arrival) → result ≡ Reach.Stem at → at.lanes ≢ 0
-        → IsStemOfLine view.entry.circuit.now.levelled at.signal fault.line }
-    ensures counted { (way : ℕ) → IsWayOfLine view.entry.circuit.now.levelled fault.line way
+        → IsStemOfLine view.entry.circuit.now.levelled at.signal origin.fault.line }
+    ensures counted { (way : ℕ) → IsWayOfLine view.entry.circuit.now.levelled origin.fault.line way
         → changes.new.evaluations ≤ changes.old.evaluations + way }
     ensures grown { changes.old.evaluations ≤ changes.new.evaluations }
     ensures room { IsAsLarge changes.old changes.new }
     ensures clear { IsClear changes.new }
 {
-    let signal = carried(view.circuit, fault.line) as usize;
-    let excited = (fault.word() ^ view.good[signal]) & view.lanes;
+    let fault = origin.fault;
+    let excited = (fault.word() ^ view.good[origin.carried as usize]) & view.lanes;
     if excited == 0 {
         return Reach::Observed(0);
     }

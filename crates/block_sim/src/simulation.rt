@@ -7,6 +7,7 @@ ghost use Rattle.bench_net.specs.Scan.{names};
 ghost use Rattle.patterns.specs.Tests.{blocks};
 ghost use Rattle.block_sim.specs.Changes.{HasRoomFor, IsAsLarge, IsClear};
 ghost use Rattle.block_sim.specs.First.{IsTrueOutcome};
+ghost use Rattle.block_sim.specs.Origins.{IsOriginOf};
 ghost use Rattle.block_sim.specs.Regions.{IsStemOfClass, TellsFirstFlips};
 ghost use Rattle.block_sim.specs.Parts.{Parts};
 ghost use Rattle.block_sim.specs.Spans.{IsSpan, group_of, span_from};
@@ -18,6 +19,7 @@ ghost use Rattle.block_sim.specs.Ways.{AreWays, HasActiveByFlip, IsWayOfClass, i
 use crate::changes::Changes;
 use crate::job::Job;
 use crate::look_back::lanes_that_fit;
+use crate::origin::Origin;
 use crate::region::{Arrival, Reach, flip, follow};
 use crate::span::Span;
 use crate::spread::Followed;
@@ -190,6 +192,7 @@ impl Simulation {
             Approach::Stem(at) => {
                 let own = Followed {
                     class,
+                    place: class as usize,
                     lanes: at.lanes,
                 };
                 let followed = &mut self.followed;
@@ -259,7 +262,7 @@ fn find_out_region(
 }
 
 /// Follows a class to the stem of its region.
-fn follow_alone(job: &Job, class: u32, span: Span, changes: &mut Changes) -> Approach
+pub fn follow_alone(job: &Job, class: u32, span: Span, changes: &mut Changes) -> Approach
     requires class { class < length job.now.classes.representative }
     requires span { IsSpan (length job.now.tests.tests) span }
     requires room { HasRoomFor job.now.circuit changes.old }
@@ -274,16 +277,36 @@ fn follow_alone(job: &Job, class: u32, span: Span, changes: &mut Changes) -> App
     ensures room { IsAsLarge changes.old changes.new }
     ensures clear { IsClear changes.new }
 {
-    let fault = job.representative(class);
+    follow_from(job, job.origin(class), span, changes)
+}
+
+/// Follows a class to the stem of its region, from where its simulation starts.
+pub fn follow_from(job: &Job, origin: Origin, span: Span, changes: &mut Changes) -> Approach
+    requires origin { (class : ℕ) × IsOriginOf job.now class origin }
+    requires span { IsSpan (length job.now.tests.tests) span }
+    requires room { HasRoomFor job.now.circuit changes.old }
+    requires clear { IsClear changes.old }
+    ensures approach { (class : ℕ) → IsOriginOf job.now class origin
+        → IsApproach job.now class span result }
+    ensures stem { (class : ℕ) (at : Arrival) → IsOriginOf job.now class origin
+        → result ≡ Approach.Stem at
+        → IsStemOfClass job.now.list.model job.now.circuit class at.signal }
+    ensures counted { (class way : ℕ) → IsOriginOf job.now class origin
+        → IsWayOfClass job.now.list.model job.now.circuit class way
+        → changes.new.evaluations ≤ changes.old.evaluations + way }
+    ensures grown { changes.old.evaluations ≤ changes.new.evaluations }
+    ensures room { IsAsLarge changes.old changes.new }
+    ensures clear { IsClear changes.new }
+{
     let group = span.first / 2;
-    let lanes = span.test_lanes(job.tests()) & lanes_that_fit(job, group, fault);
+    let lanes = span.test_lanes(job.tests()) & lanes_that_fit(job, group, origin);
     let circuit = job.flat();
     let view = BlockView {
         circuit,
         good: job.fault_free(group),
         lanes,
     };
-    match follow(view, fault.moved(circuit), changes) {
+    match follow(view, origin, changes) {
         Reach::Observed(word) => Approach::Known(word),
         Reach::Stem(at) => {
             let lanes = lanes & at.lanes;
@@ -390,6 +413,7 @@ fn follow_too(
             memos[class as usize] = Memo::Pending { span };
             followed.push_reserved(Followed {
                 class,
+                place: class as usize,
                 lanes: at.lanes,
             });
         }
@@ -397,7 +421,13 @@ fn follow_too(
 }
 
 /// Turns the stem round for all classes that are followed.
-fn flip_stem(job: &Job, span: Span, stem: u32, followed: &[Followed], changes: &mut Changes) -> u128
+pub fn flip_stem(
+    job: &Job,
+    span: Span,
+    stem: u32,
+    followed: &[Followed],
+    changes: &mut Changes,
+) -> u128
     requires span { IsSpan (length job.now.tests.tests) span }
     requires room { HasRoomFor job.now.circuit changes.old }
     requires clear { IsClear changes.old }

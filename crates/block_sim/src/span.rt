@@ -3,7 +3,7 @@
 ghost use Rattle.std.specs.Prelude.{◌≡◌, ◌+◌, ◌*◌, ◌<◌, ◌≤◌, ℕ, length, true};
 ghost use Rattle.std.specs.Bool.{Decides};
 ghost use Rattle.patterns.specs.Tests.{blocks};
-ghost use Rattle.block_sim.specs.Spans.{IsInSpan, IsSpan, group_of};
+ghost use Rattle.block_sim.specs.Spans.{IsInSpan, IsSpan, group_of, span_of};
 ghost use Rattle.block_sim.specs.Words.{lane};
 
 use crate::block_lanes::lanes_below;
@@ -22,6 +22,7 @@ impl Span {
     pub fn from(tests: &Tests, block: u32) -> Span
         requires { block < blocks (length tests.now.tests) }
         ensures span { IsSpan (length tests.now.tests) result }
+        ensures span_is { result ≡ span_of (length tests.now.tests) block }
         ensures first { result.first ≡ block }
         ensures alone { block < 2 → result.last ≡ block }
     {

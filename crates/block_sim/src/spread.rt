@@ -29,10 +29,12 @@ use crate::view::BlockView;
 use crate::words::evaluate_gate;
 use event_queue::Buckets;
 
-/// A class that is followed, and the lanes in which its fault came as far as the simulation starts.
+/// A class that is followed, the place where what is found out of it is kept, and the lanes in
+/// which its fault came as far as the simulation starts.
 #[derive(Clone, Copy)]
 pub struct Followed {
     pub class: u32,
+    pub place: usize,
     pub lanes: u128,
 }
 

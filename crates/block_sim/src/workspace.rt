@@ -118,7 +118,11 @@ pub fn first_hit(job: &Job, workspace: &mut Workspace, class: u32, block: u32) -
         → HasActive job.now.circuit job.now.tests.tests block r gates
         → workspace.new.evaluations ≤ workspace.old.evaluations + length gates }
 {
-    let all = [Followed { class, lanes: !0 }];
+    let all = [Followed {
+        class,
+        place: class as usize,
+        lanes: !0,
+    }];
     outcome(job, workspace, class, block, Extent::FirstHits(&all))
 }
 
@@ -188,18 +192,18 @@ fn told(job: &Job, workspace: &mut Workspace, class: u32, block: u32, extent: Ex
         → HasActive job.now.circuit job.now.tests.tests block r gates
         → workspace.new.evaluations ≤ workspace.old.evaluations + length gates }
 {
-    let fault = job.representative(class);
+    let origin = job.origin(class);
     let group = block / 2;
     let span = Span {
         first: block,
         last: block,
     };
-    let lanes = span.test_lanes(job.tests()) & lanes_that_fit(job, group, fault);
+    let lanes = span.test_lanes(job.tests()) & lanes_that_fit(job, group, origin);
     let circuit = job.flat();
     let view = BlockView {
         circuit,
         good: job.fault_free(group),
         lanes,
     };
-    effect(view, fault.moved(circuit), extent, &mut workspace.changes)
+    effect(view, origin.fault, extent, &mut workspace.changes)
 }

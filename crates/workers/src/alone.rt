@@ -7,10 +7,8 @@ ghost use Rattle.block_sim.specs.Parts.{BelongTogether};
 ghost use Rattle.workers.specs.Alone.{AreFoundUpTo, HasEnded, IsLowest, IsOpenIn, IsStopAt};
 ghost use Rattle.workers.specs.Alone.{done_before, lower_of};
 
-use crate::simulator::Simulator;
 use crate::worker::Gate;
-use block_sim::Job;
-use patterns::Outcome;
+use block_sim::{Job, Listed, RegionSimulation};
 
 /// Where its gate stopped a worker that goes over a list: before the class at this place of the
 /// list, counted from 0, on this block.
@@ -29,11 +27,11 @@ pub(crate) struct Waiting {
 
 /// Simulates the classes of a list on every block, one block after another, until the gate stops
 /// the worker. A class that an earlier block detects is left out.
-pub(crate) fn run_list<G: Gate, K: Simulator>(
+pub(crate) fn run_list<G: Gate>(
     job: &Job,
-    classes: &[u32],
+    rows: &[Listed],
     worker: u32,
-    simulator: &mut K,
+    simulation: &mut RegionSimulation,
     gate: &G,
     firsts: &mut [Option<u32>],
 ) -> Option<Stop>
@@ -45,8 +43,14 @@ pub(crate) fn run_list<G: Gate, K: Simulator>(
     ensures passing { G.passing gate.now → result ≡ None }
     ensures serves { K.serves simulator.new job.now }
 {
+    let mut known = 0;
     for block in 0..job.tests().blocks() {
-        let stop = run_block(job, classes, worker, block, simulator, gate, firsts);
+        let mut found = rows.len();
+        if block >= known {
+            found = 0;
+            known = job.last_together(block) + 1;
+        }
+        let stop = run_block(job, rows, worker, block, found, simulation, gate, firsts);
         if stop.is_some() {
             return stop;
         }
@@ -55,12 +59,13 @@ pub(crate) fn run_list<G: Gate, K: Simulator>(
 }
 
 /// Simulates on a block the classes of a list that no earlier block detects.
-fn run_block<G: Gate, K: Simulator>(
+fn run_block<G: Gate>(
     job: &Job,
-    classes: &[u32],
+    rows: &[Listed],
     worker: u32,
     block: u32,
-    simulator: &mut K,
+    found: usize,
+    simulation: &mut RegionSimulation,
     gate: &G,
     firsts: &mut [Option<u32>],
 ) -> Option<Stop>
@@ -76,19 +81,19 @@ fn run_block<G: Gate, K: Simulator>(
     ensures passing { G.passing gate.now → result ≡ None }
     ensures serves { K.serves simulator.new job.now }
 {
-    for place in 0..classes.len() {
+    let mut found = found;
+    for place in 0..rows.len() {
         match first_at(firsts, place) {
             Some(_test) => continue,
             None => {}
         }
-        let class = class_at(classes, place);
-        if !gate.pass(worker, class, block) {
+        if !gate.pass(worker, rows[place].class, block) {
             return Some(Stop { place, block });
         }
-        match simulator.outcome_of(job, class, block) {
-            Outcome::Clear => continue,
-            Outcome::Hit(test) => firsts[place] = Some(64 * block + test),
+        if place >= found {
+            found = simulation.find_out(job, block, rows, place, firsts);
         }
+        firsts[place] = hit_on(simulation.hit_at(place), block);
     }
     None
 }
@@ -120,6 +125,14 @@ pub(crate) fn lowest_open(
         lowest = lower_of(lowest, Some(Waiting { class, block }));
     }
     lowest
+}
+
+/// A test, where it is one of a block.
+fn hit_on(hit: Option<u32>, block: u32) -> Option<u32> {
+    match hit {
+        Some(test) if test / 64 == block => hit,
+        _ => None,
+    }
 }
 
 /// The class at a place of a list.

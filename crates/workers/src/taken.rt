@@ -11,7 +11,7 @@ use crate::RunFault;
 use crate::alone::{Waiting, lowest_open, run_list};
 use crate::ranks::Cut;
 use crate::worker::Gate;
-use block_sim::{Job, Simulation};
+use block_sim::{Job, RegionSimulation};
 use std::alloc::{AllocError, Global};
 use std::snapshot::Snapshot;
 use std::sync::Wait;
@@ -34,7 +34,7 @@ pub(crate) struct Done {
 #[derive(Drop)]
 pub(crate) struct Member {
     number: u32,
-    simulation: Simulation,
+    simulation: RegionSimulation,
 }
 
 impl Member {
@@ -43,7 +43,7 @@ impl Member {
         ensures number { IfOk result (λ member. member.number ≡ number) }
         ensures serves { IfOk result (λ member. Serves member.simulation job.now) }
     {
-        let simulation = Simulation::new(alloc, job)?;
+        let simulation = RegionSimulation::new(alloc, job)?;
         Ok(Member { number, simulation })
     }
 }
@@ -75,7 +75,8 @@ pub(crate) fn run_alone<G: Gate>(
     let number = member.number;
     let simulation = &mut member.simulation;
     let found = firsts.as_mut_slice();
-    let waiting = match run_list(job, own, number, simulation, gate, found) {
+    let rows = &cut.rows[start..end];
+    let waiting = match run_list(job, rows, number, simulation, gate, found) {
         Some(stop) => lowest_open(job, own, stop, firsts.as_slice()),
         None => None,
     };

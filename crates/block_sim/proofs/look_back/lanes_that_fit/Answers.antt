@@ -1,4 +1,4 @@
-use Rattle.std.proofs.Common.{◌+◌, ◌*◌, subst, sym}
+use Rattle.std.proofs.Common.{◌+◌, ◌*◌, ◌∙◌, subst, sym}
 use Rattle.std.specs.Prelude.{bit_and}
 use Rattle.std.specs.Bool.{Decides}
 use Rattle.fault_model.specs.Detection.{IsInitialized, IsSecondOfPair, LooksBack}
@@ -8,30 +8,30 @@ use Rattle.block_sim.proofs.Pairs.{both_decide}
 use Rattle.block_sim.proofs.look_back.lanes_that_fit.Goals as goal
 
 pub returns-in-StuckAt : goal.returns-in-StuckAt
-returns-in-StuckAt c = λ k lt listed.
+returns-in-StuckAt c = λ f k starts lt listed.
     subst (λ m. Decides (lane 340282366920938463463374607431768211455 k)
-    (LooksBack c.args.job.now.circuit c.args.job.now.tests.tests m c.args.fault.line
-    c.args.fault.at_one (128 * c.args.group + k)))
-    (sym c.in-StuckAt.is) (λ h. tt, λ h. lane_ones 128 k lt)
+    (LooksBack c.args.job.now.circuit c.args.job.now.tests.tests m f.line
+    f.stuck (128 * c.args.group + k)))
+    (sym (sym starts.model ∙ c.in-StuckAt.is)) (λ h. tt, λ h. lane_ones 128 k lt)
 
 pub returns-in-Transition : goal.returns-in-Transition
-returns-in-Transition c = λ k lt listed.
+returns-in-Transition c = λ f k starts lt listed.
     subst (λ m. Decides (lane c.initialized_lanes.result k)
-    (LooksBack c.args.job.now.circuit c.args.job.now.tests.tests m c.args.fault.line
-    c.args.fault.at_one (128 * c.args.group + k)))
-    (sym c.in-Transition.is) (c.initialized_lanes.ensures k lt listed)
+    (LooksBack c.args.job.now.circuit c.args.job.now.tests.tests m f.line
+    f.stuck (128 * c.args.group + k)))
+    (sym (sym starts.model ∙ c.in-Transition.is)) (c.initialized_lanes.ensures f k starts lt listed)
 
 pub returns-in-TransitionPairs : goal.returns-in-TransitionPairs
-returns-in-TransitionPairs c = λ k lt listed.
+returns-in-TransitionPairs c = λ f k starts lt listed.
     let job = c.args.job.now in
     let test = 128 * c.args.group + k in
     subst
     (λ m.
     Decides (lane (bit_and c.second_lanes.result c.initialized_lanes-in-TransitionPairs.result)
-    k) (LooksBack job.circuit job.tests.tests m c.args.fault.line c.args.fault.at_one test))
-    (sym c.in-TransitionPairs.is)
+    k) (LooksBack job.circuit job.tests.tests m f.line f.stuck test))
+    (sym (sym starts.model ∙ c.in-TransitionPairs.is))
     (both_decide c.second_lanes.result c.initialized_lanes-in-TransitionPairs.result k
-    (IsSecondOfPair test) (IsInitialized job.circuit job.tests.tests c.args.fault.line
-    c.args.fault.at_one test)
+    (IsSecondOfPair test) (IsInitialized job.circuit job.tests.tests f.line
+    f.stuck test)
     (c.second_lanes.ensures c.args.group k lt)
-    (c.initialized_lanes-in-TransitionPairs.ensures k lt listed))
+    (c.initialized_lanes-in-TransitionPairs.ensures f k starts lt listed))

@@ -25,7 +25,7 @@ loop-one-preserved c = record {
 }
   where
     none : Followed
-    none = record { class = 0; lanes = 0 }
+    none = record { class = 0; place = 0; lanes = 0 }
 
     here : Followed
     here = slice_index_or c.args.followed.now c.loop-one.one-index none

@@ -17,25 +17,15 @@ use Rattle.block_sim.specs.Ways.{IsWayOfLine}
 use Rattle.block_sim.proofs.FaultLanes.{none_told, observer_told, pin_come, stem_come}
 use Rattle.block_sim.proofs.region.follow.Goals as goal
 
-pub carried-signal-requires-clause-named : goal.carried-signal-requires-clause-named
-carried-signal-requires-clause-named c =
+pub bounds-view-origin : goal.bounds-view-origin
+bounds-view-origin c =
     let circuit = c.args.view.circuit.now.levelled in
     let well = c.requires.view.circuit.well_formed in
     let good = c.args.view.good.now in
     let lanes = c.args.view.lanes in
-    let fault = stuck_fault c.args.fault in
-    let n = carries c.args.fault.model circuit fault well c.requires.listed in
-    (n.0, n.1)
-
-pub bounds-view-signal : goal.bounds-view-signal
-bounds-view-signal c =
-    let circuit = c.args.view.circuit.now.levelled in
-    let well = c.requires.view.circuit.well_formed in
-    let good = c.args.view.good.now in
-    let lanes = c.args.view.lanes in
-    let fault = stuck_fault c.args.fault in
-    let n = carries c.args.fault.model circuit fault well c.requires.listed in
-    let number : c.carried-signal.result ≡ signal circuit n.0 = c.carried-signal.ensures n.0 n.1 in
+    let fault = stuck_fault c.args.origin.fault in
+    let n = carries c.args.origin.fault.model circuit fault well c.requires.listed in
+    let number : c.args.origin.carried ≡ signal circuit n.0 = c.requires.carried n.0 n.1 in
     let lt = place_within (names circuit) _ n.0 (name_of-signal circuit n.0 n.2) in
     omega (arith, lt, number, c.requires.view.count)
 
@@ -45,13 +35,13 @@ returns-then-excited-eq0-clause-reached c = λ tests group words k lt.
     let well = c.requires.view.circuit.well_formed in
     let good = c.args.view.good.now in
     let lanes = c.args.view.lanes in
-    let fault = stuck_fault c.args.fault in
-    let n = carries c.args.fault.model circuit fault well c.requires.listed in
-    let number : c.carried-signal.result ≡ signal circuit n.0 = c.carried-signal.ensures n.0 n.1 in
+    let fault = stuck_fault c.args.origin.fault in
+    let n = carries c.args.origin.fault.model circuit fault well c.requires.listed in
+    let number : c.args.origin.carried ≡ signal circuit n.0 = c.requires.carried n.0 n.1 in
     none_told circuit well tests group fault good words lanes
     (shown_none circuit tests group fault good n.0 well words n.1 (λ _. ⊥) lanes
-    (bit_and (bit_xor c.word.result (slice_index_or good c.carried-signal.result 0)) lanes)
-    (turned_is circuit fault good lanes c.carried-signal.result c.word.result n.0 number
+    (bit_and (bit_xor c.word.result (slice_index_or good c.args.origin.carried 0)) lanes)
+    (turned_is circuit fault good lanes c.args.origin.carried c.word.result n.0 number
     c.word.ensures) 0 (λ k lt. lane_of_zero _ k c.if-excited-eq0.true) lane_zero) k lt
 
 pub arrive-requires-clause-signal : goal.arrive-requires-clause-signal
@@ -60,8 +50,8 @@ arrive-requires-clause-signal c =
     let well = c.requires.view.circuit.well_formed in
     let good = c.args.view.good.now in
     let lanes = c.args.view.lanes in
-    let fault = stuck_fault c.args.fault in
-    let n = carries c.args.fault.model circuit fault well c.requires.listed in
+    let fault = stuck_fault c.args.origin.fault in
+    let n = carries c.args.origin.fault.model circuit fault well c.requires.listed in
     place_within (names circuit) c.in-Stem.start n.0 (ap (name_on circuit) (sym c.in-Stem.is) ∙ n.1)
 
 pub gate_change-lanes-requires-clause-gate : goal.gate_change-lanes-requires-clause-gate
@@ -70,8 +60,8 @@ gate_change-lanes-requires-clause-gate c =
     let well = c.requires.view.circuit.well_formed in
     let good = c.args.view.good.now in
     let lanes = c.args.view.lanes in
-    let fault = stuck_fault c.args.fault in
-    let n = carries c.args.fault.model circuit fault well c.requires.listed in
+    let fault = stuck_fault c.args.origin.fault in
+    let n = carries c.args.origin.fault.model circuit fault well c.requires.listed in
     let reads : argument (definition circuit c.in-Pin.gate) c.in-Pin.pin ≡ Some n.0 =
     ap (name_on circuit) (sym c.in-Pin.is) ∙ n.1 in
     let p = pin_of circuit c.in-Pin.gate c.in-Pin.pin n.0 reads in
@@ -87,8 +77,8 @@ gate_change-lanes-requires-clause-driven c =
     let well = c.requires.view.circuit.well_formed in
     let good = c.args.view.good.now in
     let lanes = c.args.view.lanes in
-    let fault = stuck_fault c.args.fault in
-    let n = carries c.args.fault.model circuit fault well c.requires.listed in
+    let fault = stuck_fault c.args.origin.fault in
+    let n = carries c.args.origin.fault.model circuit fault well c.requires.listed in
     let reads : argument (definition circuit c.in-Pin.gate) c.in-Pin.pin ≡ Some n.0 =
     ap (name_on circuit) (sym c.in-Pin.is) ∙ n.1 in
     let p = pin_of circuit c.in-Pin.gate c.in-Pin.pin n.0 reads in
@@ -114,8 +104,8 @@ arrive-requires-in-Pin-clause-signal c =
     let well = c.requires.view.circuit.well_formed in
     let good = c.args.view.good.now in
     let lanes = c.args.view.lanes in
-    let fault = stuck_fault c.args.fault in
-    let n = carries c.args.fault.model circuit fault well c.requires.listed in
+    let fault = stuck_fault c.args.origin.fault in
+    let n = carries c.args.origin.fault.model circuit fault well c.requires.listed in
     let reads : argument (definition circuit c.in-Pin.gate) c.in-Pin.pin ≡ Some n.0 =
     ap (name_on circuit) (sym c.in-Pin.is) ∙ n.1 in
     let p = pin_of circuit c.in-Pin.gate c.in-Pin.pin n.0 reads in
@@ -131,16 +121,16 @@ returns-in-Stem-clause-reached c = λ tests group words.
     let well = c.requires.view.circuit.well_formed in
     let good = c.args.view.good.now in
     let lanes = c.args.view.lanes in
-    let fault = stuck_fault c.args.fault in
-    let n = carries c.args.fault.model circuit fault well c.requires.listed in
-    let number : c.carried-signal.result ≡ signal circuit n.0 = c.carried-signal.ensures n.0 n.1 in
+    let fault = stuck_fault c.args.origin.fault in
+    let n = carries c.args.origin.fault.model circuit fault well c.requires.listed in
+    let number : c.args.origin.carried ≡ signal circuit n.0 = c.requires.carried n.0 n.1 in
     let named : name_of circuit c.in-Stem.start ≡ Some n.0 = ap (name_on circuit) (sym c.in-Stem.is)
     ∙ n.1 in
     c.arrive.ensures.come tests group fault words
     (stem_come circuit well tests group fault good words lanes c.in-Stem.start
-    (bit_and (bit_xor c.word.result (slice_index_or good c.carried-signal.result 0)) lanes) n.0
+    (bit_and (bit_xor c.word.result (slice_index_or good c.args.origin.carried 0)) lanes) n.0
     named c.in-Stem.is
-    (turned_is circuit fault good lanes c.carried-signal.result c.word.result n.0 number
+    (turned_is circuit fault good lanes c.args.origin.carried c.word.result n.0 number
     c.word.ensures))
 
 pub returns-in-Pin-clause-reached : goal.returns-in-Pin-clause-reached
@@ -149,8 +139,8 @@ returns-in-Pin-clause-reached c = λ tests group words.
     let well = c.requires.view.circuit.well_formed in
     let good = c.args.view.good.now in
     let lanes = c.args.view.lanes in
-    let fault = stuck_fault c.args.fault in
-    let n = carries c.args.fault.model circuit fault well c.requires.listed in
+    let fault = stuck_fault c.args.origin.fault in
+    let n = carries c.args.origin.fault.model circuit fault well c.requires.listed in
     let reads : argument (definition circuit c.in-Pin.gate) c.in-Pin.pin ≡ Some n.0 =
     ap (name_on circuit) (sym c.in-Pin.is) ∙ n.1 in
     let p = pin_of circuit c.in-Pin.gate c.in-Pin.pin n.0 reads in
@@ -159,7 +149,7 @@ returns-in-Pin-clause-reached c = λ tests group words.
     let low : c.in-Pin.gate < length (names circuit) =
     gate_within circuit c.in-Pin.gate c.in-Pin.pin n.0 reads in
     c.arrive-in-Pin.ensures.come tests group fault words
-    (pin_come circuit well tests group fault good words lanes c.args.fault.model c.requires.listed
+    (pin_come circuit well tests group fault good words lanes c.args.origin.fault.model c.requires.listed
     c.in-Pin.gate c.in-Pin.pin c.in-Pin.is p.kind (map (signal circuit) p.args)
     c.args.changes.now.overlay c.gate_change-lanes.result gate_is c.requires.clear.words
     (λ k lt in_lanes. c.gate_change-lanes.ensures.changed p.kind (map (signal circuit) p.args) k
@@ -171,14 +161,14 @@ returns-in-Data-clause-reached c = λ tests group words k lt.
     let well = c.requires.view.circuit.well_formed in
     let good = c.args.view.good.now in
     let lanes = c.args.view.lanes in
-    let fault = stuck_fault c.args.fault in
-    let n = carries c.args.fault.model circuit fault well c.requires.listed in
-    let number : c.carried-signal.result ≡ signal circuit n.0 = c.carried-signal.ensures n.0 n.1 in
+    let fault = stuck_fault c.args.origin.fault in
+    let n = carries c.args.origin.fault.model circuit fault well c.requires.listed in
+    let number : c.args.origin.carried ≡ signal circuit n.0 = c.requires.carried n.0 n.1 in
     let told = λ (none : start_of fault.line ≡ None). observer_told circuit well tests group fault
-    good words lanes c.args.fault.model
-    (bit_and (bit_xor c.word.result (slice_index_or good c.carried-signal.result 0)) lanes) n.0
+    good words lanes c.args.origin.fault.model
+    (bit_and (bit_xor c.word.result (slice_index_or good c.args.origin.carried 0)) lanes) n.0
     c.requires.listed none n.1
-    (turned_is circuit fault good lanes c.carried-signal.result c.word.result n.0 number
+    (turned_is circuit fault good lanes c.args.origin.carried c.word.result n.0 number
     c.word.ensures) k lt in
     elim c.in-Data.is [
       | inl x ↦ told (ap start_of x.1)

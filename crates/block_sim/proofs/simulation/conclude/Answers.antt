@@ -16,17 +16,17 @@ use Rattle.block_sim.proofs.simulation.conclude.Goals as goal
 -- a class that is followed, from some place on
 abbrev Rest : List Followed → ℕ → ℕ → Type 0
 Rest followed from class = (i : ℕ) × (from ≤ i) × (i < length followed)
-    × ((slice_index_or followed i (record { class = 0; lanes = 0 })).class ≡ class)
+    × ((slice_index_or followed i (record { class = 0; place = 0; lanes = 0 })).class ≡ class)
 
 pub bounds-memos-one : goal.bounds-memos-one
 bounds-memos-one c =
     let followed = c.args.followed.now in
     let i = c.loop-one.one-index in
-    let one = slice_index_or followed i (record { class = 0; lanes = 0 }) in
+    let one = slice_index_or followed i (record { class = 0; place = 0; lanes = 0 }) in
     let there : Contains followed one = (
       i,
       c.loop-one-test.true,
-      get_or_default followed i one (record { class = 0; lanes = 0 }) c.loop-one-test.true,
+      get_or_default followed i one (record { class = 0; place = 0; lanes = 0 }) c.loop-one-test.true,
     ) in
     let lt = (c.requires.followed one there).0 in
     omega (arith, lt, c.loop-one.invariant.count)
@@ -39,7 +39,7 @@ loop-one-init c = record {
 }
   where
     none : Followed
-    none = record { class = 0; lanes = 0 }
+    none = record { class = 0; place = 0; lanes = 0 }
 
     go : (class : ℕ) → IsTrueMemo c.args.job.now class
         (slice_index_or c.args.memos.now class Nothing) ⊎ IsFollowed c.args.followed.now class
@@ -69,7 +69,7 @@ loop-one-preserved c = record {
 }
   where
     none : Followed
-    none = record { class = 0; lanes = 0 }
+    none = record { class = 0; place = 0; lanes = 0 }
 
     one : Followed
     one = slice_index_or c.args.followed.now c.loop-one.one-index none
@@ -129,7 +129,7 @@ returns-clause-memos c = record {
     go : (class : ℕ) → IsTrueMemo c.args.job.now class
         (slice_index_or c.loop-one.memos class Nothing)
         ⊎ ((i : ℕ) × (c.loop-one.one-index ≤ i) × (i < length c.args.followed.now)
-        × ((slice_index_or c.args.followed.now i (record { class = 0; lanes = 0 })).class ≡ class))
+        × ((slice_index_or c.args.followed.now i (record { class = 0; place = 0; lanes = 0 })).class ≡ class))
         → IsTrueMemo c.args.job.now class (slice_index_or c.loop-one.memos class Nothing)
     go class (inl h) = h
     go class (inr r) = let le = r.1 in let lt = r.2 in
@@ -138,7 +138,7 @@ returns-clause-memos c = record {
 pub of-requires : goal.of-requires
 of-requires c =
     let i = c.loop-one.one-index in
-    let none : Followed = record { class = 0; lanes = 0 } in
+    let none : Followed = record { class = 0; place = 0; lanes = 0 } in
     let one = slice_index_or c.args.followed.now i none in
     let there : Contains c.args.followed.now one = (
       i,

@@ -11,7 +11,7 @@ invariant-loop-one l = record {
   count : length l.memos ≡ length l.job.classes.representative;
   each : (class : ℕ) → IsTrueMemo l.job class (slice_index_or l.memos class Nothing)
       ⊎ ((i : ℕ) × (l.one-index ≤ i) × (i < length l.followed)
-      × ((slice_index_or l.followed i (record { class = 0; lanes = 0 })).class ≡ class));
+      × ((slice_index_or l.followed i (record { class = 0; place = 0; lanes = 0 })).class ≡ class));
   known : (way : ℕ → ℕ) → known_ways way l.span.first l.fn.memos
       ≤ known_ways way l.span.first l.memos;
 }

@@ -11,7 +11,11 @@ pub returns-in-Stem-clause-memos : goal.returns-in-Stem-clause-memos
 returns-in-Stem-clause-memos c =
     let job = c.args.job.now in
     let before = c.requires.memos in
-    let one : Followed = record { class = c.args.class; lanes = c.in-Stem.at.lanes } in
+    let one : Followed = record {
+      class = c.args.class;
+      place = c.args.class;
+      lanes = c.in-Stem.at.lanes;
+    } in
     let memos = set c.args.memos.now c.args.class (Pending c.args.span) in
     subst (λ l. AreTrueBut job l memos) (sym c.push_reserved.ensures.items)
     (memo_waits job c.args.followed.now.items c.args.memos.now one
@@ -28,7 +32,11 @@ returns-in-Stem-clause-followed c =
     at.1 in
     subst (AreFollowed job c.args.span c.args.stem) (sym c.push_reserved.ensures.items)
     (followed_more job c.args.span c.args.stem c.args.followed.now.items
-    (record { class = c.args.class; lanes = c.in-Stem.at.lanes }) c.requires.followed
+    (record {
+      class = c.args.class;
+      place = c.args.class;
+      lanes = c.in-Stem.at.lanes;
+    }) c.requires.followed
     c.requires.class come)
 
 pub returns-in-Stem-clause-counted : goal.returns-in-Stem-clause-counted

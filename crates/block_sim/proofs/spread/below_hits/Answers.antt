@@ -12,7 +12,7 @@ pub loop-one-preserved : goal.loop-one-preserved
 loop-one-preserved c =
     let followed = c.args.followed.now in
     let i = c.loop-one.one-index in
-    let none : Followed = record { class = 0; lanes = 0 } in
+    let none : Followed = record { class = 0; place = 0; lanes = 0 } in
     let one = slice_index_or followed i none in
     let place = within_place followed i c.loop-one-test.true in
     let at : slice_get followed i ≡ Some one =

@@ -7,6 +7,7 @@ pub outcome-requires-clause-ends : goal.outcome-requires-clause-ends
 outcome-requires-clause-ends c = λ seen k lt settled.
     let all : Followed = record {
       class = c.args.class;
+      place = c.args.class;
       lanes = 340282366920938463463374607431768211455;
     } in
     let j = settled all (0, omega arith, refl) (lane_ones 128 k lt) in

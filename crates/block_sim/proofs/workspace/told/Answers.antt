@@ -21,13 +21,6 @@ use Rattle.block_sim.proofs.DetectingTests.{active_on_block}
 use Rattle.block_sim.proofs.ReorderedGates.{same_active}
 use Rattle.block_sim.proofs.workspace.told.Goals as goal
 
-pub moved-requires : goal.moved-requires
-moved-requires c =
-    let fault = c.representative-fault.result in
-    let named = carries fault.model c.args.job.now.circuit (stuck_fault fault)
-    c.flat-circuit.ensures.together.circuit.well_formed c.representative-fault.ensures.listed in
-    (named.0, ap (λ x. name_on x fault.line) c.flat-circuit.ensures.part ∙ named.1)
-
 pub effect-requires-clause-view : goal.effect-requires-clause-view
 effect-requires-clause-view c =
     let circuit = c.args.job.now.circuit in
@@ -47,12 +40,13 @@ effect-requires-clause-listed c =
     let there = c.flat-circuit.result.now.levelled in
     let levelled = c.flat-circuit.ensures.levelled in
     let well = c.flat-circuit.ensures.together.circuit.well_formed in
-    let fault = stuck_fault c.representative-fault.result in
-    let is : stuck_fault c.moved.result ≡ moved_fault circuit there fault = c.moved.ensures
-    ∙ ap (λ x. moved_fault x there fault) c.flat-circuit.ensures.part in
+    let fault = c.origin-origin.ensures.0 in
+    let starts = c.origin-origin.ensures.2 in
+    let is : stuck_fault c.origin-origin.result.fault ≡ moved_fault circuit there fault =
+    starts.moved there levelled in
     subst (λ f. Contains (faults f.model there) f) (sym is)
-    (listed_there circuit there well levelled c.representative-fault.result.model fault
-    c.representative-fault.ensures.listed)
+    (listed_there circuit there well levelled fault.model fault
+    starts.listed)
 
 pub effect-requires-clause-words : goal.effect-requires-clause-words
 effect-requires-clause-words c = (
@@ -84,7 +78,8 @@ returns-clause-told c =
     let there = c.flat-circuit.result.now.levelled in
     let levelled = c.flat-circuit.ensures.levelled in
     let well = c.flat-circuit.ensures.together.circuit.well_formed in
-    let fault = stuck_fault c.representative-fault.result in
+    let fault = c.origin-origin.ensures.0 in
+    let starts = c.origin-origin.ensures.2 in
     let tests = job.tests.tests in
     let block = c.args.block in
     let span = one_block block in
@@ -95,9 +90,9 @@ returns-clause-told c =
     c.tests.ensures.part c.test_lanes.ensures in
     let decides : AreLanesFor tests span circuit fault lanes =
     λ k lt. lanes_decide c.test_lanes.result c.lanes_that_fit.result k (own k lt)
-    (λ is. c.lanes_that_fit.ensures k lt is.listed) in
-    let is : stuck_fault c.moved.result ≡ moved_fault circuit there fault = c.moved.ensures
-    ∙ ap (λ x. moved_fault x there fault) c.flat-circuit.ensures.part in
+    (λ is. c.lanes_that_fit.ensures fault k starts lt is.listed) in
+    let is : stuck_fault c.origin-origin.result.fault ≡ moved_fault circuit there fault =
+    starts.moved there levelled in
     let words = c.fault_free.ensures.words there levelled in
     let good = c.fault_free.result.now in
     let settled = IsSettled c.args.extent c.effect.result in
@@ -106,7 +101,7 @@ returns-clause-told c =
     subst (λ f. AreShown there tests group (λ _. f) good lanes settled c.effect.result) is
     (c.effect.ensures.shown tests group words) in (
       fault,
-      c.representative-fault.ensures.representative,
+      c.origin-origin.ensures.1,
       told_there circuit there well levelled tests span fault good lanes c.effect.result words
           decides settled shown,
     )
@@ -118,7 +113,8 @@ returns-clause-counted c = λ r gates at all.
     let there = c.flat-circuit.result.now.levelled in
     let levelled = c.flat-circuit.ensures.levelled in
     let well = c.flat-circuit.ensures.together.circuit.well_formed in
-    let fault = stuck_fault c.representative-fault.result in
+    let fault = c.origin-origin.ensures.0 in
+    let starts = c.origin-origin.ensures.2 in
     let tests = job.tests.tests in
     let block = c.args.block in
     let span = one_block block in
@@ -129,12 +125,12 @@ returns-clause-counted c = λ r gates at all.
     c.tests.ensures.part c.test_lanes.ensures in
     let decides : AreLanesFor tests span circuit fault lanes =
     λ k lt. lanes_decide c.test_lanes.result c.lanes_that_fit.result k (own k lt)
-    (λ is. c.lanes_that_fit.ensures k lt is.listed) in
-    let is : stuck_fault c.moved.result ≡ moved_fault circuit there fault = c.moved.ensures
-    ∙ ap (λ x. moved_fault x there fault) c.flat-circuit.ensures.part in
+    (λ is. c.lanes_that_fit.ensures fault k starts lt is.listed) in
+    let is : stuck_fault c.origin-origin.result.fault ≡ moved_fault circuit there fault =
+    starts.moved there levelled in
     let words = c.fault_free.ensures.words there levelled in
     let same : r ≡ fault = ap (λ (o : Option Fault). unwrap_or o r) (sym at
-    ∙ c.representative-fault.ensures.representative) in
+    ∙ c.origin-origin.ensures.1) in
     let within : AreInSpan tests span lanes = λ k lt e. ((decides k lt).0 e).0 in
     let active = (same_active circuit there well (reordered circuit there well levelled)).in_lanes
     tests group lanes (λ _. fault) gates
@@ -151,3 +147,6 @@ returns-clause-counted c = λ r gates at all.
 
 pub fault_free-requires : goal.fault_free-requires
 fault_free-requires c = omega (arith, c.requires.block)
+
+pub lanes_that_fit-requires-clause-origin : goal.lanes_that_fit-requires-clause-origin
+lanes_that_fit-requires-clause-origin c = (c.origin-origin.ensures.0, c.origin-origin.ensures.2)

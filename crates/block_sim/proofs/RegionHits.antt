@@ -1,0 +1,455 @@
+-- What a simulation of regions finds out, by the places of a list of classes.
+use Rattle.std.proofs.Common.{◌≡◌, ◌≢◌, ◌+◌, ◌*◌, ◌-◌, ◌/◌, ◌<◌, ◌≤◌, ◌⊎◌, inl, inr, ℕ, zero, suc}
+use Rattle.std.proofs.Common.{refl, sym, ◌∙◌, ap, subst, List, [], ◌∷◌, ◌++◌, length, set, arith}
+use Rattle.std.proofs.Common.{All, true, false, take, drop, length-drop, Option, Some, None}
+use Rattle.std.specs.Prelude.{Contains, bit_and, slice_get, slice_range}
+use Rattle.std.specs.List.{sum_by}
+use Rattle.std.proofs.lemmas.Bool.{cases_eq, cases_lt}
+use Rattle.std.proofs.lemmas.List.{length-set, length-take-le}
+use Rattle.std.proofs.lemmas.List.Sums.{sum_by-append}
+use Rattle.std.proofs.lemmas.Option.{get_or_from_slice_get, slice_get-get_or, slice_get_within}
+use Rattle.lists.proofs.Members.{Among, among, among_append, among_left, among_right, contained}
+use Rattle.bench_net.specs.Statement.{Statement}
+use Rattle.fault_model.specs.Detection.{DetectsAt}
+use Rattle.fault_model.specs.Fault.{Fault}
+use Rattle.fault_model.specs.Solution.{Test}
+use Rattle.block_sim.specs.declared.origin.Listed.{Listed}
+use Rattle.block_sim.specs.declared.span.Span.{Span}
+use Rattle.block_sim.specs.declared.spread.Followed.{Followed}
+use Rattle.block_sim.specs.First.{TellsFirst}
+use Rattle.block_sim.specs.Origins.{IsListed}
+use Rattle.block_sim.specs.Parts.{Parts}
+use Rattle.block_sim.specs.RegionHits.{AreConcluded, AreFollowedAt, HasFirst, HaveFirsts}
+use Rattle.block_sim.specs.RegionHits.{HaveFirstsBut, IsFirstIn}
+use Rattle.block_sim.specs.Regions.{TellsFirstFlips}
+use Rattle.block_sim.specs.RegionHits.{IsFirstOn, IsFollowedAt, IsFoundOrFollowed, IsOpenAt}
+use Rattle.block_sim.specs.RegionHits.{IsTestOf, open_between, open_classes}
+use Rattle.block_sim.specs.Simulation.{AreFollowed, HasArrived, TellsFirstIn}
+use Rattle.block_sim.specs.Spans.{IsInSpan, IsSpan, group_of}
+use Rattle.block_sim.specs.Words.{lane}
+use Rattle.block_sim.proofs.KeptOutcomes.{arrived_first}
+
+-- ---- a write to a list
+pub set_here : {X : Type 0} (xs : List X) (i : ℕ) (x : X) → i < length xs
+    → slice_get (set xs i x) i ≡ Some x
+set_here [] i x lt = absurd (omega (arith, lt))
+set_here (y ∷ xs) zero x lt = refl
+set_here (y ∷ xs) (suc i) x lt = set_here xs i x (omega (arith, lt))
+
+pub set_there : {X : Type 0} (xs : List X) (i k : ℕ) (x : X) → k ≢ i
+    → slice_get (set xs i x) k ≡ slice_get xs k
+set_there [] zero k x ne = refl
+set_there [] (suc i) k x ne = refl
+set_there (y ∷ xs) zero zero x ne = absurd (ne refl)
+set_there (y ∷ xs) zero (suc k) x ne = refl
+set_there (y ∷ xs) (suc i) zero x ne = refl
+set_there (y ∷ xs) (suc i) (suc k) x ne = set_there xs i k x (λ e. ne (ap suc e))
+
+-- ---- the test of the least lane is the first one
+pub first_of_lane : (c : List Statement) (tests : List Test) (span : Span) (f : Fault) (word : ℕ)
+    (hit : Option ℕ) → IsSpan (length tests) span → TellsFirst c tests span f word
+    → IsTestOf span word hit → IsFirstIn c tests span f hit
+first_of_lane c tests span f word (Some t) is told h =
+    let k = h.0 in
+    let at : t ≡ 128 * group_of span + k = h.2 in
+    let found = told.found k h.1 h.3 in (
+      subst (IsInSpan (length tests) span) (sym at) found.0,
+      subst (DetectsAt c tests f) (sym at) found.1,
+      λ earlier own lt.
+          let from = own.from in
+          let j = earlier - 128 * group_of span in
+          let same : 128 * group_of span + j ≡ earlier = omega (arith, from) in
+          let low : j < k = omega (arith, from, lt, at) in
+          let below = h.1 in
+          subst (λ n. ¬ DetectsAt c tests f n) same
+              (told.clear j (omega (arith, low, below))
+              (subst (IsInSpan (length tests) span) (sym same) own)
+              (λ i le. h.4 i (omega (arith, le, low)))),
+    )
+first_of_lane c tests span f word None is told h = λ t own.
+    let from = own.from in
+    let to = own.to in
+    let one = is.one_group in
+    let j = t - 128 * group_of span in
+    let same : 128 * group_of span + j ≡ t = omega (arith, from) in
+    let low : j < 128 = omega (arith, from, to, one) in
+    subst (λ n. ¬ DetectsAt c tests f n) same
+    (told.clear j low (subst (IsInSpan (length tests) span) (sym same) own)
+    (λ i le. h i (omega (arith, le, low))))
+
+pub first_of_word : (job : Parts) (span : Span) (class word : ℕ) (hit : Option ℕ)
+    → IsSpan (length job.tests.tests) span → TellsFirstIn job span class word
+    → IsTestOf span word hit → IsFirstOn job span class hit
+first_of_word job span class word hit is told h = (
+  told.0,
+  told.1,
+  first_of_lane job.circuit job.tests.tests span told.0 word hit is told.2 h,
+)
+
+-- ---- one row more
+module _ (job : Parts) (span : Span) (rows : List Listed) (firsts : List (Option ℕ)) (from p : ℕ)
+    (row : Listed) (was followed : List Followed) (old hits : List (Option ℕ))
+    (is : slice_get rows p ≡ Some row) (low : p < length old) (after : from ≤ p)
+    (step : IsFoundOrFollowed job span row p was followed old hits) where
+  -- those that were followed are still
+  still : (one : Followed) → Contains was one → Contains followed one
+  still one there = go step
+    where
+      go : IsFoundOrFollowed job span row p was followed old hits → Contains followed one
+      go (inl s) = subst (λ l. Contains l one) (sym s.0) there
+      go (inr s) = subst (λ l. Contains l one) (sym s.5)
+          (contained (was ++ s.1 ∷ []) one (among_left was (s.1 ∷ []) one (among was one there)))
+
+  -- what was kept elsewhere is still
+  elsewhere : (place : ℕ) → place ≢ p → slice_get hits place ≡ slice_get old place
+  elsewhere place ne = go step
+    where
+      go : IsFoundOrFollowed job span row p was followed old hits
+          → slice_get hits place ≡ slice_get old place
+      go (inl s) = ap (λ l. slice_get l place) s.3 ∙ set_there old p place s.1 ne
+      go (inr s) = ap (λ l. slice_get l place) s.0
+
+  pub as_many : length hits ≡ length old
+  as_many = go step
+    where
+      go : IsFoundOrFollowed job span row p was followed old hits → length hits ≡ length old
+      go (inl s) = ap length s.3 ∙ length-set old p s.1
+      go (inr s) = ap length s.0
+
+  here : HasFirst job span row hits p ⊎ IsFollowedAt followed p
+  here = go step
+    where
+      go : IsFoundOrFollowed job span row p was followed old hits
+          → HasFirst job span row hits p ⊎ IsFollowedAt followed p
+      go (inl s) = inl (s.1, ap (λ l. slice_get l p) s.3 ∙ set_here old p s.1 low, s.2)
+      go (inr s) = inr (
+        s.1,
+        subst (λ l. Contains l s.1) (sym s.5)
+            (contained (was ++ s.1 ∷ []) s.1 (among_right was (s.1 ∷ []) s.1 (inl refl))),
+        s.3,
+      )
+
+  pub found_more : HaveFirstsBut job span rows firsts was from p old
+      → HaveFirstsBut job span rows firsts followed from (p + 1) hits
+  found_more before place other le lt idle = go (cases_eq place p)
+    where
+      keep : (place ≢ p)
+          → HasFirst job span other old place ⊎ IsFollowedAt was place
+          → HasFirst job span other hits place ⊎ IsFollowedAt followed place
+      keep ne (inl h) = inl (h.0, elsewhere place ne ∙ h.1, h.2)
+      keep ne (inr h) = inr (h.0, still h.0 h.1, h.2)
+
+      go : (place ≡ p) ⊎ (place ≢ p)
+          → HasFirst job span other hits place ⊎ IsFollowedAt followed place
+      go (inl same) =
+          let both : Some other ≡ Some row = sym idle.row_is ∙ (ap (slice_get rows) same ∙ is) in
+          let one : other ≡ row = cc in
+          subst (λ n. HasFirst job span other hits n ⊎ IsFollowedAt followed n) (sym same)
+          (subst (λ (r : Listed). HasFirst job span r hits p ⊎ IsFollowedAt followed p) (sym one)
+          here)
+      go (inr ne) = keep ne (before place other le (omega (arith, lt, ne)) idle)
+
+  pub at_more : AreFollowedAt rows from p was → AreFollowedAt rows from (p + 1) followed
+  at_more before one there = go step
+    where
+      old_one : Contains was one → (from ≤ one.place) × (one.place < p + 1)
+          × (r : Listed) × (slice_get rows one.place ≡ Some r) × (r.class ≡ one.class)
+      old_one h = let b = before one h in let lt = b.1 in (b.0, omega (arith, lt), b.2, b.3, b.4)
+
+      new_one : (s : Followed) → s.class ≡ row.class → s.place ≡ p
+          → Among one was ⊎ Among one (s ∷ [])
+          → (from ≤ one.place) × (one.place < p + 1)
+          × (r : Listed) × (slice_get rows one.place ≡ Some r) × (r.class ≡ one.class)
+      new_one s class place (inl h) = old_one (contained was one h)
+      new_one s class place (inr (inl same)) =
+          let e : one.place ≡ p = ap (λ (x : Followed). x.place) (sym same) ∙ place in (
+            omega (arith, e, after),
+            omega (arith, e),
+            row,
+            ap (slice_get rows) e ∙ is,
+            sym (ap (λ (x : Followed). x.class) (sym same) ∙ class),
+          )
+      new_one s class place (inr (inr bad)) = absurd bad
+
+      go : IsFoundOrFollowed job span row p was followed old hits
+          → (from ≤ one.place) × (one.place < p + 1)
+          × (r : Listed) × (slice_get rows one.place ≡ Some r) × (r.class ≡ one.class)
+      go (inl s) = old_one (subst (λ l. Contains l one) s.0 there)
+      go (inr s) = new_one s.1 s.2 s.3 (among_append was (s.1 ∷ []) one
+          (among (was ++ s.1 ∷ []) one (subst (λ l. Contains l one) s.5 there)))
+
+  pub arrived_more : (stem : ℕ) → row.stem ≡ stem
+      → row.class < length job.classes.representative → AreFollowed job span stem was
+      → AreFollowed job span stem followed
+  arrived_more stem of within before one there = go step
+    where
+      new_one : (s : Followed) → s.class ≡ row.class
+          → HasArrived job span row.stem s.class s.lanes
+          → Among one was ⊎ Among one (s ∷ [])
+          → (one.class < length job.classes.representative)
+          × HasArrived job span stem one.class one.lanes
+      new_one s class at (inl h) = before one (contained was one h)
+      new_one s class at (inr (inl same)) =
+          subst (λ (y : Followed). (y.class < length job.classes.representative)
+          × HasArrived job span stem y.class y.lanes)
+          same (omega (arith, class, within),
+          subst (λ n. HasArrived job span n s.class s.lanes) of at)
+      new_one s class at (inr (inr bad)) = absurd bad
+
+      go : IsFoundOrFollowed job span row p was followed old hits
+          → (one.class < length job.classes.representative)
+          × HasArrived job span stem one.class one.lanes
+      go (inl s) = before one (subst (λ l. Contains l one) s.0 there)
+      go (inr s) = new_one s.1 s.2 s.4 (among_append was (s.1 ∷ []) one
+          (among (was ++ s.1 ∷ []) one (subst (λ l. Contains l one) s.5 there)))
+
+  pub others_more : (first : List (Option ℕ))
+      → ((place : ℕ) → (place < from) ⊎ (p ≤ place) → slice_get old place ≡ slice_get first place)
+      → (place : ℕ) → (place < from) ⊎ (p + 1 ≤ place)
+      → slice_get hits place ≡ slice_get first place
+  others_more first before place (inl lt) =
+      elsewhere place (λ e. omega (arith, lt, e, after)) ∙ before place (inl lt)
+  others_more first before place (inr le) =
+      elsewhere place (λ e. omega (arith, le, e)) ∙ before place (inr (omega (arith, le)))
+
+-- ---- the classes that are open
+take_more : {X : Type 0} (xs : List X) (p : ℕ) (x : X) → slice_get xs p ≡ Some x
+    → take (p + 1) xs ≡ take p xs ++ x ∷ []
+take_more [] p x e = let bad : None ≡ Some x = e in absurd (cc)
+take_more (y ∷ xs) zero x e = let same : y ≡ x = let q : Some y ≡ Some x = e in cc in
+    ap (λ z. z ∷ []) same
+take_more (y ∷ xs) (suc p) x e =
+    let one : suc p + 1 ≡ suc (p + 1) = omega arith in
+    ap (λ n. take n (y ∷ xs)) one ∙ ap (λ l. y ∷ l) (take_more xs p x e)
+
+get_drop : {X : Type 0} (s : ℕ) (xs : List X) (k : ℕ) → slice_get (drop s xs) k
+    ≡ slice_get xs (s + k)
+get_drop zero xs k = let same : k ≡ 0 + k = omega arith in ap (slice_get xs) same
+get_drop (suc s) [] k = refl
+get_drop (suc s) (x ∷ xs) k = let same : suc s + k ≡ suc (s + k) = omega arith in
+    get_drop s xs k ∙ ap (slice_get (x ∷ xs)) (sym same)
+
+range_more : {X : Type 0} (xs : List X) (from p : ℕ) (x : X) → from ≤ p → slice_get xs p ≡ Some x
+    → slice_range xs from (p + 1) ≡ slice_range xs from p ++ x ∷ []
+range_more xs from p x le is =
+    let count : p + 1 - from ≡ p - from + 1 = omega (arith, le) in
+    let at : from + (p - from) ≡ p = omega (arith, le) in
+    ap (λ n. take n (drop from xs)) count
+    ∙ take_more (drop from xs) (p - from) x (get_drop from xs (p - from)
+    ∙ (ap (slice_get xs) at ∙ is))
+
+range_long : {X : Type 0} (xs : List X) (from p : ℕ) → p ≤ length xs
+    → length (slice_range xs from p) ≡ p - from
+range_long xs from p le =
+    let rest = length-drop from xs in
+    length-take-le (p - from) (drop from xs) (omega (arith, rest, le))
+
+open_push : (rows : List Listed) (firsts : List (Option ℕ)) (row : Listed)
+    → length rows ≡ length firsts
+    → open_classes (rows ++ row ∷ []) (firsts ++ None ∷ [])
+    ≡ open_classes rows firsts ++ row.class ∷ []
+open_push [] [] row e = refl
+open_push [] (f ∷ firsts) row e = absurd (omega (arith, e))
+open_push (r ∷ rows) [] row e = absurd (omega (arith, e))
+open_push (r ∷ rows) (None ∷ firsts) row e =
+    ap (λ l. r.class ∷ l) (open_push rows firsts row (omega (arith, e)))
+open_push (r ∷ rows) (Some t ∷ firsts) row e = open_push rows firsts row (omega (arith, e))
+
+open_skip : (rows : List Listed) (firsts : List (Option ℕ)) (row : Listed) (test : ℕ)
+    → length rows ≡ length firsts
+    → open_classes (rows ++ row ∷ []) (firsts ++ Some test ∷ []) ≡ open_classes rows firsts
+open_skip [] [] row test e = refl
+open_skip [] (f ∷ firsts) row test e = absurd (omega (arith, e))
+open_skip (r ∷ rows) [] row test e = absurd (omega (arith, e))
+open_skip (r ∷ rows) (None ∷ firsts) row test e =
+    ap (λ l. r.class ∷ l) (open_skip rows firsts row test (omega (arith, e)))
+open_skip (r ∷ rows) (Some t ∷ firsts) row test e =
+    open_skip rows firsts row test (omega (arith, e))
+
+module _ (way : ℕ → ℕ) (rows : List Listed) (firsts : List (Option ℕ)) (from p : ℕ)
+    (row : Listed) (long : length firsts ≡ length rows) (le : from ≤ p)
+    (is : slice_get rows p ≡ Some row) where
+  as_long : length (slice_range rows from p) ≡ length (slice_range firsts from p)
+  as_long =
+      let lt = slice_get_within rows p row is in
+      range_long rows from p (omega (arith, lt))
+      ∙ sym (range_long firsts from p (omega (arith, lt, long)))
+
+  pub ways_more : slice_get firsts p ≡ Some None
+      → sum_by way (open_between rows firsts from (p + 1))
+      ≡ sum_by way (open_between rows firsts from p) + way row.class
+  ways_more none =
+      let one : sum_by way (row.class ∷ []) ≡ way row.class = omega arith in
+      let all = sum_by-append way (open_between rows firsts from p) (row.class ∷ []) in
+      let list : open_between rows firsts from (p + 1)
+      ≡ open_between rows firsts from p ++ row.class ∷ [] =
+      ap (λ l. open_classes l (slice_range firsts from (p + 1))) (range_more rows from p row le is)
+      ∙ (ap (open_classes (slice_range rows from p ++ row ∷ [])) (range_more firsts from p None le
+      none)
+      ∙ open_push (slice_range rows from p) (slice_range firsts from p) row as_long) in
+      let sum = ap (sum_by way) list in
+      omega (arith, one, all, sum)
+
+  pub ways_same : (test : ℕ) → slice_get firsts p ≡ Some (Some test)
+      → open_between rows firsts from (p + 1) ≡ open_between rows firsts from p
+  ways_same test some =
+      ap (λ l. open_classes l (slice_range firsts from (p + 1))) (range_more rows from p row le is)
+      ∙ (ap (open_classes (slice_range rows from p ++ row ∷ [])) (range_more firsts from p
+      (Some test) le some)
+      ∙ open_skip (slice_range rows from p) (slice_range firsts from p) row test as_long)
+
+pub ways_none : (way : ℕ → ℕ) (rows : List Listed) (firsts : List (Option ℕ)) (from : ℕ)
+    → sum_by way (open_between rows firsts from from) ≡ 0
+ways_none way rows firsts from =
+    let none : from - from ≡ 0 = omega arith in
+    ap (λ n. sum_by way (open_classes (take n (drop from rows)) (take n (drop from firsts)))) none
+
+-- a place whose first test is known is none of those that are open
+pub found_known : (job : Parts) (span : Span) (rows : List Listed) (firsts : List (Option ℕ))
+    (followed : List Followed) (from p test : ℕ) (hits : List (Option ℕ))
+    → slice_get firsts p ≡ Some (Some test)
+    → HaveFirstsBut job span rows firsts followed from p hits
+    → HaveFirstsBut job span rows firsts followed from (p + 1) hits
+found_known job span rows firsts followed from p test hits known before place row le lt idle =
+    go (cases_eq place p)
+  where
+    go : (place ≡ p) ⊎ (place ≢ p) → HasFirst job span row hits place ⊎ IsFollowedAt followed place
+    go (inl same) =
+        let both : Some (Some test) ≡ Some None = sym known ∙ (ap (slice_get firsts) (sym same)
+        ∙ idle.unknown) in absurd (cc)
+    go (inr ne) = before place row le (omega (arith, lt, ne)) idle
+
+-- ---- what those that were followed are told
+-- the list has what stands at a place
+pub member_at : {X : Type 0} (xs : List X) (i : ℕ) (x : X) → slice_get xs i ≡ Some x → Contains xs x
+member_at xs i x e =
+    let lt = slice_get_within xs i x e in (i, lt, get_or_from_slice_get xs i x x e)
+
+pub place_of_member : {X : Type 0} (xs : List X) (x : X) → Contains xs x
+    → (i : ℕ) × (slice_get xs i ≡ Some x)
+place_of_member xs x there =
+    (there.0, slice_get-get_or xs there.0 x there.1 ∙ ap Some there.2)
+
+-- the first so many of those that are followed have been told
+pub record AreToldBelow (span : Span) (seen : ℕ) (followed : List Followed) (n : ℕ)
+    (first hits : List (Option ℕ)) : Type 0 where
+  pub count : length hits ≡ length first
+  pub kept : (place : ℕ) → ((i : ℕ) (one : Followed) → i < n → slice_get followed i ≡ Some one
+      → one.place ≡ place → ⊥) → slice_get hits place ≡ slice_get first place
+  pub told : (i : ℕ) (one : Followed) → i < n → slice_get followed i ≡ Some one
+      → (other : Followed) × Contains followed other × (other.place ≡ one.place)
+      × (hit : Option ℕ) × (slice_get hits one.place ≡ Some hit)
+      × IsTestOf span (bit_and other.lanes seen) hit
+
+pub told_more : (span : Span) (seen : ℕ) (followed : List Followed) (n : ℕ)
+    (first hits : List (Option ℕ)) (now : Followed) (hit : Option ℕ)
+    → slice_get followed n ≡ Some now → now.place < length hits
+    → IsTestOf span (bit_and now.lanes seen) hit
+    → AreToldBelow span seen followed n first hits
+    → AreToldBelow span seen followed (n + 1) first (set hits now.place hit)
+told_more span seen followed n first hits now hit at low test before = record {
+  count = length-set hits now.place hit ∙ before.count;
+  kept = λ place none.
+      set_there hits now.place place hit (λ e. none n now (omega arith) at (sym e))
+      ∙ before.kept place (λ i one lt is e. none i one (omega (arith, lt)) is e);
+  told = λ i one lt is. go i one lt is (cases_eq one.place now.place);
+}
+  where
+    go : (i : ℕ) (one : Followed) → i < n + 1 → slice_get followed i ≡ Some one
+        → (one.place ≡ now.place) ⊎ (one.place ≢ now.place)
+        → (other : Followed) × Contains followed other × (other.place ≡ one.place)
+        × (h : Option ℕ) × (slice_get (set hits now.place hit) one.place ≡ Some h)
+        × IsTestOf span (bit_and other.lanes seen) h
+    go i one lt is (inl same) = (
+      now,
+      member_at followed n now at,
+      sym same,
+      hit,
+      ap (slice_get (set hits now.place hit)) same ∙ set_here hits now.place hit low,
+      test,
+    )
+    go i one lt is (inr ne) =
+        let other : i ≢ n = λ e. ne (let both : Some one ≡ Some now = sym is
+        ∙ (ap (slice_get followed) e ∙ at) in let same : one ≡ now = cc in
+        ap (λ (x : Followed). x.place) same) in
+        let b = before.told i one (omega (arith, lt, other)) is in (
+          b.0,
+          b.1,
+          b.2,
+          b.3,
+          set_there hits now.place one.place hit ne ∙ b.4,
+          b.5,
+        )
+
+pub some_at : {X : Type 0} (xs : List X) (i : ℕ) → i < length xs
+    → (x : X) × (slice_get xs i ≡ Some x)
+some_at [] i lt = absurd (omega (arith, lt))
+some_at (x ∷ xs) zero lt = (x, refl)
+some_at (x ∷ xs) (suc i) lt = some_at xs i (omega (arith, lt))
+
+-- a place is that of one of those that are followed, or of none
+followed_or_not : (followed : List Followed) (place : ℕ)
+    → IsFollowedAt followed place ⊎ (IsFollowedAt followed place → ⊥)
+followed_or_not [] place = inr (λ h. let bad = h.1.1 in omega (arith, bad))
+followed_or_not (one ∷ followed) place = go (cases_eq one.place place)
+    (followed_or_not followed place)
+  where
+    go : (one.place ≡ place) ⊎ (one.place ≢ place)
+        → IsFollowedAt followed place ⊎ (IsFollowedAt followed place → ⊥)
+        → IsFollowedAt (one ∷ followed) place ⊎ (IsFollowedAt (one ∷ followed) place → ⊥)
+    go (inl same) rest = inl (one, contained (one ∷ followed) one (inl refl), same)
+    go (inr ne) (inl h) = inl (
+      h.0,
+      contained (one ∷ followed) h.0 (inr (among followed h.0 h.1)),
+      h.2,
+    )
+    go (inr ne) (inr none) = inr (λ h. out h.0 h.2 (among (one ∷ followed) h.0 h.1))
+      where
+        out : (x : Followed) → x.place ≡ place → Among x (one ∷ followed) → ⊥
+        out x at (inl same) = ne (ap (λ (y : Followed). y.place) same ∙ at)
+        out x at (inr there) = none (x, contained followed x there, at)
+
+-- all of them are concluded
+pub concluded : (job : Parts) (span : Span) (stem : ℕ) (rows : List Listed)
+    (firsts : List (Option ℕ)) (followed : List Followed) (from to seen : ℕ)
+    (old hits : List (Option ℕ)) → IsSpan (length job.tests.tests) span
+    → HaveFirstsBut job span rows firsts followed from to old → AreFollowedAt rows from to followed
+    → AreFollowed job span stem followed
+    → ((one : Followed) → Contains followed one
+    → TellsFirstFlips job.circuit job.tests.tests (group_of span) one.lanes stem seen)
+    → ((place : ℕ) → (IsFollowedAt followed place → ⊥) → slice_get hits place ≡ slice_get old place)
+    → AreConcluded span seen followed hits
+    → HaveFirsts job span rows firsts from to hits
+concluded job span stem rows firsts followed from to seen old hits is before at came told kept are
+    place row le lt idle = go (followed_or_not followed place)
+  where
+    kept_first : (IsFollowedAt followed place → ⊥)
+        → HasFirst job span row old place ⊎ IsFollowedAt followed place
+        → HasFirst job span row hits place
+    kept_first none (inl h) = (h.0, kept place none ∙ h.1, h.2)
+    kept_first none (inr h) = absurd (none h)
+
+    go : IsFollowedAt followed place ⊎ (IsFollowedAt followed place → ⊥)
+        → HasFirst job span row hits place
+    go (inr none) = kept_first none (before place row le lt idle)
+    go (inl there) =
+        let t = are place there in
+        let one = t.0 in
+        let own = at one t.1 in
+        let both : Some own.2 ≡ Some row = sym own.3 ∙ (ap (slice_get rows) t.2 ∙ idle.row_is) in
+        let same : own.2 ≡ row = cc in
+        let class : one.class ≡ row.class = sym own.4 ∙ ap (λ (r : Listed). r.class) same in (
+          t.3,
+          t.4,
+          subst (λ n. IsFirstOn job span n t.3) class
+              (first_of_word job span one.class (bit_and one.lanes seen) t.3 is
+              (arrived_first job span stem one.class one.lanes seen (came one t.1).1 (told one t.1))
+              t.5),
+        )
+
+-- each row stands for its class
+pub listed_at : (job : Parts) (rows : List Listed) (i : ℕ) (row : Listed) → All (IsListed job) rows
+    → slice_get rows i ≡ Some row → IsListed job row
+listed_at job rows i row all e =
+    subst (IsListed job) (get_or_from_slice_get rows i row row e)
+    (all i row (slice_get_within rows i row e))

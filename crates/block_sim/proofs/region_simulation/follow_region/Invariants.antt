@@ -1,0 +1,26 @@
+use Rattle.std.proofs.Common.{◌≡◌, ◌⊎◌, ◌+◌, ◌<◌, ◌≤◌, ℕ, length}
+use Rattle.std.specs.Prelude.{slice_get, vec_capacity, vec_len}
+use Rattle.std.specs.List.{sum_by}
+use Rattle.block_sim.specs.Changes.{IsAsLarge, IsClear}
+use Rattle.block_sim.specs.RegionHits.{AreFollowedAt, HaveFirstsBut, HaveStem, open_between}
+use Rattle.block_sim.specs.Simulation.{AreFollowed}
+use Rattle.block_sim.specs.Ways.{AreWays}
+use Rattle.block_sim.proofs.region_simulation.follow_region.Given as goal
+
+abbrev pub invariant-loop-place : goal.invariant-loop-place
+invariant-loop-place l = record {
+  found : HaveFirstsBut l.job l.span l.rows l.firsts l.followed.items l.from l.place l.hits;
+  at : AreFollowedAt l.rows l.from l.place l.followed.items;
+  followed : (stem : ℕ) → HaveStem l.rows l.from l.to stem
+      → AreFollowed l.job l.span stem l.followed.items;
+  others : (place : ℕ) → (place < l.from) ⊎ (l.place ≤ place)
+      → slice_get l.hits place ≡ slice_get l.fn.hits place;
+  places : length l.hits ≡ length l.fn.hits;
+  few : vec_len l.followed + l.from ≤ l.place;
+  capacity : vec_capacity l.followed ≡ vec_capacity l.fn.followed;
+  counted : (way : ℕ → ℕ) → AreWays l.job way → l.changes.evaluations ≤ l.fn.changes.evaluations
+      + sum_by way (open_between l.rows l.firsts l.from l.place);
+  grown : l.fn.changes.evaluations ≤ l.changes.evaluations;
+  room : IsAsLarge l.fn.changes l.changes;
+  clear : IsClear l.changes;
+}

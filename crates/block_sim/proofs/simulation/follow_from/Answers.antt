@@ -1,0 +1,283 @@
+use Rattle.std.proofs.Common.{◌≡◌, ◌≢◌, ◌<◌, refl, sym, ◌∙◌, ap, subst, length, arith}
+use Rattle.std.specs.Prelude.{◌+◌, ◌*◌, ℕ, Contains, Option, bit_and, unwrap_or}
+use Rattle.std.specs.Bool.{Decides}
+use Rattle.std.specs.Int.Bits.{and_zero_r}
+use Rattle.std.proofs.lemmas.Bool.{false≢true}
+use Rattle.bench_net.specs.Scan.{names}
+use Rattle.patterns.specs.Tests.{TestList}
+use Rattle.fault_model.specs.Detection.{name_on}
+use Rattle.fault_model.specs.Fault.{Fault, faults}
+use Rattle.fault_model.specs.Reordered.{moved_fault, place}
+use Rattle.fault_model.proofs.Public.{carries}
+use Rattle.block_sim.specs.Spans.{IsInSpan, group_of}
+use Rattle.block_sim.specs.declared.region.Reach.TheVariants.{Observed, Stem}
+use Rattle.block_sim.specs.declared.simulation.Approach.TheVariants as approach
+use Rattle.block_sim.specs.Regions.{AreLanesFor, HasCome, IsReached, IsStemOfLine}
+use Rattle.block_sim.specs.Stuck.{stuck_fault}
+use Rattle.block_sim.specs.Ways.{IsWayOfLine}
+use Rattle.block_sim.specs.Words.{lane}
+use Rattle.block_sim.proofs.Lanes.{lane_zero}
+use Rattle.block_sim.proofs.LevelledSignals.{count_there, reordered, room_there, signals_there}
+use Rattle.block_sim.proofs.LevelledWords.{circuit_there, listed_there, reached_there}
+use Rattle.block_sim.proofs.Outcomes.{first_of_told}
+use Rattle.block_sim.proofs.RegionLanes.{lanes_both}
+use Rattle.block_sim.proofs.ReorderedGates.{same_flips}
+use Rattle.block_sim.proofs.ReorderedReaders.{same_stems}
+use Rattle.block_sim.proofs.Steps.{lane_of_zero, lanes_decide}
+use Rattle.block_sim.proofs.simulation.follow_from.Goals as goal
+
+pub follow-requires-clause-view : goal.follow-requires-clause-view
+follow-requires-clause-view c =
+    let circuit = c.args.job.now.circuit in
+    let there = c.flat-circuit.result.now.levelled in
+    let whole = c.flat-circuit.ensures.together.circuit in
+    let levelled = c.flat-circuit.ensures.levelled in
+    record {
+      circuit = circuit_there circuit there whole levelled;
+      count = c.fault_free.ensures.count
+          ∙ sym (count_there circuit there whole.well_formed levelled);
+    }
+
+pub follow-requires-clause-listed : goal.follow-requires-clause-listed
+follow-requires-clause-listed c =
+    let job = c.args.job.now in
+    let circuit = job.circuit in
+    let there = c.flat-circuit.result.now.levelled in
+    let levelled = c.flat-circuit.ensures.levelled in
+    let well = c.flat-circuit.ensures.together.circuit.well_formed in
+    let fault = c.requires.origin.1.0 in
+    let starts = c.requires.origin.1.2 in
+    let is : stuck_fault c.args.origin.fault ≡ moved_fault circuit there fault =
+    starts.moved there levelled in
+    subst (λ f. Contains (faults f.model there) f) (sym is)
+    (listed_there circuit there well levelled fault.model fault
+    starts.listed)
+
+pub follow-requires-clause-words : goal.follow-requires-clause-words
+follow-requires-clause-words c = (
+  c.args.job.now.tests.tests,
+  group_of c.args.span,
+  c.fault_free.ensures.words c.flat-circuit.result.now.levelled c.flat-circuit.ensures.levelled,
+)
+
+pub follow-requires-clause-room : goal.follow-requires-clause-room
+follow-requires-clause-room c =
+    room_there c.args.job.now.circuit c.flat-circuit.result.now.levelled
+    c.flat-circuit.ensures.together.circuit.well_formed c.flat-circuit.ensures.levelled
+    c.args.changes.now c.requires.room
+
+pub returns-in-Observed-clause-approach : goal.returns-in-Observed-clause-approach
+returns-in-Observed-clause-approach c = λ class o.
+    let job = c.args.job.now in
+    let circuit = job.circuit in
+    let there = c.flat-circuit.result.now.levelled in
+    let levelled = c.flat-circuit.ensures.levelled in
+    let well = c.flat-circuit.ensures.together.circuit.well_formed in
+    let fault = o.0 in
+    let starts = o.2 in
+    let tests = job.tests.tests in
+    let span = c.args.span in
+    let group = group_of span in
+    let lanes = bit_and c.test_lanes.result c.lanes_that_fit.result in
+    let own = subst (λ (t : TestList). (k : ℕ) → k < 128
+    → Decides (lane c.test_lanes.result k) (IsInSpan (length t.tests) span (128 * group + k)))
+    c.tests.ensures.part c.test_lanes.ensures in
+    let decides : AreLanesFor tests span circuit fault lanes =
+    λ k lt. lanes_decide c.test_lanes.result c.lanes_that_fit.result k (own k lt)
+    (λ is. c.lanes_that_fit.ensures fault k starts lt is.listed) in
+    let is : stuck_fault c.args.origin.fault ≡ moved_fault circuit there fault =
+    starts.moved there levelled in
+    let words = c.fault_free.ensures.words there levelled in
+    let word = c.in-Observed.word in
+    let reached = reached_there circuit there well levelled tests group fault lanes word
+    (subst (λ f. IsReached there tests group f lanes (Observed word)) is
+    (c.in-Observed.ensures.reached tests group words)) in (
+      fault,
+      o.1,
+      first_of_told circuit tests span fault lanes word decides
+          (λ k lt e. (reached k lt).0 e)
+          (λ k lt own none d. false≢true (sym (none k (omega arith)) ∙ (reached k lt).1 (own, d))),
+    )
+
+pub returns-then-lanes-eq0-clause-approach : goal.returns-then-lanes-eq0-clause-approach
+returns-then-lanes-eq0-clause-approach c = λ class o.
+    let job = c.args.job.now in
+    let circuit = job.circuit in
+    let there = c.flat-circuit.result.now.levelled in
+    let levelled = c.flat-circuit.ensures.levelled in
+    let well = c.flat-circuit.ensures.together.circuit.well_formed in
+    let fault = o.0 in
+    let starts = o.2 in
+    let tests = job.tests.tests in
+    let span = c.args.span in
+    let group = group_of span in
+    let lanes = bit_and c.test_lanes.result c.lanes_that_fit.result in
+    let own = subst (λ (t : TestList). (k : ℕ) → k < 128
+    → Decides (lane c.test_lanes.result k) (IsInSpan (length t.tests) span (128 * group + k)))
+    c.tests.ensures.part c.test_lanes.ensures in
+    let decides : AreLanesFor tests span circuit fault lanes =
+    λ k lt. lanes_decide c.test_lanes.result c.lanes_that_fit.result k (own k lt)
+    (λ is. c.lanes_that_fit.ensures fault k starts lt is.listed) in
+    let is : stuck_fault c.args.origin.fault ≡ moved_fault circuit there fault =
+    starts.moved there levelled in
+    let words = c.fault_free.ensures.words there levelled in
+    let at = c.in-Stem.at in
+    let from = (signals_there circuit there well levelled).onto at.signal
+    (c.in-Stem.ensures.signal at refl) in
+    let come : HasCome circuit tests group fault lanes from.0 at.lanes =
+    ((same_flips circuit there well (reordered circuit there well levelled)).come tests group
+    fault lanes from.0 at.lanes).1
+    (subst (λ s. HasCome there tests group (moved_fault circuit there fault) lanes s at.lanes)
+    from.2
+    (subst (λ f. IsReached there tests group f lanes (Stem at)) is
+    (c.in-Stem.ensures.reached tests group words))) in (
+      fault,
+      o.1,
+      first_of_told circuit tests span fault lanes 0 decides
+          (λ k lt e. absurd (false≢true (sym (lane_zero k) ∙ e)))
+          (λ k lt own none d. (let h = (come k lt own).0 d in
+          false≢true (sym (lane_of_zero (bit_and lanes at.lanes) k c.if-lanes-eq0.true)
+          ∙ lanes_both lanes at.lanes k own h.0))),
+    )
+
+pub returns-else-lanes-eq0-clause-approach : goal.returns-else-lanes-eq0-clause-approach
+returns-else-lanes-eq0-clause-approach c = λ class o.
+    let job = c.args.job.now in
+    let circuit = job.circuit in
+    let there = c.flat-circuit.result.now.levelled in
+    let levelled = c.flat-circuit.ensures.levelled in
+    let well = c.flat-circuit.ensures.together.circuit.well_formed in
+    let fault = o.0 in
+    let starts = o.2 in
+    let tests = job.tests.tests in
+    let span = c.args.span in
+    let group = group_of span in
+    let lanes = bit_and c.test_lanes.result c.lanes_that_fit.result in
+    let own = subst (λ (t : TestList). (k : ℕ) → k < 128
+    → Decides (lane c.test_lanes.result k) (IsInSpan (length t.tests) span (128 * group + k)))
+    c.tests.ensures.part c.test_lanes.ensures in
+    let decides : AreLanesFor tests span circuit fault lanes =
+    λ k lt. lanes_decide c.test_lanes.result c.lanes_that_fit.result k (own k lt)
+    (λ is. c.lanes_that_fit.ensures fault k starts lt is.listed) in
+    let is : stuck_fault c.args.origin.fault ≡ moved_fault circuit there fault =
+    starts.moved there levelled in
+    let words = c.fault_free.ensures.words there levelled in
+    let at = c.in-Stem.at in
+    let here = c.signal_at.result in
+    let stem : at.signal ≡ place circuit there here = sym (c.signal_at.ensures.place)
+    ∙ ap (λ x. place x there here) c.flat-circuit.ensures.part in
+    let come : HasCome circuit tests group fault lanes here at.lanes =
+    ((same_flips circuit there well (reordered circuit there well levelled)).come tests group
+    fault lanes here at.lanes).1
+    (subst (λ s. HasCome there tests group (moved_fault circuit there fault) lanes s at.lanes) stem
+    (subst (λ f. IsReached there tests group f lanes (Stem at)) is
+    (c.in-Stem.ensures.reached tests group words))) in (
+      subst (λ x. here < length (names x)) c.flat-circuit.ensures.part c.signal_at.ensures.within,
+      (
+        fault,
+        lanes,
+        at.lanes,
+        o.1,
+        decides,
+        come,
+        refl,
+      ),
+    )
+
+pub returns-else-lanes-eq0-clause-stem : goal.returns-else-lanes-eq0-clause-stem
+returns-else-lanes-eq0-clause-stem c = λ class end o e.
+    let job = c.args.job.now in
+    let circuit = job.circuit in
+    let there = c.flat-circuit.result.now.levelled in
+    let levelled = c.flat-circuit.ensures.levelled in
+    let well = c.flat-circuit.ensures.together.circuit.well_formed in
+    let fault = o.0 in
+    let starts = o.2 in
+    let is : stuck_fault c.args.origin.fault ≡ moved_fault circuit there fault =
+    starts.moved there levelled in
+    let lanes = bit_and c.test_lanes.result c.lanes_that_fit.result in
+    let at = c.in-Stem.at in
+    let here = c.signal_at.result in
+    let stem : at.signal ≡ place circuit there here = sym (c.signal_at.ensures.place)
+    ∙ ap (λ x. place x there here) c.flat-circuit.ensures.part in
+    let some : at.lanes ≢ 0 = λ z.
+    c.if-lanes-eq0.false (ap (bit_and lanes) z ∙ and_zero_r lanes) in
+    let own = subst (λ s. IsStemOfLine there s (moved_fault circuit there fault).line) stem
+    (subst (λ f. IsStemOfLine there at.signal f.line) is
+    (c.in-Stem.ensures.stem at refl some)) in
+    let back = ((same_stems circuit there well (reordered circuit there well levelled)).of_line
+    fault.model fault here starts.listed).1 own in
+    let whole : approach.Stem (record { signal = here; lanes = bit_and lanes at.lanes })
+    ≡ approach.Stem end = e in
+    let one : here ≡ end.signal = cc in (
+      fault,
+      o.1,
+      subst (λ s. IsStemOfLine circuit s fault.line) one back,
+    )
+
+pub returns-in-Observed-clause-counted : goal.returns-in-Observed-clause-counted
+returns-in-Observed-clause-counted c = λ class way o w.
+    let job = c.args.job.now in
+    let circuit = job.circuit in
+    let there = c.flat-circuit.result.now.levelled in
+    let levelled = c.flat-circuit.ensures.levelled in
+    let well = c.flat-circuit.ensures.together.circuit.well_formed in
+    let fault = o.0 in
+    let starts = o.2 in
+    let is : stuck_fault c.args.origin.fault ≡ moved_fault circuit there fault =
+    starts.moved there levelled in
+    let same : w.0 ≡ fault = ap (λ (o : Option Fault). unwrap_or o w.0) (sym w.1
+    ∙ o.1) in
+    let own = subst (λ f. IsWayOfLine circuit f.line way) same w.2 in
+    let on = (same_stems circuit there well (reordered circuit there well levelled)).way
+    fault.line way own in
+    c.follow.ensures.counted way
+    (subst (λ f. IsWayOfLine there f.line way) (sym is) on)
+
+pub returns-then-lanes-eq0-clause-counted : goal.returns-then-lanes-eq0-clause-counted
+returns-then-lanes-eq0-clause-counted c = λ class way o w.
+    let job = c.args.job.now in
+    let circuit = job.circuit in
+    let there = c.flat-circuit.result.now.levelled in
+    let levelled = c.flat-circuit.ensures.levelled in
+    let well = c.flat-circuit.ensures.together.circuit.well_formed in
+    let fault = o.0 in
+    let starts = o.2 in
+    let is : stuck_fault c.args.origin.fault ≡ moved_fault circuit there fault =
+    starts.moved there levelled in
+    let same : w.0 ≡ fault = ap (λ (o : Option Fault). unwrap_or o w.0) (sym w.1
+    ∙ o.1) in
+    let own = subst (λ f. IsWayOfLine circuit f.line way) same w.2 in
+    let on = (same_stems circuit there well (reordered circuit there well levelled)).way
+    fault.line way own in
+    c.follow.ensures.counted way
+    (subst (λ f. IsWayOfLine there f.line way) (sym is) on)
+
+pub returns-else-lanes-eq0-clause-counted : goal.returns-else-lanes-eq0-clause-counted
+returns-else-lanes-eq0-clause-counted c = λ class way o w.
+    let job = c.args.job.now in
+    let circuit = job.circuit in
+    let there = c.flat-circuit.result.now.levelled in
+    let levelled = c.flat-circuit.ensures.levelled in
+    let well = c.flat-circuit.ensures.together.circuit.well_formed in
+    let fault = o.0 in
+    let starts = o.2 in
+    let is : stuck_fault c.args.origin.fault ≡ moved_fault circuit there fault =
+    starts.moved there levelled in
+    let same : w.0 ≡ fault = ap (λ (o : Option Fault). unwrap_or o w.0) (sym w.1
+    ∙ o.1) in
+    let own = subst (λ f. IsWayOfLine circuit f.line way) same w.2 in
+    let on = (same_stems circuit there well (reordered circuit there well levelled)).way
+    fault.line way own in
+    c.follow.ensures.counted way
+    (subst (λ f. IsWayOfLine there f.line way) (sym is) on)
+
+pub fault_free-requires : goal.fault_free-requires
+fault_free-requires c = let within = c.requires.span.within in omega (arith, within)
+
+pub lanes_that_fit-requires-clause-origin : goal.lanes_that_fit-requires-clause-origin
+lanes_that_fit-requires-clause-origin c = (c.requires.origin.1.0, c.requires.origin.1.2)
+
+pub follow-requires-clause-carried : goal.follow-requires-clause-carried
+follow-requires-clause-carried c =
+    c.requires.origin.1.2.carried c.flat-circuit.result.now.levelled c.flat-circuit.ensures.levelled

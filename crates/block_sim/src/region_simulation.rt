@@ -1,0 +1,292 @@
+//! The first tests of the classes of a list, found out region by region.
+
+ghost use Rattle.std.specs.Prelude.{◌≡◌, ◌⊎◌, ◌+◌, ◌^◌, ◌<◌, ◌≤◌, ℕ, All, Contains, IfOk, List};
+ghost use Rattle.std.specs.Prelude.{[], Some, length, slice_get, slice_set, vec_capacity, vec_len};
+ghost use Rattle.std.specs.List.{sum_by};
+ghost use Rattle.bench_net.specs.Scan.{names};
+ghost use Rattle.patterns.specs.Tests.{blocks};
+ghost use Rattle.block_sim.specs.Changes.{HasRoomFor, IsAsLarge, IsClear};
+ghost use Rattle.block_sim.specs.Origins.{IsListed};
+ghost use Rattle.block_sim.specs.RegionHits.{AreConcluded, AreFollowedAt, HaveFirsts};
+ghost use Rattle.block_sim.specs.RegionHits.{HaveFirstsBut, HaveStem, IsEndOfRegion, IsFollowedAt};
+ghost use Rattle.block_sim.specs.RegionHits.{IsFoundOrFollowed, IsTestOf, ServesRegions};
+ghost use Rattle.block_sim.specs.RegionHits.{open_between};
+ghost use Rattle.block_sim.specs.Simulation.{AreFollowed};
+ghost use Rattle.block_sim.specs.Spans.{IsSpan, group_of, span_of};
+ghost use Rattle.block_sim.specs.Ways.{AreWays, HasActiveByFlip};
+
+use crate::changes::Changes;
+use crate::job::Job;
+use crate::origin::Listed;
+use crate::simulation::{Approach, flip_stem, follow_from};
+use crate::span::Span;
+use crate::spread::Followed;
+use std::alloc::{AllocError, Global};
+use std::marker::Model;
+
+/// What simulates whole fan-out-free regions, for one who goes over a list of classes on which the
+/// classes of a region stand one behind another. All of them that are open are found out at once
+/// on a block: each is followed to the stem of the region, and the stem is turned round once (Lee
+/// and Ha, HOPE: An Efficient Parallel Fault Simulator).
+///
+/// It keeps the test that it found out last of the class at each place of the list.
+#[derive(Drop)]
+pub struct RegionSimulation {
+    changes: Changes,
+    followed: Vec<Followed>,
+    hits: Vec<Option<u32>>,
+}
+
+impl Model for RegionSimulation {
+    ghost use Rattle.std.specs.Prelude.{length, vec_capacity};
+    ghost use Rattle.block_sim.specs.Changes.{IsAtRest};
+    ghost use Rattle.block_sim.specs.RegionHits.{RegionsSimulated};
+
+    ghost Value = { RegionsSimulated };
+
+    ghost view = { λ s. record {
+      signals = length s.changes.overlay;
+      evaluations = s.changes.evaluations;
+      hits = s.hits.items;
+      capacity = vec_capacity s.followed;
+    } };
+
+    ghost invariant = { λ s. IsAtRest s.changes };
+}
+
+impl RegionSimulation {
+    /// Room for the simulation of lists of classes of a job. It takes a word and a few numbers for
+    /// each signal, and a few numbers for each class.
+    pub fn new(alloc: Global, job: &Job) -> Result<RegionSimulation, AllocError>
+        ensures serves { IfOk result (λ simulation. ServesRegions simulation job.now) }
+        ensures fresh { IfOk result (λ simulation. simulation.evaluations ≡ 0) }
+    {
+        let classes = job.classes().count() as usize;
+        let changes = Changes::new(alloc, job.circuit().signals())?;
+        let followed = Vec::with_capacity(alloc, classes)?;
+        let hits = vec![in alloc; None; classes]?;
+        Ok(RegionSimulation {
+            changes,
+            followed,
+            hits,
+        })
+    }
+
+    /// How often a gate was evaluated on a word since the simulation was made. It stays at the
+    /// greatest u64.
+    pub fn gate_evaluations(&self) -> u64
+        ensures { result ≡ self.now.evaluations }
+    {
+        self.changes.evaluations
+    }
+
+    /// The test, counted from 0, that was found out last of the class at a place of the list.
+    pub fn hit_at(&self, place: usize) -> Option<u32>
+        requires { place < length self.now.hits }
+        ensures { slice_get self.now.hits place ≡ Some result }
+    {
+        self.hits[place]
+    }
+
+    /// Finds out the region whose classes stand in a list from a place on: the first test that
+    /// detects each of its classes that is open, on a block and what is simulated at once with it
+    /// ([`Job::last_together`]). A class is open where no first test of it is known yet. Gives the
+    /// place behind the last class of the region. It takes no memory.
+    ///
+    /// At most it evaluates the gates on the ways of the open classes to the stem, and once each
+    /// those that the stem makes active where it is turned round: gates with a pin that sees
+    /// another bit then, under some test of these blocks.
+    pub fn find_out(
+        &mut self,
+        job: &Job,
+        block: u32,
+        rows: &[Listed],
+        from: usize,
+        firsts: &[Option<u32>],
+    ) -> usize
+        requires serves { ServesRegions self.old job.now }
+        requires block { block < blocks (length job.now.tests.tests) }
+        requires rows { All (IsListed job.now) rows.now }
+        requires few { length rows.now ≤ length job.now.classes.representative }
+        requires firsts { length firsts.now ≡ length rows.now }
+        requires from { from < length rows.now }
+        ensures end { IsEndOfRegion rows.now from result }
+        ensures found { HaveFirsts job.now (span_of (length job.now.tests.tests) block) rows.now
+            firsts.now from result self.new.hits }
+        ensures others { (place : ℕ) → (place < from) ⊎ (result ≤ place)
+            → slice_get self.new.hits place ≡ slice_get self.old.hits place }
+        ensures serves { ServesRegions self.new job.now }
+        ensures counted { (way : ℕ → ℕ) (first : Listed) (gates : List ℕ) → AreWays job.now way
+            → slice_get rows.now from ≡ Some first
+            → HasActiveByFlip job.now.circuit job.now.tests.tests
+            (span_of (length job.now.tests.tests) block) first.stem gates
+            → self.new.evaluations ≤ self.old.evaluations
+            + sum_by way (open_between rows.now firsts.now from result) + length gates }
+        ensures grown { self.old.evaluations ≤ self.new.evaluations }
+    {
+        let span = Span::from(job.tests(), block);
+        let stem = row_at(rows, from).stem;
+        let end = end_of_region(rows, from);
+        self.followed.clear();
+        let changes = &mut self.changes;
+        let followed = &mut self.followed;
+        let hits = self.hits.as_mut_slice();
+        follow_region(job, span, rows, from, end, firsts, changes, followed, hits);
+        let all = followed.as_slice();
+        let seen = flip_stem(job, span, stem, all, changes);
+        conclude(span, seen, all, hits);
+        end
+    }
+}
+
+/// The class at a place of a list.
+fn row_at(rows: &[Listed], place: usize) -> Listed
+    requires { place < length rows.now }
+    ensures { slice_get rows.now place ≡ Some result }
+{
+    rows[place]
+}
+
+/// The place behind the last class of a region, of which the first stands at this place.
+fn end_of_region(rows: &[Listed], from: usize) -> usize
+    requires { from < length rows.now }
+    ensures { IsEndOfRegion rows.now from result }
+{
+    let stem = row_at(rows, from).stem;
+    for place in from + 1..rows.len() {
+        let row = row_at(rows, place);
+        if row.stem != stem {
+            return place;
+        }
+    }
+    rows.len()
+}
+
+/// Follows the classes of a region that are open, which stand from one place up to another.
+fn follow_region(
+    job: &Job,
+    span: Span,
+    rows: &[Listed],
+    from: usize,
+    to: usize,
+    firsts: &[Option<u32>],
+    changes: &mut Changes,
+    followed: &mut Vec<Followed>,
+    hits: &mut [Option<u32>],
+)
+    requires span { IsSpan (length job.now.tests.tests) span }
+    requires low { span.first < 2 ^ 20 }
+    requires room { HasRoomFor job.now.circuit changes.old }
+    requires clear { IsClear changes.old }
+    requires rows { All (IsListed job.now) rows.now }
+    requires firsts { length firsts.now ≡ length rows.now }
+    requires order { from ≤ to }
+    requires within { to ≤ length rows.now }
+    requires places { length rows.now ≤ length hits.old }
+    requires capacity { length rows.now ≤ vec_capacity followed.old }
+    requires none { followed.old.items ≡ [] }
+    requires len { vec_len followed.old ≡ 0 }
+    ensures found { HaveFirstsBut job.now span rows.now firsts.now followed.new.items from to
+        hits.new }
+    ensures at { AreFollowedAt rows.now from to followed.new.items }
+    ensures followed { (stem : ℕ) → HaveStem rows.now from to stem
+        → AreFollowed job.now span stem followed.new.items }
+    ensures others { (place : ℕ) → (place < from) ⊎ (to ≤ place)
+        → slice_get hits.new place ≡ slice_get hits.old place }
+    ensures places { length hits.new ≡ length hits.old }
+    ensures capacity { vec_capacity followed.new ≡ vec_capacity followed.old }
+    ensures counted { (way : ℕ → ℕ) → AreWays job.now way
+        → changes.new.evaluations ≤ changes.old.evaluations
+        + sum_by way (open_between rows.now firsts.now from to) }
+    ensures grown { changes.old.evaluations ≤ changes.new.evaluations }
+    ensures room { IsAsLarge changes.old changes.new }
+    ensures clear { IsClear changes.new }
+{
+    for place in from..to {
+        match first_at(firsts, place) {
+            Some(_test) => continue,
+            None => {}
+        }
+        let row = row_at(rows, place);
+        follow_row(job, span, row, place, changes, followed, hits);
+    }
+}
+
+/// The first test that is known of the class at a place.
+fn first_at(firsts: &[Option<u32>], place: usize) -> Option<u32>
+    requires { place < length firsts.now }
+    ensures { slice_get firsts.now place ≡ Some result }
+{
+    firsts[place]
+}
+
+/// Follows one class of a region, and keeps its first test where that is known at once.
+fn follow_row(
+    job: &Job,
+    span: Span,
+    row: Listed,
+    place: usize,
+    changes: &mut Changes,
+    followed: &mut Vec<Followed>,
+    hits: &mut [Option<u32>],
+)
+    requires span { IsSpan (length job.now.tests.tests) span }
+    requires low { span.first < 2 ^ 20 }
+    requires room { HasRoomFor job.now.circuit changes.old }
+    requires clear { IsClear changes.old }
+    requires row { IsListed job.now row }
+    requires place { place < length hits.old }
+    requires capacity { vec_len followed.old < vec_capacity followed.old }
+    ensures found { IsFoundOrFollowed job.now span row place followed.old.items followed.new.items
+        hits.old hits.new }
+    ensures len { vec_len followed.new ≤ vec_len followed.old + 1 }
+    ensures capacity { vec_capacity followed.new ≡ vec_capacity followed.old }
+    ensures counted { (way : ℕ → ℕ) → AreWays job.now way
+        → changes.new.evaluations ≤ changes.old.evaluations + way row.class }
+    ensures grown { changes.old.evaluations ≤ changes.new.evaluations }
+    ensures room { IsAsLarge changes.old changes.new }
+    ensures clear { IsClear changes.new }
+{
+    match follow_from(job, row.origin, span, changes) {
+        Approach::Known(word) => keep(hits, place, test_of(span, word)),
+        Approach::Stem(at) => followed.push_reserved(Followed {
+            class: row.class,
+            place,
+            lanes: at.lanes,
+        }),
+    }
+}
+
+/// Keeps the first tests of all classes that were followed.
+fn conclude(span: Span, seen: u128, followed: &[Followed], hits: &mut [Option<u32>])
+    requires span { span.first < 2 ^ 20 }
+    requires places { (one : Followed) → Contains followed.now one → one.place < length hits.old }
+    ensures places { length hits.new ≡ length hits.old }
+    ensures kept { (place : ℕ) → (IsFollowedAt followed.now place → ⊥)
+        → slice_get hits.new place ≡ slice_get hits.old place }
+    ensures told { AreConcluded span seen followed.now hits.new }
+{
+    for one in followed {
+        keep(hits, one.place, test_of(span, one.lanes & seen));
+    }
+}
+
+/// Keeps what was found out of the class at a place.
+fn keep(hits: &mut [Option<u32>], place: usize, hit: Option<u32>)
+    requires { place < length hits.old }
+    ensures { hits.new ≡ slice_set hits.old place hit }
+{
+    hits[place] = hit;
+}
+
+/// The test of the least lane of a word that is 1.
+fn test_of(span: Span, word: u128) -> Option<u32>
+    requires { span.first < 2 ^ 20 }
+    ensures { IsTestOf span word result }
+{
+    if word == 0 {
+        None
+    } else {
+        Some(span.first / 2 * 128 + word.trailing_zeros())
+    }
+}
