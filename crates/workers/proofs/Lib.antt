@@ -9,6 +9,7 @@ mod ClosedLedgers
 mod PartsOfClasses
 mod ClassRanks
 mod LoneWorkers
+mod Turns
 mod TakenParts
 mod RunsOfParts
 mod ReturnsByPart

@@ -7,3 +7,4 @@ pub mod Schedule
 pub mod Work
 pub mod Alone
 pub mod Refused
+pub mod Turns

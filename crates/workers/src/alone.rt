@@ -1,14 +1,21 @@
 //! The run of one worker alone over a list of classes, without a ledger.
 
-ghost use Rattle.std.specs.Prelude.{◌≡◌, ◌<◌, ◌≤◌, ◌+◌, All, IfNone, IfSome, None, Some, length};
-ghost use Rattle.std.specs.Prelude.{slice_get};
+ghost use Rattle.std.specs.Prelude.{◌≡◌, ◌<◌, ◌≤◌, ◌+◌, ℕ, All, IfNone, IfOk, IfSome, None, Some};
+ghost use Rattle.std.specs.Prelude.{length, slice_get};
 ghost use Rattle.patterns.specs.Tests.{blocks};
-ghost use Rattle.block_sim.specs.Parts.{BelongTogether};
+ghost use Rattle.block_sim.specs.First.{IsTrueOutcome};
+ghost use Rattle.block_sim.specs.Origins.{IsListed};
+ghost use Rattle.block_sim.specs.Parts.{BelongTogether, Parts};
+ghost use Rattle.block_sim.specs.RegionHits.{IsFirstOn, ServesRegions};
 ghost use Rattle.workers.specs.Alone.{AreFoundUpTo, HasEnded, IsLowest, IsOpenIn, IsStopAt};
 ghost use Rattle.workers.specs.Alone.{done_before, lower_of};
+ghost use Rattle.workers.specs.Turns.{AreAhead, AreBehind, AreRowsOf, IsTurn, IsWhole, between};
+ghost use Rattle.workers.specs.Turns.{classes_of};
 
 use crate::worker::Gate;
 use block_sim::{Job, Listed, RegionSimulation};
+use patterns::Outcome;
+use std::alloc::{AllocError, Global};
 
 /// Where its gate stopped a worker that goes over a list: before the class at this place of the
 /// list, counted from 0, on this block.
@@ -25,6 +32,50 @@ pub(crate) struct Waiting {
     pub(crate) block: u32,
 }
 
+/// The classes of a list, each with what its simulation starts from.
+pub(crate) fn rows_of(alloc: Global, job: &Job, classes: &[u32]) -> Result<Vec<Listed>, AllocError>
+    requires { All (λ class. class < length job.now.classes.representative) classes.now }
+    ensures { IfOk result (λ rows. AreRowsOf job.now classes.now rows.items) }
+{
+    let mut rows = Vec::with_capacity(alloc, classes.len())?;
+    for class in classes {
+        rows.push(job.listed(*class))?;
+    }
+    Ok(rows)
+}
+
+/// A block's turn in a run over a list.
+#[derive(Clone, Copy)]
+struct Turn {
+    block: u32,
+    /// The last of the blocks that are found out with it.
+    last: u32,
+    /// Of how many first classes of the list that was done.
+    found: usize,
+}
+
+/// The turn of a block, where so many first blocks are found out already.
+fn turn_of(job: &Job, rows: &[Listed], block: u32, known: u32) -> Turn
+    requires block { block < blocks (length job.now.tests.tests) }
+    requires known { known ≤ blocks (length job.now.tests.tests) }
+    ensures block { result.block ≡ block }
+    ensures found { IsTurn job.now rows.now known result }
+{
+    if block < known {
+        Turn {
+            block,
+            last: known - 1,
+            found: rows.len(),
+        }
+    } else {
+        Turn {
+            block,
+            last: job.last_together(block),
+            found: 0,
+        }
+    }
+}
+
 /// Simulates the classes of a list on every block, one block after another, until the gate stops
 /// the worker. A class that an earlier block detects is left out.
 pub(crate) fn run_list<G: Gate>(
@@ -35,67 +86,130 @@ pub(crate) fn run_list<G: Gate>(
     gate: &G,
     firsts: &mut [Option<u32>],
 ) -> Option<Stop>
-    requires together { BelongTogether job.now }
-    requires classes { All (λ class. class < length job.now.classes.representative) classes.now }
-    requires serves { K.serves simulator.old job.now }
-    requires none { AreFoundUpTo job.now classes.now 0 0 firsts.old }
-    ensures ended { HasEnded job.now classes.now worker (G.stops gate.now) result firsts.new }
+    requires rows { All (IsListed job.now) rows.now }
+    requires few { length rows.now ≤ length job.now.classes.representative }
+    requires serves { ServesRegions simulation.old job.now }
+    requires none { AreFoundUpTo job.now (classes_of rows.now) 0 0 firsts.old }
+    ensures ended { HasEnded job.now (classes_of rows.now) worker (G.stops gate.now) result
+        firsts.new }
     ensures passing { G.passing gate.now → result ≡ None }
-    ensures serves { K.serves simulator.new job.now }
+    ensures serves { ServesRegions simulation.new job.now }
 {
     let mut known = 0;
     for block in 0..job.tests().blocks() {
-        let mut found = rows.len();
-        if block >= known {
-            found = 0;
-            known = job.last_together(block) + 1;
-        }
-        let stop = run_block(job, rows, worker, block, found, simulation, gate, firsts);
-        if stop.is_some() {
-            return stop;
+        let turn = turn_of(job, rows, block, known);
+        match run_block(job, rows, worker, turn, simulation, gate, firsts) {
+            Some(stop) => return Some(stop),
+            None => known = turn.last + 1,
         }
     }
     None
 }
 
-/// Simulates on a block the classes of a list that no earlier block detects.
+/// Simulates on a block the classes of a list that no earlier block detects. The gate is asked for
+/// each class; what is found out with the first open class of a region is kept for the others, and
+/// for the blocks behind this one that are found out with it.
 fn run_block<G: Gate>(
     job: &Job,
     rows: &[Listed],
     worker: u32,
-    block: u32,
-    found: usize,
+    turn: Turn,
     simulation: &mut RegionSimulation,
     gate: &G,
     firsts: &mut [Option<u32>],
 ) -> Option<Stop>
     requires together { BelongTogether job.now }
-    requires classes { All (λ class. class < length job.now.classes.representative) classes.now }
-    requires block { block < blocks (length job.now.tests.tests) }
-    requires serves { K.serves simulator.old job.now }
-    requires found { AreFoundUpTo job.now classes.now 0 block firsts.old }
+    requires rows { All (IsListed job.now) rows.now }
+    requires few { length rows.now ≤ length job.now.classes.representative }
+    requires block { turn.block < blocks (length job.now.tests.tests) }
+    requires turn { (known : ℕ) × IsTurn job.now rows.now known turn }
+    requires serves { ServesRegions simulation.old job.now }
+    requires found { AreFoundUpTo job.now (classes_of rows.now) 0 turn.block firsts.old }
+    requires ahead { AreAhead job.now rows.now firsts.old turn 0 turn.found
+        simulation.old.hits }
     ensures stopped { IfSome result (λ stop.
-        IsStopAt job.now classes.now worker (G.stops gate.now) stop
-        × AreFoundUpTo job.now classes.now stop.place stop.block firsts.new) }
-    ensures ended { IfNone result (AreFoundUpTo job.now classes.now 0 (block + 1) firsts.new) }
+        IsStopAt job.now (classes_of rows.now) worker (G.stops gate.now) stop
+        × AreFoundUpTo job.now (classes_of rows.now) stop.place stop.block firsts.new) }
+    ensures ended { IfNone result (AreFoundUpTo job.now (classes_of rows.now) 0 (turn.block + 1)
+        firsts.new) }
+    ensures behind { IfNone result (AreBehind job.now rows.now firsts.new turn (length rows.now)
+        simulation.new.hits) }
     ensures passing { G.passing gate.now → result ≡ None }
-    ensures serves { K.serves simulator.new job.now }
+    ensures serves { ServesRegions simulation.new job.now }
 {
-    let mut found = found;
+    let mut found = turn.found;
     for place in 0..rows.len() {
         match first_at(firsts, place) {
             Some(_test) => continue,
             None => {}
         }
-        if !gate.pass(worker, rows[place].class, block) {
+        let class = row_at(rows, place).class;
+        if !gate.pass(worker, class, turn.block) {
+            let block = turn.block;
             return Some(Stop { place, block });
         }
-        if place >= found {
-            found = simulation.find_out(job, block, rows, place, firsts);
+        found = found_from(job, rows, turn, place, found, simulation, firsts);
+        match outcome_on(simulation.hit_at(place), turn.block) {
+            Outcome::Clear => continue,
+            Outcome::Hit(test) => firsts[place] = Some(64 * turn.block + test),
         }
-        firsts[place] = hit_on(simulation.hit_at(place), block);
     }
     None
+}
+
+/// Finds out the region whose first open class stands at a place, unless that was done: so many
+/// first classes of the list are found out. Tells of how many that is done then.
+fn found_from(
+    job: &Job,
+    rows: &[Listed],
+    turn: Turn,
+    place: usize,
+    found: usize,
+    simulation: &mut RegionSimulation,
+    firsts: &[Option<u32>],
+) -> usize
+    requires rows { All (IsListed job.now) rows.now }
+    requires few { length rows.now ≤ length job.now.classes.representative }
+    requires block { turn.block < blocks (length job.now.tests.tests) }
+    requires firsts { length firsts.now ≡ length rows.now }
+    requires place { place < length rows.now }
+    requires whole { IsWhole job.now rows.now turn found }
+    requires serves { ServesRegions simulation.old job.now }
+    requires ahead { AreAhead job.now rows.now firsts.now turn place found simulation.old.hits }
+    requires behind { AreBehind job.now rows.now firsts.now turn place simulation.old.hits }
+    ensures low { place < result }
+    ensures whole { IsWhole job.now rows.now turn result }
+    ensures ahead { AreAhead job.now rows.now firsts.now turn place result simulation.new.hits }
+    ensures behind { AreBehind job.now rows.now firsts.now turn place simulation.new.hits }
+    ensures serves { ServesRegions simulation.new job.now }
+{
+    if place < found {
+        return found;
+    }
+    simulation.find_out(job, turn.block, rows, place, firsts)
+}
+
+/// The outcome on a block of a class that this test detects first, from the block on.
+fn outcome_on(hit: Option<u32>, block: u32) -> Outcome
+    ensures here { (job : Parts) (last class : ℕ) → block ≤ last
+        → IsFirstOn job (between block last) class hit
+        → IsTrueOutcome job.list.model job.circuit job.tests.tests class block result }
+    ensures later { (job : Parts) (last class : ℕ) → result ≡ Outcome.Clear
+        → IsFirstOn job (between block last) class hit
+        → IsFirstOn job (between (block + 1) last) class hit }
+{
+    match hit {
+        Some(test) if test / 64 == block => Outcome::Hit(test % 64),
+        _ => Outcome::Clear,
+    }
+}
+
+/// The class at a place of a list, with what its simulation starts from.
+fn row_at(rows: &[Listed], place: usize) -> Listed
+    requires { place < length rows.now }
+    ensures { slice_get rows.now place ≡ Some result }
+{
+    rows[place]
 }
 
 /// The lowest class of a list that isn't settled where the worker was stopped, and the block that
@@ -125,14 +239,6 @@ pub(crate) fn lowest_open(
         lowest = lower_of(lowest, Some(Waiting { class, block }));
     }
     lowest
-}
-
-/// A test, where it is one of a block.
-fn hit_on(hit: Option<u32>, block: u32) -> Option<u32> {
-    match hit {
-        Some(test) if test / 64 == block => hit,
-        _ => None,
-    }
 }
 
 /// The class at a place of a list.

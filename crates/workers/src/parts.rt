@@ -4,7 +4,7 @@ ghost use Rattle.std.specs.Prelude.{◌≡◌, ◌⊎◌, ◌<◌, ◌≤◌, �
 ghost use Rattle.std.specs.Prelude.{OnOk, Some, length, map, slice_get, slice_index_or, vec_len};
 ghost use Rattle.patterns.specs.Tests.{blocks, max_pieces};
 ghost use Rattle.block_sim.specs.Parts.{BelongTogether, Parts};
-ghost use Rattle.block_sim.specs.Simulation.{Serves};
+ghost use Rattle.block_sim.specs.RegionHits.{ServesRegions};
 ghost use Rattle.workers.specs.Alone.{AreFoundByPart, AreGivenBack, ArePut, IsDone};
 ghost use Rattle.workers.specs.Part.{AreClassVerdicts, ArePartOf, ArePartVerdicts, IsInOnePart};
 ghost use Rattle.workers.specs.Part.{IsOfPart, first_in};
@@ -299,12 +299,12 @@ fn found_in<G: Gate>(
     requires cut { (parts : ℕ) × (part < parts)
         × IsCutOf job.now parts cut.now.ranked.items cut.now.classes.items }
     requires part { part + 1 < 2 ^ 32 }
-    requires serves { Serves member.old.simulation job.now }
+    requires serves { ServesRegions member.old.simulation job.now }
     ensures done { IfOk result (λ done. (place ≡ Some done) ⊎ ((done.part ≡ part)
         × IsDone job.now cut.now.ranked.items cut.now.classes.items member.old.number
         (G.passing gate.now) (G.stops gate.now) done)) }
     ensures member { member.new.number ≡ member.old.number }
-    ensures serves { Serves member.new.simulation job.now }
+    ensures serves { ServesRegions member.new.simulation job.now }
 {
     match place {
         Some(done) => Ok(done),

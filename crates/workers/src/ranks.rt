@@ -6,7 +6,7 @@ ghost use Rattle.block_sim.specs.Parts.{Parts};
 ghost use Rattle.workers.specs.Rank.{AreNumbered, AreRanked, IsCutOf, IsStart};
 
 use crate::visits::visit_order;
-use block_sim::{Job, Listed};
+use block_sim::Job;
 use std::alloc::{AllocError, Global};
 
 /// A class of a job, with its part, the visit to its region's stem and the number of that. It is
@@ -25,8 +25,6 @@ pub(crate) struct Cut {
     ranked: Vec<Ranked>,
     /// The numbers of the classes.
     pub(crate) classes: Vec<u32>,
-    /// What their simulation starts from.
-    pub(crate) rows: Vec<Listed>,
 }
 
 impl Cut {
@@ -37,13 +35,8 @@ impl Cut {
             IsCutOf job.now parts cut.ranked.items cut.classes.items) }
     {
         let ranked = ranked_classes(alloc, job, parts)?;
-        let classes: Vec<u32> = ranked.iter().map(|at| at.class).collect(alloc)?;
-        let rows = listed_rows(alloc, job, classes.as_slice())?;
-        Ok(Cut {
-            ranked,
-            classes,
-            rows,
-        })
+        let classes = ranked.iter().map(|at| at.class).collect(alloc)?;
+        Ok(Cut { ranked, classes })
     }
 
     /// The place in the classes at which a part begins, or their end.
@@ -63,15 +56,6 @@ impl Cut {
     {
         &self.classes[start..end]
     }
-}
-
-/// The classes of a list with what their simulation starts from.
-fn listed_rows(alloc: Global, job: &Job, classes: &[u32]) -> Result<Vec<Listed>, AllocError> {
-    let mut rows = Vec::with_capacity(alloc, classes.len())?;
-    for class in classes {
-        rows.push(job.listed(*class))?;
-    }
-    Ok(rows)
 }
 
 /// All classes of a job in their order.

@@ -3,12 +3,12 @@
 ghost use Rattle.std.specs.Prelude.{◌≡◌, ◌⊎◌, ◌<◌, ◌≤◌, ◌+◌, ◌^◌, ℕ, All, IfErr, IfOk, IfSome};
 ghost use Rattle.std.specs.Prelude.{None, length, vec_len};
 ghost use Rattle.block_sim.specs.Parts.{BelongTogether};
-ghost use Rattle.block_sim.specs.Simulation.{Serves};
+ghost use Rattle.block_sim.specs.RegionHits.{ServesRegions};
 ghost use Rattle.workers.specs.Alone.{AreDone, IsDone};
 ghost use Rattle.workers.specs.Rank.{IsCutOf};
 
 use crate::RunFault;
-use crate::alone::{Waiting, lowest_open, run_list};
+use crate::alone::{Waiting, lowest_open, rows_of, run_list};
 use crate::ranks::Cut;
 use crate::worker::Gate;
 use block_sim::{Job, RegionSimulation};
@@ -41,7 +41,7 @@ impl Member {
     /// The worker of a number.
     pub(crate) fn new(alloc: Global, job: &Job, number: u32) -> Result<Member, AllocError>
         ensures number { IfOk result (λ member. member.number ≡ number) }
-        ensures serves { IfOk result (λ member. Serves member.simulation job.now) }
+        ensures serves { IfOk result (λ member. ServesRegions member.simulation job.now) }
     {
         let simulation = RegionSimulation::new(alloc, job)?;
         Ok(Member { number, simulation })
@@ -60,23 +60,22 @@ pub(crate) fn run_alone<G: Gate>(
     requires cut { (parts : ℕ) × (part < parts)
         × IsCutOf job.now parts cut.now.ranked.items cut.now.classes.items }
     requires part { part + 1 < 2 ^ 32 }
-    requires serves { Serves member.old.simulation job.now }
+    requires serves { ServesRegions member.old.simulation job.now }
     ensures done { IfOk result (IsDone job.now cut.now.ranked.items cut.now.classes.items
         member.old.number (G.passing gate.now) (G.stops gate.now)) }
     ensures part { IfOk result (λ done. done.part ≡ part) }
     ensures member { member.new.number ≡ member.old.number }
-    ensures serves { Serves member.new.simulation job.now }
+    ensures serves { ServesRegions member.new.simulation job.now }
 {
     let start = cut.start_of(part);
     let end = cut.start_of(part + 1);
     let own = cut.between(start, end);
-    let _classes = job.classes();
+    let rows = rows_of(alloc, job, own)?;
     let mut firsts = no_firsts(alloc, own.len())?;
     let number = member.number;
     let simulation = &mut member.simulation;
     let found = firsts.as_mut_slice();
-    let rows = &cut.rows[start..end];
-    let waiting = match run_list(job, rows, number, simulation, gate, found) {
+    let waiting = match run_list(job, rows.as_slice(), number, simulation, gate, found) {
         Some(stop) => lowest_open(job, own, stop, firsts.as_slice()),
         None => None,
     };
@@ -110,7 +109,7 @@ fn serve<G: Gate>(
     member: Member,
 ) -> Result<Vec<Done>, AllocError>
     requires cut { IsCutOf job.now parts cut.now.ranked.items cut.now.classes.items }
-    requires serves { Serves member.simulation job.now }
+    requires serves { ServesRegions member.simulation job.now }
     ensures { IfOk result (λ all. AreDone job.now cut.now.ranked.items cut.now.classes.items
         member.number (G.passing gate.now) (G.stops gate.now) all.items) }
 {
@@ -160,7 +159,7 @@ pub(crate) fn take_parts<G: Gate + Sync, R: Threads + Wait>(
     crew: Vec<Member>,
 ) -> Result<Vec<Result<Vec<Done>, AllocError>>, RunFault>
     requires cut { IsCutOf job.now parts cut.now.ranked.items cut.now.classes.items }
-    requires serves { All (λ m. Serves m.simulation job.now) crew.items }
+    requires serves { All (λ m. ServesRegions m.simulation job.now) crew.items }
     requires few { All (λ m. m.number < vec_len crew) crew.items }
     ensures done { IfOk result (λ back. All (λ one. IfOk one (λ all. (worker : ℕ)
         × (worker < vec_len crew)
@@ -176,7 +175,7 @@ pub(crate) fn take_parts<G: Gate + Sync, R: Threads + Wait>(
         rt,
         |scope| -> Result<Vec<Result<Vec<Done>, AllocError>>, RunFault>
             requires cut { IsCutOf job.now parts cut.now.ranked.items cut.now.classes.items }
-            requires serves { All (λ m. Serves m.simulation job.now) crew.items }
+            requires serves { All (λ m. ServesRegions m.simulation job.now) crew.items }
             requires few { All (λ m. m.number < vec_len crew) crew.items }
             ensures done { IfOk result (λ back. All (λ one. IfOk one (λ all. (worker : ℕ)
                 × (worker < vec_len crew)
@@ -217,7 +216,7 @@ pub(crate) fn take_parts<G: Gate + Sync, R: Threads + Wait>(
 pub(crate) fn crew_of(alloc: Global, job: &Job, workers: u32) -> Result<Vec<Member>, AllocError>
     ensures count { IfOk result (λ crew. vec_len crew ≡ workers) }
     ensures few { IfOk result (λ crew. All (λ m. m.number < workers) crew.items) }
-    ensures serves { IfOk result (λ crew. All (λ m. Serves m.simulation job.now) crew.items) }
+    ensures serves { IfOk result (λ crew. All (λ m. ServesRegions m.simulation job.now) crew.items) }
 {
     let mut crew = Vec::with_capacity(alloc, workers as usize)?;
     for number in 0..workers {

@@ -1,8 +1,13 @@
+use Rattle.block_sim.specs.RegionHits.{ServesRegions}
 use Rattle.workers.specs.Alone.{AreFoundUpTo}
+use Rattle.workers.specs.Turns.{AreAhead, AreBehind, IsWhole, classes_of}
 use Rattle.workers.proofs.alone.run_block.Given as goal
 
 abbrev pub invariant-loop-place : goal.invariant-loop-place
 invariant-loop-place g l = record {
-  found : AreFoundUpTo l.job l.classes l.place l.block l.firsts;
-  serves : g.K.Simulator.serves l.simulator l.job;
+  known : AreFoundUpTo l.job (classes_of l.rows) l.place l.turn.block l.firsts;
+  whole : IsWhole l.job l.rows l.turn l.found;
+  ahead : AreAhead l.job l.rows l.firsts l.turn l.place l.found l.simulation.hits;
+  behind : AreBehind l.job l.rows l.firsts l.turn l.place l.simulation.hits;
+  serves : ServesRegions l.simulation l.job;
 }

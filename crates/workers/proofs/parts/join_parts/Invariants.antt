@@ -1,6 +1,6 @@
 use Rattle.std.proofs.Common.{◌≡◌, ◌+◌, ◌++◌, length}
 use Rattle.std.specs.Vec.Iter.{into_iter_items, into_iter_len}
-use Rattle.block_sim.specs.Simulation.{Serves}
+use Rattle.block_sim.specs.RegionHits.{ServesRegions}
 use Rattle.workers.proofs.RunsOfParts.{IsGathered}
 use Rattle.workers.proofs.parts.join_parts.Given as goal
 
@@ -10,7 +10,7 @@ invariant-loop-place g l = record {
   count : length l.yielded ≡ l.part;
   left : l.part + into_iter_len l.place-iterator ≡ l.fn.parts;
   number : l.member.number ≡ 0;
-  serves : Serves l.member.simulation l.job;
+  serves : ServesRegions l.member.simulation l.job;
   gathered : IsGathered l.job l.cut.ranked.items l.cut.classes.items l.fn.parts l.fn.workers
       (g.G.Gate.passing l.gate) (g.G.Gate.stops l.gate) l.part l.firsts.items l.lowest;
 }

@@ -1,5 +1,7 @@
-use Rattle.std.proofs.Common.{◌<◌, ◌+◌, All, arith, length, subst, sym}
+use Rattle.std.proofs.Common.{◌≡◌, ◌∙◌, ◌<◌, ◌+◌, All, ap, arith, length, subst, sym}
+use Rattle.block_sim.specs.Origins.{IsListed}
 use Rattle.workers.specs.Alone.{AreFoundUpTo}
+use Rattle.workers.specs.Turns.{classes_of}
 use Rattle.workers.proofs.PartsOfClasses.{start_le, start_within}
 use Rattle.workers.proofs.TakenParts.{none_found, own_within}
 use Rattle.workers.proofs.taken.run_alone.Goals as goal
@@ -15,8 +17,8 @@ between-own-requires-clause-within g c =
     c.args.cut.now.ranked.items c.args.cut.now.classes.items c.requires.cut.2
     c.start_of-end.ensures
 
-pub run_list-requires-clause-classes : goal.run_list-requires-clause-classes
-run_list-requires-clause-classes g c =
+pub rows_of-requires : goal.rows_of-requires
+rows_of-requires g c =
     subst (All (λ class. class < length c.args.job.now.classes.representative))
     (sym c.between-own.ensures)
     (own_within c.args.job.now c.requires.cut.0 c.args.part c.start_of-start.result
@@ -24,13 +26,20 @@ run_list-requires-clause-classes g c =
     c.requires.cut.2 c.start_of-start.ensures
     c.start_of-end.ensures)
 
+pub run_list-requires-clause-rows : goal.run_list-requires-clause-rows
+run_list-requires-clause-rows g c =
+    subst (All (IsListed c.args.job.now)) (sym c.as_slice.ensures.value) c.in_ok-rows.ensures.each
+
 pub run_list-requires-clause-none : goal.run_list-requires-clause-none
 run_list-requires-clause-none g c =
     let sized = c.in_ok-firsts.firsts.ok.0 in
-    subst (AreFoundUpTo c.args.job.now c.between-own.result.now 0 0)
-    (sym c.as_mut_slice-found.ensures.value)
-    (none_found c.args.job.now c.between-own.result.now c.in_ok-firsts.firsts.items (omega (
+    let own = c.between-own.result.now in
+    let same : classes_of c.as_slice.result.now ≡ own =
+    ap classes_of c.as_slice.ensures.value ∙ c.in_ok-rows.ensures.same in
+    subst (λ l. AreFoundUpTo c.args.job.now l 0 0 c.as_mut_slice-found.result.now) (sym same)
+    (subst (AreFoundUpTo c.args.job.now own 0 0) (sym c.as_mut_slice-found.ensures.value)
+    (none_found c.args.job.now own c.in_ok-firsts.firsts.items (omega (
       arith,
       sized,
       c.in_ok-firsts.ensures.count,
-    )) c.in_ok-firsts.ensures.none)
+    )) c.in_ok-firsts.ensures.none))

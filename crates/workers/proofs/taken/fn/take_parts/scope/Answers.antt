@@ -2,7 +2,7 @@ use Rattle.std.proofs.Common.{rules, arith, below_more, ◌≡◌, ◌<◌, ◌+
 use Rattle.std.proofs.Common.{sym, subst, ap, ◌∙◌, length, suc}
 use Rattle.std.specs.Vec.Iter.{into_iter_items, into_iter_len}
 use Rattle.std.proofs.iter.Serving.{serving}
-use Rattle.block_sim.specs.Simulation.{Serves}
+use Rattle.block_sim.specs.RegionHits.{ServesRegions}
 use Rattle.workers.proofs.TakenParts.{given_back}
 use Rattle.workers.proofs.taken.fn.take_parts.scope.Goals as goal
 
@@ -21,7 +21,7 @@ loop-member-init g c =
               c.requires.few k d within,
               c.len-count.ensures,
             )),
-            subst (λ x. Serves x.simulation c.captures.job.now) (sym same)
+            subst (λ x. ServesRegions x.simulation c.captures.job.now) (sym same)
                 (c.requires.serves k d within),
           );
       each = λ k d lt. absurd (omega (arith, lt, none));
@@ -46,7 +46,7 @@ loop-member-preserved g c =
       left = λ k d lt.
           let h = was.left (suc k) d (omega (arith, lt, step.1)) in
           let same = ap (λ l. get_or l (suc k) d) step.0 in
-          (subst (λ x. x.number < n) same h.0, subst (λ x. Serves x.simulation job) same h.1);
+          (subst (λ x. x.number < n) same h.0, subst (λ x. ServesRegions x.simulation job) same h.1);
       each = λ k d lt.
           below_more (λ i. let p = (get_or (vec_items c.push.new.self) i d).promise in
           (p.job.value ≡ job) × (p.cut.value ≡ cut) × (p.gate.value ≡ gate)
@@ -73,8 +73,8 @@ spawn_with-requires-clause-runs g c κs within =
     let some : 0 < into_iter_len c.loop-member.member-iterator = grind rules in
     let h = c.loop-member.invariant.left 0 c.in-Some.member some in
     let cut = c.requires.cut in
-    let room : Serves c.in-Some.member.simulation c.captures.job.now =
-    subst (λ x. Serves x.simulation c.captures.job.now) (sym next) h.1 in
+    let room : ServesRegions c.in-Some.member.simulation c.captures.job.now =
+    subst (λ x. ServesRegions x.simulation c.captures.job.now) (sym next) h.1 in
     grind serving
 
 pub returns : goal.returns

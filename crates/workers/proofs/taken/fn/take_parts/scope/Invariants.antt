@@ -1,6 +1,6 @@
 use Rattle.std.proofs.Common.{◌≡◌, ◌<◌, ◌+◌, ℕ, get_or, vec_items, vec_len}
 use Rattle.std.specs.Vec.Iter.{into_iter_items, into_iter_len}
-use Rattle.block_sim.specs.Simulation.{Serves}
+use Rattle.block_sim.specs.RegionHits.{ServesRegions}
 use Rattle.workers.proofs.taken.fn.take_parts.scope.Given as goal
 
 -- the workers that are left are of the crew, and each handle is promised parts that its worker has
@@ -12,7 +12,7 @@ invariant-loop-member g l =
       sum : done + into_iter_len rest ≡ l.count;
       left : (k : ℕ) (d : _) → k < into_iter_len rest
           → ((get_or (into_iter_items rest) k d).number < l.count)
-          × Serves (get_or (into_iter_items rest) k d).simulation l.job.now;
+          × ServesRegions (get_or (into_iter_items rest) k d).simulation l.job.now;
       each : (k : ℕ) (d : _) → k < done
           → ((get_or (vec_items l.handles) k d).promise.job.value ≡ l.job.now)
           × ((get_or (vec_items l.handles) k d).promise.cut.value ≡ l.cut.now)
