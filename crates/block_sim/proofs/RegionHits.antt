@@ -1,10 +1,10 @@
 -- What a simulation of regions finds out, by the places of a list of classes.
-use Rattle.std.proofs.Common.{◌≡◌, ◌≢◌, ◌+◌, ◌*◌, ◌-◌, ◌/◌, ◌<◌, ◌≤◌, ◌⊎◌, inl, inr, ℕ, zero, suc}
+use Rattle.std.proofs.Common.{◌≡◌, ◌≢◌, ◌+◌, ◌*◌, ◌-◌, ◌<◌, ◌≤◌, ◌⊎◌, inl, inr, ℕ, zero, suc}
 use Rattle.std.proofs.Common.{refl, sym, ◌∙◌, ap, subst, List, [], ◌∷◌, ◌++◌, length, set, arith}
-use Rattle.std.proofs.Common.{All, true, false, take, drop, length-drop, Option, Some, None}
+use Rattle.std.proofs.Common.{All, take, drop, length-drop, Option, Some, None}
 use Rattle.std.specs.Prelude.{Contains, bit_and, slice_get, slice_range}
 use Rattle.std.specs.List.{sum_by}
-use Rattle.std.proofs.lemmas.Bool.{cases_eq, cases_lt}
+use Rattle.std.proofs.lemmas.Bool.{cases_eq}
 use Rattle.std.proofs.lemmas.List.{length-set, length-take-le}
 use Rattle.std.proofs.lemmas.List.Sums.{sum_by-append}
 use Rattle.std.proofs.lemmas.Option.{get_or_from_slice_get, slice_get-get_or, slice_get_within}
@@ -22,11 +22,10 @@ use Rattle.block_sim.specs.Parts.{Parts}
 use Rattle.block_sim.specs.RegionHits.{AreConcluded, AreFollowedAt, HasFirst, HaveFirsts}
 use Rattle.block_sim.specs.RegionHits.{HaveFirstsBut, IsFirstIn}
 use Rattle.block_sim.specs.Regions.{TellsFirstFlips}
-use Rattle.block_sim.specs.RegionHits.{IsFirstOn, IsFollowedAt, IsFoundOrFollowed, IsOpenAt}
+use Rattle.block_sim.specs.RegionHits.{IsFirstOn, IsFollowedAt, IsFoundOrFollowed}
 use Rattle.block_sim.specs.RegionHits.{IsTestOf, open_between, open_classes}
 use Rattle.block_sim.specs.Simulation.{AreFollowed, HasArrived, TellsFirstIn}
 use Rattle.block_sim.specs.Spans.{IsInSpan, IsSpan, group_of}
-use Rattle.block_sim.specs.Words.{lane}
 use Rattle.block_sim.proofs.KeptOutcomes.{arrived_first}
 
 -- ---- a write to a list
@@ -62,9 +61,9 @@ first_of_lane c tests span f word (Some t) is told h =
           let low : j < k = omega (arith, from, lt, at) in
           let below = h.1 in
           subst (λ n. ¬ DetectsAt c tests f n) same
-              (told.clear j (omega (arith, low, below))
-              (subst (IsInSpan (length tests) span) (sym same) own)
-              (λ i le. h.4 i (omega (arith, le, low)))),
+          (told.clear j (omega (arith, low, below))
+          (subst (IsInSpan (length tests) span) (sym same) own)
+          (λ i le. h.4 i (omega (arith, le, low)))),
     )
 first_of_lane c tests span f word None is told h = λ t own.
     let from = own.from in
@@ -192,8 +191,10 @@ module _ (job : Parts) (span : Span) (rows : List Listed) (firsts : List (Option
       new_one s class at (inr (inl same)) =
           subst (λ (y : Followed). (y.class < length job.classes.representative)
           × HasArrived job span stem y.class y.lanes)
-          same (omega (arith, class, within),
-          subst (λ n. HasArrived job span n s.class s.lanes) of at)
+          same (
+            omega (arith, class, within),
+            subst (λ n. HasArrived job span n s.class s.lanes) of at,
+          )
       new_one s class at (inr (inr bad)) = absurd bad
 
       go : IsFoundOrFollowed job span row p was followed old hits

@@ -1,10 +1,10 @@
 -- The turns of the blocks in the run of one worker over a list of classes.
-use Rattle.std.proofs.Common.{◌≡◌, ◌≢◌, ◌<◌, ◌≤◌, ◌+◌, ◌*◌, ◌/◌, ◌%◌, ◌-◌, ◌⊎◌, inl, inr, ℕ, min}
+use Rattle.std.proofs.Common.{◌≡◌, ◌≢◌, ◌<◌, ◌≤◌, ◌+◌, ◌*◌, ◌/◌, ◌%◌, ◌⊎◌, inl, inr, ℕ}
 use Rattle.std.proofs.Common.{List, All, length, set, Option, Some, None, refl, sym, ap, ◌∙◌, subst}
-use Rattle.std.proofs.Common.{arith, get_or, map}
+use Rattle.std.proofs.Common.{arith, get_or}
 use Rattle.std.specs.Prelude.{slice_get}
 use Rattle.std.specs.Option.{option_map}
-use Rattle.std.proofs.lemmas.Bool.{cases_eq, cases_lt}
+use Rattle.std.proofs.lemmas.Bool.{cases_eq}
 use Rattle.std.proofs.lemmas.List.{get_or-set_same, get_or-set_other, length-set}
 use Rattle.std.proofs.lemmas.Option.{get_or_from_slice_get, slice_get-get_or, slice_get-map}
 use Rattle.std.proofs.lemmas.Option.{slice_get_within}
@@ -12,9 +12,8 @@ use Rattle.fault_model.specs.Detection.{DetectsAt}
 use Rattle.fault_model.specs.Fault.{Fault}
 use Rattle.fault_model.specs.Solution.{Test}
 use Rattle.bench_net.specs.Statement.{Statement}
-use Rattle.patterns.specs.declared.Outcome.{Outcome}
 use Rattle.patterns.specs.declared.Outcome.TheVariants.{Clear, Hit}
-use Rattle.patterns.specs.Tests.{blocks, size_of}
+use Rattle.patterns.specs.Tests.{size_of}
 use Rattle.block_sim.specs.declared.origin.Listed.{Listed}
 use Rattle.block_sim.specs.First.{IsOutcome, IsTrueOutcome}
 use Rattle.block_sim.specs.Origins.{IsListed}
@@ -47,12 +46,12 @@ hit_here c tests f block last t at le h =
       subst (DetectsAt c tests f) (sym same) h.1,
       λ lower lt.
           h.2 (64 * block + lower)
-              (in_block (length tests) block last block lower (omega arith) le (omega (
-                arith,
-                lt,
-                listed,
-                same,
-              ))) (omega (arith, lt, same)),
+          (in_block (length tests) block last block lower (omega arith) le (omega (
+            arith,
+            lt,
+            listed,
+            same,
+          ))) (omega (arith, lt, same)),
     )
 
 -- no test of the block does, where the first one is of another

@@ -1,8 +1,7 @@
 use Rattle.std.proofs.Common.{◌≡◌, ◌+◌, ◌<◌, ap, arith, length, refl, sym, ◌∙◌, subst}
-use Rattle.std.specs.Prelude.{Contains, Some, None, slice_get, slice_index_or, bit_and}
+use Rattle.std.specs.Prelude.{slice_get, slice_index_or}
 use Rattle.std.proofs.lemmas.Option.{slice_get-get_or, slice_get_within}
 use Rattle.block_sim.specs.declared.spread.Followed.{Followed}
-use Rattle.block_sim.specs.RegionHits.{AreConcluded, IsTestOf}
 use Rattle.block_sim.proofs.RegionHits.{AreToldBelow, member_at, place_of_member}
 use Rattle.block_sim.proofs.RegionHits.{told_more}
 use Rattle.block_sim.proofs.region_simulation.conclude.Goals as goal

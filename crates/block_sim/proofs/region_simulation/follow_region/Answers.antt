@@ -1,8 +1,6 @@
-use Rattle.std.proofs.Common.{◌≡◌, ◌+◌, ◌<◌, ◌≤◌, ◌∙◌, ap, arith, length, refl, sym, subst, inl, inr, ℕ}
-use Rattle.std.specs.Prelude.{Contains, Some, None, List, [], slice_get}
+use Rattle.std.proofs.Common.{◌≡◌, ◌<◌, ◌≤◌, ◌∙◌, ap, arith, length, refl, sym, subst, inl, inr}
 use Rattle.std.specs.List.{sum_by}
-use Rattle.block_sim.specs.declared.spread.Followed.{Followed}
-use Rattle.block_sim.specs.RegionHits.{AreFollowedAt, HaveFirstsBut, open_between}
+use Rattle.block_sim.specs.RegionHits.{AreFollowedAt, HaveFirstsBut}
 use Rattle.block_sim.specs.Simulation.{AreFollowed}
 use Rattle.block_sim.proofs.Moments.{large_enough, large_on}
 use Rattle.block_sim.proofs.RegionHits.{as_many, at_more, arrived_more, found_known, found_more}

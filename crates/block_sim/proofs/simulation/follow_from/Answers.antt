@@ -5,10 +5,8 @@ use Rattle.std.specs.Int.Bits.{and_zero_r}
 use Rattle.std.proofs.lemmas.Bool.{false≢true}
 use Rattle.bench_net.specs.Scan.{names}
 use Rattle.patterns.specs.Tests.{TestList}
-use Rattle.fault_model.specs.Detection.{name_on}
 use Rattle.fault_model.specs.Fault.{Fault, faults}
 use Rattle.fault_model.specs.Reordered.{moved_fault, place}
-use Rattle.fault_model.proofs.Public.{carries}
 use Rattle.block_sim.specs.Spans.{IsInSpan, group_of}
 use Rattle.block_sim.specs.declared.region.Reach.TheVariants.{Observed, Stem}
 use Rattle.block_sim.specs.declared.simulation.Approach.TheVariants as approach

@@ -3,10 +3,8 @@ use Rattle.std.specs.Prelude.{◌/◌, Contains, Option, bit_and, map, unwrap_or
 use Rattle.std.specs.Bool.{Decides}
 use Rattle.std.proofs.lemmas.List.{length-map}
 use Rattle.patterns.specs.Tests.{TestList}
-use Rattle.fault_model.specs.Detection.{name_on}
 use Rattle.fault_model.specs.Fault.{Fault, faults}
 use Rattle.fault_model.specs.Reordered.{moved_fault, place}
-use Rattle.fault_model.proofs.Public.{carries}
 use Rattle.block_sim.specs.Spreading.{AreShown, IsSettled}
 use Rattle.block_sim.specs.Regions.{AreLanesFor}
 use Rattle.block_sim.specs.Spans.{AreInSpan, IsInSpan, one_block}

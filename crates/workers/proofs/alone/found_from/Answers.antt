@@ -1,6 +1,5 @@
-use Rattle.std.proofs.Common.{◌≡◌, ◌<◌, ◌∙◌, sym, subst, inl, inr, arith, length, ◌⊎◌}
+use Rattle.std.proofs.Common.{◌∙◌, sym, subst, inl, inr, arith}
 use Rattle.block_sim.specs.RegionHits.{HaveFirsts}
-use Rattle.block_sim.specs.Spans.{span_of}
 use Rattle.workers.specs.Turns.{IsWhole, between}
 use Rattle.workers.proofs.alone.found_from.Goals as goal
 

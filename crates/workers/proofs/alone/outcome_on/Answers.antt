@@ -1,4 +1,4 @@
-use Rattle.std.proofs.Common.{◌≡◌, ◌≢◌, ◌/◌, ◌∙◌, sym, subst, Some, None}
+use Rattle.std.proofs.Common.{◌≡◌, ◌/◌, ◌∙◌, sym, subst, Some, None}
 use Rattle.block_sim.specs.RegionHits.{IsFirstOn}
 use Rattle.workers.specs.Turns.{between}
 use Rattle.workers.proofs.Turns.{first_later, true_clear, true_hit}

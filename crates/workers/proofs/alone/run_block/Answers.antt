@@ -1,10 +1,10 @@
-use Rattle.std.proofs.Common.{◌≡◌, ◌≤◌, ◌<◌, ◌+◌, ◌*◌, ◌∙◌, arith, refl, subst, sym, ap, length}
+use Rattle.std.proofs.Common.{◌+◌, ◌*◌, arith, refl}
 use Rattle.std.specs.Prelude.{None}
 use Rattle.std.proofs.lemmas.List.{length-map}
 use Rattle.std.proofs.lemmas.Option.{slice_get_within}
 use Rattle.block_sim.specs.declared.origin.Listed.{Listed}
 use Rattle.workers.proofs.LoneWorkers.{found_block, found_clear, found_hit, found_known}
-use Rattle.workers.proofs.LoneWorkers.{listed_class, undetected_here}
+use Rattle.workers.proofs.LoneWorkers.{undetected_here}
 use Rattle.workers.specs.Turns.{classes_of}
 use Rattle.workers.proofs.Turns.{ahead_hit, ahead_on, behind_clear, behind_hit, behind_known}
 use Rattle.workers.proofs.Turns.{class_there, row_listed, told_at}

@@ -1,6 +1,5 @@
-use Rattle.std.proofs.Common.{◌≡◌, ◌+◌, ◌-◌, ◌<◌, ◌∙◌, sym, ap, subst, inl, inr, arith, length, ◌⊎◌}
+use Rattle.std.proofs.Common.{◌≡◌, ◌+◌, ◌-◌, ◌<◌, sym, subst, inl, inr, arith}
 use Rattle.std.proofs.lemmas.Option.{slice_get_within}
-use Rattle.patterns.specs.Tests.{TestList, blocks}
 use Rattle.block_sim.specs.RegionHits.{HasFirst}
 use Rattle.workers.specs.Alone.{AreFoundUpTo}
 use Rattle.workers.specs.Turns.{between, classes_of}
@@ -13,15 +12,15 @@ run_block-requires-clause-ahead g c = λ k row from to idle.
     let block = c.turn_of-turn.ensures.block in
     elim is.found [
       | inl x ↦
-        let known = x.1 in
-        let ordered = is.ordered in
-        let last : c.loop-block.known - 1 ≡ turn.last = omega (arith, known) in
-        let lt : c.loop-block.block < c.loop-block.known = omega (arith, known, ordered, block) in
-        let has = c.loop-block.invariant.ahead k row lt idle in
-        subst (λ n. HasFirst c.args.job.now (between n turn.last) row c.loop-block.simulation.hits
-        k) (sym block)
-        (subst (λ n. HasFirst c.args.job.now (between c.loop-block.block n) row
-        c.loop-block.simulation.hits k) last has)
+          let known = x.1 in
+          let ordered = is.ordered in
+          let last : c.loop-block.known - 1 ≡ turn.last = omega (arith, known) in
+          let lt : c.loop-block.block < c.loop-block.known = omega (arith, known, ordered, block) in
+          let has = c.loop-block.invariant.ahead k row lt idle in
+          subst (λ n. HasFirst c.args.job.now (between n turn.last) row c.loop-block.simulation.hits
+          k) (sym block)
+          (subst (λ n. HasFirst c.args.job.now (between c.loop-block.block n) row
+          c.loop-block.simulation.hits k) last has)
       | inr x ↦ let none = x.0 in absurd (omega (arith, none, to))
     ]
 

@@ -1,8 +1,7 @@
-use Rattle.std.proofs.Common.{◌≡◌, ◌<◌, ◌≤◌, ◌++◌, ◌∙◌, ap, arith, drop, take, length, refl, sym}
-use Rattle.std.proofs.Common.{inl, inr, subst, List, Option, ℕ}
-use Rattle.std.specs.Prelude.{Contains, Some, None, slice_get}
+use Rattle.std.proofs.Common.{◌≡◌, ◌++◌, ◌∙◌, ap, arith, drop, take, length, sym}
+use Rattle.std.proofs.Common.{inl, inr, subst, List, ℕ}
+use Rattle.std.specs.Prelude.{Contains, slice_get}
 use Rattle.std.proofs.Math.Seq.{take-append_seam}
-use Rattle.bench_net.specs.Scan.{names}
 use Rattle.patterns.specs.Tests.{TestList}
 use Rattle.block_sim.specs.RegionHits.{AreConcluded, HaveFirsts, IsFollowedAt, ServesRegions}
 use Rattle.block_sim.specs.Simulation.{AreFollowed}
