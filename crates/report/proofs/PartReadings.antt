@@ -1,7 +1,7 @@
 -- A part text read line by line.
 use Rattle.std.proofs.Common.{◌≡◌, ◌≢◌, ◌<◌, ◌≤◌, ◌+◌, ◌==◌, ℕ, zero, suc, true, false, List, []}
 use Rattle.std.proofs.Common.{◌∷◌, ◌++◌, length, refl, sym, ap, ◌∙◌, append_assoc, append-nil}
-use Rattle.std.proofs.Common.{arith, subst, length-append}
+use Rattle.std.proofs.Common.{arith, subst, length-append, inl, inr}
 use Rattle.std.specs.Prelude.{codes, zip, flat_map}
 use Rattle.std.specs.List.{AllByRecursion}
 use Rattle.std.proofs.lemmas.Grind.{flat_map-append}
@@ -9,7 +9,9 @@ use Rattle.workers.specs.declared.parts.PartVerdict.{PartVerdict}
 use Rattle.report.specs.Cut.{IsCutFirst, Lacks}
 use Rattle.report.specs.PartText.{PartHead, head_line, verdict_line}
 use Rattle.report.specs.PartReading.{HasMore, IsBadHead, IsBadLine, IsBegun, IsCutLines, IsHead}
-use Rattle.report.specs.PartReading.{IsLine, IsNoFaultLine, IsPart, end_of}
+use Rattle.report.specs.PartReading.{IsEndFault, IsLine, IsNoFaultLine, IsPart, IsPartRefusal}
+use Rattle.report.specs.PartReading.{end_of}
+use Rattle.report.specs.declared.part_reader.PartFault.{PartFault}
 
 -- a list of pairs with one more pair
 pub zip_more : {X Y : Type 0} (xs : List X) (ys : List Y) (x : X) (y : Y) → length xs ≡ length ys
@@ -185,6 +187,26 @@ reading_more text h faults more verdicts others rest line after name v number re
         length-append line (10 ∷ after),
       );
     })
+
+-- a line that is no line of a fault, and not the end of the text either
+pub end_refused : (text : List ℕ) (h : PartHead) (faults : List (List ℕ))
+    (verdicts : List PartVerdict) (rest line after : List ℕ) (number : ℕ) (f : PartFault)
+    → Reading text h faults verdicts rest number → IsCutFirst 10 rest line after
+    → IsNoFaultLine line → IsEndFault line after h verdicts number f → IsPartRefusal text f
+end_refused text h faults verdicts rest line after number f reading cut none (inl is) =
+    rw (is.0) (inr (
+      length faults,
+      inl (
+        reading.number_is,
+        bad_line text h faults verdicts rest line after reading.begun cut none is.1,
+      ),
+    ))
+end_refused text h faults verdicts rest line after number f reading cut none (inr is) =
+    let begun = begun_end text h faults verdicts rest line after reading.begun cut.whole is.1 in
+    rw (is.0) (inr (
+      length faults,
+      inr (omega (arith, reading.number_is), has_more text h faults verdicts after begun is.2),
+    ))
 
 pub shorter : (rest line after : List ℕ) → rest ≡ line ++ 10 ∷ after → length after < length rest
 shorter rest line after e = omega (arith, ap (λ l. length l) e, length-append line (10 ∷ after))

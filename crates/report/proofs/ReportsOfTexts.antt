@@ -1,22 +1,26 @@
 -- From the report of a job to that of the texts that the job was read from.
-use Rattle.std.proofs.Common.{◌≡◌, ◌∙◌, ℕ, ap, length, refl, subst, List}
-use Rattle.std.specs.Prelude.{Result, Ok, Err, IfErr}
+use Rattle.std.proofs.Common.{◌≡◌, ◌∙◌, ℕ, ap, inl, inr, length, refl, subst, List}
+use Rattle.std.specs.Prelude.{Result, Ok, Err, IfErr, OnOk}
 use Rattle.bench_net.specs.Refusal.{IsAccepted}
+use Rattle.bench_net.specs.Scan.{sources}
 use Rattle.bench_net.specs.Statement.{Statement}
 use Rattle.fault_model.specs.declared.Model.{Model}
 use Rattle.fault_model.specs.Collapse.{AreClassesOf, Collapsed}
 use Rattle.fault_model.specs.Fault.{FaultList, fault_list}
 use Rattle.orders.specs.Order.{HasMoves}
+use Rattle.patterns.specs.Tests.{HasTests, TestList}
 use Rattle.block_sim.specs.Parts.{Parts, piece_count}
 use Rattle.workers.specs.declared.RunFault.{RunFault}
 use Rattle.workers.specs.Verdict.{AreFirsts}
 use Rattle.output.specs.Output.{Output}
 use Rattle.jobs.specs.declared.fault.SimFault.{SimFault}
 use Rattle.jobs.specs.declared.fault.SimFault.TheVariants as fault
-use Rattle.jobs.specs.Jobs.{IsJobOf, IsJobWithin}
+use Rattle.jobs.specs.Jobs.{IsJobOf, IsJobWithin, IsPiecesFault}
+use Rattle.jobs.proofs.Public.{job_of_texts}
 use Rattle.report.specs.EndToEnd.{WritesOneOf, IsListingOf, IsReportOf, IsReportOfJob}
+use Rattle.report.specs.EndToEnd.{IsListFault, IsListingFault, IsListingOfCircuit}
 use Rattle.report.specs.EndToEnd.{IsReportFault, IsRunReportFault, IsJobReportFault, IsTextFault}
-use Rattle.report.specs.EndToEnd.{IsScheduleReportFault, IsScheduleTextFault}
+use Rattle.report.specs.EndToEnd.{HasSomeMoves, IsScheduleReportFault, IsScheduleTextFault}
 use Rattle.report.specs.declared.contents.Contents.{Contents}
 use Rattle.report.specs.Report.{listing, whole_report}
 use Rattle.report.proofs.VerdictsOfRuns.{schedule_fault}
@@ -105,16 +109,51 @@ moves_fault m bench text order workers job moves within has (fault.Order f) h = 
 moves_fault m bench text order workers job moves within has (fault.Job f) h = absurd h
 moves_fault m bench text order workers job moves within has fault.Memory h = absurd h
 
--- the listing that is written of the circuit of a text is one of the text
-pub taken_of_text : (m : Model) (bench : List ℕ) (c : List Statement) (list : FaultList)
-    (classes : Collapsed) (IsTaken : List ℕ → Type 0) → IsAccepted bench c → list ≡ fault_list m c
-    → AreClassesOf list.model c classes
+-- a job that is refused for its pieces, where the moves of the order are read already
+pub pieces_fault : (m : Model) (bench text order : List ℕ) (workers : ℕ) (c : List Statement)
+    (tests : TestList) → IsAccepted bench c → HasTests text (length (sources c)) tests
+    → HasSomeMoves order workers → (f : SimFault) → IsPiecesFault m c tests f
+    → IsScheduleTextFault m bench text order workers f
+pieces_fault m bench text order workers c tests accepted has some (fault.Job f) (inl is) =
+    (some, inl is)
+pieces_fault m bench text order workers c tests accepted has some (fault.Job f) (inr is) =
+    (some, inr (is.0, job_of_texts m bench text c tests is.0 accepted has is.1, is.2))
+pieces_fault m bench text order workers c tests accepted has some fault.Memory h = some
+pieces_fault m bench text order workers c tests accepted has some (fault.Bench f) h = absurd h
+pieces_fault m bench text order workers c tests accepted has some (fault.Tests f) h = absurd h
+pieces_fault m bench text order workers c tests accepted has some (fault.Order f) h = absurd h
+pieces_fault m bench text order workers c tests accepted has some (fault.Run f) h = absurd h
+pieces_fault m bench text order workers c tests accepted has some (fault.Report f) h = absurd h
+
+-- what holds anyway holds where a call was done
+pub on_ok : (P : Type 0) (r : Result (Unit {0}) SimFault) → P → OnOk r P
+on_ok P (Ok u) p = p
+on_ok P (Err f) p = tt
+
+-- the listing that is written of a circuit
+pub taken_of_circuit : (m : Model) (c : List Statement) (list : FaultList) (classes : Collapsed)
+    (IsTaken : List ℕ → Type 0) → list ≡ fault_list m c → AreClassesOf list.model c classes
     → IsTaken (listing list.model c classes.class_of (length classes.representative))
-    → (text : List ℕ) × IsListingOf m bench text × IsTaken text
-taken_of_text m bench c list classes IsTaken accepted listed are taken =
+    → (text : List ℕ) × IsListingOfCircuit m c text × IsTaken text
+taken_of_circuit m c list classes IsTaken listed are taken =
     let of_model : list.model ≡ m = ap (λ l. l.model) listed in (
       listing m c classes.class_of (length classes.representative),
-      (c, classes, accepted, subst (λ k. AreClassesOf k c classes) of_model are, refl),
+      (classes, subst (λ k. AreClassesOf k c classes) of_model are, refl),
       subst (λ k. IsTaken (listing k c classes.class_of (length classes.representative))) of_model
           taken,
     )
+
+-- the listing of the circuit of a text is that of the text
+pub listing_of : (m : Model) (bench : List ℕ) (c : List Statement) → IsAccepted bench c
+    → (text : List ℕ) → IsListingOfCircuit m c text → IsListingOf m bench text
+listing_of m bench c accepted text is = (c, is.0, accepted, is.1, is.2)
+
+-- a refused listing of the circuit of a text is refused of the text
+pub listing_fault : (bench : List ℕ) (f : SimFault) → IsListFault f → IsListingFault bench f
+listing_fault bench (fault.Report f) h = tt
+listing_fault bench fault.Memory h = tt
+listing_fault bench (fault.Bench f) h = absurd h
+listing_fault bench (fault.Tests f) h = absurd h
+listing_fault bench (fault.Order f) h = absurd h
+listing_fault bench (fault.Job f) h = absurd h
+listing_fault bench (fault.Run f) h = absurd h

@@ -37,6 +37,11 @@ IsListingOf m bench bytes = (c : List Statement) × (classes : Collapsed) × IsA
     × AreClassesOf m c classes × (bytes ≡ listing m c classes.class_of
     (length classes.representative))
 
+-- the bytes are the listing of a circuit under a model
+abbrev pub IsListingOfCircuit : Model → List Statement → List ℕ → Type 0
+IsListingOfCircuit m c bytes = (classes : Collapsed) × AreClassesOf m c classes
+    × (bytes ≡ listing m c classes.class_of (length classes.representative))
+
 -- What a call wrote whose text is of this kind: the whole text, and nothing else; a beginning of
 -- it, where the output failed; or nothing, where anything else was refused.
 abbrev pub WritesOneOf : (List ℕ → Type 0) → Result (Unit {0}) SimFault → Output → Output → Type 0
@@ -52,6 +57,12 @@ IsListingFault bench (fault.Bench f) = (f ≡ bench_fault.Memory) ⊎ IsRefused 
 IsListingFault bench fault.Memory = ⊤
 IsListingFault bench (fault.Report f) = ⊤
 IsListingFault bench _ = ⊥
+
+-- the same of the listing of a circuit
+abbrev pub IsListFault : SimFault → Type 0
+IsListFault fault.Memory = ⊤
+IsListFault (fault.Report f) = ⊤
+IsListFault _ = ⊥
 
 -- When each fault of the report comes: those of its job, then those of a run whose gate lets every
 -- piece pass, then an output that takes nothing more.

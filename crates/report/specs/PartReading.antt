@@ -119,6 +119,14 @@ IsPartRefusal text (fault.NotAPart line) = ((line ≡ 1) × IsBadHead text)
 IsPartRefusal text fault.CutOff = Lacks 10 text ⊎ IsCutLines text
 IsPartRefusal text fault.Memory = Unit {0}
 
+-- why a line of this number is not the end of a part text: it is another line, or more stands behind
+-- it
+abbrev pub IsEndFault : List ℕ → List ℕ → PartHead → List PartVerdict → ℕ → PartFault → Type 0
+IsEndFault line after h verdicts number f =
+    ((f ≡ fault.NotAPart number) × (line ++ codes "\n" ≢ end_of h verdicts))
+    ⊎ ((f ≡ fault.NotAPart (number + 1)) × (line ++ codes "\n" ≡ end_of h verdicts)
+    × (0 < length after))
+
 -- what a first line that was read says
 abbrev pub head_in : PartHeader → PartHead
 head_in h = record {

@@ -72,6 +72,18 @@ pub(crate) fn check_run(header: &PartHeader<'_>, other: &PartHeader<'_>) -> Resu
     Ok(())
 }
 
+/// Whether a part is not among those that are there.
+pub(crate) fn check_new(seen: &[u32], part: u32) -> Result<(), MergeFault>
+    ensures fresh { OnOk result (Contains seen.now part → ⊥) }
+    ensures refused { IfErr result (λ fault. (fault ≡ MergeFault.Again (part + 1))
+        × Contains seen.now part) }
+{
+    if seen.contains(&part) {
+        return Err(MergeFault::Again(u64::from(part) + 1));
+    }
+    Ok(())
+}
+
 /// Whether two texts are the same.
 pub(crate) fn is_same(text: &[u8], other: &[u8]) -> bool
     ensures yes { result ≡ true → text.now ≡ other.now }

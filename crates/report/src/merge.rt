@@ -3,7 +3,7 @@
 ghost use Rattle.std.specs.Prelude.{◌≡◌, length};
 
 use crate::ending::{firsts_of, missing_part};
-use crate::joining::{MergeFault, add_part, check_names, check_run, join};
+use crate::joining::{MergeFault, add_part, check_names, check_new, check_run, join};
 use crate::merged::Merged;
 use crate::part_reader::{PartHeader, PartText, read_part};
 use std::alloc::Global;
@@ -58,9 +58,7 @@ impl<'a> Merge<'a> {
         } = self;
         let part = read_part(alloc, text)?;
         check_run(&header, &part.header)?;
-        if seen.contains(&part.header.part) {
-            return Err(MergeFault::Again(u64::from(part.header.part) + 1));
-        }
+        check_new(&seen, part.header.part)?;
         check_names(faults.as_slice(), part.faults.as_slice())?;
         join(&mut verdicts, part.verdicts.as_slice())?;
         add_part(&mut seen, part.header.part)?;

@@ -1,13 +1,14 @@
 //! The reader of part texts.
 
-ghost use Rattle.std.specs.Prelude.{◌≡◌, ◌≢◌, ◌+◌, ◌<◌, ◌^◌, ◌∷◌, ◌++◌, ℕ, List, [], OnOk, true};
-ghost use Rattle.std.specs.Prelude.{false, IfErr, IfOk, MatchOption, MatchResult, codes, decimal};
+ghost use Rattle.std.specs.Prelude.{◌≡◌, ◌≢◌, ◌+◌, ◌-◌, ◌<◌, ◌^◌, ◌∷◌, ◌++◌, ℕ, List, [], OnOk};
+ghost use Rattle.std.specs.Prelude.{true, false, IfErr, IfOk, MatchOption, MatchResult, codes};
+ghost use Rattle.std.specs.Prelude.{decimal, length};
 ghost use Rattle.workers.specs.declared.parts.PartVerdict.{PartVerdict};
 ghost use Rattle.report.specs.Cut.{Lacks};
 ghost use Rattle.report.specs.PartText.{PartHead, head_line, verdict_line, verdict_text};
 ghost use Rattle.report.specs.PartReading.{AreWords, IsHead, IsLine, IsPart, IsPartRefusal};
-ghost use Rattle.report.specs.PartReading.{IsNoFaultLine, IsVerdict, WordTexts, end_of, head_in};
-ghost use Rattle.report.specs.PartReading.{texts_in, words_in, words_text};
+ghost use Rattle.report.specs.PartReading.{IsEndFault, IsNoFaultLine, IsVerdict, WordTexts, end_of};
+ghost use Rattle.report.specs.PartReading.{head_in, texts_in, words_in, words_text};
 
 use crate::cut::{cut_first, cut_last, is_joined, strip};
 use crate::part::{count_found, count_own};
@@ -256,12 +257,7 @@ fn read_lines<'a>(
                 add_line(&mut faults, &mut verdicts, fault, verdict)?;
             }
             None => {
-                if !is_end(line, &header, verdicts.as_slice()) {
-                    return Err(PartFault::NotAPart(number));
-                }
-                if !after.is_empty() {
-                    return Err(PartFault::NotAPart(number + 1));
-                }
+                check_end(line, after, &header, verdicts.as_slice(), number)?;
                 return Ok(PartText {
                     header,
                     faults,
@@ -273,6 +269,30 @@ fn read_lines<'a>(
         number += 1;
     }
     Err(PartFault::CutOff)
+}
+
+/// Whether a line of this number, given without its line feed, is the last line of a part text with
+/// this first line and these verdicts, and nothing stands behind it. The line at fault is refused.
+fn check_end(
+    line: &[u8],
+    after: &[u8],
+    header: &PartHeader<'_>,
+    verdicts: &[PartVerdict],
+    number: u64,
+) -> Result<(), PartFault>
+    requires { number < 2 ^ 64 - 1 }
+    ensures last { OnOk result (line.now ++ codes "\n" ≡ end_of (head_in header.now) verdicts.now) }
+    ensures all { OnOk result (length after.now ≡ 0) }
+    ensures refused { IfErr result (IsEndFault line.now after.now (head_in header.now)
+        verdicts.now number) }
+{
+    if !is_end(line, header, verdicts) {
+        return Err(PartFault::NotAPart(number));
+    }
+    if !after.is_empty() {
+        return Err(PartFault::NotAPart(number + 1));
+    }
+    Ok(())
 }
 
 /// Adds a fault and the verdict on it.

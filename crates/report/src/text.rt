@@ -5,13 +5,14 @@ ghost use Rattle.fault_model.specs.declared.Model.TheVariants as model;
 ghost use Rattle.block_sim.specs.Parts.{BelongTogether, piece_count};
 ghost use Rattle.report.specs.EndToEnd.{WritesOneOf, IsReportOf, IsReportFault, IsReportOfJob};
 ghost use Rattle.report.specs.EndToEnd.{IsScheduleTextFault, HasSomeMoves, IsListingOf};
-ghost use Rattle.report.specs.EndToEnd.{IsListingFault, IsPartsReportFault};
+ghost use Rattle.report.specs.EndToEnd.{IsListFault, IsListingFault, IsListingOfCircuit};
+ghost use Rattle.report.specs.EndToEnd.{IsPartsReportFault};
 ghost use Rattle.report.specs.EndToEnd.{IsScheduleReportFault};
 
 use crate::contents::Contents;
 use crate::report::{write_listing, write_report};
 use crate::watched::{watch_parts, watch_whole};
-use bench_net::read_bench;
+use bench_net::{Circuit, read_bench};
 use block_sim::Job;
 use fault_model::{Model, collapse, list_faults_in};
 use jobs::{ReportFault, SimFault, job_for, read_inputs};
@@ -228,9 +229,23 @@ pub fn faults_text_in<W: Out>(
     ensures refused { IfErr result (IsListingFault bench.now) }
 {
     let circuit = read_bench(alloc, bench)?;
-    let list = list_faults_in(alloc, &circuit, model)?;
-    let classes = collapse(alloc, &circuit, &list)?;
-    write_listing(&circuit, &list, &classes, out)?;
+    list_circuit(alloc, model, &circuit, out)
+}
+
+/// Lists the faults of a circuit, puts them into classes, and writes the listing.
+fn list_circuit<W: Out>(
+    alloc: Global,
+    model: Model,
+    circuit: &Circuit,
+    out: &mut W,
+) -> Result<(), SimFault>
+    ensures written { WritesOneOf (IsListingOfCircuit model circuit.now) result (W.seen out.old)
+        (W.seen out.new) }
+    ensures refused { IfErr result IsListFault }
+{
+    let list = list_faults_in(alloc, circuit, model)?;
+    let classes = collapse(alloc, circuit, &list)?;
+    write_listing(circuit, &list, &classes, out)?;
     Ok(())
 }
 

@@ -22,3 +22,6 @@ returns-clause-refused g c =
     c.write_compacted.result (curve_fault c.args.model c.args.bench.now c.args.tests.now
     c.args.workers job (c.in_ok-job.ensures.job, c.in_ok-job.ensures.few))
     c.write_compacted.ensures.refused
+
+pub returns-clause-workers : goal.returns-clause-workers
+returns-clause-workers g c = c.write_compacted.ensures.workers

@@ -29,3 +29,6 @@ returns-clause-refused g c =
       c.in_ok-job.ensures.few,
     ))
     c.report_curve.ensures.refused
+
+pub returns-clause-workers : goal.returns-clause-workers
+returns-clause-workers g c = c.report_curve.ensures.workers

@@ -16,3 +16,13 @@ returns-in_err-write_detections-clause-written g c =
       (counts, c.in_ok-counts.ensures.counts, refl),
       wrote,
     )
+
+pub returns-clause-written : goal.returns-clause-written
+returns-clause-written g c =
+    let job = c.args.job.now in
+    let counts = c.in_ok-counts.counts.items in
+    let wrote = rw (c.as_slice.ensures.value) at c.in_ok-write_detections.ensures in (
+      detection_report job.list.model job.circuit c.args.most counts c.args.list,
+      (counts, c.in_ok-counts.ensures.counts, refl),
+      wrote,
+    )

@@ -12,6 +12,11 @@ write_part-requires g c =
       count = c.in_ok-verdicts.ensures.verdicts.count ∙ sym (ap length list);
     })
 
+pub returns-in_err-verdicts-clause-refused : goal.returns-in_err-verdicts-clause-refused
+returns-in_err-verdicts-clause-refused g c =
+    let p = err_from_is_err_and c.from_residual.result c.from_residual.ensures.1 in
+    rw (p.1, p.2) c.in_err-verdicts.ensures.refused
+
 pub returns-in_err-write_part-clause-written : goal.returns-in_err-write_part-clause-written
 returns-in_err-write_part-clause-written g c =
     let p = err_from_is_err_and c.from_residual-in_err-write_part.result

@@ -1,36 +1,25 @@
-use Rattle.std.proofs.Common.{◌∙◌, ap, arith, inl, inr, length, refl, sym}
-use Rattle.report.specs.PartReading.{end_of, head_in, texts_in}
-use Rattle.report.proofs.PartReadings.{bad_line, begun_end, has_more, reading_more, some_bytes}
+use Rattle.std.proofs.Common.{◌∙◌, ap}
+use Rattle.std.proofs.lemmas.Result.{err_from_is_err_and}
+use Rattle.report.specs.PartReading.{end_of, head_in}
+use Rattle.report.proofs.PartReadings.{begun_end, end_refused, part_of, reading_more}
 use Rattle.report.proofs.part_reader.read_lines.Goals as goal
 
-pub returns-then-not-is_end-clause-refused : goal.returns-then-not-is_end-clause-refused
-returns-then-not-is_end-clause-refused c =
-    let last = c.if-not-is_end.ensures.no refl in
-    inr (
-      length (texts_in c.loop-line.faults.items),
-      inl (
-        c.loop-line.invariant.number_is,
-        bad_line _ (head_in c.args.header) _ _ _ _ _ c.loop-line.invariant.begun c.in-Some.ensures
-            c.in-None.ensures
-            (λ e. last (e ∙ ap (λ l. end_of (head_in c.args.header) l)
-            (sym c.as_slice.ensures.value))),
-      ),
-    )
+pub returns-in_err-check_end-in-None-clause-refused :
+    goal.returns-in_err-check_end-in-None-clause-refused
+returns-in_err-check_end-in-None-clause-refused c =
+    let p = err_from_is_err_and c.from_residual-in_err-check_end-in-None.result
+    c.from_residual-in_err-check_end-in-None.ensures.1 in
+    let refused = rw (c.as_slice.ensures.value) at c.in_err-check_end-in-None.ensures.refused in
+    rw (p.1, p.2) (end_refused _ _ _ _ _ _ _ _ _ c.loop-line.invariant c.in-Some.ensures
+    c.in-None.ensures refused)
 
-pub returns-then-not-is_empty-clause-refused : goal.returns-then-not-is_empty-clause-refused
-returns-then-not-is_empty-clause-refused c =
-    let last = c.if-not-is_end.ensures.yes refl
+pub returns-in-None-clause-read : goal.returns-in-None-clause-read
+returns-in-None-clause-read c =
+    let last = c.in_ok-check_end-in-None.ensures.last
     ∙ ap (λ l. end_of (head_in c.args.header) l) c.as_slice.ensures.value in
-    let begun = begun_end _ (head_in c.args.header) _ _ _ _ _ c.loop-line.invariant.begun
-    c.in-Some.ensures.whole last in
-    inr (
-      length (texts_in c.loop-line.faults.items),
-      inr (
-        omega (arith, c.loop-line.invariant.number_is),
-        has_more _ (head_in c.args.header) _ _ _ begun
-            (some_bytes _ (sym c.if-not-is_empty.ensures)),
-      ),
-    )
+    part_of _ _ _ _ _
+    (begun_end _ _ _ _ _ _ _ c.loop-line.invariant.begun c.in-Some.ensures.whole last)
+    c.in_ok-check_end-in-None.ensures.all
 
 pub loop-line-preserved : goal.loop-line-preserved
 loop-line-preserved c =

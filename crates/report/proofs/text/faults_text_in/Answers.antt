@@ -1,18 +1,16 @@
-use Rattle.std.proofs.lemmas.Result.{err_from_is_err_and}
-use Rattle.output.specs.Output.{TakesAll, TakesFront}
-use Rattle.report.proofs.ReportsOfTexts.{taken_of_text}
+use Rattle.report.specs.EndToEnd.{IsListFault, IsListingFault, IsListingOf, IsListingOfCircuit}
+use Rattle.report.proofs.ReportsOfTexts.{listing_fault, listing_of, refused_as, written_as}
 use Rattle.report.proofs.text.faults_text_in.Goals as goal
-
-pub returns-in_err-write_listing-clause-written : goal.returns-in_err-write_listing-clause-written
-returns-in_err-write_listing-clause-written g c =
-    let p = err_from_is_err_and c.from_residual-in_err-write_listing.result
-    c.from_residual-in_err-write_listing.ensures.1 in
-    rw (p.1, p.2) (taken_of_text c.args.model c.args.bench.now c.in_ok-circuit.circuit
-    c.in_ok-list.list c.in_ok-classes.classes (TakesFront _ _) c.in_ok-circuit.ensures.accepted
-    c.in_ok-list.ensures c.in_ok-classes.ensures.classes c.in_err-write_listing.ensures)
 
 pub returns-clause-written : goal.returns-clause-written
 returns-clause-written g c =
-    taken_of_text c.args.model c.args.bench.now c.in_ok-circuit.circuit c.in_ok-list.list
-    c.in_ok-classes.classes (TakesAll _ _) c.in_ok-circuit.ensures.accepted c.in_ok-list.ensures
-    c.in_ok-classes.ensures.classes c.in_ok-write_listing.ensures
+    let circuit = c.in_ok-circuit.circuit in
+    written_as (IsListingOfCircuit c.args.model circuit)
+    (IsListingOf c.args.model c.args.bench.now) c.list_circuit.result _ _
+    (listing_of c.args.model c.args.bench.now circuit c.in_ok-circuit.ensures.accepted)
+    c.list_circuit.ensures.written
+
+pub returns-clause-refused : goal.returns-clause-refused
+returns-clause-refused g c =
+    refused_as IsListFault (IsListingFault c.args.bench.now) c.list_circuit.result
+    (listing_fault c.args.bench.now) c.list_circuit.ensures.refused

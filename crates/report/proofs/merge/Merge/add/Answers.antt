@@ -1,6 +1,7 @@
-use Rattle.std.proofs.Common.{◌≡◌, ap, sym, ◌∙◌, arith, refl, length, subst}
+use Rattle.std.proofs.Common.{◌≡◌, ap, sym, ◌∙◌, arith, inl, inr, refl, length, subst}
+use Rattle.std.proofs.lemmas.Result.{err_from_is_err_and}
 use Rattle.report.specs.PartReading.{IsPart, head_in, texts_in}
-use Rattle.report.proofs.JoinedParts.{fresh_of, joined_items, same_count, texts_count}
+use Rattle.report.proofs.JoinedParts.{joined_items, same_count, texts_count}
 use Rattle.report.proofs.merge.Merge.add.Goals as goal
 
 pub join-requires : goal.join-requires
@@ -18,6 +19,42 @@ join-requires c =
       c.args.self.same,
     )
 
+pub returns-in_err-check_names-clause-refused : goal.returns-in_err-check_names-clause-refused
+returns-in_err-check_names-clause-refused c =
+    let p = err_from_is_err_and c.from_residual-in_err-check_names.result
+    c.from_residual-in_err-check_names.ensures.1 in
+    let at = rw (
+      c.as_slice.ensures.value,
+      c.as_slice-2.ensures.value,
+    ) at c.in_err-check_names.ensures.refused in
+    rw (p.1, p.2, at.1) (
+      head_in c.in_ok-part.part.header,
+      texts_in c.in_ok-part.part.faults.items,
+      c.in_ok-part.part.verdicts.items,
+      c.in_ok-part.ensures.read,
+      at.0,
+      refl,
+      inl at.2,
+    )
+
+pub returns-in_err-join-clause-refused : goal.returns-in_err-join-clause-refused
+returns-in_err-join-clause-refused c =
+    let p = err_from_is_err_and c.from_residual-in_err-join.result
+    c.from_residual-in_err-join.ensures.1 in
+    let at = rw (
+      c.deref_mut.ensures.value,
+      c.as_slice-3.ensures.value,
+    ) at c.in_err-join.ensures.refused in
+    rw (p.1, p.2, at.1) (
+      head_in c.in_ok-part.part.header,
+      texts_in c.in_ok-part.part.faults.items,
+      c.in_ok-part.part.verdicts.items,
+      c.in_ok-part.ensures.read,
+      at.0,
+      refl,
+      inr at.2,
+    )
+
 pub returns : goal.returns
 returns c =
     let names : texts_in c.in_ok-part.part.faults.items ≡ texts_in c.args.self.faults.items =
@@ -30,7 +67,7 @@ returns c =
         part = subst (λ l. IsPart c.args.text.now (head_in c.in_ok-part.part.header) l
             c.in_ok-part.part.verdicts.items) names c.in_ok-part.ensures.read;
         run = c.in_ok-check_run.ensures.run;
-        fresh = fresh_of _ _ _ c.deref.ensures.value c.if-contains.ensures.cases;
+        fresh = rw (c.deref.ensures.value) at c.in_ok-check_new.ensures.fresh;
         head_is = refl;
         faults_are = refl;
         joined = joined_items _ _ _ _ _ _ _ c.in_ok-join.ensures.joined c.deref_mut.ensures.value
