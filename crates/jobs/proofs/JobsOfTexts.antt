@@ -11,7 +11,9 @@ use Rattle.patterns.specs.Tests.{TestList, HasTests}
 use Rattle.block_sim.specs.declared.job.JobFault.{JobFault}
 use Rattle.block_sim.specs.declared.job.JobFault.TheVariants as job_fault
 use Rattle.block_sim.specs.Parts.{Parts}
-use Rattle.jobs.specs.Jobs.{AreTestsFor, IsJobFor, IsJobOf}
+use Rattle.jobs.specs.declared.fault.SimFault.{SimFault}
+use Rattle.jobs.specs.declared.fault.SimFault.TheVariants as fault
+use Rattle.jobs.specs.Jobs.{AreTestsFor, IsJobFault, IsJobFor, IsJobOf, IsPiecesFault}
 
 -- the parts that are made for a circuit and tests are a job of them
 pub job_is : (m : Model) (c : List Statement) (list : FaultList) (classes : Collapsed)
@@ -43,6 +45,20 @@ job_of_texts m bench text c tests job accepted has is = (
   is.2,
   is.3,
 )
+
+-- a job of the circuit and the tests of two texts is refused of the texts
+pub pieces_fault : (m : Model) (bench text : List ℕ) (c : List Statement) (tests : TestList)
+    → IsAccepted bench c → HasTests text (length (sources c)) tests → (f : SimFault)
+    → IsPiecesFault m c tests f → IsJobFault m bench text f
+pieces_fault m bench text c tests accepted has (fault.Job f) (inl is) = inl is
+pieces_fault m bench text c tests accepted has (fault.Job f) (inr is) =
+    inr (is.0, job_of_texts m bench text c tests is.0 accepted has is.1, is.2)
+pieces_fault m bench text c tests accepted has fault.Memory h = tt
+pieces_fault m bench text c tests accepted has (fault.Bench f) h = absurd h
+pieces_fault m bench text c tests accepted has (fault.Tests f) h = absurd h
+pieces_fault m bench text c tests accepted has (fault.Order f) h = absurd h
+pieces_fault m bench text c tests accepted has (fault.Run f) h = absurd h
+pieces_fault m bench text c tests accepted has (fault.Report f) h = absurd h
 
 -- a job is refused for its pieces, or for want of memory
 pub job_refused : (J P : Type 0) (f : JobFault)
