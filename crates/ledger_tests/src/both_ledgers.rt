@@ -2,7 +2,7 @@
 
 ghost use Rattle.std.specs.Prelude.{◌≡◌, IfOk};
 
-use crate::staffed::{Staffed, piece};
+use crate::staffed::Staffed;
 use fault_ledger::{
     Call, Claim, Closed, Finish, Ledger, PieceState, Refusal, Reply, Shape, Status, replay,
 };
@@ -22,18 +22,6 @@ const BAD_OUTCOME: Reply = Reply::Refused(Refusal::BadOutcome);
 const NO_EARLIER_HIT: Reply = Reply::Refused(Refusal::NoEarlierHit);
 
 const ALL_FINISHED: Reply = Reply::Finish(Finish::Finished);
-
-fn settled(test: Option<u32>) -> Reply {
-    Reply::Status(Status::Settled(test))
-}
-
-fn shape(classes: u32, tests: u32, workers: u32) -> Shape {
-    Shape {
-        classes,
-        tests,
-        workers,
-    }
-}
 
 /// Makes the calls on a new ledger of each kind, compares the replies, and then what each says of
 /// all classes. It gives the shared ledger, closed.
@@ -94,157 +82,335 @@ fn same_statuses<R: Abort>(rt: &R, shape: Shape, ledger: &Ledger, closed: &Close
     }
 }
 
-#[test]
-fn blocks_out_of_order(rt: HostRuntime) -> Result<(), Fail> {
-    let steps = [
-        (Call::Claim(0), piece(0, 0)),
-        (Call::Claim(1), piece(0, 1)),
-        (Call::Claim(2), piece(0, 2)),
-        (Call::Claim(3), piece(0, 3)),
-        (Call::Claim(4), piece(0, 4)),
-        (Call::Claim(5), piece(0, 5)),
-        (Call::Claim(6), piece(0, 6)),
-        (Call::Claim(7), piece(0, 7)),
-        (Call::Report(5, Hit(3)), Reply::Done),
-        (Call::Drop(7), Reply::Done),
-        (Call::Report(2, Hit(0)), Reply::Done),
-        (Call::Report(0, Clear), Reply::Done),
-        (Call::Status(0), Reply::Status(Status::Waiting(1))),
-        (Call::Report(1, Clear), Reply::Done),
-        (Call::Status(0), settled(Some(128))),
-        (Call::Finished, ALL_FINISHED),
-        (Call::Claim(3), HOLDING),
-        (Call::Claim(4), HOLDING),
-        (Call::Claim(6), HOLDING),
-    ];
-    let states = [
-        (0, PieceState::Clear),
-        (1, PieceState::Clear),
-        (2, PieceState::Hit(0)),
-        (3, PieceState::Open),
-        (4, PieceState::Open),
-        (5, PieceState::Hit(3)),
-        (6, PieceState::Open),
-        (7, PieceState::Skipped),
-    ];
-    for tests in [512, 1_024] {
-        let shape = shape(1, tests, 8);
-        let closed = both_reply(&rt, rt.alloc(), shape, &steps)?;
-        blocks_are(&rt, shape, &closed, &states);
+/// Compares the replies of both ledgers to the calls of a case, and what the closed one says.
+fn case_is_replied<R: Abort>(rt: &R, alloc: Global, case: &Case) -> Result<(), Fail> {
+    let closed = both_reply(rt, alloc, case.shape, case.steps)?;
+    blocks_are(rt, case.shape, &closed, case.states);
+    if let Some(skipped) = case.skipped {
+        assert_eq!(rt; closed.skipped(), skipped, "{}", case.name);
     }
     Ok(())
 }
 
-#[test]
-fn no_drop_for_a_later_hit(rt: HostRuntime) -> Result<(), Fail> {
-    let steps = [
-        (Call::Claim(0), piece(0, 0)),
-        (Call::Claim(1), piece(0, 1)),
-        (Call::Claim(2), piece(0, 2)),
-        (Call::Report(2, Hit(3)), Reply::Done),
-        (Call::Drop(1), NO_EARLIER_HIT),
-        (Call::Report(1, Hit(0)), Reply::Done),
-    ];
-    both_reply(&rt, rt.alloc(), shape(1, 512, 8), &steps)?;
-    Ok(())
+/// Calls and their replies, in turn, with what the closed ledger says then.
+struct Case {
+    name: &'static str,
+    shape: Shape,
+    steps: &'static [(Call, Reply)],
+    /// The states of blocks of class 0.
+    states: &'static [(u32, PieceState)],
+    skipped: Option<u32>,
 }
 
-#[test]
-fn each_refusal_in_turn(rt: HostRuntime) -> Result<(), Fail> {
-    let steps = [
-        (Call::Report(0, Clear), NOTHING_HELD),
-        (Call::Drop(0), NOTHING_HELD),
-        (Call::Claim(0), piece(0, 0)),
-        (Call::Claim(0), HOLDING),
-        (Call::Claim(1), Reply::Refused(Refusal::NoSuchWorker)),
-        (Call::Report(0, Hit(64)), BAD_OUTCOME),
-        (Call::Drop(0), NO_EARLIER_HIT),
-        (Call::Report(0, Clear), Reply::Done),
-        (Call::Claim(0), EXHAUSTED),
-        (Call::Status(0), settled(None)),
-        (Call::Status(1), Reply::Refused(Refusal::NoSuchClass)),
-        (Call::Finished, ALL_FINISHED),
-    ];
-    both_reply(&rt, rt.alloc(), shape(1, 64, 1), &steps)?;
-    Ok(())
-}
+static CASES: [Case; 9] = [
+    Case {
+        name: "blocks out of order, 512 tests",
+        shape: Shape {
+            classes: 1,
+            tests: 512,
+            workers: 8,
+        },
+        steps: &[
+            (
+                Call::Claim(0),
+                Reply::Claimed(Claim::Piece { class: 0, block: 0 }),
+            ),
+            (
+                Call::Claim(1),
+                Reply::Claimed(Claim::Piece { class: 0, block: 1 }),
+            ),
+            (
+                Call::Claim(2),
+                Reply::Claimed(Claim::Piece { class: 0, block: 2 }),
+            ),
+            (
+                Call::Claim(3),
+                Reply::Claimed(Claim::Piece { class: 0, block: 3 }),
+            ),
+            (
+                Call::Claim(4),
+                Reply::Claimed(Claim::Piece { class: 0, block: 4 }),
+            ),
+            (
+                Call::Claim(5),
+                Reply::Claimed(Claim::Piece { class: 0, block: 5 }),
+            ),
+            (
+                Call::Claim(6),
+                Reply::Claimed(Claim::Piece { class: 0, block: 6 }),
+            ),
+            (
+                Call::Claim(7),
+                Reply::Claimed(Claim::Piece { class: 0, block: 7 }),
+            ),
+            (Call::Report(5, Hit(3)), Reply::Done),
+            (Call::Drop(7), Reply::Done),
+            (Call::Report(2, Hit(0)), Reply::Done),
+            (Call::Report(0, Clear), Reply::Done),
+            (Call::Status(0), Reply::Status(Status::Waiting(1))),
+            (Call::Report(1, Clear), Reply::Done),
+            (Call::Status(0), Reply::Status(Status::Settled(Some(128)))),
+            (Call::Finished, ALL_FINISHED),
+            (Call::Claim(3), HOLDING),
+            (Call::Claim(4), HOLDING),
+            (Call::Claim(6), HOLDING),
+        ],
+        states: &[
+            (0, PieceState::Clear),
+            (1, PieceState::Clear),
+            (2, PieceState::Hit(0)),
+            (3, PieceState::Open),
+            (4, PieceState::Open),
+            (5, PieceState::Hit(3)),
+            (6, PieceState::Open),
+            (7, PieceState::Skipped),
+        ],
+        skipped: None,
+    },
+    Case {
+        name: "blocks out of order, 1024 tests",
+        shape: Shape {
+            classes: 1,
+            tests: 1024,
+            workers: 8,
+        },
+        steps: &[
+            (
+                Call::Claim(0),
+                Reply::Claimed(Claim::Piece { class: 0, block: 0 }),
+            ),
+            (
+                Call::Claim(1),
+                Reply::Claimed(Claim::Piece { class: 0, block: 1 }),
+            ),
+            (
+                Call::Claim(2),
+                Reply::Claimed(Claim::Piece { class: 0, block: 2 }),
+            ),
+            (
+                Call::Claim(3),
+                Reply::Claimed(Claim::Piece { class: 0, block: 3 }),
+            ),
+            (
+                Call::Claim(4),
+                Reply::Claimed(Claim::Piece { class: 0, block: 4 }),
+            ),
+            (
+                Call::Claim(5),
+                Reply::Claimed(Claim::Piece { class: 0, block: 5 }),
+            ),
+            (
+                Call::Claim(6),
+                Reply::Claimed(Claim::Piece { class: 0, block: 6 }),
+            ),
+            (
+                Call::Claim(7),
+                Reply::Claimed(Claim::Piece { class: 0, block: 7 }),
+            ),
+            (Call::Report(5, Hit(3)), Reply::Done),
+            (Call::Drop(7), Reply::Done),
+            (Call::Report(2, Hit(0)), Reply::Done),
+            (Call::Report(0, Clear), Reply::Done),
+            (Call::Status(0), Reply::Status(Status::Waiting(1))),
+            (Call::Report(1, Clear), Reply::Done),
+            (Call::Status(0), Reply::Status(Status::Settled(Some(128)))),
+            (Call::Finished, ALL_FINISHED),
+            (Call::Claim(3), HOLDING),
+            (Call::Claim(4), HOLDING),
+            (Call::Claim(6), HOLDING),
+        ],
+        states: &[
+            (0, PieceState::Clear),
+            (1, PieceState::Clear),
+            (2, PieceState::Hit(0)),
+            (3, PieceState::Open),
+            (4, PieceState::Open),
+            (5, PieceState::Hit(3)),
+            (6, PieceState::Open),
+            (7, PieceState::Skipped),
+        ],
+        skipped: None,
+    },
+    Case {
+        name: "no drop for a later hit",
+        shape: Shape {
+            classes: 1,
+            tests: 512,
+            workers: 8,
+        },
+        steps: &[
+            (
+                Call::Claim(0),
+                Reply::Claimed(Claim::Piece { class: 0, block: 0 }),
+            ),
+            (
+                Call::Claim(1),
+                Reply::Claimed(Claim::Piece { class: 0, block: 1 }),
+            ),
+            (
+                Call::Claim(2),
+                Reply::Claimed(Claim::Piece { class: 0, block: 2 }),
+            ),
+            (Call::Report(2, Hit(3)), Reply::Done),
+            (Call::Drop(1), NO_EARLIER_HIT),
+            (Call::Report(1, Hit(0)), Reply::Done),
+        ],
+        states: &[],
+        skipped: None,
+    },
+    Case {
+        name: "each refusal in turn",
+        shape: Shape {
+            classes: 1,
+            tests: 64,
+            workers: 1,
+        },
+        steps: &[
+            (Call::Report(0, Clear), NOTHING_HELD),
+            (Call::Drop(0), NOTHING_HELD),
+            (
+                Call::Claim(0),
+                Reply::Claimed(Claim::Piece { class: 0, block: 0 }),
+            ),
+            (Call::Claim(0), HOLDING),
+            (Call::Claim(1), Reply::Refused(Refusal::NoSuchWorker)),
+            (Call::Report(0, Hit(64)), BAD_OUTCOME),
+            (Call::Drop(0), NO_EARLIER_HIT),
+            (Call::Report(0, Clear), Reply::Done),
+            (Call::Claim(0), EXHAUSTED),
+            (Call::Status(0), Reply::Status(Status::Settled(None))),
+            (Call::Status(1), Reply::Refused(Refusal::NoSuchClass)),
+            (Call::Finished, ALL_FINISHED),
+        ],
+        states: &[],
+        skipped: None,
+    },
+    Case {
+        name: "a short last block bounds the outcome",
+        shape: Shape {
+            classes: 1,
+            tests: 65,
+            workers: 1,
+        },
+        steps: &[
+            (
+                Call::Claim(0),
+                Reply::Claimed(Claim::Piece { class: 0, block: 0 }),
+            ),
+            (Call::Report(0, Clear), Reply::Done),
+            (
+                Call::Claim(0),
+                Reply::Claimed(Claim::Piece { class: 0, block: 1 }),
+            ),
+            (Call::Report(0, Hit(1)), BAD_OUTCOME),
+            (Call::Drop(0), NO_EARLIER_HIT),
+            (Call::Report(0, Hit(0)), Reply::Done),
+            (Call::Claim(0), EXHAUSTED),
+            (Call::Claim(0), EXHAUSTED),
+            (Call::Report(0, Clear), NOTHING_HELD),
+            (Call::Status(0), Reply::Status(Status::Settled(Some(64)))),
+        ],
+        states: &[(0, PieceState::Clear), (1, PieceState::Hit(0))],
+        skipped: None,
+    },
+    Case {
+        name: "a hit of block 0 drops block 1",
+        shape: Shape {
+            classes: 1,
+            tests: 65,
+            workers: 1,
+        },
+        steps: &[
+            (
+                Call::Claim(0),
+                Reply::Claimed(Claim::Piece { class: 0, block: 0 }),
+            ),
+            (Call::Report(0, Hit(0)), Reply::Done),
+            (
+                Call::Claim(0),
+                Reply::Claimed(Claim::Piece { class: 0, block: 1 }),
+            ),
+            (Call::Drop(0), Reply::Done),
+            (Call::Status(0), Reply::Status(Status::Settled(Some(0)))),
+            (Call::Status(1), Reply::Refused(Refusal::NoSuchClass)),
+            (Call::Finished, ALL_FINISHED),
+        ],
+        states: &[],
+        skipped: Some(1),
+    },
+    Case {
+        name: "exhausted with one piece open",
+        shape: Shape {
+            classes: 1,
+            tests: 1,
+            workers: 2,
+        },
+        steps: &[
+            (
+                Call::Claim(0),
+                Reply::Claimed(Claim::Piece { class: 0, block: 0 }),
+            ),
+            (Call::Claim(1), EXHAUSTED),
+            (
+                Call::Finished,
+                Reply::Finish(Finish::Waiting { class: 0, block: 0 }),
+            ),
+        ],
+        states: &[],
+        skipped: None,
+    },
+    Case {
+        name: "no tests",
+        shape: Shape {
+            classes: 1,
+            tests: 0,
+            workers: 1,
+        },
+        steps: &[
+            (Call::Finished, ALL_FINISHED),
+            (Call::Status(0), Reply::Status(Status::Settled(None))),
+            (Call::Claim(0), EXHAUSTED),
+        ],
+        states: &[],
+        skipped: None,
+    },
+    Case {
+        name: "no classes",
+        shape: Shape {
+            classes: 0,
+            tests: 65536,
+            workers: 1,
+        },
+        steps: &[(Call::Finished, ALL_FINISHED), (Call::Claim(0), EXHAUSTED)],
+        states: &[],
+        skipped: None,
+    },
+];
 
 #[test]
-fn a_short_last_block_bounds_the_outcome(rt: HostRuntime) -> Result<(), Fail> {
-    let steps = [
-        (Call::Claim(0), piece(0, 0)),
-        (Call::Report(0, Clear), Reply::Done),
-        (Call::Claim(0), piece(0, 1)),
-        (Call::Report(0, Hit(1)), BAD_OUTCOME),
-        (Call::Drop(0), NO_EARLIER_HIT),
-        (Call::Report(0, Hit(0)), Reply::Done),
-        (Call::Claim(0), EXHAUSTED),
-        (Call::Claim(0), EXHAUSTED),
-        (Call::Report(0, Clear), NOTHING_HELD),
-        (Call::Status(0), settled(Some(64))),
-    ];
-    let shape = shape(1, 65, 1);
-    let closed = both_reply(&rt, rt.alloc(), shape, &steps)?;
-    blocks_are(
-        &rt,
-        shape,
-        &closed,
-        &[(0, PieceState::Clear), (1, PieceState::Hit(0))],
-    );
-    Ok(())
-}
-
-#[test]
-fn a_hit_of_block_zero_drops_block_one(rt: HostRuntime) -> Result<(), Fail> {
-    let steps = [
-        (Call::Claim(0), piece(0, 0)),
-        (Call::Report(0, Hit(0)), Reply::Done),
-        (Call::Claim(0), piece(0, 1)),
-        (Call::Drop(0), Reply::Done),
-        (Call::Status(0), settled(Some(0))),
-        (Call::Status(1), Reply::Refused(Refusal::NoSuchClass)),
-        (Call::Finished, ALL_FINISHED),
-    ];
-    let closed = both_reply(&rt, rt.alloc(), shape(1, 65, 1), &steps)?;
-    assert_eq!(rt; closed.skipped(), 1);
-    Ok(())
-}
-
-#[test]
-fn exhausted_with_one_piece_open(rt: HostRuntime) -> Result<(), Fail> {
-    let steps = [
-        (Call::Claim(0), piece(0, 0)),
-        (Call::Claim(1), EXHAUSTED),
-        (
-            Call::Finished,
-            Reply::Finish(Finish::Waiting { class: 0, block: 0 }),
-        ),
-    ];
-    both_reply(&rt, rt.alloc(), shape(1, 1, 2), &steps)?;
+fn both_ledgers_reply_to_each_case_as_it_says(rt: HostRuntime) -> Result<(), Fail> {
+    for case in &CASES {
+        case_is_replied(&rt, rt.alloc(), case)?;
+    }
     Ok(())
 }
 
 #[test]
 fn sixty_four_workers_on_one_piece(rt: HostRuntime) -> Result<(), Fail> {
     let mut steps = Vec::new(rt.alloc());
-    steps.push((Call::Claim(0), piece(0, 0)))?;
+    steps.push((
+        Call::Claim(0),
+        Reply::Claimed(Claim::Piece { class: 0, block: 0 }),
+    ))?;
     for worker in 1..64 {
         steps.push((Call::Claim(worker), EXHAUSTED))?;
     }
     steps.push((Call::Claim(64), Reply::Refused(Refusal::NoSuchWorker)))?;
-    both_reply(&rt, rt.alloc(), shape(1, 1, 64), &steps)?;
-    Ok(())
-}
-
-#[test]
-fn no_pieces_are_finished_at_once(rt: HostRuntime) -> Result<(), Fail> {
-    let no_tests = [
-        (Call::Finished, ALL_FINISHED),
-        (Call::Status(0), settled(None)),
-        (Call::Claim(0), EXHAUSTED),
-    ];
-    both_reply(&rt, rt.alloc(), shape(1, 0, 1), &no_tests)?;
-    let no_classes = [(Call::Finished, ALL_FINISHED), (Call::Claim(0), EXHAUSTED)];
-    both_reply(&rt, rt.alloc(), shape(0, 65_536, 1), &no_classes)?;
+    let shape = Shape {
+        classes: 1,
+        tests: 1,
+        workers: 64,
+    };
+    both_reply(&rt, rt.alloc(), shape, &steps)?;
     Ok(())
 }
