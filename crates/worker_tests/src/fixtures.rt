@@ -2,13 +2,28 @@
 
 use block_sim::Job;
 use fault_model::Model;
+use jobs::SimFault;
 use std::alloc::{AllocError, Global};
 use std::process::Abort;
-use std::test::Fail;
+use worked_circuits::C17_TEXT;
 use workers::Verdicts;
 
+/// A job: a circuit, and rows of tests, each with how often it stands there.
+pub(crate) struct JobText {
+    pub(crate) model: Model,
+    pub(crate) bench: &'static str,
+    pub(crate) rows: &'static [(&'static str, u32)],
+}
+
+/// C17 with a test of ones.
+pub(crate) const C17: JobText = JobText {
+    model: Model::StuckAt,
+    bench: C17_TEXT,
+    rows: &[("11111", 1)],
+};
+
 /// The first tests of C17 where the one test is all ones.
-pub(crate) const C17_FIRSTS: [Option<u32>; 34] = [
+pub(crate) static C17_FIRSTS: [Option<u32>; 34] = [
     Some(0),
     None,
     None,
@@ -51,21 +66,11 @@ pub(crate) const BUFFER: &str = "INPUT(a)\nOUTPUT(z)\nz = BUFF(a)\n";
 /// One wire: its faults a/0 and a/1 are a class each.
 pub(crate) const WIRE: &str = "INPUT(a)\nOUTPUT(a)\n";
 
-/// A job of a circuit and of rows of tests, each with how often it stands there.
-pub(crate) fn job_of(
-    alloc: Global,
-    model: Model,
-    bench: &str,
-    rows: &[(&str, u32)],
-) -> Result<Job, Fail> {
-    let mut text = Vec::new(alloc);
-    push_all_rows(&mut text, rows)?;
-    job_under(alloc, model, bench, text.as_slice())
-}
-
-/// A job of a circuit and of a text of tests.
-fn job_under(alloc: Global, model: Model, bench: &str, tests: &[u8]) -> Result<Job, Fail> {
-    Ok(jobs::job_of(alloc, model, bench.as_bytes(), tests)?)
+/// The job of this text.
+pub(crate) fn job_of(alloc: Global, job: &JobText) -> Result<Job, SimFault> {
+    let mut tests = Vec::new(alloc);
+    push_all_rows(&mut tests, job.rows)?;
+    jobs::job_of(alloc, job.model, job.bench.as_bytes(), tests.as_slice())
 }
 
 /// Adds rows of tests, each as often as it is to stand there.
@@ -85,12 +90,18 @@ fn push_rows(text: &mut Vec<u8>, row: &[u8], count: u32) -> Result<(), AllocErro
     Ok(())
 }
 
-/// Checks the verdicts of all faults.
-pub(crate) fn check<R: Abort>(rt: &R, verdicts: &Verdicts, firsts: &[Option<u32>]) {
-    assert_eq!(rt; verdicts.total() as usize, firsts.len());
+/// Whether these are the verdicts of all faults.
+pub(crate) fn has_firsts(verdicts: &Verdicts, firsts: &[Option<u32>]) -> bool {
     for fault in 0..verdicts.total() {
-        assert_eq!(rt; firsts.get(fault as usize), Some(&verdicts.first(fault)));
+        if firsts.get(fault as usize) != Some(&verdicts.first(fault)) {
+            return false;
+        }
     }
     let detected = firsts.iter().filter(|first| first.is_some()).count();
-    assert_eq!(rt; verdicts.detected() as usize, detected);
+    verdicts.total() as usize == firsts.len() && verdicts.detected() as usize == detected
+}
+
+/// Stops the test where the case of this name does not hold.
+pub(crate) fn check(rt: &impl Abort, holds: bool, name: &str) {
+    assert!(rt; holds, "{name}");
 }

@@ -1,88 +1,68 @@
 //! Runs of one thread.
 
-use crate::fixtures::{BUFFER, C17_FIRSTS, WIRE, check, job_of};
+use crate::fixtures::{BUFFER, C17, C17_FIRSTS, JobText, WIRE, check, has_firsts, job_of};
 use block_sim::Job;
 use fault_model::Model;
-use std::alloc::Global;
-use std::process::Abort;
-use std::test::Fail;
-use worked_circuits::C17_TEXT as C17;
+use jobs::SimFault;
+use std::alloc::{AllocError, Global};
 use workers::{RunFault, run_schedule};
 
-/// Runs a job by moves, and checks the verdicts. Gives the number of pieces that were skipped.
-fn skipped_by<R: Abort>(
-    rt: &R,
+/// The number of pieces that a run of a job by moves skips, where it has these verdicts.
+fn skipped_by(
     alloc: Global,
     job: &Job,
     workers: u32,
     moves: &[u32],
     firsts: &[Option<u32>],
-) -> Result<u64, Fail> {
+) -> Result<Option<u64>, RunFault> {
     let verdicts = run_schedule(alloc, job, workers, moves)?;
-    check(rt, &verdicts, firsts);
-    Ok(verdicts.skipped())
+    Ok(has_firsts(&verdicts, firsts).then_some(verdicts.skipped()))
 }
 
-/// How a run of a job by moves is refused.
-fn refusal(alloc: Global, job: &Job, workers: u32, moves: &[u32]) -> Option<RunFault> {
-    run_schedule(alloc, job, workers, moves).err()
-}
+/// Moves of four workers by which block 1 of the buffer is reported before block 0, and by which it
+/// is dropped, and the number of pieces that are skipped.
+static ORDERS: [(&[u32], u64); 2] = [(&[0, 1, 2, 3, 2, 3, 1, 0], 0), (&[], 2)];
 
-/// Checks the buffer where block 1 is reported before block 0, and where it is dropped.
-fn check_orders<R: Abort>(rt: &R, alloc: Global, job: &Job) -> Result<(), Fail> {
-    let orders: [(&[u32], u64); 2] = [(&[0, 1, 2, 3, 2, 3, 1, 0], 0), (&[], 2)];
-    let firsts = [Some(63), Some(0), Some(63), Some(0)];
-    for (moves, skipped) in orders {
-        let found = skipped_by(rt, alloc, job, 4, moves, &firsts)?;
-        assert_eq!(rt; found, skipped);
+/// Whether that is so of a job.
+fn are_skipped(alloc: Global, job: &Job) -> Result<bool, RunFault> {
+    for (moves, skipped) in &ORDERS {
+        let found = skipped_by(
+            alloc,
+            job,
+            4,
+            moves,
+            &[Some(63), Some(0), Some(63), Some(0)],
+        )?;
+        if found != Some(*skipped) {
+            return Ok(false);
+        }
     }
-    Ok(())
+    Ok(true)
 }
 
-#[test]
-fn worker_two_reports_block_one_before_block_zero(rt: HostRuntime) -> Result<(), Fail> {
-    let job = job_of(rt.alloc(), Model::StuckAt, BUFFER, &[("0", 63), ("1", 2)])?;
-    check_orders(&rt, rt.alloc(), &job)
-}
-
-/// Checks the transitions of the buffer, which the last of 65 tests launches.
-fn check_transitions<R: Abort>(rt: &R, alloc: Global, job: &Job) -> Result<(), Fail> {
+/// Whether the last of 65 tests launches the transitions of the buffer.
+fn is_launched(alloc: Global, job: &Job) -> Result<bool, RunFault> {
     let firsts = [Some(64), None, Some(64), None];
-    skipped_by(rt, alloc, job, 3, &[2, 2, 0], &firsts)?;
-    Ok(())
+    Ok(skipped_by(alloc, job, 3, &[2, 2, 0], &firsts)?.is_some())
 }
 
-#[test]
-fn transitions_are_told_by_the_test_before(rt: HostRuntime) -> Result<(), Fail> {
-    let job = job_of(
-        rt.alloc(),
-        Model::Transition,
-        BUFFER,
-        &[("0", 64), ("1", 1)],
-    )?;
-    check_transitions(&rt, rt.alloc(), &job)
-}
+/// Numbers of workers and moves, and in which order they are refused.
+static REFUSED: [(u32, &[u32], RunFault); 5] = [
+    (4, &[0, 9, 4], RunFault::NoSuchMove(1)),
+    (4, &[4], RunFault::NoSuchMove(0)),
+    (64, &[63, 64], RunFault::NoSuchMove(1)),
+    (0, &[4], RunFault::NoWorkers),
+    (65, &[70], RunFault::TooManyWorkers),
+];
 
-/// Checks in which order a number of workers and moves are refused.
-fn check_refusals<R: Abort>(rt: &R, alloc: Global, job: &Job) {
-    let schedules: [(u32, &[u32], RunFault); 5] = [
-        (4, &[0, 9, 4], RunFault::NoSuchMove(1)),
-        (4, &[4], RunFault::NoSuchMove(0)),
-        (64, &[63, 64], RunFault::NoSuchMove(1)),
-        (0, &[4], RunFault::NoWorkers),
-        (65, &[70], RunFault::TooManyWorkers),
-    ];
-    for (workers, moves, fault) in schedules {
-        let refused = refusal(alloc, job, workers, moves);
-        assert_eq!(rt; refused, Some(fault));
+/// Whether they are refused so.
+fn are_refused(alloc: Global, job: &Job) -> bool {
+    for (workers, moves, fault) in &REFUSED {
+        if run_schedule(alloc, job, *workers, moves).err() != Some(*fault) {
+            return false;
+        }
     }
-}
-
-#[test]
-fn numbers_of_workers_go_before_moves(rt: HostRuntime) -> Result<(), Fail> {
-    let job = job_of(rt.alloc(), Model::StuckAt, WIRE, &[("0", 1)])?;
-    check_refusals(&rt, rt.alloc(), &job);
-    Ok(())
+    true
 }
 
 /// Sixty moves of seven workers, and the seed of the next.
@@ -96,36 +76,115 @@ fn random_moves(seed: &mut u32) -> [u32; 60] {
     moves
 }
 
-/// Checks C17 in a hundred orders of moves.
-fn check_hundred_orders<R: Abort>(rt: &R, alloc: Global, job: &Job) -> Result<(), Fail> {
+/// Whether C17 has its verdicts in a hundred orders of moves.
+fn has_one_answer(alloc: Global, job: &Job) -> Result<bool, RunFault> {
     let mut seed: u32 = 1;
     for _ in 0..100 {
         let moves = random_moves(&mut seed);
-        skipped_by(rt, alloc, job, 7, &moves, &C17_FIRSTS)?;
+        if skipped_by(alloc, job, 7, &moves, &C17_FIRSTS)?.is_none() {
+            return Ok(false);
+        }
     }
-    Ok(())
+    Ok(true)
+}
+
+/// What is asked of a job.
+#[derive(Clone, Copy)]
+enum Question {
+    AreSkipped,
+    IsLaunched,
+    AreRefused,
+    HasOneAnswer,
+}
+
+/// What is asked, and of which job.
+struct Case {
+    name: &'static str,
+    job: JobText,
+    question: Question,
+}
+
+static CASES: [Case; 4] = [
+    Case {
+        name: "worker_two_reports_block_one_before_block_zero",
+        job: JobText {
+            model: Model::StuckAt,
+            bench: BUFFER,
+            rows: &[("0", 63), ("1", 2)],
+        },
+        question: Question::AreSkipped,
+    },
+    Case {
+        name: "transitions_are_told_by_the_test_before",
+        job: JobText {
+            model: Model::Transition,
+            bench: BUFFER,
+            rows: &[("0", 64), ("1", 1)],
+        },
+        question: Question::IsLaunched,
+    },
+    Case {
+        name: "numbers_of_workers_go_before_moves",
+        job: JobText {
+            model: Model::StuckAt,
+            bench: WIRE,
+            rows: &[("0", 1)],
+        },
+        question: Question::AreRefused,
+    },
+    Case {
+        name: "c17_in_a_hundred_orders",
+        job: C17,
+        question: Question::HasOneAnswer,
+    },
+];
+
+/// Whether it is so of a job.
+fn is_so(alloc: Global, job: &Job, question: Question) -> Result<bool, RunFault> {
+    match question {
+        Question::AreSkipped => are_skipped(alloc, job),
+        Question::IsLaunched => is_launched(alloc, job),
+        Question::AreRefused => Ok(are_refused(alloc, job)),
+        Question::HasOneAnswer => has_one_answer(alloc, job),
+    }
+}
+
+/// Whether the case holds.
+fn holds(alloc: Global, case: &Case) -> Result<bool, SimFault> {
+    let job = job_of(alloc, &case.job)?;
+    Ok(is_so(alloc, &job, case.question)?)
 }
 
 #[test]
-fn c17_in_a_hundred_orders(rt: HostRuntime) -> Result<(), Fail> {
-    let job = job_of(rt.alloc(), Model::StuckAt, C17, &[("11111", 1)])?;
-    check_hundred_orders(&rt, rt.alloc(), &job)
+fn runs_by_moves(rt: HostRuntime) {
+    for case in &CASES {
+        check(&rt, holds(rt.alloc(), case) == Ok(true), case.name);
+    }
+}
+
+/// Each kind of fault, and its words.
+static WORDS: [(RunFault, &str); 7] = [
+    (RunFault::NoWorkers, "no workers"),
+    (RunFault::TooManyWorkers, "more than 64 workers"),
+    (RunFault::NoSuchMove(1), "move 1: no such worker"),
+    (RunFault::TooManyPieces, "more than 16777216 pieces"),
+    (RunFault::Memory, "out of memory"),
+    (RunFault::Threads, "thread refused"),
+    (
+        RunFault::Unfinished { class: 1, block: 2 },
+        "unfinished at class 1 block 2",
+    ),
+];
+
+/// Whether a fault is written in these words.
+fn is_said(alloc: Global, fault: RunFault, words: &str) -> Result<bool, AllocError> {
+    let said = format!(in alloc; "{fault}")?;
+    Ok(said.as_str() == words)
 }
 
 #[test]
-fn words_of_the_faults(rt: HostRuntime) -> Result<(), Fail> {
-    let unfinished = RunFault::Unfinished { class: 1, block: 2 };
-    for (fault, words) in [
-        (RunFault::NoWorkers, "no workers"),
-        (RunFault::TooManyWorkers, "more than 64 workers"),
-        (RunFault::NoSuchMove(1), "move 1: no such worker"),
-        (RunFault::TooManyPieces, "more than 16777216 pieces"),
-        (RunFault::Memory, "out of memory"),
-        (RunFault::Threads, "thread refused"),
-        (unfinished, "unfinished at class 1 block 2"),
-    ] {
-        let said = format!(in rt.alloc(); "{fault}")?;
-        assert_eq!(rt; said.as_str(), words);
+fn words_of_the_faults(rt: HostRuntime) {
+    for (fault, words) in &WORDS {
+        check(&rt, is_said(rt.alloc(), *fault, words) == Ok(true), words);
     }
-    Ok(())
 }

@@ -3,33 +3,30 @@
 ghost use Rattle.std.specs.Prelude.{◌≡◌, ◌<◌, All, IfOk, length};
 ghost use Rattle.workers.specs.Settling.{IsShapeOf};
 
-use crate::fixtures::{BUFFER, C17_FIRSTS, WIRE, check, job_of};
+use crate::fixtures::{BUFFER, C17, C17_FIRSTS, JobText, WIRE, check, has_firsts, job_of};
 use crate::gates::{Counter, Meeting, Roll, Shut, ShutFor, ShutForTwo, TwoByTwo};
 use block_sim::{Job, Workspace};
-use fault_ledger::{Finish, Seat, SharedLedger};
+use fault_ledger::{Finish, LedgerFault, Seat, SharedLedger};
 use fault_model::Model;
+use jobs::SimFault;
 use std::alloc::{AllocError, Global};
-use std::process::Abort;
 use std::sync::Wait;
-use std::test::Fail;
 use std::thread;
 use std::thread::Threads;
 use std::time::Clock;
-use worked_circuits::C17_TEXT as C17;
 use workers::{Gate, OpenGate, RunFault, run, work};
 
-/// Runs a job by workers in threads, and checks the verdicts.
-fn check_run<R: Threads + Wait + Abort, G: Gate + Sync>(
+/// Whether a run of a job by workers in threads has these verdicts.
+fn is_run<R: Threads + Wait, G: Gate + Sync>(
     rt: &R,
     alloc: Global,
     job: &Job,
     workers: u32,
     gate: &G,
     firsts: &[Option<u32>],
-) -> Result<(), Fail> {
+) -> Result<bool, RunFault> {
     let verdicts = run(rt, alloc, job, workers, gate)?;
-    check(rt, &verdicts, firsts);
-    Ok(())
+    Ok(has_firsts(&verdicts, firsts))
 }
 
 /// How a run of a job by workers in threads is refused.
@@ -43,53 +40,63 @@ fn refusal<R: Threads + Wait, G: Gate + Sync>(
     run(rt, alloc, job, workers, gate).err()
 }
 
+/// Whether a run of a job stops with a piece open.
+fn stops_at<R: Threads + Wait, G: Gate + Sync>(
+    rt: &R,
+    alloc: Global,
+    job: &Job,
+    workers: u32,
+    gate: &G,
+    piece: (u32, u32),
+) -> bool {
+    let (class, block) = piece;
+    refusal(rt, alloc, job, workers, gate) == Some(RunFault::Unfinished { class, block })
+}
+
 /// The first tests of the buffer under 64 tests of 0 and one of 1.
-const BUFFER_FIRSTS: [Option<u32>; 4] = [Some(64), Some(0), Some(64), Some(0)];
+static BUFFER_FIRSTS: [Option<u32>; 4] = [Some(64), Some(0), Some(64), Some(0)];
 
-/// Checks C17 by several numbers of workers.
-fn check_numbers<R: Threads + Wait + Abort>(rt: &R, alloc: Global, job: &Job) -> Result<(), Fail> {
-    for workers in [1, 2, 3, 64] {
-        check_run(rt, alloc, job, workers, &OpenGate, &C17_FIRSTS)?;
+/// Numbers of workers that C17 is run by.
+static NUMBERS: [u32; 4] = [1, 2, 3, 64];
+
+/// Numbers of workers that are refused.
+static REFUSED_NUMBERS: [(u32, RunFault); 2] = [
+    (0, RunFault::NoWorkers),
+    (65, RunFault::TooManyWorkers),
+];
+
+/// Whether numbers of workers are refused.
+fn are_refused<R: Threads + Wait>(rt: &R, alloc: Global, job: &Job) -> bool {
+    for (workers, fault) in &REFUSED_NUMBERS {
+        if refusal(rt, alloc, job, *workers, &OpenGate) != Some(*fault) {
+            return false;
+        }
     }
-    for (workers, fault) in [(0, RunFault::NoWorkers), (65, RunFault::TooManyWorkers)] {
-        let refused = refusal(rt, alloc, job, workers, &OpenGate);
-        assert_eq!(rt; refused, Some(fault));
+    true
+}
+
+/// Whether C17 has its verdicts by several numbers of workers.
+fn is_run_by_all<R: Threads + Wait>(rt: &R, alloc: Global, job: &Job) -> Result<bool, RunFault> {
+    for workers in &NUMBERS {
+        if !is_run(rt, alloc, job, *workers, &OpenGate, &C17_FIRSTS)? {
+            return Ok(false);
+        }
     }
-    Ok(())
+    Ok(true)
 }
 
-#[test]
-fn c17_by_one_to_64_workers(rt: HostRuntime) -> Result<(), Fail> {
-    let job = job_of(rt.alloc(), Model::StuckAt, C17, &[("11111", 1)])?;
-    check_numbers(&rt, rt.alloc(), &job)
-}
+/// Pieces of the buffer that a gate is shut for.
+static SHUT_PIECES: [(u32, u32); 3] = [(0, 0), (1, 0), (0, 1)];
 
-/// Checks that a run whose gate is shut leaves the first piece open.
-fn check_shut<R: Threads + Wait + Abort>(rt: &R, alloc: Global, job: &Job) {
-    let stopped = refusal(rt, alloc, job, 1, &Shut);
-    assert_eq!(rt; stopped, Some(RunFault::Unfinished { class: 0, block: 0 }));
-}
-
-#[test]
-fn a_stopped_worker_leaves_its_piece_open(rt: HostRuntime) -> Result<(), Fail> {
-    let job = job_of(rt.alloc(), Model::StuckAt, WIRE, &[("0", 1)])?;
-    check_shut(&rt, rt.alloc(), &job);
-    Ok(())
-}
-
-/// Checks that a run whose gate is shut for one piece leaves that piece open.
-fn check_shut_for<R: Threads + Wait + Abort>(rt: &R, alloc: Global, job: &Job) {
-    for (class, block) in [(0, 0), (1, 0), (0, 1)] {
-        let stopped = refusal(rt, alloc, job, 2, &ShutFor { class, block });
-        assert_eq!(rt; stopped, Some(RunFault::Unfinished { class, block }));
+/// Whether a run whose gate is shut for one piece leaves that piece open.
+fn is_left_open<R: Threads + Wait>(rt: &R, alloc: Global, job: &Job) -> bool {
+    for (class, block) in &SHUT_PIECES {
+        let (class, block) = (*class, *block);
+        if !stops_at(rt, alloc, job, 2, &ShutFor { class, block }, (class, block)) {
+            return false;
+        }
     }
-}
-
-#[test]
-fn one_of_two_workers_leaves_its_piece_open(rt: HostRuntime) -> Result<(), Fail> {
-    let job = job_of(rt.alloc(), Model::StuckAt, BUFFER, &[("0", 64), ("1", 1)])?;
-    check_shut_for(&rt, rt.alloc(), &job);
-    Ok(())
+    true
 }
 
 /// Gates that leave two pieces open, and the piece that an unfinished run of the buffer names where
@@ -116,134 +123,81 @@ static OPEN_PAIRS: [(ShutForTwo, u32, u32); 2] = [
     ),
 ];
 
-/// Checks that a run of two workers, each of which leaves a piece open, names the lower one.
-fn check_open_pairs<R: Threads + Wait + Abort>(rt: &R, alloc: Global, job: &Job) {
+/// Whether a run of two workers, each of which leaves a piece open, names the lower one.
+fn is_lowest_named<R: Threads + Wait>(rt: &R, alloc: Global, job: &Job) -> bool {
     for (gate, class, block) in &OPEN_PAIRS {
-        let (class, block) = (*class, *block);
-        let stopped = refusal(rt, alloc, job, 2, gate);
-        assert_eq!(rt; stopped, Some(RunFault::Unfinished { class, block }));
+        if !stops_at(rt, alloc, job, 2, gate, (*class, *block)) {
+            return false;
+        }
+    }
+    true
+}
+
+/// Whether a run ends well whose gate is shut for a piece behind a hit, and then one of the same job
+/// whose gate is open.
+fn may_stay_open<R: Threads + Wait>(rt: &R, alloc: Global, job: &Job) -> Result<bool, RunFault> {
+    let gate = ShutFor { class: 1, block: 1 };
+    Ok(
+        is_run(rt, alloc, job, 2, &gate, &BUFFER_FIRSTS)?
+            && is_run(rt, alloc, job, 2, &OpenGate, &BUFFER_FIRSTS)?,
+    )
+}
+
+/// Runs whose gate holds pieces until others have been claimed: the first two until both have been,
+/// and the first until the last has been.
+fn is_run_by_meeting<R: Threads + Wait + Clock + Sync>(
+    rt: &R,
+    alloc: Global,
+    job: &Job,
+    both: bool,
+) -> Result<bool, RunFault> {
+    if both {
+        let gate = Meeting::new(rt, (0, 0), (1, 0), true);
+        is_run(rt, alloc, job, 2, &gate, &[None, Some(0)])
+    } else {
+        let gate = Meeting::new(rt, (0, 0), (1, 1), false);
+        is_run(rt, alloc, job, 2, &gate, &BUFFER_FIRSTS)
     }
 }
 
-#[test]
-fn the_lowest_open_block_of_the_lowest_class_is_named(rt: HostRuntime) -> Result<(), Fail> {
-    let job = job_of(rt.alloc(), Model::StuckAt, BUFFER, &[("1", 129)])?;
-    check_open_pairs(&rt, rt.alloc(), &job);
-    Ok(())
-}
-
-/// Checks a run whose gate is shut for a piece behind a hit, and then one of the same job whose
-/// gate is open.
-fn check_behind_a_hit<R: Threads + Wait + Abort>(
+/// A run whose gate holds the four workers until all have come: each has a thread of its own, and is
+/// asked for by its own number.
+fn is_run_by_roll<R: Threads + Wait + Clock + Sync>(
     rt: &R,
     alloc: Global,
     job: &Job,
-) -> Result<(), Fail> {
-    let gate = ShutFor { class: 1, block: 1 };
-    check_run(rt, alloc, job, 2, &gate, &BUFFER_FIRSTS)?;
-    check_run(rt, alloc, job, 2, &OpenGate, &BUFFER_FIRSTS)
+) -> Result<bool, RunFault> {
+    is_run(rt, alloc, job, 4, &Roll::new(rt), &BUFFER_FIRSTS)
 }
 
-#[test]
-fn a_piece_behind_a_hit_may_stay_open(rt: HostRuntime) -> Result<(), Fail> {
-    let job = job_of(rt.alloc(), Model::StuckAt, BUFFER, &[("0", 64), ("1", 1)])?;
-    check_behind_a_hit(&rt, rt.alloc(), &job)
-}
-
-/// Checks a run whose gate holds the first two pieces until both have been claimed.
-fn check_both_held<R: Threads + Wait + Abort + Clock + Sync>(
-    rt: &R,
-    alloc: Global,
-    job: &Job,
-) -> Result<(), Fail> {
-    let gate = Meeting::new(rt, (0, 0), (1, 0), true);
-    check_run(rt, alloc, job, 2, &gate, &[None, Some(0)])
-}
-
-#[test]
-fn two_workers_hold_a_piece_at_once(rt: HostRuntime) -> Result<(), Fail> {
-    let job = job_of(rt.alloc(), Model::StuckAt, WIRE, &[("0", 1)])?;
-    check_both_held(&rt, rt.alloc(), &job)
-}
-
-/// Checks a run whose gate holds the first piece until the last has been claimed.
-fn check_one_held<R: Threads + Wait + Abort + Clock + Sync>(
-    rt: &R,
-    alloc: Global,
-    job: &Job,
-) -> Result<(), Fail> {
-    let gate = Meeting::new(rt, (0, 0), (1, 1), false);
-    check_run(rt, alloc, job, 2, &gate, &BUFFER_FIRSTS)
-}
-
-#[test]
-fn a_worker_goes_on_while_another_is_held(rt: HostRuntime) -> Result<(), Fail> {
-    let job = job_of(rt.alloc(), Model::StuckAt, BUFFER, &[("0", 64), ("1", 1)])?;
-    check_one_held(&rt, rt.alloc(), &job)
-}
-
-/// Checks a run whose gate holds the four workers until all have come: each has a thread of its
-/// own, and is asked for by its own number.
-fn check_roll<R: Threads + Wait + Abort + Clock + Sync>(
-    rt: &R,
-    alloc: Global,
-    job: &Job,
-) -> Result<(), Fail> {
-    check_run(rt, alloc, job, 4, &Roll::new(rt), &BUFFER_FIRSTS)
-}
-
-#[test]
-fn four_workers_come_to_the_gate(rt: HostRuntime) -> Result<(), Fail> {
-    let job = job_of(rt.alloc(), Model::StuckAt, BUFFER, &[("0", 64), ("1", 1)])?;
-    check_roll(&rt, rt.alloc(), &job)
-}
-
-/// Checks a run in which worker 1 surely rests.
+/// A run in which worker 1 surely rests.
 ///
 /// The workers hold pieces two by two, so of two claims of a worker one at most comes right after
 /// the other, and nearly all pieces take no evaluation: class 0 is dropped behind its hit, and
 /// class 1 takes two. In 200 rounds worker 1 owes far more than what makes it rest.
-fn check_rests<R: Threads + Wait + Abort + Clock + Sync>(
+fn is_run_by_resting<R: Threads + Wait + Clock + Sync>(
     rt: &R,
     alloc: Global,
     job: &Job,
-) -> Result<(), Fail> {
+) -> Result<bool, RunFault> {
     let gate = TwoByTwo::new(rt);
-    check_run(rt, alloc, job, 2, &gate, &[Some(0), None, Some(0), None])
+    is_run(rt, alloc, job, 2, &gate, &[Some(0), None, Some(0), None])
 }
 
-#[test]
-fn a_worker_that_rests_goes_on(rt: HostRuntime) -> Result<(), Fail> {
-    let job = job_of(rt.alloc(), Model::StuckAt, BUFFER, &[("1", 12_800)])?;
-    check_rests(&rt, rt.alloc(), &job)
-}
-
-/// Checks the number of pieces that a run of one worker skips.
+/// Whether a run of one worker skips one piece.
 ///
 /// The worker claims class 0, of `z` stuck at 0, and class 1 on block 0 and then both on block 1.
 /// Each test is 1, so it reports a hit of class 0 and class 1 as clear. On block 1 it drops class
 /// 0, behind that hit, and reports class 1 as clear: one piece of four is skipped.
-fn check_skipped<R: Threads + Wait + Abort>(rt: &R, alloc: Global, job: &Job) -> Result<(), Fail> {
+fn is_one_skipped<R: Threads + Wait>(rt: &R, alloc: Global, job: &Job) -> Result<bool, RunFault> {
     let verdicts = run(rt, alloc, job, 1, &OpenGate)?;
-    check(rt, &verdicts, &[Some(0), None, Some(0), None]);
-    assert_eq!(rt; verdicts.skipped(), 1);
-    Ok(())
+    Ok(has_firsts(&verdicts, &[Some(0), None, Some(0), None]) && verdicts.skipped() == 1)
 }
 
-#[test]
-fn a_piece_behind_a_hit_is_skipped(rt: HostRuntime) -> Result<(), Fail> {
-    let job = job_of(rt.alloc(), Model::StuckAt, BUFFER, &[("1", 128)])?;
-    check_skipped(&rt, rt.alloc(), &job)
-}
-
-/// Checks that a run of one worker ends after the pieces of the first block.
-fn check_two_pieces<R: Threads + Wait + Abort>(
-    rt: &R,
-    alloc: Global,
-    job: &Job,
-) -> Result<(), Fail> {
+/// Whether a run of one worker ends after the pieces of the first block.
+fn ends_after_two<R: Threads + Wait>(rt: &R, alloc: Global, job: &Job) -> Result<bool, RunFault> {
     let gate = Counter::new();
-    check_run(
+    let is_so = is_run(
         rt,
         alloc,
         job,
@@ -251,19 +205,7 @@ fn check_two_pieces<R: Threads + Wait + Abort>(
         &gate,
         &[Some(0), Some(1), Some(0), Some(1)],
     )?;
-    assert_eq!(rt; gate.pieces(), 2);
-    Ok(())
-}
-
-#[test]
-fn a_worker_ends_where_all_classes_are_settled(rt: HostRuntime) -> Result<(), Fail> {
-    let job = job_of(
-        rt.alloc(),
-        Model::StuckAt,
-        BUFFER,
-        &[("1", 1), ("0", 4_095)],
-    )?;
-    check_two_pieces(&rt, rt.alloc(), &job)
+    Ok(is_so && gate.pieces() == 2)
 }
 
 /// The work of one seat, with a workspace of its own.
@@ -311,24 +253,202 @@ fn in_threads<G: Gate + Sync, R: Threads + Sync>(
     )
 }
 
-/// Lets two threads of the caller's work at one ledger of a job.
-fn share_a_ledger<R: Threads + Sync + Clock + Abort>(
+/// Whether two seats that come back close their ledger as finished.
+fn is_finished(alloc: Global, ledger: SharedLedger, seats: Vec<Seat>) -> Result<bool, LedgerFault>
+    requires { All (λ seat. seat.place ≡ ledger) seats.items }
+{
+    if seats.len() != 2 {
+        return Ok(false);
+    }
+    let closed = ledger.close(alloc, seats)?;
+    Ok(closed.finished() == Finish::Finished)
+}
+
+/// Lets two threads of the caller's work at one ledger of a job, and says whether they finish it.
+fn is_shared<R: Threads + Sync + Clock>(
     rt: &R,
     alloc: Global,
     job: &Job,
-) -> Result<(), Fail> {
+) -> Result<bool, LedgerFault> {
     let (classes, tests) = (job.classes().count(), job.tests().count());
     let (ledger, seats) = SharedLedger::new(alloc, classes, tests, 2)?;
     let gate = Meeting::new(rt, (0, 0), (1, 1), false);
     let seats = in_threads(rt, alloc, job, &ledger, &gate, seats)?;
-    assert_eq!(rt; seats.len(), 2);
-    let closed = ledger.close(alloc, seats)?;
-    assert_eq!(rt; closed.finished(), Finish::Finished);
-    Ok(())
+    is_finished(alloc, ledger, seats)
+}
+
+/// What is asked of a job.
+#[derive(Clone, Copy)]
+enum Question {
+    IsRunByAll,
+    AreRefused,
+    IsFirstLeftOpen,
+    IsLeftOpen,
+    IsLowestNamed,
+    MayStayOpen,
+    IsRunByMeeting { both: bool },
+    IsRunByRoll,
+    IsRunByResting,
+    IsOneSkipped,
+    EndsAfterTwo,
+    IsShared,
+}
+
+/// What is asked, and of which job.
+struct Case {
+    name: &'static str,
+    job: JobText,
+    question: Question,
+}
+
+static CASES: [Case; 13] = [
+    Case {
+        name: "c17_by_one_to_64_workers",
+        job: C17,
+        question: Question::IsRunByAll,
+    },
+    Case {
+        name: "c17_by_none_and_by_65_workers",
+        job: C17,
+        question: Question::AreRefused,
+    },
+    Case {
+        name: "a_stopped_worker_leaves_its_piece_open",
+        job: JobText {
+            model: Model::StuckAt,
+            bench: WIRE,
+            rows: &[("0", 1)],
+        },
+        question: Question::IsFirstLeftOpen,
+    },
+    Case {
+        name: "one_of_two_workers_leaves_its_piece_open",
+        job: JobText {
+            model: Model::StuckAt,
+            bench: BUFFER,
+            rows: &[("0", 64), ("1", 1)],
+        },
+        question: Question::IsLeftOpen,
+    },
+    Case {
+        name: "the_lowest_open_block_of_the_lowest_class_is_named",
+        job: JobText {
+            model: Model::StuckAt,
+            bench: BUFFER,
+            rows: &[("1", 129)],
+        },
+        question: Question::IsLowestNamed,
+    },
+    Case {
+        name: "a_piece_behind_a_hit_may_stay_open",
+        job: JobText {
+            model: Model::StuckAt,
+            bench: BUFFER,
+            rows: &[("0", 64), ("1", 1)],
+        },
+        question: Question::MayStayOpen,
+    },
+    Case {
+        name: "two_workers_hold_a_piece_at_once",
+        job: JobText {
+            model: Model::StuckAt,
+            bench: WIRE,
+            rows: &[("0", 1)],
+        },
+        question: Question::IsRunByMeeting { both: true },
+    },
+    Case {
+        name: "a_worker_goes_on_while_another_is_held",
+        job: JobText {
+            model: Model::StuckAt,
+            bench: BUFFER,
+            rows: &[("0", 64), ("1", 1)],
+        },
+        question: Question::IsRunByMeeting { both: false },
+    },
+    Case {
+        name: "four_workers_come_to_the_gate",
+        job: JobText {
+            model: Model::StuckAt,
+            bench: BUFFER,
+            rows: &[("0", 64), ("1", 1)],
+        },
+        question: Question::IsRunByRoll,
+    },
+    Case {
+        name: "a_worker_that_rests_goes_on",
+        job: JobText {
+            model: Model::StuckAt,
+            bench: BUFFER,
+            rows: &[("1", 12_800)],
+        },
+        question: Question::IsRunByResting,
+    },
+    Case {
+        name: "a_piece_behind_a_hit_is_skipped",
+        job: JobText {
+            model: Model::StuckAt,
+            bench: BUFFER,
+            rows: &[("1", 128)],
+        },
+        question: Question::IsOneSkipped,
+    },
+    Case {
+        name: "a_worker_ends_where_all_classes_are_settled",
+        job: JobText {
+            model: Model::StuckAt,
+            bench: BUFFER,
+            rows: &[("1", 1), ("0", 4_095)],
+        },
+        question: Question::EndsAfterTwo,
+    },
+    Case {
+        name: "threads_of_a_caller_share_a_ledger",
+        job: JobText {
+            model: Model::StuckAt,
+            bench: BUFFER,
+            rows: &[("0", 64), ("1", 1)],
+        },
+        question: Question::IsShared,
+    },
+];
+
+/// Whether it is so of a job.
+fn is_so<R: Threads + Wait + Clock + Sync>(
+    rt: &R,
+    alloc: Global,
+    job: &Job,
+    question: Question,
+) -> Result<bool, RunFault> {
+    match question {
+        Question::IsRunByAll => is_run_by_all(rt, alloc, job),
+        Question::AreRefused => Ok(are_refused(rt, alloc, job)),
+        Question::IsFirstLeftOpen => Ok(stops_at(rt, alloc, job, 1, &Shut, (0, 0))),
+        Question::IsLeftOpen => Ok(is_left_open(rt, alloc, job)),
+        Question::IsLowestNamed => Ok(is_lowest_named(rt, alloc, job)),
+        Question::MayStayOpen => may_stay_open(rt, alloc, job),
+        Question::IsRunByMeeting { both } => is_run_by_meeting(rt, alloc, job, both),
+        Question::IsRunByRoll => is_run_by_roll(rt, alloc, job),
+        Question::IsRunByResting => is_run_by_resting(rt, alloc, job),
+        Question::IsOneSkipped => is_one_skipped(rt, alloc, job),
+        Question::EndsAfterTwo => ends_after_two(rt, alloc, job),
+        Question::IsShared => Ok(is_shared(rt, alloc, job) == Ok(true)),
+    }
+}
+
+/// Whether the case holds.
+fn holds<R: Threads + Wait + Clock + Sync>(
+    rt: &R,
+    alloc: Global,
+    case: &Case,
+) -> Result<bool, SimFault> {
+    let job = job_of(alloc, &case.job)?;
+    Ok(is_so(rt, alloc, &job, case.question)?)
 }
 
 #[test]
-fn threads_of_a_caller_share_a_ledger(rt: HostRuntime) -> Result<(), Fail> {
-    let job = job_of(rt.alloc(), Model::StuckAt, BUFFER, &[("0", 64), ("1", 1)])?;
-    share_a_ledger(&rt, rt.alloc(), &job)
+fn runs_in_threads(rt: HostRuntime) {
+    for case in &CASES {
+        check(&rt, holds(&rt, rt.alloc(), case) == Ok(true), case.name);
+    }
 }
