@@ -1,81 +1,128 @@
 //! How many tests detect each fault, on worked circuits.
 
+ghost use Rattle.std.specs.Prelude.{◌<◌};
+
+use crate::checks::{check, job_of};
 use block_sim::Job;
-use detections::detections;
+use detections::{CountFault, detections};
 use fault_model::Model;
-use jobs::job_of;
-use std::alloc::Global;
-use std::process::Abort;
+use jobs::SimFault;
+use std::alloc::{AllocError, Global};
 use std::sync::Wait;
-use std::test::Fail;
 use std::thread::Threads;
 
-/// An AND gate and its four tests.
-const AND: &[u8] = b"INPUT(a)\nINPUT(b)\nOUTPUT(z)\nz = AND(a, b)\n";
-
-const AND_TESTS: &[u8] = b"00\n01\n10\n11\n";
+/// An AND gate.
+const AND: &str = "INPUT(a)\nINPUT(b)\nOUTPUT(z)\nz = AND(a, b)\n";
 
 /// A buffer.
-const BUFFER: &[u8] = b"INPUT(a)\nOUTPUT(z)\nz = BUFF(a)\n";
+const BUFFER: &str = "INPUT(a)\nOUTPUT(z)\nz = BUFF(a)\n";
 
-/// Checks the counts of a job, by one worker and by more than there are classes.
-fn check_counts<R: Threads + Wait + Abort>(
+/// A circuit with tests: `tests`, so many times. For each most count that is asked for, the counts
+/// of all faults of the list.
+struct Case {
+    name: &'static str,
+    bench: &'static str,
+    model: Model,
+    tests: &'static str,
+    times: u32,
+    counts: &'static [(u32, &'static [u32])],
+}
+
+static CASES: [Case; 4] = [
+    Case {
+        name: "all tests of a gate are counted, and no more than asked for",
+        bench: AND,
+        model: Model::StuckAt,
+        tests: "00\n01\n10\n11\n",
+        times: 1,
+        counts: &[
+            (9, &[1, 1, 1, 1, 1, 3]),
+            (2, &[1, 1, 1, 1, 1, 2]),
+            (0, &[0, 0, 0, 0, 0, 0]),
+        ],
+    },
+    Case {
+        name: "the second test of a pair is counted",
+        bench: BUFFER,
+        model: Model::Transition,
+        tests: "0\n0\n1\n0\n1\n1\n",
+        times: 1,
+        counts: &[(9, &[2, 1, 2, 1])],
+    },
+    Case {
+        name: "the second test of each two is counted",
+        bench: BUFFER,
+        model: Model::TransitionPairs,
+        tests: "0\n0\n1\n0\n0\n1\n0\n",
+        times: 1,
+        counts: &[(9, &[1, 1, 1, 1])],
+    },
+    Case {
+        name: "tests of all blocks are counted",
+        bench: BUFFER,
+        model: Model::StuckAt,
+        tests: "1\n",
+        times: 130,
+        counts: &[(1000, &[130, 0, 130, 0]), (100, &[100, 0, 100, 0])],
+    },
+];
+
+/// Whether so many workers find these counts of a job.
+fn has_counts<R: Threads + Wait>(
     rt: &R,
     alloc: Global,
     job: &Job,
+    workers: u32,
     most: u32,
-    wanted: &[u32],
-) -> Result<(), Fail> {
-    let one = detections(rt, alloc, job, most, 1)?;
-    assert!(rt; one.as_slice() == wanted);
-    let many = detections(rt, alloc, job, most, 7)?;
-    assert!(rt; many.as_slice() == wanted);
-    Ok(())
+    counts: &[u32],
+) -> Result<bool, CountFault>
+    requires { 0 < workers }
+{
+    let found = detections(rt, alloc, job, most, workers)?;
+    Ok(found.as_slice() == counts)
 }
 
-#[test]
-fn all_tests_of_a_gate_are_counted(rt: HostRuntime) -> Result<(), Fail> {
-    let job = job_of(rt.alloc(), Model::StuckAt, AND, AND_TESTS)?;
-    check_counts(&rt, rt.alloc(), &job, 9, &[1, 1, 1, 1, 1, 3])
+/// Whether one worker and more than there are classes find the counts of a case.
+fn are_counts<R: Threads + Wait>(
+    rt: &R,
+    alloc: Global,
+    job: &Job,
+    case: &Case,
+) -> Result<bool, CountFault> {
+    for (most, counts) in case.counts {
+        if !has_counts(rt, alloc, job, 1, *most, counts)?
+            || !has_counts(rt, alloc, job, 7, *most, counts)?
+        {
+            return Ok(false);
+        }
+    }
+    Ok(true)
 }
 
-#[test]
-fn no_more_are_counted_than_asked_for(rt: HostRuntime) -> Result<(), Fail> {
-    let job = job_of(rt.alloc(), Model::StuckAt, AND, AND_TESTS)?;
-    check_counts(&rt, rt.alloc(), &job, 2, &[1, 1, 1, 1, 1, 2])?;
-    check_counts(&rt, rt.alloc(), &job, 0, &[0, 0, 0, 0, 0, 0])
-}
-
-#[test]
-fn the_second_test_of_a_pair_is_counted(rt: HostRuntime) -> Result<(), Fail> {
-    let job = job_of(rt.alloc(), Model::Transition, BUFFER, b"0\n0\n1\n0\n1\n1\n")?;
-    check_counts(&rt, rt.alloc(), &job, 9, &[2, 1, 2, 1])
-}
-
-#[test]
-fn the_second_test_of_each_two_is_counted(rt: HostRuntime) -> Result<(), Fail> {
-    let job = job_of(
-        rt.alloc(),
-        Model::TransitionPairs,
-        BUFFER,
-        b"0\n0\n1\n0\n0\n1\n0\n",
-    )?;
-    check_counts(&rt, rt.alloc(), &job, 9, &[1, 1, 1, 1])
-}
-
-/// A row of a buffer's tests, so many times.
-fn rows(alloc: Global, count: u32) -> Result<Vec<u8>, Fail> {
+/// The tests of a case.
+fn tests_of(alloc: Global, case: &Case) -> Result<Vec<u8>, AllocError> {
     let mut text = Vec::new(alloc);
-    for _row in 0..count {
-        text.extend_from_slice(b"1\n")?;
+    for _ in 0..case.times {
+        text.extend_from_slice(case.tests.as_bytes())?;
     }
     Ok(text)
 }
 
+/// The job of a case.
+fn job_of_case(alloc: Global, case: &Case) -> Result<Job, SimFault> {
+    let tests = tests_of(alloc, case)?;
+    job_of(alloc, case.model, case.bench.as_bytes(), tests.as_slice())
+}
+
+/// Whether the job of a case has its counts.
+fn is_so<R: Threads + Wait>(rt: &R, alloc: Global, case: &Case) -> Result<bool, SimFault> {
+    let job = job_of_case(alloc, case)?;
+    Ok(are_counts(rt, alloc, &job, case) == Ok(true))
+}
+
 #[test]
-fn tests_of_all_blocks_are_counted(rt: HostRuntime) -> Result<(), Fail> {
-    let tests = rows(rt.alloc(), 130)?;
-    let job = job_of(rt.alloc(), Model::StuckAt, BUFFER, &tests)?;
-    check_counts(&rt, rt.alloc(), &job, 1000, &[130, 0, 130, 0])?;
-    check_counts(&rt, rt.alloc(), &job, 100, &[100, 0, 100, 0])
+fn tests_are_counted(rt: HostRuntime) {
+    for case in &CASES {
+        check(&rt, is_so(&rt, rt.alloc(), case) == Ok(true), case.name);
+    }
 }

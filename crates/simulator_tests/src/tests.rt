@@ -4,17 +4,16 @@ ghost use Rattle.std.specs.Prelude.{◌<◌, ◌≤◌, length};
 ghost use Rattle.patterns.specs.Tests.{blocks};
 ghost use Rattle.block_sim.specs.Parts.{HasRoom};
 
+use crate::checks::{check, job_of};
 use block_sim::{Job, Workspace, first_hit, simulate};
 use fault_model::Model;
-use jobs::job_of;
+use jobs::SimFault;
 use patterns::{BLOCK_SIZE, Outcome};
 use std::alloc::{AllocError, Global};
-use std::process::Abort;
-use std::test::Fail;
 use worked_circuits::C17;
 
 /// For each class of C17 the gates that it makes active under the test `11111`.
-const C17_ACTIVE: [u64; 22] = [
+static C17_ACTIVE: [u64; 22] = [
     0, 0, 6, 0, 0, 0, 0, 0, 1, 0, 4, 3, 2, 2, 0, 0, 0, 0, 0, 0, 0, 0,
 ];
 
@@ -27,26 +26,32 @@ fn active_by(job: &Job, workspace: &mut Workspace, class: u32) -> u64 {
     workspace.gate_evaluations().wrapping_sub(before)
 }
 
-/// Checks the evaluations of each class of C17.
-fn check_active<R: Abort>(rt: &R, alloc: Global, job: &Job) -> Result<(), Fail> {
-    let mut workspace = Workspace::new(alloc, job)?;
-    assert_eq!(rt; job.classes().count(), 22);
+/// Whether each class of C17 takes its evaluations.
+fn are_active(job: &Job, workspace: &mut Workspace) -> bool {
     for class in 0..22u32 {
-        let active = active_by(job, &mut workspace, class);
-        assert_eq!(rt;
-            Some(&active),
-            C17_ACTIVE.get(class as usize),
-            "class {class}"
-        );
+        let active = active_by(job, workspace, class);
+        if C17_ACTIVE.get(class as usize) != Some(&active) {
+            return false;
+        }
     }
-    assert_eq!(rt; workspace.gate_evaluations(), 18);
-    Ok(())
+    job.classes().count() == 22 && workspace.gate_evaluations() == 18
+}
+
+/// The same, with a workspace of its own.
+fn is_active(alloc: Global, job: &Job) -> Result<bool, AllocError> {
+    let mut workspace = Workspace::new(alloc, job)?;
+    Ok(are_active(job, &mut workspace))
+}
+
+/// The same, of C17 under the test `11111`.
+fn is_c17_active(alloc: Global) -> Result<bool, SimFault> {
+    let job = job_of(alloc, Model::StuckAt, C17, b"11111\n")?;
+    Ok(is_active(alloc, &job)?)
 }
 
 #[test]
-fn c17_evaluates_the_gates_that_are_active(rt: HostRuntime) -> Result<(), Fail> {
-    let job = job_of(rt.alloc(), Model::StuckAt, C17, b"11111\n")?;
-    check_active(&rt, rt.alloc(), &job)
+fn c17_evaluates_the_gates_that_are_active(rt: HostRuntime) {
+    assert!(rt; is_c17_active(rt.alloc()) == Ok(true));
 }
 
 /// The outcomes of all classes and blocks by both calls, and the evaluations of the first.
@@ -58,7 +63,7 @@ struct Both {
 }
 
 /// Which of the two calls is asked.
-#[derive(Clone, Copy, Debug, PartialEq, Eq)]
+#[derive(Clone, Copy)]
 enum Asked {
     Simulate,
     FirstHit,
@@ -112,17 +117,24 @@ fn outcomes_by(
     Ok(outcomes)
 }
 
-/// The outcomes of a job.
-fn outcomes_of(alloc: Global, job: &Job) -> Result<Both, AllocError> {
-    let mut workspace = Workspace::new(alloc, job)?;
-    let whole = outcomes_by(alloc, job, &mut workspace, Asked::Simulate)?;
+/// The outcomes of a job, with this workspace.
+fn outcomes_in(alloc: Global, job: &Job, workspace: &mut Workspace) -> Result<Both, AllocError>
+    requires { HasRoom workspace.old job.now }
+{
+    let whole = outcomes_by(alloc, job, workspace, Asked::Simulate)?;
     let evaluations = workspace.gate_evaluations();
-    let first = outcomes_by(alloc, job, &mut workspace, Asked::FirstHit)?;
+    let first = outcomes_by(alloc, job, workspace, Asked::FirstHit)?;
     Ok(Both {
         whole,
         first,
         evaluations,
     })
+}
+
+/// The outcomes of a job.
+fn outcomes_of(alloc: Global, job: &Job) -> Result<Both, AllocError> {
+    let mut workspace = Workspace::new(alloc, job)?;
+    outcomes_in(alloc, job, &mut workspace)
 }
 
 /// Adds a row so many times.
@@ -141,32 +153,38 @@ fn hits_of(outcomes: &[Outcome]) -> usize {
         .count()
 }
 
-/// Checks the evaluations of C17 on 64 blocks: at most 52 a block. On each, 8 classes have a hit.
-fn check_bound<R: Abort>(rt: &R, alloc: Global, job: &Job) -> Result<(), Fail> {
+/// Whether C17 takes few evaluations on 64 blocks: at most 52 a block. On each, 8 classes have a
+/// hit.
+fn is_within_bound(alloc: Global, job: &Job) -> Result<bool, AllocError> {
     let both = outcomes_of(alloc, job)?;
-    assert_eq!(rt; hits_of(&both.whole), 8 * 64);
-    assert!(rt; both.evaluations > 0);
-    assert!(rt; both.evaluations <= 3328);
-    assert!(rt; both.whole.as_slice() == both.first.as_slice());
-    Ok(())
+    Ok(
+        hits_of(&both.whole) == 8 * 64
+            && both.evaluations > 0
+            && both.evaluations <= 3328
+            && both.whole.as_slice() == both.first.as_slice(),
+    )
 }
 
-/// Checks the evaluations of C17 under these tests.
-fn check_bound_under<R: Abort>(rt: &R, alloc: Global, tests: &[u8]) -> Result<(), Fail> {
-    let job = job_of(alloc, Model::StuckAt, C17, tests)?;
-    check_bound(rt, alloc, &job)
+/// The job of C17 with 4096 tests.
+fn job_of_4096_tests(alloc: Global) -> Result<Job, SimFault> {
+    let mut tests = Vec::new(alloc);
+    push_times(&mut tests, b"11111\n", 4096)?;
+    job_of(alloc, Model::StuckAt, C17, tests.as_slice())
+}
+
+/// Whether that job takes few evaluations.
+fn is_c17_within_bound(alloc: Global) -> Result<bool, SimFault> {
+    let job = job_of_4096_tests(alloc)?;
+    Ok(is_within_bound(alloc, &job)?)
 }
 
 #[test]
-fn c17_with_4096_tests_stays_within_the_bound(rt: HostRuntime) -> Result<(), Fail> {
-    let mut tests = Vec::new(rt.alloc());
-    push_times(&mut tests, b"11111\n", 4096)?;
-    check_bound_under(&rt, rt.alloc(), tests.as_slice())
+fn c17_with_4096_tests_stays_within_the_bound(rt: HostRuntime) {
+    assert!(rt; is_c17_within_bound(rt.alloc()) == Ok(true));
 }
 
 /// A circuit with tests: as many rows `0` as `zeros`, and then `tests`. For each fault of the list
 /// the first test that detects it.
-#[derive(Clone, Copy)]
 struct Worked {
     name: &'static str,
     bench: &'static str,
@@ -266,28 +284,27 @@ static WORKED: [Worked; 8] = [
 ];
 
 /// Whether a workspace fits the job of C17.
-fn fits_c17(alloc: Global, workspace: &Workspace) -> Result<bool, Fail> {
+fn fits_c17(alloc: Global, workspace: &Workspace) -> Result<bool, SimFault> {
     let job = job_of(alloc, Model::StuckAt, C17, b"")?;
     Ok(workspace.fits(&job))
 }
 
 /// Whether a workspace of a job fits that of C17.
-fn job_fits_c17(alloc: Global, job: &Job) -> Result<bool, Fail> {
+fn job_fits_c17(alloc: Global, job: &Job) -> Result<bool, SimFault> {
     let workspace = Workspace::new(alloc, job)?;
     fits_c17(alloc, &workspace)
 }
 
 /// Whether a workspace of the job of a circuit fits that of C17.
-fn room_fits_c17(alloc: Global, bench: &[u8]) -> Result<bool, Fail> {
+fn room_fits_c17(alloc: Global, bench: &[u8]) -> Result<bool, SimFault> {
     let job = job_of(alloc, Model::StuckAt, bench, b"")?;
     job_fits_c17(alloc, &job)
 }
 
 #[test]
-fn a_workspace_fits_jobs_of_as_many_signals(rt: HostRuntime) -> Result<(), Fail> {
-    assert!(rt; !room_fits_c17(rt.alloc(), BUFFER.as_bytes())?);
-    assert!(rt; room_fits_c17(rt.alloc(), C17)?);
-    Ok(())
+fn a_workspace_fits_jobs_of_as_many_signals(rt: HostRuntime) {
+    assert!(rt; room_fits_c17(rt.alloc(), BUFFER.as_bytes()) == Ok(false));
+    assert!(rt; room_fits_c17(rt.alloc(), C17) == Ok(true));
 }
 
 /// The first test of a class's first hit, out of the outcomes of all classes and blocks.
@@ -301,41 +318,25 @@ fn first_of(outcomes: &[Outcome], blocks: u32, class: u32) -> Option<u32> {
     None
 }
 
-/// Checks the first test of each fault of a worked circuit.
-fn check_firsts<R: Abort>(rt: &R, worked: &Worked, job: &Job, outcomes: &[Outcome]) {
-    let name = worked.name;
-    assert_eq!(rt;
-        job.faults().count() as usize,
-        worked.firsts.len(),
-        "{name}"
-    );
+/// Whether the outcomes of a job have these first tests of each fault.
+fn are_firsts(job: &Job, outcomes: &[Outcome], firsts: &[Option<u32>]) -> bool {
     for fault in 0..job.faults().count() {
         let class = job.classes().class_of(fault);
         let first = first_of(outcomes, job.tests().blocks(), class);
-        assert_eq!(rt;
-            worked.firsts.get(fault as usize),
-            Some(&first),
-            "{name}, fault {fault}"
-        );
+        if firsts.get(fault as usize) != Some(&first) {
+            return false;
+        }
     }
+    job.faults().count() as usize == firsts.len()
 }
 
-/// Checks the outcomes of a worked circuit.
-fn check_worked<R: Abort>(rt: &R, alloc: Global, worked: &Worked, job: &Job) -> Result<(), Fail> {
+/// Whether a job has these first tests by both calls.
+fn has_firsts(alloc: Global, job: &Job, firsts: &[Option<u32>]) -> Result<bool, AllocError> {
     let both = outcomes_of(alloc, job)?;
-    assert!(rt;
-        both.whole.as_slice() == both.first.as_slice(),
-        "{}",
-        worked.name
-    );
-    check_firsts(rt, worked, job, both.whole.as_slice());
-    Ok(())
-}
-
-/// Checks the outcomes of a worked circuit under these tests.
-fn check_under<R: Abort>(rt: &R, alloc: Global, worked: &Worked, tests: &[u8]) -> Result<(), Fail> {
-    let job = job_of(alloc, worked.model, worked.bench.as_bytes(), tests)?;
-    check_worked(rt, alloc, worked, &job)
+    Ok(
+        both.whole.as_slice() == both.first.as_slice()
+            && are_firsts(job, both.whole.as_slice(), firsts),
+    )
 }
 
 /// Adds the tests of a worked circuit.
@@ -344,12 +345,27 @@ fn push_tests(text: &mut Vec<u8>, worked: &Worked) -> Result<(), AllocError> {
     text.extend_from_slice(worked.tests.as_bytes())
 }
 
+/// The job of a worked circuit.
+fn job_of_worked(alloc: Global, worked: &Worked) -> Result<Job, SimFault> {
+    let mut tests = Vec::new(alloc);
+    push_tests(&mut tests, worked)?;
+    job_of(
+        alloc,
+        worked.model,
+        worked.bench.as_bytes(),
+        tests.as_slice(),
+    )
+}
+
+/// Whether a worked circuit has its first tests.
+fn is_so(alloc: Global, worked: &Worked) -> Result<bool, SimFault> {
+    let job = job_of_worked(alloc, worked)?;
+    Ok(has_firsts(alloc, &job, worked.firsts)?)
+}
+
 #[test]
-fn worked_circuits_have_their_first_tests(rt: HostRuntime) -> Result<(), Fail> {
+fn worked_circuits_have_their_first_tests(rt: HostRuntime) {
     for worked in &WORKED {
-        let mut tests = Vec::new(rt.alloc());
-        push_tests(&mut tests, worked)?;
-        check_under(&rt, rt.alloc(), worked, tests.as_slice())?;
+        check(&rt, is_so(rt.alloc(), worked) == Ok(true), worked.name);
     }
-    Ok(())
 }
