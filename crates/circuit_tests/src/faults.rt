@@ -3,13 +3,22 @@
 ghost use Rattle.std.specs.Prelude.{◌≡◌};
 ghost use Rattle.fault_model.specs.Fault.{faults};
 
-use crate::circuits::push_inverters;
-use bench_net::{Circuit, read_bench};
+use crate::checks::check;
+use crate::circuits::{Chain, chain_text};
+use bench_net::{BenchFault, Circuit, read_bench};
 use fault_model::{Faults, Line, Model, collapse, list_faults, list_faults_in};
 use std::alloc::{AllocError, Global};
-use std::process::Abort;
-use std::test::Fail;
 use worked_circuits::C17;
+
+/// A line by the names of its signals, with pins and outputs from 1: the stem of a signal, a pin of
+/// the gate that drives a signal, the data pin of the cell that drives one, or an output.
+#[derive(Clone, Copy)]
+enum Spot {
+    Stem(&'static str),
+    Pin(&'static str, u64),
+    Data(&'static str),
+    Out(u64),
+}
 
 /// The class of each fault, by the number of the fault, and the fault that stands for each class.
 struct Classes {
@@ -17,13 +26,12 @@ struct Classes {
     representatives: &'static [u32],
 }
 
-/// A bench text, the lines of its circuit with pins and outputs from 1, and the classes under each
-/// model. Line `i` has the faults `2 * i` and `2 * i + 1`: stuck at 0 and at 1, or slow to rise and
-/// slow to fall.
+/// A bench text, the lines of its circuit, and the classes under each model. Line `i` has the
+/// faults `2 * i` and `2 * i + 1`: stuck at 0 and at 1, or slow to rise and slow to fall.
 struct Case {
     name: &'static str,
     text: &'static [u8],
-    lines: &'static [&'static str],
+    lines: &'static [Spot],
     stuck_at: Classes,
     transition: Classes,
 }
@@ -33,23 +41,23 @@ static CASES: [Case; 8] = [
         name: "c17",
         text: C17,
         lines: &[
-            "stem G1",
-            "stem G2",
-            "stem G3",
-            "pin G10 2",
-            "pin G11 1",
-            "stem G6",
-            "stem G7",
-            "stem G10",
-            "stem G11",
-            "pin G16 2",
-            "pin G19 1",
-            "stem G16",
-            "pin G22 2",
-            "pin G23 1",
-            "stem G19",
-            "stem G22",
-            "stem G23",
+            Spot::Stem("G1"),
+            Spot::Stem("G2"),
+            Spot::Stem("G3"),
+            Spot::Pin("G10", 2),
+            Spot::Pin("G11", 1),
+            Spot::Stem("G6"),
+            Spot::Stem("G7"),
+            Spot::Stem("G10"),
+            Spot::Stem("G11"),
+            Spot::Pin("G16", 2),
+            Spot::Pin("G19", 1),
+            Spot::Stem("G16"),
+            Spot::Pin("G22", 2),
+            Spot::Pin("G23", 1),
+            Spot::Stem("G19"),
+            Spot::Stem("G22"),
+            Spot::Stem("G23"),
         ],
         stuck_at: Classes {
             of_faults: &[
@@ -74,7 +82,7 @@ static CASES: [Case; 8] = [
     Case {
         name: "controlling_values_of_an_and",
         text: b"INPUT(a)\nINPUT(b)\nOUTPUT(z)\nz = AND(a, b)\n",
-        lines: &["stem a", "stem b", "stem z"],
+        lines: &[Spot::Stem("a"), Spot::Stem("b"), Spot::Stem("z")],
         stuck_at: Classes {
             of_faults: &[2, 0, 2, 1, 2, 3],
             representatives: &[1, 3, 4, 5],
@@ -87,7 +95,7 @@ static CASES: [Case; 8] = [
     Case {
         name: "any_case_blanks_and_line_ends",
         text: b"input( a )\r\nOutput(z)\r\n\r\nz=buf(a) # x",
-        lines: &["stem a", "stem z"],
+        lines: &[Spot::Stem("a"), Spot::Stem("z")],
         stuck_at: Classes {
             of_faults: &[0, 1, 0, 1],
             representatives: &[2, 3],
@@ -100,7 +108,12 @@ static CASES: [Case; 8] = [
     Case {
         name: "output_makes_a_branch",
         text: b"INPUT(a)\nOUTPUT(a)\nOUTPUT(z)\nz = NOT(a)\n",
-        lines: &["stem a", "pin z 1", "out 1", "stem z"],
+        lines: &[
+            Spot::Stem("a"),
+            Spot::Pin("z", 1),
+            Spot::Out(1),
+            Spot::Stem("z"),
+        ],
         stuck_at: Classes {
             of_faults: &[0, 1, 5, 4, 2, 3, 4, 5],
             representatives: &[0, 1, 4, 5, 6, 7],
@@ -113,7 +126,12 @@ static CASES: [Case; 8] = [
     Case {
         name: "xor_of_one_signal_twice",
         text: b"INPUT(a)\nOUTPUT(z)\nz = XOR(a, a)\n",
-        lines: &["stem a", "pin z 1", "pin z 2", "stem z"],
+        lines: &[
+            Spot::Stem("a"),
+            Spot::Pin("z", 1),
+            Spot::Pin("z", 2),
+            Spot::Stem("z"),
+        ],
         stuck_at: Classes {
             of_faults: &[0, 1, 2, 3, 4, 5, 6, 7],
             representatives: &[0, 1, 2, 3, 4, 5, 6, 7],
@@ -126,7 +144,13 @@ static CASES: [Case; 8] = [
     Case {
         name: "scan_cell_observes_and_drives",
         text: b"INPUT(a)\nOUTPUT(y)\nq = DFF(y)\ny = AND(a, q)\n",
-        lines: &["stem a", "stem q", "stem y", "data q", "out 1"],
+        lines: &[
+            Spot::Stem("a"),
+            Spot::Stem("q"),
+            Spot::Stem("y"),
+            Spot::Data("q"),
+            Spot::Out(1),
+        ],
         stuck_at: Classes {
             of_faults: &[2, 0, 2, 1, 2, 3, 4, 5, 6, 7],
             representatives: &[1, 3, 4, 5, 6, 7, 8, 9],
@@ -139,7 +163,7 @@ static CASES: [Case; 8] = [
     Case {
         name: "flip_flop_of_itself",
         text: b"z = DFF(z)\n",
-        lines: &["stem z"],
+        lines: &[Spot::Stem("z")],
         stuck_at: Classes {
             of_faults: &[0, 1],
             representatives: &[0, 1],
@@ -164,9 +188,30 @@ static CASES: [Case; 8] = [
             j = BUFF(b)\n\
             ",
         lines: &[
-            "stem a", "pin c 1", "pin d 1", "pin e 1", "pin f 1", "pin g 1", "pin h 1", "pin i 1",
-            "stem b", "pin c 2", "pin d 2", "pin e 2", "pin f 2", "pin g 2", "pin h 2", "pin j 1",
-            "stem c", "stem d", "stem e", "stem f", "stem g", "stem h", "stem i", "stem j",
+            Spot::Stem("a"),
+            Spot::Pin("c", 1),
+            Spot::Pin("d", 1),
+            Spot::Pin("e", 1),
+            Spot::Pin("f", 1),
+            Spot::Pin("g", 1),
+            Spot::Pin("h", 1),
+            Spot::Pin("i", 1),
+            Spot::Stem("b"),
+            Spot::Pin("c", 2),
+            Spot::Pin("d", 2),
+            Spot::Pin("e", 2),
+            Spot::Pin("f", 2),
+            Spot::Pin("g", 2),
+            Spot::Pin("h", 2),
+            Spot::Pin("j", 1),
+            Spot::Stem("c"),
+            Spot::Stem("d"),
+            Spot::Stem("e"),
+            Spot::Stem("f"),
+            Spot::Stem("g"),
+            Spot::Stem("h"),
+            Spot::Stem("i"),
+            Spot::Stem("j"),
         ],
         stuck_at: Classes {
             of_faults: &[
@@ -193,155 +238,150 @@ static CASES: [Case; 8] = [
     },
 ];
 
-/// The name of a signal.
-fn signal_name<'a>(rt: &impl Abort, circuit: &'a Circuit, signal: u32) -> &'a str {
-    assert!(rt; signal < circuit.signals());
-    circuit.name_of(signal)
+/// Whether a signal has this name.
+fn is_named(circuit: &Circuit, signal: u32, name: &str) -> bool {
+    signal < circuit.signals() && circuit.name_of(signal) == name
 }
 
-/// The name of the signal that a cell drives.
-fn cell_name<'a>(rt: &impl Abort, circuit: &'a Circuit, cell: u32) -> &'a str {
-    let cells = circuit.scan_cells();
-    assert!(rt; (cell as usize) < cells.len());
-    signal_name(rt, circuit, cells[cell as usize].q)
+/// Whether a cell drives the signal of this name.
+fn drives(circuit: &Circuit, cell: u32, name: &str) -> bool {
+    match circuit.scan_cells().get(cell as usize) {
+        Some(cell) => is_named(circuit, cell.q, name),
+        None => false,
+    }
 }
 
-/// A line as a listing writes it, with pins and outputs from 1.
-fn line_words(
-    rt: &impl Abort,
-    alloc: Global,
-    circuit: &Circuit,
-    line: Line,
-) -> Result<String, AllocError> {
-    match line {
-        Line::Stem(signal) => format!(in alloc; "stem {}", signal_name(rt, circuit, signal)),
-        Line::Pin { gate, pin } => {
-            let name = signal_name(rt, circuit, gate);
-            format!(in alloc; "pin {name} {}", u64::from(pin) + 1)
+/// Whether a line is the one that is meant.
+fn is_at(circuit: &Circuit, line: Line, spot: Spot) -> bool {
+    match (line, spot) {
+        (Line::Stem(signal), Spot::Stem(name)) => is_named(circuit, signal, name),
+        (Line::Pin { gate, pin }, Spot::Pin(name, place)) => {
+            u64::from(pin) + 1 == place && is_named(circuit, gate, name)
         }
-        Line::Data { cell } => format!(in alloc; "data {}", cell_name(rt, circuit, cell)),
-        Line::Out { output } => format!(in alloc; "out {}", u64::from(output) + 1),
+        (Line::Data { cell }, Spot::Data(name)) => drives(circuit, cell, name),
+        (Line::Out { output }, Spot::Out(place)) => u64::from(output) + 1 == place,
+        _ => false,
     }
 }
 
-/// The fault list has the two faults of each of these lines.
-fn check_list(
-    rt: &impl Abort,
-    alloc: Global,
-    circuit: &Circuit,
-    faults: &Faults,
-    case: &Case,
-) -> Result<(), AllocError> {
-    assert_eq!(rt;
-        faults.count() as usize,
-        2 * case.lines.len(),
-        "{}",
-        case.name
-    );
+/// Whether the fault list has the two faults of each of these lines.
+fn has_lines(circuit: &Circuit, faults: &Faults, lines: &[Spot]) -> bool {
     for fault in 0..faults.count() {
-        let words = line_words(rt, alloc, circuit, faults.line_of(fault))?;
-        let line = (fault / 2) as usize;
-        assert!(rt; line < case.lines.len());
-        assert_eq!(rt; words.as_str(), case.lines[line], "{}", case.name);
-        assert_eq!(rt; faults.stuck_of(fault), fault % 2 == 1, "{}", case.name);
+        let Some(spot) = lines.get((fault / 2) as usize) else {
+            return false;
+        };
+        if faults.stuck_of(fault) != (fault % 2 == 1)
+            || !is_at(circuit, faults.line_of(fault), *spot)
+        {
+            return false;
+        }
     }
-    Ok(())
+    faults.count() as usize == 2 * lines.len()
 }
 
-/// The classes have these representatives.
-fn check_representatives(
-    rt: &impl Abort,
-    classes: &fault_model::Classes,
-    want: &Classes,
-    name: &str,
-) {
-    assert_eq!(rt;
-        classes.count() as usize,
-        want.representatives.len(),
-        "{name}"
-    );
+/// Whether the classes have these representatives.
+fn are_represented(classes: &fault_model::Classes, representatives: &[u32]) -> bool {
     for class in 0..classes.count() {
-        let fault = classes.representative(class);
-        assert_eq!(rt;
-            Some(&fault),
-            want.representatives.get(class as usize),
-            "{name}"
-        );
+        if representatives.get(class as usize) != Some(&classes.representative(class)) {
+            return false;
+        }
     }
+    classes.count() as usize == representatives.len()
 }
 
-/// The faults of the list are in these classes.
-fn check_classes(
-    rt: &impl Abort,
+/// Whether a list of faults has these classes.
+fn has_classes(
     alloc: Global,
     circuit: &Circuit,
     list: &Faults,
     want: &Classes,
-    name: &str,
-) -> Result<(), AllocError>
+) -> Result<bool, AllocError>
     requires { list.now.list ≡ faults list.now.model circuit.now }
 {
     let classes = collapse(alloc, circuit, list)?;
-    assert_eq!(rt; list.count() as usize, want.of_faults.len(), "{name}");
     for fault in 0..list.count() {
-        let class = classes.class_of(fault);
-        assert_eq!(rt; Some(&class), want.of_faults.get(fault as usize), "{name}");
+        if want.of_faults.get(fault as usize) != Some(&classes.class_of(fault)) {
+            return Ok(false);
+        }
     }
-    check_representatives(rt, &classes, want, name);
-    Ok(())
+    Ok(
+        list.count() as usize == want.of_faults.len()
+            && are_represented(&classes, want.representatives),
+    )
 }
 
-/// The circuit has the lines of this case under the model, and its faults are in these classes.
-fn check_model(
-    rt: &impl Abort,
+/// Whether the circuit has the lines of this case under the model, and these classes of faults.
+fn is_under(
     alloc: Global,
     circuit: &Circuit,
     case: &Case,
     model: Model,
     want: &Classes,
-) -> Result<(), AllocError> {
+) -> Result<bool, AllocError> {
     let faults = list_faults_in(alloc, circuit, model)?;
-    assert_eq!(rt; faults.model(), model);
-    check_list(rt, alloc, circuit, &faults, case)?;
-    check_classes(rt, alloc, circuit, &faults, want, case.name)
+    let is_listed = faults.model() == model && has_lines(circuit, &faults, case.lines);
+    Ok(has_classes(alloc, circuit, &faults, want)? && is_listed)
 }
 
-/// The faults of the case under all models are in its classes.
-fn check_case(rt: &impl Abort, alloc: Global, case: &Case) -> Result<(), Fail> {
+/// Whether a circuit has the lines and classes of this case under all models.
+fn is_under_all(alloc: Global, circuit: &Circuit, case: &Case) -> Result<bool, AllocError> {
+    Ok(
+        is_under(alloc, circuit, case, Model::StuckAt, &case.stuck_at)?
+            && is_under(alloc, circuit, case, Model::Transition, &case.transition)?
+            && is_under(
+                alloc,
+                circuit,
+                case,
+                Model::TransitionPairs,
+                &case.transition,
+            )?,
+    )
+}
+
+/// Whether the circuit of the case's text has the lines and classes of the case.
+fn is_so(alloc: Global, case: &Case) -> Result<bool, BenchFault> {
     let circuit = read_bench(alloc, case.text)?;
-    check_model(rt, alloc, &circuit, case, Model::StuckAt, &case.stuck_at)?;
-    for model in [Model::Transition, Model::TransitionPairs] {
-        check_model(rt, alloc, &circuit, case, model, &case.transition)?;
-    }
-    Ok(())
+    Ok(is_under_all(alloc, &circuit, case)?)
 }
 
 #[test]
-fn classes_of_circuits(rt: HostRuntime) -> Result<(), Fail> {
+fn classes_of_circuits(rt: HostRuntime) {
     for case in &CASES {
-        check_case(&rt, rt.alloc(), case)?;
+        check(&rt, is_so(rt.alloc(), case) == Ok(true), case.name);
     }
-    Ok(())
 }
 
-/// All faults of a chain of 20,000 inverters are in two classes.
-fn check_chain(rt: &impl Abort, alloc: Global, circuit: &Circuit) -> Result<(), AllocError> {
+/// A chain of 20,000 inverters, which drives an output.
+static CHAIN: Chain = Chain {
+    first: "INPUT(n0)\nOUTPUT(n20000)\n",
+    is_backward: false,
+    last: "",
+};
+
+/// The model of a circuit's faults, their number and that of their classes.
+fn faults_and_classes(alloc: Global, circuit: &Circuit) -> Result<(Model, u32, u32), AllocError> {
     let faults = list_faults(alloc, circuit)?;
     let classes = collapse(alloc, circuit, &faults)?;
-    assert_eq!(rt; faults.model(), Model::StuckAt);
-    assert_eq!(rt; (faults.count(), classes.count()), (40_002, 2));
-    Ok(())
+    Ok((faults.model(), faults.count(), classes.count()))
 }
 
-/// The same of the circuit of this text.
-fn check_chain_of(rt: &impl Abort, alloc: Global, text: &str) -> Result<(), Fail> {
+/// The same of the circuit of a text.
+fn faults_and_classes_of(alloc: Global, text: &str) -> Result<(Model, u32, u32), BenchFault> {
     let circuit = read_bench(alloc, text.as_bytes())?;
-    Ok(check_chain(rt, alloc, &circuit)?)
+    Ok(faults_and_classes(alloc, &circuit)?)
+}
+
+/// The same of the circuit of a chain.
+fn faults_and_classes_of_chain(
+    alloc: Global,
+    chain: &Chain,
+) -> Result<(Model, u32, u32), BenchFault> {
+    let text = chain_text(alloc, chain)?;
+    faults_and_classes_of(alloc, text.as_str())
 }
 
 #[test]
-fn long_chain_of_inverters(rt: HostRuntime) -> Result<(), Fail> {
-    let mut text = String::from_str(rt.alloc(), "INPUT(n0)\nOUTPUT(n20000)\n")?;
-    push_inverters(&mut text, 20_000)?;
-    check_chain_of(&rt, rt.alloc(), text.as_str())
+fn long_chain_of_inverters(rt: HostRuntime) {
+    let found = faults_and_classes_of_chain(rt.alloc(), &CHAIN);
+    assert!(rt; found == Ok((Model::StuckAt, 40_002, 2)));
 }

@@ -1,9 +1,8 @@
 //! Tests that are made of words and of bits, what is refused, and the text that is written of them.
 
-use patterns::{MAX_TESTS, PushFault, Tests, WordsFault, read_tests, write_tests};
-use std::alloc::Global;
-use std::process::Abort;
-use std::test::Fail;
+use crate::checks::{check, is_said};
+use patterns::{MAX_TESTS, PushFault, TestFault, Tests, WordsFault, read_tests, write_tests};
+use std::alloc::{AllocError, Global};
 
 /// Words, with the number of sources and that of tests, and the text of the tests.
 struct Case {
@@ -55,88 +54,133 @@ static REFUSED: [(u32, u32, &[u64], WordsFault); 6] = [
     (3, 2, &[0, 0b100, 0b1100], WordsFault::IdleBits(1)),
 ];
 
-/// Checks that a text is that of a case, and is read as the tests that it was written of.
-fn check_text(rt: &impl Abort, alloc: Global, text: &[u8], case: &Case) -> Result<(), Fail> {
-    assert!(rt; text == case.text.as_bytes(), "{}", case.name);
-    assert!(rt; case.width >= 1);
-    let tests = read_tests(alloc, text, case.width)?;
-    assert_eq!(rt; tests.count(), case.count, "{}", case.name);
-    Ok(())
+/// Faults of words, each with its words.
+static WORDS: [(WordsFault, &str); 3] = [
+    (
+        WordsFault::IdleBits(4),
+        "source 4: a bit past the last of the tests",
+    ),
+    (WordsFault::BadCount, "wrong number of words"),
+    (WordsFault::TooMany, "more than 65536 tests"),
+];
+
+/// Whether tests are written as this text.
+fn are_written(alloc: Global, tests: &Tests, text: &str) -> Result<bool, AllocError> {
+    let written = write_tests(alloc, tests)?;
+    Ok(written.as_slice() == text.as_bytes())
 }
 
-#[test]
-fn tests_of_words(rt: HostRuntime) -> Result<(), Fail> {
-    for case in &CASES {
-        let tests = Tests::from_words(rt.alloc(), case.width, case.count, case.words)?;
-        let text = write_tests(rt.alloc(), &tests)?;
-        check_text(&rt, rt.alloc(), text.as_slice(), case)?;
+/// Whether the words of a case make tests that are written as its text.
+fn is_made(alloc: Global, case: &Case) -> Result<bool, WordsFault> {
+    let tests = Tests::from_words(alloc, case.width, case.count, case.words)?;
+    Ok(are_written(alloc, &tests, case.text)?)
+}
+
+/// Whether the text of a case is read as so many tests.
+fn is_read(alloc: Global, case: &Case) -> Result<bool, TestFault> {
+    if case.width < 1 {
+        return Ok(false);
     }
-    Ok(())
+    let tests = read_tests(alloc, case.text.as_bytes(), case.width)?;
+    Ok(tests.count() == case.count)
 }
 
 #[test]
-fn words_across_blocks(rt: HostRuntime) -> Result<(), Fail> {
-    let tests = Tests::from_words(rt.alloc(), 1, 65, &[1 << 63, 1])?;
-    assert!(rt; tests.count() == 65 && tests.width() == 1);
-    assert!(rt; !tests.bit(62, 0) && tests.bit(63, 0) && tests.bit(64, 0));
-    Ok(())
+fn tests_of_words(rt: HostRuntime) {
+    for case in &CASES {
+        check(&rt, is_made(rt.alloc(), case) == Ok(true), case.name);
+        check(&rt, is_read(rt.alloc(), case) == Ok(true), case.name);
+    }
+}
+
+/// Whether the last two of 65 tests are the first ones with a 1.
+fn are_across_blocks(alloc: Global) -> Result<bool, WordsFault> {
+    let tests = Tests::from_words(alloc, 1, 65, &[1 << 63, 1])?;
+    Ok(
+        tests.count() == 65
+            && tests.width() == 1
+            && !tests.bit(62, 0)
+            && tests.bit(63, 0)
+            && tests.bit(64, 0),
+    )
 }
 
 #[test]
-fn refused_words(rt: HostRuntime) -> Result<(), Fail> {
+fn words_across_blocks(rt: HostRuntime) {
+    assert!(rt; are_across_blocks(rt.alloc()) == Ok(true));
+}
+
+#[test]
+fn refused_words(rt: HostRuntime) {
     for (width, count, words, fault) in &REFUSED {
         let refused = Tests::from_words(rt.alloc(), *width, *count, words).err();
-        assert_eq!(rt; refused, Some(*fault));
+        assert!(rt; refused == Some(*fault));
     }
-    Ok(())
 }
 
-/// Checks the text of some tests.
-fn check_written(rt: &impl Abort, alloc: Global, tests: &Tests, text: &str) -> Result<(), Fail> {
-    let written = write_tests(alloc, tests)?;
-    assert!(rt; written.as_slice() == text.as_bytes());
-    Ok(())
+/// Adds two tests of two sources and one of one, and gives its refusal.
+fn push_bits(alloc: Global, tests: &mut Tests) -> Result<Option<PushFault>, PushFault> {
+    tests.push(alloc, &[true, false])?;
+    tests.push(alloc, &[false, false])?;
+    Ok(tests.push(alloc, &[true]).err())
 }
 
-#[test]
-fn tests_of_bits(rt: HostRuntime) -> Result<(), Fail> {
-    let mut tests = Tests::new(rt.alloc(), 2);
-    tests.push(rt.alloc(), &[true, false])?;
-    tests.push(rt.alloc(), &[false, false])?;
-    let refused = tests.push(rt.alloc(), &[true]).err();
-    assert_eq!(rt; refused, Some(PushFault::BadWidth));
-    check_written(&rt, rt.alloc(), &tests, "10\n00\n")
+/// Whether the test of one source is refused, and the two others are written.
+fn are_bits(alloc: Global) -> Result<bool, PushFault> {
+    let mut tests = Tests::new(alloc, 2);
+    let refused = push_bits(alloc, &mut tests)?;
+    Ok(refused == Some(PushFault::BadWidth) && are_written(alloc, &tests, "10\n00\n")?)
 }
 
 #[test]
-fn a_test_past_the_limit(rt: HostRuntime) -> Result<(), Fail> {
-    let mut tests = Tests::from_words(rt.alloc(), 0, MAX_TESTS - 1, &[])?;
-    tests.push(rt.alloc(), &[])?;
-    let refused = tests.push(rt.alloc(), &[true]).err();
-    assert_eq!(rt; refused, Some(PushFault::TooMany));
-    assert_eq!(rt; tests.count(), MAX_TESTS);
-    Ok(())
+fn tests_of_bits(rt: HostRuntime) {
+    assert!(rt; are_bits(rt.alloc()) == Ok(true));
+}
+
+/// Adds a test of no sources and one of one, and gives its refusal.
+fn push_two(alloc: Global, tests: &mut Tests) -> Result<Option<PushFault>, PushFault> {
+    tests.push(alloc, &[])?;
+    Ok(tests.push(alloc, &[true]).err())
+}
+
+/// Whether the last test that there is room for is added, and no more.
+fn is_full(alloc: Global) -> Result<bool, WordsFault> {
+    let mut tests = Tests::from_words(alloc, 0, MAX_TESTS - 1, &[])?;
+    let refused = push_two(alloc, &mut tests);
+    Ok(refused == Ok(Some(PushFault::TooMany)) && tests.count() == MAX_TESTS)
 }
 
 #[test]
-fn a_row_of_a_test(rt: HostRuntime) -> Result<(), Fail> {
-    let tests = Tests::from_words(rt.alloc(), 2, 3, &[0b101, 0b110])?;
-    let mut text = Vec::from_slice(rt.alloc(), b"# kept\n")?;
-    assert!(rt; tests.count() == 3);
+fn a_test_past_the_limit(rt: HostRuntime) {
+    assert!(rt; is_full(rt.alloc()) == Ok(true));
+}
+
+/// Whether the second of three tests is written behind a text.
+fn is_written_behind(alloc: Global, tests: &Tests) -> Result<bool, AllocError> {
+    if tests.count() != 3 {
+        return Ok(false);
+    }
+    let mut text = Vec::from_slice(alloc, b"# kept\n")?;
     tests.push_row(1, &mut text)?;
-    assert!(rt; text.as_slice() == b"# kept\n01\n".as_slice());
-    Ok(())
+    Ok(text.as_slice() == b"# kept\n01\n".as_slice())
+}
+
+/// Whether that is so of the tests `10`, `01` and `11`.
+fn is_row_written(alloc: Global) -> Result<bool, WordsFault> {
+    let tests = Tests::from_words(alloc, 2, 3, &[0b101, 0b110])?;
+    Ok(is_written_behind(alloc, &tests)?)
 }
 
 #[test]
-fn words_of_faults(rt: HostRuntime) -> Result<(), Fail> {
-    let idle = format!(in rt.alloc(); "{}", WordsFault::IdleBits(4))?;
-    assert_eq!(rt; idle.as_str(), "source 4: a bit past the last of the tests");
-    let count = format!(in rt.alloc(); "{}", WordsFault::BadCount)?;
-    assert_eq!(rt; count.as_str(), "wrong number of words");
-    let many = format!(in rt.alloc(); "{}", WordsFault::TooMany)?;
-    assert_eq!(rt; many.as_str(), "more than 65536 tests");
-    let width = format!(in rt.alloc(); "{}", PushFault::BadWidth)?;
-    assert_eq!(rt; width.as_str(), "wrong width");
-    Ok(())
+fn a_row_of_a_test(rt: HostRuntime) {
+    assert!(rt; is_row_written(rt.alloc()) == Ok(true));
+}
+
+#[test]
+fn words_of_faults(rt: HostRuntime) {
+    for (fault, words) in &WORDS {
+        check(&rt, is_said(rt.alloc(), fault, words) == Ok(true), words);
+    }
+    let width = is_said(rt.alloc(), &PushFault::BadWidth, "wrong width");
+    assert!(rt; width == Ok(true));
 }

@@ -1,9 +1,9 @@
 //! Bench texts that are refused, each with its fault.
 
+use crate::checks::{check, is_said};
 use bench_net::{BenchFault, Limit, read_bench};
 use refused_texts::BENCH_TEXTS;
 use std::alloc::{AllocError, Global};
-use std::test::Fail;
 use worked_circuits::C17;
 
 /// The refusal of a text, or none where it is accepted.
@@ -13,19 +13,17 @@ fn refusal(alloc: Global, text: &[u8]) -> Option<BenchFault> {
 
 /// Whether a text is refused in these words.
 fn is_refused(alloc: Global, text: &[u8], words: &str) -> Result<bool, AllocError> {
-    let Some(fault) = refusal(alloc, text) else {
-        return Ok(false);
-    };
-    let said = format!(in alloc; "{fault}")?;
-    Ok(said.as_str() == words)
+    match refusal(alloc, text) {
+        Some(fault) => is_said(alloc, &fault, words),
+        None => Ok(false),
+    }
 }
 
 #[test]
-fn faulty_texts_are_refused_in_their_words(rt: HostRuntime) -> Result<(), Fail> {
+fn faulty_texts_are_refused_in_their_words(rt: HostRuntime) {
     for (text, words) in &BENCH_TEXTS {
-        assert!(rt; is_refused(rt.alloc(), text, words)?, "{words}");
+        check(&rt, is_refused(rt.alloc(), text, words) == Ok(true), words);
     }
-    Ok(())
 }
 
 /// What a beginning of c17 is refused with: each of its 13 lines ends with its one `)`.
@@ -47,7 +45,7 @@ fn c17_cut_short_is_read_or_refused_by_name(rt: HostRuntime) {
     for end in 0..=C17.len() {
         let text = &C17[..end];
         let want = refusal_of_beginning(text);
-        assert_eq!(rt; refusal(rt.alloc(), text), want, "the first {end} bytes");
+        assert!(rt; refusal(rt.alloc(), text) == want, "the first {end} bytes");
     }
 }
 
@@ -94,14 +92,18 @@ fn spelled(alloc: Global, long: &Long) -> Result<String, AllocError> {
     Ok(text)
 }
 
+/// The refusal of one that is long.
+fn refusal_of(alloc: Global, long: &Long) -> Result<Option<BenchFault>, AllocError> {
+    let text = spelled(alloc, long)?;
+    Ok(refusal(alloc, text.as_bytes()))
+}
+
 #[test]
-fn limits_go_before_what_the_lines_say(rt: HostRuntime) -> Result<(), Fail> {
+fn limits_go_before_what_the_lines_say(rt: HostRuntime) {
     for long in &LONGS {
-        let text = spelled(rt.alloc(), long)?;
-        let refused = refusal(rt.alloc(), text.as_bytes());
-        assert_eq!(rt; refused, Some(BenchFault::TooLarge(long.limit)));
+        let refused = refusal_of(rt.alloc(), long);
+        assert!(rt; refused == Ok(Some(BenchFault::TooLarge(long.limit))));
     }
-    Ok(())
 }
 
 /// Each kind of fault, and its words.
@@ -130,10 +132,8 @@ static WORDS: [(BenchFault, &str); 9] = [
 ];
 
 #[test]
-fn words_of_faults(rt: HostRuntime) -> Result<(), Fail> {
+fn words_of_faults(rt: HostRuntime) {
     for (fault, words) in &WORDS {
-        let said = format!(in rt.alloc(); "{fault}")?;
-        assert_eq!(rt; said.as_str(), *words);
+        check(&rt, is_said(rt.alloc(), fault, words) == Ok(true), words);
     }
-    Ok(())
 }

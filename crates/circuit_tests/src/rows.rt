@@ -1,10 +1,9 @@
 //! Test texts: the tests that are read, in words of 64, and the texts that are refused.
 
+use crate::checks::{check, is_said};
 use patterns::{TestFault, Tests, read_tests};
 use refused_texts::TEST_TEXTS;
 use std::alloc::{AllocError, Global};
-use std::process::Abort;
-use std::test::Fail;
 
 /// So many lines that are the same, and what stands behind them.
 struct Text {
@@ -144,6 +143,14 @@ static LONG_REFUSED: [(Text, u32, TestFault); 3] = [
     ),
 ];
 
+/// Each kind of fault, and its words.
+static WORDS: [(TestFault, &str); 4] = [
+    (TestFault::BadByte(3), "tests line 3: not 0 or 1"),
+    (TestFault::BadWidth(12), "tests line 12: wrong width"),
+    (TestFault::TooMany, "tests: more than 65536 rows"),
+    (TestFault::Memory, "out of memory"),
+];
+
 /// The bytes of a text.
 fn text_of(alloc: Global, text: &Text) -> Result<String, AllocError> {
     let mut words = String::new(alloc);
@@ -155,108 +162,107 @@ fn text_of(alloc: Global, text: &Text) -> Result<String, AllocError> {
     Ok(words)
 }
 
-/// The tests have these sizes of blocks.
-fn check_sizes(rt: &impl Abort, tests: &Tests, case: &Case) {
-    for (block, size) in case.sizes {
-        assert!(rt; *block < tests.blocks());
-        assert_eq!(rt; tests.size_of(*block), *size, "{}", case.name);
+/// Whether the tests have these sizes of blocks.
+fn has_sizes(tests: &Tests, sizes: &[(u32, u32)]) -> bool {
+    for (block, size) in sizes {
+        if *block >= tests.blocks() || tests.size_of(*block) != *size {
+            return false;
+        }
     }
+    true
 }
 
-/// The tests have these words.
-fn check_words(rt: &impl Abort, tests: &Tests, case: &Case) {
-    for (block, source, word) in case.words {
-        assert!(rt; *block < tests.blocks() && *source < tests.width());
-        assert_eq!(rt; tests.word(*block, *source), *word, "{}", case.name);
+/// Whether the tests have these words.
+fn has_words(tests: &Tests, words: &[(u32, u32, u64)]) -> bool {
+    for (block, source, word) in words {
+        if *block >= tests.blocks()
+            || *source >= tests.width()
+            || tests.word(*block, *source) != *word
+        {
+            return false;
+        }
     }
+    true
 }
 
-/// The tests have these bits.
-fn check_bits(rt: &impl Abort, tests: &Tests, case: &Case) {
-    for (test, source, bit) in case.bits {
-        assert!(rt; *test < tests.count() && *source < tests.width());
-        assert_eq!(rt; tests.bit(*test, *source), *bit, "{}", case.name);
+/// Whether the tests have these bits.
+fn has_bits(tests: &Tests, bits: &[(u32, u32, bool)]) -> bool {
+    for (test, source, bit) in bits {
+        if *test >= tests.count() || *source >= tests.width() || tests.bit(*test, *source) != *bit {
+            return false;
+        }
     }
+    true
 }
 
-/// The text is read as the tests of this case.
-fn check_text(rt: &impl Abort, alloc: Global, text: &str, case: &Case) -> Result<(), Fail> {
-    assert!(rt; case.width >= 1);
+/// Whether a text is read as the tests of this case.
+fn is_read(alloc: Global, text: &str, case: &Case) -> Result<bool, TestFault> {
+    if case.width < 1 {
+        return Ok(false);
+    }
     let tests = read_tests(alloc, text.as_bytes(), case.width)?;
-    let counts = (tests.count(), tests.blocks());
-    assert_eq!(rt;
-        (tests.width(), counts),
-        (case.width, case.counts),
-        "{}",
-        case.name
-    );
-    check_sizes(rt, &tests, case);
-    check_words(rt, &tests, case);
-    check_bits(rt, &tests, case);
-    Ok(())
+    Ok(
+        tests.width() == case.width
+            && (tests.count(), tests.blocks()) == case.counts
+            && has_sizes(&tests, case.sizes)
+            && has_words(&tests, case.words)
+            && has_bits(&tests, case.bits),
+    )
+}
+
+/// Whether the text of a case is read as its tests.
+fn is_so(alloc: Global, case: &Case) -> Result<bool, TestFault> {
+    let text = text_of(alloc, &case.text)?;
+    is_read(alloc, text.as_str(), case)
 }
 
 #[test]
-fn tests_of_texts(rt: HostRuntime) -> Result<(), Fail> {
+fn tests_of_texts(rt: HostRuntime) {
     for case in &CASES {
-        let text = text_of(rt.alloc(), &case.text)?;
-        check_text(&rt, rt.alloc(), &text, case)?;
+        check(&rt, is_so(rt.alloc(), case) == Ok(true), case.name);
     }
-    Ok(())
 }
 
-/// How a text is refused.
-fn refusal(rt: &impl Abort, alloc: Global, text: &[u8], width: u32) -> Option<TestFault> {
-    assert!(rt; width >= 1);
+/// How a text of tests of this width, at least 1, is refused.
+fn refusal(alloc: Global, text: &[u8], width: u32) -> Option<TestFault> {
+    if width < 1 {
+        return None;
+    }
     read_tests(alloc, text, width).err()
 }
 
+/// How a long text is refused.
+fn refusal_of(alloc: Global, text: &Text, width: u32) -> Result<Option<TestFault>, AllocError> {
+    let text = text_of(alloc, text)?;
+    Ok(refusal(alloc, text.as_bytes(), width))
+}
+
 #[test]
-fn long_texts_are_refused(rt: HostRuntime) -> Result<(), Fail> {
+fn long_texts_are_refused(rt: HostRuntime) {
     for (text, width, fault) in &LONG_REFUSED {
-        let text = text_of(rt.alloc(), text)?;
-        let refused = refusal(&rt, rt.alloc(), text.as_bytes(), *width);
-        assert_eq!(rt; refused, Some(*fault));
+        assert!(rt; refusal_of(rt.alloc(), text, *width) == Ok(Some(*fault)));
     }
-    Ok(())
 }
 
 /// Whether a text of tests of this width is refused in these words.
-fn is_refused(
-    rt: &impl Abort,
-    alloc: Global,
-    text: &[u8],
-    width: u32,
-    words: &str,
-) -> Result<bool, AllocError> {
-    let Some(fault) = refusal(rt, alloc, text, width) else {
-        return Ok(false);
-    };
-    let said = format!(in alloc; "{fault}")?;
-    Ok(said.as_str() == words)
+fn is_refused(alloc: Global, text: &[u8], width: u32, words: &str) -> Result<bool, AllocError> {
+    match refusal(alloc, text, width) {
+        Some(fault) => is_said(alloc, &fault, words),
+        None => Ok(false),
+    }
 }
 
 #[test]
-fn faulty_texts_are_refused_in_their_words(rt: HostRuntime) -> Result<(), Fail> {
+fn faulty_texts_are_refused_in_their_words(rt: HostRuntime) {
     for (text, width, words) in &TEST_TEXTS {
-        assert!(rt;
-            is_refused(&rt, rt.alloc(), text, *width, words)?,
-            "{words}"
-        );
+        let refused = is_refused(rt.alloc(), text, *width, words);
+        check(&rt, refused == Ok(true), words);
     }
-    Ok(())
 }
 
 #[test]
-fn words_of_test_faults(rt: HostRuntime) -> Result<(), Fail> {
-    for (fault, words) in [
-        (TestFault::BadByte(3), "tests line 3: not 0 or 1"),
-        (TestFault::BadWidth(12), "tests line 12: wrong width"),
-        (TestFault::TooMany, "tests: more than 65536 rows"),
-        (TestFault::Memory, "out of memory"),
-    ] {
-        let said = format!(in rt.alloc(); "{fault}")?;
-        assert_eq!(rt; said.as_str(), words);
+fn words_of_test_faults(rt: HostRuntime) {
+    for (fault, words) in &WORDS {
+        check(&rt, is_said(rt.alloc(), fault, words) == Ok(true), words);
     }
-    Ok(())
 }
