@@ -43,7 +43,10 @@ fn are_together<R: Threads + Wait>(
 fn are_of_part(verdicts: &[PartVerdict], firsts: &[Option<u32>], part: u32, parts: u32) -> bool
     requires { part < parts }
 {
-    for (fault, (stem, first)) in C17_STEMS.iter().zip(firsts).enumerate() {
+    for fault in 0..verdicts.len() {
+        let (Some(stem), Some(first)) = (C17_STEMS.get(fault), firsts.get(fault)) else {
+            return false;
+        };
         let expected = if *stem % parts == part {
             PartVerdict::First(*first)
         } else {

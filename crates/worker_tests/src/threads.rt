@@ -133,8 +133,8 @@ fn is_lowest_named<R: Threads + Wait>(rt: &R, alloc: Global, job: &Job) -> bool 
     true
 }
 
-/// Whether a run ends well whose gate is shut for a piece behind a hit, and then one of the same job
-/// whose gate is open.
+/// Whether a run ends well whose gate is shut for a piece behind a hit, and then one of the same
+/// job whose gate is open.
 fn may_stay_open<R: Threads + Wait>(rt: &R, alloc: Global, job: &Job) -> Result<bool, RunFault> {
     let gate = ShutFor { class: 1, block: 1 };
     Ok(
@@ -160,8 +160,8 @@ fn is_run_by_meeting<R: Threads + Wait + Clock + Sync>(
     }
 }
 
-/// A run whose gate holds the four workers until all have come: each has a thread of its own, and is
-/// asked for by its own number.
+/// A run whose gate holds the four workers until all have come: each has a thread of its own, and
+/// is asked for by its own number.
 fn is_run_by_roll<R: Threads + Wait + Clock + Sync>(
     rt: &R,
     alloc: Global,
