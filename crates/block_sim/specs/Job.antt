@@ -3,9 +3,11 @@ use Rattle.std.specs.Prelude.{◌≡◌, ℕ, ◌<◌, All, List, length, Some, 
 use Rattle.bench_net.specs.Statement.{Statement}
 use Rattle.bench_net.specs.Scan.{names}
 use Rattle.fault_model.specs.Solution.{Test}
+use Rattle.block_sim.specs.Origins.{HaveOrigins}
 use Rattle.block_sim.specs.Parts.{Parts, BelongTogether}
 use Rattle.block_sim.specs.Regions.{HaveStems}
 use Rattle.block_sim.specs.Spans.{groups}
+use Rattle.block_sim.specs.declared.origin.Origin.{Origin}
 use Rattle.block_sim.specs.Words.{AreWords}
 
 -- the words of the first groups without a fault, one row of words a group
@@ -14,9 +16,9 @@ AreFaultFree c tests rows = (group : ℕ) (row : List ℕ) → slice_get rows gr
     → (length row ≡ length (names c)) × AreWords c tests group None row
 
 -- The parts belong together, the rows are the fault-free words of all groups, of the signals in
--- level order, and each class has its stem and a next class.
+-- level order, and each class has its stem, a next class, and what its simulation starts from.
 pub record IsJob (parts : Parts) (levelled : List Statement) (rows : List (List ℕ))
-    (class_stems next : List ℕ) : Type 0 where
+    (class_stems next : List ℕ) (origins : List Origin) : Type 0 where
   pub together : BelongTogether parts
   pub count : length rows ≡ groups (length parts.tests.tests)
   pub fault_free : AreFaultFree levelled parts.tests.tests rows
@@ -24,3 +26,5 @@ pub record IsJob (parts : Parts) (levelled : List Statement) (rows : List (List 
   pub stems : HaveStems parts.list.model parts.circuit class_stems
   pub nexts : length next ≡ length parts.classes.representative
   pub next_within : All (λ class. class < length parts.classes.representative) next
+  pub origin_count : length origins ≡ length parts.classes.representative
+  pub origins_are : HaveOrigins parts.list.model parts.circuit origins

@@ -3,6 +3,7 @@ use Rattle.std.specs.Prelude.{◌≡◌, ◌<◌, ℕ, List, Contains, Some, len
 use Rattle.bench_net.specs.Statement.{Name, Statement}
 use Rattle.bench_net.specs.Scan.{names, signal}
 use Rattle.fault_model.specs.declared.Line.{Line}
+use Rattle.fault_model.specs.declared.Model.{Model}
 use Rattle.fault_model.specs.Collapse.{representatives}
 use Rattle.fault_model.specs.Detection.{name_on}
 use Rattle.fault_model.specs.Fault.{Fault, faults}
@@ -27,11 +28,19 @@ pub record Starts (c : List Statement) (f : Fault) (origin : Origin) : Type 0 wh
   pub moved : (d : List Statement) → IsLevelled c d → stuck_fault origin.fault ≡ moved_fault c d f
   pub carried : (d : List Statement) → IsLevelled c d → Carries d origin.fault.line origin.carried
 
--- that of a class starts where that of its representative does
+-- that of a class of the circuit starts where that of its representative does
+abbrev pub IsOriginIn : Model → List Statement → ℕ → Origin → Type 0
+IsOriginIn m c class origin = (r : Fault) × (slice_get (representatives m c) class ≡ Some r)
+    × Starts c r origin
+
+-- the same of a class of a job
 abbrev pub IsOriginOf : Parts → ℕ → Origin → Type 0
-IsOriginOf job class origin = (r : Fault)
-    × (slice_get (representatives job.list.model job.circuit) class ≡ Some r)
-    × Starts job.circuit r origin
+IsOriginOf job class origin = IsOriginIn job.list.model job.circuit class origin
+
+-- a list has at its places what the simulation of the first classes starts from
+abbrev pub HaveOrigins : Model → List Statement → List Origin → Type 0
+HaveOrigins m c origins = (class : ℕ) (origin : Origin) → slice_get origins class ≡ Some origin
+    → IsOriginIn m c class origin
 
 -- a class of the job, with the stem of its region and what its simulation starts from
 pub record IsListed (job : Parts) (row : Listed) : Type 0 where

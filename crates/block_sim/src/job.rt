@@ -1,11 +1,9 @@
 //! A job: a circuit with its faults, its classes and its tests.
 
-ghost use Rattle.std.specs.Prelude.{◌≡◌, ◌↔◌, ◌<◌, ◌≤◌, ◌*◌, Contains, List, ℕ, None, length, map};
+ghost use Rattle.std.specs.Prelude.{◌≡◌, ◌↔◌, ◌<◌, ◌≤◌, ◌*◌, List, ℕ, None, length, map};
 ghost use Rattle.std.specs.Prelude.{Err, IfErr, IfOk, IsTrue, OnOk, Some, slice_get};
 ghost use Rattle.bench_net.specs.Scan.{names, sources};
 ghost use Rattle.bench_net.specs.Statement.{Statement};
-ghost use Rattle.fault_model.specs.Fault.{faults};
-ghost use Rattle.fault_model.specs.Collapse.{representatives};
 ghost use Rattle.patterns.specs.Tests.{IsTestList, blocks, max_pieces};
 ghost use Rattle.block_sim.specs.Job.{AreFaultFree};
 ghost use Rattle.block_sim.specs.Levelled.{IsLevelled};
@@ -13,16 +11,14 @@ ghost use Rattle.block_sim.specs.Origins.{IsListed, IsOriginOf};
 ghost use Rattle.block_sim.specs.Parts.{BelongTogether, piece_count, with_tests};
 ghost use Rattle.block_sim.specs.Regions.{IsStemOfClass};
 ghost use Rattle.block_sim.specs.Spans.{groups, span_of};
-ghost use Rattle.block_sim.specs.Stuck.{stuck_fault};
 ghost use Rattle.block_sim.specs.Words.{AreWords, IsFaultFreeWord};
 
 use crate::block_lanes::block_word;
 use crate::flat::FlatCircuit;
-use crate::line_signals::carried;
-use crate::origin::{Listed, Origin};
+use crate::origin::{Listed, Origin, origins_of};
 use crate::region_classes::{class_stems, next_with_stem};
 use crate::span::Span;
-use crate::words::{Stuck, evaluate};
+use crate::words::evaluate;
 use bench_net::Circuit;
 use fault_model::{Classes, Faults};
 use patterns::{MAX_PIECES, Tests};
@@ -53,7 +49,8 @@ impl From<AllocError> for JobFault {
 }
 
 /// A circuit, its faults and classes, and tests for it, with the fault-free words of every block,
-/// the stem of each class, and the classes of each fan-out-free region in a circle.
+/// the stem of each class, what its simulation starts from, and the classes of each fan-out-free
+/// region in a circle.
 ///
 /// All of it stands in one place of memory, so a job moves as cheaply as a number.
 #[derive(Drop)]
@@ -71,6 +68,7 @@ struct JobParts {
     rows: Vec<Vec<u128>>,
     class_stems: Vec<u32>,
     next_in_region: Vec<u32>,
+    origins: Vec<Origin>,
 }
 
 impl Model for Job {
@@ -94,13 +92,13 @@ impl Model for Job {
       tests = j.parts.value.tests;
     }) j.parts.value.flat.levelled
         (map (λ row. row.items) j.parts.value.rows.items) j.parts.value.class_stems.items
-        j.parts.value.next_in_region.items };
+        j.parts.value.next_in_region.items j.parts.value.origins.items };
 }
 
 impl Job {
     /// A job of parts that belong together: the faults and the classes are those of the circuit,
-    /// and the tests have its width. It takes a word for each signal and block, and two numbers for
-    /// each class.
+    /// and the tests have its width. It takes a word for each signal and block, and a few numbers
+    /// for each class.
     ///
     /// Refused as `TooManyPieces` exactly where classes times blocks are more than
     /// [`patterns::MAX_PIECES`], before memory is asked for, and as `Memory` where some was
@@ -164,6 +162,7 @@ impl Job {
         let flat = FlatCircuit::new(alloc, circuit)?;
         let rows = fault_free_rows(alloc, &flat, &tests)?;
         let class_stems = class_stems(alloc, flat.circuit(), &faults, &classes)?;
+        let origins = origins_of(alloc, &flat, &faults, &classes)?;
         let signals = flat.signals();
         let next_in_region = next_with_stem(alloc, class_stems.as_slice(), signals)?;
         let parts = Box::new(
@@ -176,6 +175,7 @@ impl Job {
                 rows,
                 class_stems,
                 next_in_region,
+                origins,
             },
         )?;
         Ok(Job { parts })
@@ -259,34 +259,13 @@ impl Job {
         &self.parts.tests
     }
 
-    /// The representative of a class.
-    pub(crate) fn representative(&self, class: u32) -> Stuck
-        requires { class < length self.now.classes.representative }
-        ensures representative { slice_get
-            (representatives self.now.list.model self.now.circuit) class
-            ≡ Some (stuck_fault result) }
-        ensures listed { Contains (faults result.model self.now.circuit) (stuck_fault result) }
-    {
-        let parts = &*self.parts;
-        let fault = parts.classes.representative(class);
-        Stuck {
-            model: parts.faults.model(),
-            line: parts.faults.line_of(fault),
-            at_one: parts.faults.stuck_of(fault),
-        }
-    }
-
     /// What the simulation of a class starts from.
     pub(crate) fn origin(&self, class: u32) -> Origin
         requires { class < length self.now.classes.representative }
         ensures { IsOriginOf self.now class result }
     {
-        let circuit = self.flat();
-        let fault = self.representative(class).moved(circuit);
-        Origin {
-            fault,
-            carried: carried(circuit, fault.line),
-        }
+        let parts = &*self.parts;
+        parts.origins[class as usize]
     }
 
     /// A class as a list of classes has it.

@@ -36,4 +36,6 @@ invariant_of-result c =
       nexts = c.in_ok-next_in_region.ensures.count ∙ counted;
       next_within = λ k d lt. (let low = c.in_ok-next_in_region.ensures.within k d lt in
           omega (arith, low, counted));
+      origin_count = c.in_ok-origins.ensures.count;
+      origins_are = c.in_ok-origins.ensures.origins;
     })

@@ -1,57 +1,21 @@
-use Rattle.std.proofs.Common.{◌≡◌, ◌∙◌, ap, subst}
-use Rattle.fault_model.specs.Detection.{name_on}
-use Rattle.fault_model.specs.Fault.{Fault}
-use Rattle.fault_model.specs.Reordered.{moved_fault, moved_line}
-use Rattle.fault_model.proofs.Public.{carries}
-use Rattle.block_sim.specs.Origins.{Carries}
-use Rattle.block_sim.specs.Stuck.{stuck_fault}
-use Rattle.block_sim.proofs.LevelledSignals.{one_levelled}
-use Rattle.block_sim.proofs.LevelledWords.{carries_there, circuit_there}
+use Rattle.std.proofs.Common.{◌<◌, ap, arith, length, refl, subst}
+use Rattle.std.proofs.lemmas.Option.{slice_get_read}
+use Rattle.block_sim.specs.Origins.{IsOriginOf}
+use Rattle.block_sim.proofs.PartsOfJobs.{whole, seen}
 use Rattle.block_sim.proofs.job.Job.origin.Goals as goal
-
-pub moved-fault-requires : goal.moved-fault-requires
-moved-fault-requires c =
-    let fault = c.representative.result in
-    let named = carries fault.model c.args.self.now.circuit (stuck_fault fault)
-    c.flat-circuit.ensures.together.circuit.well_formed c.representative.ensures.listed in
-    (named.0, ap (λ x. name_on x fault.line) c.flat-circuit.ensures.part ∙ named.1)
-
-pub carried-requires-clause-circuit : goal.carried-requires-clause-circuit
-carried-requires-clause-circuit c =
-    circuit_there c.args.self.now.circuit c.flat-circuit.result.now.levelled
-    c.flat-circuit.ensures.together.circuit c.flat-circuit.ensures.levelled
-
-pub carried-requires-clause-named : goal.carried-requires-clause-named
-carried-requires-clause-named c =
-    let circuit = c.args.self.now.circuit in
-    let there = c.flat-circuit.result.now.levelled in
-    let fault = stuck_fault c.representative.result in
-    let line : c.moved-fault.result.line ≡ moved_line circuit there fault.line =
-    ap (λ (f : Fault). f.line) c.moved-fault.ensures
-    ∙ ap (λ x. moved_line x there fault.line) c.flat-circuit.ensures.part in
-    let named = carries_there circuit there c.flat-circuit.ensures.together.circuit.well_formed
-    c.flat-circuit.ensures.levelled fault.model fault c.representative.ensures.listed in
-    (named.0, ap (name_on there) line ∙ named.1)
 
 pub returns : goal.returns
 returns c =
-    let circuit = c.args.self.now.circuit in
-    let there = c.flat-circuit.result.now.levelled in
-    let levelled = c.flat-circuit.ensures.levelled in
-    let well = c.flat-circuit.ensures.together.circuit.well_formed in
-    let fault = stuck_fault c.representative.result in
-    let moved = c.moved-fault.result in
-    let is : stuck_fault moved ≡ moved_fault circuit there fault = c.moved-fault.ensures
-    ∙ ap (λ x. moved_fault x there fault) c.flat-circuit.ensures.part in (
-      fault,
-      c.representative.ensures.representative,
-      record {
-        listed = c.representative.ensures.listed;
-        model = ap (λ (f : Fault). f.model) is;
-        stuck = ap (λ (f : Fault). f.stuck) is;
-        moved = λ d own. subst (λ x. stuck_fault moved ≡ moved_fault circuit x fault)
-            (one_levelled circuit there d well levelled own) is;
-        carried = λ d own. subst (λ x. Carries x moved.line c.carried.result)
-            (one_levelled circuit there d well levelled own) c.carried.ensures;
-      },
-    )
+    let own = c.deref-parts.result.now in
+    let job = whole c.deref-parts.ensures c.self.invariant in
+    let view = seen c.deref-parts.ensures c.self.view_is in
+    let within : c.args.class < length own.origins.items = omega (
+      arith,
+      job.origin_count,
+      ap (λ p. length p.classes.representative) view,
+      c.requires,
+    ) in
+    let origin = job.origins_are c.args.class c.index.result.now
+    (slice_get_read own.origins.items (length own.origins.items) c.args.class
+    c.index.result.now refl within c.index.ensures) in
+    subst (λ p. IsOriginOf p c.args.class c.index.result.now) view origin

@@ -27,4 +27,6 @@ invariant_of-self c =
       stems = was.stems;
       nexts = was.nexts;
       next_within = was.next_within;
+      origin_count = was.origin_count;
+      origins_are = was.origins_are;
     }
