@@ -80,10 +80,10 @@ pub fn gate_change(view: BlockView<'_>, fault: Stuck, gate: u32, changes: &mut C
     ensures buckets { changes.new.buckets ≡ changes.old.buckets }
 {
     match view.circuit.gate_of(gate) {
-        Some(line) => {
+        Some(driver) => {
             let delta = changes.overlay.words();
             let evaluations = &mut changes.evaluations;
-            let word = evaluate_gate(line, gate, Some(fault), view.good, delta, evaluations);
+            let word = evaluate_gate(driver, gate, Some(fault), view.good, delta, evaluations);
             (word ^ view.good[gate as usize]) & view.lanes
         }
         None => unreachable!(),

@@ -153,9 +153,16 @@ fn evaluate_waiting(view: BlockView<'_>, kept: u128, gate: u32, changes: &mut Ch
         return 0;
     }
     match view.circuit.gate_of(gate) {
-        Some(line) => {
+        Some(driver) => {
             let delta = changes.overlay.words();
-            let word = evaluate_gate(line, gate, None, view.good, delta, &mut changes.evaluations);
+            let word = evaluate_gate(
+                driver,
+                gate,
+                None,
+                view.good,
+                delta,
+                &mut changes.evaluations,
+            );
             let diff = (word ^ view.good[gate as usize]) & kept;
             if diff == 0 {
                 return 0;
