@@ -44,6 +44,7 @@ mod Stems
 mod RegionLanes
 mod FlipLanes
 mod FaultLanes
+mod LineStarts
 mod KeptOutcomes
 mod RegionHits
 mod ResponseRows
