@@ -45,6 +45,7 @@ mod RegionLanes
 mod FlipLanes
 mod FaultLanes
 mod LineStarts
+mod WholeSpreads
 mod KeptOutcomes
 mod RegionHits
 mod ResponseRows
