@@ -156,14 +156,8 @@ fn evaluate_waiting(view: BlockView<'_>, kept: u128, gate: u32, changes: &mut Ch
     match view.circuit.gate_of(gate) {
         Some(driver) => {
             let delta = changes.overlay.words();
-            let word = evaluate_gate(
-                driver,
-                gate,
-                None,
-                view.good,
-                delta,
-                &mut changes.evaluations,
-            );
+            let evaluations = &mut changes.evaluations;
+            let word = evaluate_gate(driver, gate, None, view.good, delta, evaluations);
             let diff = (word ^ view.good[gate as usize]) & kept;
             if diff == 0 {
                 return 0;
