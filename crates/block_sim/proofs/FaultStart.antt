@@ -25,7 +25,7 @@ use Rattle.fault_model.specs.Fault.{Fault, branch, same_line}
 use Rattle.fault_model.specs.Solution.{Test, Solves, sees, under, value}
 use Rattle.fault_model.proofs.Public.{has_solutions, same_lines, under_other, under_own, observes}
 use Rattle.fault_model.proofs.Public.{defined_among, definition-signal, source_named}
-use Rattle.block_sim.specs.Words.{lane, lane_bits, overlaid, pin_bits, test_of, AreWords}
+use Rattle.block_sim.specs.Words.{lane, lane_bits, word_over, pin_bits, test_of, AreWords}
 use Rattle.block_sim.specs.ActiveGates.{AreInGroup, IsActiveIn, IsActiveBy}
 use Rattle.block_sim.specs.Events.{bits_of, Reads}
 use Rattle.block_sim.specs.Spreading.{AreShown, IsApart, IsFirstChange}
@@ -260,7 +260,7 @@ first_on_stem c tests group f good lanes delta start diff well on within words n
     here : (k : ℕ) → k < 128 → lane lanes k ≡ true → (n : Name) → signal c n ≡ start
         → bits_of c good (set delta start diff) k n ≡ (f k).stuck
     here k lt in_lanes n number =
-        ap (λ s. lane (overlaid good (set delta start diff) s) k) number
+        ap (λ s. lane (word_over good (set delta start diff) s) k) number
         ∙ (ap (λ d. lane (bit_xor (slice_index_or good start 0) d) k)
         (get_or-set_same delta start diff 0 within) ∙ now k lt in_lanes)
 

@@ -13,33 +13,33 @@ use Rattle.fault_model.specs.declared.Line.TheVariants as line
 use Rattle.fault_model.specs.Fault.{Fault}
 use Rattle.fault_model.specs.Solution.{under, is_odd, value}
 use Rattle.block_sim.specs.declared.form.Form.{Form}
-use Rattle.block_sim.specs.Forms.{IsFormOf, inverted}
-use Rattle.block_sim.specs.Words.{lane, overlaid, pin_bits}
+use Rattle.block_sim.specs.Forms.{IsFormOf, inverted_if}
+use Rattle.block_sim.specs.Words.{lane, word_over, pin_bits}
 use Rattle.block_sim.proofs.Lanes.{lane_and, lane_xor, lane_zero, lane_ones, unlike}
 
 -- the bit of one pin, and how many pins there are
 pin_at_from : (f : Option Fault) (gate : ℕ) (pins words delta : List ℕ) (k from i : ℕ)
     → i < length pins
-    → slice_index_or (map (λ at. under f (line.Pin gate at.0) (lane (overlaid words delta at.1) k))
+    → slice_index_or (map (λ at. under f (line.Pin gate at.0) (lane (word_over words delta at.1) k))
     (enumerate_from from pins)) i false
-    ≡ under f (line.Pin gate (from + i)) (lane (overlaid words delta (slice_index_or pins i 0)) k)
+    ≡ under f (line.Pin gate (from + i)) (lane (word_over words delta (slice_index_or pins i 0)) k)
 pin_at_from f gate [] words delta k from i lt = absurd (omega (arith, lt))
 pin_at_from f gate (p ∷ pins) words delta k from zero lt =
-    ap (λ pin. under f (line.Pin gate pin) (lane (overlaid words delta p) k)) (omega arith)
+    ap (λ pin. under f (line.Pin gate pin) (lane (word_over words delta p) k)) (omega arith)
 pin_at_from f gate (p ∷ pins) words delta k from (suc i) lt =
     pin_at_from f gate pins words delta k (from + 1) i (omega (arith, lt))
     ∙ ap (λ pin. under f (line.Pin gate pin)
-    (lane (overlaid words delta (slice_index_or pins i 0)) k)) (omega arith)
+    (lane (word_over words delta (slice_index_or pins i 0)) k)) (omega arith)
 
 pin_at : (f : Option Fault) (gate : ℕ) (pins words delta : List ℕ) (k i : ℕ) → i < length pins
     → slice_index_or (pin_bits f gate pins words delta k) i false ≡ under f (line.Pin gate i)
-    (lane (overlaid words delta (slice_index_or pins i 0)) k)
+    (lane (word_over words delta (slice_index_or pins i 0)) k)
 pin_at f gate pins words delta k i lt = pin_at_from f gate pins words delta k 0 i lt
     ∙ ap (λ pin. under f (line.Pin gate pin)
-    (lane (overlaid words delta (slice_index_or pins i 0)) k)) (omega arith)
+    (lane (word_over words delta (slice_index_or pins i 0)) k)) (omega arith)
 
 pins_counted_from : (f : Option Fault) (gate : ℕ) (pins words delta : List ℕ) (k from : ℕ)
-    → length (map (λ at. under f (line.Pin gate at.0) (lane (overlaid words delta at.1) k))
+    → length (map (λ at. under f (line.Pin gate at.0) (lane (word_over words delta at.1) k))
     (enumerate_from from pins)) ≡ length pins
 pins_counted_from f gate [] words delta k from = refl
 pins_counted_from f gate (p ∷ pins) words delta k from =
@@ -64,7 +64,7 @@ is_odd_push (true ∷ bits) b = ap not (is_odd_push bits b) ∙ inverted (is_odd
 is_odd_push (false ∷ bits) b = is_odd_push bits b
 
 -- a word that turns a bit round in each lane or in none
-inverted_there : (b turn : Bool) → unlike b turn ≡ inverted turn b
+inverted_there : (b turn : Bool) → unlike b turn ≡ inverted_if turn b
 inverted_there true true = refl
 inverted_there true false = refl
 inverted_there false true = refl
@@ -84,7 +84,8 @@ at_last n i started within passed at = go (cases_eq (n - 1) 0)
 pub record AreFolds (f : Option Fault) (gate : ℕ) (pins words delta : List ℕ) (turn : Bool)
     (i all odd : ℕ) : Type 0 where
   pub all_is : (k : ℕ) → k < 128
-      → lane all k ≡ list_all (λ b. inverted turn b) (take i (pin_bits f gate pins words delta k))
+      → lane all k ≡ list_all (λ b. inverted_if turn b)
+      (take i (pin_bits f gate pins words delta k))
   pub odd_is : (k : ℕ) → k < 128 → lane odd k ≡ is_odd (take i (pin_bits f gate pins words delta k))
 
 module _ (f : Option Fault) (gate : ℕ) (pins words delta : List ℕ) where
@@ -98,7 +99,7 @@ module _ (f : Option Fault) (gate : ℕ) (pins words delta : List ℕ) where
   pub folds_more : (turn : Bool) (flips i all odd word : ℕ) → i < length pins
       → ((k : ℕ) → k < 128 → lane flips k ≡ turn) → AreFolds f gate pins words delta turn i all odd
       → ((k : ℕ) → k < 128 → lane word k ≡ under f (line.Pin gate i)
-      (lane (overlaid words delta (slice_index_or pins i 0)) k))
+      (lane (word_over words delta (slice_index_or pins i 0)) k))
       → AreFolds f gate pins words delta turn (i + 1) (bit_and all (bit_xor word flips))
       (bit_xor odd word)
   folds_more turn flips i all odd word lt flip h is = record {
@@ -111,7 +112,7 @@ module _ (f : Option Fault) (gate : ℕ) (pins words delta : List ℕ) where
           flip k below,
           inverted_there (slice_index_or (pin_bits f gate pins words delta k) i false) turn,
         ) refl
-        ∙ sym (list_all_more (λ b. inverted turn b) (pin_bits f gate pins words delta k) i false
+        ∙ sym (list_all_more (λ b. inverted_if turn b) (pin_bits f gate pins words delta k) i false
         (within k)));
     odd_is = λ k below.
         lane_xor odd word k ∙ (rw (h.odd_is k below, bit k below) refl
@@ -132,7 +133,7 @@ module _ (f : Option Fault) (gate : ℕ) (pins words delta : List ℕ) where
   pub folds_first : (turn : Bool) (flips word : ℕ) → 0 < length pins
       → ((k : ℕ) → k < 128 → lane flips k ≡ turn)
       → ((k : ℕ) → k < 128 → lane word k ≡ under f (line.Pin gate 0)
-      (lane (overlaid words delta (slice_index_or pins 0 0)) k))
+      (lane (word_over words delta (slice_index_or pins 0 0)) k))
       → AreFolds f gate pins words delta turn 1 (bit_xor word flips) word
   folds_first turn flips word some flip is =
       let h = folds_more turn flips 0 340282366920938463463374607431768211455 0 word some flip
@@ -149,12 +150,12 @@ module _ (f : Option Fault) (gate : ℕ) (pins words delta : List ℕ) where
       → ((k : ℕ) → k < 128 → lane other k ≡ nat_lt 0 last)
       → AreFolds f gate pins words delta turn i all odd
       → ((k : ℕ) → k < 128 → lane word k ≡ under f (line.Pin gate last)
-      (lane (overlaid words delta (slice_index_or pins last 0)) k))
+      (lane (word_over words delta (slice_index_or pins last 0)) k))
       → 0 < i → AreFolds f gate pins words delta turn (length pins)
       (bit_and all (bit_xor word flips)) (bit_xor odd (bit_and word other))
   folds_last turn flips i last all odd word other count (inl e) flip others h is more = record {
     all_is = λ k lt. whole.all_is k lt
-        ∙ ap (λ n. list_all (λ b. inverted turn b) (take n (pin_bits f gate pins words delta k)))
+        ∙ ap (λ n. list_all (λ b. inverted_if turn b) (take n (pin_bits f gate pins words delta k)))
         long;
     odd_is = λ k lt.
         lane_xor odd (bit_and word other) k
@@ -181,12 +182,12 @@ module _ (f : Option Fault) (gate : ℕ) (pins words delta : List ℕ) where
           (bit_xor odd word)
       whole = folds_more turn flips i all odd word (omega (arith, e, count)) flip h
           (λ k lt. subst (λ j. lane word k ≡ under f (line.Pin gate j)
-          (lane (overlaid words delta (slice_index_or pins j 0)) k)) (sym e) (is k lt))
+          (lane (word_over words delta (slice_index_or pins j 0)) k)) (sym e) (is k lt))
   folds_last turn flips i last all odd word other count (inr (one, none)) flip others h is more =
       record {
         all_is = λ k lt. lane_and all (bit_xor word flips) k
             ∙ (rw (h.all_is k lt, same k lt) (twice _)
-            ∙ ap (λ n. list_all (λ b. inverted turn b)
+            ∙ ap (λ n. list_all (λ b. inverted_if turn b)
             (take n (pin_bits f gate pins words delta k)))
             long);
         odd_is = λ k lt.
@@ -218,12 +219,12 @@ module _ (f : Option Fault) (gate : ℕ) (pins words delta : List ℕ) where
       only : AreFolds f gate pins words delta turn 1 (bit_xor word flips) word
       only = folds_first turn flips word (omega (arith, count)) flip
           (λ k lt. subst (λ j. lane word k ≡ under f (line.Pin gate j)
-          (lane (overlaid words delta (slice_index_or pins j 0)) k)) none (is k lt))
+          (lane (word_over words delta (slice_index_or pins j 0)) k)) none (is k lt))
 
-      same : (k : ℕ) → k < 128 → lane (bit_xor word flips) k ≡ list_all (λ b. inverted turn b)
+      same : (k : ℕ) → k < 128 → lane (bit_xor word flips) k ≡ list_all (λ b. inverted_if turn b)
           (take i (pin_bits f gate pins words delta k))
       same k lt = only.all_is k lt ∙ ap
-          (λ n. list_all (λ b. inverted turn b) (take n (pin_bits f gate pins words delta k)))
+          (λ n. list_all (λ b. inverted_if turn b) (take n (pin_bits f gate pins words delta k)))
           (sym one)
 
   -- and so of all pins
@@ -236,8 +237,8 @@ module _ (f : Option Fault) (gate : ℕ) (pins words delta : List ℕ) where
   module _ (turn : Bool) (all odd : ℕ) (h : AreFolds f gate pins words delta turn
       (length pins) all odd) where
     pub folds_all : (k : ℕ) → k < 128
-        → lane all k ≡ list_all (λ b. inverted turn b) (pin_bits f gate pins words delta k)
-    folds_all k lt = h.all_is k lt ∙ ap (list_all (λ b. inverted turn b)) (whole k)
+        → lane all k ≡ list_all (λ b. inverted_if turn b) (pin_bits f gate pins words delta k)
+    folds_all k lt = h.all_is k lt ∙ ap (list_all (λ b. inverted_if turn b)) (whole k)
 
     pub folds_odd : (k : ℕ) → k < 128 → lane odd k ≡ is_odd (pin_bits f gate pins words delta k)
     folds_odd k lt = h.odd_is k lt ∙ ap is_odd (whole k)
@@ -245,16 +246,16 @@ module _ (f : Option Fault) (gate : ℕ) (pins words delta : List ℕ) where
 -- the word of a form
 pub form_lane : (kind : Kind) (form : Form) (bits : List Bool) (all odd core flips k : ℕ)
     → IsFormOf kind form → lane flips k ≡ form.inverts_output
-    → lane all k ≡ list_all (λ b. inverted form.inverts_inputs b) bits → lane odd k ≡ is_odd bits
+    → lane all k ≡ list_all (λ b. inverted_if form.inverts_inputs b) bits → lane odd k ≡ is_odd bits
     → ((form.is_xor ≡ true) × (core ≡ odd)) ⊎ ((form.is_xor ≡ false) × (core ≡ all))
     → lane (bit_xor core flips) k ≡ value kind bits
 form_lane kind form bits all odd core flips k formed flip all_is odd_is chosen =
     lane_xor core flips k ∙ (ap (unlike (lane core k)) flip
     ∙ (inverted_there (lane core k) form.inverts_output
-    ∙ (ap (inverted form.inverts_output) (go chosen) ∙ formed bits)))
+    ∙ (ap (inverted_if form.inverts_output) (go chosen) ∙ formed bits)))
   where
     go : ((form.is_xor ≡ true) × (core ≡ odd)) ⊎ ((form.is_xor ≡ false) × (core ≡ all))
         → lane core k ≡ (if form.is_xor then is_odd bits else list_all
-        (λ b. inverted form.inverts_inputs b) bits)
+        (λ b. inverted_if form.inverts_inputs b) bits)
     go (inl (xor, e)) = ap (λ w. lane w k) e ∙ (odd_is ∙ rw xor refl)
     go (inr (and, e)) = ap (λ w. lane w k) e ∙ (all_is ∙ rw and refl)

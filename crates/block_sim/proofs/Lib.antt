@@ -44,6 +44,8 @@ mod Stems
 mod RegionLanes
 mod FlipLanes
 mod FaultLanes
+mod LineStarts
+mod WholeSpreads
 mod KeptOutcomes
 mod RegionHits
 mod ResponseRows

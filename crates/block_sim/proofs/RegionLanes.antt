@@ -22,7 +22,7 @@ use Rattle.fault_model.specs.Solution.{Test, Solves, Detects, under, value}
 use Rattle.fault_model.proofs.Public.{agree, defined_among, definition-signal, signal_apart}
 use Rattle.block_sim.specs.Events.{bits_of, Reads}
 use Rattle.block_sim.specs.Regions.{DetectsFlip, HasCome, IsReadBy, LanesLaw, Passes, turned_at}
-use Rattle.block_sim.specs.Words.{lane, lane_bits, overlaid, pin_bits, test_of, AreWords}
+use Rattle.block_sim.specs.Words.{lane, lane_bits, word_over, pin_bits, test_of, AreWords}
 use Rattle.block_sim.proofs.WordsToSolutions.{lane_same}
 use Rattle.block_sim.proofs.EnteredGates.{free_pins, map_alike}
 use Rattle.block_sim.proofs.SignalEquations.{gate_named}
@@ -70,7 +70,7 @@ lanes_law c tests span f s lanes arrived seen decides come tells =
 
 -- ---- one step on words
 pins_plain : (c : List Statement) (good delta : List ℕ) (g k from : ℕ) (args : List Name)
-    → map (λ at. under None (line.Pin g at.0) (lane (overlaid good delta at.1) k))
+    → map (λ at. under None (line.Pin g at.0) (lane (word_over good delta at.1) k))
     (enumerate_from from (map (signal c) args)) ≡ map (bits_of c good delta k) args
 pins_plain c good delta g k from [] = refl
 pins_plain c good delta g k from (a ∷ args) = ap (λ more. bits_of c good delta k a ∷ more)

@@ -17,7 +17,7 @@ use Rattle.fault_model.specs.Fault.{Fault}
 use Rattle.fault_model.specs.Solution.{Test, Solves, under, value, sees, pins_see}
 use Rattle.fault_model.proofs.Public.{pins_agree, under_other, IsSource, definition-signal}
 use Rattle.fault_model.proofs.Public.{defined_among, source_definition, source_named}
-use Rattle.block_sim.specs.Words.{lane, overlaid, pin_bits}
+use Rattle.block_sim.specs.Words.{lane, word_over, pin_bits}
 use Rattle.block_sim.specs.Events.{bits_of, HasEquation, Reads, IsElsewhere}
 use Rattle.block_sim.proofs.Equations.{nothing}
 
@@ -78,7 +78,7 @@ equation_elsewhere c t f v s off e = record {
 
 -- ---- one word
 pub word_other : (good delta : List ℕ) (g diff s k : ℕ) → s ≢ g
-    → lane (overlaid good delta s) k ≡ lane (overlaid good (set delta g diff) s) k
+    → lane (word_over good delta s) k ≡ lane (word_over good (set delta g diff) s) k
 word_other good delta g diff s k ne = ap (λ d. lane (bit_xor (slice_index_or good s 0) d) k)
     (sym (get_or-set_other delta g s diff 0 ne))
 
@@ -112,7 +112,7 @@ gate_named c n kind args g well number at =
 -- the bits of the signals that pins read are what the pins see
 pins_named : (c : List Statement) (f : Option Fault) (good delta : List ℕ) (s k from : ℕ)
     (args : List Name)
-    → map (λ at. under f (line.Pin s at.0) (lane (overlaid good delta at.1) k))
+    → map (λ at. under f (line.Pin s at.0) (lane (word_over good delta at.1) k))
     (enumerate_from from (map (signal c) args))
     ≡ map (λ at. sees f (bits_of c good delta k) (line.Pin s at.0) at.1) (enumerate_from from args)
 pins_named c f good delta s k from [] = refl
@@ -125,8 +125,8 @@ pins_named c f good delta s k from (a ∷ args) =
 pub equation_of : (c : List Statement) (t : Test) (f : Option Fault) (good delta after : List ℕ)
     (g k : ℕ) (kind : Kind) (pins : List ℕ) → IsWellFormed c → (Reads c g g → ⊥)
     → gate_of c g ≡ Some (kind, pins)
-    → ((s : ℕ) → s ≢ g → lane (overlaid good delta s) k ≡ lane (overlaid good after s) k)
-    → lane (overlaid good after g) k ≡ under f (line.Stem g)
+    → ((s : ℕ) → s ≢ g → lane (word_over good delta s) k ≡ lane (word_over good after s) k)
+    → lane (word_over good after g) k ≡ under f (line.Stem g)
     (value kind (pin_bits f g pins good delta k)) → HasEquation c t f (bits_of c good after k) g
 equation_of c t f good delta after g k kind pins well loop is others valued = record {
   source = λ i n number at. absurd
@@ -135,7 +135,7 @@ equation_of c t f good delta after g k kind pins well loop is others valued = re
       let pair : (kind, pins) ≡ (other, map (signal c) args) =
       ap (λ o. unwrap_or o (kind, pins)) (sym is
       ∙ gate_named c n other args g well number at) in
-      ap (λ x. lane (overlaid good after x) k) number
+      ap (λ x. lane (word_over good after x) k) number
       ∙ (valued ∙ ap (under f (line.Stem g))
       (ap (λ p. value p.0 (pin_bits f g p.1 good delta k)) pair
       ∙ (ap (value other) (pins_named c f good delta g k 0 args)
@@ -167,8 +167,8 @@ equation_of c t f good delta after g k kind pins well loop is others valued = re
 pub equation_here : (c : List Statement) (t : Test) (f : Fault) (good delta after : List ℕ)
     (g k : ℕ) (kind : Kind) (pins : List ℕ) → IsWellFormed c → IsElsewhere f g → (Reads c g g → ⊥)
     → gate_of c g ≡ Some (kind, pins)
-    → ((s : ℕ) → s ≢ g → lane (overlaid good delta s) k ≡ lane (overlaid good after s) k)
-    → lane (overlaid good after g) k ≡ value kind (pin_bits None g pins good delta k)
+    → ((s : ℕ) → s ≢ g → lane (word_over good delta s) k ≡ lane (word_over good after s) k)
+    → lane (word_over good after g) k ≡ value kind (pin_bits None g pins good delta k)
     → HasEquation c t (Some f) (bits_of c good after k) g
 equation_here c t f good delta after g k kind pins well off loop is others valued =
     equation_elsewhere c t f (bits_of c good after k) g off

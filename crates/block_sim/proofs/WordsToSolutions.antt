@@ -18,7 +18,7 @@ use Rattle.fault_model.specs.Fault.{Fault}
 use Rattle.fault_model.specs.Solution.{Test, Solves, value, under, sees, pins_see}
 use Rattle.fault_model.proofs.Public.{Driven, driven, pins_agree, solution, solution_solves}
 use Rattle.fault_model.proofs.Public.{defined_among, source_named}
-use Rattle.block_sim.specs.Words.{lane, lane_bits, overlaid, test_of, AreWords, IsSignalWord}
+use Rattle.block_sim.specs.Words.{lane, lane_bits, word_over, test_of, AreWords, IsSignalWord}
 use Rattle.block_sim.specs.Words.{pin_bits}
 use Rattle.block_sim.proofs.Lanes.{lane_xor, lane_zero, unlike}
 
@@ -34,7 +34,7 @@ lane_same word k d e = ap (λ x. lane (bit_xor word x) k) e
 -- what pins see, by the signals that they read and by names
 pins_from : (c : List Statement) (f : Option Fault) (words delta : List ℕ) (gate k from : ℕ)
     (args : List Name) → ((s : ℕ) → slice_index_or delta s 0 ≡ 0)
-    → map (λ at. under f (line.Pin gate at.0) (lane (overlaid words delta at.1) k))
+    → map (λ at. under f (line.Pin gate at.0) (lane (word_over words delta at.1) k))
     (enumerate_from from (map (signal c) args))
     ≡ map (λ at. sees f (lane_bits c words k) (line.Pin gate at.0) at.1) (enumerate_from from args)
 pins_from c f words delta gate k from [] clear = refl

@@ -1,6 +1,5 @@
 -- Which gates a fault makes active on a block: those that have to be looked at to know what the
--- fault
--- does.
+-- fault does.
 use Rattle.std.specs.Prelude.{◌≡◌, ◌≢◌, ℕ, ◌+◌, ◌*◌, ◌<◌, Bool, true, List, length, Contains, Some}
 use Rattle.std.specs.Prelude.{None, slice_get}
 use Rattle.bench_net.specs.declared.Kind.{Kind}

@@ -9,11 +9,11 @@ use Rattle.bench_net.specs.Scan.{signal, name_of, sources, observers}
 use Rattle.fault_model.specs.declared.Line.TheVariants as line
 use Rattle.fault_model.specs.Fault.{Fault}
 use Rattle.fault_model.specs.Solution.{Test, under, value, pins_see}
-use Rattle.block_sim.specs.Words.{lane, overlaid}
+use Rattle.block_sim.specs.Words.{lane, word_over}
 
 -- the bits of a lane
 abbrev pub bits_of : List Statement → List ℕ → List ℕ → ℕ → Name → Bool
-bits_of c good delta k n = lane (overlaid good delta (signal c n)) k
+bits_of c good delta k n = lane (word_over good delta (signal c n)) k
 
 -- the equation of one signal
 pub record HasEquation (c : List Statement) (t : Test) (f : Option Fault)

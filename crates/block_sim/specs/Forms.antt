@@ -6,14 +6,14 @@ use Rattle.fault_model.specs.Solution.{is_odd, value}
 use Rattle.block_sim.specs.declared.form.Form.{Form}
 
 -- a bit, inverted where that is asked for
-abbrev pub inverted : Bool → Bool → Bool
-inverted turn b = if turn then not b else b
+abbrev pub inverted_if : Bool → Bool → Bool
+inverted_if turn b = if turn then not b else b
 
 -- the bit that a form gives for the bits of the pins
 abbrev pub form_value : Form → List Bool → Bool
 form_value form bits =
-    inverted form.inverts_output
-    (if form.is_xor then is_odd bits else list_all (λ b. inverted form.inverts_inputs b) bits)
+    inverted_if form.inverts_output
+    (if form.is_xor then is_odd bits else list_all (λ b. inverted_if form.inverts_inputs b) bits)
 
 -- the form gives what the kind gives
 abbrev pub IsFormOf : Kind → Form → Type 0

@@ -205,9 +205,9 @@ AreLanesFor tests span c f lanes = (k : ℕ) → k < 128 → Decides (lane lanes
     (IsInSpan (length tests) span (128 * group_of span + k)
     × LooksBack c tests f.model f.line f.stuck (128 * group_of span + k))
 
--- on words: of the lanes in which a fault has come to a signal those in which a word tells that
--- this is detected turned round, whatever the word says in other lanes; the least is the first test
--- of the span that detects the fault
+-- On words: the lanes in which a fault has come to a signal and a word tells that the signal is
+-- detected turned round, whatever the word says in other lanes. The least of them is the first test
+-- of the span that detects the fault.
 abbrev pub LanesLaw : List Statement → Type 0
 LanesLaw c = (tests : List Test) (span : Span) (f : Fault) (s lanes arrived seen : ℕ)
     → AreLanesFor tests span c f lanes → HasCome c tests (group_of span) f lanes s arrived

@@ -119,8 +119,3 @@ pub record AreShown (c : List Statement) (tests : List Test) (group : ℕ) (f : 
       → IsApart c (f k) good k v)
   pub clear : (k : ℕ) → k < 128 → lane lanes k ≡ true → lane seen k ≡ false
       → (settled k → ⊥) → IsAlike c (test_of tests group k) (f k) good k
-
--- where a lane is settled, it is seen or lies above one that is
-abbrev pub EndsAtHits : Extent → Type 0
-EndsAtHits extent = (seen k : ℕ) → k < 128 → IsSettled extent seen k
-    → (j : ℕ) × (j ≤ k) × (lane seen j ≡ true)

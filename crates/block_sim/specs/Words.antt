@@ -57,13 +57,13 @@ pub record IsSignalWord (c : List Statement) (tests : List Test) (group : ℕ) (
       → lane word k ≡ under f (line.Stem s) (value kind (pins_see f (lane_bits c words k) s args))
 
 -- the word of a signal: the one that is known, turned in the lanes in which it differs
-abbrev pub overlaid : List ℕ → List ℕ → ℕ → ℕ
-overlaid words delta s = bit_xor (slice_index_or words s 0) (slice_index_or delta s 0)
+abbrev pub word_over : List ℕ → List ℕ → ℕ → ℕ
+word_over words delta s = bit_xor (slice_index_or words s 0) (slice_index_or delta s 0)
 
 -- what the pins of a gate, given by the signals that they read, see in a lane
 abbrev pub pin_bits : Option Fault → ℕ → List ℕ → List ℕ → List ℕ → ℕ → List Bool
 pin_bits f gate pins words delta k =
-    map (λ at. under f (line.Pin gate at.0) (lane (overlaid words delta at.1) k))
+    map (λ at. under f (line.Pin gate at.0) (lane (word_over words delta at.1) k))
     (enumerate_from 0 pins)
 
 -- the outcome names the least lane of a block's word that is 1

@@ -20,9 +20,10 @@ use crate::view::BlockView;
 use crate::words::{Stuck, evaluate_gate};
 use fault_model::Line;
 
-/// Of the lanes that are asked for those in which some observer shows another bit with the fault
-/// than without it; where first hits are asked for, some of them with those. No gate is
-/// evaluated where the fault is excited in none of the lanes.
+/// The lanes, among those that are asked for, in which some observer shows another bit with the
+/// fault than without it. Where first hits are asked for it may leave out lanes above the least: it
+/// gives, for each class that is followed in a lane that it leaves out, a lower lane of that class.
+/// No gate is evaluated where the fault is excited in none of the lanes.
 pub fn effect(view: BlockView<'_>, fault: Stuck, extent: Extent<'_>, changes: &mut Changes) -> u128
     requires view { HasWords view.circuit.now.levelled view.good.now }
     requires words { (tests : List Test) × (group : ℕ)
@@ -80,10 +81,10 @@ pub fn gate_change(view: BlockView<'_>, fault: Stuck, gate: u32, changes: &mut C
     ensures buckets { changes.new.buckets ≡ changes.old.buckets }
 {
     match view.circuit.gate_of(gate) {
-        Some(line) => {
+        Some(driver) => {
             let delta = changes.overlay.words();
             let evaluations = &mut changes.evaluations;
-            let word = evaluate_gate(line, gate, Some(fault), view.good, delta, evaluations);
+            let word = evaluate_gate(driver, gate, Some(fault), view.good, delta, evaluations);
             (word ^ view.good[gate as usize]) & view.lanes
         }
         None => unreachable!(),

@@ -57,6 +57,15 @@ struct Driver {
 /// readers are parts of the lists of all. A row has 32 bytes, so two lie on a line of a cache: with
 /// the rest of what is known in it, and places of 8 bytes, it had 56, and most of a simulation's
 /// time went into waiting for rows.
+///
+/// ```text
+/// rows     .. | driver observed first last pins_start pins_end readers_start readers_end | ..
+/// bytes       |      4        1     4    4          4        4             4           4 |
+/// pins     .. | the signals that the gate's pins read    | ..   from pins_start to pins_end
+/// readers  .. | the live gates that read it, with levels | ..   from readers_start to readers_end
+/// ```
+///
+/// That is 29 bytes; 3 are empty, since the next row begins at a multiple of 4.
 #[derive(Clone, Copy)]
 struct Row {
     /// `None` for a source.

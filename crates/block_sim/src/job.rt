@@ -281,8 +281,8 @@ impl Job {
         }
     }
 
-    /// The last block that is simulated at once with a block and what is behind that: from the third
-    /// block on the other one of its group of two, where it comes behind it.
+    /// The last block that is simulated at once with a block and what is behind that: from the
+    /// third block on the other one of its group of two, where it comes behind it.
     pub fn last_together(&self, block: u32) -> u32
         requires { block < blocks (length self.now.tests.tests) }
         ensures { result ≡ (span_of (length self.now.tests.tests) block).last }

@@ -54,7 +54,7 @@ fn pin_signal(circuit: &FlatCircuit, gate: u32, pin: u32) -> u32
         → result ≡ signal circuit.now.levelled n }
 {
     match circuit.gate_of(gate) {
-        Some(line) => line.pins[pin as usize],
+        Some(driver) => driver.pins[pin as usize],
         None => unreachable!(),
     }
 }

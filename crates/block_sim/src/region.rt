@@ -50,10 +50,11 @@ fn cross(view: BlockView<'_>, at: Arrival, gate: u32, changes: &mut Changes) -> 
     ensures clear { IsClear changes.new }
 {
     match view.circuit.gate_of(gate) {
-        Some(line) => {
+        Some(driver) => {
             changes.overlay.change(at.signal, at.lanes);
             let delta = changes.overlay.words();
-            let word = evaluate_gate(line, gate, None, view.good, delta, &mut changes.evaluations);
+            let evaluations = &mut changes.evaluations;
+            let word = evaluate_gate(driver, gate, None, view.good, delta, evaluations);
             changes.overlay.clear();
             (word ^ view.good[gate as usize]) & view.lanes
         }

@@ -81,7 +81,8 @@ fn below_hits(followed: &[Followed], seen: u128) -> u128
 }
 
 /// Lets the gates that read a signal wait, each at its level, and tells whether an observer reads
-/// it.
+/// it. A plain read of the reader's row ahead of its turn gained nothing (0.92 to 1.20 of the time
+/// on eight cases), and Rattle has no prefetch.
 #[inline(always)]
 fn schedule_fanout(circuit: &FlatCircuit, signal: u32, buckets: &mut Buckets) -> bool
     requires circuit { IsCircuit circuit.now.levelled }
@@ -153,9 +154,10 @@ fn evaluate_waiting(view: BlockView<'_>, kept: u128, gate: u32, changes: &mut Ch
         return 0;
     }
     match view.circuit.gate_of(gate) {
-        Some(line) => {
+        Some(driver) => {
             let delta = changes.overlay.words();
-            let word = evaluate_gate(line, gate, None, view.good, delta, &mut changes.evaluations);
+            let evaluations = &mut changes.evaluations;
+            let word = evaluate_gate(driver, gate, None, view.good, delta, evaluations);
             let diff = (word ^ view.good[gate as usize]) & kept;
             if diff == 0 {
                 return 0;

@@ -17,8 +17,8 @@ ghost use Rattle.fault_model.specs.Solution.{is_odd, value, under};
 ghost use Rattle.patterns.specs.Tests.{IsWord, blocks};
 ghost use Rattle.block_sim.specs.Spans.{groups};
 ghost use Rattle.block_sim.specs.Flat.{HasEnds};
-ghost use Rattle.block_sim.specs.Forms.{IsFormOf, inverted};
-ghost use Rattle.block_sim.specs.Words.{lane, overlaid, pin_bits, AreWords, IsGroupWord};
+ghost use Rattle.block_sim.specs.Forms.{IsFormOf, inverted_if};
+ghost use Rattle.block_sim.specs.Words.{lane, word_over, pin_bits, AreWords, IsGroupWord};
 ghost use Rattle.block_sim.specs.Words.{IsSignalWord};
 ghost use Rattle.block_sim.specs.Stuck.{fault_of, stuck_fault};
 
@@ -90,7 +90,7 @@ fn pin_word(
     requires same { length words.now ≤ length delta.now }
     requires few { length gate.pins.now ≤ max_sinks }
     ensures { (k : ℕ) → k < 128 → lane result k ≡ under (fault_of fault) (Pin signal place)
-        (lane (overlaid words.now delta.now (slice_index_or gate.entry.pins.now place 0)) k) }
+        (lane (word_over words.now delta.now (slice_index_or gate.entry.pins.now place 0)) k) }
 {
     let own = Line::Pin {
         gate: signal,
@@ -124,7 +124,7 @@ fn folds_of(
     requires few { length gate.pins.now ≤ max_sinks }
     requires ends { HasEnds gate.pins.now gate.first gate.last }
     ensures all { (k : ℕ) → k < 128
-        → lane result.all k ≡ list_all (λ b. inverted gate.entry.form.inverts_inputs b)
+        → lane result.all k ≡ list_all (λ b. inverted_if gate.entry.form.inverts_inputs b)
         (pin_bits (fault_of fault) signal gate.entry.pins.now words.now delta.now k) }
     ensures odd { (k : ℕ) → k < 128 → lane result.odd k
         ≡ is_odd (pin_bits (fault_of fault) signal gate.entry.pins.now words.now delta.now k) }

@@ -8,7 +8,7 @@ ghost use Rattle.patterns.specs.Tests.{blocks};
 ghost use Rattle.block_sim.specs.First.{AreDetecting, AreTold, IsTrueOutcome};
 ghost use Rattle.block_sim.specs.Parts.{HasRoom};
 ghost use Rattle.block_sim.specs.Spans.{one_block};
-ghost use Rattle.block_sim.specs.Spreading.{EndsAtHits, IsSettled};
+ghost use Rattle.block_sim.specs.Spreading.{IsSettled};
 ghost use Rattle.block_sim.specs.ActiveGates.{HasActive};
 
 use crate::block_lanes::{block_word, least_lane};
@@ -98,7 +98,8 @@ pub fn simulate(job: &Job, workspace: &mut Workspace, class: u32, block: u32) ->
         → HasActive job.now.circuit job.now.tests.tests block r gates
         → workspace.new.evaluations ≤ workspace.old.evaluations + length gates }
 {
-    outcome(job, workspace, class, block, Extent::WholeBlock)
+    let lanes = told(job, workspace, class, block, Extent::WholeBlock);
+    least_lane(block_word(lanes, block))
 }
 
 /// The outcome of a class on a block, as [`simulate`] gives it and within the same bound. Only the
@@ -123,7 +124,8 @@ pub fn first_hit(job: &Job, workspace: &mut Workspace, class: u32, block: u32) -
         place: class as usize,
         lanes: !0,
     }];
-    outcome(job, workspace, class, block, Extent::FirstHits(&all))
+    let lanes = told(job, workspace, class, block, Extent::FirstHits(&all));
+    least_lane(block_word(lanes, block))
 }
 
 /// The tests of a block that detect a class: bit k, from the least, is 1 exactly where test
@@ -148,31 +150,6 @@ pub fn detecting(job: &Job, workspace: &mut Workspace, class: u32, block: u32) -
 {
     let word = told(job, workspace, class, block, Extent::WholeBlock);
     block_word(word, block)
-}
-
-/// The outcome of a class on a block, by following its lanes so far.
-fn outcome(
-    job: &Job,
-    workspace: &mut Workspace,
-    class: u32,
-    block: u32,
-    extent: Extent<'_>,
-) -> Outcome
-    requires class { class < length job.now.classes.representative }
-    requires block { block < blocks (length job.now.tests.tests) }
-    requires fits { HasRoom workspace.old job.now }
-    requires ends { EndsAtHits extent }
-    ensures outcome { IsTrueOutcome job.now.list.model job.now.circuit
-        job.now.tests.tests class block result }
-    ensures room { workspace.new.signals ≡ workspace.old.signals }
-    ensures grown { workspace.old.evaluations ≤ workspace.new.evaluations }
-    ensures counted { (r : Fault) (gates : List ℕ)
-        → slice_get (representatives job.now.list.model job.now.circuit) class ≡ Some r
-        → HasActive job.now.circuit job.now.tests.tests block r gates
-        → workspace.new.evaluations ≤ workspace.old.evaluations + length gates }
-{
-    let word = told(job, workspace, class, block, extent);
-    least_lane(block_word(word, block))
 }
 
 /// The lanes, in the word of its group, of a block whose tests detect a class, as far as they are

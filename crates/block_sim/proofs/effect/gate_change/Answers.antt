@@ -11,21 +11,21 @@ use Rattle.block_sim.proofs.effect.gate_change.Goals as goal
 pub evaluate_gate-word-requires-clause-pins_in : goal.evaluate_gate-word-requires-clause-pins_in
 evaluate_gate-word-requires-clause-pins_in c =
     λ k d lt.
-    let within = pins_within c.args.view.circuit.now.levelled c.args.gate c.in-Some.line.kind
-    c.in-Some.line.pins.now c.requires.view.circuit.well_formed (sym c.in-Some.ensures.gate) k d
+    let within = pins_within c.args.view.circuit.now.levelled c.args.gate c.in-Some.driver.kind
+    c.in-Some.driver.pins.now c.requires.view.circuit.well_formed (sym c.in-Some.ensures.gate) k d
     lt in
     omega (arith, within, c.requires.view.count)
 
 pub evaluate_gate-word-requires-clause-some : goal.evaluate_gate-word-requires-clause-some
 evaluate_gate-word-requires-clause-some c =
-    pins_some c.args.view.circuit.now.levelled c.args.gate c.in-Some.line.kind
-    c.in-Some.line.pins.now
+    pins_some c.args.view.circuit.now.levelled c.args.gate c.in-Some.driver.kind
+    c.in-Some.driver.pins.now
     c.requires.view.circuit (sym c.in-Some.ensures.gate)
 
 pub evaluate_gate-word-requires-clause-few : goal.evaluate_gate-word-requires-clause-few
 evaluate_gate-word-requires-clause-few c =
-    pins_few c.args.view.circuit.now.levelled c.args.gate c.in-Some.line.kind
-    c.in-Some.line.pins.now
+    pins_few c.args.view.circuit.now.levelled c.args.gate c.in-Some.driver.kind
+    c.in-Some.driver.pins.now
     c.requires.view.circuit (sym c.in-Some.ensures.gate)
 
 pub returns-clause-inside : goal.returns-clause-inside
@@ -33,7 +33,7 @@ returns-clause-inside c = λ k lt e. only_lanes _ c.args.view.lanes k e
 
 pub returns-clause-changed : goal.returns-clause-changed
 returns-clause-changed c = λ kind pins k is lt in_lanes.
-    let own = c.in-Some.line in
+    let own = c.in-Some.driver in
     let same : (own.kind, own.pins.now) ≡ (kind, pins) =
     ap (λ (o : Option (Kind × List ℕ)). unwrap_or o (kind, pins)) (c.in-Some.ensures.gate
     ∙ is) in

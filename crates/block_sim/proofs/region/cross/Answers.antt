@@ -19,22 +19,22 @@ change-requires-clause-signal c =
 
 pub evaluate_gate-word-requires-clause-some : goal.evaluate_gate-word-requires-clause-some
 evaluate_gate-word-requires-clause-some c =
-    pins_some c.args.view.circuit.now.levelled c.args.gate c.in-Some.line.kind
-    c.in-Some.line.pins.now
+    pins_some c.args.view.circuit.now.levelled c.args.gate c.in-Some.driver.kind
+    c.in-Some.driver.pins.now
     c.requires.view.circuit (sym c.in-Some.ensures.gate)
 
 pub evaluate_gate-word-requires-clause-pins_in : goal.evaluate_gate-word-requires-clause-pins_in
 evaluate_gate-word-requires-clause-pins_in c =
     λ k d lt.
-    let within = pins_within c.args.view.circuit.now.levelled c.args.gate c.in-Some.line.kind
-    c.in-Some.line.pins.now c.requires.view.circuit.well_formed (sym c.in-Some.ensures.gate) k d
+    let within = pins_within c.args.view.circuit.now.levelled c.args.gate c.in-Some.driver.kind
+    c.in-Some.driver.pins.now c.requires.view.circuit.well_formed (sym c.in-Some.ensures.gate) k d
     lt in
     omega (arith, within, c.requires.view.count)
 
 pub evaluate_gate-word-requires-clause-few : goal.evaluate_gate-word-requires-clause-few
 evaluate_gate-word-requires-clause-few c =
-    pins_few c.args.view.circuit.now.levelled c.args.gate c.in-Some.line.kind
-    c.in-Some.line.pins.now
+    pins_few c.args.view.circuit.now.levelled c.args.gate c.in-Some.driver.kind
+    c.in-Some.driver.pins.now
     c.requires.view.circuit (sym c.in-Some.ensures.gate)
 
 pub bounds-view-gate : goal.bounds-view-gate
@@ -53,7 +53,7 @@ returns-clause-come c = λ tests group f words come.
     let circuit = c.args.view.circuit.now.levelled in
     let good = c.args.view.good.now in
     let s = c.args.at.signal in
-    let own = c.in-Some.line in
+    let own = c.in-Some.driver in
     let low = read_within circuit c.args.gate s c.requires.view.circuit.well_formed
     c.requires.read.reads in
     let within : s < length c.args.changes.now.overlay = omega (

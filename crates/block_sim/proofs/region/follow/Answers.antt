@@ -149,8 +149,8 @@ returns-in-Pin-clause-reached c = λ tests group words.
     let low : c.in-Pin.gate < length (names circuit) =
     gate_within circuit c.in-Pin.gate c.in-Pin.pin n.0 reads in
     c.arrive-in-Pin.ensures.come tests group fault words
-    (pin_come circuit well tests group fault good words lanes c.args.origin.fault.model c.requires.listed
-    c.in-Pin.gate c.in-Pin.pin c.in-Pin.is p.kind (map (signal circuit) p.args)
+    (pin_come circuit well tests group fault good words lanes c.args.origin.fault.model
+    c.requires.listed c.in-Pin.gate c.in-Pin.pin c.in-Pin.is p.kind (map (signal circuit) p.args)
     c.args.changes.now.overlay c.gate_change-lanes.result gate_is c.requires.clear.words
     (λ k lt in_lanes. c.gate_change-lanes.ensures.changed p.kind (map (signal circuit) p.args) k
     gate_is lt in_lanes))

@@ -4,7 +4,8 @@ use Rattle.block_sim.specs.RegionHits.{AreFollowedAt, HaveFirstsBut}
 use Rattle.block_sim.specs.Simulation.{AreFollowed}
 use Rattle.block_sim.proofs.Moments.{large_enough, large_on}
 use Rattle.block_sim.proofs.RegionHits.{as_many, at_more, arrived_more, found_known, found_more}
-use Rattle.block_sim.proofs.RegionHits.{listed_at, others_more, some_at, ways_more, ways_none, ways_same}
+use Rattle.block_sim.proofs.RegionHits.{listed_at, others_more, some_at, ways_more, ways_none}
+use Rattle.block_sim.proofs.RegionHits.{ways_same}
 use Rattle.block_sim.proofs.region_simulation.follow_region.Goals as goal
 
 pub loop-place-init : goal.loop-place-init

@@ -26,7 +26,8 @@ bounds-memos-one c =
     let there : Contains followed one = (
       i,
       c.loop-one-test.true,
-      get_or_default followed i one (record { class = 0; place = 0; lanes = 0 }) c.loop-one-test.true,
+      get_or_default followed i one (record { class = 0; place = 0; lanes = 0 })
+          c.loop-one-test.true,
     ) in
     let lt = (c.requires.followed one there).0 in
     omega (arith, lt, c.loop-one.invariant.count)
@@ -129,7 +130,8 @@ returns-clause-memos c = record {
     go : (class : ℕ) → IsTrueMemo c.args.job.now class
         (slice_index_or c.loop-one.memos class Nothing)
         ⊎ ((i : ℕ) × (c.loop-one.one-index ≤ i) × (i < length c.args.followed.now)
-        × ((slice_index_or c.args.followed.now i (record { class = 0; place = 0; lanes = 0 })).class ≡ class))
+        × ((slice_index_or c.args.followed.now i
+        (record { class = 0; place = 0; lanes = 0 })).class ≡ class))
         → IsTrueMemo c.args.job.now class (slice_index_or c.loop-one.memos class Nothing)
     go class (inl h) = h
     go class (inr r) = let le = r.1 in let lt = r.2 in

@@ -22,21 +22,21 @@ returns-then-kept-eq0-clause-leads c = λ now seen.
 pub evaluate_gate-word-requires-clause-pins_in : goal.evaluate_gate-word-requires-clause-pins_in
 evaluate_gate-word-requires-clause-pins_in c =
     λ k d lt.
-    let within = pins_within c.args.view.circuit.now.levelled c.args.gate c.in-Some.line.kind
-    c.in-Some.line.pins.now c.requires.view.circuit.well_formed (sym c.in-Some.ensures.gate) k d
+    let within = pins_within c.args.view.circuit.now.levelled c.args.gate c.in-Some.driver.kind
+    c.in-Some.driver.pins.now c.requires.view.circuit.well_formed (sym c.in-Some.ensures.gate) k d
     lt in
     omega (arith, within, c.requires.view.count)
 
 pub evaluate_gate-word-requires-clause-some : goal.evaluate_gate-word-requires-clause-some
 evaluate_gate-word-requires-clause-some c =
-    pins_some c.args.view.circuit.now.levelled c.args.gate c.in-Some.line.kind
-    c.in-Some.line.pins.now
+    pins_some c.args.view.circuit.now.levelled c.args.gate c.in-Some.driver.kind
+    c.in-Some.driver.pins.now
     c.requires.view.circuit (sym c.in-Some.ensures.gate)
 
 pub evaluate_gate-word-requires-clause-few : goal.evaluate_gate-word-requires-clause-few
 evaluate_gate-word-requires-clause-few c =
-    pins_few c.args.view.circuit.now.levelled c.args.gate c.in-Some.line.kind
-    c.in-Some.line.pins.now
+    pins_few c.args.view.circuit.now.levelled c.args.gate c.in-Some.driver.kind
+    c.in-Some.driver.pins.now
     c.requires.view.circuit (sym c.in-Some.ensures.gate)
 
 pub returns-then-diff-eq0-clause-leads : goal.returns-then-diff-eq0-clause-leads
@@ -46,7 +46,7 @@ returns-then-diff-eq0-clause-leads c = λ now seen.
     let old = c.args.changes.now in
     let gate = c.args.gate in
     let word = c.evaluate_gate-word.result in
-    let own = c.in-Some.line in
+    let own = c.in-Some.driver in
     let valued : (k : ℕ) → k < 128
     → lane word k ≡ value own.kind (pin_bits None gate own.pins.now good old.overlay k) =
     λ k lt. c.evaluate_gate-word.ensures.value k lt
@@ -70,7 +70,7 @@ returns-clause-leads c = λ now seen.
     let old = c.args.changes.now in
     let gate = c.args.gate in
     let word = c.evaluate_gate-word.result in
-    let own = c.in-Some.line in
+    let own = c.in-Some.driver in
     let valued : (k : ℕ) → k < 128
     → lane word k ≡ value own.kind (pin_bits None gate own.pins.now good old.overlay k) =
     λ k lt. c.evaluate_gate-word.ensures.value k lt

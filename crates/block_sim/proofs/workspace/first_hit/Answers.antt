@@ -1,14 +1,24 @@
-use Rattle.std.proofs.Common.{refl, arith}
+use Rattle.std.proofs.Common.{refl, arith, [], ◌∷◌}
 use Rattle.block_sim.specs.declared.spread.Followed.{Followed}
+use Rattle.block_sim.specs.Spreading.{HaveHits}
+use Rattle.block_sim.proofs.DetectingTests.{outcome_of_lanes}
 use Rattle.block_sim.proofs.Lanes.{lane_ones}
 use Rattle.block_sim.proofs.workspace.first_hit.Goals as goal
 
-pub outcome-requires-clause-ends : goal.outcome-requires-clause-ends
-outcome-requires-clause-ends c = λ seen k lt settled.
+pub returns-clause-outcome : goal.returns-clause-outcome
+returns-clause-outcome c =
+    let job = c.args.job.now in
+    let told = c.told-lanes.ensures.told in
     let all : Followed = record {
       class = c.args.class;
       place = c.args.class;
       lanes = 340282366920938463463374607431768211455;
-    } in
-    let j = settled all (0, omega arith, refl) (lane_ones 128 k lt) in
-    (j.0, j.1, j.3)
+    } in (
+      told.0,
+      told.1,
+      outcome_of_lanes job.circuit job.tests.tests c.args.block told.0
+          (HaveHits (all ∷ []) c.told-lanes.result) c.told-lanes.result c.block_word.result told.2
+          c.block_word.ensures
+          (λ k lt settled. let j = settled all (0, omega arith, refl) (lane_ones 128 k lt) in
+          (j.0, j.1, j.3)) c.least_lane.result c.least_lane.ensures,
+    )

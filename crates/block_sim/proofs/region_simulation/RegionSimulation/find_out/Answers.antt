@@ -106,7 +106,8 @@ returns-clause-others c = λ place outside.
       | inl x ↦ omega (arith, x, from, at)
       | inr x ↦ omega (arith, x, to, at)
     ] in
-    ap (λ l. slice_get l place) (written c.self.inside.hits.len last (drop (length last) items) long)
+    ap (λ l. slice_get l place)
+    (written c.self.inside.hits.len last (drop (length last) items) long)
     ∙ (c.conclude.ensures.kept place none ∙ (c.follow_region.ensures.others place outside
     ∙ (ap (λ l. slice_get l place) c.as_mut_slice-hits.ensures.value
     ∙ ap (λ v. slice_get v.hits place) c.self.view_is)))

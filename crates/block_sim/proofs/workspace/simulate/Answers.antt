@@ -1,15 +1,16 @@
+use Rattle.block_sim.specs.declared.spread.Extent.TheVariants.{WholeBlock}
 use Rattle.block_sim.specs.Spreading.{IsSettled}
 use Rattle.block_sim.proofs.DetectingTests.{outcome_of_lanes}
-use Rattle.block_sim.proofs.workspace.outcome.Goals as goal
+use Rattle.block_sim.proofs.workspace.simulate.Goals as goal
 
 pub returns-clause-outcome : goal.returns-clause-outcome
 returns-clause-outcome c =
     let job = c.args.job.now in
-    let told = c.told-word.ensures.told in (
+    let told = c.told-lanes.ensures.told in (
       told.0,
       told.1,
       outcome_of_lanes job.circuit job.tests.tests c.args.block told.0
-          (IsSettled c.args.extent c.told-word.result) c.told-word.result c.block_word.result told.2
-          c.block_word.ensures (c.requires.ends c.told-word.result) c.least_lane.result
+          (IsSettled WholeBlock c.told-lanes.result) c.told-lanes.result c.block_word.result told.2
+          c.block_word.ensures (λ k lt never. absurd never) c.least_lane.result
           c.least_lane.ensures,
     )
