@@ -3,8 +3,8 @@
 //! Whether a text is accepted is never decided here but by `bench_net::read_bench`.
 
 use crate::note::Note;
-use crate::scan::{Place, Token, is_blank, token_from};
 use crate::suggest::{nearest_gate, nearest_port};
+use crate::tokens::{Place, Token, is_blank, token_from};
 use std::alloc::{AllocError, AllocFailed, Global};
 
 /// A name with its place.

@@ -3,7 +3,7 @@
 use crate::finding::{Fault, Finding, Found};
 use crate::look::{Look, content_of, look_at, without_return};
 use crate::note::Note;
-use crate::scan::Place;
+use crate::tokens::Place;
 use patterns::{MAX_TESTS, TestFault};
 use std::alloc::{AllocError, Global};
 
