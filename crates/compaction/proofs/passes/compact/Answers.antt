@@ -3,9 +3,9 @@ use Rattle.std.specs.Prelude.{◌||◌}
 use Rattle.fault_model.specs.declared.Model.TheVariants.{StuckAt}
 use Rattle.compaction.specs.Compaction.{IsCompaction, marked}
 use Rattle.compaction.specs.Marks.{AreLast}
-use Rattle.compaction.proofs.Kept.{AreWithBefore, before_compacted, ok_as, stuck_compacted}
-use Rattle.compaction.proofs.Kept.{written_over}
-use Rattle.compaction.proofs.Marked.{marked_few}
+use Rattle.compaction.proofs.KeptTests.{AreWithBefore, before_compacted, ok_as, stuck_compacted}
+use Rattle.compaction.proofs.KeptTests.{written_over}
+use Rattle.compaction.proofs.ElementsAtMarks.{marked_few}
 use Rattle.compaction.proofs.passes.compact.Goals as goal
 
 pub last_tests-requires-clause-few : goal.last_tests-requires-clause-few

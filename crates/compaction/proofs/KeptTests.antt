@@ -31,9 +31,9 @@ use Rattle.workers.specs.Verdict.{AreFirsts}
 use Rattle.compaction.specs.Compaction.{Covers, IsCompaction, IsFirstForSome, IsLastForSome}
 use Rattle.compaction.specs.Compaction.{IsNeeded, finds, is_first, marked}
 use Rattle.compaction.specs.Marks.{AreFinding, AreLast}
-use Rattle.compaction.proofs.Marked.{ComesFrom, comes_from, earlier_place, marked_at, ones}
-use Rattle.compaction.proofs.Marked.{ones_next, ones_stay, sublist_twice}
-use Rattle.compaction.proofs.Turned.{turned_back, turned_to}
+use Rattle.compaction.proofs.ElementsAtMarks.{ComesFrom, comes_from, earlier_place, marked_at, ones}
+use Rattle.compaction.proofs.ElementsAtMarks.{ones_next, ones_stay, sublist_twice}
+use Rattle.compaction.proofs.TurnedLists.{turned_back, turned_to}
 
 -- ---- marks by first tests
 
