@@ -11,7 +11,7 @@ use Rattle.bench_net.specs.declared.levels.Mark.TheVariants.{Unknown, Open, Leve
 use Rattle.bench_net.specs.Level.{greatest}
 use Rattle.bench_net.specs.declared.levels.OpenGate.{OpenGate}
 use Rattle.bench_net.specs.Marks.{AreLevelsOf, HaveLevels, no_signal, one_more, IsLowestStuck}
-use Rattle.bench_net.specs.Marks.{HaveLevelsBelow, is_unknown, waiting, steps, pins_left}
+use Rattle.bench_net.specs.Marks.{HaveLevelsBelow, is_unknown, waiting_in, steps, pins_left}
 use Rattle.bench_net.specs.Marks.{signals_of, IsMark, IsOpen, IsPath, IsSearch, level_in}
 use Rattle.lists.proofs.Members.{Among, among, mapped_from}
 use Rattle.lists.proofs.Places.{at_place, within_place}
@@ -73,14 +73,14 @@ start_on pins begun start g [] e is = inl (omega (arith, e, is.0))
 start_on pins begun start g (h ∷ path) e is = inr (start_on pins begun start h path e is.1)
 
 module _ {pins : ℕ → List ℕ} {n begun : ℕ} {marks : List Mark} where
-  room : (path : List OpenGate) → IsSearch pins n begun marks path → waiting marks path ≤ n
+  room : (path : List OpenGate) → IsSearch pins n begun marks path → waiting_in marks path ≤ n
   room [] state = omega (arith, count_by-le-length is_unknown marks, state.count)
   room (gate ∷ path) state = omega (arith, (state.opens gate (inl refl)).2)
 
   module _ {path : List OpenGate} (state : IsSearch pins n begun marks path) where
     -- a mark is written, and the path becomes another
     marked : (later : ℕ) (after : List OpenGate) (g : ℕ) (m : Mark)
-        → let waits = waiting (set marks g m) after in waits ≤ waiting marks path
+        → let waits = waiting_in (set marks g m) after in waits ≤ waiting_in marks path
         → IsMark pins n later waits (signals_of after) g m
         → ((s : ℕ) → s ≢ g → Among s (signals_of path) → Among s (signals_of after))
         → ((h : OpenGate) → Among h after → Among h path ⊎ IsOpen pins n waits h)

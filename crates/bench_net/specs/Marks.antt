@@ -58,8 +58,8 @@ is_unknown Unknown = true
 is_unknown _ = false
 
 -- how many signals wait for a level, where a path leads through the open ones
-abbrev pub waiting : List Mark → List OpenGate → ℕ
-waiting marks path = count_by is_unknown marks + length path
+abbrev pub waiting_in : List Mark → List OpenGate → ℕ
+waiting_in marks path = count_by is_unknown marks + length path
 
 -- how many steps are left at most
 abbrev pub pins_left : (ℕ → List ℕ) → OpenGate → ℕ
@@ -100,9 +100,9 @@ pub record IsSearch (pins : ℕ → List ℕ) (signals begun : ℕ) (marks : Lis
     (path : List OpenGate) : Type 0 where
   pub count : length marks ≡ signals
   pub each : (s : ℕ) (m : Mark) → slice_get marks s ≡ Some m
-      → IsMark pins signals begun (waiting marks path) (signals_of path) s m
+      → IsMark pins signals begun (waiting_in marks path) (signals_of path) s m
   pub opens : (gate : OpenGate) → Among gate path
-      → IsOpen pins signals (waiting marks path) gate
+      → IsOpen pins signals (waiting_in marks path) gate
   pub path_is : IsPath pins begun (signals_of path)
 
 -- the level in a mark

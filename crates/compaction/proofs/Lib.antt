@@ -1,4 +1,4 @@
-mod Marked
-mod Turned
-mod Kept
+mod ElementsAtMarks
+mod TurnedLists
+mod KeptTests
 pub mod Public

@@ -11,15 +11,15 @@ use Rattle.fault_model.specs.Detection.{DetectsAt}
 use Rattle.block_sim.specs.First.{IsFirst}
 
 -- the elements at the places that are marked, in order
-abbrev pub marked : {X : Type 0} → List Bool → List X → List X
-marked [] xs = []
-marked (mark ∷ marks) [] = []
-marked (true ∷ marks) (x ∷ xs) = x ∷ marked marks xs
-marked (false ∷ marks) (x ∷ xs) = marked marks xs
+abbrev pub at_marks : {X : Type 0} → List Bool → List X → List X
+at_marks [] xs = []
+at_marks (mark ∷ marks) [] = []
+at_marks (true ∷ marks) (x ∷ xs) = x ∷ at_marks marks xs
+at_marks (false ∷ marks) (x ∷ xs) = at_marks marks xs
 
 -- the elements are some of a list, in its order
 abbrev pub IsSublist : {X : Type 0} → List X → List X → Type 0
-IsSublist some xs = (marks : List Bool) × (length marks ≡ length xs) × (some ≡ marked marks xs)
+IsSublist some xs = (marks : List Bool) × (length marks ≡ length xs) × (some ≡ at_marks marks xs)
 
 -- whether a test is the first of a fault, and whether it is the first of one of many
 abbrev pub is_first : ℕ → Option ℕ → Bool

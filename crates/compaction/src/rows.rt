@@ -3,7 +3,7 @@
 ghost use Rattle.std.specs.Prelude.{◌≡◌, ◌+◌, ◌<◌, ◌≤◌, ◌++◌, ◌∷◌, [], IfOk, OnOk, length};
 ghost use Rattle.std.specs.Prelude.{slice_index_or};
 ghost use Rattle.std.specs.List.{ReversedBelow};
-ghost use Rattle.compaction.specs.Compaction.{marked};
+ghost use Rattle.compaction.specs.Compaction.{at_marks};
 ghost use Rattle.patterns.specs.Tests.{IsTestList, max_tests};
 
 use patterns::{PushFault, Tests};
@@ -12,7 +12,7 @@ use std::alloc::{AllocError, Global};
 /// The tests of a list that are marked, in order.
 pub fn marked_tests(alloc: Global, tests: &Tests, marks: &[bool]) -> Result<Tests, AllocError>
     requires { length marks.now ≡ length tests.now.tests }
-    ensures rows { IfOk result (λ kept. kept.tests ≡ marked marks.now tests.now.tests) }
+    ensures rows { IfOk result (λ kept. kept.tests ≡ at_marks marks.now tests.now.tests) }
     ensures list { IfOk result (λ kept. IsTestList kept) }
     ensures width { IfOk result (λ kept. kept.width ≡ tests.now.width) }
 {

@@ -24,7 +24,7 @@ use Rattle.fault_ledger.specs.History.{History, claims, held_by, holds, state_of
 use Rattle.fault_ledger.specs.History.{piece_count}
 use Rattle.fault_ledger.specs.History.{class_of, block_of, piece_at}
 use Rattle.fault_ledger.specs.Answer.{fits_size, is_hit, has_earlier_hit, claim_reply, report_reply}
-use Rattle.fault_ledger.specs.Answer.{drop_reply, answer, added, after, IsLegal}
+use Rattle.fault_ledger.specs.Answer.{drop_reply, answer, events_of, after, IsLegal}
 use Rattle.fault_ledger.specs.Face.{Face, face, IsLedger, Answers}
 use Rattle.fault_ledger.specs.Lowest.{hit_below}
 use Rattle.patterns.proofs.Public.{length-map-below, get_or-map-below}
@@ -80,10 +80,10 @@ state-entry f h p e l = ap (λ x. slice_index_or x p state.Open) (states-is f h 
 
 -- a reply that is the answer, and a face that is that of the history with what the reply adds
 pub answered : (f g : Face) (c : Call) (r : Reply) → ((h : History) → IsLegal f.shape h
-    → f ≡ face f.shape h → (r ≡ answer f.shape h c) × (g ≡ face f.shape (added c r ++ h)))
+    → f ≡ face f.shape h → (r ≡ answer f.shape h c) × (g ≡ face f.shape (events_of c r ++ h)))
     → Answers f c r g
 answered f g c r i h l e = let x = i h l e in
-    (x.0, subst (λ (y : Reply). g ≡ face f.shape (added c y ++ h)) x.0 x.1)
+    (x.0, subst (λ (y : Reply). g ≡ face f.shape (events_of c y ++ h)) x.0 x.1)
 
 -- what every ledger is
 pub ledger-holding : (f : Face) → IsLedger f → length f.holding ≡ f.shape.workers

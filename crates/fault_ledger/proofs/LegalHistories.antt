@@ -22,7 +22,7 @@ use Rattle.fault_ledger.specs.History.{History, claims, held_by, holds, state_of
 use Rattle.fault_ledger.specs.History.{piece_count}
 use Rattle.fault_ledger.specs.History.{class_of, block_of, piece_at, ContinuesWithout}
 use Rattle.fault_ledger.specs.Answer.{fits_size, is_hit, has_earlier_hit, claim_reply, report_reply}
-use Rattle.fault_ledger.specs.Answer.{drop_reply, answer, added, after, IsLegal}
+use Rattle.fault_ledger.specs.Answer.{drop_reply, answer, events_of, after, IsLegal}
 use Rattle.fault_ledger.specs.Answer.{SkippedIsNeverFirst}
 use Rattle.fault_ledger.proofs.Histories.{held_below, holds-held, entry_past}
 use Rattle.fault_ledger.proofs.PieceNumbers.{class_of-at, block_of-at}
@@ -35,13 +35,14 @@ pub claim_accepted : (s : Shape) (h : History) (w : ℕ) → after s h (call.Cla
     ≡ Event.Claim w ∷ h → (w < s.workers) × (held_by w h ≡ None) × (claims h < piece_count s)
 claim_accepted s h w e = go (nat_lt w s.workers) (held_by w h) refl refl e
   where
-    more : (m : Bool) → added (call.Claim w)
+    more : (m : Bool) → events_of (call.Claim w)
         (if m then Claimed (claim_is.Piece (class_of s (claims h)) (block_of s (claims h)))
         else Claimed claim_is.Exhausted) ++ h ≡ Event.Claim w ∷ h → m ≡ true
     more true e = refl
     more false e = absurd (grew h (Event.Claim w) e)
 
-    go : (b : Bool) (o : Option ℕ) → nat_lt w s.workers ≡ b → held_by w h ≡ o → added (call.Claim w)
+    go : (b : Bool) (o : Option ℕ) → nat_lt w s.workers ≡ b → held_by w h ≡ o
+        → events_of (call.Claim w)
         (if b then claim_reply s h o else Refused NoSuchWorker) ++ h ≡ Event.Claim w ∷ h
         → (w < s.workers) × (held_by w h ≡ None) × (claims h < piece_count s)
     go true None x y e = (
@@ -57,13 +58,13 @@ pub report_accepted : (s : Shape) (h : History) (w : ℕ) (o : Outcome)
     × (held_by w h ≡ Some p) × (fits_size (size_of s.tests (block_of s p)) o ≡ true)
 report_accepted s h w o e = go (nat_lt w s.workers) (held_by w h) refl refl e
   where
-    more : (m : Bool) → added (call.Report w o) (if m then Done else Refused BadOutcome) ++ h
+    more : (m : Bool) → events_of (call.Report w o) (if m then Done else Refused BadOutcome) ++ h
         ≡ Event.Report w o ∷ h → m ≡ true
     more true e = refl
     more false e = absurd (grew h (Event.Report w o) e)
 
     go : (b : Bool) (x : Option ℕ) → nat_lt w s.workers ≡ b → held_by w h ≡ x
-        → added (call.Report w o)
+        → events_of (call.Report w o)
         (if b then report_reply s o x else Refused NoSuchWorker) ++ h ≡ Event.Report w o ∷ h
         → (p : ℕ) × (w < s.workers) × (held_by w h ≡ Some p)
         × (fits_size (size_of s.tests (block_of s p)) o ≡ true)
@@ -76,12 +77,13 @@ pub drop_accepted : (s : Shape) (h : History) (w : ℕ) → after s h (call.Drop
     → (p : ℕ) × (w < s.workers) × (held_by w h ≡ Some p) × (has_earlier_hit s h p ≡ true)
 drop_accepted s h w e = go (nat_lt w s.workers) (held_by w h) refl refl e
   where
-    more : (m : Bool) → added (call.Drop w) (if m then Done else Refused NoEarlierHit) ++ h
+    more : (m : Bool) → events_of (call.Drop w) (if m then Done else Refused NoEarlierHit) ++ h
         ≡ Event.Drop w ∷ h → m ≡ true
     more true e = refl
     more false e = absurd (grew h (Event.Drop w) e)
 
-    go : (b : Bool) (x : Option ℕ) → nat_lt w s.workers ≡ b → held_by w h ≡ x → added (call.Drop w)
+    go : (b : Bool) (x : Option ℕ) → nat_lt w s.workers ≡ b → held_by w h ≡ x
+        → events_of (call.Drop w)
         (if b then drop_reply s h x else Refused NoSuchWorker) ++ h ≡ Event.Drop w ∷ h
         → (p : ℕ) × (w < s.workers) × (held_by w h ≡ Some p) × (has_earlier_hit s h p ≡ true)
     go true None y z e = absurd (grew h (Event.Drop w) e)
@@ -92,11 +94,11 @@ drop_accepted s h w e = go (nat_lt w s.workers) (held_by w h) refl refl e
 pub legal_after : (s : Shape) (h : History) (c : Call) → IsLegal s h → IsLegal s (after s h c)
 legal_after s h c l = go c (answer s h c) refl
   where
-    go : (c : Call) (r : Reply) → answer s h c ≡ r → IsLegal s (added c r ++ h)
+    go : (c : Call) (r : Reply) → answer s h c ≡ r → IsLegal s (events_of c r ++ h)
     go (call.Claim w) (Claimed (claim_is.Piece class block)) e =
-        (ap (λ r. added (call.Claim w) r ++ h) e, l)
-    go (call.Report w o) Done e = (ap (λ r. added (call.Report w o) r ++ h) e, l)
-    go (call.Drop w) Done e = (ap (λ r. added (call.Drop w) r ++ h) e, l)
+        (ap (λ r. events_of (call.Claim w) r ++ h) e, l)
+    go (call.Report w o) Done e = (ap (λ r. events_of (call.Report w o) r ++ h) e, l)
+    go (call.Drop w) Done e = (ap (λ r. events_of (call.Drop w) r ++ h) e, l)
     go c r e = l
 
 -- what a legal history begins with is legal

@@ -22,7 +22,7 @@ use Rattle.fault_ledger.specs.declared.Call.TheVariants as call
 use Rattle.fault_ledger.specs.declared.words.View.{View}
 use Rattle.fault_ledger.specs.History.{History, piece_count, block_of, worker_of, state_of, claims}
 use Rattle.fault_ledger.specs.History.{held_by, holds, entry}
-use Rattle.fault_ledger.specs.Answer.{fits_size, has_earlier_hit, added, after, call_of}
+use Rattle.fault_ledger.specs.Answer.{fits_size, has_earlier_hit, events_of, after, call_of}
 use Rattle.fault_ledger.specs.Words.{code_of, field, field_in, in_field, word_with, total, times}
 use Rattle.fault_ledger.specs.Words.{told_of, ForEach, Knows, IsKeptBy, IsKept, one, post, Claims}
 use Rattle.fault_ledger.specs.Words.{Reports, Drops}
@@ -158,7 +158,7 @@ module _ {S : Type 0} (s : Shape) (slots id w : ℕ) (seen : History) (out : Lis
       let e = Event.Claim w in
       let counted : claims h ≡ n = kept.counted ∙ min-eq_left (omega arith) in
       let accepts : after s h (call.Claim w) ≡ e ∷ h =
-      ap (λ r. added (call.Claim w) r ++ h) (claim_answer s h w mine.among
+      ap (λ r. events_of (call.Claim w) r ++ h) (claim_answer s h w mine.among
       (held_still s h t.words t.views kept id w false seen at ∙ free) (omega arith)) in
       let now = set t.words 0 ((n + 1) % 2 ^ 64) in
       let sized = kept.sized in
@@ -304,7 +304,8 @@ module _ {S : Type 0} (s : Shape) (slots id w p : ℕ) (told : Bool) (seen : His
       let here : held_by w h ≡ Some p = held_still s h t.words t.views kept.1 id w told seen at
       ∙ holding in
       let accepts : after s h (call.Report w o) ≡ e ∷ h =
-      ap (λ r. added (call.Report w o) r ++ h) (report_answer s h w p o mine.among here fits) in (
+      ap (λ r. events_of (call.Report w o) r ++ h)
+      (report_answer s h w p o mine.among here fits) in (
         one s w told (e ∷ h),
         keeps,
         tt,
@@ -333,7 +334,7 @@ module _ {S : Type 0} (s : Shape) (slots id w p : ℕ) (told : Bool) (seen : His
       let mine = knows s h t.words t.views kept.1 id w told seen at in
       let here : held_by w h ≡ Some p = held_still s h t.words t.views kept.1 id w told seen at
       ∙ holding in
-      let accepts : after s h (call.Drop w) ≡ e ∷ h = ap (λ r. added (call.Drop w) r ++ h)
+      let accepts : after s h (call.Drop w) ≡ e ∷ h = ap (λ r. events_of (call.Drop w) r ++ h)
       (drop_answer s h w p mine.among here (hit_goes_on s w p h seen mine.newer hit)) in (
         one s w told (e ∷ h),
         keeps,

@@ -2,13 +2,14 @@
 
 use crate::cycle::{Cycle, cycles};
 use crate::finding::{Fault, Finding, Found};
-use crate::look::{Look, Name, Statement, line_at, look_at, without_return};
+use crate::look::{Look, Name, Statement, line_at, look_at};
 use crate::note::Note;
-use crate::scan::Place;
 use crate::suggest::nearest_name;
+use crate::tokens::Place;
 use bench_net::{BenchFault, Limit};
 use indexmap::IndexSet;
 use std::alloc::{AllocError, Global};
+use text_lines::without_carriage_return;
 
 /// The faults of a bench text that `bench_net::read_bench` refuses by this one, in the order in
 /// which a text is looked through: its lines, names defined again, names that no line defines, and
@@ -165,7 +166,7 @@ fn add_lines<'a>(
     let mut number: u64 = 0;
     for line in text.split(|byte| *byte == b'\n') {
         number = number.saturating_add(1);
-        add_line(alloc, number, without_return(line), names, found)?;
+        add_line(alloc, number, without_carriage_return(line), names, found)?;
     }
     Ok(())
 }

@@ -1,7 +1,7 @@
 //! Faults of a text with their places, and how they are told.
 
 use crate::note::Note;
-use crate::scan::Place;
+use crate::tokens::Place;
 use bench_net::BenchFault;
 use patterns::TestFault;
 use std::alloc::{AllocError, Global};

@@ -10,14 +10,14 @@ mod cycle;
 mod finding;
 mod look;
 mod note;
-mod scan;
 mod suggest;
 mod tests;
+mod tokens;
 mod warning;
 
 pub use bench::find_in_bench;
 pub use finding::{Fault, Finding, Findings, Found, Located};
 pub use note::Note;
-pub use scan::{Place, Token};
 pub use tests::find_in_tests;
+pub use tokens::{Place, Token};
 pub use warning::{NameList, Warning, circuit_warnings, test_warnings};

@@ -3,9 +3,10 @@
 //! Whether a text is accepted is never decided here but by `bench_net::read_bench`.
 
 use crate::note::Note;
-use crate::scan::{Place, Token, is_blank, token_from};
 use crate::suggest::{nearest_gate, nearest_port};
+use crate::tokens::{Place, Token, token_from};
 use std::alloc::{AllocError, AllocFailed, Global};
+use text_lines::{are_bits, without_carriage_return};
 
 /// A name with its place.
 #[derive(Clone, Copy)]
@@ -237,8 +238,7 @@ fn is_test_row(line: &[u8]) -> bool {
     let Token::Word(word) = spot.token else {
         return false;
     };
-    word.bytes().all(|byte| matches!(byte, b'0' | b'1'))
-        && matches!(token_from(line, spot.place.end()).token, Token::End)
+    are_bits(word.as_bytes()) && matches!(token_from(line, spot.place.end()).token, Token::End)
 }
 
 /// A line that states nothing.
@@ -276,32 +276,12 @@ fn stated_from<'a>(alloc: Global, line: &'a [u8]) -> Result<Statement<'a>, Stop<
     stated_behind(alloc, line, first)
 }
 
-/// A line without the carriage return that may end it.
-pub(crate) fn without_return<'a>(line: &'a [u8]) -> &'a [u8] {
-    line.strip_suffix(b"\r").unwrap_or(line)
-}
-
 /// The line of this number, from 1, of a text, without its end.
 pub(crate) fn line_at<'a>(text: &'a [u8], number: u64) -> &'a [u8] {
     let place = usize::try_from(number).unwrap_or(0);
     let mut lines = text.split(|byte| *byte == b'\n');
     match lines.nth(place.saturating_sub(1)) {
-        Some(line) => without_return(line),
+        Some(line) => without_carriage_return(line),
         None => &[],
     }
-}
-
-/// What a line holds before a comment, without the blanks at its ends, and its place.
-pub(crate) fn content_of<'a>(line: &'a [u8]) -> (&'a [u8], usize) {
-    let len = line.iter().take_while(|byte| **byte != b'#').count();
-    let held = line.get(..len).unwrap_or(line);
-    let front = held.iter().take_while(|byte| is_blank(**byte)).count();
-    let held = held.get(front..).unwrap_or(&[]);
-    let back = held
-        .iter()
-        .rev()
-        .take_while(|byte| is_blank(**byte))
-        .count();
-    let held = held.get(..held.len() - back).unwrap_or(held);
-    (held, front)
 }

@@ -1,6 +1,6 @@
 //! What is said of a fault beside the words of the refusal.
 
-use crate::scan::{Short, Token};
+use crate::tokens::{Short, Token};
 use std::fmt::{self, Display, Formatter};
 
 /// What was found at a fault, what was expected there, and what may have been meant.

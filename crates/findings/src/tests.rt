@@ -1,11 +1,12 @@
 //! All faults of a test text, row by row.
 
 use crate::finding::{Fault, Finding, Found};
-use crate::look::{Look, content_of, look_at, without_return};
+use crate::look::{Look, line_at, look_at};
 use crate::note::Note;
-use crate::scan::Place;
+use crate::tokens::Place;
 use patterns::{MAX_TESTS, TestFault};
 use std::alloc::{AllocError, Global};
+use text_lines::{Row, Rows, is_blank};
 
 /// The faults of the rows of a test text, in their order, where a row has a bit for each of so many
 /// inputs and then one for each of so many flip-flops. Only memory can be refused.
@@ -34,26 +35,13 @@ fn look_at_rows<'a>(
     width: Width,
     found: &mut Found<'a>,
 ) -> Result<(), AllocError> {
-    let mut number: u64 = 0;
     let mut rows: u32 = 0;
-    for line in text.split(|byte| *byte == b'\n') {
-        number = number.saturating_add(1);
-        let line = without_return(line);
-        let (bytes, start) = content_of(line);
-        if bytes.is_empty() {
-            continue;
-        }
+    for row in Rows::new(text, width.inputs.saturating_add(width.cells)) {
         rows = rows.saturating_add(1);
         if rows > MAX_TESTS {
             continue;
         }
-        let row = Row {
-            number,
-            line,
-            bytes,
-            start,
-        };
-        tell_row(alloc, row, width, found)?;
+        tell_row(alloc, text, row, width, found)?;
     }
     if rows > MAX_TESTS {
         tell_too_many(rows, found)?;
@@ -74,20 +62,26 @@ fn tell_too_many<'a>(rows: u32, found: &mut Found<'a>) -> Result<(), AllocError>
     })
 }
 
-/// What a line holds before a comment, without the blanks at its ends.
+/// A row with its line.
 #[derive(Clone, Copy)]
-struct Row<'a> {
-    /// The number of the line, from 1.
-    number: u64,
+struct PlacedRow<'a> {
+    row: Row<'a>,
     line: &'a [u8],
-    bytes: &'a [u8],
-    /// Where the bytes begin on the line.
+    /// Where the row begins on the line.
     start: usize,
+}
+
+/// A row of a text with its line.
+fn placed<'a>(text: &'a [u8], row: Row<'a>) -> PlacedRow<'a> {
+    let line = line_at(text, row.line);
+    let start = line.iter().take_while(|byte| is_blank(**byte)).count();
+    PlacedRow { row, line, start }
 }
 
 /// Tells what is wrong with a row, if anything is.
 fn tell_row<'a>(
     alloc: Global,
+    text: &'a [u8],
     row: Row<'a>,
     width: Width,
     found: &mut Found<'a>,
@@ -103,21 +97,22 @@ fn tell_row<'a>(
         found.count();
         return Ok(());
     }
+    let placed = placed(text, row);
     let finding = match bad {
-        Some(at) => bad_byte(alloc, row, at)?,
-        None => bad_width(row, width),
+        Some(at) => bad_byte(alloc, placed, at)?,
+        None => bad_width(placed, width),
     };
     found.push(finding)
 }
 
 /// A row of a wrong width.
-fn bad_width<'a>(row: Row<'a>, width: Width) -> Finding<'a> {
-    let len = row.bytes.len();
+fn bad_width<'a>(placed: PlacedRow<'a>, width: Width) -> Finding<'a> {
+    let len = placed.row.bytes.len();
     Finding {
-        fault: Fault::Tests(TestFault::BadWidth(row.number)),
-        text: row.line,
+        fault: Fault::Tests(TestFault::BadWidth(placed.row.line)),
+        text: placed.line,
         place: Place {
-            start: row.start,
+            start: placed.start,
             len,
         },
         note: Note::Width {
@@ -129,24 +124,28 @@ fn bad_width<'a>(row: Row<'a>, width: Width) -> Finding<'a> {
 }
 
 /// A row with a byte at this place that is no bit.
-fn bad_byte<'a>(alloc: Global, row: Row<'a>, at: usize) -> Result<Finding<'a>, AllocError> {
+fn bad_byte<'a>(
+    alloc: Global,
+    placed: PlacedRow<'a>,
+    at: usize,
+) -> Result<Finding<'a>, AllocError> {
     Ok(Finding {
-        fault: Fault::Tests(TestFault::BadByte(row.number)),
-        text: row.line,
+        fault: Fault::Tests(TestFault::BadByte(placed.row.line)),
+        text: placed.line,
         place: Place {
-            start: row.start.saturating_add(at),
+            start: placed.start.saturating_add(at),
             len: 1,
         },
-        note: byte_note(alloc, row, at)?,
+        note: byte_note(alloc, placed, at)?,
     })
 }
 
 /// What is said of the first byte of a row that is no bit.
-fn byte_note<'a>(alloc: Global, row: Row<'a>, at: usize) -> Result<Note<'a>, AllocError> {
-    if matches!(look_at(alloc, row.line)?, Look::Stated(_)) {
+fn byte_note<'a>(alloc: Global, placed: PlacedRow<'a>, at: usize) -> Result<Note<'a>, AllocError> {
+    if matches!(look_at(alloc, placed.line)?, Look::Stated(_)) {
         return Ok(Note::BenchLine);
     }
-    let bytes = row.bytes;
+    let bytes = placed.row.bytes;
     let digits = bytes
         .iter()
         .take_while(|byte| byte.is_ascii_digit())

@@ -2,7 +2,7 @@
 
 ghost use Rattle.std.specs.Prelude.{◌<◌};
 
-use crate::scan::Short;
+use crate::tokens::Short;
 use bench_net::{Circuit, Sink};
 use patterns::Tests;
 use std::alloc::{AllocError, Global};

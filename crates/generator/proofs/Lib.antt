@@ -1,3 +1,3 @@
-mod Left
+mod UndetectedClasses
 mod Pieces
 mod Texts

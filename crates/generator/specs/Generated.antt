@@ -36,8 +36,8 @@ abbrev pub AreFewPieces : ℕ → ℕ → Type 0
 AreFewPieces classes tests = classes * blocks tests ≤ max_pieces
 
 -- of classes, given with the first test that detects each, those that no test detects
-abbrev pub undetected : List ℕ → List (Option ℕ) → List ℕ
-undetected classes firsts =
+abbrev pub classes_left : List ℕ → List (Option ℕ) → List ℕ
+classes_left classes firsts =
     map (λ at. at.0) (filter (λ at. is_none at.1) (zip classes firsts))
 
 -- when a run of the generator is refused: for its number of workers, then for want of memory or of

@@ -4,7 +4,7 @@ ghost use Rattle.std.specs.Prelude.{◌≡◌, ◌*◌, ◌<◌, ◌≤◌, All,
 ghost use Rattle.bench_net.specs.Scan.{sources};
 ghost use Rattle.patterns.specs.Tests.{IsTestList, max_pieces, max_tests};
 ghost use Rattle.block_sim.specs.Parts.{piece_count};
-ghost use Rattle.generator.specs.Generated.{AreFewPieces, IsWorkFault, undetected};
+ghost use Rattle.generator.specs.Generated.{AreFewPieces, IsWorkFault, classes_left};
 
 use crate::Settings;
 use crate::keeping::keep_tests;
@@ -137,7 +137,7 @@ fn undetected(
     classes: &[u32],
     firsts: &[Option<u32>],
 ) -> Result<Vec<u32>, AllocError>
-    ensures { IfOk result (λ left. left.items ≡ undetected classes.now firsts.now) }
+    ensures { IfOk result (λ left. left.items ≡ classes_left classes.now firsts.now) }
 {
     classes
         .iter()

@@ -9,7 +9,7 @@ use Rattle.lists.proofs.Places.{at_place}
 use Rattle.text_lines.specs.Lines.{lines}
 use Rattle.bench_net.specs.Text.{Token, Word, Open, Close, Equals, IsToken, Spells, is_word_byte}
 use Rattle.bench_net.specs.Statement.{Name, Statement, Input, Output, Gate, Dff, defined}
-use Rattle.bench_net.specs.Reading.{ReadsAs, States, listed, statements}
+use Rattle.bench_net.specs.Reading.{ReadsAs, States, tokens_of_list, statements}
 use Rattle.bench_net.specs.Refusal.{IsAccepted}
 use Rattle.bench_net.specs.Scan.{names, name_of, cells}
 use Rattle.fault_model.specs.declared.Line.{Line}
@@ -41,7 +41,7 @@ defined_word l tokens (Input m) n spelled r (inl e) =
 defined_word l tokens (Input m) n spelled r (inr a) = absurd a
 defined_word l tokens (Output m) n spelled r a = absurd a
 defined_word l tokens (Gate m kind args) n spelled r (inl e) =
-    spelled_word l (Word m ∷ Equals ∷ Word r.0 ∷ Open ∷ (listed args ++ Close ∷ [])) n
+    spelled_word l (Word m ∷ Equals ∷ Word r.0 ∷ Open ∷ (tokens_of_list args ++ Close ∷ [])) n
     (subst (Spells l) r.3 spelled) (inl (ap Word e))
 defined_word l tokens (Gate m kind args) n spelled r (inr a) = absurd a
 defined_word l tokens (Dff q d) n spelled r (inl e) =

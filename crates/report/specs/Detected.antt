@@ -16,15 +16,15 @@ abbrev pub count_line : List Statement → Fault × ℕ → List ℕ
 count_line c at = fault_text c at.0 ++ (codes " " ++ decimal at.1 ++ codes "\n")
 
 -- the number of faults that at least so many tests detect
-abbrev pub reached : ℕ → List ℕ → ℕ
-reached most counts = count_by (nat_le most) counts
+abbrev pub reached_count : ℕ → List ℕ → ℕ
+reached_count most counts = count_by (nat_le most) counts
 
 -- the report: the line of each fault where they are asked for, and the coverage line of the faults
 -- that at least so many tests detect
 abbrev pub detection_report : Model → List Statement → ℕ → List ℕ → Bool → List ℕ
 detection_report m c most counts list =
     (if list then flat_map (count_line c) (zip (faults m c) counts) else [])
-    ++ coverage_line (reached most counts) (length counts)
+    ++ coverage_line (reached_count most counts) (length counts)
 
 -- the bytes are this report of a bench text and a test text under a model: each fault has the
 -- number

@@ -119,8 +119,8 @@ IsPartRefusal text (fault.NotAPart line) = ((line ≡ 1) × IsBadHead text)
 IsPartRefusal text fault.CutOff = Lacks 10 text ⊎ IsCutLines text
 IsPartRefusal text fault.Memory = Unit {0}
 
--- why a line of this number is not the end of a part text: it is another line, or more stands behind
--- it
+-- why a line of this number is not the end of a part text: it is another line, or more stands
+-- behind it
 abbrev pub IsEndFault : List ℕ → List ℕ → PartHead → List PartVerdict → ℕ → PartFault → Type 0
 IsEndFault line after h verdicts number f =
     ((f ≡ fault.NotAPart number) × (line ++ codes "\n" ≢ end_of h verdicts))

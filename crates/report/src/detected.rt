@@ -8,7 +8,7 @@ ghost use Rattle.block_sim.specs.Parts.{BelongTogether};
 ghost use Rattle.detections.specs.Detections.{AreCounts};
 ghost use Rattle.output.specs.Output.{Writes};
 ghost use Rattle.report.specs.Detected.{IsDetectionReportOf, IsDetectionReportOfJob, count_line};
-ghost use Rattle.report.specs.Detected.{detection_report, reached};
+ghost use Rattle.report.specs.Detected.{detection_report, reached_count};
 ghost use Rattle.report.specs.EndToEnd.{IsReportFault, IsRunReportFault, WritesOneOf};
 ghost use Rattle.workers.specs.Refused.{IsRunFault};
 
@@ -124,7 +124,7 @@ pub fn write_detections<W: Out>(
 /// How many faults of a list at least so many tests detect.
 fn count_reached(list: &Faults, counts: &[u32], most: u32) -> u32
     requires count { length counts.now ≡ length list.now.list }
-    ensures { result ≡ reached most counts.now }
+    ensures { result ≡ reached_count most counts.now }
 {
     let _all = list.count();
     counts.iter().filter(|count| most <= **count).count() as u32

@@ -12,12 +12,12 @@ without_front (b ∷ bytes) = if is_blank b then without_front bytes else b ∷ 
 abbrev pub without_back : List ℕ → List ℕ
 without_back bytes = reverse (without_front (reverse bytes))
 
-abbrev pub trimmed : List ℕ → List ℕ
-trimmed bytes = without_back (without_front bytes)
+abbrev pub without_blanks : List ℕ → List ℕ
+without_blanks bytes = without_back (without_front bytes)
 
 -- what a line holds: its bytes before a comment, without the blanks at their ends
 abbrev pub content : List ℕ → List ℕ
-content line = trimmed (before_first begins_comment line)
+content line = without_blanks (before_first begins_comment line)
 
 -- a row: the number of its line, counted from 1, and what the line holds
 pub record Row : Type 0 where

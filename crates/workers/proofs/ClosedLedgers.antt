@@ -20,7 +20,7 @@ use Rattle.fault_ledger.specs.Settled.{status, status_from, finish, finish_from}
 use Rattle.fault_ledger.specs.Seats.{ClosedFace, Closes, Place, Sitter, HoldsAll, closed_face}
 use Rattle.fault_ledger.proofs.Public.{held_goes_on, claims_past, legal_claims, ClearBelow}
 use Rattle.fault_ledger.proofs.Public.{skipped_not_first}
-use Rattle.workers.specs.Chosen.{AreChosenOf, Chosen, every, listed}
+use Rattle.workers.specs.Chosen.{AreChosenOf, Chosen, every, chosen_of}
 use Rattle.workers.specs.Settling.{AreSettled, IsShapeOf, IsShapeOver, shape_over}
 use Rattle.fault_ledger.specs.Settled.{is_skipped}
 use Rattle.workers.specs.Work.{AllReportTruly, AreBack, HasRested, HasRun, IsOfHistory, IsStopped}
@@ -279,8 +279,8 @@ module _ (job : Parts) (workers : ℕ) (closed : ClosedFace)
 
 -- a run over the classes of a list gives the first test of each
 pub run_class_firsts : (job : Parts) (classes : List ℕ) (workers : ℕ) (closed : ClosedFace)
-    (firsts : List (Option ℕ)) → BelongTogether job → AreChosenOf job (listed classes)
-    → HasRun job (listed classes) workers closed
+    (firsts : List (Option ℕ)) → BelongTogether job → AreChosenOf job (chosen_of classes)
+    → HasRun job (chosen_of classes) workers closed
     → ((h : History) → IsLegal closed.shape h → closed ≡ closed_face closed.shape h
     → firsts ≡ map (λ k. settled_at (status closed.shape h k)) (below closed.shape.classes))
     → AreClassFirsts job.list.model job.circuit job.tests.tests classes firsts
@@ -296,7 +296,7 @@ run_class_firsts job classes workers closed firsts b among run told = record {
       let own = settled k lt in
       let in_job : get_or classes k 0 ≡ class = get_or_from_slice_get classes k class 0 e in
       subst (IsFirst job.circuit job.tests.tests f) (sym (here ∙ ap settled_at own.1))
-      (first_over job (listed classes) s t.0 h b is t.1 to k own.0 f lt own.1
+      (first_over job (chosen_of classes) s t.0 h b is t.1 to k own.0 f lt own.1
       (subst (λ n. IsClassOf job.list.model job.circuit f n) (sym in_job) of));
 }
   where
@@ -312,8 +312,8 @@ run_class_firsts job classes workers closed firsts b among run told = record {
     t : (table : Table) × IsTableOf job table
     t = true_table job.list.model job.circuit job.tests.tests b.circuit.well_formed
 
-    is : IsShapeOver job (listed classes) s
-    is = subst (λ x. IsShapeOver job (listed classes) x) (sym run.shape) (record {
+    is : IsShapeOver job (chosen_of classes) s
+    is = subst (λ x. IsShapeOver job (chosen_of classes) x) (sym run.shape) (record {
       classes = refl;
       tests = refl;
     })
@@ -321,9 +321,9 @@ run_class_firsts job classes workers closed firsts b among run told = record {
     settled : AreSettled s h s.classes
     settled = finished_settled s h run.finished
 
-    to : IsTrueTo s (table_over (listed classes) t.0) h
-    to = true_to job (listed classes) s t.0 h b among is t.1 run.legal
-        (all_true job (listed classes) s h run.legal run.truly)
+    to : IsTrueTo s (table_over (chosen_of classes) t.0) h
+    to = true_to job (chosen_of classes) s t.0 h b among is t.1 run.legal
+        (all_true job (chosen_of classes) s h run.legal run.truly)
 
     say : firsts ≡ map g (below s.classes)
     say = told h run.legal run.shows

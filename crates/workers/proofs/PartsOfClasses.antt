@@ -31,7 +31,7 @@ use Rattle.workers.specs.Part.{IsInOnePart, IsOfPart, IsPartVerdict, first_in}
 use Rattle.workers.specs.Rank.{AreRanked, IsCutOf, IsStart, RanksBefore}
 use Rattle.workers.specs.declared.RunFault.{RunFault}
 use Rattle.workers.specs.declared.RunFault.TheVariants as run_fault
-use Rattle.workers.specs.Chosen.{listed}
+use Rattle.workers.specs.Chosen.{chosen_of}
 use Rattle.workers.specs.Refused.{IsPartFault, IsRunFaultOver}
 use Rattle.workers.specs.Work.{Stops}
 use Rattle.workers.specs.Settling.{shape_for}
@@ -560,7 +560,8 @@ behind_room n (x ∷ xs) (suc i) lt =
 -- the fault of a run over the classes of a part is one of the part
 pub own_fault : (job : Parts) (parts part workers : ℕ) (P : Type 0) (S : Stops) (f : RunFault)
     (classes : List ℕ) → ArePartOf job parts part classes
-    → IsRunFaultOver job (listed classes) workers P S f → IsPartFault job parts part workers P S f
+    → IsRunFaultOver job (chosen_of classes) workers P S f
+    → IsPartFault job parts part workers P S f
 own_fault job parts part workers P S run_fault.NoWorkers classes are r = r
 own_fault job parts part workers P S run_fault.TooManyWorkers classes are r = r
 own_fault job parts part workers P S (run_fault.NoSuchMove index) classes are r = r

@@ -20,7 +20,7 @@ use Rattle.fault_ledger.specs.declared.Refusal.TheVariants.{NoSuchWorker, NoEarl
 use Rattle.fault_ledger.specs.declared.Reply.{Reply}
 use Rattle.fault_ledger.specs.declared.Reply.TheVariants.{Claimed, Done, Refused}
 use Rattle.fault_ledger.specs.History.{History, piece_count, class_of, block_of, claims, held_by}
-use Rattle.fault_ledger.specs.Answer.{IsLegal, Gives, IsTrueTo, added, after, answer, fits_size}
+use Rattle.fault_ledger.specs.Answer.{IsLegal, Gives, IsTrueTo, events_of, after, answer, fits_size}
 use Rattle.fault_ledger.specs.Answer.{has_earlier_hit, claim_reply, drop_reply}
 use Rattle.fault_ledger.specs.Seats.{class_and_block}
 use Rattle.fault_ledger.proofs.Public.{drop_answer, report_answer, held_piece, legal_after}
@@ -33,13 +33,14 @@ use Rattle.workers.proofs.TrueOutcomes.{class_count, true_fits}
 pub claim_moves : (t : Table) (s : Shape) (h : History) (w : ℕ) → w < s.workers → held_by w h ≡ None
     → after s h (call.Claim w) ≡ move t s h w
 claim_moves t s h w among free =
-    ap (λ x. added (call.Claim w) (cond x (claim_reply s h (held_by w h)) (Refused NoSuchWorker))
-    ++ h) (lt-ltb w s.workers among)
-    ∙ ap (λ x. added (call.Claim w) (claim_reply s h x) ++ h) free
+    ap (λ x. events_of (call.Claim w)
+    (cond x (claim_reply s h (held_by w h)) (Refused NoSuchWorker)) ++ h)
+    (lt-ltb w s.workers among)
+    ∙ ap (λ x. events_of (call.Claim w) (claim_reply s h x) ++ h) free
     ∙ same (nat_lt (claims h) (piece_count s))
     ∙ ap (move_holding t s h w) (sym free)
   where
-    same : (b : Bool) → added (call.Claim w)
+    same : (b : Bool) → events_of (call.Claim w)
         (cond b (Claimed (claim_is.Piece (class_of s (claims h)) (block_of s (claims h))))
         (Claimed claim_is.Exhausted)) ++ h ≡ cond b (Event.Claim w ∷ h) h
     same true = refl
@@ -50,7 +51,7 @@ pub drop_moves : (t : Table) (s : Shape) (h : History) (w p : ℕ) → w < s.wor
     → held_by w h ≡ Some p
     → has_earlier_hit s h p ≡ true → after s h (call.Drop w) ≡ move t s h w
 drop_moves t s h w p among here hit =
-    ap (λ r. added (call.Drop w) r ++ h) (drop_answer s h w p among here hit)
+    ap (λ r. events_of (call.Drop w) r ++ h) (drop_answer s h w p among here hit)
     ∙ sym (ap (move_holding t s h w) here
     ∙ ap (λ b. cond b (Event.Drop w ∷ h) (Event.Report w (t (class_of s p) (block_of s p)) ∷ h))
     hit)
@@ -61,7 +62,7 @@ pub report_moves : (t : Table) (s : Shape) (h : History) (w p : ℕ) → w < s.w
     → fits_size (size_of s.tests (block_of s p)) (t (class_of s p) (block_of s p)) ≡ true
     → after s h (call.Report w (t (class_of s p) (block_of s p))) ≡ move t s h w
 report_moves t s h w p among here miss fits =
-    ap (λ r. added (call.Report w (t (class_of s p) (block_of s p))) r
+    ap (λ r. events_of (call.Report w (t (class_of s p) (block_of s p))) r
     ++ h) (report_answer s h w p (t (class_of s p) (block_of s p)) among here fits)
     ∙ sym (ap (move_holding t s h w) here
     ∙ ap (λ b. cond b (Event.Drop w ∷ h) (Event.Report w (t (class_of s p) (block_of s p)) ∷ h))
@@ -176,9 +177,9 @@ reported_moves job t s h w class block o r b is each l among e refused truth =
 -- the event that a move adds, by the reply to its call
 pub claim_event : (t : Table) (s : Shape) (h : History) (w : ℕ) (r : Reply) → w < s.workers
     → held_by w h ≡ None → r ≡ answer s h (call.Claim w)
-    → move t s h w ≡ added (call.Claim w) r ++ h
+    → move t s h w ≡ events_of (call.Claim w) r ++ h
 claim_event t s h w r among free e = sym (claim_moves t s h w among free)
-    ∙ ap (λ x. added (call.Claim w) x ++ h) (sym e)
+    ∙ ap (λ x. events_of (call.Claim w) x ++ h) (sym e)
 
 pub drop_event : (t : Table) (s : Shape) (h : History) (w p : ℕ) → w < s.workers
     → held_by w h ≡ Some p
@@ -187,7 +188,7 @@ drop_event t s h w p among here e = go (has_earlier_hit s h p) refl
   where
     go : (b : Bool) → has_earlier_hit s h p ≡ b → move t s h w ≡ Event.Drop w ∷ h
     go true q = sym (drop_moves t s h w p among here q)
-        ∙ ap (λ x. added (call.Drop w) x ++ h) (sym e)
+        ∙ ap (λ x. events_of (call.Drop w) x ++ h) (sym e)
     go false q =
         let refused : answer s h (call.Drop w) ≡ Refused NoEarlierHit =
         ap (λ x. cond x (drop_reply s h (held_by w h)) (Refused NoSuchWorker))
@@ -199,4 +200,4 @@ drop_event t s h w p among here e = go (has_earlier_hit s h p) refl
 pub report_event : (t : Table) (s : Shape) (h : History) (w : ℕ) (o : Outcome)
     → after s h (call.Report w o) ≡ move t s h w → Done ≡ answer s h (call.Report w o)
     → move t s h w ≡ Event.Report w o ∷ h
-report_event t s h w o same e = sym same ∙ ap (λ x. added (call.Report w o) x ++ h) (sym e)
+report_event t s h w o same e = sym same ∙ ap (λ x. events_of (call.Report w o) x ++ h) (sym e)

@@ -21,8 +21,8 @@ first_listed count classes = record {
 }
 
 -- the classes of a list
-abbrev pub listed : List ℕ → Chosen
-listed classes = first_listed (length classes) classes
+abbrev pub chosen_of : List ℕ → Chosen
+chosen_of classes = first_listed (length classes) classes
 
 -- each is one of the job's, and they are no more than the job's
 pub record AreChosenOf (job : Parts) (chosen : Chosen) : Type 0 where

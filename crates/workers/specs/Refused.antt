@@ -7,7 +7,7 @@ use Rattle.workers.specs.declared.RunFault.TheVariants.{NoWorkers, TooManyWorker
 use Rattle.workers.specs.declared.RunFault.TheVariants.{TooManyPieces, Memory, Threads}
 use Rattle.workers.specs.declared.RunFault.TheVariants.{Unfinished}
 use Rattle.workers.specs.Alone.{PartsWaitFor}
-use Rattle.workers.specs.Chosen.{Chosen, every, listed}
+use Rattle.workers.specs.Chosen.{Chosen, every, chosen_of}
 use Rattle.workers.specs.Part.{ArePartOf}
 use Rattle.workers.specs.Work.{Stops, WaitsFor}
 
@@ -66,10 +66,10 @@ IsPartFault job parts part workers passing stops Memory = (0 < workers) × (work
 IsPartFault job parts part workers passing stops Threads = (0 < workers) × (workers ≤ 64)
 IsPartFault job parts part workers passing stops TooManyPieces =
     (classes : List ℕ) × ArePartOf job parts part classes
-    × IsRunFaultOver job (listed classes) workers passing stops TooManyPieces
+    × IsRunFaultOver job (chosen_of classes) workers passing stops TooManyPieces
 IsPartFault job parts part workers passing stops (Unfinished class block) =
     (classes : List ℕ) × ArePartOf job parts part classes
-    × IsRunFaultOver job (listed classes) workers passing stops (Unfinished class block)
+    × IsRunFaultOver job (chosen_of classes) workers passing stops (Unfinished class block)
 IsPartFault job parts part workers passing stops fault = IsWorkersFault workers fault
 
 -- the same where the classes are run in so many parts, each by one worker alone: it is a part that

@@ -32,8 +32,8 @@ pub record IsTurn (job : Parts) (rows : List Listed) (known : ℕ) (turn : Turn)
       ⊎ ((turn.found ≡ 0) × (known ≤ turn.block)
       × (turn.last ≡ (span_of (length job.tests.tests) turn.block).last))
 
--- so many first classes are all, or the last block of the turn is the last that is found out at once
--- with the turn's own
+-- so many first classes are all, or the last block of the turn is the last that is found out at
+-- once with the turn's own
 abbrev pub IsWhole : Parts → List Listed → Turn → ℕ → Type 0
 IsWhole job rows turn found = (found ≡ length rows)
     ⊎ (turn.last ≡ (span_of (length job.tests.tests) turn.block).last)

@@ -7,7 +7,7 @@ ghost use Rattle.fault_ledger.specs.Answer.{IsLegal};
 ghost use Rattle.fault_ledger.specs.History.{History};
 ghost use Rattle.fault_ledger.specs.Seats.{closed_face};
 ghost use Rattle.fault_ledger.specs.Settled.{status};
-ghost use Rattle.workers.specs.Chosen.{listed};
+ghost use Rattle.workers.specs.Chosen.{chosen_of};
 ghost use Rattle.workers.specs.Refused.{IsRunFaultOver};
 ghost use Rattle.workers.specs.Settling.{AreSettled};
 ghost use Rattle.workers.specs.Verdict.{AreClassFirsts, settled_at};
@@ -46,7 +46,7 @@ pub fn run_classes<G: Gate + Sync, R: Threads + Wait>(
     ensures workers { OnOk result ((0 < workers) × (workers ≤ 64)) }
     ensures few { OnOk result (length classes.now * blocks (length job.now.tests.tests)
         ≤ max_pieces) }
-    ensures refused { IfErr result (IsRunFaultOver job.now (listed classes.now) workers
+    ensures refused { IfErr result (IsRunFaultOver job.now (chosen_of classes.now) workers
         (G.passing gate.now) (G.stops gate.now)) }
 {
     let found = run_listed(rt, alloc, job, classes, workers, gate)?;
@@ -79,7 +79,7 @@ pub(crate) fn run_listed<G: Gate + Sync, R: Threads + Wait>(
     ensures workers { OnOk result ((0 < workers) × (workers ≤ 64)) }
     ensures few { OnOk result (length classes.now * blocks (length job.now.tests.tests)
         ≤ max_pieces) }
-    ensures refused { IfErr result (IsRunFaultOver job.now (listed classes.now) workers
+    ensures refused { IfErr result (IsRunFaultOver job.now (chosen_of classes.now) workers
         (G.passing gate.now) (G.stops gate.now)) }
 {
     check_workers(workers)?;

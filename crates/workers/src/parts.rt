@@ -165,11 +165,11 @@ pub fn run_part<G: Gate + Sync, R: Threads + Wait>(
 }
 
 /// Runs all classes of a job in parts, by workers in threads of their own, numbered from 0, of
-/// which no more are started than there are parts. A worker takes a part that none has taken, runs it alone, and goes on to the next. It simulates
-/// the part's classes block after block, and leaves out a class that an earlier block detects. So
-/// workers share no ledger, and none is made. The verdicts are the first tests, for every number of
-/// parts and of workers, whatever the workers do in whatever order. The skipped pieces are those
-/// behind the first hits.
+/// which no more are started than there are parts. A worker takes a part that none has taken, runs
+/// it alone, and goes on to the next. It simulates the part's classes block after block, and leaves
+/// out a class that an earlier block detects. So workers share no ledger, and none is made. The
+/// verdicts are the first tests, for every number of parts and of workers, whatever the workers do
+/// in whatever order. The skipped pieces are those behind the first hits.
 ///
 /// It is refused with [`RunFault::NoWorkers`], with [`RunFault::TooManyWorkers`] above 64 workers,
 /// with [`RunFault::TooManyPieces`] where one part has more than [`patterns::MAX_PIECES`] pieces,

@@ -173,8 +173,8 @@ pub fn run_schedule(
     let mut simulation = Simulation::new(alloc, job)?;
     let firsts = Vec::with_capacity(alloc, job.faults().count() as usize)?;
     let played = play(job, &mut ledger, &mut simulation, moves);
-    let turned = take_turns(job, &mut ledger, &mut simulation, everyone.as_slice());
-    let skipped = played.skipped + turned;
+    let dropped = take_turns(job, &mut ledger, &mut simulation, everyone.as_slice());
+    let skipped = played.skipped + dropped;
     let verdicts = verdicts_of(job, &ledger, u64::from(skipped), firsts)?;
     Ok(verdicts)
 }

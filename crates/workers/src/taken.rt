@@ -216,7 +216,8 @@ pub(crate) fn take_parts<G: Gate + Sync, R: Threads + Wait>(
 pub(crate) fn crew_of(alloc: Global, job: &Job, workers: u32) -> Result<Vec<Member>, AllocError>
     ensures count { IfOk result (λ crew. vec_len crew ≡ workers) }
     ensures few { IfOk result (λ crew. All (λ m. m.number < workers) crew.items) }
-    ensures serves { IfOk result (λ crew. All (λ m. ServesRegions m.simulation job.now) crew.items) }
+    ensures serves { IfOk result (λ crew. All (λ m. ServesRegions m.simulation job.now)
+        crew.items) }
 {
     let mut crew = Vec::with_capacity(alloc, workers as usize)?;
     for number in 0..workers {

@@ -1,5 +1,5 @@
 use Rattle.std.proofs.Common.{◌∙◌, ap, arith, length}
-use Rattle.compaction.proofs.Kept.{are_finding}
+use Rattle.compaction.proofs.KeptTests.{are_finding}
 use Rattle.compaction.proofs.finding.finding_tests.Goals as goal
 
 pub returns-clause-marks : goal.returns-clause-marks

@@ -1,11 +1,11 @@
 use Rattle.std.proofs.Common.{◌≡◌, ◌+◌, ◌∙◌, ap, arith, false, get_or, length, sym}
 use Rattle.std.specs.Prelude.{◌||◌}
 use Rattle.fault_model.specs.declared.Model.TheVariants.{StuckAt}
-use Rattle.compaction.specs.Compaction.{IsCompaction, marked}
+use Rattle.compaction.specs.Compaction.{IsCompaction, at_marks}
 use Rattle.compaction.specs.Marks.{AreLast}
-use Rattle.compaction.proofs.Kept.{AreWithBefore, before_compacted, ok_as, stuck_compacted}
-use Rattle.compaction.proofs.Kept.{written_over}
-use Rattle.compaction.proofs.Marked.{marked_few}
+use Rattle.compaction.proofs.KeptTests.{AreWithBefore, before_compacted, ok_as, stuck_compacted}
+use Rattle.compaction.proofs.KeptTests.{written_over}
+use Rattle.compaction.proofs.ElementsAtMarks.{marked_few}
 use Rattle.compaction.proofs.passes.compact.Goals as goal
 
 pub last_tests-requires-clause-few : goal.last_tests-requires-clause-few
@@ -24,10 +24,10 @@ returns-in-StuckAt-clause-compacted g c =
     let rows = c.in_ok-kept-in-StuckAt.kept.tests in
     let model : job.list.model ≡ StuckAt = sym (ap (λ l. l.model) c.faults.ensures.part)
     ∙ (sym c.model.ensures ∙ c.in-StuckAt.is) in
-    let is : rows ≡ marked c.in_ok-found.found.items job.tests.tests =
+    let is : rows ≡ at_marks c.in_ok-found.found.items job.tests.tests =
     c.in_ok-kept-in-StuckAt.ensures.rows
-    ∙ (ap (λ marks. marked marks c.tests.result.now.tests) c.deref.ensures.value
-    ∙ ap (λ t. marked c.in_ok-found.found.items t.tests) c.tests.ensures.part) in
+    ∙ (ap (λ marks. at_marks marks c.tests.result.now.tests) c.deref.ensures.value
+    ∙ ap (λ t. at_marks c.in_ok-found.found.items t.tests) c.tests.ensures.part) in
     ok_as (λ kept. AreLast job.circuit rows kept.tests) (λ kept.
     IsCompaction job.list.model job.circuit job.tests.tests kept.tests) c.last_tests.result
     (λ kept last. stuck_compacted job.list.model job.circuit job.tests.tests rows
@@ -57,5 +57,5 @@ returns-clause-compacted g c =
     c.in_ok-marked_tests-in-Transition.field-0.tests found new model c.in-Transition.is
     c.in_ok-found.ensures.marks before
     (c.in_ok-marked_tests-in-Transition.ensures.rows
-    ∙ (ap (λ xs. marked xs c.tests-in-Transition.result.now.tests) marks
-    ∙ ap (λ t. marked new t.tests) c.tests-in-Transition.ensures.part))
+    ∙ (ap (λ xs. at_marks xs c.tests-in-Transition.result.now.tests) marks
+    ∙ ap (λ t. at_marks new t.tests) c.tests-in-Transition.ensures.part))

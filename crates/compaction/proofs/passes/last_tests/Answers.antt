@@ -5,7 +5,7 @@ use Rattle.std.specs.List.{ReversedBelow}
 use Rattle.fault_model.specs.declared.Model.TheVariants.{StuckAt}
 use Rattle.workers.specs.Refused.{IsRunFault}
 use Rattle.compaction.specs.Marks.{AreFinding, AreLast}
-use Rattle.compaction.proofs.Kept.{are_last, refused_alike}
+use Rattle.compaction.proofs.KeptTests.{are_last, refused_alike}
 use Rattle.compaction.proofs.passes.last_tests.Goals as goal
 
 pub set_tests_of_any_size-requires-clause-width : goal.set_tests_of_any_size-requires-clause-width

@@ -1,6 +1,6 @@
 use Rattle.std.proofs.Common.{◌<◌, ◌∙◌, ◌++◌, ◌∷◌, [], ap, arith, get_or, length, subst, sym}
 use Rattle.patterns.specs.Tests.{IsTestList}
-use Rattle.compaction.proofs.Marked.{marked_below, marked_none, marked_one}
+use Rattle.compaction.proofs.ElementsAtMarks.{marked_below, marked_none, marked_one}
 use Rattle.compaction.proofs.rows.marked_tests.Goals.{then-marks-test+in_ok-push_test}
 use Rattle.compaction.proofs.rows.marked_tests.Goals.{else-marks-test}
 use Rattle.compaction.proofs.rows.marked_tests.Goals as goal

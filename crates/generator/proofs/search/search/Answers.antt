@@ -1,6 +1,6 @@
 use Rattle.std.proofs.Common.{◌<◌, ℕ, List, All, length, sym, ap, subst, ◌∙◌, arith}
 use Rattle.fault_model.specs.Collapse.{Collapsed}
-use Rattle.generator.proofs.Left.{left_few, left_within}
+use Rattle.generator.proofs.UndetectedClasses.{left_few, left_within}
 use Rattle.generator.proofs.search.search.Goals.{then-len, else-len}
 use Rattle.generator.proofs.search.search.Goals as goal
 

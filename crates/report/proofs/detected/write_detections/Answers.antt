@@ -3,7 +3,7 @@ use Rattle.std.proofs.lemmas.Result.{err_from_is_err_and}
 use Rattle.fault_model.specs.Fault.{FaultList}
 use Rattle.output.proofs.Public.{takes_more, stopped_before, stopped_after}
 use Rattle.bench_net.proofs.Public.{some_signal}
-use Rattle.report.specs.Detected.{reached}
+use Rattle.report.specs.Detected.{reached_count}
 use Rattle.report.specs.Report.{coverage_line}
 use Rattle.report.proofs.detected.write_detections.Goals as goal
 
@@ -22,7 +22,7 @@ returns-in_err-put_lines g c =
       c.faults-list.ensures.part,
     ) at c.in_err-put_lines.ensures in
     rw (p.1, listed)
-    (stopped_before _ (coverage_line (reached c.args.most c.args.counts.now)
+    (stopped_before _ (coverage_line (reached_count c.args.most c.args.counts.now)
     (length c.args.counts.now)) _ _ wrote)
 
 pub returns-in_err-put_coverage-2 : goal.returns-in_err-put_coverage-2

@@ -8,4 +8,5 @@ returns-in-Ok-clause-report g c =
     let none = ap (λ v. v.items) c.new-out.ensures.writer ∙ c.new.ensures.items in
     let same : c.into_writer.result.items ≡ wrote.0 = ap (λ v. v.items) c.into_writer.ensures
     ∙ (wrote.2.0 ∙ ap (λ l. l ++ wrote.0) none) in
-    subst (IsReportOf c.args.model c.args.bench.now c.args.tests.now c.args.contents) (sym same) wrote.1
+    subst (IsReportOf c.args.model c.args.bench.now c.args.tests.now c.args.contents) (sym same)
+    wrote.1

@@ -36,15 +36,16 @@ loop-place-preserved-in-Some g c =
 
 pub returns-then-not-pass-clause-stopped : goal.returns-then-not-pass-clause-stopped
 returns-then-not-pass-clause-stopped g c =
-    let class = class_there c.args.rows.now c.loop-place.place c.row_at-class.result c.row_at-class.ensures in (
+    let class =
+    class_there c.args.rows.now c.loop-place.place c.row_at-class.result c.row_at-class.ensures in (
       record {
         class = c.row_at-class.result.class;
         at = class;
         within = c.requires.block;
         stopped = c.if-not-pass.ensures.stopped refl;
         undetected = undetected_here c.args.job.now (classes_of c.args.rows.now) c.loop-place.place
-            c.args.turn.block c.row_at-class.result.class c.loop-place.firsts class c.in-None.ensures
-            c.loop-place.invariant.known;
+            c.args.turn.block c.row_at-class.result.class c.loop-place.firsts class
+            c.in-None.ensures c.loop-place.invariant.known;
       },
       c.loop-place.invariant.known,
     )

@@ -2,7 +2,7 @@ use Rattle.std.proofs.Common.{◌∙◌, ap, map, sym}
 use Rattle.patterns.specs.Least.{below}
 use Rattle.fault_ledger.specs.declared.Shape.{Shape}
 use Rattle.fault_ledger.specs.Settled.{status}
-use Rattle.workers.specs.Chosen.{AreChosenOf, listed}
+use Rattle.workers.specs.Chosen.{AreChosenOf, chosen_of}
 use Rattle.workers.specs.Verdict.{settled_at}
 use Rattle.workers.specs.Work.{HasRun}
 use Rattle.workers.proofs.SettledLedgers.{finished_settled}
@@ -20,8 +20,8 @@ returns-clause-firsts g c =
     let job = c.args.job.now in
     let classes = c.args.classes.now in
     let closed = c.in_ok-closed.closed in
-    let run : HasRun job (listed classes) c.args.workers closed = c.in_ok-closed.ensures.run in
-    let among : AreChosenOf job (listed classes) = record {
+    let run : HasRun job (chosen_of classes) c.args.workers closed = c.in_ok-closed.ensures.run in
+    let among : AreChosenOf job (chosen_of classes) = record {
       few = c.requires.few;
       each = λ k lt. c.requires.classes k 0 lt;
     } in

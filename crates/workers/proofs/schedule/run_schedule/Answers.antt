@@ -24,8 +24,8 @@ told job s h f firsts l e say =
     subst (λ (x : Shape). IsLegal x h → f ≡ face x h → firsts ≡ verdicts x h job.classes.class_of)
     (ap (λ (x : Face). x.shape) e) (say h) l e
 
-pub take_turns-turned-requires-clause-history : goal.take_turns-turned-requires-clause-history
-take_turns-turned-requires-clause-history c =
+pub take_turns-dropped-requires-clause-history : goal.take_turns-dropped-requires-clause-history
+take_turns-dropped-requires-clause-history c =
     let job = c.args.job.now in
     let t = true_table job.list.model job.circuit job.tests.tests
     c.faults.ensures.together.circuit.well_formed in
@@ -46,11 +46,11 @@ overflow_add-skipped c =
     let s = shape_for job c.args.workers in
     let is : IsShapeOf job s = record { classes = refl; tests = refl } in
     let x = scheduled job t.0 s c.args.moves.now c.in_ok-ledger.ledger c.play-played.new.ledger
-    c.take_turns-turned.new.ledger c.play-played.result.skipped c.take_turns-turned.result
+    c.take_turns-dropped.new.ledger c.play-played.result.skipped c.take_turns-dropped.result
     c.play-played.result.changed t.1 c.in_ok-ledger.ensures.face c.play-played.ensures.moved
-    c.take_turns-turned.ensures.moved in
+    c.take_turns-dropped.ensures.moved in
     let few = skipped_few job s (schedule_history t.0 s c.args.moves.now) 0
-    (c.play-played.result.skipped + c.take_turns-turned.result) is c.in_ok-check_job.ensures.few
+    (c.play-played.result.skipped + c.take_turns-dropped.result) is c.in_ok-check_job.ensures.few
     x.1 (x.2 ∙ omega arith) in
     omega (arith, few)
 
@@ -61,10 +61,10 @@ verdicts_of-requires-clause-settled c =
     c.faults.ensures.together.circuit.well_formed in
     let s = shape_for job c.args.workers in
     let x = scheduled job t.0 s c.args.moves.now c.in_ok-ledger.ledger c.play-played.new.ledger
-    c.take_turns-turned.new.ledger c.play-played.result.skipped c.take_turns-turned.result
+    c.take_turns-dropped.new.ledger c.play-played.result.skipped c.take_turns-dropped.result
     c.play-played.result.changed t.1 c.in_ok-ledger.ensures.face c.play-played.ensures.moved
-    c.take_turns-turned.ensures.moved in
-    subst (λ (y : Shape). (h : History) × IsLegal y h × (c.take_turns-turned.new.ledger ≡ face y h)
+    c.take_turns-dropped.ensures.moved in
+    subst (λ (y : Shape). (h : History) × IsLegal y h × (c.take_turns-dropped.new.ledger ≡ face y h)
     × AreSettled y h y.classes) (sym (ap (λ (f : Face). f.shape) x.0))
     (schedule_history t.0 s c.args.moves.now, x.1, x.0, x.3)
 
@@ -76,11 +76,11 @@ returns-clause-firsts c =
     let s = shape_for job c.args.workers in
     let is : IsShapeOf job s = record { classes = refl; tests = refl } in
     let x = scheduled job t.0 s c.args.moves.now c.in_ok-ledger.ledger c.play-played.new.ledger
-    c.take_turns-turned.new.ledger c.play-played.result.skipped c.take_turns-turned.result
+    c.take_turns-dropped.new.ledger c.play-played.result.skipped c.take_turns-dropped.result
     c.play-played.result.changed t.1 c.in_ok-ledger.ensures.face c.play-played.ensures.moved
-    c.take_turns-turned.ensures.moved in
+    c.take_turns-dropped.ensures.moved in
     let h : History = schedule_history t.0 s c.args.moves.now in
-    let own = told job s h c.take_turns-turned.new.ledger c.in_ok-verdicts.verdicts.firsts x.1 x.0
+    let own = told job s h c.take_turns-dropped.new.ledger c.in_ok-verdicts.verdicts.firsts x.1 x.0
     c.in_ok-verdicts.ensures.firsts in
     subst (AreFirsts job.list.model job.circuit job.tests.tests) (sym own)
     (firsts_of job s t.0 h together is t.1 (moved_true t.0 s [] (c.args.moves.now
@@ -93,14 +93,14 @@ returns-clause-history c =
     c.faults.ensures.together.circuit.well_formed in
     let s = shape_for job c.args.workers in
     let x = scheduled job t.0 s c.args.moves.now c.in_ok-ledger.ledger c.play-played.new.ledger
-    c.take_turns-turned.new.ledger c.play-played.result.skipped c.take_turns-turned.result
+    c.take_turns-dropped.new.ledger c.play-played.result.skipped c.take_turns-dropped.result
     c.play-played.result.changed t.1 c.in_ok-ledger.ensures.face c.play-played.ensures.moved
-    c.take_turns-turned.ensures.moved in
+    c.take_turns-dropped.ensures.moved in
     record {
       table = t.0;
       is_true = t.1;
       finished = settled_finished s (schedule_history t.0 s c.args.moves.now) x.3;
-      firsts = told job s (schedule_history t.0 s c.args.moves.now) c.take_turns-turned.new.ledger
+      firsts = told job s (schedule_history t.0 s c.args.moves.now) c.take_turns-dropped.new.ledger
           c.in_ok-verdicts.verdicts.firsts x.1 x.0 c.in_ok-verdicts.ensures.firsts;
       skipped = c.in_ok-verdicts.ensures.skipped ∙ (c.from.ensures ∙ sym x.2);
     }

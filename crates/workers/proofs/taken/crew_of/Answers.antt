@@ -15,7 +15,8 @@ loop-number-preserved c = record {
         c.in_ok-new.ensures.number,
         c.loop-number-test.true,
       )));
-  serves = All-same (λ (m : Member). ServesRegions m.simulation c.args.job.now) c.push.new.self.items _
+  serves =
+      All-same (λ (m : Member). ServesRegions m.simulation c.args.job.now) c.push.new.self.items _
       c.in_ok-push.ensures.items
       (All-push (λ (m : Member). ServesRegions m.simulation c.args.job.now) c.loop-number.crew.items
       c.in_ok-new.field-0 c.loop-number.invariant.serves c.in_ok-new.ensures.serves);

@@ -7,7 +7,9 @@ use Rattle.fault_ledger.specs.Seats.{nothing_seen}
 use Rattle.fault_ledger.proofs.SeatSteps.{seated_sees, sees_twice}
 use Rattle.fault_ledger.proofs.ClassLooks.{none_found, none_from, not_hit, hit_found}
 use Rattle.fault_ledger.proofs.shared.SharedLedger.finds_earlier_hit.Goals as goal
-use Rattle.fault_ledger.proofs.shared.SharedLedger.finds_earlier_hit.Goals.{After-class_and_block-class}
+use Rattle.fault_ledger.proofs.shared.SharedLedger.finds_earlier_hit.Goals.{
+  After-class_and_block-class,
+}
 use Rattle.fault_ledger.proofs.shared.SharedLedger.finds_earlier_hit.Goals.{After-passes_clear-head}
 use Rattle.fault_ledger.proofs.Histories.{goes_on_same}
 

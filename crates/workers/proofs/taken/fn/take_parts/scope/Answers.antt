@@ -45,8 +45,10 @@ loop-member-preserved g c =
       sum = omega (arith, grown, was.sum, step.1);
       left = λ k d lt.
           let h = was.left (suc k) d (omega (arith, lt, step.1)) in
-          let same = ap (λ l. get_or l (suc k) d) step.0 in
-          (subst (λ x. x.number < n) same h.0, subst (λ x. ServesRegions x.simulation job) same h.1);
+          let same = ap (λ l. get_or l (suc k) d) step.0 in (
+            subst (λ x. x.number < n) same h.0,
+            subst (λ x. ServesRegions x.simulation job) same h.1,
+          );
       each = λ k d lt.
           below_more (λ i. let p = (get_or (vec_items c.push.new.self) i d).promise in
           (p.job.value ≡ job) × (p.cut.value ≡ cut) × (p.gate.value ≡ gate)

@@ -29,11 +29,11 @@ use Rattle.workers.specs.declared.RunFault.TheVariants as run_fault
 use Rattle.workers.specs.Refused.{IsRunFault}
 use Rattle.workers.specs.Verdict.{AreFirsts}
 use Rattle.compaction.specs.Compaction.{Covers, IsCompaction, IsFirstForSome, IsLastForSome}
-use Rattle.compaction.specs.Compaction.{IsNeeded, finds, is_first, marked}
+use Rattle.compaction.specs.Compaction.{IsNeeded, finds, is_first, at_marks}
 use Rattle.compaction.specs.Marks.{AreFinding, AreLast}
-use Rattle.compaction.proofs.Marked.{ComesFrom, comes_from, earlier_place, marked_at, ones}
-use Rattle.compaction.proofs.Marked.{ones_next, ones_stay, sublist_twice}
-use Rattle.compaction.proofs.Turned.{turned_back, turned_to}
+use Rattle.compaction.proofs.ElementsAtMarks.{ComesFrom, comes_from, earlier_place, marked_at, ones}
+use Rattle.compaction.proofs.ElementsAtMarks.{ones_next, ones_stay, sublist_twice}
+use Rattle.compaction.proofs.TurnedLists.{turned_back, turned_to}
 
 -- ---- marks by first tests
 
@@ -120,12 +120,12 @@ stuck_at c rows f k test listed at detects =
     (test, at, detects, subst (λ m. LooksBack c rows m f.line f.stuck k) (sym model) tt)
 
 pub covers_stuck : (c : List Statement) (tests : List Test) (marks : List Bool)
-    → AreFinding StuckAt c tests marks → Covers StuckAt c tests (marked marks tests)
+    → AreFinding StuckAt c tests marks → Covers StuckAt c tests (at_marks marks tests)
 covers_stuck c tests marks are f t listed detects =
     let s = are.found f t listed detects in
     let own = s.1.0 in (
       ones (take s.0 marks),
-      stuck_at c (marked marks tests) f (ones (take s.0 marks)) own.0 listed
+      stuck_at c (at_marks marks tests) f (ones (take s.0 marks)) own.0 listed
           (marked_at marks tests s.0 own.0 s.2 own.1) own.2,
     )
 
@@ -135,14 +135,14 @@ pub are_last : (c : List Statement) (tests turned : List Test) (found marks : Li
     → length turned ≡ length tests → ReversedBelow tests turned (length tests)
     → AreFinding StuckAt c turned found
     → length marks ≡ length tests → ReversedBelow found marks (length tests)
-    → AreLast c tests (marked marks tests)
+    → AreLast c tests (at_marks marks tests)
 are_last c tests turned found marks count round are marked_all back =
     record { rows = (marks, marked_all, refl); covers = covers; last = last }
   where
     all_found : length found ≡ length tests
     all_found = are.count ∙ count
 
-    covers : Covers StuckAt c tests (marked marks tests)
+    covers : Covers StuckAt c tests (at_marks marks tests)
     covers f t listed detects =
         let there = stuck_at c turned f (length tests - 1 - t) detects.0 listed (turned_to tests
         turned (length tests) t detects.0 refl count round detects.1) detects.2 in
@@ -154,16 +154,16 @@ are_last c tests turned found marks count round are marked_all back =
         let mark : slice_get marks place ≡ Some true =
         turned_to found marks (length tests) s.0 true all_found marked_all back s.2 in (
           ones (take place marks),
-          stuck_at c (marked marks tests) f (ones
+          stuck_at c (at_marks marks tests) f (ones
               (take place marks)) own.0 listed (marked_at marks tests place own.0 mark at) own.2,
         )
 
-    last : (k : ℕ) (row : Test) → slice_get (marked marks tests) k ≡ Some row
-        → IsLastForSome StuckAt c (marked marks tests) k
+    last : (k : ℕ) (row : Test) → slice_get (at_marks marks tests) k ≡ Some row
+        → IsLastForSome StuckAt c (at_marks marks tests) k
     last k row e = (
       f,
       listed,
-      stuck_at c (marked marks tests) f k row listed e
+      stuck_at c (at_marks marks tests) f k row listed e
           (subst (λ test. Detects c test f) same is.0.2),
       later,
     )
@@ -190,7 +190,7 @@ are_last c tests turned found marks count round are marked_all back =
             ∙ turned_to tests turned (length tests) from.place row refl count round from.at in
             cc
 
-        later : (after : ℕ) → k < after → ¬ DetectsAt c (marked marks tests) f after
+        later : (after : ℕ) → k < after → ¬ DetectsAt c (at_marks marks tests) f after
         later after lt detects =
             let other = comes_from marks tests after detects.0 detects.1 in
             let behind : from.place < other.place =
@@ -203,11 +203,11 @@ are_last c tests turned found marks count round are marked_all back =
             (length tests) other.place detects.0 refl count round other.at) detects.2)
 
 pub compacted_stuck : (c : List Statement) (tests kept : List Test) (marks : List Bool)
-    → AreFinding StuckAt c tests marks → AreLast c (marked marks tests) kept
+    → AreFinding StuckAt c tests marks → AreLast c (at_marks marks tests) kept
     → IsCompaction StuckAt c tests kept
 compacted_stuck c tests kept marks are last_are =
     record {
-      rows = sublist_twice kept (marked marks tests) tests last_are.rows
+      rows = sublist_twice kept (at_marks marks tests) tests last_are.rows
           (marks, are.count, refl);
       covers = covers;
       needed = needed;
@@ -220,7 +220,7 @@ compacted_stuck c tests kept marks are last_are =
     needed : (k : ℕ) (row : Test) → slice_get kept k ≡ Some row
         → (t : ℕ) × (slice_get tests t ≡ Some row) × IsNeeded StuckAt c tests kept t k
     needed k row e =
-        let inner = comes_from last_are.rows.0 (marked marks tests) k row
+        let inner = comes_from last_are.rows.0 (at_marks marks tests) k row
         (subst (λ rows. slice_get rows k ≡ Some row) last_are.rows.2 e) in
         let from = comes_from marks tests inner.place row inner.at in
         (from.place, from.at, (are.first from.place from.mark, last_are.last k row e))
@@ -266,7 +266,7 @@ the_one_before found marks are t e =
 -- what is initialized by a test of the list is initialized by the same row
 initialized_same : (c : List Statement) (tests : List Test) (marks : List Bool) (i : ℕ)
     (l : Line) (b : Bool) → slice_get marks i ≡ Some true → IsInitialized c tests l b (suc i)
-    → IsInitialized c (marked marks tests) l b (suc (ones (take i marks)))
+    → IsInitialized c (at_marks marks tests) l b (suc (ones (take i marks)))
 initialized_same c tests marks i l b on looks =
     (looks.0, marked_at marks tests i looks.0 on looks.1, looks.2)
 
@@ -284,7 +284,7 @@ pub record LooksBackSame (m : Model) (c : List Statement) (tests : List Test)
   pub not_first : (l : Line) (b : Bool) → LooksBack c tests m l b zero → ⊥
   pub same : (i : ℕ) (l : Line) (b : Bool) → slice_get found (suc i) ≡ Some true
       → LooksBack c tests m l b (suc i)
-      → LooksBack c (marked marks tests) m l b (suc (ones (take i marks)))
+      → LooksBack c (at_marks marks tests) m l b (suc (ones (take i marks)))
   pub needs : (kept : List Test) (t k : ℕ)
       → IsFirstForSome m c tests t ⊎ IsFirstForSome m c tests (t + 1)
       → IsNeeded m c tests kept t k
@@ -292,12 +292,12 @@ pub record LooksBackSame (m : Model) (c : List Statement) (tests : List Test)
 pub compacted_before : (m : Model) (c : List Statement) (tests : List Test)
     (found marks : List Bool) → AreFinding m c tests found → AreWithBefore found marks
     → LooksBackSame m c tests found marks
-    → IsCompaction m c tests (marked marks tests)
+    → IsCompaction m c tests (at_marks marks tests)
 compacted_before m c tests found marks are before looks_back =
     record { rows = (marks, before.count ∙ are.count, refl); covers = covers; needed = needed }
   where
     kept_pair : (s : ℕ) (f : Fault) → Contains (faults m c) f → slice_get found s ≡ Some true
-        → DetectsAt c tests f s → (k : ℕ) × DetectsAt c (marked marks tests) f k
+        → DetectsAt c tests f s → (k : ℕ) × DetectsAt c (at_marks marks tests) f k
     kept_pair s f listed mark detects =
         go s mark detects.1 (subst (λ x. LooksBack c tests x f.line f.stuck s) model detects.3)
       where
@@ -305,16 +305,17 @@ compacted_before m c tests found marks are before looks_back =
         model = listed_model m c f listed
 
         go : (i : ℕ) → slice_get found i ≡ Some true → slice_get tests i ≡ Some detects.0
-            → LooksBack c tests m f.line f.stuck i → (k : ℕ) × DetectsAt c (marked marks tests) f k
+            → LooksBack c tests m f.line f.stuck i
+            → (k : ℕ) × DetectsAt c (at_marks marks tests) f k
         go zero on at looks = absurd (looks_back.not_first f.line f.stuck looks)
         go (suc i) on at looks =
             let k = ones (take i marks) in
             let next : ones (take (suc i) marks) ≡ suc k =
             ones_next marks i (the_one_before found marks before i on) in
-            let own : slice_get (marked marks tests) (suc k) ≡ Some detects.0 = subst
-            (λ j. slice_get (marked marks tests) j ≡ Some detects.0) next (marked_at marks tests
+            let own : slice_get (at_marks marks tests) (suc k) ≡ Some detects.0 = subst
+            (λ j. slice_get (at_marks marks tests) j ≡ Some detects.0) next (marked_at marks tests
             (suc i) detects.0 (itself found marks before (suc i) on) at) in
-            let back : LooksBack c (marked marks tests) m f.line f.stuck (suc k) =
+            let back : LooksBack c (at_marks marks tests) m f.line f.stuck (suc k) =
             looks_back.same i f.line f.stuck on looks in (
               suc k,
               (
@@ -322,22 +323,22 @@ compacted_before m c tests found marks are before looks_back =
                 own,
                 detects.2,
                 subst
-                    (λ x. LooksBack c (marked marks tests) x f.line f.stuck (suc k))
+                    (λ x. LooksBack c (at_marks marks tests) x f.line f.stuck (suc k))
                     (sym model) back,
               ),
             )
 
-    covers : Covers m c tests (marked marks tests)
+    covers : Covers m c tests (at_marks marks tests)
     covers f t listed detects = let s = are.found f t listed detects in
         kept_pair s.0 f listed s.2 s.1.0
 
-    needed : (k : ℕ) (row : Test) → slice_get (marked marks tests) k ≡ Some row
-        → (t : ℕ) × (slice_get tests t ≡ Some row) × IsNeeded m c tests (marked marks tests) t k
+    needed : (k : ℕ) (row : Test) → slice_get (at_marks marks tests) k ≡ Some row
+        → (t : ℕ) × (slice_get tests t ≡ Some row) × IsNeeded m c tests (at_marks marks tests) t k
     needed k row e = (
       from.place,
       from.at,
       looks_back.needs
-          (marked marks tests) from.place k (go (or_cases (get_or found from.place false)
+          (at_marks marks tests) from.place k (go (or_cases (get_or found from.place false)
           (get_or found (from.place + 1) false) (sym (before.each from.place lt)
           ∙ get_or_from_slice_get marks from.place true false from.mark))),
     )
@@ -472,7 +473,7 @@ looks_back_pairs c tests found marks are before = record {
 -- ---- by the model of the job
 
 pub stuck_compacted : (m : Model) (c : List Statement) (tests rows kept : List Test)
-    (marks : List Bool) → m ≡ StuckAt → AreFinding m c tests marks → rows ≡ marked marks tests
+    (marks : List Bool) → m ≡ StuckAt → AreFinding m c tests marks → rows ≡ at_marks marks tests
     → AreLast c rows kept → IsCompaction m c tests kept
 stuck_compacted m c tests rows kept marks model are is last =
     subst (λ x. IsCompaction x c tests kept) (sym model)
@@ -482,7 +483,7 @@ stuck_compacted m c tests rows kept marks model are is last =
 -- both models under which a test looks back to the one before it
 pub before_compacted : (m x : Model) (c : List Statement) (tests kept : List Test)
     (found marks : List Bool) → m ≡ x → (x ≡ Transition) ⊎ (x ≡ TransitionPairs)
-    → AreFinding m c tests found → AreWithBefore found marks → kept ≡ marked marks tests
+    → AreFinding m c tests found → AreWithBefore found marks → kept ≡ at_marks marks tests
     → IsCompaction m c tests kept
 before_compacted m x c tests kept found marks same either are before is =
     subst (λ xs. IsCompaction m c tests xs) (sym is)

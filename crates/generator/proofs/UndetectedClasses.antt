@@ -5,7 +5,7 @@ use Rattle.std.proofs.lemmas.List.{length-map}
 use Rattle.std.proofs.lemmas.List.Elements.{All-filter, All-map}
 use Rattle.std.proofs.lemmas.List.Sums.{count_by-le-length, length-filter}
 use Rattle.std.proofs.lemmas.Slice.Zip.{get_or-zip, length-zip}
-use Rattle.generator.specs.Generated.{undetected}
+use Rattle.generator.specs.Generated.{classes_left}
 
 within_zip : (n : ℕ) (xs : List ℕ) (fs : List (Option ℕ)) → All (λ x. x < n) xs
     → All (λ (at : ℕ × Option ℕ). at.0 < n) (zip xs fs)
@@ -17,14 +17,14 @@ within_zip n xs fs all k d lt =
     subst (λ m. m < n) (sym (ap (λ (p : ℕ × Option ℕ). p.0) at)) (all k d.0 first)
 
 pub left_within : (n : ℕ) (xs : List ℕ) (fs : List (Option ℕ)) → All (λ x. x < n) xs
-    → All (λ x. x < n) (undetected xs fs)
+    → All (λ x. x < n) (classes_left xs fs)
 left_within n xs fs all =
     All-map (λ x. x < n) (λ (at : ℕ × Option ℕ). at.0) (filter (λ (at : ℕ × Option ℕ). is_none at.1)
     (zip xs fs))
     (All-filter (λ (at : ℕ × Option ℕ). is_none at.1) (λ at. at.0 < n) (zip xs fs)
     (within_zip n xs fs all))
 
-pub left_few : (xs : List ℕ) (fs : List (Option ℕ)) → length (undetected xs fs) ≤ length xs
+pub left_few : (xs : List ℕ) (fs : List (Option ℕ)) → length (classes_left xs fs) ≤ length xs
 left_few xs fs =
     let p : ℕ × Option ℕ → Bool = λ at. is_none at.1 in
     let mapped = length-map (filter p (zip xs fs)) (λ (at : ℕ × Option ℕ). at.0) in

@@ -2,6 +2,7 @@
 
 use std::fmt::{self, Display, Formatter};
 use std::str;
+use text_lines::is_blank;
 
 /// A place on a line.
 #[derive(Clone, Copy, Debug, PartialEq, Eq)]
@@ -68,11 +69,6 @@ impl Display for Short<'_> {
 pub(crate) struct Spot<'a> {
     pub(crate) token: Token<'a>,
     pub(crate) place: Place,
-}
-
-/// Whether the byte is a space or a tab.
-pub(crate) fn is_blank(byte: u8) -> bool {
-    byte == b' ' || byte == b'\t'
 }
 
 /// Whether the byte may stand in a word.

@@ -4,7 +4,7 @@ use Rattle.std.proofs.Common.{◌∷◌, ◌++◌, length, take, ap, refl, sym, 
 use Rattle.std.proofs.Common.{inr, ◌⊎◌}
 use Rattle.std.proofs.lemmas.Bool.{cases_lt}
 use Rattle.std.specs.Prelude.{Some, None, slice_get}
-use Rattle.compaction.specs.Compaction.{IsSublist, marked}
+use Rattle.compaction.specs.Compaction.{IsSublist, at_marks}
 
 -- how many places are marked
 abbrev pub ones : List Bool → ℕ
@@ -14,7 +14,7 @@ ones (false ∷ marks) = ones marks
 
 pub marked_at : {X : Type 0} (marks : List Bool) (xs : List X) (t : ℕ) (x : X)
     → slice_get marks t ≡ Some true → slice_get xs t ≡ Some x
-    → slice_get (marked marks xs) (ones (take t marks)) ≡ Some x
+    → slice_get (at_marks marks xs) (ones (take t marks)) ≡ Some x
 marked_at [] xs t x m e = let bad : None ≡ Some true = m in cc
 marked_at (b ∷ marks) [] t x m e = let bad : None ≡ Some x = e in cc
 marked_at (true ∷ marks) (y ∷ xs) zero x m e = e
@@ -30,7 +30,7 @@ pub record ComesFrom {X : Type 0} (marks : List Bool) (xs : List X) (k : ℕ) (x
   pub before : ones (take place marks) ≡ k
 
 pub comes_from : {X : Type 0} (marks : List Bool) (xs : List X) (k : ℕ) (x : X)
-    → slice_get (marked marks xs) k ≡ Some x → ComesFrom marks xs k x
+    → slice_get (at_marks marks xs) k ≡ Some x → ComesFrom marks xs k x
 comes_from [] xs k x e = let bad : None ≡ Some x = e in cc
 comes_from (true ∷ marks) [] k x e = let bad : None ≡ Some x = e in cc
 comes_from (false ∷ marks) [] k x e = let bad : None ≡ Some x = e in cc
@@ -76,7 +76,7 @@ ones_stay (true ∷ marks) (suc t) e = ap suc (ones_stay marks t e)
 ones_stay (false ∷ marks) (suc t) e = ones_stay marks t e
 
 pub marked_few : {X : Type 0} (marks : List Bool) (xs : List X)
-    → length (marked marks xs) ≤ length xs
+    → length (at_marks marks xs) ≤ length xs
 marked_few [] xs = omega arith
 marked_few (true ∷ marks) [] = omega arith
 marked_few (false ∷ marks) [] = omega arith
@@ -89,7 +89,7 @@ sublist_few some xs is =
     let few = marked_few is.0 xs in let same = ap length is.2 in omega (arith, few, same)
 
 pub marked_below : {X : Type 0} (marks : List Bool) (xs : List X) (t : ℕ)
-    → length (marked (take t marks) xs) ≤ t
+    → length (at_marks (take t marks) xs) ≤ t
 marked_below marks xs zero = omega arith
 marked_below [] xs (suc t) = omega arith
 marked_below (true ∷ marks) [] (suc t) = omega arith
@@ -98,7 +98,7 @@ marked_below (true ∷ marks) (x ∷ xs) (suc t) = let h = marked_below marks xs
 marked_below (false ∷ marks) (x ∷ xs) (suc t) = let h = marked_below marks xs t in omega (arith, h)
 
 -- where there are no elements, none is marked
-no_elements : {X : Type 0} (marks : List Bool) → marked {X = X} marks [] ≡ []
+no_elements : {X : Type 0} (marks : List Bool) → at_marks {X = X} marks [] ≡ []
 no_elements [] = refl
 no_elements (true ∷ marks) = refl
 no_elements (false ∷ marks) = refl
@@ -106,7 +106,7 @@ no_elements (false ∷ marks) = refl
 -- one place more
 one_next : {X : Type 0} (marks : List Bool) (xs : List X) (t : ℕ) (d : X)
     → t < length marks → t < length xs → get_or marks t false ≡ true
-    → marked (take (suc t) marks) xs ≡ marked (take t marks) xs ++ get_or xs t d ∷ []
+    → at_marks (take (suc t) marks) xs ≡ at_marks (take t marks) xs ++ get_or xs t d ∷ []
 one_next [] xs t d m lt e = absurd (omega (arith, m))
 one_next (b ∷ marks) [] t d m lt e = absurd (omega (arith, lt))
 one_next (true ∷ marks) (x ∷ xs) zero d m lt e = refl
@@ -117,7 +117,7 @@ one_next (false ∷ marks) (x ∷ xs) (suc t) d m lt e =
     one_next marks xs t d (omega (arith, m)) (omega (arith, lt)) e
 
 none_next : {X : Type 0} (marks : List Bool) (xs : List X) (t : ℕ) → t < length marks
-    → get_or marks t false ≡ false → marked (take (suc t) marks) xs ≡ marked (take t marks) xs
+    → get_or marks t false ≡ false → at_marks (take (suc t) marks) xs ≡ at_marks (take t marks) xs
 none_next [] xs t m e = absurd (omega (arith, m))
 none_next (b ∷ marks) [] t m e = no_elements (take (suc t) (b ∷ marks))
     ∙ sym (no_elements (take t (b ∷ marks)))
@@ -129,13 +129,13 @@ none_next (false ∷ marks) (x ∷ xs) (suc t) m e = none_next marks xs t (omega
 
 pub marked_one : {X : Type 0} (marks : List Bool) (xs : List X) (t : ℕ) (d : X)
     → t < length marks → t < length xs → get_or marks t false ≡ true
-    → marked (take (t + 1) marks) xs ≡ marked (take t marks) xs ++ get_or xs t d ∷ []
-marked_one marks xs t d m lt e = ap (λ n. marked (take n marks) xs) (add-one t)
+    → at_marks (take (t + 1) marks) xs ≡ at_marks (take t marks) xs ++ get_or xs t d ∷ []
+marked_one marks xs t d m lt e = ap (λ n. at_marks (take n marks) xs) (add-one t)
     ∙ one_next marks xs t d m lt e
 
 pub marked_none : {X : Type 0} (marks : List Bool) (xs : List X) (t : ℕ) → t < length marks
-    → get_or marks t false ≡ false → marked (take (t + 1) marks) xs ≡ marked (take t marks) xs
-marked_none marks xs t m e = ap (λ n. marked (take n marks) xs) (add-one t)
+    → get_or marks t false ≡ false → at_marks (take (t + 1) marks) xs ≡ at_marks (take t marks) xs
+marked_none marks xs t m e = ap (λ n. at_marks (take n marks) xs) (add-one t)
     ∙ none_next marks xs t m e
 
 -- ---- some of some
@@ -154,7 +154,7 @@ both_counted (true ∷ marks) [] = ap suc (both_counted marks [])
 both_counted (true ∷ marks) (mark ∷ inner) = ap suc (both_counted marks inner)
 
 marked_twice : {X : Type 0} (marks inner : List Bool) (xs : List X)
-    → marked inner (marked marks xs) ≡ marked (both_marks marks inner) xs
+    → at_marks inner (at_marks marks xs) ≡ at_marks (both_marks marks inner) xs
 marked_twice [] inner xs = no_elements inner
 marked_twice (false ∷ marks) inner [] = no_elements inner
 marked_twice (false ∷ marks) inner (x ∷ xs) = marked_twice marks inner xs
@@ -172,5 +172,5 @@ sublist_twice xs ys zs inner outer = (
   both_marks outer.0 inner.0,
   both_counted outer.0 inner.0 ∙ outer.1,
   inner.2
-      ∙ (ap (marked inner.0) outer.2 ∙ marked_twice outer.0 inner.0 zs),
+      ∙ (ap (at_marks inner.0) outer.2 ∙ marked_twice outer.0 inner.0 zs),
 )
