@@ -56,7 +56,7 @@ pub fn number_names<'a>(alloc: Global, stated: &[StatedLine<'a>]) -> Result<Name
     ensures once { IfOk result (λ names. AllPairs (λ m n. m ≢ n) (names_in stated.now)) }
     ensures refused { IfErr result (MayBeOf stated.now) }
 {
-    let mut names = IndexSet::new(alloc);
+    let mut names = IndexSet::with_capacity(alloc, stated.len())?;
     for line in stated {
         let Some(name) = defined(&line.statement) else {
             continue;

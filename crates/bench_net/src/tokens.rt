@@ -75,10 +75,7 @@ fn word_text<'a>(word: &'a [u8]) -> &'a str
     requires { IsUtf8 word.now }
     ensures { result.now ≡ word.now }
 {
-    match str::from_utf8(word) {
-        Ok(text) => text,
-        Err(_) => unreachable!(),
-    }
+    unsafe { str::from_utf8_unchecked(word) }
 }
 
 /// What stands at the front of a line, and the bytes behind it.

@@ -1,6 +1,7 @@
 -- What the parts of collapsing compute.
 use Rattle.std.specs.Prelude.{◌≡◌, ℕ, ◌<◌, Bool, List, [], ◌∷◌, length, Option, Some, None}
 use Rattle.std.specs.Prelude.{option_and_then, option_map, slice_get, slice_index_or}
+use Rattle.bench_net.specs.declared.Kind.{Kind}
 use Rattle.bench_net.specs.declared.Sink.{Sink}
 use Rattle.bench_net.specs.declared.Sink.TheVariants as sink
 use Rattle.bench_net.specs.Statement.{Statement}
@@ -9,7 +10,7 @@ use Rattle.fault_model.specs.declared.Line.{Line}
 use Rattle.fault_model.specs.declared.Line.TheVariants as line
 use Rattle.fault_model.specs.declared.Model.{Model}
 use Rattle.fault_model.specs.Fault.{Fault, faults}
-use Rattle.fault_model.specs.Collapse.{next, IsClassOf}
+use Rattle.fault_model.specs.Collapse.{kind_of, next, IsClassOf}
 
 -- the gate whose pin is the only one of these sinks
 abbrev pub only_gate : List Sink → Option ℕ
@@ -40,6 +41,11 @@ HasNext m c class_of i = (j : ℕ) (f g : Fault) → slice_get (faults m c) i �
 abbrev pub HasStems : Model → List Statement → List ℕ → Type 0
 HasStems m c class_of = (i s : ℕ) (b : Bool) → slice_get (faults m c) i ≡ Some
     (record { model = m; line = line.Stem s; stuck = b }) → HasClassAt m c class_of i
+
+-- a table has the kind of the gate that drives each of the first so many signals
+pub record HaveKinds (c : List Statement) (n : ℕ) (kinds : List (Option Kind)) : Type 0 where
+  pub count : length kinds ≡ n
+  pub each : (i : ℕ) → i < n → slice_index_or kinds i None ≡ kind_of c i
 
 -- a table has the number of the next fault of each of the first so many faults
 pub record HaveNexts (m : Model) (c : List Statement) (n : ℕ) (nexts : List (Option ℕ)) : Type 0

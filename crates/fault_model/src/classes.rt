@@ -5,10 +5,11 @@ ghost use Rattle.std.specs.Prelude.{option_map, option_and_then, slice_get};
 ghost use Rattle.bench_net.specs.Scan.{names};
 ghost use Rattle.bench_net.specs.Circuit.{IsCircuit};
 ghost use Rattle.fault_model.specs.Fault.{Fault, faults};
-ghost use Rattle.fault_model.specs.Collapse.{next, next_stuck, readers, representatives};
+ghost use Rattle.fault_model.specs.Collapse.{kind_of, next, next_stuck, readers};
+ghost use Rattle.fault_model.specs.Collapse.{representatives};
 ghost use Rattle.fault_model.specs.Collapse.{AreClassesOf, ClassesShowSame};
 ghost use Rattle.fault_model.specs.Known.{only_gate, IsInCircuit, HasClassAt, HasEnds, HasNext};
-ghost use Rattle.fault_model.specs.Known.{HasStems, HaveNexts, KeepsClasses};
+ghost use Rattle.fault_model.specs.Known.{HasStems, HaveKinds, HaveNexts, KeepsClasses};
 
 use crate::Line;
 use crate::faults::Faults;
@@ -108,17 +109,42 @@ fn reading_gate(circuit: &Circuit, line: Line) -> Option<u32>
     }
 }
 
+/// The kind of the gate that drives each signal, if a gate does. These few bytes stay in a cache,
+/// where the lines of a circuit don't.
+fn kinds_of(alloc: Global, circuit: &Circuit) -> Result<Vec<Option<Kind>>, AllocError>
+    ensures { IfOk result (λ kinds.
+        HaveKinds circuit.now (length (names circuit.now)) kinds.items) }
+{
+    let mut kinds = Vec::with_capacity(alloc, circuit.signals() as usize)?;
+    for signal in 0..circuit.signals() {
+        kinds.push(kind_of(circuit, signal))?;
+    }
+    Ok(kinds)
+}
+
+/// The kind of the gate that drives a signal, if a gate does.
+fn kind_of(circuit: &Circuit, signal: u32) -> Option<Kind>
+    requires { signal < length (names circuit.now) }
+    ensures { result ≡ kind_of circuit.now signal }
+{
+    match circuit.gate_of(signal) {
+        Some(gate) => Some(gate.kind),
+        None => None,
+    }
+}
+
 /// The number of a fault's next fault, which no test tells apart from it, if it has one: where a
 /// gate's pin is all that reads the fault's line, the fault on the gate's stem that the table
 /// gives.
-fn next_fault(circuit: &Circuit, list: &Faults, fault: u32) -> Option<u32>
+fn next_fault(circuit: &Circuit, kinds: &[Option<Kind>], list: &Faults, fault: u32) -> Option<u32>
+    requires kinds { HaveKinds circuit.now (length (names circuit.now)) kinds.now }
     requires same { list.now.list ≡ faults list.now.model circuit.now }
     requires in_range { fault < length list.now.list }
     ensures { option_map (slice_get list.now.list) result ≡ option_map Some
         (option_and_then (next circuit.now) (slice_get list.now.list fault)) }
 {
     let gate = reading_gate(circuit, list.line_of(fault))?;
-    let kind = circuit.gate_of(gate)?.kind;
+    let kind = kinds[gate as usize]?;
     let stuck = next_stuck(list.model(), kind, list.stuck_of(fault))?;
     Some(list.stem_fault(gate, stuck))
 }
@@ -133,9 +159,10 @@ fn next_faults(
     ensures { IfOk result (λ nexts.
         HaveNexts list.now.model circuit.now (length list.now.list) nexts.items) }
 {
+    let kinds = kinds_of(alloc, circuit)?;
     let mut nexts = Vec::with_capacity(alloc, list.count() as usize)?;
     for fault in 0..list.count() {
-        nexts.push(next_fault(circuit, list, fault))?;
+        nexts.push(next_fault(circuit, &kinds, list, fault))?;
     }
     Ok(nexts)
 }

@@ -14,6 +14,7 @@
 #![tactic(auto)]
 
 mod alone;
+mod arrange;
 mod chosen;
 mod classes;
 mod open;

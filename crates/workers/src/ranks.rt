@@ -1,10 +1,11 @@
 //! The classes of a job in the order of its parts.
 
 ghost use Rattle.std.specs.Prelude.{◌≡◌, ◌<◌, ◌≤◌, ℕ, IfOk, List, length, slice_index_or};
-ghost use Rattle.std.specs.Prelude.{slice_range};
+ghost use Rattle.std.specs.Prelude.{IsPermutation, OnOk, slice_range};
 ghost use Rattle.block_sim.specs.Parts.{Parts};
 ghost use Rattle.workers.specs.Rank.{AreNumbered, AreRanked, IsCutOf, IsStart};
 
+use crate::arrange::arrange;
 use crate::visits::visit_order;
 use block_sim::Job;
 use std::alloc::{AllocError, Global};
@@ -58,14 +59,36 @@ impl Cut {
     }
 }
 
-/// All classes of a job in their order.
+/// All classes of a job in their order. Counting puts them there, and the sort sees to it.
 fn ranked_classes(alloc: Global, job: &Job, parts: u32) -> Result<Vec<Ranked>, AllocError>
     requires { 0 < parts }
     ensures { IfOk result (λ ranked. AreRanked job.now parts ranked.items) }
 {
     let mut ranked = numbered_classes(alloc, job, parts)?;
+    let signals = job.circuit().signals();
+    arrange_classes(alloc, ranked.as_mut_slice(), signals, parts)?;
     ranked.sort_unstable();
     Ok(ranked)
+}
+
+/// Puts classes in the order of the visits to their stems, and then in that of their parts, where
+/// there are several.
+fn arrange_classes(
+    alloc: Global,
+    ranked: &mut [Ranked],
+    signals: u32,
+    parts: u32,
+) -> Result<(), AllocError>
+    ensures { OnOk result (IsPermutation ranked.old ranked.new) }
+{
+    let visits = ranked.iter().map(|at| at.visit).collect(alloc)?;
+    arrange(alloc, ranked, visits, signals)?;
+    if parts == 1 {
+        return Ok(());
+    }
+    let parts_of_classes = ranked.iter().map(|at| at.part).collect(alloc)?;
+    arrange(alloc, ranked, parts_of_classes, parts.min(signals))?;
+    Ok(())
 }
 
 /// All classes of a job by their own numbers.

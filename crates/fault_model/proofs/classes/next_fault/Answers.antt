@@ -1,4 +1,4 @@
-use Rattle.std.proofs.Common.{◌≡◌, Bool, Some, None, ap, sym, ◌∙◌}
+use Rattle.std.proofs.Common.{◌≡◌, ◌<◌, Bool, Some, None, ap, arith, length, sym, ◌∙◌}
 use Rattle.std.specs.Prelude.{Option, slice_get, Contains, option_map, option_and_then}
 use Rattle.bench_net.specs.Scan.{names, name_of}
 use Rattle.bench_net.specs.Statement.{Name}
@@ -32,10 +32,16 @@ gate_named c =
     gate_is_signal m c.args.circuit.now (fault_on m c.line_of.result p.0) c.in_ok-gate.gate
     p.1.listed (sym c.in_ok-gate.ensures)
 
-pub gate_of-requires : goal.gate_of-requires
-gate_of-requires c =
-    let n = gate_named (goal.at.gate_of-requires c).In_ok-gate in
+-- so the table of kinds has it
+gate_within : (c : In_ok-gate) → c.in_ok-gate.gate < length (names c.args.circuit.now)
+gate_within c =
+    let n = gate_named c in
     place_within (names c.args.circuit.now) c.in_ok-gate.gate n.0 n.1
+
+pub bounds-kinds-gate : goal.bounds-kinds-gate
+bounds-kinds-gate c =
+    let lt = gate_within (goal.at.bounds-kinds-gate c).In_ok-gate in
+    omega (arith, lt, c.requires.kinds.count)
 
 pub stem_fault-requires : goal.stem_fault-requires
 stem_fault-requires c =
@@ -49,7 +55,7 @@ stem_fault-requires c =
 
 -- the next fault, where the table has this row for the gate's kind
 follows : (c : After-stuck_of) (row : Option Bool)
-    → row ≡ next_stuck c.args.list.now.model c.in_ok-kind.field-0.now.kind c.stuck_of.result
+    → row ≡ next_stuck c.args.list.now.model c.in_ok-kind.kind c.stuck_of.result
     → option_and_then (next c.args.circuit.now) (slice_get c.args.list.now.list c.args.fault)
     ≡ option_map (λ b. fault_on c.args.list.now.model (line.Stem c.in_ok-gate.gate) b) row
 follows c row fixes =
@@ -60,8 +66,9 @@ follows c row fixes =
     let at = fault_at m circuit c.args.fault c.line_of.result c.stuck_of.result
     (rw c.requires.same at c.requires.in_range) (rw c.requires.same at c.line_of.ensures)
     (rw c.requires.same at c.stuck_of.ensures) in
-    let kind : kind_of circuit gate ≡ Some c.in_ok-kind.field-0.now.kind =
-    ap (option_map (λ g. g.0)) (sym c.in_ok-kind.ensures) in
+    let lt = gate_within (goal.at.After-stuck_of c).In_ok-gate in
+    let kind : kind_of circuit gate ≡ Some c.in_ok-kind.kind =
+    sym (c.requires.kinds.each gate lt) ∙ c.in_ok-kind.was in
     let next_is : next circuit f ≡ option_map (λ b. fault_on m (line.Stem gate) b) row =
     next_at_gate circuit f gate (sym c.in_ok-gate.ensures)
     ∙ (ap (by_table m gate c.stuck_of.result) kind
@@ -81,3 +88,22 @@ returns-in_err-stuck c =
     (rw c.model.ensures at c.in_err-stuck.ensures) in
     ap (option_map (slice_get c.args.list.now.list)) c.from_residual-in_err-stuck.ensures
     ∙ ap (option_map Some) (sym from)
+
+pub returns-in_err-kind : goal.returns-in_err-kind
+returns-in_err-kind c =
+    let circuit = c.args.circuit.now in
+    let m = c.args.list.now.model in
+    let gate = c.in_ok-gate.gate in
+    let p = found (goal.at.returns-in_err-kind c).After-line_of in
+    let lt = gate_within (goal.at.returns-in_err-kind c).In_ok-gate in
+    let kind : kind_of circuit gate ≡ None =
+    sym (c.requires.kinds.each gate lt) ∙ c.in_err-kind.was in
+    let next_is : next circuit (fault_on m c.line_of.result p.0) ≡ None =
+    next_at_gate circuit (fault_on m c.line_of.result p.0) gate (sym c.in_ok-gate.ensures)
+    ∙ ap (by_table m gate p.0) kind in
+    let last : option_and_then (next circuit) (slice_get c.args.list.now.list c.args.fault)
+    ≡ None =
+    ap (λ list. option_and_then (next circuit) (slice_get list c.args.fault)) c.requires.same
+    ∙ (ap (option_and_then (next circuit)) p.1.there ∙ next_is) in
+    ap (option_map (slice_get c.args.list.now.list)) c.from_residual-in_err-kind.ensures
+    ∙ ap (option_map Some) (sym last)

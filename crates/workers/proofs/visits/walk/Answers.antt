@@ -3,10 +3,11 @@ use Rattle.std.proofs.lemmas.List.{length-set}
 use Rattle.block_sim.proofs.Public.{order_within}
 use Rattle.workers.proofs.visits.walk.Goals as goal
 
-pub first_reader-requires-clause-signal : goal.first_reader-requires-clause-signal
-first_reader-requires-clause-signal c =
-    order_within c.args.circuit.now c.in_level_order-order.result.now _
-    c.in_level_order-order.ensures (omega arith)
+pub bounds-readers-signal : goal.bounds-readers-signal
+bounds-readers-signal c =
+    let lt = order_within c.args.circuit.now c.in_level_order-order.result.now
+    (c.loop-place.place - 1) c.in_level_order-order.ensures (omega arith) in
+    omega (arith, lt, c.requires.readers)
 
 pub bounds-sizes-signal : goal.bounds-sizes-signal
 bounds-sizes-signal c =
