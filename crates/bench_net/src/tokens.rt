@@ -75,7 +75,10 @@ fn word_text<'a>(word: &'a [u8]) -> &'a str
     requires { IsUtf8 word.now }
     ensures { result.now ≡ word.now }
 {
-    unsafe { str::from_utf8_unchecked(word) }
+    match str::from_utf8(word) {
+        Ok(text) => text,
+        Err(_) => unreachable!(),
+    }
 }
 
 /// What stands at the front of a line, and the bytes behind it.
