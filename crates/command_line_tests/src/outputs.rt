@@ -1,94 +1,115 @@
 //! Outputs that fail, or take few bytes a call.
 
-use crate::commands::C17_FILES;
-use crate::screen::{Answer, Screen, run_between, run_on};
+use crate::screen::Screen;
+use command_line::{Source, SourceFault, run_words};
 use report::{Contents, Lines, Plain, ReportFault, SimFault, simulate_text};
 use std::alloc::{AllocError, Global};
 use std::io::{self, Write};
 use std::sync::Wait;
 use std::test::Fail;
 use std::thread::Threads;
-use worked_circuits::C17_TEXT as C17;
+use worked_circuits::C17;
 
-const RUN: &str = "faultsim run --bench bench --tests tests";
+/// C17, a test for it, and part texts of two faults.
+#[derive(Clone, Copy)]
+struct Files;
 
-/// What it writes.
+impl Source for Files {
+    fn read(&mut self, alloc: Global, path: &str) -> Result<Vec<u8>, SourceFault> {
+        let text = match path {
+            "bench" => C17,
+            "tests" => b"11111\n".as_slice(),
+            "first" => FIRST,
+            "second" => SECOND,
+            _ => return Err(SourceFault::Unreadable),
+        };
+        Vec::from_slice(alloc, text).map_err(|_| SourceFault::Memory)
+    }
+}
+
+/// The parts of one run.
+const FIRST: &[u8] = b"\
+    part 1 of 2 model stuck rule region bench b tests t\n\
+    stem a sa0 7\n\
+    stem a sa1 -\n\
+    part 1 of 2: 1 of 1\n\
+    ";
+
+const SECOND: &[u8] = b"\
+    part 2 of 2 model stuck rule region bench b tests t\n\
+    stem a sa0 -\n\
+    stem a sa1 none\n\
+    part 2 of 2: 0 of 1\n\
+    ";
+
+/// What a run of C17 writes.
 const COVERAGE: &str = "14 of 34 (41.17%)\n";
+
+/// Command lines, and what each writes.
+static WRITTEN: [(&str, &str); 2] = [
+    ("faultsim run --bench bench --tests tests", COVERAGE),
+    (
+        "faultsim merge first second --list",
+        "stem a sa0 7\nstem a sa1 none\n1 of 2 (50.00%)\n",
+    ),
+];
 
 const CANNOT_WRITE: &str = "faultsim: cannot write\n";
 
-/// Runs one test of C17 on an output that is cut.
-fn run_cut<R: AllocGlobal + Threads + Wait>(
+/// Whether a command line writes this to an output that takes so many bytes, and so many a call,
+/// and says on standard error whether that was all.
+fn writes<R: AllocGlobal + Threads + Wait>(
     rt: &R,
+    line: &str,
+    written: &str,
     limit: usize,
     step: usize,
-) -> Result<Answer, AllocError> {
-    run_on(rt, RUN, C17_FILES, Screen::cut(rt.alloc(), limit, step))
+) -> Result<bool, AllocError> {
+    let words: Vec<&str> = line.split(' ').collect(rt.alloc())?;
+    let mut out = Screen::cut(rt.alloc(), limit, step);
+    let mut err = Screen::new(rt.alloc());
+    let status = run_words(rt, rt.alloc(), &words, &mut Files, &mut out, &mut err);
+    let taken = if step == 0 {
+        0
+    } else {
+        limit.min(written.len())
+    };
+    let (said, wanted) = if taken < written.len() {
+        (CANNOT_WRITE, 3)
+    } else {
+        ("", 0)
+    };
+    let is_beginning = Some(out.text()) == written.as_bytes().get(..taken);
+    Ok(is_beginning && err.text() == said.as_bytes() && status == wanted)
 }
 
-/// Whether an answer has a text on standard output, another on standard error, and a status.
-fn has_told(told: &Answer, written: &[u8], said: &str, status: u8) -> bool {
-    told.out.text() == written && told.err.text() == said.as_bytes() && told.status == status
+/// Whether a command line writes a beginning of this to each output that takes fewer bytes.
+fn writes_beginnings<R: AllocGlobal + Threads + Wait>(
+    rt: &R,
+    line: &str,
+    written: &str,
+) -> Result<bool, AllocError> {
+    for limit in 0..=written.len() {
+        if !writes(rt, line, written, limit, 4096)? {
+            return Ok(false);
+        }
+    }
+    Ok(true)
 }
 
 #[test]
 fn failing_output_has_a_beginning(rt: HostRuntime) -> Result<(), Fail> {
-    for limit in 0..19usize {
-        let told = run_cut(&rt, limit, 4096)?;
-        let (said, status) = if limit < 18 {
-            (CANNOT_WRITE, 3)
-        } else {
-            ("", 0)
-        };
-        let written = COVERAGE.as_bytes().get(..limit.min(18)).unwrap_or_default();
-        assert!(rt; has_told(&told, written, said, status), "{limit}");
+    for (line, written) in &WRITTEN {
+        assert!(rt; writes_beginnings(&rt, line, written)?, "{line}");
     }
     Ok(())
 }
 
 #[test]
 fn output_of_few_bytes_a_call_takes_all(rt: HostRuntime) -> Result<(), Fail> {
-    for (step, written, said, status) in [
-        (1, COVERAGE, "", 0),
-        (7, COVERAGE, "", 0),
-        (0, "", CANNOT_WRITE, 3),
-    ] {
-        let told = run_cut(&rt, 4096, step)?;
-        assert!(rt; has_told(&told, written.as_bytes(), said, status), "{step}");
-    }
-    Ok(())
-}
-
-/// Command lines that are refused, and the status of each.
-static REFUSED: [(&str, u8); 3] = [
-    ("faultsim faults --bench tests", 1),
-    ("faultsim simulate", 2),
-    ("faultsim faults --bench none", 3),
-];
-
-/// Whether a refused command line has this status where standard error takes so many bytes, and
-/// those are the first of what it tells otherwise.
-fn is_refused<R: AllocGlobal + Threads + Wait>(
-    rt: &R,
-    line: &str,
-    status: u8,
-    limit: usize,
-) -> Result<bool, AllocError> {
-    let whole = run_on(rt, line, C17_FILES, Screen::new(rt.alloc()))?;
-    let (out, err) = (
-        Screen::new(rt.alloc()),
-        Screen::cut(rt.alloc(), limit, 4096),
-    );
-    let told = run_between(rt, line, C17_FILES, out, err)?;
-    let is_beginning = whole.err.text().get(..limit) == Some(told.err.text());
-    Ok(is_beginning && told.out.text().is_empty() && told.status == status)
-}
-
-#[test]
-fn failing_standard_error_leaves_the_status(rt: HostRuntime) -> Result<(), Fail> {
-    for (line, status) in &REFUSED {
-        for limit in [0, 5] {
-            assert!(rt; is_refused(&rt, line, *status, limit)?, "{line}: {limit}");
+    for (line, written) in &WRITTEN {
+        for step in [0, 1, 7] {
+            assert!(rt; writes(&rt, line, written, 4096, step)?, "{line}: {step}");
         }
     }
     Ok(())
@@ -126,7 +147,7 @@ fn simulate_slowly<R: AllocGlobal + Threads + Wait>(
     out: &mut Plain<Slow>,
 ) -> Result<(), SimFault> {
     let contents = Contents::of(Lines::Omitted);
-    simulate_text(rt, rt.alloc(), C17.as_bytes(), b"11111\n", 1, contents, out)
+    simulate_text(rt, rt.alloc(), C17, b"11111\n", 1, contents, out)
 }
 
 /// A slow writer with no bytes, as an output.

@@ -1,7 +1,6 @@
 //! The text calls: the bytes that they give, the order in which they refuse, and the words and
 //! statuses of their faults.
 
-use crate::cases::{BUFFER, Case};
 use crate::screen::Screen;
 use bench_net::BenchFault;
 use block_sim::JobFault;
@@ -17,6 +16,19 @@ use std::sync::Wait;
 use std::test::Fail;
 use std::thread::Threads;
 use worked_circuits::C17_TEXT as C17;
+
+/// A buffer.
+const BUFFER: &str = "INPUT(a)\nOUTPUT(z)\nz = BUFF(a)\n";
+
+/// The words of a command, its texts, and what its text call writes, or none where it is refused.
+#[derive(Clone, Copy)]
+struct Case {
+    line: &'static str,
+    bench: &'static str,
+    tests: &'static str,
+    order: &'static str,
+    written: Option<&'static str>,
+}
 
 /// What the text call of a case's command writes, for 4 workers.
 fn bytes_of<R: AllocGlobal + Threads + Wait>(rt: &R, case: &Case) -> Result<Vec<u8>, SimFault> {
@@ -60,65 +72,57 @@ const SLOW_BUFFER: &str =
 /// One case of each text call, and a refused text.
 static TEXT_CASES: [Case; 4] = [
     Case {
-        name: "transition_buffer",
         line: "faultsim run --model transition --list",
         bench: BUFFER,
         tests: "0\n1\n0\n",
         order: "",
-        stdout: SLOW_BUFFER,
-        stderr: "",
-        status: 0,
+        written: Some(SLOW_BUFFER),
     },
     Case {
-        name: "transition_buffer_scheduled",
         line: "faultsim schedule --model transition --list",
         bench: BUFFER,
         tests: "0\n1\n0\n",
         order: "2\n0\n",
-        stdout: SLOW_BUFFER,
-        stderr: "",
-        status: 0,
+        written: Some(SLOW_BUFFER),
     },
     Case {
-        name: "buffer_listing",
         line: "faultsim faults --bench",
         bench: BUFFER,
         tests: "",
         order: "",
-        stdout: "\
+        written: Some(
+            "\
             stem a sa0 class 0\n\
             stem a sa1 class 1\n\
             stem z sa0 class 0\n\
             stem z sa1 class 1\n\
             4 faults in 2 classes\n\
             ",
-        stderr: "",
-        status: 0,
+        ),
     },
     Case {
-        name: "refused_empty",
         line: "faultsim run --list",
         bench: "",
         tests: "",
         order: "",
-        stdout: "",
-        stderr: "",
-        status: 1,
+        written: None,
     },
 ];
 
 /// Whether the text call of a case's command gives what the case wants.
 fn comes_as_bytes<R: AllocGlobal + Threads + Wait>(rt: &R, case: &Case) -> bool {
     match bytes_of(rt, case) {
-        Ok(bytes) => bytes.as_slice() == case.stdout.as_bytes() && case.status == 0,
-        Err(_) => case.status == 1,
+        Ok(bytes) => case
+            .written
+            .is_some_and(|text| bytes.as_slice() == text.as_bytes()),
+        Err(_) => case.written.is_none(),
     }
 }
 
 #[test]
 fn texts_come_as_bytes(rt: HostRuntime) -> Result<(), Fail> {
     for case in &TEXT_CASES {
-        assert!(rt; comes_as_bytes(&rt, case), "{}", case.name);
+        assert!(rt; comes_as_bytes(&rt, case), "{}", case.line);
     }
     Ok(())
 }
