@@ -1,6 +1,7 @@
-//! Worked cases of what stands below: circuits of bench texts, refused texts, faults and classes,
-//! test texts and order texts. A case is one row of a table; a test goes over its table. This crate
-//! has tests alone, so that the crates below, which are larger, are proved once.
+//! Worked cases of what stands below: circuits of bench texts, faults and classes, test texts and
+//! order texts. A case is one row of a table; a test goes over its table. Texts that are refused,
+//! with their words, are cases of the command line. This crate has tests alone, so that the crates
+//! below, which are larger, are proved once.
 #![tactic(auto)]
 
 #[cfg(test)]
@@ -13,7 +14,5 @@ mod faults;
 mod made;
 #[cfg(test)]
 mod moves;
-#[cfg(test)]
-mod refusals;
 #[cfg(test)]
 mod rows;

@@ -1,8 +1,7 @@
-//! Test texts: the tests that are read, in words of 64, and the texts that are refused.
+//! Test texts, and the tests that are read, in words of 64.
 
-use crate::checks::{check, is_said};
+use crate::checks::check;
 use patterns::{TestFault, Tests, read_tests};
-use refused_texts::TEST_TEXTS;
 use std::alloc::{AllocError, Global};
 
 /// So many lines that are the same, and what stands behind them.
@@ -112,45 +111,6 @@ static CASES: [Case; 6] = [
     },
 ];
 
-/// Long texts, the width of each, and the refusal.
-static LONG_REFUSED: [(Text, u32, TestFault); 3] = [
-    (
-        Text {
-            row: "00",
-            count: 4_096,
-            last: "2",
-        },
-        2,
-        TestFault::BadByte(4_097),
-    ),
-    (
-        Text {
-            row: "00",
-            count: 65_536,
-            last: "00",
-        },
-        2,
-        TestFault::TooMany,
-    ),
-    (
-        Text {
-            row: "00",
-            count: 65_536,
-            last: "2",
-        },
-        2,
-        TestFault::TooMany,
-    ),
-];
-
-/// Each kind of fault, and its words.
-static WORDS: [(TestFault, &str); 4] = [
-    (TestFault::BadByte(3), "tests line 3: not 0 or 1"),
-    (TestFault::BadWidth(12), "tests line 12: wrong width"),
-    (TestFault::TooMany, "tests: more than 65536 rows"),
-    (TestFault::Memory, "out of memory"),
-];
-
 /// The bytes of a text.
 fn text_of(alloc: Global, text: &Text) -> Result<String, AllocError> {
     let mut words = String::new(alloc);
@@ -220,49 +180,5 @@ fn is_so(alloc: Global, case: &Case) -> Result<bool, TestFault> {
 fn tests_of_texts(rt: HostRuntime) {
     for case in &CASES {
         check(&rt, is_so(rt.alloc(), case) == Ok(true), case.name);
-    }
-}
-
-/// How a text of tests of this width, at least 1, is refused.
-fn refusal(alloc: Global, text: &[u8], width: u32) -> Option<TestFault> {
-    if width < 1 {
-        return None;
-    }
-    read_tests(alloc, text, width).err()
-}
-
-/// How a long text is refused.
-fn refusal_of(alloc: Global, text: &Text, width: u32) -> Result<Option<TestFault>, AllocError> {
-    let text = text_of(alloc, text)?;
-    Ok(refusal(alloc, text.as_bytes(), width))
-}
-
-#[test]
-fn long_texts_are_refused(rt: HostRuntime) {
-    for (text, width, fault) in &LONG_REFUSED {
-        assert!(rt; refusal_of(rt.alloc(), text, *width) == Ok(Some(*fault)));
-    }
-}
-
-/// Whether a text of tests of this width is refused in these words.
-fn is_refused(alloc: Global, text: &[u8], width: u32, words: &str) -> Result<bool, AllocError> {
-    match refusal(alloc, text, width) {
-        Some(fault) => is_said(alloc, &fault, words),
-        None => Ok(false),
-    }
-}
-
-#[test]
-fn faulty_texts_are_refused_in_their_words(rt: HostRuntime) {
-    for (text, width, words) in &TEST_TEXTS {
-        let refused = is_refused(rt.alloc(), text, *width, words);
-        check(&rt, refused == Ok(true), words);
-    }
-}
-
-#[test]
-fn words_of_test_faults(rt: HostRuntime) {
-    for (fault, words) in &WORDS {
-        check(&rt, is_said(rt.alloc(), fault, words) == Ok(true), words);
     }
 }

@@ -1,12 +1,12 @@
 //! Outputs that fail, or take few bytes a call.
 
+use crate::checks::check;
 use crate::screen::Screen;
 use command_line::{Source, SourceFault, run_words};
 use report::{Contents, Lines, Plain, ReportFault, SimFault, simulate_text};
 use std::alloc::{AllocError, Global};
 use std::io::{self, Write};
 use std::sync::Wait;
-use std::test::Fail;
 use std::thread::Threads;
 use worked_circuits::C17;
 
@@ -56,8 +56,35 @@ static WRITTEN: [(&str, &str); 2] = [
 
 const CANNOT_WRITE: &str = "faultsim: cannot write\n";
 
-/// Whether a command line writes this to an output that takes so many bytes, and so many a call,
-/// and says on standard error whether that was all.
+/// How many of so many bytes an output takes with this limit, which takes so many a call.
+fn taken_of(count: usize, limit: usize, step: usize) -> usize {
+    if step == 0 { 0 } else { limit.min(count) }
+}
+
+/// What a command line says on standard error, and its status, where all is written or not.
+fn said_of(is_all: bool) -> (&'static str, u8) {
+    if is_all { ("", 0) } else { (CANNOT_WRITE, 3) }
+}
+
+/// Whether words write this to an output that takes so many bytes, and so many a call, and say on
+/// standard error whether that was all.
+fn write_so<R: AllocGlobal + Threads + Wait>(
+    rt: &R,
+    words: &[&str],
+    written: &str,
+    limit: usize,
+    step: usize,
+) -> bool {
+    let mut out = Screen::cut(rt.alloc(), limit, step);
+    let mut err = Screen::new(rt.alloc());
+    let status = run_words(rt, rt.alloc(), words, &mut Files, &mut out, &mut err);
+    let taken = taken_of(written.len(), limit, step);
+    let (said, wanted) = said_of(taken == written.len());
+    let is_beginning = Some(out.text()) == written.as_bytes().get(..taken);
+    is_beginning && err.text() == said.as_bytes() && status == wanted
+}
+
+/// Whether a command line does.
 fn writes<R: AllocGlobal + Threads + Wait>(
     rt: &R,
     line: &str,
@@ -66,21 +93,7 @@ fn writes<R: AllocGlobal + Threads + Wait>(
     step: usize,
 ) -> Result<bool, AllocError> {
     let words: Vec<&str> = line.split(' ').collect(rt.alloc())?;
-    let mut out = Screen::cut(rt.alloc(), limit, step);
-    let mut err = Screen::new(rt.alloc());
-    let status = run_words(rt, rt.alloc(), &words, &mut Files, &mut out, &mut err);
-    let taken = if step == 0 {
-        0
-    } else {
-        limit.min(written.len())
-    };
-    let (said, wanted) = if taken < written.len() {
-        (CANNOT_WRITE, 3)
-    } else {
-        ("", 0)
-    };
-    let is_beginning = Some(out.text()) == written.as_bytes().get(..taken);
-    Ok(is_beginning && err.text() == said.as_bytes() && status == wanted)
+    Ok(write_so(rt, &words, written, limit, step))
 }
 
 /// Whether a command line writes a beginning of this to each output that takes fewer bytes.
@@ -98,21 +111,30 @@ fn writes_beginnings<R: AllocGlobal + Threads + Wait>(
 }
 
 #[test]
-fn failing_output_has_a_beginning(rt: HostRuntime) -> Result<(), Fail> {
+fn failing_output_has_a_beginning(rt: HostRuntime) {
     for (line, written) in &WRITTEN {
-        assert!(rt; writes_beginnings(&rt, line, written)?, "{line}");
+        check(&rt, writes_beginnings(&rt, line, written) == Ok(true), line);
     }
-    Ok(())
+}
+
+/// Whether a command line writes this to outputs that take no byte, one and seven a call.
+fn writes_slowly<R: AllocGlobal + Threads + Wait>(
+    rt: &R,
+    line: &str,
+    written: &str,
+) -> Result<bool, AllocError> {
+    Ok(
+        writes(rt, line, written, 4096, 0)?
+            && writes(rt, line, written, 4096, 1)?
+            && writes(rt, line, written, 4096, 7)?,
+    )
 }
 
 #[test]
-fn output_of_few_bytes_a_call_takes_all(rt: HostRuntime) -> Result<(), Fail> {
+fn output_of_few_bytes_a_call_takes_all(rt: HostRuntime) {
     for (line, written) in &WRITTEN {
-        for step in [0, 1, 7] {
-            assert!(rt; writes(&rt, line, written, 4096, step)?, "{line}: {step}");
-        }
+        check(&rt, writes_slowly(&rt, line, written) == Ok(true), line);
     }
-    Ok(())
 }
 
 /// A writer that takes at most `step` bytes a call, and fails past `limit` bytes.
@@ -156,29 +178,35 @@ fn slow_output(alloc: Global, limit: usize, step: usize) -> Plain<Slow> {
     Plain::new(Slow { bytes, limit, step })
 }
 
+/// Limits of slow writers, how many bytes they take a call, and how many of the report.
+static TAKEN: [(usize, usize, usize); 7] = [
+    (18, 1, 18),
+    (18, 7, 18),
+    (100, 100, 18),
+    (5, 100, 5),
+    (5, 2, 5),
+    (0, 1, 0),
+    (18, 0, 0),
+];
+
+/// Whether a slow writer takes so many bytes of the report, and it is told whether that was all.
+fn is_taken<R: AllocGlobal + Threads + Wait>(
+    rt: &R,
+    limit: usize,
+    step: usize,
+    taken: usize,
+) -> bool {
+    let mut out = slow_output(rt.alloc(), limit, step);
+    let is_told = match simulate_slowly(rt, &mut out) {
+        Ok(()) => taken == 18,
+        Err(fault) => taken < 18 && fault == SimFault::Report(ReportFault::Write),
+    };
+    is_told && Some(out.into_writer().bytes.as_slice()) == COVERAGE.as_bytes().get(..taken)
+}
+
 #[test]
-fn plain_output_tells_short_and_failed_writes(rt: HostRuntime) -> Result<(), Fail> {
-    for (limit, step, taken) in [
-        (18, 1, 18),
-        (18, 7, 18),
-        (100, 100, 18),
-        (5, 100, 5),
-        (5, 2, 5),
-        (0, 1, 0),
-        (18, 0, 0),
-    ] {
-        let mut out = slow_output(rt.alloc(), limit, step);
-        let done = simulate_slowly(&rt, &mut out);
-        let wanted = if taken < 18 {
-            Err(SimFault::Report(ReportFault::Write))
-        } else {
-            Ok(())
-        };
-        assert!(rt; done == wanted, "{limit} {step}");
-        assert!(rt;
-            Some(out.into_writer().bytes.as_slice()) == COVERAGE.as_bytes().get(..taken),
-            "{limit} {step}"
-        );
+fn plain_output_tells_short_and_failed_writes(rt: HostRuntime) {
+    for (limit, step, taken) in &TAKEN {
+        assert!(rt; is_taken(&rt, *limit, *step, *taken));
     }
-    Ok(())
 }

@@ -1,5 +1,6 @@
 //! Runs on the arguments of a process: files that can't be had, and an output that refuses its flush.
 
+use crate::checks::check;
 use crate::screen::Screen;
 use command_line::run_arguments;
 use std::alloc::{Allocator, Global};
@@ -8,7 +9,6 @@ use std::fs::{Metadata, OpenOptions};
 use std::io::{self, ErrorKind, Write};
 use std::rt::{Env, Files};
 use std::sync::Wait;
-use std::test::Fail;
 use std::thread::Threads;
 
 /// A process with the words of a line as its arguments, in which each call on files is refused.
@@ -162,9 +162,8 @@ fn ends_right<R: AllocGlobal + Files + Threads + Wait>(rt: &R, case: &Case) -> b
 }
 
 #[test]
-fn refused_files_and_flushes_are_told(rt: HostRuntime) -> Result<(), Fail> {
+fn refused_files_and_flushes_are_told(rt: HostRuntime) {
     for case in &CASES {
-        assert!(rt; ends_right(&rt, case), "{}: {}", case.line, case.stderr);
+        check(&rt, ends_right(&rt, case), case.stderr);
     }
-    Ok(())
 }

@@ -1,7 +1,6 @@
-//! The text calls: the bytes that they give, the order in which they refuse, and the words and
-//! statuses of their faults.
+//! The text calls: the bytes that they give, and the words and statuses of their faults.
 
-use crate::screen::Screen;
+use crate::checks::check;
 use bench_net::BenchFault;
 use block_sim::JobFault;
 use command_line::status_of;
@@ -9,13 +8,12 @@ use fault_model::Model;
 use orders::OrderFault;
 use patterns::TestFault;
 use report::{
-    Contents, Lines, Plain, ReportFault, RunFault, SimFault, faults_text, listing_bytes,
-    report_bytes, schedule_text, schedule_text_in, simulate_text,
+    Contents, Lines, Plain, ReportFault, RunFault, SimFault, listing_bytes, report_bytes,
+    schedule_text_in,
 };
+use std::alloc::{AllocError, Global};
 use std::sync::Wait;
-use std::test::Fail;
 use std::thread::Threads;
-use worked_circuits::C17_TEXT as C17;
 
 /// A buffer.
 const BUFFER: &str = "INPUT(a)\nOUTPUT(z)\nz = BUFF(a)\n";
@@ -120,74 +118,10 @@ fn comes_as_bytes<R: AllocGlobal + Threads + Wait>(rt: &R, case: &Case) -> bool 
 }
 
 #[test]
-fn texts_come_as_bytes(rt: HostRuntime) -> Result<(), Fail> {
+fn texts_come_as_bytes(rt: HostRuntime) {
     for case in &TEXT_CASES {
-        assert!(rt; comes_as_bytes(&rt, case), "{}", case.line);
+        check(&rt, comes_as_bytes(&rt, case), case.line);
     }
-    Ok(())
-}
-
-#[test]
-fn number_of_workers_is_refused_after_the_order(rt: HostRuntime) -> Result<(), Fail> {
-    for (order, workers, wanted) in [
-        ("3\n0\n", 4, Ok(())),
-        ("", 0, Err(SimFault::Run(RunFault::NoWorkers))),
-        ("0\n", 0, Err(SimFault::Order(OrderFault::NoSuchWorker(1)))),
-        ("64\n", 65, Err(SimFault::Run(RunFault::TooManyWorkers))),
-    ] {
-        let mut out = Screen::new(rt.alloc());
-        let done = schedule_text(
-            rt.alloc(),
-            C17.as_bytes(),
-            b"11111\n",
-            order.as_bytes(),
-            workers,
-            Contents::of(Lines::Omitted),
-            &mut out,
-        );
-        let written = if wanted.is_ok() {
-            "14 of 34 (41.17%)\n"
-        } else {
-            ""
-        };
-        assert!(rt;
-            done == wanted && out.text() == written.as_bytes(),
-            "{order} {workers}"
-        );
-    }
-    Ok(())
-}
-
-#[test]
-fn stuck_at_listing_comes(rt: HostRuntime) -> Result<(), Fail> {
-    let mut out = Screen::new(rt.alloc());
-    faults_text(rt.alloc(), b"z = DFF(z)\n", &mut out)?;
-    let wanted = b"stem z sa0 class 0\nstem z sa1 class 1\n2 faults in 2 classes\n".as_slice();
-    assert!(rt; out.text() == wanted);
-    Ok(())
-}
-
-#[test]
-fn number_of_workers_is_refused_after_the_texts(rt: HostRuntime) -> Result<(), Fail> {
-    for (tests, workers, fault) in [
-        ("11111\n", 0, SimFault::Run(RunFault::NoWorkers)),
-        ("11111\n", 65, SimFault::Run(RunFault::TooManyWorkers)),
-        ("11111\n1\n", 0, SimFault::Tests(TestFault::BadWidth(2))),
-    ] {
-        let mut out = Screen::new(rt.alloc());
-        let tests = tests.as_bytes();
-        let done = simulate_text(
-            &rt,
-            rt.alloc(),
-            C17.as_bytes(),
-            tests,
-            workers,
-            Contents::of(Lines::All),
-            &mut out,
-        );
-        assert!(rt; done == Err(fault) && out.text().is_empty(), "{fault}");
-    }
-    Ok(())
 }
 
 /// Each fault of a text call, its words and its status.
@@ -239,12 +173,16 @@ static FAULTS: [(SimFault, &str, u8); 17] = [
     ),
 ];
 
+/// Whether a fault is written in these words.
+fn is_said(alloc: Global, fault: &SimFault, words: &str) -> Result<bool, AllocError> {
+    let said = format!(in alloc; "{fault}")?;
+    Ok(said.as_str() == words)
+}
+
 #[test]
-fn faults_have_their_words_and_statuses(rt: HostRuntime) -> Result<(), Fail> {
+fn faults_have_their_words_and_statuses(rt: HostRuntime) {
     for (fault, words, status) in &FAULTS {
-        let said = format!(in rt.alloc(); "{fault}")?;
-        assert!(rt; said.as_str() == *words, "{words}");
-        assert!(rt; status_of(fault) == *status, "{words}");
+        let is_right = is_said(rt.alloc(), fault, words) == Ok(true);
+        check(&rt, is_right && status_of(fault) == *status, words);
     }
-    Ok(())
 }

@@ -1,15 +1,15 @@
 //! Cases of calls and their replies: the ledger of one owner and the shared one reply alike.
 
-ghost use Rattle.std.specs.Prelude.{◌≡◌, IfOk};
+ghost use Rattle.std.specs.Prelude.{◌≡◌, IfOk, IfSome};
 
-use crate::staffed::Staffed;
+use crate::checks::check;
+use crate::staffed::{Staffed, piece};
 use fault_ledger::{
-    Call, Claim, Closed, Finish, Ledger, PieceState, Refusal, Reply, Shape, Status, replay,
+    Call, Claim, Closed, Finish, Ledger, LedgerFault, PieceState, Refusal, Reply, Shape, Status,
+    replay,
 };
 use patterns::Outcome::{Clear, Hit};
-use std::alloc::Global;
-use std::process::Abort;
-use std::test::Fail;
+use std::alloc::{AllocError, Global};
 
 const EXHAUSTED: Reply = Reply::Claimed(Claim::Exhausted);
 
@@ -23,75 +23,6 @@ const NO_EARLIER_HIT: Reply = Reply::Refused(Refusal::NoEarlierHit);
 
 const ALL_FINISHED: Reply = Reply::Finish(Finish::Finished);
 
-/// Makes the calls on a new ledger of each kind, compares the replies, and then what each says of
-/// all classes. It gives the shared ledger, closed.
-fn both_reply<R: Abort>(
-    rt: &R,
-    alloc: Global,
-    shape: Shape,
-    steps: &[(Call, Reply)],
-) -> Result<Closed, Fail>
-    ensures { IfOk result (λ closed. closed.shape ≡ shape) }
-{
-    let mut calls = Vec::new(alloc);
-    let mut expected = Vec::new(alloc);
-    for (call, reply) in steps {
-        calls.push(*call)?;
-        expected.push(*reply)?;
-    }
-    let mut staffed = Staffed::new(alloc, shape)?;
-    shared_replies(rt, &mut staffed, steps);
-    let (ledger, replies) = replay(alloc, shape, &calls)?;
-    assert_eq!(rt; replies.as_slice(), expected.as_slice());
-    let closed = staffed.close(alloc)?;
-    assert_eq!(rt; ledger.shape(), shape);
-    same_statuses(rt, shape, &ledger, &closed);
-    Ok(closed)
-}
-
-/// Makes the calls on a shared ledger, and compares the replies.
-fn shared_replies<R: Abort>(rt: &R, staffed: &mut Staffed, steps: &[(Call, Reply)])
-    ensures { staffed.new.shape ≡ staffed.old.shape }
-{
-    for (call, reply) in steps {
-        assert_eq!(rt; staffed.reply_to(*call), *reply, "{call:?}");
-    }
-}
-
-/// Compares the states of blocks of class 0.
-fn blocks_are<R: Abort>(rt: &R, shape: Shape, closed: &Closed, states: &[(u32, PieceState)])
-    requires { closed.now.shape ≡ shape }
-{
-    for (block, state) in states {
-        assert!(rt;
-            shape.classes > 0 && *block < shape.tests.div_ceil(64),
-            "block {block}"
-        );
-        assert_eq!(rt; closed.entry(0, *block), *state, "block {block}");
-    }
-}
-
-/// Compares what two ledgers of this shape say of all classes.
-fn same_statuses<R: Abort>(rt: &R, shape: Shape, ledger: &Ledger, closed: &Closed)
-    requires ledger { ledger.now.shape ≡ shape }
-    requires closed { closed.now.shape ≡ shape }
-{
-    assert_eq!(rt; closed.finished(), ledger.finished());
-    for class in 0..shape.classes {
-        assert_eq!(rt; closed.status(class), ledger.status(class), "class {class}");
-    }
-}
-
-/// Compares the replies of both ledgers to the calls of a case, and what the closed one says.
-fn case_is_replied<R: Abort>(rt: &R, alloc: Global, case: &Case) -> Result<(), Fail> {
-    let closed = both_reply(rt, alloc, case.shape, case.steps)?;
-    blocks_are(rt, case.shape, &closed, case.states);
-    if let Some(skipped) = case.skipped {
-        assert_eq!(rt; closed.skipped(), skipped, "{}", case.name);
-    }
-    Ok(())
-}
-
 /// Calls and their replies, in turn, with what the closed ledger says then.
 struct Case {
     name: &'static str,
@@ -102,6 +33,65 @@ struct Case {
     skipped: Option<u32>,
 }
 
+/// Calls of eight workers on one class, with a hit of block 5 before that of block 2.
+const OUT_OF_ORDER: [(Call, Reply); 19] = [
+    (
+        Call::Claim(0),
+        Reply::Claimed(Claim::Piece { class: 0, block: 0 }),
+    ),
+    (
+        Call::Claim(1),
+        Reply::Claimed(Claim::Piece { class: 0, block: 1 }),
+    ),
+    (
+        Call::Claim(2),
+        Reply::Claimed(Claim::Piece { class: 0, block: 2 }),
+    ),
+    (
+        Call::Claim(3),
+        Reply::Claimed(Claim::Piece { class: 0, block: 3 }),
+    ),
+    (
+        Call::Claim(4),
+        Reply::Claimed(Claim::Piece { class: 0, block: 4 }),
+    ),
+    (
+        Call::Claim(5),
+        Reply::Claimed(Claim::Piece { class: 0, block: 5 }),
+    ),
+    (
+        Call::Claim(6),
+        Reply::Claimed(Claim::Piece { class: 0, block: 6 }),
+    ),
+    (
+        Call::Claim(7),
+        Reply::Claimed(Claim::Piece { class: 0, block: 7 }),
+    ),
+    (Call::Report(5, Hit(3)), Reply::Done),
+    (Call::Drop(7), Reply::Done),
+    (Call::Report(2, Hit(0)), Reply::Done),
+    (Call::Report(0, Clear), Reply::Done),
+    (Call::Status(0), Reply::Status(Status::Waiting(1))),
+    (Call::Report(1, Clear), Reply::Done),
+    (Call::Status(0), Reply::Status(Status::Settled(Some(128)))),
+    (Call::Finished, ALL_FINISHED),
+    (Call::Claim(3), HOLDING),
+    (Call::Claim(4), HOLDING),
+    (Call::Claim(6), HOLDING),
+];
+
+/// The states of the blocks after them.
+const LEFT_OUT_OF_ORDER: [(u32, PieceState); 8] = [
+    (0, PieceState::Clear),
+    (1, PieceState::Clear),
+    (2, PieceState::Hit(0)),
+    (3, PieceState::Open),
+    (4, PieceState::Open),
+    (5, PieceState::Hit(3)),
+    (6, PieceState::Open),
+    (7, PieceState::Skipped),
+];
+
 static CASES: [Case; 9] = [
     Case {
         name: "blocks out of order, 512 tests",
@@ -110,61 +100,8 @@ static CASES: [Case; 9] = [
             tests: 512,
             workers: 8,
         },
-        steps: &[
-            (
-                Call::Claim(0),
-                Reply::Claimed(Claim::Piece { class: 0, block: 0 }),
-            ),
-            (
-                Call::Claim(1),
-                Reply::Claimed(Claim::Piece { class: 0, block: 1 }),
-            ),
-            (
-                Call::Claim(2),
-                Reply::Claimed(Claim::Piece { class: 0, block: 2 }),
-            ),
-            (
-                Call::Claim(3),
-                Reply::Claimed(Claim::Piece { class: 0, block: 3 }),
-            ),
-            (
-                Call::Claim(4),
-                Reply::Claimed(Claim::Piece { class: 0, block: 4 }),
-            ),
-            (
-                Call::Claim(5),
-                Reply::Claimed(Claim::Piece { class: 0, block: 5 }),
-            ),
-            (
-                Call::Claim(6),
-                Reply::Claimed(Claim::Piece { class: 0, block: 6 }),
-            ),
-            (
-                Call::Claim(7),
-                Reply::Claimed(Claim::Piece { class: 0, block: 7 }),
-            ),
-            (Call::Report(5, Hit(3)), Reply::Done),
-            (Call::Drop(7), Reply::Done),
-            (Call::Report(2, Hit(0)), Reply::Done),
-            (Call::Report(0, Clear), Reply::Done),
-            (Call::Status(0), Reply::Status(Status::Waiting(1))),
-            (Call::Report(1, Clear), Reply::Done),
-            (Call::Status(0), Reply::Status(Status::Settled(Some(128)))),
-            (Call::Finished, ALL_FINISHED),
-            (Call::Claim(3), HOLDING),
-            (Call::Claim(4), HOLDING),
-            (Call::Claim(6), HOLDING),
-        ],
-        states: &[
-            (0, PieceState::Clear),
-            (1, PieceState::Clear),
-            (2, PieceState::Hit(0)),
-            (3, PieceState::Open),
-            (4, PieceState::Open),
-            (5, PieceState::Hit(3)),
-            (6, PieceState::Open),
-            (7, PieceState::Skipped),
-        ],
+        steps: &OUT_OF_ORDER,
+        states: &LEFT_OUT_OF_ORDER,
         skipped: None,
     },
     Case {
@@ -174,61 +111,8 @@ static CASES: [Case; 9] = [
             tests: 1024,
             workers: 8,
         },
-        steps: &[
-            (
-                Call::Claim(0),
-                Reply::Claimed(Claim::Piece { class: 0, block: 0 }),
-            ),
-            (
-                Call::Claim(1),
-                Reply::Claimed(Claim::Piece { class: 0, block: 1 }),
-            ),
-            (
-                Call::Claim(2),
-                Reply::Claimed(Claim::Piece { class: 0, block: 2 }),
-            ),
-            (
-                Call::Claim(3),
-                Reply::Claimed(Claim::Piece { class: 0, block: 3 }),
-            ),
-            (
-                Call::Claim(4),
-                Reply::Claimed(Claim::Piece { class: 0, block: 4 }),
-            ),
-            (
-                Call::Claim(5),
-                Reply::Claimed(Claim::Piece { class: 0, block: 5 }),
-            ),
-            (
-                Call::Claim(6),
-                Reply::Claimed(Claim::Piece { class: 0, block: 6 }),
-            ),
-            (
-                Call::Claim(7),
-                Reply::Claimed(Claim::Piece { class: 0, block: 7 }),
-            ),
-            (Call::Report(5, Hit(3)), Reply::Done),
-            (Call::Drop(7), Reply::Done),
-            (Call::Report(2, Hit(0)), Reply::Done),
-            (Call::Report(0, Clear), Reply::Done),
-            (Call::Status(0), Reply::Status(Status::Waiting(1))),
-            (Call::Report(1, Clear), Reply::Done),
-            (Call::Status(0), Reply::Status(Status::Settled(Some(128)))),
-            (Call::Finished, ALL_FINISHED),
-            (Call::Claim(3), HOLDING),
-            (Call::Claim(4), HOLDING),
-            (Call::Claim(6), HOLDING),
-        ],
-        states: &[
-            (0, PieceState::Clear),
-            (1, PieceState::Clear),
-            (2, PieceState::Hit(0)),
-            (3, PieceState::Open),
-            (4, PieceState::Open),
-            (5, PieceState::Hit(3)),
-            (6, PieceState::Open),
-            (7, PieceState::Skipped),
-        ],
+        steps: &OUT_OF_ORDER,
+        states: &LEFT_OUT_OF_ORDER,
         skipped: None,
     },
     Case {
@@ -387,30 +271,147 @@ static CASES: [Case; 9] = [
     },
 ];
 
-#[test]
-fn both_ledgers_reply_to_each_case_as_it_says(rt: HostRuntime) -> Result<(), Fail> {
-    for case in &CASES {
-        case_is_replied(&rt, rt.alloc(), case)?;
+/// Whether a shared ledger replies to the calls so.
+fn replies(staffed: &mut Staffed, steps: &[(Call, Reply)]) -> bool
+    ensures { staffed.new.shape ≡ staffed.old.shape }
+{
+    for (call, reply) in steps {
+        if staffed.reply_to(*call) != *reply {
+            return false;
+        }
     }
-    Ok(())
+    true
+}
+
+/// A shared ledger on which the calls were made, closed, if it replied to them so.
+fn closed_after(
+    alloc: Global,
+    shape: Shape,
+    steps: &[(Call, Reply)],
+) -> Result<Option<Closed>, LedgerFault>
+    ensures { IfOk result (λ closed. IfSome closed (λ ledger. ledger.shape ≡ shape)) }
+{
+    let mut staffed = Staffed::new(alloc, shape)?;
+    if !replies(&mut staffed, steps) {
+        return Ok(None);
+    }
+    let closed = staffed.close(alloc)?;
+    Ok(Some(closed))
+}
+
+/// Whether these are the replies.
+fn are_replies(replies: &[Reply], steps: &[(Call, Reply)]) -> bool {
+    for (place, step) in steps.iter().enumerate() {
+        if replies.get(place) != Some(&step.1) {
+            return false;
+        }
+    }
+    replies.len() == steps.len()
+}
+
+/// The calls.
+fn calls_of(alloc: Global, steps: &[(Call, Reply)]) -> Result<Vec<Call>, AllocError> {
+    steps.iter().map(|(call, _reply)| *call).collect(alloc)
+}
+
+/// A ledger of one owner on which the calls were made, if it replied to them so.
+fn ledger_after(
+    alloc: Global,
+    shape: Shape,
+    steps: &[(Call, Reply)],
+) -> Result<Option<Ledger>, LedgerFault>
+    ensures { IfOk result (λ ledger. IfSome ledger (λ ledger. ledger.shape ≡ shape)) }
+{
+    let calls = calls_of(alloc, steps)?;
+    let (ledger, replies) = replay(alloc, shape, &calls)?;
+    if are_replies(&replies, steps) {
+        Ok(Some(ledger))
+    } else {
+        Ok(None)
+    }
+}
+
+/// Whether the blocks of class 0 have these states.
+fn has_states(shape: Shape, closed: &Closed, states: &[(u32, PieceState)]) -> bool
+    requires { closed.now.shape ≡ shape }
+{
+    for (block, state) in states {
+        if shape.classes == 0 || *block >= shape.tests.div_ceil(64) {
+            return false;
+        }
+        if closed.entry(0, *block) != *state {
+            return false;
+        }
+    }
+    true
+}
+
+/// Whether two ledgers of this shape say the same of all classes.
+fn say_the_same(shape: Shape, ledger: &Ledger, closed: &Closed) -> bool
+    requires ledger { ledger.now.shape ≡ shape }
+    requires closed { closed.now.shape ≡ shape }
+{
+    for class in 0..shape.classes {
+        if closed.status(class) != ledger.status(class) {
+            return false;
+        }
+    }
+    closed.finished() == ledger.finished() && ledger.shape() == shape
+}
+
+/// Whether both ledgers reply to the calls so, and what the closed one says then is that.
+fn is_so(alloc: Global, case: &Case) -> Result<bool, LedgerFault> {
+    let Some(closed) = closed_after(alloc, case.shape, case.steps)? else {
+        return Ok(false);
+    };
+    let Some(ledger) = ledger_after(alloc, case.shape, case.steps)? else {
+        return Ok(false);
+    };
+    let is_skipped = match case.skipped {
+        Some(skipped) => closed.skipped() == skipped,
+        None => true,
+    };
+    Ok(
+        is_skipped
+            && say_the_same(case.shape, &ledger, &closed)
+            && has_states(case.shape, &closed, case.states),
+    )
 }
 
 #[test]
-fn sixty_four_workers_on_one_piece(rt: HostRuntime) -> Result<(), Fail> {
-    let mut steps = Vec::new(rt.alloc());
-    steps.push((
-        Call::Claim(0),
-        Reply::Claimed(Claim::Piece { class: 0, block: 0 }),
-    ))?;
+fn both_ledgers_reply_to_each_case_as_it_says(rt: HostRuntime) {
+    for case in &CASES {
+        check(&rt, is_so(rt.alloc(), case) == Ok(true), case.name);
+    }
+}
+
+/// The one piece is claimed, and 64 other claims follow, the last of which no worker makes.
+fn claims_of_all(alloc: Global) -> Result<Vec<(Call, Reply)>, AllocError> {
+    let mut steps = Vec::new(alloc);
+    steps.push((Call::Claim(0), piece(0, 0)))?;
     for worker in 1..64 {
         steps.push((Call::Claim(worker), EXHAUSTED))?;
     }
     steps.push((Call::Claim(64), Reply::Refused(Refusal::NoSuchWorker)))?;
-    let shape = Shape {
-        classes: 1,
-        tests: 1,
-        workers: 64,
-    };
-    both_reply(&rt, rt.alloc(), shape, &steps)?;
-    Ok(())
+    Ok(steps)
+}
+
+/// A ledger of one piece and 64 workers.
+const CROWDED: Shape = Shape {
+    classes: 1,
+    tests: 1,
+    workers: 64,
+};
+
+/// Whether both ledgers of that shape reply to these claims so.
+fn is_claimed_once(alloc: Global) -> Result<bool, LedgerFault> {
+    let steps = claims_of_all(alloc)?;
+    let is_shared = closed_after(alloc, CROWDED, &steps)?.is_some();
+    let is_owned = ledger_after(alloc, CROWDED, &steps)?.is_some();
+    Ok(is_shared && is_owned)
+}
+
+#[test]
+fn sixty_four_workers_on_one_piece(rt: HostRuntime) {
+    assert!(rt; is_claimed_once(rt.alloc()) == Ok(true));
 }

@@ -7,6 +7,8 @@
 #[cfg(test)]
 mod both_ledgers;
 #[cfg(test)]
+mod checks;
+#[cfg(test)]
 mod limits;
 #[cfg(test)]
 mod seats;

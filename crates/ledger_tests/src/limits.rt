@@ -1,48 +1,53 @@
 //! The limits of a ledger, and the words of its faults.
 
+use crate::checks::check;
 use crate::staffed::Staffed;
 use fault_ledger::{
     Call, Claim, Finish, Ledger, LedgerFault, Refusal, Reply, Shape, SharedLedger, Status, replay,
 };
-use std::test::Fail;
+use std::alloc::{AllocError, Global};
+
+/// Numbers of classes, tests and workers, and why there is no ledger of them.
+static SHAPES: [(u32, u32, u32, Option<LedgerFault>); 9] = [
+    (16_384, 65_536, 1, None),
+    (65_537, 4_096, 1, None),
+    (16_385, 65_536, 1, Some(LedgerFault::TooManyPieces)),
+    (16_385, 65_536, 0, Some(LedgerFault::NoWorkers)),
+    (16_385, 65_536, 65, Some(LedgerFault::TooManyWorkers)),
+    (1, 1, 0, Some(LedgerFault::NoWorkers)),
+    (1, 1, 64, None),
+    (1, 1, 65, Some(LedgerFault::TooManyWorkers)),
+    (u32::MAX, u32::MAX, 1, Some(LedgerFault::TooManyPieces)),
+];
 
 #[test]
-fn limits_of_a_shape(rt: HostRuntime) -> Result<(), Fail> {
-    let alloc = rt.alloc();
-    for (classes, tests, workers, fault) in [
-        (16_384, 65_536, 1, None),
-        (65_537, 4_096, 1, None),
-        (16_385, 65_536, 1, Some(LedgerFault::TooManyPieces)),
-        (16_385, 65_536, 0, Some(LedgerFault::NoWorkers)),
-        (16_385, 65_536, 65, Some(LedgerFault::TooManyWorkers)),
-        (1, 1, 0, Some(LedgerFault::NoWorkers)),
-        (1, 1, 64, None),
-        (1, 1, 65, Some(LedgerFault::TooManyWorkers)),
-        (u32::MAX, u32::MAX, 1, Some(LedgerFault::TooManyPieces)),
-    ] {
-        let owned = Ledger::new(alloc, classes, tests, workers).err();
-        let shared = SharedLedger::new(alloc, classes, tests, workers).err();
-        assert_eq!(rt;
-            (owned, shared),
-            (fault, fault),
-            "{classes} {tests} {workers}"
-        );
+fn limits_of_a_shape(rt: HostRuntime) {
+    for (classes, tests, workers, fault) in &SHAPES {
+        let owned = Ledger::new(rt.alloc(), *classes, *tests, *workers).err();
+        let shared = SharedLedger::new(rt.alloc(), *classes, *tests, *workers).err();
+        assert!(rt; owned == *fault && shared == *fault);
     }
-    Ok(())
+}
+
+/// Each kind of fault, and its words.
+static WORDS: [(LedgerFault, &str); 4] = [
+    (LedgerFault::NoWorkers, "no workers"),
+    (LedgerFault::TooManyWorkers, "more than 64 workers"),
+    (LedgerFault::TooManyPieces, "more than 16777216 pieces"),
+    (LedgerFault::Memory, "out of memory"),
+];
+
+/// Whether a fault is written in these words.
+fn is_said(alloc: Global, fault: LedgerFault, words: &str) -> Result<bool, AllocError> {
+    let said = format!(in alloc; "{fault}")?;
+    Ok(said.as_str() == words)
 }
 
 #[test]
-fn words_of_faults(rt: HostRuntime) -> Result<(), Fail> {
-    for (fault, words) in [
-        (LedgerFault::NoWorkers, "no workers"),
-        (LedgerFault::TooManyWorkers, "more than 64 workers"),
-        (LedgerFault::TooManyPieces, "more than 16777216 pieces"),
-        (LedgerFault::Memory, "out of memory"),
-    ] {
-        let said = format!(in rt.alloc(); "{fault}")?;
-        assert_eq!(rt; said.as_str(), words);
+fn words_of_faults(rt: HostRuntime) {
+    for (fault, words) in &WORDS {
+        check(&rt, is_said(rt.alloc(), *fault, words) == Ok(true), words);
     }
-    Ok(())
 }
 
 /// The most classes that a shape can have, and no tests: there is no piece.
@@ -63,19 +68,24 @@ static NO_PIECES_REPLIES: [(Call, Reply); 4] = [
     (Call::Finished, Reply::Finish(Finish::Finished)),
 ];
 
+/// Whether both ledgers of that shape reply so to a call on them alone.
+fn is_replied(alloc: Global, call: Call, reply: Reply) -> Result<bool, LedgerFault> {
+    let (_ledger, replies) = replay(alloc, NO_PIECES, &[call])?;
+    let mut staffed = Staffed::new(alloc, NO_PIECES)?;
+    Ok(replies.as_slice() == [reply].as_slice() && staffed.reply_to(call) == reply)
+}
+
+/// Whether a closed ledger of that shape says that all is done, and nothing skipped.
+fn is_done(alloc: Global) -> Result<bool, LedgerFault> {
+    let closed = Staffed::new(alloc, NO_PIECES)?.close(alloc)?;
+    Ok(closed.finished() == Finish::Finished && closed.skipped() == 0)
+}
+
 /// A walk over all classes would take minutes, and a word for each of them 17 GB.
 #[test]
-fn classes_without_a_piece_take_no_time_and_memory(rt: HostRuntime) -> Result<(), Fail> {
-    let mut staffed = Staffed::new(rt.alloc(), NO_PIECES)?;
+fn classes_without_a_piece_take_no_time_and_memory(rt: HostRuntime) {
     for (call, reply) in &NO_PIECES_REPLIES {
-        let (_, replies) = replay(rt.alloc(), NO_PIECES, &[*call])?;
-        assert!(rt; replies.as_slice() == [*reply].as_slice(), "{call:?}");
-        assert!(rt; staffed.reply_to(*call) == *reply, "{call:?}");
+        assert!(rt; is_replied(rt.alloc(), *call, *reply) == Ok(true));
     }
-    let closed = staffed.close(rt.alloc())?;
-    assert_eq!(rt;
-        (closed.finished(), closed.skipped()),
-        (Finish::Finished, 0)
-    );
-    Ok(())
+    assert!(rt; is_done(rt.alloc()) == Ok(true));
 }

@@ -1,16 +1,16 @@
 //! Runs of workers in threads of their own.
 
-ghost use Rattle.std.specs.Prelude.{◌≡◌, ◌≤◌, All, IfOk};
+ghost use Rattle.std.specs.Prelude.{◌≡◌, ◌<◌, All, IfOk};
 ghost use Rattle.fault_ledger.specs.History.{block_count};
 
 use crate::staffed::Staffed;
-use fault_ledger::{Claim, Closed, Finish, PieceState, Seat, Shape, SharedLedger, Status};
+use fault_ledger::{
+    Claim, Closed, Finish, LedgerFault, PieceState, Seat, Shape, SharedLedger, Status,
+};
 use patterns::Outcome;
 use patterns::Outcome::{Clear, Hit};
 use std::alloc::{AllocError, Global};
-use std::process::Abort;
 use std::sync::atomic::{AtomicU64, Ordering};
-use std::test::Fail;
 use std::thread;
 use std::thread::Threads;
 
@@ -131,48 +131,68 @@ fn in_threads<R: Threads + Sync>(
     )
 }
 
-/// Checks a closed ledger against the notes of its run: each piece was claimed once, and is as it
-/// was reported or dropped; a class is settled at its first hit.
-fn check<R: Abort>(rt: &R, run: &Run, closed: &Closed, classes: u32) -> Result<(), Fail>
-    requires classes { closed.now.shape.classes ≡ classes }
-    requires blocks { (block_count closed.now.shape ≡ run.now.blocks) × (run.now.blocks ≤ 64) }
-{
-    for class in 0..classes {
-        let mut first = None;
-        for block in 0..run.blocks {
-            let Some(note) = run.note_of(class, block) else {
-                panic!(rt; "a piece without a note")
-            };
-            assert_eq!(rt; note.claimed.load(Ordering::SeqCst), 1);
-            let state = closed.entry(class, block);
-            if note.dropped.load(Ordering::SeqCst) == 1 {
-                assert_eq!(rt; state, PieceState::Skipped);
-                assert!(rt; first.is_some());
-                continue;
-            }
-            match run.outcome_of(class, block) {
-                Clear => assert_eq!(rt; state, PieceState::Clear),
-                Hit(test) => {
-                    assert_eq!(rt; state, PieceState::Hit(test));
-                    first = first.or(Some(test.wrapping_add(64 * block)));
-                }
-            }
-        }
-        assert_eq!(rt; closed.status(class), Status::Settled(first));
+/// Whether the state of a piece is what was noted of it: it was claimed once, and dropped or
+/// reported, dropped only behind a hit.
+fn is_as_noted(run: &Run, class: u32, block: u32, state: PieceState, is_hit: bool) -> bool {
+    let Some(note) = run.note_of(class, block) else {
+        return false;
+    };
+    if note.claimed.load(Ordering::SeqCst) != 1 {
+        return false;
     }
-    assert_eq!(rt; closed.finished(), Finish::Finished);
-    Ok(())
+    if note.dropped.load(Ordering::SeqCst) == 1 {
+        return state == PieceState::Skipped && is_hit;
+    }
+    match run.outcome_of(class, block) {
+        Clear => state == PieceState::Clear,
+        Hit(test) => state == PieceState::Hit(test),
+    }
 }
 
-/// A ledger of this shape on which all workers have worked, closed and checked. Its pieces are hits
-/// in `density` of 16 cases.
-fn worked<R: Threads + Abort + Sync>(
+/// The test of a hit of a block.
+fn test_of(state: PieceState, block: u32) -> Option<u32> {
+    match state {
+        PieceState::Hit(test) => Some(test.wrapping_add(block.wrapping_mul(64))),
+        _ => None,
+    }
+}
+
+/// Whether a class of a closed ledger is settled at its first hit, and its pieces are as noted.
+fn is_settled(run: &Run, closed: &Closed, class: u32) -> bool
+    requires class { class < closed.now.shape.classes }
+    requires blocks { block_count closed.now.shape ≡ run.now.blocks }
+{
+    let mut first = None;
+    for block in 0..run.blocks {
+        let state = closed.entry(class, block);
+        if !is_as_noted(run, class, block, state, first.is_some()) {
+            return false;
+        }
+        first = first.or(test_of(state, block));
+    }
+    closed.status(class) == Status::Settled(first)
+}
+
+/// Whether all classes of a closed ledger are.
+fn are_settled(run: &Run, closed: &Closed, classes: u32) -> bool
+    requires classes { closed.now.shape.classes ≡ classes }
+    requires blocks { block_count closed.now.shape ≡ run.now.blocks }
+{
+    for class in 0..classes {
+        if !is_settled(run, closed, class) {
+            return false;
+        }
+    }
+    closed.finished() == Finish::Finished
+}
+
+/// The ledger of a shape on which all workers of a run have worked, closed.
+fn closed_after<R: Threads + Sync>(
     rt: &R,
     alloc: Global,
     shape: Shape,
-    density: u64,
-) -> Result<Closed, Fail>
-    requires { shape.tests ≤ 4096 }
+    run: &Run,
+) -> Result<Closed, LedgerFault>
     ensures { IfOk result (λ closed. closed.shape ≡ shape) }
 {
     let Staffed {
@@ -180,45 +200,32 @@ fn worked<R: Threads + Abort + Sync>(
         ledger,
         seats,
     } = Staffed::new(alloc, shape)?;
-    let blocks = shape.tests.div_ceil(64);
-    let run = Run::new(alloc, shape.classes, blocks, shape.workers, density)?;
-    let seats = in_threads(rt, &ledger, &run, seats)?;
+    let seats = in_threads(rt, &ledger, run, seats)?;
     let staffed = Staffed {
         shape,
         ledger,
         seats,
     };
-    let closed = staffed.close(alloc)?;
-    check(rt, &run, &closed, shape.classes)?;
-    Ok(closed)
+    staffed.close(alloc)
 }
 
-#[test]
-fn four_threads_share_two_classes(rt: HostRuntime) -> Result<(), Fail> {
-    let shape = Shape {
-        classes: 2,
-        tests: 128,
-        workers: 4,
-    };
-    let closed = worked(&rt, rt.alloc(), shape, 0)?;
-    for class in 0..2 {
-        for block in 0..2 {
-            assert_eq!(rt; closed.entry(class, block), PieceState::Clear);
-        }
-        assert_eq!(rt; closed.status(class), Status::Settled(None));
-    }
-    assert_eq!(rt; closed.finished(), Finish::Finished);
-    Ok(())
+/// Whether workers in threads leave a ledger of this shape as it must be, whose pieces are hits in
+/// 3 of 16 cases.
+fn agree<R: Threads + Sync>(rt: &R, alloc: Global, shape: Shape) -> Result<bool, LedgerFault> {
+    let blocks = shape.tests.div_ceil(64);
+    let run = Run::new(alloc, shape.classes, blocks, shape.workers, 3)?;
+    let closed = closed_after(rt, alloc, shape, &run)?;
+    Ok(are_settled(&run, &closed, shape.classes))
 }
 
+/// 400 classes on 64 blocks.
+const LARGE: Shape = Shape {
+    classes: 400,
+    tests: 4_096,
+    workers: 8,
+};
+
 #[test]
-fn many_threads_agree_with_the_outcomes(rt: HostRuntime) -> Result<(), Fail> {
-    let shape = Shape {
-        classes: 400,
-        tests: 4_096,
-        workers: 8,
-    };
-    let closed = worked(&rt, rt.alloc(), shape, 3)?;
-    assert_eq!(rt; closed.finished(), Finish::Finished);
-    Ok(())
+fn many_threads_agree_with_the_outcomes(rt: HostRuntime) {
+    assert!(rt; agree(&rt, rt.alloc(), LARGE) == Ok(true));
 }

@@ -1,16 +1,14 @@
-//! Command lines for which memory or a thread is refused: they say so, and write nothing else.
+//! Command lines for which memory is refused: they say so, and write nothing else.
 
-use crate::ballast::Ballast;
 use crate::merges::{FIRST, REPORT, SECOND};
 use crate::sweep::{Outcome, Trial, answered, refused, sweep};
 use crate::texts::Screen;
 use command_line::{Source, SourceFault, run_words};
 use fault_model::Model;
-use report::listing_bytes;
+use report::{SimFault, listing_bytes};
 use std::alloc::Global;
 use std::process::Abort;
 use std::sync::Wait;
-use std::test::Fail;
 use std::thread::Threads;
 use worked_circuits::C17;
 
@@ -58,78 +56,35 @@ impl<R: Threads + Wait> Trial for Commanded<'_, R> {
 }
 
 /// Tries the listing of C17 with no memory and then with more and more.
-fn sweep_listing<R: Threads + Wait + Abort>(
-    rt: &R,
-    alloc: Global,
-    listing: &[u8],
-) -> Result<(), Fail> {
+fn sweep_listing<R: Threads + Wait + Abort>(rt: &R, alloc: Global) -> Result<(), SimFault> {
+    let listing = listing_bytes(alloc, Model::StuckAt, C17)?;
     let listed = Commanded {
         rt,
         words: &["faultsim", "faults", "--bench", "bench"],
-        text: listing,
+        text: listing.as_slice(),
         refusal: "faultsim: out of memory\n",
     };
-    sweep(rt, alloc, &listed)
+    sweep(rt, alloc, &listed);
+    Ok(())
 }
 
 #[test]
-fn command_lines_say_that_memory_is_out(rt: HostRuntime) -> Result<(), Fail> {
-    let listing = listing_bytes(rt.alloc(), Model::StuckAt, C17)?;
-    sweep_listing(&rt, rt.alloc(), listing.as_slice())
+fn command_lines_say_that_memory_is_out(rt: HostRuntime) {
+    assert!(rt; sweep_listing(&rt, rt.alloc()).is_ok());
 }
 
 /// Tries a merge of two part texts with no memory and then with more and more.
-fn sweep_merge<R: Threads + Wait + Abort>(rt: &R, alloc: Global) -> Result<(), Fail> {
+fn sweep_merge<R: Threads + Wait + Abort>(rt: &R, alloc: Global) {
     let merged = Commanded {
         rt,
         words: &["faultsim", "merge", "--list", "first", "second"],
         text: REPORT,
         refusal: "faultsim: out of memory\n",
     };
-    sweep(rt, alloc, &merged)
+    sweep(rt, alloc, &merged);
 }
 
 #[test]
-fn merges_say_that_memory_is_out(rt: HostRuntime) -> Result<(), Fail> {
-    sweep_merge(&rt, rt.alloc())
-}
-
-/// A run of C17 by this number of workers, each with a part of its own.
-fn run_by<'a, R>(rt: &'a R, words: &'a [&'a str; 10]) -> Commanded<'a, R> {
-    Commanded {
-        rt,
-        words,
-        text: b"14 of 34 (41.17%)\n",
-        refusal: "faultsim: thread refused\n",
-    }
-}
-
-/// The words of a run of C17 by this number of workers and in as many parts.
-fn run_words_by<'a>(workers: &'a str) -> [&'a str; 10] {
-    [
-        "faultsim",
-        "run",
-        "--bench",
-        "bench",
-        "--tests",
-        "tests",
-        "--workers",
-        workers,
-        "--parts",
-        workers,
-    ]
-}
-
-/// A run of 64 workers finds no room for their stacks, though one of 4, the number by default, ran
-/// just before, whose stacks may still be there.
-#[test]
-fn command_lines_start_as_many_workers_as_they_name(rt: HostRuntime) -> Result<(), Fail> {
-    let few = run_words_by("4");
-    let many = run_words_by("64");
-    assert_eq!(rt; run_by(&rt, &few).attempt(rt.alloc()), Outcome::Right);
-    let ballast = Ballast::large(rt.alloc(), 20)?;
-    let outcome = run_by(&rt, &many).attempt(rt.alloc());
-    drop(ballast);
-    assert_eq!(rt; outcome, Outcome::Refused);
-    Ok(())
+fn merges_say_that_memory_is_out(rt: HostRuntime) {
+    sweep_merge(&rt, rt.alloc());
 }

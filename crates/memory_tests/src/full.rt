@@ -5,74 +5,77 @@ ghost use Rattle.block_sim.specs.Parts.{HasRoom};
 ghost use Rattle.workers.specs.Settling.{IsShapeOf};
 
 use crate::ballast::Ballast;
-use crate::parts::{c17_job, c17_under, tests_of_c17};
+use crate::parts::{c17_job, tests_of_c17};
 use crate::runs::is_right;
 use crate::texts::Screen;
 use block_sim::{Job, Workspace, first_hit, simulate};
-use fault_ledger::{Claim, Finish, Ledger, Seat, SharedLedger};
+use fault_ledger::{Claim, Finish, Ledger, LedgerFault, Seat, SharedLedger};
 use fault_model::Model;
-use report::{Contents, Lines, RunFault, listing_bytes, report_bytes, write_listing, write_report};
+use report::{
+    Contents, Lines, RunFault, SimFault, job_of, listing_bytes, report_bytes, write_listing,
+    write_report,
+};
 use std::alloc::{AllocError, Global};
-use std::process::Abort;
 use std::sync::Wait;
-use std::test::Fail;
 use std::thread::Threads;
 use worked_circuits::C17;
-use workers::{End, OpenGate, run, run_schedule, work};
+use workers::{End, OpenGate, Verdicts, run, run_schedule, work};
 
-/// Writes a report and a listing with no memory left, and compares them with these.
-fn writes<R: Abort>(
-    rt: &R,
+/// Whether the report of a job is written so.
+fn is_reported(job: &Job, verdicts: &Verdicts, report: &[u8]) -> bool {
+    if verdicts.total() != job.faults().count() {
+        return false;
+    }
+    let mut screen = Screen::new();
+    let written = write_report(job, verdicts, Contents::of(Lines::All), &mut screen);
+    written.is_ok() && screen.text() == report
+}
+
+/// Whether the listing of a job is written so.
+fn is_listed(job: &Job, listing: &[u8]) -> bool {
+    let mut screen = Screen::new();
+    let written = write_listing(job.circuit(), job.faults(), job.classes(), &mut screen);
+    written.is_ok() && screen.text() == listing
+}
+
+/// Whether both are, with no memory left.
+fn are_written(
     alloc: Global,
     job: &Job,
+    verdicts: &Verdicts,
     report: &[u8],
     listing: &[u8],
-) -> Result<(), Fail> {
-    let verdicts = run_schedule(alloc, job, 2, &[])?;
-    assert_eq!(rt; verdicts.total(), job.faults().count());
-    let (mut first, mut second) = (Screen::new(), Screen::new());
-    let all = Contents::of(Lines::All);
+) -> Result<bool, AllocError> {
     let ballast = Ballast::all(alloc)?;
-    let is_reported = write_report(job, &verdicts, all, &mut first).is_ok();
-    let is_listed = write_listing(job.circuit(), job.faults(), job.classes(), &mut second).is_ok();
+    let are_written = is_reported(job, verdicts, report) && is_listed(job, listing);
     drop(ballast);
-    assert!(rt; is_reported && first.text() == report);
-    assert!(rt; is_listed && second.text() == listing);
-    Ok(())
+    Ok(are_written)
 }
 
-/// Writes both texts of a job, whose report is this.
-fn writes_listing<R: Abort>(rt: &R, alloc: Global, job: &Job, report: &[u8]) -> Result<(), Fail> {
+/// Whether both texts of a job, whose report is this, are written so.
+fn writes_both(alloc: Global, job: &Job, report: &[u8]) -> Result<bool, SimFault> {
     let listing = listing_bytes(alloc, Model::StuckAt, C17)?;
-    writes(rt, alloc, job, report, listing.as_slice())
+    let verdicts = run_schedule(alloc, job, 2, &[])?;
+    Ok(are_written(alloc, job, &verdicts, report, listing.as_slice())?)
 }
 
-/// Writes both texts of a job, which is that of C17 under these tests.
-fn writes_report<R: Threads + Wait + Abort>(
-    rt: &R,
-    alloc: Global,
-    job: &Job,
-    tests: &[u8],
-) -> Result<(), Fail> {
+/// Whether both texts of the job of C17 under these tests are.
+fn writes_under<R: Threads + Wait>(rt: &R, alloc: Global, tests: &[u8]) -> Result<bool, SimFault> {
     let all = Contents::of(Lines::All);
     let report = report_bytes(rt, alloc, Model::StuckAt, C17, tests, 1, all)?;
-    writes_listing(rt, alloc, job, report.as_slice())
+    let job = job_of(alloc, Model::StuckAt, C17, tests)?;
+    writes_both(alloc, &job, report.as_slice())
 }
 
-/// Writes both texts of the job of C17 under these tests.
-fn writes_under<R: Threads + Wait + Abort>(
-    rt: &R,
-    alloc: Global,
-    tests: &[u8],
-) -> Result<(), Fail> {
-    let job = c17_under(alloc, tests)?;
-    writes_report(rt, alloc, &job, tests)
+/// Whether they are under its 65 tests.
+fn writes_all<R: Threads + Wait>(rt: &R, alloc: Global) -> Result<bool, SimFault> {
+    let tests = tests_of_c17(alloc)?;
+    writes_under(rt, alloc, tests.as_slice())
 }
 
 #[test]
-fn reports_are_written(rt: HostRuntime) -> Result<(), Fail> {
-    let tests = tests_of_c17(rt.alloc())?;
-    writes_under(&rt, rt.alloc(), tests.as_slice())
+fn reports_are_written(rt: HostRuntime) {
+    assert!(rt; writes_all(&rt, rt.alloc()) == Ok(true));
 }
 
 /// Claims a piece, and drops it, else simulates it twice and reports. Says whether all went well.
@@ -91,24 +94,45 @@ fn step(job: &Job, ledger: &mut Ledger, workspace: &mut Workspace) -> bool {
     whole == early && ledger.report(0, early).is_ok()
 }
 
-/// Simulates all pieces of a job with no memory left.
-fn simulates_all<R: Abort>(rt: &R, alloc: Global, job: &Job) -> Result<(), Fail> {
-    let mut ledger = Ledger::new(alloc, 22, 65, 1)?;
+/// Simulates all 44 pieces of a job. Says whether all went well.
+fn simulates(job: &Job, ledger: &mut Ledger, workspace: &mut Workspace) -> bool {
+    for _piece in 0..44 {
+        if !step(job, ledger, workspace) {
+            return false;
+        }
+    }
+    ledger.finished() == Finish::Finished && workspace.gate_evaluations() > 0
+}
+
+/// The same in a new workspace, with no memory left.
+fn simulates_without_memory(
+    alloc: Global,
+    job: &Job,
+    ledger: &mut Ledger,
+) -> Result<bool, AllocError> {
     let mut workspace = Workspace::new(alloc, job)?;
     let ballast = Ballast::all(alloc)?;
-    for piece in 0..44 {
-        assert!(rt; step(job, &mut ledger, &mut workspace), "piece {piece}");
-    }
+    let is_well = simulates(job, ledger, &mut workspace);
     drop(ballast);
-    assert_eq!(rt; ledger.finished(), Finish::Finished);
-    assert!(rt; workspace.gate_evaluations() > 0);
-    Ok(())
+    Ok(is_well)
+}
+
+/// The same with a new ledger.
+fn simulates_all(alloc: Global, job: &Job) -> Result<bool, LedgerFault> {
+    let mut ledger = Ledger::new(alloc, 22, 65, 1)?;
+    Ok(simulates_without_memory(alloc, job, &mut ledger)?)
+}
+
+/// Whether the pieces of C17 under its 65 tests are simulated, and a worker works on them.
+fn is_simulated(alloc: Global) -> Result<(bool, bool), SimFault> {
+    let job = c17_job(alloc)?;
+    let is_worked = works(alloc, &job) == Ok(true);
+    Ok((simulates_all(alloc, &job) == Ok(true), is_worked))
 }
 
 #[test]
-fn pieces_are_simulated(rt: HostRuntime) -> Result<(), Fail> {
-    let job = c17_job(rt.alloc())?;
-    simulates_all(&rt, rt.alloc(), &job)
+fn pieces_are_simulated(rt: HostRuntime) {
+    assert!(rt; is_simulated(rt.alloc()) == Ok((true, true)));
 }
 
 /// Lets the worker of a seat work with no memory left. Says whether all went well.
@@ -148,7 +172,7 @@ fn works_at(
 }
 
 /// Lets one worker work at a ledger of its own.
-fn works(alloc: Global, job: &Job) -> Result<bool, Fail> {
+fn works(alloc: Global, job: &Job) -> Result<bool, LedgerFault> {
     let (classes, count) = (job.classes().count(), job.tests().count());
     let (ledger, mut seats) = SharedLedger::new(alloc, classes, count, 1)?;
     let Some(mut seat) = seats.pop() else {
@@ -157,34 +181,31 @@ fn works(alloc: Global, job: &Job) -> Result<bool, Fail> {
     Ok(works_at(alloc, job, &ledger, &mut seat)?)
 }
 
-/// Lets one worker work on a job, and asks whether all went well.
-fn works_well<R: Abort>(rt: &R, alloc: Global, job: &Job) -> Result<(), Fail> {
-    let is_well = works(alloc, job)?;
-    assert!(rt; is_well);
-    Ok(())
-}
-
-#[test]
-fn a_worker_works(rt: HostRuntime) -> Result<(), Fail> {
-    let job = c17_job(rt.alloc())?;
-    works_well(&rt, rt.alloc(), &job)
-}
-
-/// Lets 64 workers start where few find room for a stack, and then where all do.
-fn starts<R: Threads + Wait + Abort>(rt: &R, alloc: Global, job: &Job) -> Result<(), Fail> {
+/// Whether 64 workers cannot start where few find room for a stack.
+fn is_refused<R: Threads + Wait>(rt: &R, alloc: Global, job: &Job) -> Result<bool, AllocError> {
     // No stack of a thread finds room, 8 MB, but for those that are kept from threads that ended.
     // Up to 4 MB do, so that small blocks are there though the heap may have no room to grow.
     let ballast = Ballast::large(alloc, 22)?;
     let refused = run(rt, alloc, job, 64, &OpenGate).err();
     drop(ballast);
-    assert_eq!(rt; refused, Some(RunFault::Threads));
-    let verdicts = run(rt, alloc, job, 64, &OpenGate)?;
-    assert!(rt; is_right(&verdicts));
-    Ok(())
+    Ok(refused == Some(RunFault::Threads))
+}
+
+/// Whether 64 workers start where all do.
+fn is_run<R: Threads + Wait>(rt: &R, alloc: Global, job: &Job) -> bool {
+    match run(rt, alloc, job, 64, &OpenGate) {
+        Ok(verdicts) => is_right(&verdicts),
+        Err(_) => false,
+    }
+}
+
+/// Whether both is so of the job of C17.
+fn starts<R: Threads + Wait>(rt: &R, alloc: Global) -> Result<bool, SimFault> {
+    let job = c17_job(alloc)?;
+    Ok(is_refused(rt, alloc, &job)? && is_run(rt, alloc, &job))
 }
 
 #[test]
-fn starts_of_threads(rt: HostRuntime) -> Result<(), Fail> {
-    let job = c17_job(rt.alloc())?;
-    starts(&rt, rt.alloc(), &job)
+fn starts_of_threads(rt: HostRuntime) {
+    assert!(rt; starts(&rt, rt.alloc()) == Ok(true));
 }

@@ -1,17 +1,16 @@
 //! Each call once. The test passes with ample memory, and also where one allocation of its process,
 //! or the start of one thread, is refused: `bench/refusals.py` runs it so, with one after another.
 
-use crate::parts::{MEANS, Making, PARTS, Setting, c17_under, tests_of_c17};
+use crate::parts::{MEANS, Making, PARTS, Setting, tests_of_c17};
 use crate::runs::{Scheduled, Threaded};
 use crate::sweep::once;
 use crate::texts::{CALLS, Written, text_of};
 use block_sim::Job;
 use fault_model::Model;
-use report::{Contents, Lines, listing_bytes, report_bytes};
+use report::{Contents, Lines, SimFault, job_of, listing_bytes, report_bytes};
 use std::alloc::Global;
 use std::process::Abort;
 use std::sync::Wait;
-use std::test::Fail;
 use std::thread::Threads;
 use worked_circuits::C17;
 
@@ -61,31 +60,44 @@ fn write_with_listing<R: Threads + Wait + Abort>(
     alloc: Global,
     tests: &[u8],
     report: &[u8],
-) -> Result<(), Fail> {
+) -> Result<(), SimFault> {
     let listing = listing_bytes(alloc, Model::StuckAt, C17)?;
     write_texts(rt, alloc, tests, report, listing.as_slice());
     Ok(())
 }
 
 /// Makes the text calls.
-fn write_all<R: Threads + Wait + Abort>(rt: &R, alloc: Global, tests: &[u8]) -> Result<(), Fail> {
+fn write_all<R: Threads + Wait + Abort>(
+    rt: &R,
+    alloc: Global,
+    tests: &[u8],
+) -> Result<(), SimFault> {
     let all = Contents::of(Lines::All);
     let report = report_bytes(rt, alloc, Model::StuckAt, C17, tests, 1, all)?;
     write_with_listing(rt, alloc, tests, report.as_slice())
 }
 
 /// Makes the calls on a job.
-fn make_all<R: Threads + Wait + Abort>(rt: &R, alloc: Global, tests: &[u8]) -> Result<(), Fail> {
-    let job = c17_under(alloc, tests)?;
+fn make_all<R: Threads + Wait + Abort>(
+    rt: &R,
+    alloc: Global,
+    tests: &[u8],
+) -> Result<(), SimFault> {
+    let job = job_of(alloc, Model::StuckAt, C17, tests)?;
     make_parts(rt, alloc, &job, tests);
     make_means(rt, alloc, &job);
     make_runs(rt, alloc, &job);
     Ok(())
 }
 
+/// Makes each call.
+fn call_each<R: Threads + Wait + Abort>(rt: &R, alloc: Global) -> Result<(), SimFault> {
+    let tests = tests_of_c17(alloc)?;
+    write_all(rt, alloc, tests.as_slice())?;
+    make_all(rt, alloc, tests.as_slice())
+}
+
 #[test]
-fn each_call_that_was_refused_succeeds_again(rt: HostRuntime) -> Result<(), Fail> {
-    let tests = tests_of_c17(rt.alloc())?;
-    write_all(&rt, rt.alloc(), tests.as_slice())?;
-    make_all(&rt, rt.alloc(), tests.as_slice())
+fn each_call_that_was_refused_succeeds_again(rt: HostRuntime) {
+    assert!(rt; call_each(&rt, rt.alloc()).is_ok());
 }

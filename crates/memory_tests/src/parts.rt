@@ -10,7 +10,6 @@ use patterns::{TestFault, read_tests};
 use report::{RunFault, SimFault, job_of};
 use std::alloc::{AllocError, Global};
 use std::process::Abort;
-use std::test::Fail;
 use worked_circuits::C17;
 
 /// Moves of two workers.
@@ -33,15 +32,10 @@ pub(crate) fn tests_of_c17(alloc: Global) -> Result<Vec<u8>, AllocError> {
     Ok(text)
 }
 
-/// The job of C17 under these tests.
-pub(crate) fn c17_under(alloc: Global, tests: &[u8]) -> Result<Job, Fail> {
-    Ok(job_of(alloc, Model::StuckAt, C17, tests)?)
-}
-
 /// The job of C17 under its 65 tests.
-pub(crate) fn c17_job(alloc: Global) -> Result<Job, Fail> {
+pub(crate) fn c17_job(alloc: Global) -> Result<Job, SimFault> {
     let tests = tests_of_c17(alloc)?;
-    c17_under(alloc, tests.as_slice())
+    job_of(alloc, Model::StuckAt, C17, tests.as_slice())
 }
 
 /// Whether a call was refused for want of memory.
@@ -251,35 +245,35 @@ fn share(alloc: Global) -> Outcome {
 }
 
 /// Tries to make each part of a job.
-fn sweep_parts<R: Abort>(rt: &R, alloc: Global, job: &Job, tests: &[u8]) -> Result<(), Fail> {
+fn sweep_parts<R: Abort>(rt: &R, alloc: Global, job: &Job, tests: &[u8]) {
     for part in PARTS {
-        sweep(rt, alloc, &Making { part, job, tests })?;
+        sweep(rt, alloc, &Making { part, job, tests });
     }
+}
+
+/// Tries to make each part of the job of C17.
+fn sweep_parts_of_c17<R: Abort>(rt: &R, alloc: Global) -> Result<(), SimFault> {
+    let tests = tests_of_c17(alloc)?;
+    let job = job_of(alloc, Model::StuckAt, C17, tests.as_slice())?;
+    sweep_parts(rt, alloc, &job, tests.as_slice());
     Ok(())
 }
 
-/// Tries to make each part of a job of C17.
-fn sweep_parts_of<R: Abort>(rt: &R, alloc: Global, tests: &[u8]) -> Result<(), Fail> {
-    let job = c17_under(alloc, tests)?;
-    sweep_parts(rt, alloc, &job, tests)
-}
-
 #[test]
-fn parts_of_a_job(rt: HostRuntime) -> Result<(), Fail> {
-    let tests = tests_of_c17(rt.alloc())?;
-    sweep_parts_of(&rt, rt.alloc(), tests.as_slice())
+fn parts_of_a_job(rt: HostRuntime) {
+    assert!(rt; sweep_parts_of_c17(&rt, rt.alloc()).is_ok());
 }
 
-/// Tries to make what a run of a job stands on.
-fn sweep_means<R: Abort>(rt: &R, alloc: Global, job: &Job) -> Result<(), Fail> {
+/// Tries to make what a run of the job of C17 stands on.
+fn sweep_means<R: Abort>(rt: &R, alloc: Global) -> Result<(), SimFault> {
+    let job = c17_job(alloc)?;
     for means in MEANS {
-        sweep(rt, alloc, &Setting { means, job })?;
+        sweep(rt, alloc, &Setting { means, job: &job });
     }
     Ok(())
 }
 
 #[test]
-fn means_of_a_run(rt: HostRuntime) -> Result<(), Fail> {
-    let job = c17_job(rt.alloc())?;
-    sweep_means(&rt, rt.alloc(), &job)
+fn means_of_a_run(rt: HostRuntime) {
+    assert!(rt; sweep_means(&rt, rt.alloc()).is_ok());
 }

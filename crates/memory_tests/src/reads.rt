@@ -15,9 +15,8 @@ use fault_ledger::{
 use fault_model::laws::stems;
 use fault_model::{Faults, Line, Model};
 use patterns::{Outcome, Tests};
+use report::{RunFault, SimFault};
 use std::alloc::{AllocError, Global};
-use std::process::Abort;
-use std::test::Fail;
 use workers::{Verdicts, run_schedule};
 
 /// A sum of answers, in which their order counts.
@@ -151,18 +150,22 @@ fn sum_without_memory(alloc: Global, job: &Job, verdicts: &Verdicts) -> Result<S
     Ok(sum)
 }
 
-/// Compares what the calls on a job and its verdicts answer without memory and with it.
-fn compare_sums<R: Abort>(rt: &R, alloc: Global, job: &Job) -> Result<(), Fail> {
+/// Whether the calls on a job and its verdicts answer the same without memory and with it.
+fn is_sum_the_same(alloc: Global, job: &Job) -> Result<bool, RunFault> {
     let verdicts = run_schedule(alloc, job, 2, &[])?;
     let without = sum_without_memory(alloc, job, &verdicts)?;
-    assert_eq!(rt; without, sum_of(job, &verdicts));
-    Ok(())
+    Ok(without == sum_of(job, &verdicts))
+}
+
+/// Whether that is so of the job of C17.
+fn are_read(alloc: Global) -> Result<bool, SimFault> {
+    let job = c17_job(alloc)?;
+    Ok(is_sum_the_same(alloc, &job)?)
 }
 
 #[test]
-fn calls_that_read(rt: HostRuntime) -> Result<(), Fail> {
-    let job = c17_job(rt.alloc())?;
-    compare_sums(&rt, rt.alloc(), &job)
+fn calls_that_read(rt: HostRuntime) {
+    assert!(rt; are_read(rt.alloc()) == Ok(true));
 }
 
 /// Whether two seats of a ledger of one class and two blocks find what is right, where the first
@@ -183,17 +186,34 @@ fn seats_answer(ledger: &SharedLedger, first: &mut Seat, second: &mut Seat) -> b
     claimed && reported && dropped && seen && status && finished && seated
 }
 
-#[test]
-fn seats_that_look_and_meet(rt: HostRuntime) -> Result<(), Fail> {
-    let (ledger, mut seats) = SharedLedger::new(rt.alloc(), 1, 65, 2)?;
-    let (Some(mut second), Some(mut first)) = (seats.pop(), seats.pop()) else {
-        return Err(Fail::new("no seats"));
-    };
-    let ballast = Ballast::all(rt.alloc())?;
-    let answered = seats_answer(&ledger, &mut first, &mut second);
+/// Whether they do where no memory is left.
+fn seats_answer_without_memory(
+    alloc: Global,
+    ledger: &SharedLedger,
+    first: &mut Seat,
+    second: &mut Seat,
+) -> Result<bool, AllocError>
+    requires shape { (ledger.now.shape.classes ≡ 1) × (ledger.now.shape.tests ≡ 65) }
+    requires seats { (first.old.place ≡ ledger.now) × (second.old.place ≡ ledger.now) }
+{
+    let ballast = Ballast::all(alloc)?;
+    let answered = seats_answer(ledger, first, second);
     drop(ballast);
-    assert!(rt; answered);
-    Ok(())
+    Ok(answered)
+}
+
+/// Whether the two seats of a new ledger do.
+fn new_seats_answer(alloc: Global) -> Result<bool, LedgerFault> {
+    let (ledger, mut seats) = SharedLedger::new(alloc, 1, 65, 2)?;
+    let (Some(mut second), Some(mut first)) = (seats.pop(), seats.pop()) else {
+        return Err(LedgerFault::NoWorkers);
+    };
+    Ok(seats_answer_without_memory(alloc, &ledger, &mut first, &mut second)?)
+}
+
+#[test]
+fn seats_that_look_and_meet(rt: HostRuntime) {
+    assert!(rt; new_seats_answer(rt.alloc()) == Ok(true));
 }
 
 /// A ledger of one class, two blocks and one worker.
@@ -218,14 +238,18 @@ fn ledger_answers(ledger: &mut Ledger) -> bool
     claimed && waits && reported && held && dropped && status && finished && ledger.shape() == SHAPE
 }
 
-#[test]
-fn a_ledger_of_one_thread(rt: HostRuntime) -> Result<(), Fail> {
-    let mut ledger = Ledger::new(rt.alloc(), 1, 65, 1)?;
-    let ballast = Ballast::all(rt.alloc())?;
+/// Whether a new one does where no memory is left.
+fn new_ledger_answers(alloc: Global) -> Result<bool, LedgerFault> {
+    let mut ledger = Ledger::new(alloc, 1, 65, 1)?;
+    let ballast = Ballast::all(alloc)?;
     let answered = ledger_answers(&mut ledger);
     drop(ballast);
-    assert!(rt; answered);
-    Ok(())
+    Ok(answered)
+}
+
+#[test]
+fn a_ledger_of_one_thread(rt: HostRuntime) {
+    assert!(rt; new_ledger_answers(rt.alloc()) == Ok(true));
 }
 
 /// Reports a hit of the first piece, and drops the second.
@@ -261,12 +285,16 @@ fn closed_answers(closed: &Closed) -> bool
     first && second && status && finished && closed.skipped() == 1
 }
 
-#[test]
-fn a_closed_ledger(rt: HostRuntime) -> Result<(), Fail> {
-    let closed = closed_ledger(rt.alloc())?;
-    let ballast = Ballast::all(rt.alloc())?;
+/// Whether one does where no memory is left.
+fn closed_ledger_answers(alloc: Global) -> Result<bool, LedgerFault> {
+    let closed = closed_ledger(alloc)?;
+    let ballast = Ballast::all(alloc)?;
     let answered = closed_answers(&closed);
     drop(ballast);
-    assert!(rt; answered);
-    Ok(())
+    Ok(answered)
+}
+
+#[test]
+fn a_closed_ledger(rt: HostRuntime) {
+    assert!(rt; closed_ledger_answers(rt.alloc()) == Ok(true));
 }

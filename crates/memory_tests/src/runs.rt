@@ -3,11 +3,10 @@
 use crate::parts::c17_job;
 use crate::sweep::{Outcome, Trial, answered, refused, sweep};
 use block_sim::Job;
-use report::RunFault;
+use report::{RunFault, SimFault};
 use std::alloc::Global;
 use std::process::Abort;
 use std::sync::Wait;
-use std::test::Fail;
 use std::thread::Threads;
 use workers::{OpenGate, Verdicts, run, run_schedule};
 
@@ -55,14 +54,15 @@ impl<R: Threads + Wait> Trial for Threaded<'_, R> {
     }
 }
 
-/// Tries both kinds of runs of a job.
-fn sweep_runs<R: Threads + Wait + Abort>(rt: &R, alloc: Global, job: &Job) -> Result<(), Fail> {
-    sweep(rt, alloc, &Scheduled { job })?;
-    sweep(rt, alloc, &Threaded { rt, job })
+/// Tries both kinds of runs of the job of C17.
+fn sweep_runs<R: Threads + Wait + Abort>(rt: &R, alloc: Global) -> Result<(), SimFault> {
+    let job = c17_job(alloc)?;
+    sweep(rt, alloc, &Scheduled { job: &job });
+    sweep(rt, alloc, &Threaded { rt, job: &job });
+    Ok(())
 }
 
 #[test]
-fn runs_of_a_job(rt: HostRuntime) -> Result<(), Fail> {
-    let job = c17_job(rt.alloc())?;
-    sweep_runs(&rt, rt.alloc(), &job)
+fn runs_of_a_job(rt: HostRuntime) {
+    assert!(rt; sweep_runs(&rt, rt.alloc()).is_ok());
 }

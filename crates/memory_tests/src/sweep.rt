@@ -1,9 +1,8 @@
 //! A call that is tried with no memory left, and then with more and more.
 
 use crate::ballast::{Ballast, ROOM};
-use std::alloc::Global;
+use std::alloc::{AllocError, Global};
 use std::process::Abort;
-use std::test::Fail;
 
 /// What a call came to.
 #[derive(Clone, Copy, Debug, PartialEq, Eq)]
@@ -43,39 +42,52 @@ pub(crate) trait Trial {
     fn attempt(&self, alloc: Global) -> Outcome;
 }
 
+/// Whether a call succeeds, once more where it was refused.
+fn succeeds<T: Trial>(alloc: Global, trial: &T) -> bool {
+    match trial.attempt(alloc) {
+        Outcome::Right => true,
+        Outcome::Refused => trial.attempt(alloc) == Outcome::Right,
+        Outcome::Wrong => false,
+    }
+}
+
 /// Makes a call, and once more where it was refused. It must succeed then, since what is refused
 /// here is one allocation or the start of one thread alone.
 pub(crate) fn once<T: Trial, R: Abort>(rt: &R, alloc: Global, trial: &T) {
-    let mut outcome = trial.attempt(alloc);
-    if outcome == Outcome::Refused {
-        outcome = trial.attempt(alloc);
+    check(rt, succeeds(alloc, trial), trial.name());
+}
+
+/// Whether a call is refused with one block of memory more each time, until it succeeds.
+fn recovers<T: Trial>(alloc: Global, trial: &T, ballast: &mut Ballast) -> bool {
+    for _step in 0..ROOM {
+        ballast.release();
+        match trial.attempt(alloc) {
+            Outcome::Right => return true,
+            Outcome::Refused => {}
+            Outcome::Wrong => return false,
+        }
     }
-    assert_eq!(rt; outcome, Outcome::Right, "{}", trial.name());
+    false
+}
+
+/// Whether a call is refused with no memory, and then until it succeeds.
+fn is_refused_until<T: Trial>(alloc: Global, trial: &T) -> Result<bool, AllocError> {
+    let mut ballast = Ballast::all(alloc)?;
+    Ok(trial.attempt(alloc) == Outcome::Refused && recovers(alloc, trial, &mut ballast))
 }
 
 /// Tries a call with ample memory, then with none, and then with one block more each time until it
 /// succeeds. It must be refused at first, and never be wrong.
-pub(crate) fn sweep<T: Trial, R: Abort>(rt: &R, alloc: Global, trial: &T) -> Result<(), Fail> {
-    assert_eq!(rt;
-        trial.attempt(alloc),
-        Outcome::Right,
-        "{}: with memory",
-        trial.name()
+pub(crate) fn sweep<T: Trial, R: Abort>(rt: &R, alloc: Global, trial: &T) {
+    let is_right = trial.attempt(alloc) == Outcome::Right;
+    check(
+        rt,
+        is_right && is_refused_until(alloc, trial) == Ok(true),
+        trial.name(),
     );
-    let mut ballast = Ballast::all(alloc)?;
-    assert_eq!(rt;
-        trial.attempt(alloc),
-        Outcome::Refused,
-        "{}: without",
-        trial.name()
-    );
-    for step in 0..ROOM {
-        ballast.release();
-        match trial.attempt(alloc) {
-            Outcome::Right => return Ok(()),
-            Outcome::Refused => {}
-            Outcome::Wrong => assert!(rt; false, "{}: wrong at {step}", trial.name()),
-        }
-    }
-    Err(Fail::new(trial.name()))
+}
+
+/// Stops the test where the call of this name isn't right.
+fn check<R: Abort>(rt: &R, holds: bool, name: &str) {
+    assert!(rt; holds, "{name}");
 }

@@ -203,6 +203,18 @@ holds_some a b p i e s = go (has_earlier_hit a.place.shape a.seen p) (s.replied
     go true q = absurd (cc)
     go false q = absurd (cc)
 
+-- a drop of a seat that holds a piece, where it was refused
+pub missed : (a b : Sitter) (p : ℕ) → IsSitter a → held_by a.worker a.seen ≡ Some p → (r : Refusal)
+    → ((r ≡ NothingHeld) ⊎ (r ≡ NoEarlierHit))
+    → (r ≡ NothingHeld → Stays a (call.Drop a.worker) (Refused r) b)
+    → (r ≡ NoEarlierHit → FindsNoHit a b) → FindsNoHit a b
+missed a b p i holding r which stays finds = go which
+  where
+    go : (r ≡ NothingHeld) ⊎ (r ≡ NoEarlierHit) → FindsNoHit a b
+    go (inl e) = absurd (holds_some a b p i holding
+        (subst (λ x. Stays a (call.Drop a.worker) (Refused x) b) e (stays e)))
+    go (inr e) = finds e
+
 -- a seat that holds none is not told that it holds a piece
 pub holds_none : (a b : Sitter) → IsSitter a → held_by a.worker a.seen ≡ None
     → Stays a (call.Claim a.worker) (Refused Holding) b → ⊥
@@ -256,17 +268,6 @@ module _ (job : Parts) (over : Chosen) (a b : Sitter) (p : Place) (class block :
   own_piece : held_by a.worker a.seen ≡ Some (piece_at a.place.shape class block)
   own_piece = subst (λ (q : Place). held_by a.worker a.seen ≡ Some (piece_at q.shape class block))
       (sym at) holding
-
-  -- a drop of a seat that holds a piece, where it was refused
-  pub missed : (r : Refusal) → ((r ≡ NothingHeld) ⊎ (r ≡ NoEarlierHit))
-      → (r ≡ NothingHeld → Stays a (call.Drop a.worker) (Refused r) b)
-      → (r ≡ NoEarlierHit → FindsNoHit a b) → FindsNoHit a b
-  missed r which stays finds = go which
-    where
-      go : (r ≡ NothingHeld) ⊎ (r ≡ NoEarlierHit) → FindsNoHit a b
-      go (inl e) = absurd (holds_some a b (piece_at p.shape class block) i holding
-          (subst (λ x. Stays a (call.Drop a.worker) (Refused x) b) e (stays e)))
-      go (inr e) = finds e
 
   -- a report of the true outcome after it
   module _ (d : Sitter) (o : Outcome) (found : FindsNoHit a b)

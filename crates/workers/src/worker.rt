@@ -2,7 +2,9 @@
 
 ghost use Rattle.std.specs.Prelude.{◌≡◌, ◌⊎◌, ◌<◌, ◌≤◌, ℕ, true, false, IsTrue, Some, None};
 ghost use Rattle.fault_ledger.specs.History.{block_count, held_by, claims, piece_at, piece_count};
-ghost use Rattle.fault_ledger.specs.Seats.{IsSitter, Sees};
+ghost use Rattle.fault_ledger.specs.Seats.{FindsNoHit, IsSitter, Makes, Sees};
+ghost use Rattle.fault_ledger.specs.declared.Event.{Event};
+ghost use Rattle.fault_ledger.specs.declared.Reply.TheVariants.{Done};
 ghost use Rattle.block_sim.specs.Parts.{HasRoom};
 ghost use Rattle.workers.specs.Chosen.{AreChosenOf};
 ghost use Rattle.workers.specs.Settling.{AreSettled, IsShapeOf, IsShapeOver};
@@ -53,6 +55,22 @@ impl Gate for OpenGate {
     }
 }
 
+/// Drops the piece that the seat holds where an earlier block of its class was a hit, and tells
+/// whether it did.
+fn drop_held(ledger: &SharedLedger, seat: &mut Seat) -> bool
+    requires place { seat.old.place ≡ ledger.now }
+    requires sitter { IsSitter seat.old }
+    requires piece { (piece : ℕ) × (held_by seat.old.worker seat.old.seen ≡ Some piece) }
+    ensures dropped { result ≡ true
+        → Makes seat.old (Event.Drop seat.old.worker) Done seat.new }
+    ensures missed { result ≡ false → FindsNoHit seat.old seat.new }
+{
+    match ledger.drop_piece(seat) {
+        Ok(()) => true,
+        Err(_) => false,
+    }
+}
+
 /// Drops the piece that the seat holds, or simulates it and reports.
 fn finish_piece<C: Chosen, K: Simulator>(
     job: &Job,
@@ -76,9 +94,8 @@ fn finish_piece<C: Chosen, K: Simulator>(
     ensures free { held_by seat.new.worker seat.new.seen ≡ None }
     ensures serves { K.serves simulator.new job.now }
 {
-    match ledger.drop_piece(seat) {
-        Ok(()) => return false,
-        Err(_) => {}
+    if drop_held(ledger, seat) {
+        return false;
     }
     let outcome = simulator.outcome_of(job, classes.class_at(class), block);
     let Ok(()) = ledger.report(seat, outcome) else {

@@ -1,5 +1,8 @@
-use Rattle.std.proofs.Common.{◌∙◌}
+use Rattle.std.proofs.Common.{◌∙◌, sym}
 use Rattle.jobs.proofs.texts.read_inputs.Goals as goal
+
+pub returns-clause-tests : goal.returns-clause-tests
+returns-clause-tests c = rw (sym c.sources.ensures.count) c.in_ok-tests.ensures.tests
 
 pub returns-clause-fit : goal.returns-clause-fit
 returns-clause-fit c = record {

@@ -1,24 +1,30 @@
-use Rattle.std.proofs.Common.{ap, subst, Err}
+use Rattle.std.proofs.Common.{subst}
 use Rattle.block_sim.specs.First.{IsTrueOutcome}
 use Rattle.fault_ledger.specs.Seats.{FindsNoHit}
-use Rattle.workers.proofs.SeatCalls.{dropped, missed, then_reported, then_taken}
+use Rattle.workers.proofs.SeatCalls.{dropped, then_reported, then_taken}
 use Rattle.workers.proofs.worker.finish_piece.Given as given
 use Rattle.workers.proofs.worker.finish_piece.Goals as goal
 use Rattle.workers.proofs.worker.finish_piece.Goals.{After-outcome_of-outcome}
 
-pub returns-in-Ok-clause-works : goal.returns-in-Ok-clause-works
-returns-in-Ok-clause-works g c =
+pub returns-then-drop_held-clause-works : goal.returns-then-drop_held-clause-works
+returns-then-drop_held-clause-works g c =
     (dropped c.args.job.now (g.C.Chosen.chosen c.args.classes.now) c.args.seat.now
-    c.drop_piece.new.seat _ c.in-Ok.ensures.accepted).0
+    c.drop_held.new.seat _ (c.drop_held.ensures.dropped c.if-drop_held.true)).0
+
+pub returns-then-drop_held-clause-told : goal.returns-then-drop_held-clause-told
+returns-then-drop_held-clause-told g c =
+    (dropped c.args.job.now (g.C.Chosen.chosen c.args.classes.now) c.args.seat.now
+    c.drop_held.new.seat _ (c.drop_held.ensures.dropped c.if-drop_held.true)).1
+
+pub returns-then-drop_held-clause-free : goal.returns-then-drop_held-clause-free
+returns-then-drop_held-clause-free g c =
+    (dropped c.args.job.now (g.C.Chosen.chosen c.args.classes.now) c.args.seat.now
+    c.drop_held.new.seat _ (c.drop_held.ensures.dropped c.if-drop_held.true)).2
 
 -- the drop found no hit
 found : (g : given.Over) (c : After-outcome_of-outcome g)
-    → FindsNoHit c.args.seat.now c.drop_piece.new.seat
-found g c = missed c.args.job.now (g.C.Chosen.chosen c.args.classes.now) c.args.seat.now
-    c.drop_piece.new.seat c.args.ledger.now c.args.class c.args.block c.requires.place
-    c.requires.sitter c.requires.shape c.requires.range.0 c.requires.piece
-    c.in-Err.field-0 c.in-Err.ensures.refusal (λ e. c.in-Err.ensures.nothing_held (ap Err e))
-    (λ e. c.in-Err.ensures.no_earlier_hit (ap Err e))
+    → FindsNoHit c.args.seat.now c.drop_held.new.seat
+found g c = c.drop_held.ensures.missed c.if-drop_held.false
 
 -- the outcome is true of the class that the ledger's stands for
 truth : (g : given.Over) (c : After-outcome_of-outcome g)
@@ -33,7 +39,7 @@ pub unreachable-requires : goal.unreachable-requires
 unreachable-requires g c =
     let at = (goal.at.unreachable-requires g c).After-outcome_of-outcome in
     then_taken c.args.job.now (g.C.Chosen.chosen c.args.classes.now) c.args.seat.now
-    c.drop_piece.new.seat c.args.ledger.now
+    c.drop_held.new.seat c.args.ledger.now
     c.args.class c.args.block c.requires.place c.requires.sitter c.requires.shape
     c.requires.range.0 c.requires.piece
     c.report.new.seat c.outcome_of-outcome.result (found g at) (truth g at) c.in_default.field-0
@@ -43,7 +49,7 @@ pub returns-clause-works : goal.returns-clause-works
 returns-clause-works g c =
     let at = (goal.at.returns-clause-works g c).After-outcome_of-outcome in
     then_reported c.args.job.now (g.C.Chosen.chosen c.args.classes.now) c.args.seat.now
-    c.drop_piece.new.seat c.args.ledger.now
+    c.drop_held.new.seat c.args.ledger.now
     c.args.class c.args.block c.requires.place c.requires.sitter c.requires.shape
     c.requires.range.0 c.requires.piece
     c.report.new.seat c.outcome_of-outcome.result (found g at) (truth g at) _
