@@ -53,4 +53,4 @@ returns-clause-works g c =
     c.args.class c.args.block c.requires.place c.requires.sitter c.requires.shape
     c.requires.range.0 c.requires.piece
     c.report.new.seat c.outcome_of-outcome.result (found g at) (truth g at) _
-    c.in-Ok-report.ensures.accepted
+    c.in-Ok.ensures.accepted
