@@ -28,4 +28,5 @@ pub use Rattle.fault_model.proofs.ReorderedSinks.{same_sinks}
 pub use Rattle.fault_model.proofs.ReorderedSolutions.{detected_same, detected_same_at, same_bits}
 pub use Rattle.fault_model.proofs.ReorderedSolutions.{looks_back_same, solved_same, under_moved}
 pub use Rattle.fault_model.proofs.SpannedNumbers.{Spans, span_within}
+pub use Rattle.fault_model.proofs.StatementOrders.{in_signal_order, level_signal_order}
 pub use Rattle.fault_model.proofs.StatementOrders.{one_level_order, ordered_by_level}

@@ -1,5 +1,6 @@
--- The statements in level order: the circuit in another order, in which each signal has its place
--- in the order as its number.
+-- The statements in an order of signals in which sources ascend: the circuit in another order, in
+-- which each signal has its place in the order as its number. Level order is such an order, and a
+-- circuit has one level order.
 use Rattle.std.proofs.Common.{◌≡◌, ◌<◌, ℕ, zero, suc, refl, sym, ◌∙◌, ap, subst, Bool, true}
 use Rattle.std.proofs.Common.{false, List, [], ◌∷◌, ◌++◌, map, length, filter, get_or, arith, inl}
 use Rattle.std.proofs.Common.{inr, ◌⊎◌, append-nil}
@@ -22,7 +23,8 @@ use Rattle.bench_net.specs.Level.{HasLevel, IsLevelOrder, GoesBefore}
 use Rattle.lists.proofs.Members.{Among, among, contained, among_left, among_right}
 use Rattle.lists.proofs.Places.{at_place, within_place}
 use Rattle.bench_net.proofs.Public.{definition_defines, signal-name_of}
-use Rattle.fault_model.specs.Reordered.{IsReordered, place, in_order, IsOrderedByLevel}
+use Rattle.fault_model.specs.Reordered.{IsReordered, place, in_order, IsOrderedBy}
+use Rattle.fault_model.specs.Reordered.{IsSourceAt, IsSignalOrder}
 use Rattle.fault_model.proofs.SpannedNumbers.{Spans, below, below_within, spans_permuted}
 use Rattle.fault_model.proofs.SpannedNumbers.{Ascending, pairwise, pairwise_filter, kept_all}
 use Rattle.fault_model.proofs.SpannedNumbers.{kept_same, same_ordered, span_within}
@@ -154,7 +156,7 @@ cell_among (Input m ∷ c) n x (inr a) = cell_among c n x a
 
 -- ---- an order that names each signal once, and sources by number
 
-module _ (c : List Statement) (order : List ℕ) (is : IsLevelOrder c order) where
+module _ (c : List Statement) (order : List ℕ) (is : IsSignalOrder c order) where
   abbrev defining : List Statement
   defining = filter defines c
 
@@ -219,16 +221,12 @@ module _ (c : List Statement) (order : List ℕ) (is : IsLevelOrder c order) whe
     abbrev given : ℕ → Option X
     given s = option_and_then g (definition c s)
 
-    source_level : (s k : ℕ) → is_some (given s) ≡ true → HasLevel c s k → k ≡ 0
-    source_level s k some h = go (definition c s) refl some
+    -- what gives something is a source
+    given_source : (s : ℕ) → is_some (given s) ≡ true → IsSourceAt c s
+    given_source s some = go (definition c s) refl some
       where
-        by_name : (n : Name) → name_of c s ≡ Some n → Among n (sources c) → k ≡ 0
-        by_name n named a =
-            let same : h.1 ≡ n = ap (λ o. unwrap_or o n) (sym h.3 ∙ named) in
-            sym h.4 ∙ (ap h.0 same ∙ h.2.source n (contained (sources c) n a))
-
         go : (o : Option Statement) → definition c s ≡ o
-            → is_some (option_and_then g (definition c s)) ≡ true → k ≡ 0
+            → is_some (option_and_then g (definition c s)) ≡ true → IsSourceAt c s
         go None e some = let bad : false ≡ true = rw e at some in cc
         go (Some (Output n)) e some = let bad : false ≡ true = rw (e, no_output n) at some in cc
         go (Some (Gate n kind args)) e some =
@@ -237,28 +235,22 @@ module _ (c : List Statement) (order : List ℕ) (is : IsLevelOrder c order) whe
             let by = definition_defines c s (Input n) e in
             let same : n ∷ [] ≡ by.0 ∷ [] = by.1 in
             let name : by.0 ≡ n = cc in
-            by_name n (by.2 ∙ ap Some name)
-            (among_left (inputs c) (map (λ cell. cell.0) (cells c)) n (input_among c n by.3))
+            let a = among_left (inputs c) (map (λ cell. cell.0) (cells c)) n
+            (input_among c n by.3) in
+            (n, by.2 ∙ ap Some name, contained (sources c) n a)
         go (Some (Dff n x)) e some =
             let by = definition_defines c s (Dff n x) e in
             let same : n ∷ [] ≡ by.0 ∷ [] = by.1 in
             let name : by.0 ≡ n = cc in
-            by_name n (by.2 ∙ ap Some name)
-            (among_right (inputs c) (map (λ cell. cell.0) (cells c)) n (cell_among c n x by.3))
-
-    by_number : (s t : ℕ) → is_some (given s) ≡ true → is_some (given t) ≡ true
-        → GoesBefore c s t → s < t
-    by_number s t one two before = go before.4
-      where
-        go : (before.0 < before.1) ⊎ ((before.0 ≡ before.1) × (s < t)) → s < t
-        go (inl lt) =
-            let last : before.1 ≡ 0 = source_level t before.1 two before.3 in
-            absurd (omega (arith, lt, last))
-        go (inr p) = p.1
+            let a = among_right (inputs c) (map (λ cell. cell.0) (cells c)) n
+            (cell_among c n x by.3) in
+            (n, by.2 ∙ ap Some name, contained (sources c) n a)
 
     ascending : Ascending (filter (λ s. is_some (given s)) order)
-    ascending = pairwise_filter (GoesBefore c) (λ s t. s < t) (λ s. is_some (given s)) order
-        by_number (pairwise (GoesBefore c) order is.ordered)
+    ascending = pairwise_filter (λ s t. IsSourceAt c s → IsSourceAt c t → s < t) (λ s t. s < t)
+        (λ s. is_some (given s)) order
+        (λ s t one two up. up (given_source s one) (given_source t two))
+        (pairwise (λ s t. IsSourceAt c s → IsSourceAt c t → s < t) order is.ascending)
 
     same_given : filter_map g (in_order c order) ≡ filter_map g c
     same_given =
@@ -339,8 +331,8 @@ module _ (c : List Statement) (order : List ℕ) (is : IsLevelOrder c order) whe
       ∙ ap (λ ns. ns ++ names (filter_map (definition c) order)) (others_define c))
       ∙ named_at order within i s e
 
-  pub ordered_by_level : IsWellFormed c → IsOrderedByLevel c order
-  ordered_by_level well = record { reordered = reordered; places = places }
+  pub in_signal_order : IsWellFormed c → IsOrderedBy c order
+  in_signal_order well = record { reordered = reordered; places = places }
     where
       places : (i s : ℕ) → slice_get order i ≡ Some s → place c (in_order c order) s ≡ i
       places i s e =
@@ -352,6 +344,34 @@ module _ (c : List Statement) (order : List ℕ) (is : IsLevelOrder c order) whe
           let there = contained (names d) at.0 (at_place (names d) i at.0 named) in
           ap (λ o. option_map_or (signal d) o s) at.1
           ∙ signal-name_of d i at.0 (well_reordered c d all_statements well).once named there
+
+-- ---- level order is such an order: sources have level 0, and so go by number
+
+source_level : (c : List Statement) (s k : ℕ) → IsSourceAt c s → HasLevel c s k → k ≡ 0
+source_level c s k source h =
+    let same : h.1 ≡ source.0 = ap (λ o. unwrap_or o source.0) (sym h.3 ∙ source.1) in
+    sym h.4 ∙ (ap h.0 same ∙ h.2.source source.0 source.2)
+
+by_number : (c : List Statement) (s t : ℕ) → GoesBefore c s t → IsSourceAt c s → IsSourceAt c t → s < t
+by_number c s t before one two = go before.4
+  where
+    go : (before.0 < before.1) ⊎ ((before.0 ≡ before.1) × (s < t)) → s < t
+    go (inl lt) =
+        let last : before.1 ≡ 0 = source_level c t before.1 two before.3 in
+        absurd (omega (arith, lt, last))
+    go (inr p) = p.1
+
+pub level_signal_order : (c : List Statement) (order : List ℕ) → IsLevelOrder c order
+    → IsSignalOrder c order
+level_signal_order c order is = record {
+  all = is.all;
+  count = is.count;
+  ascending = λ i j d lt len. by_number c _ _ (is.ordered i j d lt len);
+}
+
+pub ordered_by_level : (c : List Statement) (order : List ℕ) → IsLevelOrder c order
+    → IsWellFormed c → IsOrderedBy c order
+ordered_by_level c order is = in_signal_order c order (level_signal_order c order is)
 
 -- ---- there is one level order
 
@@ -378,9 +398,13 @@ module _ (c : List Statement) (well : IsWellFormed c) where
       go (inr e) (inl lt) = let same = e.0 in omega (arith, lt, same, first, second)
       go (inr e) (inr g) = let lt = e.1 in let more = g.1 in omega (arith, lt, more)
 
+  into_level_order : (a b : List ℕ) → IsLevelOrder c a → IsLevelOrder c b → (s : ℕ) → Among s a
+      → Among s b
+  into_level_order a b p q s at =
+      let lt = within c a (level_signal_order c a p) s at in
+      among b s (q.all s (subst (λ n. s < n) (defining_count c) lt))
+
   pub one_level_order : (a b : List ℕ) → IsLevelOrder c a → IsLevelOrder c b → a ≡ b
   one_level_order a b p q =
       same_ordered (GoesBefore c) one_way a b (pairwise (GoesBefore c) a p.ordered)
-      (pairwise (GoesBefore c) b q.ordered)
-      (λ s at. among b s (q.all s (subst (λ n. s < n) (defining_count c) (within c a p s at))))
-      (λ s at. among a s (p.all s (subst (λ n. s < n) (defining_count c) (within c b q s at))))
+      (pairwise (GoesBefore c) b q.ordered) (into_level_order a b p q) (into_level_order b a q p)

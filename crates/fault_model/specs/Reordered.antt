@@ -1,7 +1,7 @@
 -- A circuit whose statements stand in another order: the same signals by other numbers, and so the
 -- same faults on other lines.
 use Rattle.std.specs.Prelude.{◌≡◌, ◌↔◌, ◌<◌, ℕ, Bool, not, List, ◌++◌, map, filter, length}
-use Rattle.std.specs.Prelude.{Contains, IsPermutation, Option, Some, option_map, slice_get}
+use Rattle.std.specs.Prelude.{AllPairs, Contains, IsPermutation, Option, Some, option_map, slice_get}
 use Rattle.std.specs.List.{filter_map}
 use Rattle.std.specs.Option.{option_map_or}
 use Rattle.bench_net.specs.declared.Kind.{Kind}
@@ -9,7 +9,7 @@ use Rattle.bench_net.specs.declared.Sink.{Sink}
 use Rattle.bench_net.specs.declared.Sink.TheVariants as sink
 use Rattle.bench_net.specs.Statement.{Name, Statement, defines}
 use Rattle.bench_net.specs.Scan.{names, name_of, signal, definition, gate_of, inputs, outputs}
-use Rattle.bench_net.specs.Scan.{cells, sinks}
+use Rattle.bench_net.specs.Scan.{cells, sinks, sources}
 use Rattle.bench_net.specs.Level.{HasLevel}
 use Rattle.fault_model.specs.declared.Line.{Line}
 use Rattle.fault_model.specs.declared.Line.TheVariants as line
@@ -96,8 +96,18 @@ IsDetectedSameAt c d = (tests : List Test) (f : Fault) (t : ℕ)
 abbrev pub in_order : List Statement → List ℕ → List Statement
 in_order c order = filter (λ s. not (defines s)) c ++ filter_map (definition c) order
 
--- in level order the statements are the same circuit, in which each signal has its place in the
+-- the signal of this number is a source
+abbrev pub IsSourceAt : List Statement → ℕ → Type 0
+IsSourceAt c s = (n : Name) × (name_of c s ≡ Some n) × Contains (sources c) n
+
+-- the numbers of all signals, in which those of sources ascend
+pub record IsSignalOrder (c : List Statement) (order : List ℕ) : Type 0 where
+  pub all : (s : ℕ) → s < length (names c) → Contains order s
+  pub count : length order ≡ length (names c)
+  pub ascending : AllPairs (λ s t. IsSourceAt c s → IsSourceAt c t → s < t) order
+
+-- in such an order the statements are the same circuit, in which each signal has its place in the
 -- order as its number
-pub record IsOrderedByLevel (c : List Statement) (order : List ℕ) : Type 0 where
+pub record IsOrderedBy (c : List Statement) (order : List ℕ) : Type 0 where
   pub reordered : IsReordered c (in_order c order)
   pub places : (i s : ℕ) → slice_get order i ≡ Some s → place c (in_order c order) s ≡ i

@@ -18,7 +18,7 @@ ghost use Rattle.fault_model.specs.Laws.{HasClasses, ClassesDetectSame, Represen
 ghost use Rattle.fault_model.specs.Laws.{DetectionIsOfAnySolution};
 ghost use Rattle.fault_model.specs.Reordered.{IsReordered, HasSameSignals, HasSameSinks};
 ghost use Rattle.fault_model.specs.Reordered.{IsSolvedSame, IsDetectedSame, HasSameBits};
-ghost use Rattle.fault_model.specs.Reordered.{IsDetectedSameAt, IsOrderedByLevel};
+ghost use Rattle.fault_model.specs.Reordered.{IsDetectedSameAt, IsOrderedBy, IsSignalOrder};
 ghost use Rattle.fault_model.specs.Laws.{HavePairsClassOfTransitions};
 ghost use Rattle.fault_model.specs.Laws.{HavePairsClassesOfTransitions};
 
@@ -66,8 +66,9 @@ pub fn detection()
 
 /// A circuit whose statements stand in another order has the same signals by other numbers: the
 /// same valuations solve it, and the same tests detect a fault on the line that its line moves to.
-/// So a simulator may number signals as it likes. In level order a signal's number is its place in
-/// the order, and a circuit has one level order.
+/// So a simulator may number signals as it likes. In an order in which the numbers of sources ascend
+/// a signal's number is its place in the order. The level order is one of these, and a circuit has
+/// one level order.
 pub fn reordering()
     ensures circuit { (c d : List Statement) → IsReordered c d → IsCircuit c → IsCircuit d }
     ensures signals { (c d : List Statement) → IsWellFormed c → IsReordered c d
@@ -82,8 +83,10 @@ pub fn reordering()
         → HasSameBits c d }
     ensures detected_same_at { (c d : List Statement) → IsWellFormed c → IsReordered c d
         → IsDetectedSameAt c d }
+    ensures in_order { (c : List Statement) (order : List ℕ) → IsWellFormed c
+        → IsSignalOrder c order → IsOrderedBy c order }
     ensures by_level { (c : List Statement) (order : List ℕ) → IsWellFormed c
-        → IsLevelOrder c order → IsOrderedByLevel c order }
+        → IsLevelOrder c order → IsOrderedBy c order }
     ensures one_order { (c : List Statement) (order other : List ℕ) → IsWellFormed c
         → IsLevelOrder c order → IsLevelOrder c other → order ≡ other }
 {}

@@ -3,7 +3,8 @@ use Rattle.fault_model.proofs.ReorderedSignals.{same_signals}
 use Rattle.fault_model.proofs.ReorderedSinks.{same_sinks}
 use Rattle.fault_model.proofs.ReorderedSolutions.{solved_same, detected_same, same_bits}
 use Rattle.fault_model.proofs.ReorderedSolutions.{detected_same_at}
-use Rattle.fault_model.proofs.StatementOrders.{one_level_order, ordered_by_level}
+use Rattle.fault_model.proofs.StatementOrders.{in_signal_order, one_level_order}
+use Rattle.fault_model.proofs.StatementOrders.{ordered_by_level}
 use Rattle.fault_model.proofs.laws.reordering.Goals as goal
 
 pub returns-clause-circuit : goal.returns-clause-circuit
@@ -26,6 +27,9 @@ returns-clause-same_bits c = same_bits
 
 pub returns-clause-detected_same_at : goal.returns-clause-detected_same_at
 returns-clause-detected_same_at c = detected_same_at
+
+pub returns-clause-in_order : goal.returns-clause-in_order
+returns-clause-in_order goal c order well is = in_signal_order c order is well
 
 pub returns-clause-by_level : goal.returns-clause-by_level
 returns-clause-by_level goal c order well is = ordered_by_level c order is well
