@@ -5,7 +5,8 @@ mod GateLanes
 mod Equations
 mod LevelOrder
 mod LiveSignals
-mod LevelPass
+mod FlowOrder
+mod FlowPass
 mod Rows
 mod Representatives
 mod DataPins
@@ -50,11 +51,13 @@ mod KeptOutcomes
 mod RegionHits
 mod ResponseRows
 mod PlaceTables
-mod LevelledSignals
-mod LevelledWords
+mod Keys
+mod SortedKeys
+mod ArrangedSignals
+mod ArrangedWords
 mod ReorderedReaders
 mod ReorderedGates
-mod LevelledRows
+mod ArrangedRows
 pub mod Public
 mod Ways
 mod Groups

@@ -16,8 +16,8 @@ view_of parts = record {
 
 -- they are those of a job
 abbrev pub IsWhole : JobParts → Type 0
-IsWhole parts = IsJob (view_of parts) parts.flat.levelled (map (λ row. row.items) parts.rows.items)
-    parts.class_stems.items parts.next_in_region.items parts.origins.items
+IsWhole parts = IsJob (view_of parts) parts.flat.arranged (map (λ row. row.items) parts.rows.items)
+    parts.class_stems.items parts.next_in_region.items parts.representatives.items
 
 pub whole : {lent own : JobParts} → lent ≡ own → IsWhole own → IsWhole lent
 whole same is = subst IsWhole (sym same) is

@@ -64,7 +64,7 @@ module _ (c d : List Statement) (well : IsWellFormed c) (is : IsReordered c d) w
     of = refl;
   }
 
-  reads_back : (g s : ℕ) → Reads d g (place c d s)
+  pub reads_back : (g s : ℕ) → Reads d g (place c d s)
       → (h : ℕ) × (g ≡ place c d h) × Reads c h s
   unfolding reads_here
   reads_back g s r =

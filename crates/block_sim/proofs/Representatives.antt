@@ -1,6 +1,6 @@
 -- The number that a class keeps of its representative names the representative in the fault list.
 use Rattle.std.proofs.Common.{◌≡◌, ◌<◌, ℕ, zero, suc, refl, sym, ◌∙◌, ap, subst, Bool, List, []}
-use Rattle.std.proofs.Common.{◌∷◌, length}
+use Rattle.std.proofs.Common.{◌∷◌, ◌++◌, ◌⊎◌, inl, inr, length}
 use Rattle.std.specs.Prelude.{Contains, Option, Some, None, IfSome, map, slice_get, unwrap_or}
 use Rattle.bench_net.specs.Statement.{Statement}
 use Rattle.lists.proofs.Members.{contained}
@@ -10,6 +10,9 @@ use Rattle.fault_model.specs.declared.Model.{Model}
 use Rattle.fault_model.specs.Fault.{Fault, FaultList, fault_list, faults}
 use Rattle.fault_model.specs.Collapse.{Collapsed, AreClassesOf, representatives}
 use Rattle.fault_model.proofs.Public.{listed_model}
+use Rattle.block_sim.specs.declared.words.Stuck.{Stuck}
+use Rattle.block_sim.specs.Origins.{HaveRepresentatives, IsRepresentativeIn}
+use Rattle.block_sim.proofs.Rows.{pushed_get}
 
 -- where the elements of one list are found as those of another, the one at a place is
 found_at : {X : Type 0} (find : ℕ → Option X) (xs : List ℕ) (ys : List X) (i k : ℕ)
@@ -76,3 +79,18 @@ fault_is m c list classes class k own l bit are e at same p q =
         stuck = bit;
       })) (sym same) (subst (Contains (faults m c)) one here),
     )
+
+-- the list of representatives of the first classes and that of the next one
+pub representatives_more : (m : Model) (c : List Statement) (stucks : List Stuck) (stuck : Stuck)
+    (class : ℕ) → length stucks ≡ class → HaveRepresentatives m c stucks
+    → IsRepresentativeIn m c class stuck → HaveRepresentatives m c (stucks ++ stuck ∷ [])
+representatives_more m c stucks stuck class count before is k own at =
+    go (pushed_get stucks stuck own k at)
+  where
+    go : (slice_get stucks k ≡ Some own) ⊎ ((k ≡ length stucks) × (stuck ≡ own))
+        → IsRepresentativeIn m c k own
+    go (inl h) = before k own h
+    go (inr h) =
+        let same : class ≡ k = sym count ∙ sym h.0 in
+        subst (λ n. IsRepresentativeIn m c n own) same
+        (subst (IsRepresentativeIn m c class) h.1 is)

@@ -1,10 +1,12 @@
 -- Rows of words, one a group.
 use Rattle.std.proofs.Common.{◌≡◌, ◌<◌, ℕ, zero, suc, refl, sym, ◌∙◌, ap, subst, List, [], ◌∷◌}
 use Rattle.std.proofs.Common.{◌++◌, length, arith, inl, inr, ◌⊎◌}
-use Rattle.std.specs.Prelude.{Some, None, map, slice_get, slice_index_or, unwrap_or}
+use Rattle.std.specs.Prelude.{All, Some, None, map, slice_get, slice_index_or, unwrap_or}
+use Rattle.std.proofs.lemmas.Option.{get_or_from_slice_get}
 use Rattle.bench_net.specs.Statement.{Statement}
 use Rattle.bench_net.specs.Scan.{names}
 use Rattle.fault_model.specs.Solution.{Test}
+use Rattle.lists.proofs.Places.{place_within}
 use Rattle.block_sim.specs.Words.{AreWords}
 use Rattle.block_sim.specs.Job.{AreFaultFree}
 
@@ -42,3 +44,9 @@ rows_more c tests rows row group count before room words b r at = go (pushed_get
           subst (λ n. AreWords c tests n None r) same
               (subst (AreWords c tests group None) h.1 words),
         )
+
+-- what is so of each row is so of the row at a place
+pub each_row : (P : List ℕ → Type 0) (rows : List (List ℕ)) (at : ℕ) (row : List ℕ) → All P rows
+    → slice_get rows at ≡ Some row → P row
+each_row P rows at row all is = subst P (get_or_from_slice_get rows at row [] is)
+    (all at [] (place_within rows at row is))

@@ -8,7 +8,7 @@ use Rattle.std.specs.Option.{option_map}
 use Rattle.bench_net.specs.Statement.{Statement}
 use Rattle.bench_net.specs.Scan.{names, gate_of}
 use Rattle.bench_net.specs.Circuit.{IsCircuit}
-use Rattle.bench_net.specs.Level.{HasLevel, IsLevelOrder}
+use Rattle.bench_net.specs.Level.{HasLevel}
 use Rattle.fault_model.specs.Reordered.{in_order}
 use Rattle.block_sim.specs.declared.flat.Driver.{Driver}
 use Rattle.block_sim.specs.declared.flat.Row.{Row}
@@ -16,7 +16,7 @@ use Rattle.block_sim.specs.declared.flat.Reader.{Reader}
 use Rattle.block_sim.specs.declared.flat.Standing.{Standing}
 use Rattle.block_sim.specs.Events.{Reads, IsObserved, IsLive}
 use Rattle.block_sim.specs.Forms.{IsFormOf}
-use Rattle.block_sim.specs.Levelled.{ArePlaces}
+use Rattle.block_sim.specs.Arranged.{ArePlaces, IsFlowOrder}
 use Rattle.block_sim.specs.Regions.{lone_reader}
 
 -- each reader is a live gate that reads the signal, with its level, and each such gate is among
@@ -87,20 +87,20 @@ pub record IsFlat (c : List Statement) (pins : List ℕ) (readers : List Reader)
   pub stand : length standings ≡ length (names c)
   pub standing : AreStandings c standings
 
--- the lists have the signals of a circuit in level order, the place of each there, and whether it
--- is live
-pub record AreLevels (c : List Statement) (order places : List ℕ) (live : List Bool) : Type 0 where
+-- the lists have the signals of a circuit in the order of their places, the place of each, and
+-- whether it is live
+pub record ArePlaced (c : List Statement) (order places : List ℕ) (live : List Bool) : Type 0 where
   pub circuit : IsCircuit c
-  pub ordered : IsLevelOrder c order
+  pub ordered : IsFlowOrder c order
   pub room : length places ≡ length (names c)
   pub placed : ArePlaces c (in_order c order) places
   pub live_room : length live ≡ length (names c)
   pub alive : AreLive c live
 
--- the same without what is live, and the flat lists of the circuit in level order
-pub record IsLevelledFlat (c : List Statement) (order places pins : List ℕ) (readers : List Reader)
+-- the same without what is live, and the flat lists of the circuit in that order
+pub record IsArrangedFlat (c : List Statement) (order places pins : List ℕ) (readers : List Reader)
     (rows : List Row) (standings : List Standing) : Type 0 where
-  pub ordered : IsLevelOrder c order
+  pub ordered : IsFlowOrder c order
   pub room : length places ≡ length (names c)
   pub placed : ArePlaces c (in_order c order) places
   pub flat : IsFlat (in_order c order) pins readers rows standings

@@ -3,11 +3,11 @@ use Rattle.std.specs.Prelude.{◌≡◌, ℕ, ◌<◌, All, List, length, Some, 
 use Rattle.bench_net.specs.Statement.{Statement}
 use Rattle.bench_net.specs.Scan.{names}
 use Rattle.fault_model.specs.Solution.{Test}
-use Rattle.block_sim.specs.Origins.{HaveOrigins}
+use Rattle.block_sim.specs.Origins.{HaveRepresentatives}
 use Rattle.block_sim.specs.Parts.{Parts, BelongTogether}
 use Rattle.block_sim.specs.Regions.{HaveStems}
 use Rattle.block_sim.specs.Spans.{groups}
-use Rattle.block_sim.specs.declared.origin.Origin.{Origin}
+use Rattle.block_sim.specs.declared.words.Stuck.{Stuck}
 use Rattle.block_sim.specs.Words.{AreWords}
 
 -- the words of the first groups without a fault, one row of words a group
@@ -15,16 +15,16 @@ abbrev pub AreFaultFree : List Statement → List Test → List (List ℕ) → T
 AreFaultFree c tests rows = (group : ℕ) (row : List ℕ) → slice_get rows group ≡ Some row
     → (length row ≡ length (names c)) × AreWords c tests group None row
 
--- The parts belong together, the rows are the fault-free words of all groups, of the signals in
--- level order, and each class has its stem, a next class, and what its simulation starts from.
-pub record IsJob (parts : Parts) (levelled : List Statement) (rows : List (List ℕ))
-    (class_stems next : List ℕ) (origins : List Origin) : Type 0 where
+-- The parts belong together, the rows are the fault-free words of all groups, of the signals in the
+-- order of their places, and each class has its stem, a next class, and its representative.
+pub record IsJob (parts : Parts) (arranged : List Statement) (rows : List (List ℕ))
+    (class_stems next : List ℕ) (stucks : List Stuck) : Type 0 where
   pub together : BelongTogether parts
   pub count : length rows ≡ groups (length parts.tests.tests)
-  pub fault_free : AreFaultFree levelled parts.tests.tests rows
+  pub fault_free : AreFaultFree arranged parts.tests.tests rows
   pub stem_count : length class_stems ≡ length parts.classes.representative
   pub stems : HaveStems parts.list.model parts.circuit class_stems
   pub nexts : length next ≡ length parts.classes.representative
   pub next_within : All (λ class. class < length parts.classes.representative) next
-  pub origin_count : length origins ≡ length parts.classes.representative
-  pub origins_are : HaveOrigins parts.list.model parts.circuit origins
+  pub stuck_count : length stucks ≡ length parts.classes.representative
+  pub stucks_are : HaveRepresentatives parts.list.model parts.circuit stucks

@@ -10,7 +10,7 @@ use Rattle.fault_model.specs.Fault.{Fault, faults}
 use Rattle.fault_model.specs.Reordered.{moved_fault}
 use Rattle.block_sim.specs.declared.origin.Listed.{Listed}
 use Rattle.block_sim.specs.declared.origin.Origin.{Origin}
-use Rattle.block_sim.specs.Levelled.{IsLevelled}
+use Rattle.block_sim.specs.declared.words.Stuck.{Stuck}
 use Rattle.block_sim.specs.Parts.{Parts}
 use Rattle.block_sim.specs.Regions.{IsStemOfClass}
 use Rattle.block_sim.specs.Stuck.{stuck_fault}
@@ -19,32 +19,35 @@ use Rattle.block_sim.specs.Stuck.{stuck_fault}
 abbrev pub Carries : List Statement → Line → ℕ → Type 0
 Carries c line s = (n : Name) → name_on c line ≡ Some n → s ≡ signal c n
 
--- The simulation of a fault of the circuit starts from the same fault of the circuit in level
--- order, and from the place there of the signal that its line carries.
-pub record Starts (c : List Statement) (f : Fault) (origin : Origin) : Type 0 where
+-- the stuck-at fault is that of a fault of the circuit
+pub record IsStuckOf (c : List Statement) (f : Fault) (stuck : Stuck) : Type 0 where
   pub listed : Contains (faults f.model c) f
-  pub model : origin.fault.model ≡ f.model
-  pub stuck : origin.fault.at_one ≡ f.stuck
-  pub moved : (d : List Statement) → IsLevelled c d → stuck_fault origin.fault ≡ moved_fault c d f
-  pub carried : (d : List Statement) → IsLevelled c d → Carries d origin.fault.line origin.carried
+  pub is : stuck_fault stuck ≡ f
 
--- that of a class of the circuit starts where that of its representative does
-abbrev pub IsOriginIn : Model → List Statement → ℕ → Origin → Type 0
-IsOriginIn m c class origin = (r : Fault) × (slice_get (representatives m c) class ≡ Some r)
-    × Starts c r origin
+-- In a circuit with the same statements in another order the simulation of the fault starts from
+-- the fault that moved, and from the signal that its line carries there.
+pub record Starts (c d : List Statement) (f : Fault) (origin : Origin) : Type 0 where
+  pub listed : Contains (faults f.model c) f
+  pub moved : stuck_fault origin.fault ≡ moved_fault c d f
+  pub carried : Carries d origin.fault.line origin.carried
+
+-- the stuck-at fault is that of a class's representative
+abbrev pub IsRepresentativeIn : Model → List Statement → ℕ → Stuck → Type 0
+IsRepresentativeIn m c class stuck = (r : Fault)
+    × (slice_get (representatives m c) class ≡ Some r) × IsStuckOf c r stuck
 
 -- the same of a class of a job
-abbrev pub IsOriginOf : Parts → ℕ → Origin → Type 0
-IsOriginOf job class origin = IsOriginIn job.list.model job.circuit class origin
+abbrev pub IsRepresentativeOf : Parts → ℕ → Stuck → Type 0
+IsRepresentativeOf job class stuck = IsRepresentativeIn job.list.model job.circuit class stuck
 
--- a list has at its places what the simulation of the first classes starts from
-abbrev pub HaveOrigins : Model → List Statement → List Origin → Type 0
-HaveOrigins m c origins = (class : ℕ) (origin : Origin) → slice_get origins class ≡ Some origin
-    → IsOriginIn m c class origin
+-- a list has those of the first classes
+abbrev pub HaveRepresentatives : Model → List Statement → List Stuck → Type 0
+HaveRepresentatives m c stucks = (class : ℕ) (stuck : Stuck) → slice_get stucks class ≡ Some stuck
+    → IsRepresentativeIn m c class stuck
 
--- a class of the job, with the stem of its region and what its simulation starts from
+-- a class of the job, with the stem of its region and its representative
 pub record IsListed (job : Parts) (row : Listed) : Type 0 where
   pub within : row.class < length job.classes.representative
   pub stem : IsStemOfClass job.list.model job.circuit row.class row.stem
   pub named : row.stem < length (names job.circuit)
-  pub origin : IsOriginOf job row.class row.origin
+  pub stands : IsRepresentativeOf job row.class row.representative

@@ -25,20 +25,20 @@ use fault_model::Line;
 /// gives, for each class that is followed in a lane that it leaves out, a lower lane of that class.
 /// No gate is evaluated where the fault is excited in none of the lanes.
 pub fn effect(view: BlockView<'_>, fault: Stuck, extent: Extent<'_>, changes: &mut Changes) -> u128
-    requires view { HasWords view.circuit.now.levelled view.good.now }
+    requires view { HasWords view.circuit.now.arranged view.good.now }
     requires words { (tests : List Test) × (group : ℕ)
-        × AreWords view.circuit.now.levelled tests group None view.good.now }
-    requires listed { Contains (faults fault.model view.circuit.now.levelled) (stuck_fault fault) }
-    requires room { HasRoomFor view.circuit.now.levelled changes.old }
+        × AreWords view.circuit.now.arranged tests group None view.good.now }
+    requires listed { Contains (faults fault.model view.circuit.now.arranged) (stuck_fault fault) }
+    requires room { HasRoomFor view.circuit.now.arranged changes.old }
     requires clear { IsClear changes.old }
     ensures shown { (tests : List Test) (group : ℕ)
-        → AreWords view.entry.circuit.now.levelled tests group None view.entry.good.now
-        → AreShown view.entry.circuit.now.levelled tests group (λ _. stuck_fault fault)
+        → AreWords view.entry.circuit.now.arranged tests group None view.entry.good.now
+        → AreShown view.entry.circuit.now.arranged tests group (λ _. stuck_fault fault)
         view.entry.good.now view.entry.lanes (IsSettled extent.entry result) result }
     ensures counted { (tests : List Test) (group : ℕ) (gates : List ℕ)
-        → AreWords view.entry.circuit.now.levelled tests group None view.entry.good.now
+        → AreWords view.entry.circuit.now.arranged tests group None view.entry.good.now
         → AreInGroup tests group view.entry.lanes
-        → HasActiveIn view.entry.circuit.now.levelled tests group view.entry.lanes
+        → HasActiveIn view.entry.circuit.now.arranged tests group view.entry.lanes
         (λ _. stuck_fault fault) gates
         → changes.new.evaluations ≤ changes.old.evaluations + length gates }
     ensures grown { changes.old.evaluations ≤ changes.new.evaluations }
@@ -63,14 +63,14 @@ pub fn effect(view: BlockView<'_>, fault: Stuck, extent: Extent<'_>, changes: &m
 /// The lanes, of those that are asked for, in which a fault on a pin of a gate changes the gate's
 /// word.
 pub fn gate_change(view: BlockView<'_>, fault: Stuck, gate: u32, changes: &mut Changes) -> u128
-    requires view { HasWords view.circuit.now.levelled view.good.now }
-    requires room { HasRoomFor view.circuit.now.levelled changes.old }
-    requires gate { gate < length (names view.circuit.now.levelled) }
+    requires view { HasWords view.circuit.now.arranged view.good.now }
+    requires room { HasRoomFor view.circuit.now.arranged changes.old }
+    requires gate { gate < length (names view.circuit.now.arranged) }
     requires driven { (line : Kind × List ℕ)
-        × (gate_of view.circuit.now.levelled gate ≡ Some line) }
+        × (gate_of view.circuit.now.arranged gate ≡ Some line) }
     ensures inside { (k : ℕ) → k < 128 → lane result k ≡ true → lane view.entry.lanes k ≡ true }
     ensures changed { (kind : Kind) (pins : List ℕ) (k : ℕ)
-        → gate_of view.entry.circuit.now.levelled gate ≡ Some (kind, pins) → k < 128
+        → gate_of view.entry.circuit.now.arranged gate ≡ Some (kind, pins) → k < 128
         → lane view.entry.lanes k ≡ true
         → lane (bit_xor (slice_index_or view.entry.good.now gate 0) result) k
         ≡ value kind (pin_bits (Some (stuck_fault fault)) gate pins view.entry.good.now

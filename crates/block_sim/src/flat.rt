@@ -1,5 +1,5 @@
 //! The circuit in flat arrays, as the simulation reads it: a row for each signal, at the
-//! signal's place in level order.
+//! signal's place.
 
 ghost use Rattle.std.specs.Prelude.{◌≡◌, ◌≢◌, ◌↔◌, ◌<◌, ◌≤◌, ◌++◌, ℕ, All, List, IfOk, IfSome};
 ghost use Rattle.std.specs.Prelude.{IfNone, IsTrue, OnOk, Some, length, map, slice_get};
@@ -9,19 +9,20 @@ ghost use Rattle.bench_net.specs.declared.Kind.{Kind};
 ghost use Rattle.bench_net.specs.Statement.{Name};
 ghost use Rattle.bench_net.specs.Scan.{names, name_of, gate_of, sources};
 ghost use Rattle.bench_net.specs.Circuit.{IsCircuit};
-ghost use Rattle.bench_net.specs.Level.{HasLevel, IsLevelOrder};
+ghost use Rattle.bench_net.specs.Level.{HasLevel};
 ghost use Rattle.fault_model.specs.Detection.{name_on};
 ghost use Rattle.fault_model.specs.Known.{only_gate};
 ghost use Rattle.fault_model.specs.Reordered.{in_order, moved_line, place};
 ghost use Rattle.block_sim.specs.Events.{IsLive, IsObserved};
-ghost use Rattle.block_sim.specs.Flat.{AreLevels, AreReaders, HasMore, IsDriver, IsFlat, IsRow};
+ghost use Rattle.block_sim.specs.Flat.{ArePlaced, AreReaders, HasMore, IsDriver, IsFlat, IsRow};
 ghost use Rattle.block_sim.specs.Flat.{HasEnds, IsStanding};
 ghost use Rattle.block_sim.specs.Forms.{IsFormOf};
-ghost use Rattle.block_sim.specs.Levelled.{ArePlaces, IsLevelled};
+ghost use Rattle.block_sim.specs.Arranged.{ArePlaces, IsArranged, IsFlowOrder};
 ghost use Rattle.block_sim.specs.Regions.{lone_reader};
 
 use crate::form::Form;
 use crate::live::live_signals;
+use crate::order::flow_order;
 use crate::places::places_of;
 use bench_net::{Circuit, Kind, Sink};
 use fault_model::Line;
@@ -101,9 +102,10 @@ struct Lists {
 
 /// A circuit with what a simulation asks of its signals in flat arrays.
 ///
-/// The simulation goes from gates to the gates that read them, level by level. So what it reads of
-/// signals stands in level order: a signal's number in the lists, its place, is that in the circuit
-/// with its statements in level order.
+/// The simulation goes from gates to the gates that read them. So what it reads of signals stands in
+/// an order in which gates that stand near in the circuit stand near, and each behind the signals
+/// that it reads: a signal's number in the lists, its place, is that in the circuit with its
+/// statements in this order.
 #[derive(Drop)]
 pub struct FlatCircuit {
     circuit: Circuit,
@@ -116,17 +118,17 @@ pub struct FlatCircuit {
 
 impl Model for FlatCircuit {
     ghost use Rattle.fault_model.specs.Reordered.{in_order};
-    ghost use Rattle.block_sim.specs.Flat.{IsLevelledFlat};
-    ghost use Rattle.block_sim.specs.Levelled.{Levelled};
+    ghost use Rattle.block_sim.specs.Flat.{IsArrangedFlat};
+    ghost use Rattle.block_sim.specs.Arranged.{Arranged};
 
-    ghost Value = { Levelled };
+    ghost Value = { Arranged };
 
     ghost view = { λ flat. record {
       statements = flat.circuit;
-      levelled = in_order flat.circuit flat.order.items;
+      arranged = in_order flat.circuit flat.order.items;
     } };
 
-    ghost invariant = { λ flat. IsLevelledFlat flat.circuit flat.order.items flat.places.items
+    ghost invariant = { λ flat. IsArrangedFlat flat.circuit flat.order.items flat.places.items
         flat.lists.pins.items flat.lists.readers.items flat.lists.rows.items
         flat.lists.standings.items };
 }
@@ -137,8 +139,8 @@ impl FlatCircuit {
     pub fn new(alloc: Global, circuit: Circuit) -> Result<FlatCircuit, AllocError>
         ensures { IfOk result (λ flat. flat.statements ≡ circuit) }
     {
-        let order = level_order(alloc, &circuit)?;
-        let places = places_of(alloc, &circuit)?;
+        let order = flow_order(alloc, &circuit)?;
+        let places = places_of(alloc, &circuit, order.as_slice())?;
         let lists = lists_of(alloc, &circuit, order.as_slice(), places.as_slice())?;
         Ok(FlatCircuit {
             circuit,
@@ -158,11 +160,11 @@ impl FlatCircuit {
 
     /// The number of signals.
     pub fn signals(&self) -> u32
-        ensures count { result ≡ length (names self.now.levelled) }
+        ensures count { result ≡ length (names self.now.arranged) }
         ensures given_count { result ≡ length (names self.now.statements) }
-        ensures circuit { IsCircuit self.now.levelled }
+        ensures circuit { IsCircuit self.now.arranged }
         ensures given { IsCircuit self.now.statements }
-        ensures levelled { IsLevelled self.now.statements self.now.levelled }
+        ensures arranged { IsArranged self.now.statements self.now.arranged }
     {
         self.circuit.signals()
     }
@@ -170,40 +172,50 @@ impl FlatCircuit {
     /// The greatest level of a signal.
     #[inline(always)]
     pub fn depth(&self) -> u32
-        ensures { (signal : ℕ) → signal < length (names self.now.levelled)
-            → (level : ℕ) × HasLevel self.now.levelled signal level × (level ≤ result) }
+        ensures { (signal : ℕ) → signal < length (names self.now.arranged)
+            → (level : ℕ) × HasLevel self.now.arranged signal level × (level ≤ result) }
     {
         let _signals = self.circuit.signals();
         self.circuit.depth()
     }
 
-    /// The place of a signal in level order.
+    /// The place of a signal.
     #[inline(always)]
     pub fn place_of(&self, signal: u32) -> u32
         requires { signal < length (names self.now.statements) }
-        ensures place { result ≡ place self.now.statements self.now.levelled signal }
-        ensures within { result < length (names self.now.levelled) }
+        ensures place { result ≡ place self.now.statements self.now.arranged signal }
+        ensures within { result < length (names self.now.arranged) }
     {
         let _signals = self.circuit.signals();
         self.places[signal as usize]
     }
 
-    /// The signal at a place in level order.
+    /// The signal at a place.
     #[inline(always)]
     pub fn signal_at(&self, at: u32) -> u32
-        requires { at < length (names self.now.levelled) }
-        ensures place { place self.now.statements self.now.levelled result ≡ at }
+        requires { at < length (names self.now.arranged) }
+        ensures place { place self.now.statements self.now.arranged result ≡ at }
         ensures within { result < length (names self.now.statements) }
     {
         let _signals = self.circuit.signals();
         self.order[at as usize]
     }
 
+    /// For each signal its place, by the signal's number.
+    pub fn places(&self) -> &[u32]
+        ensures count { length result.now ≡ length (names self.now.statements) }
+        ensures arranged { IsArranged self.now.statements self.now.arranged }
+        ensures places { ArePlaces self.now.statements self.now.arranged result.now }
+    {
+        let _signals = self.circuit.signals();
+        self.places.as_slice()
+    }
+
     /// The places of signals, in their order.
     pub fn placed(&self, alloc: Global, signals: &[u32]) -> Result<Vec<u32>, AllocError>
         requires { All (λ signal. signal < length (names self.now.statements)) signals.now }
         ensures { IfOk result (λ placed. placed.items
-            ≡ map (place self.now.statements self.now.levelled) signals.now) }
+            ≡ map (place self.now.statements self.now.arranged) signals.now) }
     {
         let _signals = self.circuit.signals();
         let mut placed = Vec::new(alloc);
@@ -214,7 +226,7 @@ impl FlatCircuit {
     /// The line of the circuit as the lists have it.
     pub fn moved_line(&self, line: Line) -> Line
         requires { (n : Name) × (name_on self.now.statements line ≡ Some n) }
-        ensures { result ≡ moved_line self.now.statements self.now.levelled line }
+        ensures { result ≡ moved_line self.now.statements self.now.arranged line }
     {
         match line {
             Line::Stem(signal) => Line::Stem(self.place_of(signal)),
@@ -228,11 +240,11 @@ impl FlatCircuit {
 
     /// The place of a signal in a test row, from 0; `None` for the signal of a gate.
     pub fn source_of(&self, signal: u32) -> Option<u32>
-        requires { signal < length (names self.now.levelled) }
+        requires { signal < length (names self.now.arranged) }
         ensures place { IfSome result (λ i.
-            slice_get (sources self.now.levelled) i ≡ name_of self.now.levelled signal) }
+            slice_get (sources self.now.arranged) i ≡ name_of self.now.arranged signal) }
         ensures none { IfNone result ((i : ℕ) →
-            slice_get (sources self.now.levelled) i ≢ name_of self.now.levelled signal) }
+            slice_get (sources self.now.arranged) i ≢ name_of self.now.arranged signal) }
     {
         let _signals = self.circuit.signals();
         self.circuit.source_of(self.order[signal as usize])
@@ -241,9 +253,9 @@ impl FlatCircuit {
     /// The gate that drives a signal; `None` for a source.
     #[inline(always)]
     pub fn gate_of(&self, signal: u32) -> Option<Gate<'_>>
-        requires { signal < length (names self.now.levelled) }
+        requires { signal < length (names self.now.arranged) }
         ensures gate { option_map {U = Kind × List ℕ} (λ g. (g.kind, g.pins.now)) result
-            ≡ gate_of self.now.levelled signal }
+            ≡ gate_of self.now.arranged signal }
         ensures form { IfSome result (λ g. IsFormOf g.kind g.form) }
         ensures ends { IfSome result (λ g. HasEnds g.pins.now g.first g.last) }
     {
@@ -264,8 +276,8 @@ impl FlatCircuit {
     /// it twice may stand there twice.
     #[inline(always)]
     pub fn readers_of(&self, signal: u32) -> &[Reader]
-        requires { signal < length (names self.now.levelled) }
-        ensures { AreReaders self.now.levelled signal result.now }
+        requires { signal < length (names self.now.arranged) }
+        ensures { AreReaders self.now.arranged signal result.now }
     {
         let row = &self.lists.rows[signal as usize];
         &self.lists.readers[row.readers_start as usize..row.readers_end as usize]
@@ -275,8 +287,8 @@ impl FlatCircuit {
     /// no pin or several pins read, or an observer.
     #[inline(always)]
     pub fn lone_reader(&self, signal: u32) -> Option<u32>
-        requires { signal < length (names self.now.levelled) }
-        ensures { result ≡ lone_reader self.now.levelled signal }
+        requires { signal < length (names self.now.arranged) }
+        ensures { result ≡ lone_reader self.now.arranged signal }
     {
         self.lists.standings[signal as usize].lone_reader
     }
@@ -284,8 +296,8 @@ impl FlatCircuit {
     /// Whether an observer observes a signal.
     #[inline(always)]
     pub fn is_observed(&self, signal: u32) -> bool
-        requires { signal < length (names self.now.levelled) }
-        ensures { IsTrue result ↔ IsObserved self.now.levelled signal }
+        requires { signal < length (names self.now.arranged) }
+        ensures { IsTrue result ↔ IsObserved self.now.arranged signal }
     {
         self.lists.rows[signal as usize].observed
     }
@@ -293,8 +305,8 @@ impl FlatCircuit {
     /// Whether a signal is live: whether an observer is reached from it.
     #[inline(always)]
     pub fn is_live(&self, signal: u32) -> bool
-        requires { signal < length (names self.now.levelled) }
-        ensures { IsTrue result ↔ IsLive self.now.levelled signal }
+        requires { signal < length (names self.now.arranged) }
+        ensures { IsTrue result ↔ IsLive self.now.arranged signal }
     {
         self.lists.standings[signal as usize].live
     }
@@ -302,39 +314,31 @@ impl FlatCircuit {
     /// The level of a signal.
     #[inline(always)]
     pub fn level_of(&self, signal: u32) -> u32
-        requires { signal < length (names self.now.levelled) }
-        ensures { HasLevel self.now.levelled signal result }
+        requires { signal < length (names self.now.arranged) }
+        ensures { HasLevel self.now.arranged signal result }
     {
         self.lists.standings[signal as usize].level
     }
 }
 
-/// The signals of a circuit in level order.
-fn level_order(alloc: Global, circuit: &Circuit) -> Result<Vec<u32>, AllocError>
-    ensures { IfOk result (λ order. IsLevelOrder circuit.now order.items) }
-{
-    let mut order = Vec::new(alloc);
-    order.extend_from_slice(circuit.in_level_order())?;
-    Ok(order)
-}
-
-/// A circuit with the signals in level order, the place of each there, and whether it is live.
+/// A circuit with the signals in the order of their places, the place of each, and whether it is
+/// live.
 #[derive(Clone, Copy)]
-struct Levels<'a> {
+struct Placed<'a> {
     circuit: &'a Circuit,
     order: &'a [u32],
     places: &'a [u32],
     live: &'a [bool],
 }
 
-/// The lists of a circuit in level order.
+/// The lists of a circuit in the order of its signals.
 fn lists_of(
     alloc: Global,
     circuit: &Circuit,
     order: &[u32],
     places: &[u32],
 ) -> Result<Lists, AllocError>
-    requires order { IsLevelOrder circuit.now order.now }
+    requires order { IsFlowOrder circuit.now order.now }
     requires room { length places.now ≡ length (names circuit.now) }
     requires places { ArePlaces circuit.now (in_order circuit.now order.now) places.now }
     ensures { IfOk result (λ lists. IsFlat (in_order circuit.now order.now) lists.pins.items
@@ -342,7 +346,7 @@ fn lists_of(
 {
     let signals = circuit.signals();
     let live = live_signals(alloc, circuit)?;
-    let levels = Levels {
+    let placed = Placed {
         circuit,
         order,
         places,
@@ -354,9 +358,9 @@ fn lists_of(
     let mut readers = Vec::new(alloc);
     for place in 0..order.len() {
         let signal = order[place];
-        let row = add_row(levels, signal, &mut pins, &mut readers)?;
+        let row = add_row(placed, signal, &mut pins, &mut readers)?;
         rows.push(row)?;
-        standings.push(standing_of(levels, signal))?;
+        standings.push(standing_of(placed, signal))?;
     }
     Ok(Lists {
         rows,
@@ -367,33 +371,33 @@ fn lists_of(
 }
 
 /// Where a signal stands.
-fn standing_of(levels: Levels<'_>, signal: u32) -> Standing
-    requires levels { AreLevels levels.circuit.now levels.order.now levels.places.now
-        levels.live.now }
-    requires signal { signal < length (names levels.circuit.now) }
-    ensures { IsStanding (in_order levels.entry.circuit.now levels.entry.order.now)
-        (place levels.entry.circuit.now
-        (in_order levels.entry.circuit.now levels.entry.order.now) signal) result }
+fn standing_of(placed: Placed<'_>, signal: u32) -> Standing
+    requires placed { ArePlaced placed.circuit.now placed.order.now placed.places.now
+        placed.live.now }
+    requires signal { signal < length (names placed.circuit.now) }
+    ensures { IsStanding (in_order placed.entry.circuit.now placed.entry.order.now)
+        (place placed.entry.circuit.now
+        (in_order placed.entry.circuit.now placed.entry.order.now) signal) result }
 {
     Standing {
-        lone_reader: lone_place(levels, signal),
-        level: levels.circuit.level_of(signal),
-        live: levels.live[signal as usize],
+        lone_reader: lone_place(placed, signal),
+        level: placed.circuit.level_of(signal),
+        live: placed.live[signal as usize],
     }
 }
 
 /// The place of the gate of the pin that is all that reads a signal.
-fn lone_place(levels: Levels<'_>, signal: u32) -> Option<u32>
-    requires levels { AreLevels levels.circuit.now levels.order.now levels.places.now
-        levels.live.now }
-    requires signal { signal < length (names levels.circuit.now) }
+fn lone_place(placed: Placed<'_>, signal: u32) -> Option<u32>
+    requires placed { ArePlaced placed.circuit.now placed.order.now placed.places.now
+        placed.live.now }
+    requires signal { signal < length (names placed.circuit.now) }
     ensures { result ≡ lone_reader
-        (in_order levels.entry.circuit.now levels.entry.order.now)
-        (place levels.entry.circuit.now
-        (in_order levels.entry.circuit.now levels.entry.order.now) signal) }
+        (in_order placed.entry.circuit.now placed.entry.order.now)
+        (place placed.entry.circuit.now
+        (in_order placed.entry.circuit.now placed.entry.order.now) signal) }
 {
-    match lone_reader_of(levels.circuit, signal) {
-        Some(gate) => Some(levels.places[gate as usize]),
+    match lone_reader_of(placed.circuit, signal) {
+        Some(gate) => Some(placed.places[gate as usize]),
         None => None,
     }
 }
@@ -421,29 +425,29 @@ fn place_of(length: usize) -> Result<u32, AllocError>
 
 /// The row of a signal, whose pins and readers are added behind the others.
 fn add_row(
-    levels: Levels<'_>,
+    placed: Placed<'_>,
     signal: u32,
     pins: &mut Vec<u32>,
     readers: &mut Vec<Reader>,
 ) -> Result<Row, AllocError>
-    requires levels { AreLevels levels.circuit.now levels.order.now levels.places.now
-        levels.live.now }
-    requires signal { signal < length (names levels.circuit.now) }
-    ensures row { IfOk result (IsRow (in_order levels.entry.circuit.now levels.entry.order.now)
+    requires placed { ArePlaced placed.circuit.now placed.order.now placed.places.now
+        placed.live.now }
+    requires signal { signal < length (names placed.circuit.now) }
+    ensures row { IfOk result (IsRow (in_order placed.entry.circuit.now placed.entry.order.now)
         pins.new.items readers.new.items
-        (place levels.entry.circuit.now
-        (in_order levels.entry.circuit.now levels.entry.order.now) signal)) }
+        (place placed.entry.circuit.now
+        (in_order placed.entry.circuit.now placed.entry.order.now) signal)) }
     ensures pins { IfOk result (λ _. HasMore pins.old.items pins.new.items) }
     ensures readers { IfOk result (λ _. HasMore readers.old.items readers.new.items) }
 {
     let pins_start = place_of(pins.len())?;
-    let driver = add_pins(levels, signal, pins)?;
+    let driver = add_pins(placed, signal, pins)?;
     let pins_end = place_of(pins.len())?;
     let first = at(pins.as_slice(), pins_start as usize);
     let last_place = pins_end.saturating_sub(1).max(pins_start);
     let last = at(pins.as_slice(), last_place as usize);
     let readers_start = place_of(readers.len())?;
-    let observed = add_readers(levels, signal, readers)?;
+    let observed = add_readers(placed, signal, readers)?;
     Ok(Row {
         driver,
         observed,
@@ -459,21 +463,21 @@ fn add_row(
 /// The kind and the form of the gate that drives a signal. The places of the signals that its pins
 /// read are added behind the others.
 fn add_pins(
-    levels: Levels<'_>,
+    placed: Placed<'_>,
     signal: u32,
     pins: &mut Vec<u32>,
 ) -> Result<Option<Driver>, AllocError>
-    requires levels { AreLevels levels.circuit.now levels.order.now levels.places.now
-        levels.live.now }
-    requires signal { signal < length (names levels.circuit.now) }
-    ensures { IfOk result (IsDriver (in_order levels.entry.circuit.now levels.entry.order.now)
-        (place levels.entry.circuit.now
-        (in_order levels.entry.circuit.now levels.entry.order.now) signal)
+    requires placed { ArePlaced placed.circuit.now placed.order.now placed.places.now
+        placed.live.now }
+    requires signal { signal < length (names placed.circuit.now) }
+    ensures { IfOk result (IsDriver (in_order placed.entry.circuit.now placed.entry.order.now)
+        (place placed.entry.circuit.now
+        (in_order placed.entry.circuit.now placed.entry.order.now) signal)
         pins.old.items pins.new.items) }
 {
-    match levels.circuit.gate_of(signal) {
+    match placed.circuit.gate_of(signal) {
         Some(gate) => {
-            push_places(levels.places, gate.pins.as_slice(), pins)?;
+            push_places(placed.places, gate.pins.as_slice(), pins)?;
             let kind = gate.kind;
             let form = Form::of(kind);
             Ok(Some(Driver { kind, form }))
@@ -515,32 +519,32 @@ fn only_gate(sinks: &[Sink]) -> Option<u32>
 /// Whether an observer observes a signal. The places of the live gates that read it are added
 /// behind the others.
 fn add_readers(
-    levels: Levels<'_>,
+    placed: Placed<'_>,
     signal: u32,
     readers: &mut Vec<Reader>,
 ) -> Result<bool, AllocError>
-    requires levels { AreLevels levels.circuit.now levels.order.now levels.places.now
-        levels.live.now }
-    requires signal { signal < length (names levels.circuit.now) }
+    requires placed { ArePlaced placed.circuit.now placed.order.now placed.places.now
+        placed.live.now }
+    requires signal { signal < length (names placed.circuit.now) }
     ensures readers { IfOk result (λ _. (more : List Reader)
         × (readers.new.items ≡ readers.old.items ++ more)
-        × AreReaders (in_order levels.entry.circuit.now levels.entry.order.now)
-        (place levels.entry.circuit.now
-        (in_order levels.entry.circuit.now levels.entry.order.now) signal) more) }
+        × AreReaders (in_order placed.entry.circuit.now placed.entry.order.now)
+        (place placed.entry.circuit.now
+        (in_order placed.entry.circuit.now placed.entry.order.now) signal) more) }
     ensures observed { IfOk result (λ observed. IsTrue observed
-        ↔ IsObserved (in_order levels.entry.circuit.now levels.entry.order.now)
-        (place levels.entry.circuit.now
-        (in_order levels.entry.circuit.now levels.entry.order.now) signal)) }
+        ↔ IsObserved (in_order placed.entry.circuit.now placed.entry.order.now)
+        (place placed.entry.circuit.now
+        (in_order placed.entry.circuit.now placed.entry.order.now) signal)) }
 {
     let mut observed = false;
-    for sink in levels.circuit.sinks_of(signal) {
+    for sink in placed.circuit.sinks_of(signal) {
         match *sink {
             Sink::Pin { gate, pin: _ } => {
-                if !levels.live[gate as usize] {
+                if !placed.live[gate as usize] {
                     continue;
                 }
-                let level = levels.circuit.level_of(gate);
-                let gate = levels.places[gate as usize];
+                let level = placed.circuit.level_of(gate);
+                let gate = placed.places[gate as usize];
                 readers.push(Reader { gate, level })?;
             }
             Sink::Data { .. } => observed = true,

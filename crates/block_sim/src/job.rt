@@ -6,19 +6,20 @@ ghost use Rattle.bench_net.specs.Scan.{names, sources};
 ghost use Rattle.bench_net.specs.Statement.{Statement};
 ghost use Rattle.patterns.specs.Tests.{IsTestList, blocks, max_pieces};
 ghost use Rattle.block_sim.specs.Job.{AreFaultFree};
-ghost use Rattle.block_sim.specs.Levelled.{IsLevelled};
-ghost use Rattle.block_sim.specs.Origins.{IsListed, IsOriginOf};
+ghost use Rattle.block_sim.specs.Arranged.{ArePlaces, IsArranged};
+ghost use Rattle.block_sim.specs.Origins.{IsListed, IsRepresentativeOf};
 ghost use Rattle.block_sim.specs.Parts.{BelongTogether, piece_count, with_tests};
 ghost use Rattle.block_sim.specs.Regions.{IsStemOfClass};
 ghost use Rattle.block_sim.specs.Spans.{groups, span_of};
-ghost use Rattle.block_sim.specs.Words.{AreWords, IsFaultFreeWord};
+ghost use Rattle.block_sim.specs.Words.{IsFaultFreeWord};
 
 use crate::block_lanes::block_word;
 use crate::flat::FlatCircuit;
-use crate::origin::{Listed, Origin, origins_of};
+use crate::origin::{Listed, representatives_of};
 use crate::region_classes::{class_stems, next_with_stem};
 use crate::span::Span;
-use crate::words::evaluate;
+use crate::view::GroupWords;
+use crate::words::{Stuck, evaluate};
 use bench_net::Circuit;
 use fault_model::{Classes, Faults};
 use patterns::{MAX_PIECES, Tests};
@@ -49,8 +50,8 @@ impl From<AllocError> for JobFault {
 }
 
 /// A circuit, its faults and classes, and tests for it, with the fault-free words of every block,
-/// the stem of each class, what its simulation starts from, and the classes of each fan-out-free
-/// region in a circle.
+/// the stem and the representative of each class, and the classes of each fan-out-free region in a
+/// circle.
 ///
 /// All of it stands in one place of memory, so a job moves as cheaply as a number.
 #[derive(Drop)]
@@ -68,7 +69,7 @@ struct JobParts {
     rows: Vec<Vec<u128>>,
     class_stems: Vec<u32>,
     next_in_region: Vec<u32>,
-    origins: Vec<Origin>,
+    representatives: Vec<Stuck>,
 }
 
 impl Model for Job {
@@ -90,9 +91,9 @@ impl Model for Job {
       list = j.parts.value.faults;
       classes = j.parts.value.classes;
       tests = j.parts.value.tests;
-    }) j.parts.value.flat.levelled
+    }) j.parts.value.flat.arranged
         (map (λ row. row.items) j.parts.value.rows.items) j.parts.value.class_stems.items
-        j.parts.value.next_in_region.items j.parts.value.origins.items };
+        j.parts.value.next_in_region.items j.parts.value.representatives.items };
 }
 
 impl Job {
@@ -162,7 +163,7 @@ impl Job {
         let flat = FlatCircuit::new(alloc, circuit)?;
         let rows = fault_free_rows(alloc, &flat, &tests)?;
         let class_stems = class_stems(alloc, flat.circuit(), &faults, &classes)?;
-        let origins = origins_of(alloc, &flat, &faults, &classes)?;
+        let representatives = representatives_of(alloc, flat.circuit(), &faults, &classes)?;
         let signals = flat.signals();
         let next_in_region = next_with_stem(alloc, class_stems.as_slice(), signals)?;
         let parts = Box::new(
@@ -175,7 +176,7 @@ impl Job {
                 rows,
                 class_stems,
                 next_in_region,
-                origins,
+                representatives,
             },
         )?;
         Ok(Job { parts })
@@ -224,15 +225,33 @@ impl Job {
         self.parts.flat.circuit()
     }
 
-    /// The circuit in flat arrays.
-    pub(crate) fn flat(&self) -> &FlatCircuit
-        ensures part { result.now.statements ≡ self.now.circuit }
-        ensures levelled { IsLevelled self.now.circuit result.now.levelled }
+    /// The circuit in flat arrays, with the words of its signals without a fault.
+    pub(crate) fn words(&self) -> GroupWords<'_>
+        ensures part { result.circuit.now.statements ≡ self.now.circuit }
+        ensures arranged { IsArranged self.now.circuit result.circuit.now.arranged }
         ensures together { BelongTogether self.now }
+        ensures count { length result.rows.now ≡ groups (length self.now.tests.tests) }
+        ensures fault_free { AreFaultFree result.circuit.now.arranged self.now.tests.tests
+            (map (λ row. row.items) result.rows.now) }
     {
         let parts = &*self.parts;
         let _signals = parts.flat.signals();
-        &parts.flat
+        GroupWords {
+            circuit: &parts.flat,
+            rows: parts.rows.as_slice(),
+        }
+    }
+
+    /// For each signal its place, by the signal's number: its number in a topological order of
+    /// them, in which signals that stand near in the circuit stand near. A run that visits regions
+    /// in the order of their stems' places finds what it reads in the caches.
+    pub fn places(&self) -> &[u32]
+        ensures count { length result.now ≡ length (names self.now.circuit) }
+        ensures places { (arranged : List Statement) × IsArranged self.now.circuit arranged
+            × ArePlaces self.now.circuit arranged result.now }
+    {
+        let parts = &*self.parts;
+        parts.flat.places()
     }
 
     /// The fault list.
@@ -259,13 +278,13 @@ impl Job {
         &self.parts.tests
     }
 
-    /// What the simulation of a class starts from.
-    pub(crate) fn origin(&self, class: u32) -> Origin
+    /// The representative of a class.
+    pub(crate) fn representative(&self, class: u32) -> Stuck
         requires { class < length self.now.classes.representative }
-        ensures { IsOriginOf self.now class result }
+        ensures { IsRepresentativeOf self.now class result }
     {
         let parts = &*self.parts;
-        parts.origins[class as usize]
+        parts.representatives[class as usize]
     }
 
     /// A class as a list of classes has it.
@@ -277,7 +296,7 @@ impl Job {
         Listed {
             class,
             stem: self.stem_of_class(class),
-            origin: self.origin(class),
+            representative: self.representative(class),
         }
     }
 
@@ -325,19 +344,6 @@ impl Job {
         let place = parts.flat.place_of(signal);
         block_word(parts.rows[(block / 2) as usize][place as usize], block)
     }
-
-    /// The words of a group of two blocks without a fault, one a signal, at the signal's place in
-    /// level order.
-    pub(crate) fn fault_free(&self, group: u32) -> &[u128]
-        requires { group < groups (length self.now.tests.tests) }
-        ensures count { length result.now ≡ length (names self.now.circuit) }
-        ensures words { (levelled : List Statement) → IsLevelled self.now.circuit levelled
-            → AreWords levelled self.now.tests.tests group None result.now }
-    {
-        let parts = &*self.parts;
-        let _signals = parts.flat.signals();
-        parts.rows[group as usize].as_slice()
-    }
 }
 
 /// Whether classes times blocks are more than [`patterns::MAX_PIECES`].
@@ -357,7 +363,7 @@ fn fault_free_rows(
     requires width { tests.now.width ≡ length (sources circuit.now.statements) }
     ensures count { IfOk result (λ rows. length (map (λ row. row.items) rows.items)
         ≡ groups (length tests.now.tests)) }
-    ensures rows { IfOk result (λ rows. AreFaultFree circuit.now.levelled tests.now.tests
+    ensures rows { IfOk result (λ rows. AreFaultFree circuit.now.arranged tests.now.tests
         (map (λ row. row.items) rows.items)) }
 {
     let signals = circuit.signals() as usize;

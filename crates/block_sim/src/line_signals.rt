@@ -11,13 +11,13 @@ use crate::flat::FlatCircuit;
 use bench_net::Circuit;
 use fault_model::Line;
 
-/// The signal that a line of the circuit in level order carries: that of the stem, or the one that
+/// The place of the signal that a line of the circuit carries: that of the stem, or the one that
 /// its branch leads from.
 pub fn carried(circuit: &FlatCircuit, line: Line) -> u32
-    requires circuit { IsCircuit circuit.now.levelled }
-    requires named { (n : Name) × (name_on circuit.now.levelled line ≡ Some n) }
-    ensures { (n : Name) → name_on circuit.now.levelled line ≡ Some n
-        → result ≡ signal circuit.now.levelled n }
+    requires circuit { IsCircuit circuit.now.arranged }
+    requires named { (n : Name) × (name_on circuit.now.arranged line ≡ Some n) }
+    ensures { (n : Name) → name_on circuit.now.arranged line ≡ Some n
+        → result ≡ signal circuit.now.arranged n }
 {
     let _signals = circuit.signals();
     match line {
@@ -48,10 +48,10 @@ pub fn output_signal(circuit: &Circuit, output: u32) -> u32
 
 /// The signal that a pin of a gate reads.
 fn pin_signal(circuit: &FlatCircuit, gate: u32, pin: u32) -> u32
-    requires gate { gate < length (names circuit.now.levelled) }
-    requires named { (n : Name) × (argument (definition circuit.now.levelled gate) pin ≡ Some n) }
-    ensures { (n : Name) → argument (definition circuit.now.levelled gate) pin ≡ Some n
-        → result ≡ signal circuit.now.levelled n }
+    requires gate { gate < length (names circuit.now.arranged) }
+    requires named { (n : Name) × (argument (definition circuit.now.arranged gate) pin ≡ Some n) }
+    ensures { (n : Name) → argument (definition circuit.now.arranged gate) pin ≡ Some n
+        → result ≡ signal circuit.now.arranged n }
 {
     match circuit.gate_of(gate) {
         Some(driver) => driver.pins[pin as usize],

@@ -1,23 +1,23 @@
-//! The places of signals in level order, which are their numbers in the circuit that is simulated.
+//! The places of signals, which are their numbers in the circuit that is simulated.
 
-ghost use Rattle.std.specs.Prelude.{◌≡◌, List, IfOk, length};
-ghost use Rattle.bench_net.specs.Statement.{Statement};
+ghost use Rattle.std.specs.Prelude.{◌≡◌, IfOk, length};
 ghost use Rattle.bench_net.specs.Scan.{names};
 ghost use Rattle.bench_net.specs.Circuit.{IsCircuit};
-ghost use Rattle.block_sim.specs.Levelled.{ArePlaces, IsLevelled};
+ghost use Rattle.fault_model.specs.Reordered.{in_order};
+ghost use Rattle.block_sim.specs.Arranged.{ArePlaces, IsFlowOrder};
 
 use bench_net::Circuit;
 use std::alloc::{AllocError, Global};
 
-/// The place of each signal in level order, at the signal's number.
-pub fn places_of(alloc: Global, circuit: &Circuit) -> Result<Vec<u32>, AllocError>
-    requires { IsCircuit circuit.now }
+/// The place of each signal in a topological order, at the signal's number.
+pub fn places_of(alloc: Global, circuit: &Circuit, order: &[u32]) -> Result<Vec<u32>, AllocError>
+    requires circuit { IsCircuit circuit.now }
+    requires order { IsFlowOrder circuit.now order.now }
     ensures count { IfOk result (λ places. length places.items ≡ length (names circuit.now)) }
-    ensures places { IfOk result (λ places. (levelled : List Statement)
-        → IsLevelled circuit.now levelled → ArePlaces circuit.now levelled places.items) }
+    ensures places { IfOk result (λ places.
+        ArePlaces circuit.now (in_order circuit.now order.now) places.items) }
 {
     let _signals = circuit.signals();
-    let order = circuit.in_level_order();
     let mut places = vec![in alloc; 0u32; order.len()]?;
     for place in 0..order.len() {
         places[order[place] as usize] = place as u32;

@@ -35,15 +35,15 @@ pub struct Arrival {
 /// has come to the signal. There is one at least.
 #[inline(always)]
 fn cross(view: BlockView<'_>, at: Arrival, gate: u32, changes: &mut Changes) -> u128
-    requires view { HasWords view.circuit.now.levelled view.good.now }
-    requires room { HasRoomFor view.circuit.now.levelled changes.old }
+    requires view { HasWords view.circuit.now.arranged view.good.now }
+    requires room { HasRoomFor view.circuit.now.arranged changes.old }
     requires clear { IsClear changes.old }
     requires some { at.lanes ≢ 0 }
-    requires read { IsReadBy view.circuit.now.levelled gate at.signal }
+    requires read { IsReadBy view.circuit.now.arranged gate at.signal }
     ensures come { (tests : List Test) (group : ℕ) (f : Fault)
-        → AreWords view.entry.circuit.now.levelled tests group None view.entry.good.now
-        → HasCome view.entry.circuit.now.levelled tests group f view.entry.lanes at.signal at.lanes
-        → HasCome view.entry.circuit.now.levelled tests group f view.entry.lanes gate result }
+        → AreWords view.entry.circuit.now.arranged tests group None view.entry.good.now
+        → HasCome view.entry.circuit.now.arranged tests group f view.entry.lanes at.signal at.lanes
+        → HasCome view.entry.circuit.now.arranged tests group f view.entry.lanes gate result }
     ensures counted { changes.new.evaluations ≤ changes.old.evaluations + 1 }
     ensures grown { changes.old.evaluations ≤ changes.new.evaluations }
     ensures room { IsAsLarge changes.old changes.new }
@@ -66,20 +66,20 @@ fn cross(view: BlockView<'_>, at: Arrival, gate: u32, changes: &mut Changes) -> 
 /// read what is before them. It stops early where the fault comes on in no lane, as it does from
 /// a signal that isn't live.
 pub fn arrive(view: BlockView<'_>, from: Arrival, changes: &mut Changes) -> Arrival
-    requires view { HasWords view.circuit.now.levelled view.good.now }
-    requires room { HasRoomFor view.circuit.now.levelled changes.old }
+    requires view { HasWords view.circuit.now.arranged view.good.now }
+    requires room { HasRoomFor view.circuit.now.arranged changes.old }
     requires clear { IsClear changes.old }
-    requires signal { from.signal < length (names view.circuit.now.levelled) }
+    requires signal { from.signal < length (names view.circuit.now.arranged) }
     ensures come { (tests : List Test) (group : ℕ) (f : Fault)
-        → AreWords view.entry.circuit.now.levelled tests group None view.entry.good.now
-        → HasCome view.entry.circuit.now.levelled tests group f view.entry.lanes from.signal
+        → AreWords view.entry.circuit.now.arranged tests group None view.entry.good.now
+        → HasCome view.entry.circuit.now.arranged tests group f view.entry.lanes from.signal
         from.lanes
-        → HasCome view.entry.circuit.now.levelled tests group f view.entry.lanes result.signal
+        → HasCome view.entry.circuit.now.arranged tests group f view.entry.lanes result.signal
         result.lanes }
-    ensures signal { result.signal < length (names view.entry.circuit.now.levelled) }
+    ensures signal { result.signal < length (names view.entry.circuit.now.arranged) }
     ensures stem { result.lanes ≢ 0
-        → IsStemOf view.entry.circuit.now.levelled result.signal from.signal }
-    ensures counted { (way : ℕ) → IsWay view.entry.circuit.now.levelled from.signal way
+        → IsStemOf view.entry.circuit.now.arranged result.signal from.signal }
+    ensures counted { (way : ℕ) → IsWay view.entry.circuit.now.arranged from.signal way
         → changes.new.evaluations ≤ changes.old.evaluations + way }
     ensures grown { changes.old.evaluations ≤ changes.new.evaluations }
     ensures room { IsAsLarge changes.old changes.new }
@@ -122,23 +122,23 @@ pub enum Reach {
 /// Follows a fault from its line to the stem of its region: a fault on a signal from that, one on a
 /// gate's pin from the gate's signal. One on an observer's line is detected where it turns that.
 pub fn follow(view: BlockView<'_>, origin: Origin, changes: &mut Changes) -> Reach
-    requires view { HasWords view.circuit.now.levelled view.good.now }
+    requires view { HasWords view.circuit.now.arranged view.good.now }
     requires words { (tests : List Test) × (group : ℕ)
-        × AreWords view.circuit.now.levelled tests group None view.good.now }
-    requires listed { Contains (faults origin.fault.model view.circuit.now.levelled)
+        × AreWords view.circuit.now.arranged tests group None view.good.now }
+    requires listed { Contains (faults origin.fault.model view.circuit.now.arranged)
         (stuck_fault origin.fault) }
-    requires carried { Carries view.circuit.now.levelled origin.fault.line origin.carried }
-    requires room { HasRoomFor view.circuit.now.levelled changes.old }
+    requires carried { Carries view.circuit.now.arranged origin.fault.line origin.carried }
+    requires room { HasRoomFor view.circuit.now.arranged changes.old }
     requires clear { IsClear changes.old }
     ensures reached { (tests : List Test) (group : ℕ)
-        → AreWords view.entry.circuit.now.levelled tests group None view.entry.good.now
-        → IsReached view.entry.circuit.now.levelled tests group (stuck_fault origin.fault)
+        → AreWords view.entry.circuit.now.arranged tests group None view.entry.good.now
+        → IsReached view.entry.circuit.now.arranged tests group (stuck_fault origin.fault)
         view.entry.lanes result }
     ensures signal { (at : Arrival) → result ≡ Reach.Stem at
-        → at.signal < length (names view.entry.circuit.now.levelled) }
+        → at.signal < length (names view.entry.circuit.now.arranged) }
     ensures stem { (at : Arrival) → result ≡ Reach.Stem at → at.lanes ≢ 0
-        → IsStemOfLine view.entry.circuit.now.levelled at.signal origin.fault.line }
-    ensures counted { (way : ℕ) → IsWayOfLine view.entry.circuit.now.levelled origin.fault.line way
+        → IsStemOfLine view.entry.circuit.now.arranged at.signal origin.fault.line }
+    ensures counted { (way : ℕ) → IsWayOfLine view.entry.circuit.now.arranged origin.fault.line way
         → changes.new.evaluations ≤ changes.old.evaluations + way }
     ensures grown { changes.old.evaluations ≤ changes.new.evaluations }
     ensures room { IsAsLarge changes.old changes.new }
@@ -186,20 +186,20 @@ fn all_lanes(followed: &[Followed]) -> u128
 /// Turns a signal round in the lanes in which some of the classes that are followed came to it, and
 /// tells lanes in which an observer shows that: of each class up to the least.
 pub fn flip(view: BlockView<'_>, followed: &[Followed], signal: u32, changes: &mut Changes) -> u128
-    requires view { HasWords view.circuit.now.levelled view.good.now }
+    requires view { HasWords view.circuit.now.arranged view.good.now }
     requires words { (tests : List Test) × (group : ℕ)
-        × AreWords view.circuit.now.levelled tests group None view.good.now }
-    requires room { HasRoomFor view.circuit.now.levelled changes.old }
+        × AreWords view.circuit.now.arranged tests group None view.good.now }
+    requires room { HasRoomFor view.circuit.now.arranged changes.old }
     requires clear { IsClear changes.old }
-    requires signal { signal < length (names view.circuit.now.levelled) }
+    requires signal { signal < length (names view.circuit.now.arranged) }
     ensures told { (tests : List Test) (group : ℕ)
-        → AreWords view.entry.circuit.now.levelled tests group None view.entry.good.now
+        → AreWords view.entry.circuit.now.arranged tests group None view.entry.good.now
         → (one : Followed) → Contains followed.now one
-        → TellsFirstFlips view.entry.circuit.now.levelled tests group one.lanes signal result }
+        → TellsFirstFlips view.entry.circuit.now.arranged tests group one.lanes signal result }
     ensures counted { (tests : List Test) (span : Span) (gates : List ℕ)
-        → AreWords view.entry.circuit.now.levelled tests (group_of span) None view.entry.good.now
+        → AreWords view.entry.circuit.now.arranged tests (group_of span) None view.entry.good.now
         → ((one : Followed) → Contains followed.now one → AreInSpan tests span one.lanes)
-        → HasActiveByFlip view.entry.circuit.now.levelled tests span signal gates
+        → HasActiveByFlip view.entry.circuit.now.arranged tests span signal gates
         → changes.new.evaluations ≤ changes.old.evaluations + length gates }
     ensures grown { changes.old.evaluations ≤ changes.new.evaluations }
     ensures room { IsAsLarge changes.old changes.new }

@@ -247,7 +247,7 @@ fn follow_row(
     ensures room { IsAsLarge changes.old changes.new }
     ensures clear { IsClear changes.new }
 {
-    match follow_from(job, row.origin, span, changes) {
+    match follow_from(job, row.representative, span, changes) {
         Approach::Known(word) => keep(hits, place, test_of(span, word)),
         Approach::Stem(at) => followed.push_reserved(Followed {
             class: row.class,

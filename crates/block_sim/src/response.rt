@@ -81,18 +81,18 @@ fn add_groups(
     row: &mut [bool],
     rows: &mut Tests,
 ) -> Result<(), AllocError>
-    requires circuit { IsCircuit circuit.now.levelled }
-    requires tests { tests.now.width ≡ length (sources circuit.now.levelled) }
+    requires circuit { IsCircuit circuit.now.arranged }
+    requires tests { tests.now.width ≡ length (sources circuit.now.arranged) }
     requires observed { observed.now
-        ≡ map (λ o. signal circuit.now.levelled o.1) (observers circuit.now.levelled) }
-    requires within { All (λ s. s < length (names circuit.now.levelled)) observed.now }
+        ≡ map (λ o. signal circuit.now.arranged o.1) (observers circuit.now.arranged) }
+    requires within { All (λ s. s < length (names circuit.now.arranged)) observed.now }
     requires same { All (λ word. word ≡ 0) same.now }
-    requires room { length same.now ≡ length (names circuit.now.levelled) }
-    requires words { length words.old ≡ length (names circuit.now.levelled) }
+    requires room { length same.now ≡ length (names circuit.now.arranged) }
+    requires words { length words.old ≡ length (names circuit.now.arranged) }
     requires row { length row.old ≡ length observed.now }
     requires width { rows.old.width ≡ length observed.now }
     requires empty { rows.old.tests ≡ [] }
-    ensures { OnOk result (AreResponses circuit.now.levelled tests.now.tests rows.new) }
+    ensures { OnOk result (AreResponses circuit.now.arranged tests.now.tests rows.new) }
 {
     let _width = tests.width();
     let mut evaluations = 0;

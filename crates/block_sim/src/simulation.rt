@@ -7,7 +7,7 @@ ghost use Rattle.bench_net.specs.Scan.{names};
 ghost use Rattle.patterns.specs.Tests.{blocks};
 ghost use Rattle.block_sim.specs.Changes.{HasRoomFor, IsAsLarge, IsClear};
 ghost use Rattle.block_sim.specs.First.{IsTrueOutcome};
-ghost use Rattle.block_sim.specs.Origins.{IsOriginOf};
+ghost use Rattle.block_sim.specs.Origins.{IsRepresentativeOf};
 ghost use Rattle.block_sim.specs.Regions.{IsStemOfClass, TellsFirstFlips};
 ghost use Rattle.block_sim.specs.Parts.{Parts};
 ghost use Rattle.block_sim.specs.Spans.{IsSpan, group_of, span_from};
@@ -19,11 +19,12 @@ ghost use Rattle.block_sim.specs.Ways.{AreWays, HasActiveByFlip, IsWayOfClass, i
 use crate::changes::Changes;
 use crate::job::Job;
 use crate::look_back::lanes_that_fit;
-use crate::origin::Origin;
+use crate::origin::origin_of;
 use crate::region::{Arrival, Reach, flip, follow};
 use crate::span::Span;
 use crate::spread::Followed;
 use crate::view::BlockView;
+use crate::words::Stuck;
 use patterns::Outcome;
 use std::alloc::{AllocError, Global};
 use std::marker::Model;
@@ -178,7 +179,7 @@ impl Simulation {
             → self.new.evaluations ≡ self.old.evaluations }
         ensures grown { self.old.evaluations ≤ self.new.evaluations }
     {
-        let _circuit = job.flat();
+        let _circuit = job.circuit();
         if let Some(outcome) = self.memos[class as usize].on(block) {
             return outcome;
         }
@@ -277,21 +278,21 @@ pub fn follow_alone(job: &Job, class: u32, span: Span, changes: &mut Changes) ->
     ensures room { IsAsLarge changes.old changes.new }
     ensures clear { IsClear changes.new }
 {
-    follow_from(job, job.origin(class), span, changes)
+    follow_from(job, job.representative(class), span, changes)
 }
 
-/// Follows a class to the stem of its region, from where its simulation starts.
-pub fn follow_from(job: &Job, origin: Origin, span: Span, changes: &mut Changes) -> Approach
-    requires origin { (class : ℕ) × IsOriginOf job.now class origin }
+/// Follows a class, whose representative this is, to the stem of its region.
+pub fn follow_from(job: &Job, stuck: Stuck, span: Span, changes: &mut Changes) -> Approach
+    requires stuck { (class : ℕ) × IsRepresentativeOf job.now class stuck }
     requires span { IsSpan (length job.now.tests.tests) span }
     requires room { HasRoomFor job.now.circuit changes.old }
     requires clear { IsClear changes.old }
-    ensures approach { (class : ℕ) → IsOriginOf job.now class origin
+    ensures approach { (class : ℕ) → IsRepresentativeOf job.now class stuck
         → IsApproach job.now class span result }
-    ensures stem { (class : ℕ) (at : Arrival) → IsOriginOf job.now class origin
+    ensures stem { (class : ℕ) (at : Arrival) → IsRepresentativeOf job.now class stuck
         → result ≡ Approach.Stem at
         → IsStemOfClass job.now.list.model job.now.circuit class at.signal }
-    ensures counted { (class way : ℕ) → IsOriginOf job.now class origin
+    ensures counted { (class way : ℕ) → IsRepresentativeOf job.now class stuck
         → IsWayOfClass job.now.list.model job.now.circuit class way
         → changes.new.evaluations ≤ changes.old.evaluations + way }
     ensures grown { changes.old.evaluations ≤ changes.new.evaluations }
@@ -299,14 +300,15 @@ pub fn follow_from(job: &Job, origin: Origin, span: Span, changes: &mut Changes)
     ensures clear { IsClear changes.new }
 {
     let group = span.first / 2;
-    let lanes = span.test_lanes(job.tests()) & lanes_that_fit(job, group, origin);
-    let circuit = job.flat();
+    let lanes = span.test_lanes(job.tests()) & lanes_that_fit(job, group, stuck);
+    let words = job.words();
+    let circuit = words.circuit;
     let view = BlockView {
         circuit,
-        good: job.fault_free(group),
+        good: words.of(group),
         lanes,
     };
-    match follow(view, origin, changes) {
+    match follow(view, origin_of(circuit, stuck), changes) {
         Reach::Observed(word) => Approach::Known(word),
         Reach::Stem(at) => {
             let lanes = lanes & at.lanes;
@@ -443,10 +445,11 @@ pub fn flip_stem(
     ensures room { IsAsLarge changes.old changes.new }
     ensures clear { IsClear changes.new }
 {
-    let circuit = job.flat();
+    let words = job.words();
+    let circuit = words.circuit;
     let view = BlockView {
         circuit,
-        good: job.fault_free(span.first / 2),
+        good: words.of(span.first / 2),
         lanes: 0,
     };
     flip(view, followed, circuit.place_of(stem), changes)

@@ -85,14 +85,14 @@ fn below_hits(followed: &[Followed], seen: u128) -> u128
 /// on eight cases), and Rattle has no prefetch.
 #[inline(always)]
 fn schedule_fanout(circuit: &FlatCircuit, signal: u32, buckets: &mut Buckets) -> bool
-    requires circuit { IsCircuit circuit.now.levelled }
-    requires signal { signal < length (names circuit.now.levelled) }
-    requires gates { length (names circuit.now.levelled) ≤ length buckets.old.at }
-    requires levels { (g k : ℕ) → HasLevel circuit.now.levelled g k → k < buckets.old.levels }
-    ensures scheduled { (level : Name → ℕ) → AreLevels circuit.now.levelled level
-        → AreScheduled circuit.now.levelled (level_at circuit.now.levelled level) signal
+    requires circuit { IsCircuit circuit.now.arranged }
+    requires signal { signal < length (names circuit.now.arranged) }
+    requires gates { length (names circuit.now.arranged) ≤ length buckets.old.at }
+    requires levels { (g k : ℕ) → HasLevel circuit.now.arranged g k → k < buckets.old.levels }
+    ensures scheduled { (level : Name → ℕ) → AreLevels circuit.now.arranged level
+        → AreScheduled circuit.now.arranged (level_at circuit.now.arranged level) signal
         buckets.old.at buckets.new.at }
-    ensures observed { IsTrue result ↔ IsObserved circuit.now.levelled signal }
+    ensures observed { IsTrue result ↔ IsObserved circuit.now.arranged signal }
     ensures gates { length buckets.new.at ≡ length buckets.old.at }
     ensures levels { buckets.new.levels ≡ buckets.old.levels }
 {
@@ -110,17 +110,17 @@ fn schedule_fanout(circuit: &FlatCircuit, signal: u32, buckets: &mut Buckets) ->
 /// observer sees it.
 #[inline(always)]
 fn change(circuit: &FlatCircuit, signal: u32, diff: u128, changes: &mut Changes) -> u128
-    requires circuit { IsCircuit circuit.now.levelled }
-    requires signal { signal < length (names circuit.now.levelled) }
-    requires room { HasRoomFor circuit.now.levelled changes.old }
+    requires circuit { IsCircuit circuit.now.arranged }
+    requires signal { signal < length (names circuit.now.arranged) }
+    requires room { HasRoomFor circuit.now.arranged changes.old }
     requires clear { slice_index_or changes.old.overlay signal 0 ≡ 0 }
     requires differs { diff ≢ 0 }
     ensures changed { changes.new.overlay ≡ slice_set changes.old.overlay signal diff }
-    ensures scheduled { (level : Name → ℕ) → AreLevels circuit.now.levelled level
-        → AreScheduled circuit.now.levelled (level_at circuit.now.levelled level) signal
+    ensures scheduled { (level : Name → ℕ) → AreLevels circuit.now.arranged level
+        → AreScheduled circuit.now.arranged (level_at circuit.now.arranged level) signal
         changes.old.buckets.at changes.new.buckets.at }
     ensures shown { (k : ℕ) → k < 128
-        → Decides (lane result k) (IsObserved circuit.now.levelled signal × (lane diff k ≡ true)) }
+        → Decides (lane result k) (IsObserved circuit.now.arranged signal × (lane diff k ≡ true)) }
     ensures some { (k : ℕ) × (k < 128) × (lane diff k ≡ true) }
     ensures evaluations { changes.new.evaluations ≡ changes.old.evaluations }
     ensures room { IsAsLarge changes.old changes.new }
@@ -138,15 +138,15 @@ fn change(circuit: &FlatCircuit, signal: u32, diff: u128, changes: &mut Changes)
 /// nothing is evaluated.
 #[inline(always)]
 fn evaluate_waiting(view: BlockView<'_>, kept: u128, gate: u32, changes: &mut Changes) -> u128
-    requires view { HasWords view.circuit.now.levelled view.good.now }
-    requires room { HasRoomFor view.circuit.now.levelled changes.old }
-    requires taken { IsTaken view.circuit.now.levelled changes.old gate }
+    requires view { HasWords view.circuit.now.arranged view.good.now }
+    requires room { HasRoomFor view.circuit.now.arranged changes.old }
+    requires taken { IsTaken view.circuit.now.arranged changes.old gate }
     ensures leads { (now seen : ℕ) → Leads
-        view.entry.circuit.now.levelled view.entry.good.now view.entry.lanes
+        view.entry.circuit.now.arranged view.entry.good.now view.entry.lanes
         (not_yet_taken gate (moment changes.old now kept seen))
         (moment changes.new now kept (bit_or seen result)) }
-    ensures scheduled { (level : Name → ℕ) → AreLevels view.entry.circuit.now.levelled level
-        → IsScheduledAbove (level_at view.entry.circuit.now.levelled level) gate
+    ensures scheduled { (level : Name → ℕ) → AreLevels view.entry.circuit.now.arranged level
+        → IsScheduledAbove (level_at view.entry.circuit.now.arranged level) gate
         changes.old.buckets.at changes.new.buckets.at }
     ensures room { IsAsLarge changes.old changes.new }
 {
@@ -184,13 +184,13 @@ fn evaluate_level(
     found: Found,
     changes: &mut Changes,
 ) -> Found
-    requires view { HasWords view.circuit.now.levelled view.good.now }
-    requires room { HasRoomFor view.circuit.now.levelled changes.old }
+    requires view { HasWords view.circuit.now.arranged view.good.now }
+    requires room { HasRoomFor view.circuit.now.arranged changes.old }
     requires level { level < changes.old.buckets.levels }
-    requires spreads { (case : Case view.circuit.now.levelled)
-        × Spreads view.circuit.now.levelled view.good.now view.lanes case
+    requires spreads { (case : Case view.circuit.now.arranged)
+        × Spreads view.circuit.now.arranged view.good.now view.lanes case
         (moment changes.old level found.followed found.detected) }
-    ensures leads { Leads view.entry.circuit.now.levelled view.entry.good.now view.entry.lanes
+    ensures leads { Leads view.entry.circuit.now.arranged view.entry.good.now view.entry.lanes
         (moment changes.old level found.followed found.detected)
         (moment changes.new (level + 1) result.followed result.detected) }
     ensures settled { LeavesSettled extent.entry view.entry.lanes found.followed found.detected
@@ -222,25 +222,25 @@ pub fn spread(
     diff: u128,
     changes: &mut Changes,
 ) -> u128
-    requires view { HasWords view.circuit.now.levelled view.good.now }
-    requires room { HasRoomFor view.circuit.now.levelled changes.old }
+    requires view { HasWords view.circuit.now.arranged view.good.now }
+    requires room { HasRoomFor view.circuit.now.arranged changes.old }
     requires clear { IsClear changes.old }
-    requires start { start < length (names view.circuit.now.levelled) }
+    requires start { start < length (names view.circuit.now.arranged) }
     requires inside { (k : ℕ) → k < 128 → lane diff k ≡ true → lane view.lanes k ≡ true }
     requires first { (tests : List Test) × (group : ℕ) × (f : ℕ → Fault) × IsFirstChange
-        view.circuit.now.levelled tests group f view.good.now view.lanes changes.old.overlay start
+        view.circuit.now.arranged tests group f view.good.now view.lanes changes.old.overlay start
         diff }
     ensures shown { (tests : List Test) (group : ℕ) (f : ℕ → Fault) → IsFirstChange
-        view.entry.circuit.now.levelled tests group f view.entry.good.now view.entry.lanes
+        view.entry.circuit.now.arranged tests group f view.entry.good.now view.entry.lanes
         changes.old.overlay start diff → AreShown
-        view.entry.circuit.now.levelled tests group f view.entry.good.now view.entry.lanes
+        view.entry.circuit.now.arranged tests group f view.entry.good.now view.entry.lanes
         (IsSettled extent.entry result) result }
     ensures counted { (tests : List Test) (group : ℕ) (f : ℕ → Fault) (gates : List ℕ)
         → IsFirstChange
-        view.entry.circuit.now.levelled tests group f view.entry.good.now view.entry.lanes
+        view.entry.circuit.now.arranged tests group f view.entry.good.now view.entry.lanes
         changes.old.overlay start diff
         → AreInGroup tests group view.entry.lanes
-        → HasActiveIn view.entry.circuit.now.levelled tests group view.entry.lanes f gates
+        → HasActiveIn view.entry.circuit.now.arranged tests group view.entry.lanes f gates
         → changes.new.evaluations + count_by (λ g. g == start) gates
         ≤ changes.old.evaluations + length gates }
     ensures grown { changes.old.evaluations ≤ changes.new.evaluations }

@@ -50,7 +50,7 @@ impl Stuck {
     pub fn moved(self, circuit: &FlatCircuit) -> Stuck
         requires { (n : Name) × (name_on circuit.now.statements self.line ≡ Some n) }
         ensures { stuck_fault result
-            ≡ moved_fault circuit.now.statements circuit.now.levelled (stuck_fault self) }
+            ≡ moved_fault circuit.now.statements circuit.now.arranged (stuck_fault self) }
     {
         Stuck {
             model: self.model,
@@ -194,13 +194,13 @@ fn word_at(tests: &Tests, count: u32, block: u32, source: u32) -> u64
 
 /// The word that a group's tests give a source.
 fn source_word(circuit: &FlatCircuit, tests: &Tests, group: u32, signal: u32) -> u128
-    requires circuit { IsCircuit circuit.now.levelled }
-    requires signal { signal < length (names circuit.now.levelled) }
-    requires source { gate_of circuit.now.levelled signal ≡ None }
-    requires width { tests.now.width ≡ length (sources circuit.now.levelled) }
+    requires circuit { IsCircuit circuit.now.arranged }
+    requires signal { signal < length (names circuit.now.arranged) }
+    requires source { gate_of circuit.now.arranged signal ≡ None }
+    requires width { tests.now.width ≡ length (sources circuit.now.arranged) }
     requires group { group < groups (length tests.now.tests) }
-    ensures { (i : ℕ) → slice_get (sources circuit.now.levelled) i
-        ≡ name_of circuit.now.levelled signal → IsGroupWord tests.now.tests group i result }
+    ensures { (i : ℕ) → slice_get (sources circuit.now.arranged) i
+        ≡ name_of circuit.now.arranged signal → IsGroupWord tests.now.tests group i result }
 {
     match circuit.source_of(signal) {
         Some(source) => {
@@ -225,14 +225,14 @@ fn signal_word(
     signal: u32,
     evaluations: &mut u64,
 ) -> u128
-    requires circuit { IsCircuit circuit.now.levelled }
-    requires signal { signal < length (names circuit.now.levelled) }
-    requires words { length (names circuit.now.levelled) ≤ length words.now }
+    requires circuit { IsCircuit circuit.now.arranged }
+    requires signal { signal < length (names circuit.now.arranged) }
+    requires words { length (names circuit.now.arranged) ≤ length words.now }
     requires room { length words.now ≤ length same.now }
     requires same { All (λ word. word ≡ 0) same.now }
-    requires width { tests.now.width ≡ length (sources circuit.now.levelled) }
+    requires width { tests.now.width ≡ length (sources circuit.now.arranged) }
     requires group { group < groups (length tests.now.tests) }
-    ensures { IsSignalWord circuit.now.levelled tests.now.tests group None words.now signal
+    ensures { IsSignalWord circuit.now.arranged tests.now.tests group None words.now signal
         result }
 {
     match circuit.gate_of(signal) {
@@ -251,13 +251,13 @@ pub fn evaluate(
     same: &[u128],
     evaluations: &mut u64,
 )
-    requires circuit { IsCircuit circuit.now.levelled }
-    requires words { length (names circuit.now.levelled) ≤ length words.old }
+    requires circuit { IsCircuit circuit.now.arranged }
+    requires words { length (names circuit.now.arranged) ≤ length words.old }
     requires room { length words.old ≤ length same.now }
     requires same { All (λ word. word ≡ 0) same.now }
-    requires width { tests.now.width ≡ length (sources circuit.now.levelled) }
+    requires width { tests.now.width ≡ length (sources circuit.now.arranged) }
     requires group { group < groups (length tests.now.tests) }
-    ensures words { AreWords circuit.now.levelled tests.now.tests group None words.new }
+    ensures words { AreWords circuit.now.arranged tests.now.tests group None words.new }
     ensures room { length words.new ≡ length words.old }
 {
     for signal in 0..circuit.signals() {

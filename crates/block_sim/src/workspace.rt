@@ -169,18 +169,19 @@ fn told(job: &Job, workspace: &mut Workspace, class: u32, block: u32, extent: Ex
         → HasActive job.now.circuit job.now.tests.tests block r gates
         → workspace.new.evaluations ≤ workspace.old.evaluations + length gates }
 {
-    let origin = job.origin(class);
+    let stuck = job.representative(class);
     let group = block / 2;
     let span = Span {
         first: block,
         last: block,
     };
-    let lanes = span.test_lanes(job.tests()) & lanes_that_fit(job, group, origin);
-    let circuit = job.flat();
+    let lanes = span.test_lanes(job.tests()) & lanes_that_fit(job, group, stuck);
+    let words = job.words();
+    let circuit = words.circuit;
     let view = BlockView {
         circuit,
-        good: job.fault_free(group),
+        good: words.of(group),
         lanes,
     };
-    effect(view, origin.fault, extent, &mut workspace.changes)
+    effect(view, stuck.moved(circuit), extent, &mut workspace.changes)
 }

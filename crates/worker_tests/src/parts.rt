@@ -132,18 +132,24 @@ fn are_by_stem(job: &Job) -> bool {
 }
 
 /// The gate that is shut for one piece, which is the last of its part for each number of parts, so
-/// that all others are settled. The class is that of G3 sa1, the last of the region that is visited
+/// that all others are settled. The class is that of G22 sa1, the last of the region that is visited
 /// last.
-static LAST: ShutFor = ShutFor { class: 3, block: 0 };
+static LAST: ShutFor = ShutFor {
+    class: 19,
+    block: 0,
+};
 
 /// What a run is refused with that waits for that piece.
-static WAITING: RunFault = RunFault::Unfinished { class: 3, block: 0 };
+static WAITING: RunFault = RunFault::Unfinished {
+    class: 19,
+    block: 0,
+};
 
 /// Whether that gate stops the run of the part alone that has the class.
 fn is_stopped_alone<R: Threads + Wait>(rt: &R, alloc: Global, job: &Job, parts: u32) -> bool {
     for part in 0..parts {
         let stopped = run_part(rt, alloc, job, part, parts, 2, &LAST).err();
-        if stopped != (2 % parts == part).then_some(WAITING) {
+        if stopped != (9 % parts == part).then_some(WAITING) {
             return false;
         }
     }
@@ -185,11 +191,11 @@ fn refusal<R: Threads + Wait>(rt: &R, alloc: Global, job: &Job, workers: u32) ->
 }
 
 /// Whether runs in parts are refused as they are to be. The regions of part 1 of 3 have the stems
-/// G16 and G23, those of part 0 have G11 and G22. G23 and G22 are visited first, as no gate reads
-/// them.
+/// G16 and G23, those of part 0 have G11 and G22. G16 and G11 are visited first, as they stand before
+/// the gates that read them.
 fn is_refused<R: Threads + Wait>(rt: &R, alloc: Global, job: &Job) -> bool {
-    names(rt, alloc, job, 1, 7)
-        && names(rt, alloc, job, 0, 0)
+    names(rt, alloc, job, 1, 1)
+        && names(rt, alloc, job, 0, 5)
         && refusal(rt, alloc, job, 1) == Some(RunFault::Unfinished { class: 0, block: 0 })
         && run_in_parts(rt, alloc, job, 3, 0, &OpenGate).err() == Some(RunFault::NoWorkers)
 }

@@ -26,7 +26,6 @@ mod simulator;
 mod taken;
 mod threads;
 mod verdicts;
-mod visits;
 mod worker;
 
 ghost use Rattle.std.specs.Prelude.{◌≡◌, ◌<◌, ◌≤◌, ◌*◌, IfErr, OnOk, length};

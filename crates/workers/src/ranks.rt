@@ -6,12 +6,15 @@ ghost use Rattle.block_sim.specs.Parts.{Parts};
 ghost use Rattle.workers.specs.Rank.{AreNumbered, AreRanked, IsCutOf, IsStart};
 
 use crate::arrange::arrange;
-use crate::visits::visit_order;
 use block_sim::Job;
 use std::alloc::{AllocError, Global};
 
-/// A class of a job, with its part, the visit to its region's stem and the number of that. It is
-/// ordered by its part, then by the visit and the stem, then by its own number.
+/// A class of a job, with its part, the visit to its region and the number of the region's stem. It
+/// is ordered by its part, then by the visit and the stem, then by its own number.
+///
+/// The visit is the stem's place in the lists of the simulation: what that reads of one stem is the
+/// gates that lie ahead of it, and those of stems that stand near lie near, so they are in the
+/// caches still.
 #[derive(Clone, Copy, Debug, PartialEq, Eq, PartialOrd, Ord)]
 pub(crate) struct Ranked {
     part: u32,
@@ -98,12 +101,12 @@ fn numbered_classes(alloc: Global, job: &Job, parts: u32) -> Result<Vec<Ranked>,
         (length job.now.classes.representative) ranked.items) }
 {
     let count = job.classes().count();
-    let visits = visit_order(alloc, job.circuit())?;
+    let visits = job.places();
     let mut ranked = Vec::with_capacity(alloc, count as usize)?;
     for class in 0..count {
         let stem = job.stem_of_class(class);
         let part = stem % parts;
-        let visit = visit_to(visits.as_slice(), stem);
+        let visit = visits[stem as usize];
         ranked.push(Ranked {
             part,
             visit,
@@ -112,14 +115,4 @@ fn numbered_classes(alloc: Global, job: &Job, parts: u32) -> Result<Vec<Ranked>,
         })?;
     }
     Ok(ranked)
-}
-
-/// The visit to a signal, among those to all.
-fn visit_to(visits: &[u32], signal: u32) -> u32
-    ensures { result ≡ slice_index_or visits.now signal 0 }
-{
-    match visits.get(signal as usize) {
-        Some(visit) => *visit,
-        None => 0,
-    }
 }

@@ -16,19 +16,19 @@ use Rattle.block_sim.proofs.effect.effect.Goals as goal
 
 pub carried-signal-requires-clause-named : goal.carried-signal-requires-clause-named
 carried-signal-requires-clause-named c =
-    is_on_name c.args.view.circuit.now.levelled c.args.fault.model (stuck_fault c.args.fault)
+    is_on_name c.args.view.circuit.now.arranged c.args.fault.model (stuck_fault c.args.fault)
     c.requires.view.circuit.well_formed c.requires.listed
 
 pub bounds-view-signal : goal.bounds-view-signal
 bounds-view-signal c =
-    let carried = is_carried c.args.view.circuit.now.levelled c.args.fault.model
+    let carried = is_carried c.args.view.circuit.now.arranged c.args.fault.model
     (stuck_fault c.args.fault) c.requires.view.circuit.well_formed c.requires.listed
     c.carried-signal.result c.carried-signal.ensures in
     omega (arith, carried.within, c.requires.view.count)
 
 pub returns-then-excited-eq0-clause-shown : goal.returns-then-excited-eq0-clause-shown
 returns-then-excited-eq0-clause-shown c = λ tests group words.
-    let circuit = c.args.view.circuit.now.levelled in
+    let circuit = c.args.view.circuit.now.arranged in
     let well = c.requires.view.circuit.well_formed in
     let good = c.args.view.good.now in
     let lanes = c.args.view.lanes in
@@ -45,7 +45,7 @@ returns-then-excited-eq0-clause-shown c = λ tests group words.
 
 pub spread-requires-clause-start : goal.spread-requires-clause-start
 spread-requires-clause-start c =
-    (starts_on_stem c.args.view.circuit.now.levelled c.args.fault.model (stuck_fault c.args.fault)
+    (starts_on_stem c.args.view.circuit.now.arranged c.args.fault.model (stuck_fault c.args.fault)
     c.requires.view.circuit.well_formed c.requires.listed c.carried-signal.result
     c.carried-signal.ensures c.args.view.good.now c.args.view.lanes c.word.result c.word.ensures
     c.args.changes.now.overlay c.in-Stem.start c.in-Stem.is c.requires.room.overlay).within
@@ -56,7 +56,7 @@ spread-requires-clause-inside c = λ k lt e. only_lanes _ c.args.view.lanes k e
 pub spread-requires-clause-first : goal.spread-requires-clause-first
 spread-requires-clause-first c =
     let fault = stuck_fault c.args.fault in
-    let stem = starts_on_stem c.args.view.circuit.now.levelled c.args.fault.model fault
+    let stem = starts_on_stem c.args.view.circuit.now.arranged c.args.fault.model fault
     c.requires.view.circuit.well_formed c.requires.listed c.carried-signal.result
     c.carried-signal.ensures c.args.view.good.now c.args.view.lanes c.word.result c.word.ensures
     c.args.changes.now.overlay c.in-Stem.start c.in-Stem.is c.requires.room.overlay in
@@ -66,26 +66,26 @@ spread-requires-clause-first c =
 
 pub gate_change-diff-requires-clause-gate : goal.gate_change-diff-requires-clause-gate
 gate_change-diff-requires-clause-gate c =
-    (starts_on_pin c.args.view.circuit.now.levelled c.args.fault.model (stuck_fault c.args.fault)
+    (starts_on_pin c.args.view.circuit.now.arranged c.args.fault.model (stuck_fault c.args.fault)
     c.requires.view.circuit.well_formed c.requires.listed c.args.view.good.now c.args.view.lanes
     c.in-Pin.gate c.in-Pin.pin c.in-Pin.is).within
 
 pub gate_change-diff-requires-clause-driven : goal.gate_change-diff-requires-clause-driven
 gate_change-diff-requires-clause-driven c =
-    (starts_on_pin c.args.view.circuit.now.levelled c.args.fault.model (stuck_fault c.args.fault)
+    (starts_on_pin c.args.view.circuit.now.arranged c.args.fault.model (stuck_fault c.args.fault)
     c.requires.view.circuit.well_formed c.requires.listed c.args.view.good.now c.args.view.lanes
     c.in-Pin.gate c.in-Pin.pin c.in-Pin.is).driven
 
 pub spread-requires-in-Pin-clause-start : goal.spread-requires-in-Pin-clause-start
 spread-requires-in-Pin-clause-start c =
-    (starts_on_pin c.args.view.circuit.now.levelled c.args.fault.model (stuck_fault c.args.fault)
+    (starts_on_pin c.args.view.circuit.now.arranged c.args.fault.model (stuck_fault c.args.fault)
     c.requires.view.circuit.well_formed c.requires.listed c.args.view.good.now c.args.view.lanes
     c.in-Pin.gate c.in-Pin.pin c.in-Pin.is).within
 
 pub spread-requires-in-Pin-clause-first : goal.spread-requires-in-Pin-clause-first
 spread-requires-in-Pin-clause-first c =
     let fault = stuck_fault c.args.fault in
-    let pin = starts_on_pin c.args.view.circuit.now.levelled c.args.fault.model fault
+    let pin = starts_on_pin c.args.view.circuit.now.arranged c.args.fault.model fault
     c.requires.view.circuit.well_formed c.requires.listed c.args.view.good.now c.args.view.lanes
     c.in-Pin.gate c.in-Pin.pin c.in-Pin.is in
     let tests = c.requires.words.0 in
@@ -105,13 +105,13 @@ spread-requires-in-Pin-clause-room c =
       gates = ap (λ b. length b.at) c.gate_change-diff.ensures.buckets;
       levels = ap (λ b. b.levels) c.gate_change-diff.ensures.buckets;
     } in
-    large_enough c.args.view.circuit.now.levelled c.args.changes.now c.gate_change-diff.new.changes
+    large_enough c.args.view.circuit.now.arranged c.args.changes.now c.gate_change-diff.new.changes
     c.requires.room large
 
 pub returns-in-Stem-clause-shown : goal.returns-in-Stem-clause-shown
 returns-in-Stem-clause-shown c = λ tests group words.
     let fault = stuck_fault c.args.fault in
-    let stem = starts_on_stem c.args.view.circuit.now.levelled c.args.fault.model fault
+    let stem = starts_on_stem c.args.view.circuit.now.arranged c.args.fault.model fault
     c.requires.view.circuit.well_formed c.requires.listed c.carried-signal.result
     c.carried-signal.ensures c.args.view.good.now c.args.view.lanes c.word.result c.word.ensures
     c.args.changes.now.overlay c.in-Stem.start c.in-Stem.is c.requires.room.overlay in
@@ -120,7 +120,7 @@ returns-in-Stem-clause-shown c = λ tests group words.
 pub returns-in-Stem-clause-counted : goal.returns-in-Stem-clause-counted
 returns-in-Stem-clause-counted c = λ tests group gates words sized all.
     let fault = stuck_fault c.args.fault in
-    let stem = starts_on_stem c.args.view.circuit.now.levelled c.args.fault.model fault
+    let stem = starts_on_stem c.args.view.circuit.now.arranged c.args.fault.model fault
     c.requires.view.circuit.well_formed c.requires.listed c.carried-signal.result
     c.carried-signal.ensures c.args.view.good.now c.args.view.lanes c.word.result c.word.ensures
     c.args.changes.now.overlay c.in-Stem.start c.in-Stem.is c.requires.room.overlay in
@@ -131,7 +131,7 @@ returns-in-Stem-clause-counted c = λ tests group gates words sized all.
 pub returns-in-Pin-clause-shown : goal.returns-in-Pin-clause-shown
 returns-in-Pin-clause-shown c = λ tests group words.
     let fault = stuck_fault c.args.fault in
-    let pin = starts_on_pin c.args.view.circuit.now.levelled c.args.fault.model fault
+    let pin = starts_on_pin c.args.view.circuit.now.arranged c.args.fault.model fault
     c.requires.view.circuit.well_formed c.requires.listed c.args.view.good.now c.args.view.lanes
     c.in-Pin.gate c.in-Pin.pin c.in-Pin.is in
     c.spread-in-Pin.ensures.shown tests group (λ _. fault)
@@ -141,7 +141,7 @@ returns-in-Pin-clause-shown c = λ tests group words.
 
 pub returns-in-Pin-clause-counted : goal.returns-in-Pin-clause-counted
 returns-in-Pin-clause-counted c = λ tests group gates words sized all.
-    let circuit = c.args.view.circuit.now.levelled in
+    let circuit = c.args.view.circuit.now.arranged in
     let well = c.requires.view.circuit.well_formed in
     let good = c.args.view.good.now in
     let lanes = c.args.view.lanes in
@@ -161,7 +161,7 @@ returns-in-Pin-clause-counted c = λ tests group gates words sized all.
 
 pub returns-in-Data-clause-shown : goal.returns-in-Data-clause-shown
 returns-in-Data-clause-shown c = λ tests group words.
-    let circuit = c.args.view.circuit.now.levelled in
+    let circuit = c.args.view.circuit.now.arranged in
     let well = c.requires.view.circuit.well_formed in
     let good = c.args.view.good.now in
     let lanes = c.args.view.lanes in

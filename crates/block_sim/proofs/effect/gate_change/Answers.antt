@@ -11,20 +11,20 @@ use Rattle.block_sim.proofs.effect.gate_change.Goals as goal
 pub evaluate_gate-word-requires-clause-pins_in : goal.evaluate_gate-word-requires-clause-pins_in
 evaluate_gate-word-requires-clause-pins_in c =
     λ k d lt.
-    let within = pins_within c.args.view.circuit.now.levelled c.args.gate c.in-Some.driver.kind
+    let within = pins_within c.args.view.circuit.now.arranged c.args.gate c.in-Some.driver.kind
     c.in-Some.driver.pins.now c.requires.view.circuit.well_formed (sym c.in-Some.ensures.gate) k d
     lt in
     omega (arith, within, c.requires.view.count)
 
 pub evaluate_gate-word-requires-clause-some : goal.evaluate_gate-word-requires-clause-some
 evaluate_gate-word-requires-clause-some c =
-    pins_some c.args.view.circuit.now.levelled c.args.gate c.in-Some.driver.kind
+    pins_some c.args.view.circuit.now.arranged c.args.gate c.in-Some.driver.kind
     c.in-Some.driver.pins.now
     c.requires.view.circuit (sym c.in-Some.ensures.gate)
 
 pub evaluate_gate-word-requires-clause-few : goal.evaluate_gate-word-requires-clause-few
 evaluate_gate-word-requires-clause-few c =
-    pins_few c.args.view.circuit.now.levelled c.args.gate c.in-Some.driver.kind
+    pins_few c.args.view.circuit.now.arranged c.args.gate c.in-Some.driver.kind
     c.in-Some.driver.pins.now
     c.requires.view.circuit (sym c.in-Some.ensures.gate)
 

@@ -9,60 +9,60 @@ use Rattle.fault_model.specs.Reordered.{in_order, place}
 use Rattle.block_sim.specs.declared.flat.Reader.{Reader}
 use Rattle.block_sim.proofs.Flats.{gathered_none, gathered_passed, gathered_dead, gathered_more}
 use Rattle.block_sim.proofs.Flats.{gathered_all}
-use Rattle.block_sim.proofs.LevelledRows.{moved_reader, readers_moved}
-use Rattle.block_sim.proofs.LevelledSignals.{reordered}
+use Rattle.block_sim.proofs.ArrangedRows.{moved_reader, readers_moved}
+use Rattle.block_sim.proofs.ArrangedSignals.{reordered}
 use Rattle.block_sim.proofs.Readers.{reader_within}
 use Rattle.block_sim.proofs.ReorderedReaders.{same_readers}
 use Rattle.block_sim.proofs.ScheduledGates.{HasObserver, observer_none, sink_gate, observer_passed}
 use Rattle.block_sim.proofs.ScheduledGates.{observer_found, observer_all}
 use Rattle.block_sim.proofs.flat.add_readers.Goals as goal
-use Rattle.block_sim.proofs.flat.add_readers.Goals.{in-Pin+else-not-levels-gate+in_ok-push-in-Pin}
+use Rattle.block_sim.proofs.flat.add_readers.Goals.{in-Pin+else-not-placed-gate+in_ok-push-in-Pin}
 use Rattle.block_sim.proofs.flat.add_readers.Goals.{in-Data, in-Out}
 
 pub loop-sink-init : goal.loop-sink-init
 loop-sink-init c = record {
   more = [];
   is = sym (append-nil c.args.readers.now.items);
-  gathered = gathered_none c.args.levels.circuit.now c.args.signal c.sinks_of-sink-items.result.now;
-  observer = observer_none c.args.levels.circuit.now c.args.signal c.sinks_of-sink-items.result.now;
+  gathered = gathered_none c.args.placed.circuit.now c.args.signal c.sinks_of-sink-items.result.now;
+  observer = observer_none c.args.placed.circuit.now c.args.signal c.sinks_of-sink-items.result.now;
 }
 
 pub level_of-level-requires : goal.level_of-level-requires
 level_of-level-requires c =
-    let circuit = c.args.levels.circuit.now in
+    let circuit = c.args.placed.circuit.now in
     let n = within_place (names circuit) c.args.signal c.requires.signal in
-    let reads = sink_gate circuit c.requires.levels.circuit.well_formed c.args.signal n.0 n.1
+    let reads = sink_gate circuit c.requires.placed.circuit.well_formed c.args.signal n.0 n.1
     c.sinks_of-sink-items.result.now (c.sinks_of-sink-items.ensures n.0 n.1)
     c.loop-sink.sink-index c.in-Pin.gate c.in-Pin.pin (sink.Pin 0 0) c.loop-sink-test.true
     c.in-Pin.is in
     reader_within circuit c.in-Pin.gate c.args.signal reads
 
-pub bounds-levels-gate : goal.bounds-levels-gate
-bounds-levels-gate c =
-    let circuit = c.args.levels.circuit.now in
+pub bounds-placed-gate : goal.bounds-placed-gate
+bounds-placed-gate c =
+    let circuit = c.args.placed.circuit.now in
     let n = within_place (names circuit) c.args.signal c.requires.signal in
-    let reads = sink_gate circuit c.requires.levels.circuit.well_formed c.args.signal n.0 n.1
+    let reads = sink_gate circuit c.requires.placed.circuit.well_formed c.args.signal n.0 n.1
     c.sinks_of-sink-items.result.now (c.sinks_of-sink-items.ensures n.0 n.1)
     c.loop-sink.sink-index c.in-Pin.gate c.in-Pin.pin (sink.Pin 0 0) c.loop-sink-test.true
     c.in-Pin.is in
     let lt = reader_within circuit c.in-Pin.gate c.args.signal reads in
-    omega (arith, lt, c.requires.levels.live_room)
+    omega (arith, lt, c.requires.placed.live_room)
 
-pub bounds-levels-gate-in-Pin : goal.bounds-levels-gate-in-Pin
-bounds-levels-gate-in-Pin c =
-    let circuit = c.args.levels.circuit.now in
+pub bounds-placed-gate-in-Pin : goal.bounds-placed-gate-in-Pin
+bounds-placed-gate-in-Pin c =
+    let circuit = c.args.placed.circuit.now in
     let n = within_place (names circuit) c.args.signal c.requires.signal in
-    let reads = sink_gate circuit c.requires.levels.circuit.well_formed c.args.signal n.0 n.1
+    let reads = sink_gate circuit c.requires.placed.circuit.well_formed c.args.signal n.0 n.1
     c.sinks_of-sink-items.result.now (c.sinks_of-sink-items.ensures n.0 n.1)
     c.loop-sink.sink-index c.in-Pin.gate c.in-Pin.pin (sink.Pin 0 0) c.loop-sink-test.true
     c.in-Pin.is in
     let lt = reader_within circuit c.in-Pin.gate c.args.signal reads in
-    omega (arith, lt, c.requires.levels.room)
+    omega (arith, lt, c.requires.placed.room)
 
-pub loop-sink-preserved-then-not-levels-gate : goal.loop-sink-preserved-then-not-levels-gate
-loop-sink-preserved-then-not-levels-gate c =
-    let circuit = c.args.levels.circuit.now in
-    let well = c.requires.levels.circuit.well_formed in
+pub loop-sink-preserved-then-not-placed-gate : goal.loop-sink-preserved-then-not-placed-gate
+loop-sink-preserved-then-not-placed-gate c =
+    let circuit = c.args.placed.circuit.now in
+    let well = c.requires.placed.circuit.well_formed in
     let s = c.args.signal in
     let n = within_place (names circuit) s c.requires.signal in
     let items = c.sinks_of-sink-items.result.now in
@@ -77,8 +77,8 @@ loop-sink-preserved-then-not-levels-gate c =
       gathered = gathered_dead circuit well s n.0 n.1 items are i c.loop-sink.invariant.more
           c.loop-sink.invariant.gathered gate c.in-Pin.pin (sink.Pin 0 0) c.loop-sink-test.true
           c.in-Pin.is
-          (λ live. false≢true (sym c.if-not-levels-gate.true
-          ∙ (c.requires.levels.alive gate (reader_within circuit gate s reads)).1 live));
+          (λ live. false≢true (sym c.if-not-placed-gate.true
+          ∙ (c.requires.placed.alive gate (reader_within circuit gate s reads)).1 live));
       observer = observer_passed circuit well s n.0 n.1 items are i gate c.in-Pin.pin
           (sink.Pin 0 0) c.loop-sink.observed c.loop-sink-test.true c.in-Pin.is
           c.loop-sink.invariant.observer;
@@ -86,8 +86,8 @@ loop-sink-preserved-then-not-levels-gate c =
 
 pub loop-sink-preserved : goal.loop-sink-preserved
 loop-sink-preserved c =
-    let circuit = c.args.levels.circuit.now in
-    let well = c.requires.levels.circuit.well_formed in
+    let circuit = c.args.placed.circuit.now in
+    let well = c.requires.placed.circuit.well_formed in
     let s = c.args.signal in
     let n = within_place (names circuit) s c.requires.signal in
     let items = c.sinks_of-sink-items.result.now in
@@ -95,17 +95,17 @@ loop-sink-preserved c =
     let i = c.loop-sink.sink-index in
     let more = c.loop-sink.invariant.more in
     let before = c.loop-sink.invariant.gathered in
-    let there = in_order circuit c.args.levels.order.now in
+    let there = in_order circuit c.args.placed.order.now in
     elim c.match-sink.branch [
-      | in-Pin+else-not-levels-gate+in_ok-push-in-Pin w ↦
+      | in-Pin+else-not-placed-gate+in_ok-push-in-Pin w ↦
           let reads = sink_gate circuit well s n.0 n.1 items are i w.in-Pin.gate w.in-Pin.pin
           (sink.Pin 0 0) c.loop-sink-test.true w.in-Pin.is in
           let reader : Reader = record { gate = w.in-Pin.gate; level = w.level_of-level.result } in
-          let placed : slice_index_or c.args.levels.places.now w.in-Pin.gate 0
+          let placed : slice_index_or c.args.placed.places.now w.in-Pin.gate 0
           ≡ place circuit there w.in-Pin.gate =
-          c.requires.levels.placed w.in-Pin.gate (reader_within circuit w.in-Pin.gate s reads) in
+          c.requires.placed.placed w.in-Pin.gate (reader_within circuit w.in-Pin.gate s reads) in
           let moved : Reader = record {
-            gate = slice_index_or c.args.levels.places.now w.in-Pin.gate 0;
+            gate = slice_index_or c.args.placed.places.now w.in-Pin.gate 0;
             level = w.level_of-level.result;
           } in
           let same : moved ≡ moved_reader circuit there reader =
@@ -121,9 +121,9 @@ loop-sink-preserved c =
                 ∙ sym (map-append (moved_reader circuit there) more (reader ∷ []))))));
             gathered = gathered_more circuit well s n.0 n.1 items are i more before w.in-Pin.gate
                 w.in-Pin.pin (sink.Pin 0 0) reader c.loop-sink-test.true w.in-Pin.is refl reads
-                ((c.requires.levels.alive w.in-Pin.gate
+                ((c.requires.placed.alive w.in-Pin.gate
                 (reader_within circuit w.in-Pin.gate s reads)).0
-                w.if-not-levels-gate.false) w.level_of-level.ensures;
+                w.if-not-placed-gate.false) w.level_of-level.ensures;
             observer = subst (HasObserver circuit s items (i + 1)) (sym w.observed-is)
                 (observer_passed circuit well s n.0 n.1 items are i w.in-Pin.gate w.in-Pin.pin
                 (sink.Pin 0 0) c.loop-sink.observed c.loop-sink-test.true w.in-Pin.is
@@ -157,16 +157,16 @@ loop-sink-preserved c =
 
 pub returns-clause-readers : goal.returns-clause-readers
 returns-clause-readers c =
-    let circuit = c.args.levels.circuit.now in
-    let well = c.requires.levels.circuit.well_formed in
-    let order = c.args.levels.order.now in
+    let circuit = c.args.placed.circuit.now in
+    let well = c.requires.placed.circuit.well_formed in
+    let order = c.args.placed.order.now in
     let there = in_order circuit order in
     let more = c.loop-sink.invariant.more in
     let n = within_place (names circuit) c.args.signal c.requires.signal in (
       map (moved_reader circuit there) more,
       c.loop-sink.invariant.is,
       readers_moved circuit there well
-          (reordered circuit there well (order, c.requires.levels.ordered, refl)) c.args.signal more
+          (reordered circuit there well (order, c.requires.placed.ordered, refl)) c.args.signal more
           (gathered_all circuit well c.args.signal n.0 n.1
           c.sinks_of-sink-items.result.now (c.sinks_of-sink-items.ensures n.0 n.1)
           c.loop-sink.sink-index more c.loop-sink.invariant.gathered c.loop-sink-test.false),
@@ -174,9 +174,9 @@ returns-clause-readers c =
 
 pub returns-clause-observed : goal.returns-clause-observed
 returns-clause-observed c =
-    let circuit = c.args.levels.circuit.now in
-    let well = c.requires.levels.circuit.well_formed in
-    let order = c.args.levels.order.now in
+    let circuit = c.args.placed.circuit.now in
+    let well = c.requires.placed.circuit.well_formed in
+    let order = c.args.placed.order.now in
     let there = in_order circuit order in
     let n = within_place (names circuit) c.args.signal c.requires.signal in
     let own = observer_all circuit well c.args.signal n.0 n.1
@@ -184,6 +184,6 @@ returns-clause-observed c =
     c.loop-sink.sink-index
     c.loop-sink.observed c.loop-sink-test.false c.loop-sink.invariant.observer in
     let moved = (same_readers circuit there well
-    (reordered circuit there well (order, c.requires.levels.ordered, refl))).observed c.args.signal
+    (reordered circuit there well (order, c.requires.placed.ordered, refl))).observed c.args.signal
     in
     (λ e. moved.0 (own.0 e), λ o. own.1 (moved.1 o))

@@ -4,20 +4,20 @@ use Rattle.std.proofs.lemmas.List.{length_push}
 use Rattle.bench_net.specs.Scan.{names}
 use Rattle.fault_model.specs.Reordered.{in_order, place}
 use Rattle.block_sim.specs.Flat.{AreRows, AreStandings, IsRow, IsStanding}
-use Rattle.block_sim.specs.Levelled.{IsLevelled}
+use Rattle.block_sim.specs.Arranged.{IsArranged}
 use Rattle.block_sim.proofs.Flats.{rows_with, standings_with}
-use Rattle.block_sim.proofs.LevelOrder.{order_within}
-use Rattle.block_sim.proofs.LevelledSignals.{at_order, count_there}
+use Rattle.block_sim.proofs.FlowOrder.{flow_within}
+use Rattle.block_sim.proofs.ArrangedSignals.{at_order, count_there}
 use Rattle.block_sim.proofs.flat.lists_of.Goals as goal
 
 pub add_row-requires-clause-signal : goal.add_row-requires-clause-signal
 add_row-requires-clause-signal c =
-    order_within c.args.circuit.now c.args.order.now c.loop-place.place c.requires.order
+    flow_within c.args.circuit.now c.args.order.now c.loop-place.place c.requires.order
     c.loop-place-test.true
 
 pub standing_of-requires-clause-signal : goal.standing_of-requires-clause-signal
 standing_of-requires-clause-signal c =
-    order_within c.args.circuit.now c.args.order.now c.loop-place.place c.requires.order
+    flow_within c.args.circuit.now c.args.order.now c.loop-place.place c.requires.order
     c.loop-place-test.true
 
 pub loop-place-preserved : goal.loop-place-preserved
@@ -25,10 +25,10 @@ loop-place-preserved c =
     let circuit = c.args.circuit.now in
     let order = c.args.order.now in
     let there = in_order circuit order in
-    let levelled : IsLevelled circuit there = (order, c.requires.order, refl) in
+    let arranged : IsArranged circuit there = (order, c.requires.order, refl) in
     let at = c.loop-place.place in
     let is : place circuit there (slice_index_or order at 0) ≡ at =
-    at_order circuit there c.signals-signals.ensures.circuit.well_formed levelled at
+    at_order circuit there c.signals-signals.ensures.circuit.well_formed arranged at
     c.loop-place-test.true in
     let rows = c.loop-place.rows.items in
     let row = c.in_ok-row.row in
@@ -57,13 +57,13 @@ pub returns : goal.returns
 returns c =
     let circuit = c.args.circuit.now in
     let there = in_order circuit c.args.order.now in
-    let levelled : IsLevelled circuit there = (c.args.order.now, c.requires.order, refl) in
-    let count = count_there circuit there c.signals-signals.ensures.circuit.well_formed levelled in
+    let arranged : IsArranged circuit there = (c.args.order.now, c.requires.order, refl) in
+    let count = count_there circuit there c.signals-signals.ensures.circuit.well_formed arranged in
     let end : c.loop-place.place ≡ length (names there) = omega (
       arith,
       c.loop-place-test.false,
       c.loop-place.auto.place-end,
-      c.requires.order.count,
+      c.requires.order.signals.count,
       count,
     ) in
     record {

@@ -1,23 +1,23 @@
 use Rattle.std.proofs.Common.{refl}
 use Rattle.fault_model.specs.Reordered.{in_order}
-use Rattle.block_sim.specs.Levelled.{IsLevelled}
-use Rattle.block_sim.proofs.LevelledSignals.{reordered, signals_there}
+use Rattle.block_sim.specs.Arranged.{IsArranged}
+use Rattle.block_sim.proofs.ArrangedSignals.{reordered, signals_there}
 use Rattle.block_sim.proofs.ReorderedReaders.{same_readers}
 use Rattle.block_sim.proofs.flat.standing_of.Goals as goal
 
 pub returns : goal.returns
 returns c =
-    let circuit = c.args.levels.circuit.now in
-    let well = c.requires.levels.circuit.well_formed in
-    let order = c.args.levels.order.now in
+    let circuit = c.args.placed.circuit.now in
+    let well = c.requires.placed.circuit.well_formed in
+    let order = c.args.placed.order.now in
     let there = in_order circuit order in
-    let levelled : IsLevelled circuit there = (order, c.requires.levels.ordered, refl) in
+    let arranged : IsArranged circuit there = (order, c.requires.placed.ordered, refl) in
     let s = c.args.signal in
-    let own = c.requires.levels.alive s c.requires.signal in
-    let live = (same_readers circuit there well (reordered circuit there well levelled)).live s in
+    let own = c.requires.placed.alive s c.requires.signal in
+    let live = (same_readers circuit there well (reordered circuit there well arranged)).live s in
     record {
       lone = c.lone_place.ensures;
-      level = ((signals_there circuit there well levelled).levels s c.level_of.result).0
+      level = ((signals_there circuit there well arranged).levels s c.level_of.result).0
           c.level_of.ensures;
       live = (λ on. live.0 (own.0 on), λ l. own.1 (live.1 l));
     }

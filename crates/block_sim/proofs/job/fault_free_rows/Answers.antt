@@ -4,7 +4,7 @@ use Rattle.std.specs.Prelude.{map, vec_len}
 use Rattle.std.proofs.lemmas.List.{map-append, length_push, with_items_is}
 use Rattle.bench_net.specs.Scan.{names}
 use Rattle.block_sim.specs.Job.{AreFaultFree}
-use Rattle.block_sim.proofs.LevelledSignals.{sources_there}
+use Rattle.block_sim.proofs.ArrangedSignals.{sources_there}
 use Rattle.block_sim.proofs.Rows.{rows_more}
 use Rattle.block_sim.proofs.job.fault_free_rows.Goals as goal
 
@@ -12,7 +12,7 @@ pub evaluate-requires-clause-width : goal.evaluate-requires-clause-width
 evaluate-requires-clause-width c =
     let signals = c.signals-signals.ensures in
     c.requires.width ∙ ap length (sym (sources_there c.args.circuit.now.statements
-    c.args.circuit.now.levelled signals.given.well_formed signals.levelled))
+    c.args.circuit.now.arranged signals.given.well_formed signals.arranged))
 
 pub loop-group-preserved : goal.loop-group-preserved
 loop-group-preserved c =
@@ -24,7 +24,7 @@ loop-group-preserved c =
       c.evaluate.ensures.room,
       c.deref_mut.ensures.len,
     ) in
-    let room : length words ≡ length (names c.args.circuit.now.levelled) = omega (
+    let room : length words ≡ length (names c.args.circuit.now.arranged) = omega (
       arith,
       long,
       c.in_ok-row.ensures.len,
@@ -36,8 +36,8 @@ loop-group-preserved c =
     record {
       count = ap length pushed ∙ (length_push before words
           ∙ ap (λ n. n + 1) c.loop-group.invariant.count);
-      rows = subst (AreFaultFree c.args.circuit.now.levelled c.args.tests.now.tests) (sym pushed)
-          (rows_more c.args.circuit.now.levelled c.args.tests.now.tests before words
+      rows = subst (AreFaultFree c.args.circuit.now.arranged c.args.tests.now.tests) (sym pushed)
+          (rows_more c.args.circuit.now.arranged c.args.tests.now.tests before words
           c.loop-group.group
           c.loop-group.invariant.count c.loop-group.invariant.rows room
           c.evaluate.ensures.words);

@@ -6,5 +6,5 @@ use Rattle.block_sim.proofs.job.fault_free_rows.Given as goal
 abbrev pub invariant-loop-group : goal.invariant-loop-group
 invariant-loop-group l = record {
   count : length (map (λ row. row.items) l.rows.items) ≡ l.group;
-  rows : AreFaultFree l.circuit.levelled l.tests.tests (map (λ row. row.items) l.rows.items);
+  rows : AreFaultFree l.circuit.arranged l.tests.tests (map (λ row. row.items) l.rows.items);
 }

@@ -1,4 +1,5 @@
-use Rattle.std.proofs.Common.{◌+◌, ◌*◌, ◌∙◌, subst, sym}
+use Rattle.std.proofs.Common.{◌+◌, ◌*◌, ◌∙◌, ap, subst, sym}
+use Rattle.fault_model.specs.Fault.{Fault}
 use Rattle.std.specs.Prelude.{bit_and}
 use Rattle.std.specs.Bool.{Decides}
 use Rattle.fault_model.specs.Detection.{IsInitialized, IsSecondOfPair, LooksBack}
@@ -12,14 +13,14 @@ returns-in-StuckAt c = λ f k starts lt listed.
     subst (λ m. Decides (lane 340282366920938463463374607431768211455 k)
     (LooksBack c.args.job.now.circuit c.args.job.now.tests.tests m f.line
     f.stuck (128 * c.args.group + k)))
-    (sym (sym starts.model ∙ c.in-StuckAt.is)) (λ h. tt, λ h. lane_ones 128 k lt)
+    (sym (sym (ap (λ (x : Fault). x.model) starts.is) ∙ c.in-StuckAt.is)) (λ h. tt, λ h. lane_ones 128 k lt)
 
 pub returns-in-Transition : goal.returns-in-Transition
 returns-in-Transition c = λ f k starts lt listed.
     subst (λ m. Decides (lane c.initialized_lanes.result k)
     (LooksBack c.args.job.now.circuit c.args.job.now.tests.tests m f.line
     f.stuck (128 * c.args.group + k)))
-    (sym (sym starts.model ∙ c.in-Transition.is)) (c.initialized_lanes.ensures f k starts lt listed)
+    (sym (sym (ap (λ (x : Fault). x.model) starts.is) ∙ c.in-Transition.is)) (c.initialized_lanes.ensures f k starts lt listed)
 
 pub returns-in-TransitionPairs : goal.returns-in-TransitionPairs
 returns-in-TransitionPairs c = λ f k starts lt listed.
@@ -29,7 +30,7 @@ returns-in-TransitionPairs c = λ f k starts lt listed.
     (λ m.
     Decides (lane (bit_and c.second_lanes.result c.initialized_lanes-in-TransitionPairs.result)
     k) (LooksBack job.circuit job.tests.tests m f.line f.stuck test))
-    (sym (sym starts.model ∙ c.in-TransitionPairs.is))
+    (sym (sym (ap (λ (x : Fault). x.model) starts.is) ∙ c.in-TransitionPairs.is))
     (both_decide c.second_lanes.result c.initialized_lanes-in-TransitionPairs.result k
     (IsSecondOfPair test) (IsInitialized job.circuit job.tests.tests f.line
     f.stuck test)

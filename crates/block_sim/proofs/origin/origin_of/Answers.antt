@@ -1,50 +1,36 @@
-use Rattle.std.proofs.Common.{◌≡◌, ◌∙◌, ap, subst}
+use Rattle.std.proofs.Common.{◌≡◌, ◌∙◌, ap, refl}
 use Rattle.fault_model.specs.Detection.{name_on}
 use Rattle.fault_model.specs.Fault.{Fault}
 use Rattle.fault_model.specs.Reordered.{moved_fault, moved_line}
-use Rattle.fault_model.proofs.Public.{carries}
-use Rattle.block_sim.specs.Origins.{Carries}
 use Rattle.block_sim.specs.Stuck.{stuck_fault}
-use Rattle.block_sim.proofs.LevelledSignals.{one_levelled}
-use Rattle.block_sim.proofs.LevelledWords.{carries_there}
+use Rattle.block_sim.proofs.ArrangedWords.{carried_name, carries_there, moved_there}
 use Rattle.block_sim.proofs.origin.origin_of.Goals as goal
 
 pub moved-fault-requires : goal.moved-fault-requires
-moved-fault-requires c =
-    let fault = c.representative.result in
-    let named = carries fault.model c.args.circuit.now.statements (stuck_fault fault)
-    c.signals-signals.ensures.given.well_formed c.representative.ensures.listed in
-    (named.0, named.1)
+moved-fault-requires c = carried_name c.args.circuit.now.statements c.requires.0 c.args.stuck
+    c.signals-signals.ensures.given.well_formed c.requires.1
 
 pub carried-requires-clause-named : goal.carried-requires-clause-named
 carried-requires-clause-named c =
     let circuit = c.args.circuit.now.statements in
-    let there = c.args.circuit.now.levelled in
-    let fault = stuck_fault c.representative.result in
+    let there = c.args.circuit.now.arranged in
+    let fault = c.requires.0 in
+    let is : stuck_fault c.moved-fault.result ≡ moved_fault circuit there fault =
+    moved_there circuit there circuit fault c.args.stuck c.moved-fault.result refl
+    c.moved-fault.ensures c.requires.1.is in
     let line : c.moved-fault.result.line ≡ moved_line circuit there fault.line =
-    ap (λ (f : Fault). f.line) c.moved-fault.ensures in
+    ap (λ (f : Fault). f.line) is in
     let named = carries_there circuit there c.signals-signals.ensures.given.well_formed
-    c.signals-signals.ensures.levelled fault.model fault c.representative.ensures.listed in
+    c.signals-signals.ensures.arranged fault.model fault c.requires.1.listed in
     (named.0, ap (name_on there) line ∙ named.1)
 
 pub returns : goal.returns
-returns c =
+returns c = λ f stands.
     let circuit = c.args.circuit.now.statements in
-    let there = c.args.circuit.now.levelled in
-    let levelled = c.signals-signals.ensures.levelled in
-    let well = c.signals-signals.ensures.given.well_formed in
-    let fault = stuck_fault c.representative.result in
-    let moved = c.moved-fault.result in
-    let is : stuck_fault moved ≡ moved_fault circuit there fault = c.moved-fault.ensures in (
-      fault,
-      c.representative.ensures.representative,
-      record {
-        listed = c.representative.ensures.listed;
-        model = ap (λ (f : Fault). f.model) is;
-        stuck = ap (λ (f : Fault). f.stuck) is;
-        moved = λ d own. subst (λ x. stuck_fault moved ≡ moved_fault circuit x fault)
-            (one_levelled circuit there d well levelled own) is;
-        carried = λ d own. subst (λ x. Carries x moved.line c.carried.result)
-            (one_levelled circuit there d well levelled own) c.carried.ensures;
-      },
-    )
+    let there = c.args.circuit.now.arranged in
+    record {
+      listed = stands.listed;
+      moved = moved_there circuit there circuit f c.args.stuck c.moved-fault.result refl
+          c.moved-fault.ensures stands.is;
+      carried = c.carried.ensures;
+    }

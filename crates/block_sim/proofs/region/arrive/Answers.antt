@@ -12,7 +12,7 @@ use Rattle.block_sim.proofs.region.arrive.Goals as goal
 
 pub returns-then-not-is_live-clause-come : goal.returns-then-not-is_live-clause-come
 returns-then-not-is_live-clause-come c = λ tests group f words come k lt asked.
-    let circuit = c.args.view.circuit.now.levelled in (
+    let circuit = c.args.view.circuit.now.arranged in (
       λ d. absurd (dead_flip circuit c.requires.view.circuit.well_formed (test_of tests group k)
           c.args.from.signal
           (λ live. false≢true (sym c.if-not-is_live.true ∙ c.is_live.ensures.1 live))
@@ -34,19 +34,19 @@ loop-step-init c = record {
 
 pub cross-lanes-requires-clause-room : goal.cross-lanes-requires-clause-room
 cross-lanes-requires-clause-room c =
-    large_enough c.args.view.circuit.now.levelled c.args.changes.now c.loop-step.changes
+    large_enough c.args.view.circuit.now.arranged c.args.changes.now c.loop-step.changes
     c.requires.room
     c.loop-step.invariant.room
 
 pub cross-lanes-requires-clause-read : goal.cross-lanes-requires-clause-read
 cross-lanes-requires-clause-read c =
-    pin_law c.args.view.circuit.now.levelled c.requires.view.circuit.well_formed
+    pin_law c.args.view.circuit.now.arranged c.requires.view.circuit.well_formed
     c.loop-step.at.signal
     c.in-Some.gate (sym c.in-Some.ensures)
 
 pub loop-step-preserved : goal.loop-step-preserved
 loop-step-preserved c =
-    let circuit = c.args.view.circuit.now.levelled in
+    let circuit = c.args.view.circuit.now.arranged in
     let well = c.requires.view.circuit.well_formed in
     let last = c.loop-step.invariant in
     let next = c.cross-lanes.ensures in
@@ -75,7 +75,7 @@ returns-in-None-clause-stem c = λ some. (c.loop-step.invariant.leads, sym c.in-
 -- the way is no longer than there are levels
 pub returns-after-loop-step-clause-stem : goal.returns-after-loop-step-clause-stem
 returns-after-loop-step-clause-stem c = λ some.
-    let circuit = c.args.view.circuit.now.levelled in
+    let circuit = c.args.view.circuit.now.arranged in
     let last = c.loop-step.invariant in (
       last.leads,
       stem_at_depth circuit c.depth-step-end.result c.loop-step.at.signal c.loop-step._step

@@ -15,15 +15,15 @@ invariant-loop-step l = record {
   room : IsAsLarge l.fn.changes l.changes;
   clear : IsClear l.changes;
   grown : l.fn.changes.evaluations ≤ l.changes.evaluations;
-  within : l.at.signal < length (names l.view.circuit.now.levelled);
-  leads : LeadsTo l.view.circuit.now.levelled l.fn.from.signal l.at.signal;
-  deep : (k : ℕ) → HasLevel l.view.circuit.now.levelled l.at.signal k → l._step ≤ k;
-  left : (r : ℕ) (chain : IsStemOf l.view.circuit.now.levelled r l.fn.from.signal)
-      → (more : LeadsTo l.view.circuit.now.levelled l.at.signal r)
+  within : l.at.signal < length (names l.view.circuit.now.arranged);
+  leads : LeadsTo l.view.circuit.now.arranged l.fn.from.signal l.at.signal;
+  deep : (k : ℕ) → HasLevel l.view.circuit.now.arranged l.at.signal k → l._step ≤ k;
+  left : (r : ℕ) (chain : IsStemOf l.view.circuit.now.arranged r l.fn.from.signal)
+      → (more : LeadsTo l.view.circuit.now.arranged l.at.signal r)
       × (l.changes.evaluations + steps more ≤ l.fn.changes.evaluations + steps chain.0);
   come : (tests : List Test) (group : ℕ) (f : Fault)
-      → AreWords l.view.circuit.now.levelled tests group None l.view.good.now
-      → HasCome l.view.circuit.now.levelled tests group f l.view.lanes l.fn.from.signal
+      → AreWords l.view.circuit.now.arranged tests group None l.view.good.now
+      → HasCome l.view.circuit.now.arranged tests group f l.view.lanes l.fn.from.signal
       l.fn.from.lanes
-      → HasCome l.view.circuit.now.levelled tests group f l.view.lanes l.at.signal l.at.lanes;
+      → HasCome l.view.circuit.now.arranged tests group f l.view.lanes l.at.signal l.at.lanes;
 }

@@ -8,49 +8,49 @@ use Rattle.block_sim.proofs.RegionLanes.{crossed, read_within, reader_driven}
 use Rattle.block_sim.proofs.region.cross.Goals as goal
 
 pub gate_of-requires : goal.gate_of-requires
-gate_of-requires c = reader_within c.args.view.circuit.now.levelled c.args.gate c.args.at.signal
+gate_of-requires c = reader_within c.args.view.circuit.now.arranged c.args.gate c.args.at.signal
     c.requires.read.reads
 
 pub change-requires-clause-signal : goal.change-requires-clause-signal
 change-requires-clause-signal c =
-    let lt = read_within c.args.view.circuit.now.levelled c.args.gate c.args.at.signal
+    let lt = read_within c.args.view.circuit.now.arranged c.args.gate c.args.at.signal
     c.requires.view.circuit.well_formed c.requires.read.reads in
     omega (arith, lt, c.requires.room.overlay)
 
 pub evaluate_gate-word-requires-clause-some : goal.evaluate_gate-word-requires-clause-some
 evaluate_gate-word-requires-clause-some c =
-    pins_some c.args.view.circuit.now.levelled c.args.gate c.in-Some.driver.kind
+    pins_some c.args.view.circuit.now.arranged c.args.gate c.in-Some.driver.kind
     c.in-Some.driver.pins.now
     c.requires.view.circuit (sym c.in-Some.ensures.gate)
 
 pub evaluate_gate-word-requires-clause-pins_in : goal.evaluate_gate-word-requires-clause-pins_in
 evaluate_gate-word-requires-clause-pins_in c =
     λ k d lt.
-    let within = pins_within c.args.view.circuit.now.levelled c.args.gate c.in-Some.driver.kind
+    let within = pins_within c.args.view.circuit.now.arranged c.args.gate c.in-Some.driver.kind
     c.in-Some.driver.pins.now c.requires.view.circuit.well_formed (sym c.in-Some.ensures.gate) k d
     lt in
     omega (arith, within, c.requires.view.count)
 
 pub evaluate_gate-word-requires-clause-few : goal.evaluate_gate-word-requires-clause-few
 evaluate_gate-word-requires-clause-few c =
-    pins_few c.args.view.circuit.now.levelled c.args.gate c.in-Some.driver.kind
+    pins_few c.args.view.circuit.now.arranged c.args.gate c.in-Some.driver.kind
     c.in-Some.driver.pins.now
     c.requires.view.circuit (sym c.in-Some.ensures.gate)
 
 pub bounds-view-gate : goal.bounds-view-gate
 bounds-view-gate c =
-    let lt = reader_within c.args.view.circuit.now.levelled c.args.gate c.args.at.signal
+    let lt = reader_within c.args.view.circuit.now.arranged c.args.gate c.args.at.signal
     c.requires.read.reads in
     omega (arith, lt, c.requires.view.count)
 
 pub unreachable-requires : goal.unreachable-requires
 unreachable-requires c =
-    reader_driven c.args.view.circuit.now.levelled c.args.gate c.args.at.signal
+    reader_driven c.args.view.circuit.now.arranged c.args.gate c.args.at.signal
     c.requires.view.circuit.well_formed c.requires.read.reads (sym c.in-None.ensures.gate)
 
 pub returns-clause-come : goal.returns-clause-come
 returns-clause-come c = λ tests group f words come.
-    let circuit = c.args.view.circuit.now.levelled in
+    let circuit = c.args.view.circuit.now.arranged in
     let good = c.args.view.good.now in
     let s = c.args.at.signal in
     let own = c.in-Some.driver in

@@ -15,7 +15,7 @@ spread-requires-clause-first c =
       w.0,
       w.1,
       flips good s,
-      flip_first c.args.view.circuit.now.levelled c.requires.view.circuit.well_formed w.0 w.1 good
+      flip_first c.args.view.circuit.now.arranged c.requires.view.circuit.well_formed w.0 w.1 good
           w.2 s
           c.requires.signal delta c.all_lanes-lanes.result within,
     )
@@ -24,7 +24,7 @@ pub returns-clause-told : goal.returns-clause-told
 returns-clause-told c = λ tests group words one there.
     let s = c.args.signal in
     let good = c.args.view.good.now in
-    let circuit = c.args.view.circuit.now.levelled in
+    let circuit = c.args.view.circuit.now.arranged in
     let well = c.requires.view.circuit.well_formed in
     let delta = c.args.changes.now.overlay in
     let followed = c.args.followed.now in
@@ -44,7 +44,7 @@ returns-clause-counted c = λ tests span gates words inside active.
     let group = group_of span in
     let s = c.args.signal in
     let good = c.args.view.good.now in
-    let circuit = c.args.view.circuit.now.levelled in
+    let circuit = c.args.view.circuit.now.arranged in
     let well = c.requires.view.circuit.well_formed in
     let delta = c.args.changes.now.overlay in
     let lanes = c.all_lanes-lanes.result in

@@ -19,7 +19,7 @@ use Rattle.block_sim.proofs.region.follow.Goals as goal
 
 pub bounds-view-origin : goal.bounds-view-origin
 bounds-view-origin c =
-    let circuit = c.args.view.circuit.now.levelled in
+    let circuit = c.args.view.circuit.now.arranged in
     let well = c.requires.view.circuit.well_formed in
     let good = c.args.view.good.now in
     let lanes = c.args.view.lanes in
@@ -31,7 +31,7 @@ bounds-view-origin c =
 
 pub returns-then-excited-eq0-clause-reached : goal.returns-then-excited-eq0-clause-reached
 returns-then-excited-eq0-clause-reached c = λ tests group words k lt.
-    let circuit = c.args.view.circuit.now.levelled in
+    let circuit = c.args.view.circuit.now.arranged in
     let well = c.requires.view.circuit.well_formed in
     let good = c.args.view.good.now in
     let lanes = c.args.view.lanes in
@@ -46,7 +46,7 @@ returns-then-excited-eq0-clause-reached c = λ tests group words k lt.
 
 pub arrive-requires-clause-signal : goal.arrive-requires-clause-signal
 arrive-requires-clause-signal c =
-    let circuit = c.args.view.circuit.now.levelled in
+    let circuit = c.args.view.circuit.now.arranged in
     let well = c.requires.view.circuit.well_formed in
     let good = c.args.view.good.now in
     let lanes = c.args.view.lanes in
@@ -56,7 +56,7 @@ arrive-requires-clause-signal c =
 
 pub gate_change-lanes-requires-clause-gate : goal.gate_change-lanes-requires-clause-gate
 gate_change-lanes-requires-clause-gate c =
-    let circuit = c.args.view.circuit.now.levelled in
+    let circuit = c.args.view.circuit.now.arranged in
     let well = c.requires.view.circuit.well_formed in
     let good = c.args.view.good.now in
     let lanes = c.args.view.lanes in
@@ -73,7 +73,7 @@ gate_change-lanes-requires-clause-gate c =
 
 pub gate_change-lanes-requires-clause-driven : goal.gate_change-lanes-requires-clause-driven
 gate_change-lanes-requires-clause-driven c =
-    let circuit = c.args.view.circuit.now.levelled in
+    let circuit = c.args.view.circuit.now.arranged in
     let well = c.requires.view.circuit.well_formed in
     let good = c.args.view.good.now in
     let lanes = c.args.view.lanes in
@@ -95,12 +95,12 @@ arrive-requires-in-Pin-clause-room c =
       gates = ap (λ b. length b.at) c.gate_change-lanes.ensures.buckets;
       levels = ap (λ b. b.levels) c.gate_change-lanes.ensures.buckets;
     } in
-    large_enough c.args.view.circuit.now.levelled c.args.changes.now c.gate_change-lanes.new.changes
+    large_enough c.args.view.circuit.now.arranged c.args.changes.now c.gate_change-lanes.new.changes
     c.requires.room large
 
 pub arrive-requires-in-Pin-clause-signal : goal.arrive-requires-in-Pin-clause-signal
 arrive-requires-in-Pin-clause-signal c =
-    let circuit = c.args.view.circuit.now.levelled in
+    let circuit = c.args.view.circuit.now.arranged in
     let well = c.requires.view.circuit.well_formed in
     let good = c.args.view.good.now in
     let lanes = c.args.view.lanes in
@@ -117,7 +117,7 @@ arrive-requires-in-Pin-clause-signal c =
 
 pub returns-in-Stem-clause-reached : goal.returns-in-Stem-clause-reached
 returns-in-Stem-clause-reached c = λ tests group words.
-    let circuit = c.args.view.circuit.now.levelled in
+    let circuit = c.args.view.circuit.now.arranged in
     let well = c.requires.view.circuit.well_formed in
     let good = c.args.view.good.now in
     let lanes = c.args.view.lanes in
@@ -135,7 +135,7 @@ returns-in-Stem-clause-reached c = λ tests group words.
 
 pub returns-in-Pin-clause-reached : goal.returns-in-Pin-clause-reached
 returns-in-Pin-clause-reached c = λ tests group words.
-    let circuit = c.args.view.circuit.now.levelled in
+    let circuit = c.args.view.circuit.now.arranged in
     let well = c.requires.view.circuit.well_formed in
     let good = c.args.view.good.now in
     let lanes = c.args.view.lanes in
@@ -157,7 +157,7 @@ returns-in-Pin-clause-reached c = λ tests group words.
 
 pub returns-in-Data-clause-reached : goal.returns-in-Data-clause-reached
 returns-in-Data-clause-reached c = λ tests group words k lt.
-    let circuit = c.args.view.circuit.now.levelled in
+    let circuit = c.args.view.circuit.now.arranged in
     let well = c.requires.view.circuit.well_formed in
     let good = c.args.view.good.now in
     let lanes = c.args.view.lanes in
@@ -177,11 +177,11 @@ returns-in-Data-clause-reached c = λ tests group words k lt.
 
 pub returns-in-Stem-clause-counted : goal.returns-in-Stem-clause-counted
 returns-in-Stem-clause-counted c = λ way w.
-    c.arrive.ensures.counted way (subst (λ l. IsWayOfLine c.args.view.circuit.now.levelled l way)
+    c.arrive.ensures.counted way (subst (λ l. IsWayOfLine c.args.view.circuit.now.arranged l way)
     c.in-Stem.is w)
 
 pub returns-in-Pin-clause-counted : goal.returns-in-Pin-clause-counted
 returns-in-Pin-clause-counted c = λ way w.
-    let more = subst (λ l. IsWayOfLine c.args.view.circuit.now.levelled l way) c.in-Pin.is w in
+    let more = subst (λ l. IsWayOfLine c.args.view.circuit.now.arranged l way) c.in-Pin.is w in
     let le = c.arrive-in-Pin.ensures.counted more.0 more.1 in
     omega (arith, le, more.2, c.gate_change-lanes.ensures.counted)

@@ -12,14 +12,14 @@ returns-in-Known-clause-found c = inl (
   refl,
   c.test_of.result,
   first_of_word c.args.job.now c.args.span c.args.row.class c.in-Known.word c.test_of.result
-      c.requires.span (c.in-Known.ensures.approach c.args.row.class c.requires.row.origin)
+      c.requires.span (c.in-Known.ensures.approach c.args.row.class c.requires.row.stands)
       c.test_of.ensures,
   c.keep.ensures,
 )
 
 pub returns-in-Known-clause-counted : goal.returns-in-Known-clause-counted
 returns-in-Known-clause-counted c = λ way ways.
-    c.follow_from.ensures.counted c.args.row.class (way c.args.row.class) c.requires.row.origin
+    c.follow_from.ensures.counted c.args.row.class (way c.args.row.class) c.requires.row.stands
     (ways c.args.row.class c.requires.row.within)
 
 pub returns-in-Stem-clause-found : goal.returns-in-Stem-clause-found
@@ -28,18 +28,18 @@ returns-in-Stem-clause-found c =
     let row = c.args.row in
     let at = c.in-Stem.at in
     let same = one_class_stem job.list.model job.circuit row.class at.signal row.stem
-    (c.in-Stem.ensures.stem row.class at c.requires.row.origin refl) c.requires.row.stem in
+    (c.in-Stem.ensures.stem row.class at c.requires.row.stands refl) c.requires.row.stem in
     inr (
       refl,
       record { class = row.class; place = c.args.place; lanes = at.lanes },
       refl,
       refl,
       subst (λ s. HasArrived job c.args.span s row.class at.lanes) same
-          (c.in-Stem.ensures.approach row.class c.requires.row.origin).1,
+          (c.in-Stem.ensures.approach row.class c.requires.row.stands).1,
       c.push_reserved.ensures.items,
     )
 
 pub returns-in-Stem-clause-counted : goal.returns-in-Stem-clause-counted
 returns-in-Stem-clause-counted c = λ way ways.
-    c.follow_from.ensures.counted c.args.row.class (way c.args.row.class) c.requires.row.origin
+    c.follow_from.ensures.counted c.args.row.class (way c.args.row.class) c.requires.row.stands
     (ways c.args.row.class c.requires.row.within)

@@ -41,7 +41,7 @@ loop-group-preserved c =
       here,
     ) in
     record {
-      rows = group_more c.args.circuit.now.levelled c.args.tests.now.tests group
+      rows = group_more c.args.circuit.now.arranged c.args.tests.now.tests group
           (min (128 * group) n)
           (min (128 * (group + 1)) n) size
           c.loop-group.rows.tests c.add_lanes.new.rows.tests c.evaluate.new.words
@@ -64,8 +64,8 @@ returns c =
     record {
       width = c.loop-group.invariant.width
           ∙ (ap length c.requires.observed
-          ∙ length-map (observers c.args.circuit.now.levelled)
-          (λ o. signal c.args.circuit.now.levelled o.1));
+          ∙ length-map (observers c.args.circuit.now.arranged)
+          (λ o. signal c.args.circuit.now.arranged o.1));
       count = c.loop-group.invariant.rows.count ∙ all;
       each = λ t test v at solves. (let lt = slice_get_within c.args.tests.now.tests t test at in
           c.loop-group.invariant.rows.each t test v (omega (arith, lt, all)) at solves);

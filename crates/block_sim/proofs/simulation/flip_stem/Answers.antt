@@ -5,8 +5,8 @@ use Rattle.block_sim.specs.Regions.{TellsFirstFlips}
 use Rattle.block_sim.specs.Spans.{group_of}
 use Rattle.block_sim.specs.Ways.{HasActiveByFlip}
 use Rattle.block_sim.proofs.KeptOutcomes.{arrived_within}
-use Rattle.block_sim.proofs.LevelledSignals.{count_there, reordered, room_there}
-use Rattle.block_sim.proofs.LevelledWords.{circuit_there}
+use Rattle.block_sim.proofs.ArrangedSignals.{reordered, room_there}
+use Rattle.block_sim.proofs.ArrangedWords.{circuit_there}
 use Rattle.block_sim.proofs.ReorderedGates.{same_active, same_flips}
 use Rattle.block_sim.proofs.simulation.flip_stem.Goals as goal
 
@@ -14,39 +14,38 @@ pub flip-requires-clause-words : goal.flip-requires-clause-words
 flip-requires-clause-words c = (
   c.args.job.now.tests.tests,
   group_of c.args.span,
-  c.fault_free.ensures.words c.flat-circuit.result.now.levelled c.flat-circuit.ensures.levelled,
+  (c.words-words.ensures.fault_free (group_of c.args.span) c.of.result.now c.of.ensures).1,
 )
 
 pub flip-requires-clause-view : goal.flip-requires-clause-view
 flip-requires-clause-view c =
     let circuit = c.args.job.now.circuit in
-    let there = c.flat-circuit.result.now.levelled in
-    let whole = c.flat-circuit.ensures.together.circuit in
-    let levelled = c.flat-circuit.ensures.levelled in
+    let there = c.words-words.result.circuit.now.arranged in
+    let whole = c.words-words.ensures.together.circuit in
+    let arranged = c.words-words.ensures.arranged in
     record {
-      circuit = circuit_there circuit there whole levelled;
-      count = c.fault_free.ensures.count
-          ∙ sym (count_there circuit there whole.well_formed levelled);
+      circuit = circuit_there circuit there whole arranged;
+      count = (c.words-words.ensures.fault_free (group_of c.args.span) c.of.result.now c.of.ensures).0;
     }
 
 pub flip-requires-clause-room : goal.flip-requires-clause-room
 flip-requires-clause-room c =
-    room_there c.args.job.now.circuit c.flat-circuit.result.now.levelled
-    c.flat-circuit.ensures.together.circuit.well_formed c.flat-circuit.ensures.levelled
+    room_there c.args.job.now.circuit c.words-words.result.circuit.now.arranged
+    c.words-words.ensures.together.circuit.well_formed c.words-words.ensures.arranged
     c.args.changes.now c.requires.room
 
 pub returns-clause-told : goal.returns-clause-told
 returns-clause-told c = λ one at.
     let circuit = c.args.job.now.circuit in
-    let there = c.flat-circuit.result.now.levelled in
-    let well = c.flat-circuit.ensures.together.circuit.well_formed in
+    let there = c.words-words.result.circuit.now.arranged in
+    let well = c.words-words.ensures.together.circuit.well_formed in
     let tests = c.args.job.now.tests.tests in
     let group = group_of c.args.span in
-    let words = c.fault_free.ensures.words there c.flat-circuit.ensures.levelled in
+    let words = (c.words-words.ensures.fault_free (group_of c.args.span) c.of.result.now c.of.ensures).1 in
     let stem : c.place_of.result ≡ place circuit there c.args.stem = c.place_of.ensures.place
-    ∙ ap (λ x. place x there c.args.stem) c.flat-circuit.ensures.part in
+    ∙ ap (λ x. place x there c.args.stem) c.words-words.ensures.part in
     ((same_flips circuit there well
-    (reordered circuit there well c.flat-circuit.ensures.levelled)).told tests group one.lanes
+    (reordered circuit there well c.words-words.ensures.arranged)).told tests group one.lanes
     c.args.stem c.flip.result).1
     (subst (λ s. TellsFirstFlips there tests group one.lanes s c.flip.result) stem
     (c.flip.ensures.told tests group words one at))
@@ -55,15 +54,15 @@ pub returns-clause-counted : goal.returns-clause-counted
 returns-clause-counted c = λ gates active.
     let job = c.args.job.now in
     let circuit = job.circuit in
-    let there = c.flat-circuit.result.now.levelled in
-    let well = c.flat-circuit.ensures.together.circuit.well_formed in
+    let there = c.words-words.result.circuit.now.arranged in
+    let well = c.words-words.ensures.together.circuit.well_formed in
     let tests = job.tests.tests in
     let span = c.args.span in
-    let words = c.fault_free.ensures.words there c.flat-circuit.ensures.levelled in
+    let words = (c.words-words.ensures.fault_free (group_of c.args.span) c.of.result.now c.of.ensures).1 in
     let stem : c.place_of.result ≡ place circuit there c.args.stem = c.place_of.ensures.place
-    ∙ ap (λ x. place x there c.args.stem) c.flat-circuit.ensures.part in
+    ∙ ap (λ x. place x there c.args.stem) c.words-words.ensures.part in
     let moved = (same_active circuit there well
-    (reordered circuit there well c.flat-circuit.ensures.levelled)).by_flip tests span c.args.stem
+    (reordered circuit there well c.words-words.ensures.arranged)).by_flip tests span c.args.stem
     gates active in
     let le = c.flip.ensures.counted tests span (map (place circuit there) gates) words
     (λ one at. arrived_within job span c.args.stem one.class one.lanes
@@ -73,5 +72,6 @@ returns-clause-counted c = λ gates active.
     let long = length-map gates (place circuit there) in
     omega (arith, le, long)
 
-pub fault_free-requires : goal.fault_free-requires
-fault_free-requires c = let within = c.requires.span.within in omega (arith, within)
+pub of-requires : goal.of-requires
+of-requires c = let within = c.requires.span.within in
+    omega (arith, within, c.words-words.ensures.count)

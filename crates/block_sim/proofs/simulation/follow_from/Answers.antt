@@ -15,8 +15,10 @@ use Rattle.block_sim.specs.Stuck.{stuck_fault}
 use Rattle.block_sim.specs.Ways.{IsWayOfLine}
 use Rattle.block_sim.specs.Words.{lane}
 use Rattle.block_sim.proofs.Lanes.{lane_zero}
-use Rattle.block_sim.proofs.LevelledSignals.{count_there, reordered, room_there, signals_there}
-use Rattle.block_sim.proofs.LevelledWords.{circuit_there, listed_there, reached_there}
+use Rattle.block_sim.proofs.ArrangedSignals.{reordered, room_there, signals_there}
+use Rattle.block_sim.proofs.ArrangedWords.{circuit_there, listed_there, reached_there}
+use Rattle.block_sim.specs.Origins.{IsStuckOf}
+use Rattle.block_sim.proofs.ArrangedWords.{starts_there}
 use Rattle.block_sim.proofs.Outcomes.{first_of_told}
 use Rattle.block_sim.proofs.RegionLanes.{lanes_both}
 use Rattle.block_sim.proofs.ReorderedGates.{same_flips}
@@ -27,50 +29,50 @@ use Rattle.block_sim.proofs.simulation.follow_from.Goals as goal
 pub follow-requires-clause-view : goal.follow-requires-clause-view
 follow-requires-clause-view c =
     let circuit = c.args.job.now.circuit in
-    let there = c.flat-circuit.result.now.levelled in
-    let whole = c.flat-circuit.ensures.together.circuit in
-    let levelled = c.flat-circuit.ensures.levelled in
+    let there = c.words-words.result.circuit.now.arranged in
+    let whole = c.words-words.ensures.together.circuit in
+    let arranged = c.words-words.ensures.arranged in
     record {
-      circuit = circuit_there circuit there whole levelled;
-      count = c.fault_free.ensures.count
-          ∙ sym (count_there circuit there whole.well_formed levelled);
+      circuit = circuit_there circuit there whole arranged;
+      count = (c.words-words.ensures.fault_free (group_of c.args.span) c.of.result.now c.of.ensures).0;
     }
 
 pub follow-requires-clause-listed : goal.follow-requires-clause-listed
 follow-requires-clause-listed c =
     let job = c.args.job.now in
     let circuit = job.circuit in
-    let there = c.flat-circuit.result.now.levelled in
-    let levelled = c.flat-circuit.ensures.levelled in
-    let well = c.flat-circuit.ensures.together.circuit.well_formed in
-    let fault = c.requires.origin.1.0 in
-    let starts = c.requires.origin.1.2 in
-    let is : stuck_fault c.args.origin.fault ≡ moved_fault circuit there fault =
-    starts.moved there levelled in
+    let there = c.words-words.result.circuit.now.arranged in
+    let arranged = c.words-words.ensures.arranged in
+    let well = c.words-words.ensures.together.circuit.well_formed in
+    let fault = c.requires.stuck.1.0 in
+    let starts = c.requires.stuck.1.2 in
+    let start = starts_there circuit there c.words-words.result.circuit.now.statements c.args.stuck
+    c.origin_of.result c.words-words.ensures.part c.origin_of.ensures fault starts in
+    let is : stuck_fault c.origin_of.result.fault ≡ moved_fault circuit there fault = start.moved in
     subst (λ f. Contains (faults f.model there) f) (sym is)
-    (listed_there circuit there well levelled fault.model fault
+    (listed_there circuit there well arranged fault.model fault
     starts.listed)
 
 pub follow-requires-clause-words : goal.follow-requires-clause-words
 follow-requires-clause-words c = (
   c.args.job.now.tests.tests,
   group_of c.args.span,
-  c.fault_free.ensures.words c.flat-circuit.result.now.levelled c.flat-circuit.ensures.levelled,
+  (c.words-words.ensures.fault_free (group_of c.args.span) c.of.result.now c.of.ensures).1,
 )
 
 pub follow-requires-clause-room : goal.follow-requires-clause-room
 follow-requires-clause-room c =
-    room_there c.args.job.now.circuit c.flat-circuit.result.now.levelled
-    c.flat-circuit.ensures.together.circuit.well_formed c.flat-circuit.ensures.levelled
+    room_there c.args.job.now.circuit c.words-words.result.circuit.now.arranged
+    c.words-words.ensures.together.circuit.well_formed c.words-words.ensures.arranged
     c.args.changes.now c.requires.room
 
 pub returns-in-Observed-clause-approach : goal.returns-in-Observed-clause-approach
 returns-in-Observed-clause-approach c = λ class o.
     let job = c.args.job.now in
     let circuit = job.circuit in
-    let there = c.flat-circuit.result.now.levelled in
-    let levelled = c.flat-circuit.ensures.levelled in
-    let well = c.flat-circuit.ensures.together.circuit.well_formed in
+    let there = c.words-words.result.circuit.now.arranged in
+    let arranged = c.words-words.ensures.arranged in
+    let well = c.words-words.ensures.together.circuit.well_formed in
     let fault = o.0 in
     let starts = o.2 in
     let tests = job.tests.tests in
@@ -83,11 +85,12 @@ returns-in-Observed-clause-approach c = λ class o.
     let decides : AreLanesFor tests span circuit fault lanes =
     λ k lt. lanes_decide c.test_lanes.result c.lanes_that_fit.result k (own k lt)
     (λ is. c.lanes_that_fit.ensures fault k starts lt is.listed) in
-    let is : stuck_fault c.args.origin.fault ≡ moved_fault circuit there fault =
-    starts.moved there levelled in
-    let words = c.fault_free.ensures.words there levelled in
+    let start = starts_there circuit there c.words-words.result.circuit.now.statements c.args.stuck
+    c.origin_of.result c.words-words.ensures.part c.origin_of.ensures fault starts in
+    let is : stuck_fault c.origin_of.result.fault ≡ moved_fault circuit there fault = start.moved in
+    let words = (c.words-words.ensures.fault_free group c.of.result.now c.of.ensures).1 in
     let word = c.in-Observed.word in
-    let reached = reached_there circuit there well levelled tests group fault lanes word
+    let reached = reached_there circuit there well arranged tests group fault lanes word
     (subst (λ f. IsReached there tests group f lanes (Observed word)) is
     (c.in-Observed.ensures.reached tests group words)) in (
       fault,
@@ -101,9 +104,9 @@ pub returns-then-lanes-eq0-clause-approach : goal.returns-then-lanes-eq0-clause-
 returns-then-lanes-eq0-clause-approach c = λ class o.
     let job = c.args.job.now in
     let circuit = job.circuit in
-    let there = c.flat-circuit.result.now.levelled in
-    let levelled = c.flat-circuit.ensures.levelled in
-    let well = c.flat-circuit.ensures.together.circuit.well_formed in
+    let there = c.words-words.result.circuit.now.arranged in
+    let arranged = c.words-words.ensures.arranged in
+    let well = c.words-words.ensures.together.circuit.well_formed in
     let fault = o.0 in
     let starts = o.2 in
     let tests = job.tests.tests in
@@ -116,14 +119,15 @@ returns-then-lanes-eq0-clause-approach c = λ class o.
     let decides : AreLanesFor tests span circuit fault lanes =
     λ k lt. lanes_decide c.test_lanes.result c.lanes_that_fit.result k (own k lt)
     (λ is. c.lanes_that_fit.ensures fault k starts lt is.listed) in
-    let is : stuck_fault c.args.origin.fault ≡ moved_fault circuit there fault =
-    starts.moved there levelled in
-    let words = c.fault_free.ensures.words there levelled in
+    let start = starts_there circuit there c.words-words.result.circuit.now.statements c.args.stuck
+    c.origin_of.result c.words-words.ensures.part c.origin_of.ensures fault starts in
+    let is : stuck_fault c.origin_of.result.fault ≡ moved_fault circuit there fault = start.moved in
+    let words = (c.words-words.ensures.fault_free group c.of.result.now c.of.ensures).1 in
     let at = c.in-Stem.at in
-    let from = (signals_there circuit there well levelled).onto at.signal
+    let from = (signals_there circuit there well arranged).onto at.signal
     (c.in-Stem.ensures.signal at refl) in
     let come : HasCome circuit tests group fault lanes from.0 at.lanes =
-    ((same_flips circuit there well (reordered circuit there well levelled)).come tests group
+    ((same_flips circuit there well (reordered circuit there well arranged)).come tests group
     fault lanes from.0 at.lanes).1
     (subst (λ s. HasCome there tests group (moved_fault circuit there fault) lanes s at.lanes)
     from.2
@@ -142,9 +146,9 @@ pub returns-else-lanes-eq0-clause-approach : goal.returns-else-lanes-eq0-clause-
 returns-else-lanes-eq0-clause-approach c = λ class o.
     let job = c.args.job.now in
     let circuit = job.circuit in
-    let there = c.flat-circuit.result.now.levelled in
-    let levelled = c.flat-circuit.ensures.levelled in
-    let well = c.flat-circuit.ensures.together.circuit.well_formed in
+    let there = c.words-words.result.circuit.now.arranged in
+    let arranged = c.words-words.ensures.arranged in
+    let well = c.words-words.ensures.together.circuit.well_formed in
     let fault = o.0 in
     let starts = o.2 in
     let tests = job.tests.tests in
@@ -157,20 +161,21 @@ returns-else-lanes-eq0-clause-approach c = λ class o.
     let decides : AreLanesFor tests span circuit fault lanes =
     λ k lt. lanes_decide c.test_lanes.result c.lanes_that_fit.result k (own k lt)
     (λ is. c.lanes_that_fit.ensures fault k starts lt is.listed) in
-    let is : stuck_fault c.args.origin.fault ≡ moved_fault circuit there fault =
-    starts.moved there levelled in
-    let words = c.fault_free.ensures.words there levelled in
+    let start = starts_there circuit there c.words-words.result.circuit.now.statements c.args.stuck
+    c.origin_of.result c.words-words.ensures.part c.origin_of.ensures fault starts in
+    let is : stuck_fault c.origin_of.result.fault ≡ moved_fault circuit there fault = start.moved in
+    let words = (c.words-words.ensures.fault_free group c.of.result.now c.of.ensures).1 in
     let at = c.in-Stem.at in
     let here = c.signal_at.result in
     let stem : at.signal ≡ place circuit there here = sym (c.signal_at.ensures.place)
-    ∙ ap (λ x. place x there here) c.flat-circuit.ensures.part in
+    ∙ ap (λ x. place x there here) c.words-words.ensures.part in
     let come : HasCome circuit tests group fault lanes here at.lanes =
-    ((same_flips circuit there well (reordered circuit there well levelled)).come tests group
+    ((same_flips circuit there well (reordered circuit there well arranged)).come tests group
     fault lanes here at.lanes).1
     (subst (λ s. HasCome there tests group (moved_fault circuit there fault) lanes s at.lanes) stem
     (subst (λ f. IsReached there tests group f lanes (Stem at)) is
     (c.in-Stem.ensures.reached tests group words))) in (
-      subst (λ x. here < length (names x)) c.flat-circuit.ensures.part c.signal_at.ensures.within,
+      subst (λ x. here < length (names x)) c.words-words.ensures.part c.signal_at.ensures.within,
       (
         fault,
         lanes,
@@ -186,24 +191,25 @@ pub returns-else-lanes-eq0-clause-stem : goal.returns-else-lanes-eq0-clause-stem
 returns-else-lanes-eq0-clause-stem c = λ class end o e.
     let job = c.args.job.now in
     let circuit = job.circuit in
-    let there = c.flat-circuit.result.now.levelled in
-    let levelled = c.flat-circuit.ensures.levelled in
-    let well = c.flat-circuit.ensures.together.circuit.well_formed in
+    let there = c.words-words.result.circuit.now.arranged in
+    let arranged = c.words-words.ensures.arranged in
+    let well = c.words-words.ensures.together.circuit.well_formed in
     let fault = o.0 in
     let starts = o.2 in
-    let is : stuck_fault c.args.origin.fault ≡ moved_fault circuit there fault =
-    starts.moved there levelled in
+    let start = starts_there circuit there c.words-words.result.circuit.now.statements c.args.stuck
+    c.origin_of.result c.words-words.ensures.part c.origin_of.ensures fault starts in
+    let is : stuck_fault c.origin_of.result.fault ≡ moved_fault circuit there fault = start.moved in
     let lanes = bit_and c.test_lanes.result c.lanes_that_fit.result in
     let at = c.in-Stem.at in
     let here = c.signal_at.result in
     let stem : at.signal ≡ place circuit there here = sym (c.signal_at.ensures.place)
-    ∙ ap (λ x. place x there here) c.flat-circuit.ensures.part in
+    ∙ ap (λ x. place x there here) c.words-words.ensures.part in
     let some : at.lanes ≢ 0 = λ z.
     c.if-lanes-eq0.false (ap (bit_and lanes) z ∙ and_zero_r lanes) in
     let own = subst (λ s. IsStemOfLine there s (moved_fault circuit there fault).line) stem
     (subst (λ f. IsStemOfLine there at.signal f.line) is
     (c.in-Stem.ensures.stem at refl some)) in
-    let back = ((same_stems circuit there well (reordered circuit there well levelled)).of_line
+    let back = ((same_stems circuit there well (reordered circuit there well arranged)).of_line
     fault.model fault here starts.listed).1 own in
     let whole : approach.Stem (record { signal = here; lanes = bit_and lanes at.lanes })
     ≡ approach.Stem end = e in
@@ -217,17 +223,18 @@ pub returns-in-Observed-clause-counted : goal.returns-in-Observed-clause-counted
 returns-in-Observed-clause-counted c = λ class way o w.
     let job = c.args.job.now in
     let circuit = job.circuit in
-    let there = c.flat-circuit.result.now.levelled in
-    let levelled = c.flat-circuit.ensures.levelled in
-    let well = c.flat-circuit.ensures.together.circuit.well_formed in
+    let there = c.words-words.result.circuit.now.arranged in
+    let arranged = c.words-words.ensures.arranged in
+    let well = c.words-words.ensures.together.circuit.well_formed in
     let fault = o.0 in
     let starts = o.2 in
-    let is : stuck_fault c.args.origin.fault ≡ moved_fault circuit there fault =
-    starts.moved there levelled in
+    let start = starts_there circuit there c.words-words.result.circuit.now.statements c.args.stuck
+    c.origin_of.result c.words-words.ensures.part c.origin_of.ensures fault starts in
+    let is : stuck_fault c.origin_of.result.fault ≡ moved_fault circuit there fault = start.moved in
     let same : w.0 ≡ fault = ap (λ (o : Option Fault). unwrap_or o w.0) (sym w.1
     ∙ o.1) in
     let own = subst (λ f. IsWayOfLine circuit f.line way) same w.2 in
-    let on = (same_stems circuit there well (reordered circuit there well levelled)).way
+    let on = (same_stems circuit there well (reordered circuit there well arranged)).way
     fault.line way own in
     c.follow.ensures.counted way
     (subst (λ f. IsWayOfLine there f.line way) (sym is) on)
@@ -236,17 +243,18 @@ pub returns-then-lanes-eq0-clause-counted : goal.returns-then-lanes-eq0-clause-c
 returns-then-lanes-eq0-clause-counted c = λ class way o w.
     let job = c.args.job.now in
     let circuit = job.circuit in
-    let there = c.flat-circuit.result.now.levelled in
-    let levelled = c.flat-circuit.ensures.levelled in
-    let well = c.flat-circuit.ensures.together.circuit.well_formed in
+    let there = c.words-words.result.circuit.now.arranged in
+    let arranged = c.words-words.ensures.arranged in
+    let well = c.words-words.ensures.together.circuit.well_formed in
     let fault = o.0 in
     let starts = o.2 in
-    let is : stuck_fault c.args.origin.fault ≡ moved_fault circuit there fault =
-    starts.moved there levelled in
+    let start = starts_there circuit there c.words-words.result.circuit.now.statements c.args.stuck
+    c.origin_of.result c.words-words.ensures.part c.origin_of.ensures fault starts in
+    let is : stuck_fault c.origin_of.result.fault ≡ moved_fault circuit there fault = start.moved in
     let same : w.0 ≡ fault = ap (λ (o : Option Fault). unwrap_or o w.0) (sym w.1
     ∙ o.1) in
     let own = subst (λ f. IsWayOfLine circuit f.line way) same w.2 in
-    let on = (same_stems circuit there well (reordered circuit there well levelled)).way
+    let on = (same_stems circuit there well (reordered circuit there well arranged)).way
     fault.line way own in
     c.follow.ensures.counted way
     (subst (λ f. IsWayOfLine there f.line way) (sym is) on)
@@ -255,27 +263,39 @@ pub returns-else-lanes-eq0-clause-counted : goal.returns-else-lanes-eq0-clause-c
 returns-else-lanes-eq0-clause-counted c = λ class way o w.
     let job = c.args.job.now in
     let circuit = job.circuit in
-    let there = c.flat-circuit.result.now.levelled in
-    let levelled = c.flat-circuit.ensures.levelled in
-    let well = c.flat-circuit.ensures.together.circuit.well_formed in
+    let there = c.words-words.result.circuit.now.arranged in
+    let arranged = c.words-words.ensures.arranged in
+    let well = c.words-words.ensures.together.circuit.well_formed in
     let fault = o.0 in
     let starts = o.2 in
-    let is : stuck_fault c.args.origin.fault ≡ moved_fault circuit there fault =
-    starts.moved there levelled in
+    let start = starts_there circuit there c.words-words.result.circuit.now.statements c.args.stuck
+    c.origin_of.result c.words-words.ensures.part c.origin_of.ensures fault starts in
+    let is : stuck_fault c.origin_of.result.fault ≡ moved_fault circuit there fault = start.moved in
     let same : w.0 ≡ fault = ap (λ (o : Option Fault). unwrap_or o w.0) (sym w.1
     ∙ o.1) in
     let own = subst (λ f. IsWayOfLine circuit f.line way) same w.2 in
-    let on = (same_stems circuit there well (reordered circuit there well levelled)).way
+    let on = (same_stems circuit there well (reordered circuit there well arranged)).way
     fault.line way own in
     c.follow.ensures.counted way
     (subst (λ f. IsWayOfLine there f.line way) (sym is) on)
 
-pub fault_free-requires : goal.fault_free-requires
-fault_free-requires c = let within = c.requires.span.within in omega (arith, within)
+pub of-requires : goal.of-requires
+of-requires c = let within = c.requires.span.within in
+    omega (arith, within, c.words-words.ensures.count)
 
-pub lanes_that_fit-requires-clause-origin : goal.lanes_that_fit-requires-clause-origin
-lanes_that_fit-requires-clause-origin c = (c.requires.origin.1.0, c.requires.origin.1.2)
+pub lanes_that_fit-requires-clause-stuck : goal.lanes_that_fit-requires-clause-stuck
+lanes_that_fit-requires-clause-stuck c = (c.requires.stuck.1.0, c.requires.stuck.1.2)
+
+pub origin_of-requires : goal.origin_of-requires
+origin_of-requires c =
+    let o = c.requires.stuck.1 in (
+      o.0,
+      subst (λ x. IsStuckOf x o.0 c.args.stuck) (sym c.words-words.ensures.part) o.2,
+    )
 
 pub follow-requires-clause-carried : goal.follow-requires-clause-carried
 follow-requires-clause-carried c =
-    c.requires.origin.1.2.carried c.flat-circuit.result.now.levelled c.flat-circuit.ensures.levelled
+    (starts_there c.args.job.now.circuit c.words-words.result.circuit.now.arranged
+    c.words-words.result.circuit.now.statements c.args.stuck c.origin_of.result
+    c.words-words.ensures.part c.origin_of.ensures c.requires.stuck.1.0
+    c.requires.stuck.1.2).carried

@@ -14,7 +14,7 @@ pub loop-gate-init : goal.loop-gate-init
 loop-gate-init c = record {
   room = large_none c.args.changes.now;
   settled = λ h. h;
-  leads = leads_none c.args.view.circuit.now.levelled c.args.view.good.now c.args.view.lanes _;
+  leads = leads_none c.args.view.circuit.now.arranged c.args.view.good.now c.args.view.lanes _;
 }
 
 pub take-requires : goal.take-requires
@@ -22,7 +22,7 @@ take-requires c = omega (arith, c.requires.level, c.loop-gate.invariant.room.lev
 
 pub evaluate_waiting-requires-clause-room : goal.evaluate_waiting-requires-clause-room
 evaluate_waiting-requires-clause-room c =
-    let h = large_enough c.args.view.circuit.now.levelled c.args.changes.now c.loop-gate.changes
+    let h = large_enough c.args.view.circuit.now.arranged c.args.changes.now c.loop-gate.changes
     c.requires.room c.loop-gate.invariant.room in
     record {
       overlay = h.overlay;
@@ -35,7 +35,7 @@ evaluate_waiting-requires-clause-room c =
 pub evaluate_waiting-requires-clause-taken : goal.evaluate_waiting-requires-clause-taken
 evaluate_waiting-requires-clause-taken c =
     let s = c.requires.spreads in
-    taken_now c.args.view.circuit.now.levelled c.args.view.good.now c.args.view.lanes
+    taken_now c.args.view.circuit.now.arranged c.args.view.good.now c.args.view.lanes
     c.requires.view.circuit.well_formed s.0 c.loop-gate.changes.buckets.at c.args.level
     c.loop-gate.found.followed
     c.loop-gate.found.detected c.in-Some.gate _ (c.loop-gate.invariant.leads.spreading s.0 s.1)
@@ -43,7 +43,7 @@ evaluate_waiting-requires-clause-taken c =
 
 pub loop-gate-smaller : goal.loop-gate-smaller
 loop-gate-smaller c =
-    let circuit = c.args.view.circuit.now.levelled in
+    let circuit = c.args.view.circuit.now.arranged in
     let s = c.requires.spreads in
     let m = c.loop-gate.changes in
     let here = taken_here circuit c.args.view.good.now c.args.view.lanes s.0 m.overlay m.buckets.at
@@ -57,7 +57,7 @@ loop-gate-smaller c =
 
 pub loop-gate-preserved : goal.loop-gate-preserved
 loop-gate-preserved c =
-    let circuit = c.args.view.circuit.now.levelled in
+    let circuit = c.args.view.circuit.now.arranged in
     let good = c.args.view.good.now in
     let lanes = c.args.view.lanes in
     let level = c.args.level in
@@ -89,7 +89,7 @@ loop-gate-preserved c =
 
 pub loop-gate-smaller-then-seen-found : goal.loop-gate-smaller-then-seen-found
 loop-gate-smaller-then-seen-found c =
-    let circuit = c.args.view.circuit.now.levelled in
+    let circuit = c.args.view.circuit.now.arranged in
     let s = c.requires.spreads in
     let m = c.loop-gate.changes in
     let here = taken_here circuit c.args.view.good.now c.args.view.lanes s.0 m.overlay m.buckets.at
@@ -103,7 +103,7 @@ loop-gate-smaller-then-seen-found c =
 
 pub loop-gate-preserved-then-seen-found : goal.loop-gate-preserved-then-seen-found
 loop-gate-preserved-then-seen-found c =
-    let circuit = c.args.view.circuit.now.levelled in
+    let circuit = c.args.view.circuit.now.arranged in
     let good = c.args.view.good.now in
     let lanes = c.args.view.lanes in
     let level = c.args.level in
@@ -133,7 +133,7 @@ loop-gate-preserved-then-seen-found c =
 
 pub returns-clause-leads : goal.returns-clause-leads
 returns-clause-leads c =
-    let circuit = c.args.view.circuit.now.levelled in
+    let circuit = c.args.view.circuit.now.arranged in
     let good = c.args.view.good.now in
     let lanes = c.args.view.lanes in
     let m = c.loop-gate.changes in

@@ -10,7 +10,7 @@ invariant-loop-gate l = record {
   room : IsAsLarge l.fn.changes l.changes;
   settled : LeavesSettled l.extent l.view.lanes l.fn.found.followed l.fn.found.detected
       → LeavesSettled l.extent l.view.lanes l.found.followed l.found.detected;
-  leads : Leads l.view.circuit.now.levelled l.view.good.now l.view.lanes
+  leads : Leads l.view.circuit.now.arranged l.view.good.now l.view.lanes
       (moment l.fn.changes l.level l.fn.found.followed l.fn.found.detected)
       (moment l.changes l.level l.found.followed l.found.detected);
 }

@@ -13,7 +13,7 @@ use Rattle.block_sim.proofs.spread.evaluate_waiting.Goals as goal
 pub returns-then-kept-eq0-clause-leads : goal.returns-then-kept-eq0-clause-leads
 returns-then-kept-eq0-clause-leads c = λ now seen.
     let old = c.args.changes.now in
-    leads_skipped c.args.view.circuit.now.levelled c.args.view.good.now c.args.view.lanes
+    leads_skipped c.args.view.circuit.now.arranged c.args.view.good.now c.args.view.lanes
     old.overlay
     old.buckets.at old.evaluations now c.args.kept seen c.args.gate
     (omega (arith, c.requires.taken.within, c.requires.room.gates)) c.requires.taken.waits
@@ -22,26 +22,26 @@ returns-then-kept-eq0-clause-leads c = λ now seen.
 pub evaluate_gate-word-requires-clause-pins_in : goal.evaluate_gate-word-requires-clause-pins_in
 evaluate_gate-word-requires-clause-pins_in c =
     λ k d lt.
-    let within = pins_within c.args.view.circuit.now.levelled c.args.gate c.in-Some.driver.kind
+    let within = pins_within c.args.view.circuit.now.arranged c.args.gate c.in-Some.driver.kind
     c.in-Some.driver.pins.now c.requires.view.circuit.well_formed (sym c.in-Some.ensures.gate) k d
     lt in
     omega (arith, within, c.requires.view.count)
 
 pub evaluate_gate-word-requires-clause-some : goal.evaluate_gate-word-requires-clause-some
 evaluate_gate-word-requires-clause-some c =
-    pins_some c.args.view.circuit.now.levelled c.args.gate c.in-Some.driver.kind
+    pins_some c.args.view.circuit.now.arranged c.args.gate c.in-Some.driver.kind
     c.in-Some.driver.pins.now
     c.requires.view.circuit (sym c.in-Some.ensures.gate)
 
 pub evaluate_gate-word-requires-clause-few : goal.evaluate_gate-word-requires-clause-few
 evaluate_gate-word-requires-clause-few c =
-    pins_few c.args.view.circuit.now.levelled c.args.gate c.in-Some.driver.kind
+    pins_few c.args.view.circuit.now.arranged c.args.gate c.in-Some.driver.kind
     c.in-Some.driver.pins.now
     c.requires.view.circuit (sym c.in-Some.ensures.gate)
 
 pub returns-then-diff-eq0-clause-leads : goal.returns-then-diff-eq0-clause-leads
 returns-then-diff-eq0-clause-leads c = λ now seen.
-    let circuit = c.args.view.circuit.now.levelled in
+    let circuit = c.args.view.circuit.now.arranged in
     let good = c.args.view.good.now in
     let old = c.args.changes.now in
     let gate = c.args.gate in
@@ -65,7 +65,7 @@ returns-then-diff-eq0-clause-leads c = λ now seen.
 
 pub returns-clause-leads : goal.returns-clause-leads
 returns-clause-leads c = λ now seen.
-    let circuit = c.args.view.circuit.now.levelled in
+    let circuit = c.args.view.circuit.now.arranged in
     let good = c.args.view.good.now in
     let old = c.args.changes.now in
     let gate = c.args.gate in
@@ -98,7 +98,7 @@ returns-clause-leads c = λ now seen.
 
 pub returns-clause-scheduled : goal.returns-clause-scheduled
 returns-clause-scheduled c = λ level are r.
-    let circuit = c.args.view.circuit.now.levelled in
+    let circuit = c.args.view.circuit.now.arranged in
     scheduled_above circuit (level_at circuit level) c.args.gate c.args.changes.now.buckets.at
     c.change.new.changes.buckets.at
     (reads_rise circuit level c.requires.view.circuit.well_formed are)

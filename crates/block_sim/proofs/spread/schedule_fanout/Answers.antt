@@ -13,7 +13,7 @@ pub loop-reader-init : goal.loop-reader-init
 loop-reader-init c = record {
   gates = refl;
   levels = refl;
-  scheduled = scheduled_none c.args.circuit.now.levelled c.args.signal
+  scheduled = scheduled_none c.args.circuit.now.arranged c.args.signal
       c.readers_of-reader-items.result.now
       c.args.buckets.now.at;
 }
@@ -25,7 +25,7 @@ waits-requires c =
     none in
     let has = c.readers_of-reader-items.ensures.each c.loop-reader.reader-index none
     c.loop-reader-test.true in
-    let lt = reader_within c.args.circuit.now.levelled reader.gate c.args.signal has.0.0 in
+    let lt = reader_within c.args.circuit.now.arranged reader.gate c.args.signal has.0.0 in
     omega (arith, lt, c.requires.gates, c.loop-reader.invariant.gates)
 
 pub loop-reader-preserved-then-waits : goal.loop-reader-preserved-then-waits
@@ -36,7 +36,7 @@ loop-reader-preserved-then-waits c =
     record {
       gates = c.loop-reader.invariant.gates;
       levels = c.loop-reader.invariant.levels;
-      scheduled = scheduled_waits c.args.circuit.now.levelled c.requires.circuit.well_formed
+      scheduled = scheduled_waits c.args.circuit.now.arranged c.requires.circuit.well_formed
           c.args.signal
           items
           c.readers_of-reader-items.ensures c.loop-reader.reader-index none reader refl
@@ -51,7 +51,7 @@ add-requires-clause-gate c =
     none in
     let has = c.readers_of-reader-items.ensures.each c.loop-reader.reader-index none
     c.loop-reader-test.true in
-    let lt = reader_within c.args.circuit.now.levelled reader.gate c.args.signal has.0.0 in
+    let lt = reader_within c.args.circuit.now.arranged reader.gate c.args.signal has.0.0 in
     omega (arith, lt, c.requires.gates, c.loop-reader.invariant.gates)
 
 pub add-requires-clause-level : goal.add-requires-clause-level
@@ -67,7 +67,7 @@ add-requires-clause-level c =
 pub loop-reader-preserved : goal.loop-reader-preserved
 loop-reader-preserved c =
     let none : Reader = record { gate = 0; level = 0 } in
-    let circuit = c.args.circuit.now.levelled in
+    let circuit = c.args.circuit.now.arranged in
     let items = c.readers_of-reader-items.result.now in
     let i = c.loop-reader.reader-index in
     let reader = slice_index_or items i none in
@@ -97,7 +97,7 @@ loop-reader-preserved c =
 
 pub returns-clause-scheduled : goal.returns-clause-scheduled
 returns-clause-scheduled c = λ level are_levels.
-    scheduled_all c.args.circuit.now.levelled c.requires.circuit.well_formed c.args.signal
+    scheduled_all c.args.circuit.now.arranged c.requires.circuit.well_formed c.args.signal
     c.readers_of-reader-items.result.now c.readers_of-reader-items.ensures
     c.loop-reader.reader-index
     c.args.buckets.now.at c.loop-reader.buckets.at level c.loop-reader-test.false are_levels

@@ -15,9 +15,9 @@ use Rattle.block_sim.proofs.spread.spread.Goals.{then-loop-level-test+then-is_em
 
 -- where the loop stops, whatever the faults are
 ended : (c : After-clear) (tests : List Test) (group : ℕ) (f : ℕ → Fault)
-    → IsFirstChange c.args.view.circuit.now.levelled tests group f c.args.view.good.now
+    → IsFirstChange c.args.view.circuit.now.arranged tests group f c.args.view.good.now
     c.args.view.lanes c.args.changes.now.overlay c.args.start c.args.diff
-    → HasEnded c.args.view.circuit.now.levelled tests group f c.args.view.good.now
+    → HasEnded c.args.view.circuit.now.arranged tests group f c.args.view.good.now
     c.args.view.lanes c.args.changes.now c.loop-level.changes c.args.start
     c.loop-level.found.detected (IsSettled c.args.extent c.loop-level.found.detected)
 ended c tests group f first =
@@ -29,7 +29,7 @@ ended c tests group f first =
       | then-loop-level-test+then-is_empty x ↦ inr (λ s. index_zero at s
           (x.is_empty.ensures.0 x.if-is_empty.true))
     ] in
-    has_ended c.args.view.circuit.now.levelled c.args.view.good.now c.args.view.lanes
+    has_ended c.args.view.circuit.now.arranged c.args.view.good.now c.args.view.lanes
     c.args.changes.now c.change-seen.new.changes c.args.start c.args.diff c.level_of-level.result
     c.followed-kept.result c.change-seen.result c.requires.view.circuit.well_formed
     c.requires.room c.requires.clear c.requires.start c.level_of-level.ensures
@@ -43,7 +43,7 @@ ended c tests group f first =
 pub returns-then-diff-eq0-clause-shown : goal.returns-then-diff-eq0-clause-shown
 returns-then-diff-eq0-clause-shown c = λ tests group f first.
     let overlay = c.args.changes.now.overlay in
-    shown_unchanged c.args.view.circuit.now.levelled tests group f c.args.view.good.now
+    shown_unchanged c.args.view.circuit.now.arranged tests group f c.args.view.good.now
     c.args.view.lanes
     overlay c.args.start c.args.diff (IsSettled c.args.extent 0)
     c.requires.view.circuit.well_formed
@@ -61,12 +61,12 @@ pub loop-level-init : goal.loop-level-init
 loop-level-init c = record {
   room = large_none c.change-seen.new.changes;
   settled = λ k lt in_lanes out. c.followed-kept.ensures.rest k lt in_lanes out;
-  leads = leads_none c.args.view.circuit.now.levelled c.args.view.good.now c.args.view.lanes _;
+  leads = leads_none c.args.view.circuit.now.arranged c.args.view.good.now c.args.view.lanes _;
 }
 
 pub evaluate_level-found-requires-clause-room : goal.evaluate_level-found-requires-clause-room
 evaluate_level-found-requires-clause-room c =
-    large_enough c.args.view.circuit.now.levelled c.args.changes.now c.loop-level.changes
+    large_enough c.args.view.circuit.now.arranged c.args.changes.now c.loop-level.changes
     c.requires.room
     (large_on c.args.changes.now c.change-seen.new.changes c.loop-level.changes
     c.change-seen.ensures.room c.loop-level.invariant.room)
@@ -82,7 +82,7 @@ evaluate_level-found-requires-clause-level c = omega (
 pub evaluate_level-found-requires-clause-spreads : goal.evaluate_level-found-requires-clause-spreads
 evaluate_level-found-requires-clause-spreads c =
     let w = c.requires.first in
-    let begin = begins c.args.view.circuit.now.levelled c.args.view.good.now c.args.view.lanes
+    let begin = begins c.args.view.circuit.now.arranged c.args.view.good.now c.args.view.lanes
     c.args.changes.now c.change-seen.new.changes c.args.start c.args.diff c.level_of-level.result
     c.followed-kept.result c.change-seen.result c.requires.view.circuit.well_formed
     c.requires.room c.requires.clear c.requires.start c.level_of-level.ensures
@@ -95,7 +95,7 @@ loop-level-preserved c = record {
   room = large_on c.change-seen.new.changes c.loop-level.changes c.evaluate_level-found.new.changes
       c.loop-level.invariant.room c.evaluate_level-found.ensures.room;
   settled = c.evaluate_level-found.ensures.settled c.loop-level.invariant.settled;
-  leads = leads_on c.args.view.circuit.now.levelled c.args.view.good.now c.args.view.lanes _ _ _
+  leads = leads_on c.args.view.circuit.now.arranged c.args.view.good.now c.args.view.lanes _ _ _
       c.loop-level.invariant.leads c.evaluate_level-found.ensures.leads;
 }
 

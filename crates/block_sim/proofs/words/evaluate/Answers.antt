@@ -4,16 +4,16 @@ use Rattle.std.proofs.lemmas.List.{length-set}
 use Rattle.bench_net.specs.Scan.{names}
 use Rattle.patterns.specs.Least.{below}
 use Rattle.patterns.proofs.Public.{length-below}
-use Rattle.block_sim.proofs.LevelPass.{natural_more, passed_all}
-use Rattle.block_sim.proofs.LevelledSignals.{natural_order}
+use Rattle.block_sim.proofs.FlowPass.{natural_more, passed_all}
+use Rattle.block_sim.proofs.ArrangedSignals.{natural_order}
 use Rattle.block_sim.proofs.words.evaluate.Goals as goal
 
 pub loop-signal-preserved : goal.loop-signal-preserved
 loop-signal-preserved c =
-    let circuit = c.args.circuit.now.levelled in
+    let circuit = c.args.circuit.now.arranged in
     let signals = c.signals-signal-end.ensures in
     let ordered = natural_order c.args.circuit.now.statements circuit
-    signals.given.well_formed signals.levelled in
+    signals.given.well_formed signals.arranged in
     let signal = c.loop-signal.signal in
     let lt : signal < length (names circuit) = omega (
       arith,
@@ -35,10 +35,10 @@ loop-signal-preserved c =
 
 pub returns-clause-words : goal.returns-clause-words
 returns-clause-words c =
-    let circuit = c.args.circuit.now.levelled in
+    let circuit = c.args.circuit.now.arranged in
     let signals = c.signals-signal-end.ensures in
     let ordered = natural_order c.args.circuit.now.statements circuit
-    signals.given.well_formed signals.levelled in
+    signals.given.well_formed signals.arranged in
     let long = length-below (length (names circuit)) in
     passed_all circuit c.args.tests.now.tests c.args.group None (below (length (names circuit)))
     c.requires.circuit.well_formed ordered c.loop-signal.words c.loop-signal.signal

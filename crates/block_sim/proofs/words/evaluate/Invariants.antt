@@ -2,12 +2,12 @@ use Rattle.std.proofs.Common.{◌≡◌, length}
 use Rattle.std.specs.Prelude.{None}
 use Rattle.bench_net.specs.Scan.{names}
 use Rattle.patterns.specs.Least.{below}
-use Rattle.block_sim.proofs.LevelPass.{ArePassed}
+use Rattle.block_sim.proofs.FlowPass.{ArePassed}
 use Rattle.block_sim.proofs.words.evaluate.Given as goal
 
 abbrev pub invariant-loop-signal : goal.invariant-loop-signal
 invariant-loop-signal l = record {
-  passed : ArePassed l.circuit.levelled l.tests.tests l.group None
-      (below (length (names l.circuit.levelled))) l.words l.signal;
+  passed : ArePassed l.circuit.arranged l.tests.tests l.group None
+      (below (length (names l.circuit.arranged))) l.words l.signal;
   room : length l.words ≡ length l.fn.words;
 }

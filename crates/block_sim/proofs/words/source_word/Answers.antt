@@ -6,7 +6,7 @@ use Rattle.block_sim.proofs.words.source_word.Goals as goal
 
 pub unreachable-requires : goal.unreachable-requires
 unreachable-requires c =
-    let there = source_there c.args.circuit.now.levelled c.args.signal
+    let there = source_there c.args.circuit.now.arranged c.args.signal
     c.requires.circuit.well_formed
     c.requires.signal c.requires.source in
     c.in-None.ensures.none there.0 there.1
@@ -14,7 +14,7 @@ unreachable-requires c =
 pub returns : goal.returns
 returns c = λ i at.
     subst (λ j. IsGroupWord c.args.tests.now.tests c.args.group j c.group_word.result)
-    (one_source c.args.circuit.now.levelled c.args.signal c.requires.circuit.well_formed
+    (one_source c.args.circuit.now.arranged c.args.signal c.requires.circuit.well_formed
     c.requires.signal
     c.in-Some.source i c.in-Some.ensures.place at)
     (joined_words c.args.tests.now.tests c.args.group c.in-Some.source c.word_at-low.result

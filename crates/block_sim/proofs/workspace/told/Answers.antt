@@ -12,9 +12,11 @@ use Rattle.block_sim.specs.ActiveGates.{HasActive, HasActiveIn}
 use Rattle.block_sim.specs.Stuck.{stuck_fault}
 use Rattle.block_sim.specs.Words.{lane}
 use Rattle.block_sim.proofs.LevelCount.{level_within}
-use Rattle.block_sim.proofs.LevelledSignals.{count_there, reordered, room_there}
-use Rattle.block_sim.proofs.LevelledWords.{circuit_there, listed_there, told_there}
+use Rattle.block_sim.proofs.ArrangedSignals.{reordered, room_there}
+use Rattle.block_sim.proofs.ArrangedWords.{carried_name, circuit_there, listed_there, moved_there}
+use Rattle.block_sim.proofs.ArrangedWords.{told_there}
 use Rattle.block_sim.proofs.Steps.{lanes_decide}
+use Rattle.fault_model.specs.Detection.{name_on}
 use Rattle.block_sim.proofs.DetectingTests.{active_on_block}
 use Rattle.block_sim.proofs.ReorderedGates.{same_active}
 use Rattle.block_sim.proofs.workspace.told.Goals as goal
@@ -22,45 +24,46 @@ use Rattle.block_sim.proofs.workspace.told.Goals as goal
 pub effect-requires-clause-view : goal.effect-requires-clause-view
 effect-requires-clause-view c =
     let circuit = c.args.job.now.circuit in
-    let there = c.flat-circuit.result.now.levelled in
-    let whole = c.flat-circuit.ensures.together.circuit in
-    let levelled = c.flat-circuit.ensures.levelled in
+    let there = c.words-words.result.circuit.now.arranged in
+    let whole = c.words-words.ensures.together.circuit in
+    let arranged = c.words-words.ensures.arranged in
     record {
-      circuit = circuit_there circuit there whole levelled;
-      count = c.fault_free.ensures.count
-          ∙ sym (count_there circuit there whole.well_formed levelled);
+      circuit = circuit_there circuit there whole arranged;
+      count = (c.words-words.ensures.fault_free (c.args.block / 2) c.of.result.now c.of.ensures).0;
     }
 
 pub effect-requires-clause-listed : goal.effect-requires-clause-listed
 effect-requires-clause-listed c =
     let job = c.args.job.now in
     let circuit = job.circuit in
-    let there = c.flat-circuit.result.now.levelled in
-    let levelled = c.flat-circuit.ensures.levelled in
-    let well = c.flat-circuit.ensures.together.circuit.well_formed in
-    let fault = c.origin-origin.ensures.0 in
-    let starts = c.origin-origin.ensures.2 in
-    let is : stuck_fault c.origin-origin.result.fault ≡ moved_fault circuit there fault =
-    starts.moved there levelled in
+    let there = c.words-words.result.circuit.now.arranged in
+    let arranged = c.words-words.ensures.arranged in
+    let well = c.words-words.ensures.together.circuit.well_formed in
+    let fault = c.representative-stuck.ensures.0 in
+    let starts = c.representative-stuck.ensures.2 in
+    let is : stuck_fault c.moved.result ≡ moved_fault circuit there fault =
+    moved_there circuit there c.words-words.result.circuit.now.statements fault
+    c.representative-stuck.result c.moved.result c.words-words.ensures.part c.moved.ensures
+    starts.is in
     subst (λ f. Contains (faults f.model there) f) (sym is)
-    (listed_there circuit there well levelled fault.model fault
+    (listed_there circuit there well arranged fault.model fault
     starts.listed)
 
 pub effect-requires-clause-words : goal.effect-requires-clause-words
 effect-requires-clause-words c = (
   c.args.job.now.tests.tests,
   c.args.block / 2,
-  c.fault_free.ensures.words c.flat-circuit.result.now.levelled c.flat-circuit.ensures.levelled,
+  (c.words-words.ensures.fault_free (c.args.block / 2) c.of.result.now c.of.ensures).1,
 )
 
 pub effect-requires-clause-room : goal.effect-requires-clause-room
 effect-requires-clause-room c =
     let circuit = c.args.job.now.circuit in
-    let well = c.flat-circuit.ensures.together.circuit.well_formed in
+    let well = c.words-words.ensures.together.circuit.well_formed in
     let changes = c.workspace.inside.changes in
     let signals : length changes.overlay ≡ c.args.workspace.now.signals =
     ap (λ r. r.signals) c.workspace.view_is in
-    room_there circuit c.flat-circuit.result.now.levelled well c.flat-circuit.ensures.levelled
+    room_there circuit c.words-words.result.circuit.now.arranged well c.words-words.ensures.arranged
     changes (record {
       overlay = omega (arith, signals, c.requires.fits);
       gates = omega (arith, signals, c.requires.fits, c.workspace.invariant.gates);
@@ -73,11 +76,11 @@ pub returns-clause-told : goal.returns-clause-told
 returns-clause-told c =
     let job = c.args.job.now in
     let circuit = job.circuit in
-    let there = c.flat-circuit.result.now.levelled in
-    let levelled = c.flat-circuit.ensures.levelled in
-    let well = c.flat-circuit.ensures.together.circuit.well_formed in
-    let fault = c.origin-origin.ensures.0 in
-    let starts = c.origin-origin.ensures.2 in
+    let there = c.words-words.result.circuit.now.arranged in
+    let arranged = c.words-words.ensures.arranged in
+    let well = c.words-words.ensures.together.circuit.well_formed in
+    let fault = c.representative-stuck.ensures.0 in
+    let starts = c.representative-stuck.ensures.2 in
     let tests = job.tests.tests in
     let block = c.args.block in
     let span = one_block block in
@@ -89,18 +92,20 @@ returns-clause-told c =
     let decides : AreLanesFor tests span circuit fault lanes =
     λ k lt. lanes_decide c.test_lanes.result c.lanes_that_fit.result k (own k lt)
     (λ is. c.lanes_that_fit.ensures fault k starts lt is.listed) in
-    let is : stuck_fault c.origin-origin.result.fault ≡ moved_fault circuit there fault =
-    starts.moved there levelled in
-    let words = c.fault_free.ensures.words there levelled in
-    let good = c.fault_free.result.now in
+    let is : stuck_fault c.moved.result ≡ moved_fault circuit there fault =
+    moved_there circuit there c.words-words.result.circuit.now.statements fault
+    c.representative-stuck.result c.moved.result c.words-words.ensures.part c.moved.ensures
+    starts.is in
+    let words = (c.words-words.ensures.fault_free group c.of.result.now c.of.ensures).1 in
+    let good = c.of.result.now in
     let settled = IsSettled c.args.extent c.effect.result in
     let shown : AreShown there tests group (λ _. moved_fault circuit there fault) good lanes settled
     c.effect.result =
     subst (λ f. AreShown there tests group (λ _. f) good lanes settled c.effect.result) is
     (c.effect.ensures.shown tests group words) in (
       fault,
-      c.origin-origin.ensures.1,
-      told_there circuit there well levelled tests span fault good lanes c.effect.result words
+      c.representative-stuck.ensures.1,
+      told_there circuit there well arranged tests span fault good lanes c.effect.result words
           decides settled shown,
     )
 
@@ -108,11 +113,11 @@ pub returns-clause-counted : goal.returns-clause-counted
 returns-clause-counted c = λ r gates at all.
     let job = c.args.job.now in
     let circuit = job.circuit in
-    let there = c.flat-circuit.result.now.levelled in
-    let levelled = c.flat-circuit.ensures.levelled in
-    let well = c.flat-circuit.ensures.together.circuit.well_formed in
-    let fault = c.origin-origin.ensures.0 in
-    let starts = c.origin-origin.ensures.2 in
+    let there = c.words-words.result.circuit.now.arranged in
+    let arranged = c.words-words.ensures.arranged in
+    let well = c.words-words.ensures.together.circuit.well_formed in
+    let fault = c.representative-stuck.ensures.0 in
+    let starts = c.representative-stuck.ensures.2 in
     let tests = job.tests.tests in
     let block = c.args.block in
     let span = one_block block in
@@ -124,13 +129,15 @@ returns-clause-counted c = λ r gates at all.
     let decides : AreLanesFor tests span circuit fault lanes =
     λ k lt. lanes_decide c.test_lanes.result c.lanes_that_fit.result k (own k lt)
     (λ is. c.lanes_that_fit.ensures fault k starts lt is.listed) in
-    let is : stuck_fault c.origin-origin.result.fault ≡ moved_fault circuit there fault =
-    starts.moved there levelled in
-    let words = c.fault_free.ensures.words there levelled in
+    let is : stuck_fault c.moved.result ≡ moved_fault circuit there fault =
+    moved_there circuit there c.words-words.result.circuit.now.statements fault
+    c.representative-stuck.result c.moved.result c.words-words.ensures.part c.moved.ensures
+    starts.is in
+    let words = (c.words-words.ensures.fault_free group c.of.result.now c.of.ensures).1 in
     let same : r ≡ fault = ap (λ (o : Option Fault). unwrap_or o r) (sym at
-    ∙ c.origin-origin.ensures.1) in
+    ∙ c.representative-stuck.ensures.1) in
     let within : AreInSpan tests span lanes = λ k lt e. ((decides k lt).0 e).0 in
-    let active = (same_active circuit there well (reordered circuit there well levelled)).in_lanes
+    let active = (same_active circuit there well (reordered circuit there well arranged)).in_lanes
     tests group lanes (λ _. fault) gates
     (active_on_block circuit tests block fault lanes gates within
     (subst (λ x. HasActive circuit tests block x gates) same all)) in
@@ -143,8 +150,18 @@ returns-clause-counted c = λ r gates at all.
     ap (λ x. x.evaluations) c.workspace.view_is in
     omega (arith, le, long, before)
 
-pub fault_free-requires : goal.fault_free-requires
-fault_free-requires c = omega (arith, c.requires.block)
+pub of-requires : goal.of-requires
+of-requires c = omega (arith, c.requires.block, c.words-words.ensures.count)
 
-pub lanes_that_fit-requires-clause-origin : goal.lanes_that_fit-requires-clause-origin
-lanes_that_fit-requires-clause-origin c = (c.origin-origin.ensures.0, c.origin-origin.ensures.2)
+pub lanes_that_fit-requires-clause-stuck : goal.lanes_that_fit-requires-clause-stuck
+lanes_that_fit-requires-clause-stuck c =
+    (c.representative-stuck.ensures.0, c.representative-stuck.ensures.2)
+
+pub moved-requires : goal.moved-requires
+moved-requires c =
+    let stands = c.representative-stuck.ensures.2 in
+    let n = carried_name c.args.job.now.circuit c.representative-stuck.ensures.0
+    c.representative-stuck.result c.words-words.ensures.together.circuit.well_formed stands in (
+      n.0,
+      ap (λ x. name_on x c.representative-stuck.result.line) c.words-words.ensures.part ∙ n.1,
+    )

@@ -1,5 +1,4 @@
-use Rattle.std.proofs.Common.{◌+◌, ◌∙◌, ap, arith, length, refl, subst, sym}
-use Rattle.std.specs.Prelude.{slice_index_or}
+use Rattle.std.proofs.Common.{◌≡◌, ◌+◌, ◌∙◌, ap, arith, length, refl, subst, sym}
 use Rattle.fault_model.specs.Collapse.{Collapsed}
 use Rattle.workers.specs.Rank.{AreNumbered}
 use Rattle.workers.proofs.ClassRanks.{numbered_more}
@@ -10,7 +9,7 @@ loop-class-preserved c =
     let job = c.args.job.now in
     let count = c.count-count.ensures
     ∙ ap (λ (x : Collapsed). length x.representative) c.classes.ensures.part in
-    let visits = c.in_ok-visits.visits.items in
+    let visits = c.places-visits.result.now in
     subst (AreNumbered job c.args.parts visits (c.loop-class.class + 1))
     (sym c.in_ok-push.ensures.items)
     (numbered_more job c.args.parts visits c.loop-class.class c.loop-class.ranked.items (record {
@@ -23,6 +22,22 @@ loop-class-preserved c =
       within = omega (arith, c.loop-class-test.true, count);
       stem = c.stem_of_class-stem.ensures.stem;
       part = refl;
-      visit = c.visit_to-visit.ensures
-          ∙ ap (λ l. slice_index_or l c.stem_of_class-stem.result 0) c.as_slice.ensures.value;
+      visit = refl;
     }))
+
+pub returns : goal.returns
+returns c =
+    let job = c.args.job.now in
+    let visits = c.places-visits.result.now in
+    let count = c.count-count.ensures
+    ∙ ap (λ (x : Collapsed). length x.representative) c.classes.ensures.part in
+    let end : c.loop-class.class ≡ length job.classes.representative = omega (
+      arith,
+      c.loop-class-test.false,
+      c.loop-class.auto.class-end,
+      count,
+    ) in (
+      visits,
+      subst (λ n. AreNumbered job c.args.parts visits n c.loop-class.ranked.items) end
+          c.loop-class.invariant,
+    )

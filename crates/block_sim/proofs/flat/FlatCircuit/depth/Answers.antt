@@ -3,8 +3,8 @@ use Rattle.std.specs.Prelude.{◌≤◌, ℕ}
 use Rattle.bench_net.specs.Scan.{names}
 use Rattle.bench_net.specs.Level.{HasLevel}
 use Rattle.fault_model.specs.Reordered.{in_order}
-use Rattle.block_sim.specs.Levelled.{IsLevelled}
-use Rattle.block_sim.proofs.LevelledSignals.{deep_there}
+use Rattle.block_sim.specs.Arranged.{IsArranged}
+use Rattle.block_sim.proofs.ArrangedSignals.{deep_there}
 use Rattle.block_sim.proofs.flat.FlatCircuit.depth.Goals as goal
 
 pub returns : goal.returns
@@ -12,8 +12,8 @@ returns c =
     let own = c.self.inside in
     let circuit = own.circuit in
     let there = in_order circuit own.order.items in
-    let levelled : IsLevelled circuit there = (own.order.items, c.self.invariant.ordered, refl) in
-    subst (λ x. (s : ℕ) → s < length (names x.levelled)
-    → (level : ℕ) × HasLevel x.levelled s level × (level ≤ c.depth.result)) c.self.view_is
-    (deep_there circuit there c.signals-signals.ensures.circuit.well_formed levelled
+    let arranged : IsArranged circuit there = (own.order.items, c.self.invariant.ordered, refl) in
+    subst (λ x. (s : ℕ) → s < length (names x.arranged)
+    → (level : ℕ) × HasLevel x.arranged s level × (level ≤ c.depth.result)) c.self.view_is
+    (deep_there circuit there c.signals-signals.ensures.circuit.well_formed arranged
     c.depth.result c.depth.ensures)

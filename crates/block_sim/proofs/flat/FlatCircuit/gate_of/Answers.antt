@@ -13,7 +13,7 @@ pub offset_bounds-deref-row : goal.offset_bounds-deref-row
 offset_bounds-deref-row c =
     let own = c.self.inside in
     let circuit = in_order own.circuit own.order.items in
-    let levels = ap (λ x. x.levelled) c.self.view_is in
+    let levels = ap (λ x. x.arranged) c.self.view_is in
     let row = row_of circuit own.lists.pins.items own.lists.readers.items own.lists.rows.items
     own.lists.standings.items c.args.signal c.index-row.result.now c.self.invariant.flat
     (subst (λ x. c.args.signal < length (names x)) (sym levels) c.requires)
@@ -24,7 +24,7 @@ pub slice_bounds-result-count : goal.slice_bounds-result-count
 slice_bounds-result-count c =
     let own = c.self.inside in
     let circuit = in_order own.circuit own.order.items in
-    let levels = ap (λ x. x.levelled) c.self.view_is in
+    let levels = ap (λ x. x.arranged) c.self.view_is in
     let row = row_of circuit own.lists.pins.items own.lists.readers.items own.lists.rows.items
     own.lists.standings.items c.args.signal c.index-row.result.now c.self.invariant.flat
     (subst (λ x. c.args.signal < length (names x)) (sym levels) c.requires)
@@ -35,7 +35,7 @@ pub slice_bounds-result-start : goal.slice_bounds-result-start
 slice_bounds-result-start c =
     let own = c.self.inside in
     let circuit = in_order own.circuit own.order.items in
-    let levels = ap (λ x. x.levelled) c.self.view_is in
+    let levels = ap (λ x. x.arranged) c.self.view_is in
     let row = row_of circuit own.lists.pins.items own.lists.readers.items own.lists.rows.items
     own.lists.standings.items c.args.signal c.index-row.result.now c.self.invariant.flat
     (subst (λ x. c.args.signal < length (names x)) (sym levels) c.requires)
@@ -46,7 +46,7 @@ pub slice_bounds-result-end : goal.slice_bounds-result-end
 slice_bounds-result-end c =
     let own = c.self.inside in
     let circuit = in_order own.circuit own.order.items in
-    let levels = ap (λ x. x.levelled) c.self.view_is in
+    let levels = ap (λ x. x.arranged) c.self.view_is in
     let row = row_of circuit own.lists.pins.items own.lists.readers.items own.lists.rows.items
     own.lists.standings.items c.args.signal c.index-row.result.now c.self.invariant.flat
     (subst (λ x. c.args.signal < length (names x)) (sym levels) c.requires)
@@ -57,7 +57,7 @@ pub returns-in-Some-clause-gate : goal.returns-in-Some-clause-gate
 returns-in-Some-clause-gate c =
     let own = c.self.inside in
     let circuit = in_order own.circuit own.order.items in
-    let levels = ap (λ x. x.levelled) c.self.view_is in
+    let levels = ap (λ x. x.arranged) c.self.view_is in
     let row = row_of circuit own.lists.pins.items own.lists.readers.items own.lists.rows.items
     own.lists.standings.items c.args.signal c.index-row.result.now c.self.invariant.flat
     (subst (λ x. c.args.signal < length (names x)) (sym levels) c.requires)
@@ -78,7 +78,7 @@ pub returns-in-None-clause-gate : goal.returns-in-None-clause-gate
 returns-in-None-clause-gate c =
     let own = c.self.inside in
     let circuit = in_order own.circuit own.order.items in
-    let levels = ap (λ x. x.levelled) c.self.view_is in
+    let levels = ap (λ x. x.arranged) c.self.view_is in
     let row = row_of circuit own.lists.pins.items own.lists.readers.items own.lists.rows.items
     own.lists.standings.items c.args.signal c.index-row.result.now c.self.invariant.flat
     (subst (λ x. c.args.signal < length (names x)) (sym levels) c.requires)
@@ -94,7 +94,7 @@ pub returns-in-Some-clause-form : goal.returns-in-Some-clause-form
 returns-in-Some-clause-form c =
     let own = c.self.inside in
     let circuit = in_order own.circuit own.order.items in
-    let levels = ap (λ x. x.levelled) c.self.view_is in
+    let levels = ap (λ x. x.arranged) c.self.view_is in
     let row = row_of circuit own.lists.pins.items own.lists.readers.items own.lists.rows.items
     own.lists.standings.items c.args.signal c.index-row.result.now c.self.invariant.flat
     (subst (λ x. c.args.signal < length (names x)) (sym levels) c.requires)
@@ -106,7 +106,7 @@ pub returns-in-Some-clause-ends : goal.returns-in-Some-clause-ends
 returns-in-Some-clause-ends c =
     let own = c.self.inside in
     let circuit = in_order own.circuit own.order.items in
-    let levels = ap (λ x. x.levelled) c.self.view_is in
+    let levels = ap (λ x. x.arranged) c.self.view_is in
     let at = c.index-row.result.now in
     let row = row_of circuit own.lists.pins.items own.lists.readers.items own.lists.rows.items
     own.lists.standings.items c.args.signal at c.self.invariant.flat

@@ -10,7 +10,7 @@ pub returns : goal.returns
 returns c =
     let own = c.self.inside in
     let circuit = in_order own.circuit own.order.items in
-    let levels = ap (λ x. x.levelled) c.self.view_is in
+    let levels = ap (λ x. x.arranged) c.self.view_is in
     let standing = standing_of circuit own.lists.pins.items own.lists.readers.items
     own.lists.rows.items own.lists.standings.items c.args.signal c.index.result.now
     c.self.invariant.flat

@@ -5,8 +5,8 @@ use Rattle.bench_net.specs.Scan.{names}
 use Rattle.lists.proofs.Members.{Among}
 use Rattle.lists.proofs.Places.{place_within, placed}
 use Rattle.fault_model.specs.Reordered.{in_order, place}
-use Rattle.block_sim.specs.Levelled.{IsLevelled}
-use Rattle.block_sim.proofs.LevelledSignals.{places_of_all}
+use Rattle.block_sim.specs.Arranged.{IsArranged}
+use Rattle.block_sim.proofs.ArrangedSignals.{places_of_all}
 use Rattle.block_sim.proofs.flat.FlatCircuit.placed.Goals as goal
 
 pub returns : goal.returns
@@ -14,7 +14,7 @@ returns c =
     let own = c.self.inside in
     let circuit = own.circuit in
     let there = in_order circuit own.order.items in
-    let levelled : IsLevelled circuit there = (own.order.items, c.self.invariant.ordered, refl) in
+    let arranged : IsArranged circuit there = (own.order.items, c.self.invariant.ordered, refl) in
     let signals = c.args.signals.now in
     let inside = subst (λ x. (k d : ℕ) → k < length signals
     → slice_index_or signals k d < length (names x.statements)) (sym c.self.view_is) c.requires in
@@ -27,6 +27,6 @@ returns c =
     ∙ (ap (λ xs. xs ++ map (λ s. slice_index_or c.as_slice.result.now s 0) signals)
     c.new-placed.ensures.items
     ∙ (ap (λ places. map (λ s. slice_index_or places s 0) signals) c.as_slice.ensures.value
-    ∙ (places_of_all circuit there c.signals-signals.ensures.circuit.well_formed levelled
+    ∙ (places_of_all circuit there c.signals-signals.ensures.circuit.well_formed arranged
     own.places.items signals c.self.invariant.placed within
-    ∙ ap (λ x. map (place x.statements x.levelled) signals) c.self.view_is)))
+    ∙ ap (λ x. map (place x.statements x.arranged) signals) c.self.view_is)))

@@ -10,7 +10,7 @@ pub offset_bounds-deref-row : goal.offset_bounds-deref-row
 offset_bounds-deref-row c =
     let own = c.self.inside in
     let circuit = in_order own.circuit own.order.items in
-    let levels = ap (λ x. x.levelled) c.self.view_is in
+    let levels = ap (λ x. x.arranged) c.self.view_is in
     let row = row_of circuit own.lists.pins.items own.lists.readers.items own.lists.rows.items
     own.lists.standings.items c.args.signal c.index-row.result.now c.self.invariant.flat
     (subst (λ x. c.args.signal < length (names x)) (sym levels) c.requires)
@@ -21,7 +21,7 @@ pub slice_bounds-result-count : goal.slice_bounds-result-count
 slice_bounds-result-count c =
     let own = c.self.inside in
     let circuit = in_order own.circuit own.order.items in
-    let levels = ap (λ x. x.levelled) c.self.view_is in
+    let levels = ap (λ x. x.arranged) c.self.view_is in
     let row = row_of circuit own.lists.pins.items own.lists.readers.items own.lists.rows.items
     own.lists.standings.items c.args.signal c.index-row.result.now c.self.invariant.flat
     (subst (λ x. c.args.signal < length (names x)) (sym levels) c.requires)
@@ -32,7 +32,7 @@ pub slice_bounds-result-start : goal.slice_bounds-result-start
 slice_bounds-result-start c =
     let own = c.self.inside in
     let circuit = in_order own.circuit own.order.items in
-    let levels = ap (λ x. x.levelled) c.self.view_is in
+    let levels = ap (λ x. x.arranged) c.self.view_is in
     let row = row_of circuit own.lists.pins.items own.lists.readers.items own.lists.rows.items
     own.lists.standings.items c.args.signal c.index-row.result.now c.self.invariant.flat
     (subst (λ x. c.args.signal < length (names x)) (sym levels) c.requires)
@@ -43,7 +43,7 @@ pub slice_bounds-result-end : goal.slice_bounds-result-end
 slice_bounds-result-end c =
     let own = c.self.inside in
     let circuit = in_order own.circuit own.order.items in
-    let levels = ap (λ x. x.levelled) c.self.view_is in
+    let levels = ap (λ x. x.arranged) c.self.view_is in
     let row = row_of circuit own.lists.pins.items own.lists.readers.items own.lists.rows.items
     own.lists.standings.items c.args.signal c.index-row.result.now c.self.invariant.flat
     (subst (λ x. c.args.signal < length (names x)) (sym levels) c.requires)
@@ -54,7 +54,7 @@ pub returns : goal.returns
 returns c =
     let own = c.self.inside in
     let circuit = in_order own.circuit own.order.items in
-    let levels = ap (λ x. x.levelled) c.self.view_is in
+    let levels = ap (λ x. x.arranged) c.self.view_is in
     let row = row_of circuit own.lists.pins.items own.lists.readers.items own.lists.rows.items
     own.lists.standings.items c.args.signal c.index-row.result.now c.self.invariant.flat
     (subst (λ x. c.args.signal < length (names x)) (sym levels) c.requires)

@@ -2,9 +2,9 @@ use Rattle.std.proofs.Common.{◌≡◌, ◌<◌, ◌∙◌, ap, arith, length, 
 use Rattle.std.proofs.lemmas.Grind.{get_or_default_zero}
 use Rattle.bench_net.specs.Scan.{names}
 use Rattle.fault_model.specs.Reordered.{in_order, place}
-use Rattle.block_sim.specs.Levelled.{IsLevelled}
-use Rattle.block_sim.proofs.LevelOrder.{order_within}
-use Rattle.block_sim.proofs.LevelledSignals.{at_order, count_there}
+use Rattle.block_sim.specs.Arranged.{IsArranged}
+use Rattle.block_sim.proofs.FlowOrder.{flow_within}
+use Rattle.block_sim.proofs.ArrangedSignals.{at_order, count_there}
 use Rattle.block_sim.proofs.flat.FlatCircuit.signal_at.Goals as goal
 
 pub index-requires : goal.index-requires
@@ -12,15 +12,15 @@ index-requires c =
     let own = c.self.inside in
     let circuit = own.circuit in
     let there = in_order circuit own.order.items in
-    let levelled : IsLevelled circuit there = (own.order.items, c.self.invariant.ordered, refl) in
+    let arranged : IsArranged circuit there = (own.order.items, c.self.invariant.ordered, refl) in
     let well = c.signals-signals.ensures.circuit.well_formed in
-    let lt = subst (λ x. c.args.at < length (names x.levelled)) (sym c.self.view_is)
+    let lt = subst (λ x. c.args.at < length (names x.arranged)) (sym c.self.view_is)
     c.requires in
     omega (
       arith,
       lt,
-      c.self.invariant.ordered.count,
-      count_there circuit there well levelled,
+      c.self.invariant.ordered.signals.count,
+      count_there circuit there well arranged,
       own.order.ok.0,
     )
 
@@ -29,43 +29,43 @@ returns-clause-place c =
     let own = c.self.inside in
     let circuit = own.circuit in
     let there = in_order circuit own.order.items in
-    let levelled : IsLevelled circuit there = (own.order.items, c.self.invariant.ordered, refl) in
+    let arranged : IsArranged circuit there = (own.order.items, c.self.invariant.ordered, refl) in
     let well = c.signals-signals.ensures.circuit.well_formed in
-    let lt = subst (λ x. c.args.at < length (names x.levelled)) (sym c.self.view_is)
+    let lt = subst (λ x. c.args.at < length (names x.arranged)) (sym c.self.view_is)
     c.requires in
     let inside : c.args.at < length own.order.items = omega (
       arith,
       lt,
-      c.self.invariant.ordered.count,
-      count_there circuit there well levelled,
+      c.self.invariant.ordered.signals.count,
+      count_there circuit there well arranged,
     ) in
     let at : place circuit there c.index.result.now ≡ c.args.at =
     ap (place circuit there) (c.index.ensures
     ∙ get_or_default_zero own.order.items c.args.at c.index.result.now inside)
-    ∙ at_order circuit there well levelled c.args.at inside in
-    subst (λ x. place x.statements x.levelled c.index.result.now ≡ c.args.at) c.self.view_is at
+    ∙ at_order circuit there well arranged c.args.at inside in
+    subst (λ x. place x.statements x.arranged c.index.result.now ≡ c.args.at) c.self.view_is at
 
 pub returns-clause-within : goal.returns-clause-within
 returns-clause-within c =
     let own = c.self.inside in
     let circuit = own.circuit in
     let there = in_order circuit own.order.items in
-    let levelled : IsLevelled circuit there = (own.order.items, c.self.invariant.ordered, refl) in
+    let arranged : IsArranged circuit there = (own.order.items, c.self.invariant.ordered, refl) in
     let well = c.signals-signals.ensures.circuit.well_formed in
-    let lt = subst (λ x. c.args.at < length (names x.levelled)) (sym c.self.view_is)
+    let lt = subst (λ x. c.args.at < length (names x.arranged)) (sym c.self.view_is)
     c.requires in
     let inside : c.args.at < length own.order.items = omega (
       arith,
       lt,
-      c.self.invariant.ordered.count,
-      count_there circuit there well levelled,
+      c.self.invariant.ordered.signals.count,
+      count_there circuit there well arranged,
     ) in
     let at : place circuit there c.index.result.now ≡ c.args.at =
     ap (place circuit there) (c.index.ensures
     ∙ get_or_default_zero own.order.items c.args.at c.index.result.now inside)
-    ∙ at_order circuit there well levelled c.args.at inside in
+    ∙ at_order circuit there well arranged c.args.at inside in
     let own_at : c.index.result.now < length (names circuit) = subst
     (λ x. x < length (names circuit)) (sym (c.index.ensures
     ∙ get_or_default_zero own.order.items c.args.at c.index.result.now inside))
-    (order_within circuit own.order.items c.args.at c.self.invariant.ordered inside) in
+    (flow_within circuit own.order.items c.args.at c.self.invariant.ordered inside) in
     subst (λ x. c.index.result.now < length (names x.statements)) c.self.view_is own_at

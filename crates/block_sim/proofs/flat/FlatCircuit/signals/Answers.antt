@@ -2,9 +2,9 @@ use Rattle.std.proofs.Common.{◌∙◌, ap, length, refl, subst, sym}
 use Rattle.bench_net.specs.Scan.{names}
 use Rattle.bench_net.specs.Circuit.{IsCircuit}
 use Rattle.fault_model.specs.Reordered.{in_order}
-use Rattle.block_sim.specs.Levelled.{IsLevelled}
-use Rattle.block_sim.proofs.LevelledSignals.{count_there}
-use Rattle.block_sim.proofs.LevelledWords.{circuit_there}
+use Rattle.block_sim.specs.Arranged.{IsArranged}
+use Rattle.block_sim.proofs.ArrangedSignals.{count_there}
+use Rattle.block_sim.proofs.ArrangedWords.{circuit_there}
 use Rattle.block_sim.proofs.flat.FlatCircuit.signals.Goals as goal
 
 pub returns-clause-count : goal.returns-clause-count
@@ -12,16 +12,16 @@ returns-clause-count c =
     let own = c.self.inside in
     let circuit = own.circuit in
     let there = in_order circuit own.order.items in
-    let levelled : IsLevelled circuit there = (own.order.items, c.self.invariant.ordered, refl) in
+    let arranged : IsArranged circuit there = (own.order.items, c.self.invariant.ordered, refl) in
     c.signals.ensures.count
-    ∙ (sym (count_there circuit there c.signals.ensures.circuit.well_formed levelled)
-    ∙ ap (λ x. length (names x.levelled)) c.self.view_is)
+    ∙ (sym (count_there circuit there c.signals.ensures.circuit.well_formed arranged)
+    ∙ ap (λ x. length (names x.arranged)) c.self.view_is)
 
 pub returns-clause-circuit : goal.returns-clause-circuit
 returns-clause-circuit c =
     let own = c.self.inside in
     let circuit = own.circuit in
     let there = in_order circuit own.order.items in
-    let levelled : IsLevelled circuit there = (own.order.items, c.self.invariant.ordered, refl) in
-    subst (λ x. IsCircuit x.levelled) c.self.view_is
-    (circuit_there circuit there c.signals.ensures.circuit levelled)
+    let arranged : IsArranged circuit there = (own.order.items, c.self.invariant.ordered, refl) in
+    subst (λ x. IsCircuit x.arranged) c.self.view_is
+    (circuit_there circuit there c.signals.ensures.circuit arranged)

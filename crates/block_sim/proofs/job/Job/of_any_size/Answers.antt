@@ -2,6 +2,7 @@ use Rattle.std.proofs.Common.{◌≡◌, ◌<◌, ◌∙◌, ap, arith, length, 
 use Rattle.std.specs.Prelude.{slice_index_or}
 use Rattle.std.proofs.lemmas.Option.{slice_get-get_or}
 use Rattle.bench_net.specs.Scan.{names}
+use Rattle.block_sim.specs.Origins.{HaveRepresentatives}
 use Rattle.block_sim.specs.Parts.{BelongTogether}
 use Rattle.block_sim.specs.Regions.{HaveStems}
 use Rattle.block_sim.proofs.PartsOfJobs.{whole}
@@ -36,6 +37,8 @@ invariant_of-result c =
       nexts = c.in_ok-next_in_region.ensures.count ∙ counted;
       next_within = λ k d lt. (let low = c.in_ok-next_in_region.ensures.within k d lt in
           omega (arith, low, counted));
-      origin_count = c.in_ok-origins.ensures.count;
-      origins_are = c.in_ok-origins.ensures.origins;
+      stuck_count = c.in_ok-representatives.ensures.count;
+      stucks_are = subst (λ x. HaveRepresentatives c.args.faults.model x
+          c.in_ok-representatives.representatives.items) c.circuit-2.ensures
+          c.in_ok-representatives.ensures.representatives;
     })

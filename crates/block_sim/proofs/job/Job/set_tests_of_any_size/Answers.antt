@@ -20,13 +20,13 @@ invariant_of-self c =
             ∙ ap (λ p. length (sources p.circuit)) (sym (seen same c.self.view_is));
       };
       count = c.in_ok-rows.ensures.count;
-      fault_free = subst (λ (p : JobParts). AreFaultFree p.flat.levelled c.args.tests.tests
+      fault_free = subst (λ (p : JobParts). AreFaultFree p.flat.arranged c.args.tests.tests
           (map (λ row. row.items) c.in_ok-rows.rows.items)) (c.deref.ensures ∙ sym same)
           c.in_ok-rows.ensures.rows;
       stem_count = was.stem_count;
       stems = was.stems;
       nexts = was.nexts;
       next_within = was.next_within;
-      origin_count = was.origin_count;
-      origins_are = was.origins_are;
+      stuck_count = was.stuck_count;
+      stucks_are = was.stucks_are;
     }

@@ -3,7 +3,7 @@ use Rattle.std.proofs.lemmas.List.{length-map, get_or_read}
 use Rattle.block_sim.specs.Spans.{groups}
 use Rattle.block_sim.specs.Words.{IsFaultFreeWord, lane}
 use Rattle.block_sim.proofs.BitBefore.{fault_free_lane}
-use Rattle.block_sim.proofs.LevelledWords.{word_there}
+use Rattle.block_sim.proofs.ArrangedWords.{word_there}
 use Rattle.block_sim.proofs.Rows.{mapped_get}
 use Rattle.block_sim.proofs.PartsOfJobs.{whole, seen}
 use Rattle.block_sim.proofs.job.Job.word.Goals as goal
@@ -63,12 +63,12 @@ returns c =
     get_or_read c.index.result.now.items at _ in_row c.index-2.ensures 0 in
     subst (λ p. IsFaultFreeWord p.circuit p.tests.tests c.args.block c.args.signal
     c.block_word.result) view
-    (word_there own.flat.statements own.flat.levelled c.signals-signals.ensures.given.well_formed
-    c.signals-signals.ensures.levelled own.tests.tests c.args.block c.args.signal
+    (word_there own.flat.statements own.flat.arranged c.signals-signals.ensures.given.well_formed
+    c.signals-signals.ensures.arranged own.tests.tests c.args.block c.args.signal
     c.block_word.result
-    (subst (λ s. IsFaultFreeWord own.flat.levelled own.tests.tests c.args.block s
+    (subst (λ s. IsFaultFreeWord own.flat.arranged own.tests.tests c.args.block s
     c.block_word.result) c.place_of-place.ensures.place
-    (fault_free_lane own.flat.levelled own.tests.tests c.args.block at
+    (fault_free_lane own.flat.arranged own.tests.tests c.args.block at
     c.index.result.now.items c.block_word.result c.signals-signals.ensures.circuit.well_formed
     row.1
     (λ k j lt place. c.block_word.ensures k j lt place ∙ ap (λ w. lane w j) read))))

@@ -36,14 +36,14 @@ pub follow_alone-requires-clause-room : goal.follow_alone-requires-clause-room
 follow_alone-requires-clause-room c =
     let served = subst (λ v. Serves v c.args.job.now) (sym c.self.view_is) c.requires.serves in
     room_at_rest c.args.job.now c.self.inside.changes
-    c.flat-circuit.ensures.together.circuit.well_formed c.self.invariant served.room
+    c.circuit-circuit.ensures.together.circuit.well_formed c.self.invariant served.room
 
 pub find_out_region-seen-requires-clause-room : goal.find_out_region-seen-requires-clause-room
 find_out_region-seen-requires-clause-room c =
     let served = subst (λ v. Serves v c.args.job.now) (sym c.self.view_is) c.requires.serves in
     large_enough c.args.job.now.circuit c.self.inside.changes c.follow_alone.new.changes
     (room_at_rest c.args.job.now c.self.inside.changes
-    c.flat-circuit.ensures.together.circuit.well_formed c.self.invariant served.room)
+    c.circuit-circuit.ensures.together.circuit.well_formed c.self.invariant served.room)
     c.follow_alone.ensures.room
 
 pub follow_alone-requires-clause-span : goal.follow_alone-requires-clause-span

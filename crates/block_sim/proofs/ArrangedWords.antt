@@ -1,0 +1,144 @@
+-- What words in another order tell is true of the circuit as it was given.
+use Rattle.std.proofs.Common.{◌≡◌, ◌+◌, ◌*◌, ℕ, sym, ◌∙◌, ap, subst, Bool, List, []}
+use Rattle.std.proofs.Common.{◌∷◌, refl, inl, inr, length}
+use Rattle.std.specs.Prelude.{Contains, None, Some, map, slice_index_or}
+use Rattle.bench_net.specs.declared.Sink.{Sink}
+use Rattle.bench_net.specs.Statement.{Name, Statement}
+use Rattle.bench_net.specs.Scan.{names, observers, signal}
+use Rattle.bench_net.specs.Circuit.{IsCircuit, IsWellFormed}
+use Rattle.patterns.specs.Tests.{TestList}
+use Rattle.fault_model.specs.declared.Model.{Model}
+use Rattle.fault_model.specs.Detection.{name_on}
+use Rattle.fault_model.specs.Fault.{Fault, faults}
+use Rattle.fault_model.specs.Solution.{Solves, Test, shows}
+use Rattle.fault_model.specs.Reordered.{moved_fault, moved_line, place}
+use Rattle.fault_model.proofs.Public.{carries, circuit_reordered, detected_same}
+use Rattle.fault_model.proofs.Public.{detected_same_at, looks_back_same, same_sinks, solved_same}
+use Rattle.lists.proofs.Members.{Among}
+use Rattle.block_sim.specs.declared.region.Reach.TheVariants.{Observed}
+use Rattle.block_sim.specs.declared.origin.Origin.{Origin}
+use Rattle.block_sim.specs.declared.words.Stuck.{Stuck}
+use Rattle.block_sim.specs.Arranged.{IsArranged}
+use Rattle.block_sim.specs.Origins.{IsStuckOf, Starts}
+use Rattle.block_sim.specs.Stuck.{stuck_fault}
+use Rattle.block_sim.specs.Regions.{AreLanesFor, IsReached}
+use Rattle.block_sim.specs.First.{AreTold}
+use Rattle.block_sim.specs.Spans.{group_of}
+use Rattle.block_sim.specs.declared.span.Span.{Span}
+use Rattle.block_sim.specs.Spreading.{AreShown}
+use Rattle.block_sim.specs.Responses.{AreResponses}
+use Rattle.block_sim.specs.Words.{AreWords, IsFaultFreeWord, test_of}
+use Rattle.block_sim.proofs.EndOfSpread.{told_of_shown}
+use Rattle.block_sim.proofs.ResponseRows.{observed_named}
+use Rattle.block_sim.proofs.ArrangedSignals.{reordered, signals_there, well_there}
+
+pub circuit_there : (c d : List Statement) → IsCircuit c → IsArranged c d → IsCircuit d
+circuit_there c d is arranged =
+    circuit_reordered c d (reordered c d is.well_formed arranged).statements is
+
+-- a fault of the circuit is on a line that carries a name
+pub carried_name : (c : List Statement) (f : Fault) (stuck : Stuck) → IsWellFormed c
+    → IsStuckOf c f stuck → (n : Name) × (name_on c stuck.line ≡ Some n)
+carried_name c f stuck well stands =
+    let named = carries f.model c f well stands.listed in
+    let line : stuck.line ≡ f.line = ap (λ (x : Fault). x.line) stands.is in
+    (named.0, ap (name_on c) line ∙ named.1)
+
+-- what moves in a list of statements moves in the same list
+pub moved_there : (c d own : List Statement) (f : Fault) (stuck moved : Stuck) → own ≡ c
+    → stuck_fault moved ≡ moved_fault own d (stuck_fault stuck) → stuck_fault stuck ≡ f
+    → stuck_fault moved ≡ moved_fault c d f
+moved_there c d own f stuck moved same is stands =
+    is ∙ (ap (λ x. moved_fault x d (stuck_fault stuck)) same ∙ ap (moved_fault c d) stands)
+
+pub starts_there : (c d own : List Statement) (stuck : Stuck) (origin : Origin) → own ≡ c
+    → ((f : Fault) → IsStuckOf own f stuck → Starts own d f origin)
+    → (f : Fault) → IsStuckOf c f stuck → Starts c d f origin
+starts_there c d own stuck origin same starts =
+    subst (λ x. (f : Fault) → IsStuckOf x f stuck → Starts x d f origin) same starts
+
+module _ (c d : List Statement) (well : IsWellFormed c) (arranged : IsArranged c d) where
+  -- a fault of the list moves to one of the list there
+  pub listed_there : (m : Model) (f : Fault) → Contains (faults m c) f
+      → Contains (faults m d) (moved_fault c d f)
+  listed_there m f listed =
+      (same_sinks c d well (reordered c d well arranged)).listed m f listed
+
+  -- and the line carries a name there
+  pub carries_there : (m : Model) (f : Fault) → Contains (faults m c) f
+      → (n : Name) × (name_on d (moved_line c d f.line) ≡ Some n) × Contains (names d) n
+  carries_there m f listed =
+      carries m d (moved_fault c d f) (well_there c d well arranged) (listed_there m f listed)
+
+  solved : (t : Test) (v : Name → Bool) → Solves c t None v → Solves d t None v
+  solved t v h = (solved_same c d well (reordered c d well arranged) t None v).0 h
+
+  pub word_there : (tests : List Test) (block s word : ℕ)
+      → IsFaultFreeWord d tests block (place c d s) word → IsFaultFreeWord c tests block s word
+  word_there tests block s word h k n v lt named solves =
+      h k n v lt ((signals_there c d well arranged).named s ∙ named)
+      (solved (slice_index_or tests (64 * block + k) []) v solves)
+
+  observers_there : observers d ≡ observers c
+  observers_there =
+      let same = reordered c d well arranged in
+      rw (same.same_outputs, same.same_cells) refl
+
+  -- the signals of the observers, moved
+  pub observed_there : map (place c d) (map (λ (o : Sink × Name). signal c o.1) (observers c))
+      ≡ map (λ (o : Sink × Name). signal d o.1) (observers d)
+  observed_there = go (observers c) (λ o a. observed_named c o well a)
+      ∙ ap (map (λ (o : Sink × Name). signal d o.1)) (sym observers_there)
+    where
+      go : (os : List (Sink × Name)) → ((o : Sink × Name) → Among o os → Contains (names c) o.1)
+          → map (place c d) (map (λ (o : Sink × Name). signal c o.1) os)
+          ≡ map (λ (o : Sink × Name). signal d o.1) os
+      go [] named = refl
+      go (o ∷ os) named = rw (
+        sym ((signals_there c d well arranged).numbered o.1 (named o (inl refl))),
+        go os (λ p a. named p (inr a)),
+      ) refl
+
+  pub responses_there : (tests : List Test) (rows : TestList) → AreResponses d tests rows
+      → AreResponses c tests rows
+  responses_there tests rows h = record {
+    width = h.width ∙ ap length observers_there;
+    count = h.count;
+    each = λ t test v at solves. h.each t test v at (solved test v solves)
+        ∙ ap (λ os. Some (map (shows None v) os)) observers_there;
+  }
+
+  -- the same tests of a group detect a fault
+  pub reached_there : (tests : List Test) (group : ℕ) (f : Fault) (mask word : ℕ)
+      → IsReached d tests group (moved_fault c d f) mask (Observed word)
+      → IsReached c tests group f mask (Observed word)
+  reached_there tests group f mask word h k lt =
+      let same = detected_same c d well (reordered c d well arranged) (test_of tests group k) f in (
+        λ e. (((h k lt).0 e).0, same.1 ((h k lt).0 e).1),
+        λ e. (h k lt).1 (e.0, same.0 e.1),
+      )
+
+  -- what is shown there of the fault that moved is told here of the fault
+  pub told_there : (tests : List Test) (span : Span) (f : Fault) (good : List ℕ)
+      (lanes seen : ℕ) → AreWords d tests (group_of span) None good
+      → AreLanesFor tests span c f lanes → (settled : ℕ → Type 0)
+      → AreShown d tests (group_of span) (λ _. moved_fault c d f) good lanes settled seen
+      → AreTold c tests span f settled seen
+  told_there tests span f good lanes seen words decides settled shown =
+      let same = reordered c d well arranged in
+      let there : AreLanesFor tests span d (moved_fault c d f) lanes = λ k lt.
+      let own = decides k lt in
+      let back = looks_back_same c d well same tests f.model f.line f.stuck
+      (128 * group_of span + k) in
+      (λ e. ((own.0 e).0, back.0 (own.0 e).1), λ e. own.1 (e.0, back.1 e.1)) in
+      let told = told_of_shown d tests span (moved_fault c d f) good lanes seen
+      (well_there c d well arranged) words there settled shown in
+      record {
+        found = λ k lt e. (
+          (told.found k lt e).0,
+          (detected_same_at c d well same tests f
+              (128 * group_of span + k)).1 (told.found k lt e).1,
+        );
+        clear = λ k lt own none still at. told.clear k lt own none still
+            ((detected_same_at c d well same tests f (128 * group_of span + k)).0 at);
+      }
