@@ -1,25 +1,27 @@
 -- That parts are a partition, and what runs over them give.
-use Rattle.std.proofs.Common.{◌≡◌, ◌≢◌, ◌<◌, ◌≤◌, ◌+◌, ◌-◌, ◌*◌, ◌%◌, ◌^◌, ◌⊎◌, inl, inr, ℕ, zero}
+use Rattle.std.proofs.Common.{◌≡◌, ◌≢◌, ◌<◌, ◌≤◌, ◌+◌, ◌*◌, ◌%◌, ◌^◌, ◌⊎◌, inl, inr, ℕ, zero}
 use Rattle.std.proofs.Common.{suc, List, [], ◌∷◌, ◌++◌, map, set, take, drop, length, get_or, All}
 use Rattle.std.proofs.Common.{Option, Some, None, refl, sym, ap, ◌∙◌, subst, arith, replicate}
-use Rattle.std.proofs.Common.{length-drop}
-use Rattle.std.specs.Prelude.{option_map, slice_get, slice_index_or, slice_range}
+use Rattle.std.proofs.Common.{add-one}
+use Rattle.std.specs.Prelude.{Bool, ⊤, ◌==◌, filter, option_map, slice_get, slice_index_or}
 use Rattle.bench_net.specs.Statement.{Statement}
 use Rattle.fault_model.specs.declared.Model.{Model}
 use Rattle.fault_model.specs.Solution.{Test}
 use Rattle.block_sim.specs.First.{IsFirst}
 use Rattle.block_sim.specs.Regions.{IsStemOfClass}
 use Rattle.block_sim.proofs.Public.{class_has_stem, one_class_stem}
-use Rattle.std.proofs.Math.Nat.{mod-lt, mul-le-mul_left, suc-mul}
+use Rattle.std.proofs.Math.Nat.{mod-lt, mul_comm, mul-le-mul_left, suc-mul}
 use Rattle.patterns.specs.Tests.{blocks}
-use Rattle.std.proofs.Math.Seq.{take-add, take-length}
-use Rattle.std.proofs.lemmas.Bool.{cases_lt}
+use Rattle.std.proofs.Math.Seq.{take-add}
+use Rattle.std.proofs.lemmas.Bool.{cases_lt, eq-eqb, eqb-true}
+use Rattle.std.proofs.lemmas.Grind.{div_ceil_times}
 use Rattle.std.proofs.lemmas.Option.{get_or_from_slice_get, slice_get-get_or, slice_get-map}
 use Rattle.std.proofs.lemmas.Option.{slice_get_within}
-use Rattle.std.proofs.lemmas.List.{get_or-drop, get_or-take, get_or-set_same, get_or-set_other}
-use Rattle.std.proofs.lemmas.List.{length-map, length-set, length-take, length-take-le}
+use Rattle.std.proofs.lemmas.List.{get_or-set_same, get_or-set_other}
+use Rattle.std.proofs.lemmas.List.{length-map, length-set, take_all}
+use Rattle.std.proofs.lemmas.List.Elements.{All-drop, All-take}
 use Rattle.std.proofs.lemmas.List.Sums.{sum_by-cons}
-use Rattle.lists.proofs.Places.{from_mapped, within_place}
+use Rattle.lists.proofs.Places.{from_mapped}
 use Rattle.fault_model.specs.Fault.{Fault}
 use Rattle.fault_model.specs.Collapse.{IsClassOf}
 use Rattle.block_sim.specs.Parts.{Parts, BelongTogether}
@@ -27,8 +29,9 @@ use Rattle.workers.specs.declared.parts.PartVerdict.{PartVerdict}
 use Rattle.workers.specs.declared.parts.PartVerdict.TheVariants.{First, OtherPart}
 use Rattle.workers.specs.declared.ranks.Ranked.{Ranked}
 use Rattle.workers.specs.Part.{AreClassVerdicts, ArePartOf, ArePartVerdicts, IsClassVerdict}
-use Rattle.workers.specs.Part.{IsInOnePart, IsOfPart, IsPartVerdict, first_in}
-use Rattle.workers.specs.Rank.{AreRanked, IsCutOf, IsStart, RanksBefore}
+use Rattle.workers.specs.Part.{AreAllByRegion, AreByRegion, IsInOnePart, IsOfPart, IsPartVerdict}
+use Rattle.workers.specs.Part.{first_in, stretch, stretch_size}
+use Rattle.workers.specs.Rank.{AreRanked, IsCutOf, IsRanked, RanksBefore}
 use Rattle.workers.specs.declared.RunFault.{RunFault}
 use Rattle.workers.specs.declared.RunFault.TheVariants as run_fault
 use Rattle.workers.specs.Chosen.{chosen_of}
@@ -37,6 +40,7 @@ use Rattle.workers.specs.Work.{Stops}
 use Rattle.workers.specs.Settling.{shape_for}
 use Rattle.workers.specs.Verdict.{AreBehindHits, AreClassFirsts, AreFirsts, behind, pieces_behind}
 use Rattle.workers.proofs.TrueOutcomes.{class_count, class_in}
+use Rattle.workers.proofs.ClassRanks.{is_kept, kept_few, kept_order, kept_place}
 
 -- the part of a class is that of its one stem
 pub part_of_stem : (job : Parts) (parts part class stem : ℕ)
@@ -60,177 +64,105 @@ one_part job parts class b some lt =
       λ other of. part_of_stem job parts other class stem.0 stem.2 of,
     )
 
--- what stands in a range of a list
-range_get : {X : Type 0} (xs : List X) (s e k : ℕ) (x : X) → s ≤ e → e ≤ length xs
-    → slice_get (slice_range xs s e) k ≡ Some x → (s + k < e) × (slice_get xs (s + k) ≡ Some x)
-range_get {X} xs s e k x le within at =
-    let lt = slice_get_within (slice_range xs s e) k x at in
-    let long : length (slice_range xs s e) ≡ e - s =
-    length-take-le (e - s) (drop s xs) (omega (arith, length-drop s xs)) in
-    let low : k < e - s = omega (arith, lt, long) in
-    let value : get_or xs (s + k) x ≡ x = sym (get_or-drop s xs k x)
-    ∙ sym (get_or-take (e - s) (drop s xs) k x low)
-    ∙ get_or_from_slice_get (slice_range xs s e) k x x at in (
-      omega (arith, low, le),
-      slice_get-get_or xs (s + k) x (omega (arith, low, le, within))
-          ∙ ap Some value,
-    )
-
--- and what of it stands there
-range_place : {X : Type 0} (xs : List X) (s e j : ℕ) (x : X) → s ≤ j → j < e → e ≤ length xs
-    → slice_get xs j ≡ Some x → slice_get (slice_range xs s e) (j - s) ≡ Some x
-range_place {X} xs s e j x low lt within at =
-    let long : length (slice_range xs s e) ≡ e - s =
-    length-take-le (e - s) (drop s xs) (omega (arith, length-drop s xs)) in
-    let same : s + (j - s) ≡ j = omega (arith, low) in
-    let value : get_or (slice_range xs s e) (j - s) x ≡ x =
-    get_or-take (e - s) (drop s xs) (j - s) x (omega (arith, low, lt)) ∙ get_or-drop s xs (j - s) x
-    ∙ ap (λ k. get_or xs k x) same ∙ get_or_from_slice_get xs j x x at in
-    slice_get-get_or (slice_range xs s e) (j - s) x (omega (arith, long, low, lt)) ∙ ap Some value
-
--- parts begin in their order
-pub start_le : (ranked : List Ranked) (part s e : ℕ) → IsStart ranked part s
-    → IsStart ranked (part + 1) e → s ≤ e
-start_le ranked part s e from to = go (cases_lt e s)
-  where
-    go : (e < s) ⊎ (s ≤ e) → s ≤ e
-    go (inl x) =
-        let at = within_place ranked e (omega (arith, x, from.within)) in
-        let low = from.before e at.0 x at.1 in
-        let high = to.behind e at.0 (omega arith) at.1 in
-        absurd (omega (arith, low, high))
-    go (inr x) = x
-
--- all parts end where the classes do
-pub start_end : (job : Parts) (parts e : ℕ) (ranked : List Ranked) → 0 < parts
-    → AreRanked job parts ranked → IsStart ranked parts e → e ≡ length ranked
-start_end job parts e ranked some are is = go (cases_lt e (length ranked))
-  where
-    go : (e < length ranked) ⊎ (length ranked ≤ e) → e ≡ length ranked
-    go (inl x) =
-        let at = within_place ranked e x in
-        let high = is.behind e at.0 (omega arith) at.1 in
-        let low = mod-lt at.0.stem some in
-        absurd (omega (arith, high, low, (are.each e at.0 at.1).part))
-    go (inr x) = omega (arith, x, is.within)
-
--- the first part begins where the classes do
-pub start_first : (ranked : List Ranked) (s : ℕ) → IsStart ranked 0 s → s ≡ 0
-start_first ranked s is = go (cases_lt 0 s)
-  where
-    go : (0 < s) ⊎ (s ≤ 0) → s ≡ 0
-    go (inl x) = let at = within_place ranked 0 (omega (arith, x, is.within)) in
-        absurd (omega (arith, is.before 0 at.0 x at.1))
-    go (inr x) = omega (arith, x)
-
--- a part has no more classes than there are
-pub part_few : (job : Parts) (parts s e : ℕ) (ranked : List Ranked) (classes : List ℕ)
-    → IsCutOf job parts ranked classes → s ≤ e → e ≤ length ranked
-    → length (slice_range classes s e) ≤ length job.classes.representative
-part_few job parts s e ranked classes cut le within =
-    let n = ap (λ (l : List ℕ). length l) cut.classes_are
-    ∙ length-map ranked (λ (r : Ranked). r.class) in
-    let long = length-take (e - s) (drop s classes) in
-    omega (arith, n, long, within, cut.ranked_are.count)
-
--- what stands from the start of a part up to that of the next are its classes
-pub part_list : (job : Parts) (parts part s e : ℕ) (ranked : List Ranked) (classes : List ℕ)
-    → IsCutOf job parts ranked classes → IsStart ranked part s → IsStart ranked (part + 1) e
-    → ArePartOf job parts part (slice_range classes s e)
-part_list job parts part s e ranked classes cut from to = record {
-  visits = cut.ranked_are.visits;
+-- classes by region: those of ranked ones for which this holds, in their order
+by_region : (job : Parts) (Holds : ℕ → Type 0) (ranked kept : List Ranked) (classes : List ℕ)
+    → (are : AreRanked job ranked)
+    → ((k : ℕ) (at : Ranked) → slice_get kept k ≡ Some at
+    → IsRanked job are.visits at × Holds at.class)
+    → ((class : ℕ) → class < length job.classes.representative → Holds class
+    → (k : ℕ) × (at : Ranked) × (slice_get kept k ≡ Some at) × (at.class ≡ class))
+    → ((i k : ℕ) (a b : Ranked) → i < k → slice_get kept i ≡ Some a → slice_get kept k ≡ Some b
+    → RanksBefore a b)
+    → length kept ≤ length ranked → classes ≡ map (λ (r : Ranked). r.class) kept
+    → AreByRegion job Holds classes
+by_region job Holds ranked kept classes are each all ordered few is = record {
+  visits = are.visits;
   each = λ k class at.
       let x = found k class at in
-      let is = cut.ranked_are.each (s + k) x.0 x.1 in (
-        subst (λ c. c < length job.classes.representative) x.2 is.within,
-        (
-          x.0.stem,
-          subst (λ c. IsStemOfClass job.list.model job.circuit c x.0.stem) x.2 is.stem,
-          sym (own k x.0 x.3 x.1) ∙ is.part,
-        ),
+      let own = each k x.0 x.1 in (
+        subst (λ c. c < length job.classes.representative) x.2 own.0.within,
+        subst Holds x.2 own.1,
       );
   all = λ class lt of.
-      let x = cut.ranked_are.all class lt in
-      let is = cut.ranked_are.each x.0 x.1 x.2 in
-      let stem : IsStemOfClass job.list.model job.circuit class x.1.stem =
-      subst (λ c. IsStemOfClass job.list.model job.circuit c x.1.stem) x.3 is.stem in
-      let part_is : x.1.part ≡ part = is.part
-      ∙ sym (part_of_stem job parts part class x.1.stem stem of) in
-      let low : s ≤ x.0 = behind_start x.0 x.1 x.2 part_is in
-      let high : x.0 < e = before_end x.0 x.1 x.2 part_is in
-      let at : slice_get classes x.0 ≡ Some class =
-      ap (λ (l : List ℕ). slice_get l x.0) cut.classes_are
-      ∙ slice_get-map (λ (r : Ranked). r.class) ranked x.0
-      ∙ ap (option_map (λ (r : Ranked). r.class)) x.2 ∙ ap Some x.3 in
-      (x.0 - s, range_place classes s e x.0 class low high long at);
+      let x = all class lt of in (
+        x.0,
+        ap (λ (l : List ℕ). slice_get l x.0) is ∙ slice_get-map (λ (r : Ranked). r.class) kept x.0
+            ∙ ap (option_map (λ (r : Ranked). r.class)) x.2 ∙ ap Some x.3,
+      );
   ordered = λ i k first second lt ea eb r q ra qb.
       let x = found i first ea in
       let y = found k second eb in
-      let left = cut.ranked_are.each (s + i) x.0 x.1 in
-      let right = cut.ranked_are.each (s + k) y.0 y.1 in
+      let left = (each i x.0 x.1).0 in
+      let right = (each k y.0 y.1).0 in
       let rs : x.0.stem ≡ r = one_class_stem job.list.model job.circuit first x.0.stem r
       (subst (λ c. IsStemOfClass job.list.model job.circuit c x.0.stem) x.2 left.stem) ra in
       let qs : y.0.stem ≡ q = one_class_stem job.list.model job.circuit second y.0.stem q
       (subst (λ c. IsStemOfClass job.list.model job.circuit c y.0.stem) y.2 right.stem) qb in
       later x.0 y.0 first second r q x.2 y.2 rs qs
-      (left.visit ∙ ap (λ t. slice_index_or cut.ranked_are.visits t 0) rs)
-      (right.visit ∙ ap (λ t. slice_index_or cut.ranked_are.visits t 0) qs)
-      (own i x.0 x.3 x.1) (own k y.0 y.3 y.1)
-      (cut.ranked_are.ordered (s + i) (s + k) x.0 y.0 (omega (arith, lt)) x.1 y.1);
-  few = part_few job parts s e ranked classes cut le to.within;
+      (left.visit ∙ ap (λ t. slice_index_or are.visits t 0) rs)
+      (right.visit ∙ ap (λ t. slice_index_or are.visits t 0) qs)
+      (ordered i k x.0 y.0 lt x.1 y.1);
+  few =
+      let n = ap (λ (l : List ℕ). length l) is ∙ length-map kept (λ (r : Ranked). r.class) in
+      omega (arith, n, few, are.count);
 }
   where
-    le : s ≤ e
-    le = start_le ranked part s e from to
-
-    long : e ≤ length classes
-    long = let n = ap (λ (l : List ℕ). length l) cut.classes_are
-        ∙ length-map ranked (λ (r : Ranked). r.class) in omega (arith, n, to.within)
-
-    found : (k class : ℕ) → slice_get (slice_range classes s e) k ≡ Some class
-        → (at : Ranked) × (slice_get ranked (s + k) ≡ Some at) × (at.class ≡ class) × (s + k < e)
-    found k class at =
-        let x = range_get classes s e k class le long at in
-        let y = from_mapped (λ (r : Ranked). r.class) ranked (s + k) class
-        (ap (λ (l : List ℕ). slice_get l (s + k)) (sym cut.classes_are) ∙ x.1) in
-        (y.0, y.1, y.2, x.0)
-
-    own : (k : ℕ) (at : Ranked) → s + k < e → slice_get ranked (s + k) ≡ Some at → at.part ≡ part
-    own k at lt is = let low = from.behind (s + k) at (omega arith) is in
-        let high = to.before (s + k) at lt is in omega (arith, low, high)
-
-    behind_start : (k : ℕ) (at : Ranked) → slice_get ranked k ≡ Some at → at.part ≡ part → s ≤ k
-    behind_start k at is same = go (cases_lt k s)
-      where
-        go : (k < s) ⊎ (s ≤ k) → s ≤ k
-        go (inl x) = let bad = from.before k at x is in absurd (omega (arith, bad, same))
-        go (inr x) = x
-
-    before_end : (k : ℕ) (at : Ranked) → slice_get ranked k ≡ Some at → at.part ≡ part → k < e
-    before_end k at is same = go (cases_lt k e)
-      where
-        go : (k < e) ⊎ (e ≤ k) → k < e
-        go (inl x) = x
-        go (inr x) = let bad = to.behind k at x is in absurd (omega (arith, bad, same))
+    found : (k class : ℕ) → slice_get classes k ≡ Some class
+        → (at : Ranked) × (slice_get kept k ≡ Some at) × (at.class ≡ class)
+    found k class at = from_mapped (λ (r : Ranked). r.class) kept k class
+        (ap (λ (l : List ℕ). slice_get l k) (sym is) ∙ at)
 
     later : (a b : Ranked) (first second r q : ℕ) → a.class ≡ first → b.class ≡ second → a.stem ≡ r
-        → b.stem ≡ q → a.visit ≡ slice_index_or cut.ranked_are.visits r 0
-        → b.visit ≡ slice_index_or cut.ranked_are.visits q 0 → a.part ≡ part → b.part ≡ part
-        → RanksBefore a b
-        → (slice_index_or cut.ranked_are.visits r 0 < slice_index_or cut.ranked_are.visits q 0)
-        ⊎ ((slice_index_or cut.ranked_are.visits r 0 ≡ slice_index_or cut.ranked_are.visits q 0)
+        → b.stem ≡ q → a.visit ≡ slice_index_or are.visits r 0
+        → b.visit ≡ slice_index_or are.visits q 0 → RanksBefore a b
+        → (slice_index_or are.visits r 0 < slice_index_or are.visits q 0)
+        ⊎ ((slice_index_or are.visits r 0 ≡ slice_index_or are.visits q 0)
         × ((r < q) ⊎ ((r ≡ q) × (first < second))))
-    later a b first second r q ca cb sa sb va vb pa pb (inl x) =
-        absurd (omega (arith, x, pa, pb))
-    later a b first second r q ca cb sa sb va vb pa pb (inr (_, inl x)) =
-        inl (omega (arith, x, va, vb))
-    later a b first second r q ca cb sa sb va vb pa pb (inr (_, inr (v, inl x))) =
+    later a b first second r q ca cb sa sb va vb (inl x) = inl (omega (arith, x, va, vb))
+    later a b first second r q ca cb sa sb va vb (inr (v, inl x)) =
         inr (omega (arith, v, va, vb), inl (omega (arith, x, sa, sb)))
-    later a b first second r q ca cb sa sb va vb pa pb (inr (_, inr (v, inr x))) =
+    later a b first second r q ca cb sa sb va vb (inr (v, inr x)) =
         inr (
           omega (arith, v, va, vb),
           inr (omega (arith, x.0, sa, sb), omega (arith, x.1, ca, cb)),
         )
+
+-- all classes
+pub all_list : (job : Parts) (ranked : List Ranked) (classes : List ℕ) → AreRanked job ranked
+    → classes ≡ map (λ (r : Ranked). r.class) ranked → AreAllByRegion job classes
+all_list job ranked classes are is =
+    by_region job (λ class. ⊤) ranked ranked classes are (λ k at e. (are.each k at e, tt))
+    (λ class lt of. are.all class lt) are.ordered (omega arith) is
+
+-- whether a class is of a part
+abbrev pub is_own : ℕ → ℕ → Ranked → Bool
+is_own part parts at = at.stem % parts == part
+
+-- those of a part
+pub part_list : (job : Parts) (parts part : ℕ) (ranked : List Ranked) (classes : List ℕ)
+    → AreRanked job ranked
+    → classes ≡ map (λ (r : Ranked). r.class) (filter (is_own part parts) ranked)
+    → ArePartOf job parts part classes
+part_list job parts part ranked classes are is =
+    by_region job (IsOfPart job parts part) ranked (filter (is_own part parts) ranked) classes are
+    (λ k at e.
+    let x = kept_place (is_own part parts) ranked k at e in
+    let own = are.each x.0 at x.2 in (
+      own,
+      (at.stem, own.stem, sym (eqb-true (at.stem % parts) part x.3)),
+    ))
+    (λ class lt of.
+    let x = are.all class lt in
+    let own = are.each x.0 x.1 x.2 in
+    let stem : IsStemOfClass job.list.model job.circuit class x.1.stem =
+    subst (λ c. IsStemOfClass job.list.model job.circuit c x.1.stem) x.3 own.stem in
+    let kept = is_kept (is_own part parts) ranked x.0 x.1 x.2 (eq-eqb (x.1.stem % parts) part
+    (sym (part_of_stem job parts part class x.1.stem stem of))) in
+    (kept.0, x.1, kept.1, x.3))
+    (λ i k a b lt ea eb.
+    let x = kept_order (is_own part parts) ranked i k a b lt ea eb in
+    are.ordered x.0 x.1 a b x.2 x.3 x.4)
+    (kept_few (is_own part parts) ranked) is
 
 -- each is a class of the job
 pub part_within : (job : Parts) (parts part : ℕ) (classes : List ℕ)
@@ -240,14 +172,10 @@ part_within job parts part classes are k d lt =
     (are.each k (get_or classes k d) (slice_get-get_or classes k d lt)).0
 
 -- and so is each of all classes
-pub cut_within : (job : Parts) (parts : ℕ) (ranked : List Ranked) (classes : List ℕ)
-    → IsCutOf job parts ranked classes
+pub all_within : (job : Parts) (classes : List ℕ) → AreAllByRegion job classes
     → All (λ class. class < length job.classes.representative) classes
-cut_within job parts ranked classes cut k d lt =
-    let at = slice_get-get_or classes k d lt in
-    let y = from_mapped (λ (r : Ranked). r.class) ranked k (get_or classes k d)
-    (ap (λ (l : List ℕ). slice_get l k) (sym cut.classes_are) ∙ at) in
-    subst (λ c. c < length job.classes.representative) y.2 (cut.ranked_are.each k y.0 y.1).within
+all_within job classes are k d lt =
+    (are.each k (get_or classes k d) (slice_get-get_or classes k d lt)).0
 
 -- from a verdict on a class that was set at one more place
 pub verdict_more : (count : ℕ) (classes : List ℕ) (firsts : List (Option ℕ)) (n class : ℕ)
@@ -418,61 +346,56 @@ firsts_none job classes = record {
   first = λ k class f first e of at. let bad : None ≡ Some class = e in absurd (cc);
 }
 
--- one part more
-pub firsts_more : (job : Parts) (classes : List ℕ) (s e : ℕ) (firsts more : List (Option ℕ)) → s ≤ e
-    → FirstsUpTo job classes s firsts
-    → AreClassFirsts job.list.model job.circuit job.tests.tests (slice_range classes s e) more
-    → FirstsUpTo job classes e (firsts ++ more)
-firsts_more job classes s e firsts more le was found =
+-- one stretch more
+pub firsts_more : (job : Parts) (classes : List ℕ) (size part : ℕ) (firsts more : List (Option ℕ))
+    → FirstsUpTo job classes (part * size) firsts
+    → AreClassFirsts job.list.model job.circuit job.tests.tests (stretch size classes part) more
+    → FirstsUpTo job classes ((part + 1) * size) (firsts ++ more)
+firsts_more job classes size part firsts more was found =
     subst (λ l. AreClassFirsts job.list.model job.circuit job.tests.tests l (firsts ++ more)) joined
-    (append_firsts job.list.model job.circuit job.tests.tests (take s classes)
-    (slice_range classes s e) firsts more was found)
+    (append_firsts job.list.model job.circuit job.tests.tests (take (part * size) classes)
+    (stretch size classes part) firsts more was found)
   where
-    joined : take s classes ++ slice_range classes s e ≡ take e classes
-    joined = sym (take-add s (e - s) classes) ∙ ap (λ n. take n classes) (omega (arith, le))
+    joined : take (part * size) classes ++ stretch size classes part
+        ≡ take ((part + 1) * size) classes
+    joined = sym (take-add (part * size) size classes)
+        ∙ ap (λ n. take n classes) (let next = suc-mul part size in
+        let same : part + 1 ≡ suc part = add-one part in
+        omega (arith, next, ap (λ n. n * size) same))
 
--- before the first part nothing begins
-pub start_none : (ranked : List Ranked) → IsStart ranked 0 0
-start_none ranked = record {
-  within = omega arith;
-  before = λ k at lt e. absurd (omega (arith, lt));
-  behind = λ k at le e. omega arith;
-}
-
--- behind the last part all classes have theirs
-pub firsts_all : (job : Parts) (parts part start : ℕ) (ranked : List Ranked) (classes : List ℕ)
-    (firsts : List (Option ℕ)) → 0 < parts → IsCutOf job parts ranked classes → part ≡ parts
-    → IsStart ranked part start
-    → FirstsUpTo job classes start firsts
+-- all stretches have all classes
+pub firsts_all : (job : Parts) (parts size : ℕ) (classes : List ℕ) (firsts : List (Option ℕ))
+    → IsCutOf job parts size classes → FirstsUpTo job classes (parts * size) firsts
     → AreClassFirsts job.list.model job.circuit job.tests.tests classes firsts
-firsts_all job parts part start ranked classes firsts some cut is begins found =
+firsts_all job parts size classes firsts cut found =
     subst (λ l. AreClassFirsts job.list.model job.circuit job.tests.tests l firsts)
-    (ap (λ n. take n classes) full ∙ take-length classes) found
+    (take_all (parts * size) classes long) found
   where
-    full : start ≡ length classes
-    full =
-        start_end job parts start ranked some cut.ranked_are
-        (subst (λ n. IsStart ranked n start) is begins)
-        ∙ sym (ap (λ (l : List ℕ). length l) cut.classes_are
-        ∙ length-map ranked (λ (r : Ranked). r.class))
+    long : length classes ≤ parts * size
+    long =
+        let n = length job.classes.representative in
+        let high = (div_ceil_times n parts cut.some).0 in
+        let same : parts * size ≡ stretch_size n parts * parts =
+        mul_comm parts size ∙ ap (λ k. k * parts) cut.size_is in
+        omega (arith, cut.all.few, high, same)
 
--- a place in the classes
-pub start_within : (job : Parts) (parts part start : ℕ) (ranked : List Ranked) (classes : List ℕ)
-    → IsCutOf job parts ranked classes → IsStart ranked part start → start ≤ length classes
-start_within job parts part start ranked classes cut is =
-    let n = ap (λ (l : List ℕ). length l) cut.classes_are
-    ∙ length-map ranked (λ (r : Ranked). r.class) in
-    omega (arith, n, is.within)
+-- a stretch of all classes has classes of the job
+pub stretch_within : (job : Parts) (size part : ℕ) (classes : List ℕ) → AreAllByRegion job classes
+    → All (λ class. class < length job.classes.representative) (stretch size classes part)
+stretch_within job size part classes are =
+    All-take (λ class. class < length job.classes.representative) size (drop (part * size) classes)
+    (All-drop (λ class. class < length job.classes.representative) (part * size) classes
+    (all_within job classes are))
 
 -- the first test in the verdict on a class is that of its faults
-pub class_first : (job : Parts) (parts : ℕ) (ranked : List Ranked) (classes : List ℕ)
-    (firsts : List (Option ℕ)) (table : List PartVerdict) → IsCutOf job parts ranked classes
+pub class_first : (job : Parts) (classes : List ℕ)
+    (firsts : List (Option ℕ)) (table : List PartVerdict) → AreAllByRegion job classes
     → AreClassFirsts job.list.model job.circuit job.tests.tests classes firsts
     → AreClassVerdicts (length job.classes.representative) classes firsts (length classes) table
     → (f : Fault) (class : ℕ) → class < length job.classes.representative
     → IsClassOf job.list.model job.circuit f class
     → IsFirst job.circuit job.tests.tests f (first_in (get_or table class OtherPart))
-class_first job parts ranked classes firsts table cut known by f class lt of = go (by.each class lt)
+class_first job classes firsts table all known by f class lt of = go (by.each class lt)
   where
     go : IsClassVerdict classes firsts (length classes) class (slice_get table class)
         → IsFirst job.circuit job.tests.tests f (first_in (get_or table class OtherPart))
@@ -481,22 +404,18 @@ class_first job parts ranked classes firsts table cut known by f class lt of = g
         (sym (get_or_from_slice_get table class (First x.1) OtherPart x.5))
         (known.first x.0 class f x.1 x.3 of x.4)
     go (inr x) =
-        let y = cut.ranked_are.all class lt in
-        let at : slice_get classes y.0 ≡ Some class =
-        ap (λ (l : List ℕ). slice_get l y.0) cut.classes_are
-        ∙ slice_get-map (λ (r : Ranked). r.class) ranked y.0
-        ∙ ap (option_map (λ (r : Ranked). r.class)) y.2 ∙ ap Some y.3 in
-        absurd (x.0 y.0 (slice_get_within classes y.0 class at) at)
+        let y = all.all class lt tt in
+        absurd (x.0 y.0 (slice_get_within classes y.0 class y.1) y.1)
 
 -- the first tests of all classes are those of all faults
-pub cut_firsts : (job : Parts) (parts : ℕ) (ranked : List Ranked) (classes : List ℕ)
+pub all_firsts : (job : Parts) (classes : List ℕ)
     (firsts found : List (Option ℕ)) (table : List PartVerdict) → BelongTogether job
-    → IsCutOf job parts ranked classes
+    → AreAllByRegion job classes
     → AreClassFirsts job.list.model job.circuit job.tests.tests classes firsts
     → AreClassVerdicts (length job.classes.representative) classes firsts (length classes) table
     → found ≡ map (λ class. first_in (get_or table class OtherPart)) job.classes.class_of
     → AreFirsts job.list.model job.circuit job.tests.tests found
-cut_firsts job parts ranked classes firsts found table b cut known by is = record {
+all_firsts job classes firsts found table b all known by is = record {
   count = ap (λ (l : List (Option ℕ)). length l) is ∙ length-map job.classes.class_of g
       ∙ b.classes.count;
   first = λ i f first at v.
@@ -506,21 +425,21 @@ cut_firsts job parts ranked classes firsts found table b cut known by is = recor
       let lt : x.0 < length job.classes.representative = class_in job (shape_for job 1) i x.0 b
       (record { classes = refl; tests = refl }) x.1 in
       subst (IsFirst job.circuit job.tests.tests f) x.2
-      (class_first job parts ranked classes firsts table cut known by f x.0 lt of);
+      (class_first job classes firsts table all known by f x.0 lt of);
 }
   where
     g : ℕ → Option ℕ
     g class = first_in (get_or table class OtherPart)
 
 -- and the pieces behind them are behind the hits of all classes
-pub cut_hits : (job : Parts) (parts : ℕ) (ranked : List Ranked) (classes : List ℕ)
+pub all_hits : (job : Parts) (classes : List ℕ)
     (firsts : List (Option ℕ)) (table : List PartVerdict) (n skipped : ℕ)
-    → IsCutOf job parts ranked classes
+    → AreAllByRegion job classes
     → AreClassFirsts job.list.model job.circuit job.tests.tests classes firsts
     → AreClassVerdicts (length job.classes.representative) classes firsts (length classes) table
     → n ≡ blocks (length job.tests.tests) → skipped ≡ pieces_behind n (map first_in table)
     → AreBehindHits job skipped
-cut_hits job parts ranked classes firsts table n skipped cut known by all is = record {
+all_hits job classes firsts table n skipped all known by same is = record {
   firsts = map first_in table;
   count = length-map table first_in ∙ by.long;
   first = λ class f first of at.
@@ -530,11 +449,11 @@ cut_hits job parts ranked classes firsts table n skipped cut known by all is = r
         slice_get_within table class x.0 x.1,
         by.long,
       ) in
-      let same : first_in (get_or table class OtherPart) ≡ first =
+      let own : first_in (get_or table class OtherPart) ≡ first =
       ap first_in (get_or_from_slice_get table class x.0 OtherPart x.1) ∙ x.2 in
-      subst (IsFirst job.circuit job.tests.tests f) same
-      (class_first job parts ranked classes firsts table cut known by f class lt of);
-  number = is ∙ ap (λ k. pieces_behind k (map first_in table)) all;
+      subst (IsFirst job.circuit job.tests.tests f) own
+      (class_first job classes firsts table all known by f class lt of);
+  number = is ∙ ap (λ k. pieces_behind k (map first_in table)) same;
 }
 
 -- the pieces of a class

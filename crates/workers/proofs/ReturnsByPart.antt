@@ -7,7 +7,6 @@ use Rattle.std.specs.declared.vec.Vec.{Vec}
 use Rattle.std.proofs.lemmas.List.{length-set}
 use Rattle.std.proofs.lemmas.Option.{get_or_from_slice_get, slice_get_within}
 use Rattle.block_sim.specs.Parts.{Parts}
-use Rattle.workers.specs.declared.ranks.Ranked.{Ranked}
 use Rattle.workers.specs.declared.taken.Done.{Done}
 use Rattle.workers.specs.Alone.{AreDone, AreFoundByPart, AreGivenBack, ArePut, IsDone}
 use Rattle.workers.specs.Work.{Stops}
@@ -113,24 +112,24 @@ given_more {Z} {E} parts back given was table before put =
     go part done (inr x) = (x.0, length back, given, last_of back (Ok given), x.1, x.2)
 
 -- what threads gave back is what workers found
-pub found_by_part : {Z E : Type 0} (job : Parts) (ranked : List Ranked) (classes : List ℕ)
+pub found_by_part : {Z E : Type 0} (job : Parts) (size : ℕ) (classes : List ℕ)
     (workers n parts : ℕ) (P : Type 0) (S : Stops) (back : List (Result (Vec Done Z) E))
     (table : List (Option Done)) → n ≤ workers
     → All (λ one. IfOk one (λ all. (worker : ℕ) × (worker < n)
-    × AreDone job ranked classes worker P S all.items)) back → AreGivenBack parts back table
-    → AreFoundByPart job ranked classes workers P S table
-found_by_part {Z} {E} job ranked classes workers n parts P S back table is all given = record {
+    × AreDone job size classes worker P S all.items)) back → AreGivenBack parts back table
+    → AreFoundByPart job size classes workers P S table
+found_by_part {Z} {E} job size classes workers n parts P S back table is all given = record {
   each = λ part done at.
       let h = given.each part done at in
       let low = slice_get_within back h.1 (Ok h.2) h.3 in
-      let own : (worker : ℕ) × (worker < n) × AreDone job ranked classes worker P S h.2.items =
+      let own : (worker : ℕ) × (worker < n) × AreDone job size classes worker P S h.2.items =
       subst (λ (one : Result (Vec Done Z) E). IfOk one (λ x. (worker : ℕ) × (worker < n)
-      × AreDone job ranked classes worker P S x.items)) (get_or_from_slice_get back h.1 (Ok h.2)
+      × AreDone job size classes worker P S x.items)) (get_or_from_slice_get back h.1 (Ok h.2)
       (Ok h.2) h.3) (all h.1 (Ok h.2) low) in (
         h.0,
         own.0,
         omega (arith, own.1, is),
-        subst (λ (d : Done). IsDone job ranked classes own.0 P S d)
+        subst (λ (d : Done). IsDone job size classes own.0 P S d)
             (get_or_from_slice_get h.2.items h.4 done done h.5)
             (own.2 h.4 done (slice_get_within h.2.items h.4 done h.5)),
       );

@@ -1,11 +1,10 @@
 -- The runs of parts, one part after another.
-use Rattle.std.proofs.Common.{◌≡◌, ◌<◌, ◌≤◌, ◌+◌, ◌⊎◌, inl, inr, true, false, ℕ, List, [], ◌∷◌}
+use Rattle.std.proofs.Common.{◌≡◌, ◌<◌, ◌+◌, ◌*◌, ◌⊎◌, inl, inr, true, false, ℕ, List, [], ◌∷◌}
 use Rattle.std.proofs.Common.{◌++◌, length, Option, Some, None, refl, sym, ap, ◌∙◌, subst, arith}
 use Rattle.std.proofs.Common.{length-append}
-use Rattle.std.specs.Prelude.{slice_get, slice_range, nat_lt, if◌then◌else◌}
-use Rattle.std.proofs.lemmas.Bool.{cases_lt}
-use Rattle.std.proofs.lemmas.Option.{slice_get_within}
-use Rattle.lists.proofs.Places.{within_place}
+use Rattle.std.specs.Prelude.{slice_get, nat_lt, if◌then◌else◌}
+use Rattle.std.proofs.Math.Nat.{zero-mul}
+use Rattle.std.proofs.lemmas.Option.{get_or_from_slice_get, slice_get_within}
 use Rattle.patterns.specs.Least.{least}
 use Rattle.patterns.specs.Tests.{blocks}
 use Rattle.block_sim.specs.First.{IsFirst}
@@ -13,33 +12,18 @@ use Rattle.block_sim.specs.Parts.{Parts, BelongTogether}
 use Rattle.block_sim.proofs.Public.{least_is_first, true_table}
 use Rattle.workers.specs.declared.alone.Stop.{Stop}
 use Rattle.workers.specs.declared.alone.Waiting.{Waiting}
-use Rattle.workers.specs.declared.ranks.Ranked.{Ranked}
 use Rattle.workers.specs.declared.taken.Done.{Done}
 use Rattle.workers.specs.Alone.{AreFoundByPart, AreFoundUpTo, AreRunsOf, HasEnded, IsDone, IsLowest}
 use Rattle.workers.specs.Alone.{IsOpenIn, IsStopAt, PartRun, PartsWaitFor, WaitsIn, lower_of}
-use Rattle.workers.specs.Part.{ArePartOf}
-use Rattle.workers.specs.Rank.{IsCutOf, IsStart}
+use Rattle.workers.specs.Part.{AreAllByRegion, stretch}
+use Rattle.workers.specs.Rank.{IsCutOf}
 use Rattle.workers.specs.Verdict.{AreClassFirsts}
 use Rattle.workers.specs.Work.{Stops}
 use Rattle.workers.proofs.ReturnsByPart.{kept, last_of}
 use Rattle.workers.proofs.PartsOfClasses.{FirstsUpTo, firsts_all, firsts_more, firsts_none}
-use Rattle.workers.proofs.PartsOfClasses.{part_list}
-use Rattle.workers.proofs.PartsOfClasses.{start_le, start_none}
+use Rattle.workers.proofs.PartsOfClasses.{stretch_within}
 use Rattle.workers.proofs.ClassRanks.{pushed}
 use Rattle.workers.proofs.LoneWorkers.{done_high, lowest_along, lowest_join}
-
--- a part has one start
-pub one_start : (ranked : List Ranked) (part a b : ℕ) → IsStart ranked part a
-    → IsStart ranked part b → a ≤ b
-one_start ranked part a b from to = go (cases_lt b a)
-  where
-    go : (b < a) ⊎ (a ≤ b) → a ≤ b
-    go (inl x) =
-        let at = within_place ranked b (omega (arith, x, from.within)) in
-        let low = from.before b at.0 x at.1 in
-        let high = to.behind b at.0 (omega arith) at.1 in
-        absurd (omega (arith, low, high))
-    go (inr x) = x
 
 -- where all blocks are done the first tests are found
 pub firsts_found : (job : Parts) (classes : List ℕ) (firsts : List (Option ℕ)) → BelongTogether job
@@ -82,29 +66,26 @@ none_open job classes (Some w) is = absurd is.0
 -- ---- all parts
 
 -- what the first so many parts are together
-pub record IsGathered (job : Parts) (ranked : List Ranked) (classes : List ℕ) (parts workers : ℕ)
+pub record IsGathered (job : Parts) (size : ℕ) (classes : List ℕ) (workers : ℕ)
     (passing : Type 0) (stops : Stops) (part : ℕ)
     (firsts : List (Option ℕ)) (lowest : Option Waiting) : Type 0 where
-  pub start : ℕ
-  pub begins : IsStart ranked part start
   pub runs : List PartRun
-  pub are : AreRunsOf job parts workers stops part runs
+  pub are : AreRunsOf job size classes workers stops part runs
   pub is_lowest : IsLowest (WaitsIn job runs) lowest
   pub passed : passing → lowest ≡ None
-  pub found : lowest ≡ None → FirstsUpTo job classes start firsts
+  pub found : lowest ≡ None → FirstsUpTo job classes (part * size) firsts
 
 -- of no part
-pub gathered_none : (job : Parts) (ranked : List Ranked) (classes : List ℕ) (parts workers : ℕ)
+pub gathered_none : (job : Parts) (size : ℕ) (classes : List ℕ) (workers : ℕ)
     (P : Type 0) (S : Stops) (firsts : List (Option ℕ)) → firsts ≡ []
-    → IsGathered job ranked classes parts workers P S 0 firsts None
-gathered_none job ranked classes parts workers P S firsts empty = record {
-  start = 0;
-  begins = start_none ranked;
+    → IsGathered job size classes workers P S 0 firsts None
+gathered_none job size classes workers P S firsts empty = record {
   runs = [];
   are = record { count = refl; each = λ part run e. let bad : None ≡ Some run = e in absurd (cc) };
   is_lowest = λ c b x. let bad : None ≡ Some x.1 = x.2 in absurd (cc);
   passed = λ p. refl;
-  found = λ e. subst (FirstsUpTo job classes 0) (sym empty) (firsts_none job classes);
+  found = λ e. subst (λ n. FirstsUpTo job classes n firsts) (sym (zero-mul size))
+      (subst (FirstsUpTo job classes 0) (sym empty) (firsts_none job classes));
 }
 
 -- where one of two waits, there is a lowest
@@ -118,24 +99,25 @@ lower_none (Some v) (Some w) e = pick (nat_lt w.class v.class) e
     pick false bad = absurd (cc)
 
 -- one run more
-runs_more : (job : Parts) (parts workers part : ℕ) (S : Stops) (runs : List PartRun) (run : PartRun)
-    → AreRunsOf job parts workers S part runs → ArePartOf job parts part run.classes
+runs_more : (job : Parts) (size : ℕ) (classes : List ℕ) (workers part : ℕ) (S : Stops)
+    (runs : List PartRun) (run : PartRun)
+    → AreRunsOf job size classes workers S part runs → run.classes ≡ stretch size classes part
     → run.worker < workers
     → ((stop : Stop) → run.stop ≡ Some stop → IsStopAt job run.classes run.worker S stop)
-    → AreRunsOf job parts workers S (part + 1) (runs ++ run ∷ [])
-runs_more job parts workers part S runs run was own low stopped = record {
+    → AreRunsOf job size classes workers S (part + 1) (runs ++ run ∷ [])
+runs_more job size classes workers part S runs run was own low stopped = record {
   count = omega (arith, was.count, length-append runs (run ∷ []));
   each = λ k x at. go k x (pushed runs run x k at);
 }
   where
     go : (k : ℕ) (x : PartRun) → (slice_get runs k ≡ Some x) ⊎ ((k ≡ length runs) × (run ≡ x))
-        → ArePartOf job parts k x.classes × (x.worker < workers) × ((stop : Stop)
+        → (x.classes ≡ stretch size classes k) × (x.worker < workers) × ((stop : Stop)
         → x.stop ≡ Some stop → IsStopAt job x.classes x.worker S stop)
     go k x (inl h) = was.each k x h
     go k x (inr h) =
-        subst (λ (r : PartRun). ArePartOf job parts k r.classes × (r.worker < workers)
+        subst (λ (r : PartRun). (r.classes ≡ stretch size classes k) × (r.worker < workers)
         × ((stop : Stop) → r.stop ≡ Some stop → IsStopAt job r.classes r.worker S stop)) h.1
-        (subst (λ n. ArePartOf job parts n run.classes) (sym (h.0 ∙ was.count)) own, low, stopped)
+        (subst (λ n. run.classes ≡ stretch size classes n) (sym (h.0 ∙ was.count)) own, low, stopped)
 
 -- what waits in one run more
 waits_more : (job : Parts) (runs : List PartRun) (run : PartRun) (lowest own : Option Waiting)
@@ -175,64 +157,50 @@ not_stopped_found job classes worker S None firsts b e is = firsts_found job cla
 not_stopped_found job classes worker S (Some stop) firsts b e is = absurd (cc)
 
 -- of one part more
-pub gathered_more : (job : Parts) (ranked : List Ranked) (classes : List ℕ)
-    (parts workers worker : ℕ) (P : Type 0) (S : Stops) (part : ℕ) (firsts : List (Option ℕ))
+pub gathered_more : (job : Parts) (size : ℕ) (classes : List ℕ) (workers worker : ℕ)
+    (P : Type 0) (S : Stops) (part : ℕ) (firsts : List (Option ℕ))
     (lowest : Option Waiting) (done : Done)
-    → BelongTogether job → IsCutOf job parts ranked classes → worker < workers → done.part ≡ part
-    → IsDone job ranked classes worker P S done
-    → IsGathered job ranked classes parts workers P S part firsts lowest
-    → IsGathered job ranked classes parts workers P S (part + 1) (firsts ++ done.firsts.items)
+    → BelongTogether job → worker < workers → done.part ≡ part
+    → IsDone job size classes worker P S done
+    → IsGathered job size classes workers P S part firsts lowest
+    → IsGathered job size classes workers P S (part + 1) (firsts ++ done.firsts.items)
     (lower_of lowest done.waiting)
-gathered_more job ranked classes parts workers worker P S part firsts lowest done b cut low is d
-    was = record {
-      start = d.end;
-      begins = ends;
-      runs = was.runs ++ run ∷ [];
-      are = runs_more job parts workers part S was.runs run was.are
-          (part_list job parts part d.start d.end ranked classes cut begins ends) low
-          (stopped_there job own worker S d.stop done.firsts.items d.ended);
-      is_lowest = waits_more job was.runs run lowest done.waiting was.is_lowest d.lowest;
-      passed = λ p.
-          let all = subst (λ s. IsLowest (IsOpenIn job own s) done.waiting) (d.passed p) d.lowest in
-          ap (λ l. lower_of l done.waiting) (was.passed p) ∙ none_open job own done.waiting all;
-      found = λ e.
-          let none = lower_none lowest done.waiting e in
-          let stop = not_stopped job own worker S d.stop done.firsts.items d.ended
-          (subst (IsLowest (IsOpenIn job own d.stop)) none.1 d.lowest) in
-          firsts_more job classes d.start d.end firsts done.firsts.items
-          (start_le ranked part d.start d.end begins ends)
-          (subst (λ s. FirstsUpTo job classes s firsts) same (was.found none.0))
-          (not_stopped_found job own worker S d.stop done.firsts.items b d.ended stop);
-    }
+gathered_more job size classes workers worker P S part firsts lowest done b low is d was = record {
+  runs = was.runs ++ run ∷ [];
+  are = runs_more job size classes workers part S was.runs run was.are (ap (stretch size classes) is)
+      low (stopped_there job own worker S d.stop done.firsts.items d.ended);
+  is_lowest = waits_more job was.runs run lowest done.waiting was.is_lowest d.lowest;
+  passed = λ p.
+      let all = subst (λ s. IsLowest (IsOpenIn job own s) done.waiting) (d.passed p) d.lowest in
+      ap (λ l. lower_of l done.waiting) (was.passed p) ∙ none_open job own done.waiting all;
+  found = λ e.
+      let none = lower_none lowest done.waiting e in
+      let stop = not_stopped job own worker S d.stop done.firsts.items d.ended
+      (subst (IsLowest (IsOpenIn job own d.stop)) none.1 d.lowest) in
+      firsts_more job classes size part firsts done.firsts.items (was.found none.0)
+      (subst (λ n. AreClassFirsts job.list.model job.circuit job.tests.tests
+      (stretch size classes n) done.firsts.items) is
+      (not_stopped_found job own worker S d.stop done.firsts.items b d.ended stop));
+}
   where
     own : List ℕ
-    own = slice_range classes d.start d.end
+    own = stretch size classes done.part
 
     run : PartRun
     run = record { classes = own; worker = worker; stop = d.stop }
 
-    begins : IsStart ranked part d.start
-    begins = subst (λ n. IsStart ranked n d.start) is d.begins
-
-    ends : IsStart ranked (part + 1) d.end
-    ends = subst (λ n. IsStart ranked (n + 1) d.end) is d.ends
-
-    same : was.start ≡ d.start
-    same = let x = one_start ranked part was.start d.start was.begins begins in
-        let y = one_start ranked part d.start was.start begins was.begins in omega (arith, x, y)
-
 -- what was found in a part, whether it stood in the table or a worker more ran it
-pub found_there : (job : Parts) (ranked : List Ranked) (classes : List ℕ) (workers number : ℕ)
+pub found_there : (job : Parts) (size : ℕ) (classes : List ℕ) (workers number : ℕ)
     (P : Type 0) (S : Stops) (table : List (Option Done)) (part : ℕ) (place : Option Done)
     (done : Done)
-    → AreFoundByPart job ranked classes workers P S table → slice_get table part ≡ Some place
+    → AreFoundByPart job size classes workers P S table → slice_get table part ≡ Some place
     → number < workers
-    → (place ≡ Some done) ⊎ ((done.part ≡ part) × IsDone job ranked classes number P S done)
+    → (place ≡ Some done) ⊎ ((done.part ≡ part) × IsDone job size classes number P S done)
     → (done.part ≡ part) × (worker : ℕ) × (worker < workers)
-    × IsDone job ranked classes worker P S done
-found_there job ranked classes workers number P S table part place done found at low (inl e) =
+    × IsDone job size classes worker P S done
+found_there job size classes workers number P S table part place done found at low (inl e) =
     found.each part done (at ∙ ap Some e)
-found_there job ranked classes workers number P S table part place done found at low (inr x) = (
+found_there job size classes workers number P S table part place done found at low (inr x) = (
   x.0,
   number,
   low,
@@ -240,47 +208,54 @@ found_there job ranked classes workers number P S table part place done found at
 )
 
 -- of all parts: the first tests of all classes
-pub gathered_all : (job : Parts) (ranked : List Ranked) (classes : List ℕ) (parts workers : ℕ)
+pub gathered_all : (job : Parts) (parts size : ℕ) (classes : List ℕ) (workers : ℕ)
     (P : Type 0) (S : Stops) (part : ℕ) (firsts : List (Option ℕ)) (lowest : Option Waiting)
-    → 0 < parts → IsCutOf job parts ranked classes
-    → part ≡ parts → lowest ≡ None
-    → IsGathered job ranked classes parts workers P S part firsts lowest
+    → IsCutOf job parts size classes → part ≡ parts → lowest ≡ None
+    → IsGathered job size classes workers P S part firsts lowest
     → AreClassFirsts job.list.model job.circuit job.tests.tests classes firsts
-gathered_all job ranked classes parts workers P S part firsts lowest some cut full none was =
-    firsts_all job parts part was.start ranked classes firsts some cut full was.begins
-    (was.found none)
+gathered_all job parts size classes workers P S part firsts lowest cut full none was =
+    firsts_all job parts size classes firsts cut
+    (subst (λ n. FirstsUpTo job classes (n * size) firsts) full (was.found none))
 
--- a class that waits in a run is one of the job's, and so is its block
-open_within : (job : Parts) (parts part : ℕ) (classes : List ℕ) (stop : Option Stop)
-    (class block : ℕ) → ArePartOf job parts part classes → IsOpenIn job classes stop class block
+-- a class that waits in a stretch of all classes is one of the job's, and so is its block
+open_within : (job : Parts) (size part : ℕ) (classes own : List ℕ) (stop : Option Stop)
+    (class block : ℕ) → AreAllByRegion job classes → own ≡ stretch size classes part
+    → IsOpenIn job own stop class block
     → (class < length job.classes.representative) × (block < blocks (length job.tests.tests))
-open_within job parts part classes None class block own x = absurd x
-open_within job parts part classes (Some stop) class block own x = (
-  (own.each x.place class x.at).0,
+open_within job size part classes own None class block all is x = absurd x
+open_within job size part classes own (Some stop) class block all is x = (
+  let at : slice_get (stretch size classes part) x.place ≡ Some class =
+      subst (λ l. slice_get l x.place ≡ Some class) is x.at in
+      subst (λ c. c < length job.classes.representative)
+      (get_or_from_slice_get (stretch size classes part) x.place class 0 at)
+      (stretch_within job size part classes all x.place 0
+      (slice_get_within (stretch size classes part) x.place class at)),
   x.within,
 )
 
 -- or the lowest class that waits
-pub gathered_waits : (job : Parts) (ranked : List Ranked) (classes : List ℕ) (parts workers : ℕ)
+pub gathered_waits : (job : Parts) (parts size : ℕ) (classes : List ℕ) (workers : ℕ)
     (P : Type 0) (S : Stops) (part : ℕ) (firsts : List (Option ℕ)) (lowest : Option Waiting)
-    (class block : ℕ)
+    (class block : ℕ) → IsCutOf job parts size classes
     → part ≡ parts → lowest ≡ Some (record { class = class; block = block })
-    → IsGathered job ranked classes parts workers P S part firsts lowest
+    → IsGathered job size classes workers P S part firsts lowest
     → (class < length job.classes.representative) × (block < blocks (length job.tests.tests))
     × (P → ⊥) × PartsWaitFor job parts workers S class block
-gathered_waits job ranked classes parts workers P S part firsts lowest class block full is was =
+gathered_waits job parts size classes workers P S part firsts lowest class block cut full is was =
     let low = subst (IsLowest (WaitsIn job was.runs)) is was.is_lowest in
     let x = low.0 in
-    let within = open_within job parts x.0 x.1.classes x.1.stop class block
+    let within = open_within job size x.0 classes x.1.classes x.1.stop class block cut.all
     (was.are.each x.0 x.1 x.2).0 x.3 in (
       within.0,
       within.1,
       λ p. let e = was.passed p in let bad : Some (record { class = class; block = block }) ≡ None =
           sym is ∙ e in absurd (cc),
       record {
+        classes = classes;
+        all = cut.all;
         runs = was.runs;
-        are = subst (λ n. AreRunsOf job parts workers S n was.runs) full
-            was.are;
+        are = subst (λ n. AreRunsOf job n classes workers S parts was.runs) cut.size_is
+            (subst (λ n. AreRunsOf job size classes workers S n was.runs) full was.are);
         lowest = low;
       },
     )

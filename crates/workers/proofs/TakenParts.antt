@@ -1,27 +1,17 @@
 -- Parts that workers took, and what was found in them.
-use Rattle.std.proofs.Common.{◌≡◌, ◌<◌, ◌+◌, ℕ, List, length, All, Option, Some, None, sym, ◌∙◌}
+use Rattle.std.proofs.Common.{◌≡◌, ◌<◌, ℕ, List, length, All, Option, Some, None, sym, ◌∙◌}
 use Rattle.std.proofs.Common.{subst}
-use Rattle.std.specs.Prelude.{slice_range, Result, Ok, Err, IfOk}
+use Rattle.std.specs.Prelude.{Result, Ok, Err, IfOk}
 use Rattle.std.proofs.lemmas.List.Elements.{All-weaker}
 use Rattle.std.proofs.lemmas.Option.{get_or_from_slice_get, slice_get_within}
 use Rattle.block_sim.specs.Parts.{Parts}
 use Rattle.workers.specs.declared.alone.Stop.{Stop}
 use Rattle.workers.specs.declared.ranks.Cut.{Cut}
-use Rattle.workers.specs.declared.ranks.Ranked.{Ranked}
 use Rattle.workers.specs.declared.taken.Done.{Done}
 use Rattle.workers.specs.Alone.{AreDone, AreFoundUpTo, HasEnded, IsDone}
-use Rattle.workers.specs.Rank.{IsCutOf, IsStart}
+use Rattle.workers.specs.Part.{stretch}
 use Rattle.workers.specs.Work.{Stops}
-use Rattle.workers.proofs.PartsOfClasses.{part_list, part_within}
 use Rattle.workers.proofs.LoneWorkers.{found_none}
-
--- a part's classes are the job's
-pub own_within : (job : Parts) (parts part s e : ℕ) (ranked : List Ranked) (classes : List ℕ)
-    → IsCutOf job parts ranked classes → IsStart ranked part s → IsStart ranked (part + 1) e
-    → All (λ class. class < length job.classes.representative) (slice_range classes s e)
-own_within job parts part s e ranked classes cut from to =
-    part_within job parts part (slice_range classes s e)
-    (part_list job parts part s e ranked classes cut from to)
 
 -- what is found at first
 pub none_found : (job : Parts) (classes : List ℕ) (firsts : List (Option ℕ))
@@ -33,22 +23,18 @@ none_found job classes firsts count none =
     ∙ none k first (slice_get_within firsts k first at))
 
 -- what a worker found, under other gates of the same
-done_along : (job : Parts) (ranked : List Ranked) (classes : List ℕ) (w : ℕ) (P P' : Type 0)
+pub done_along : (job : Parts) (size : ℕ) (classes : List ℕ) (w : ℕ) (P P' : Type 0)
     (S S' : Stops) (done : Done) → (P' → P) → ((u k b : ℕ) → S u k b → S' u k b)
-    → IsDone job ranked classes w P S done → IsDone job ranked classes w P' S' done
-done_along job ranked classes w P P' S S' done q t is = record {
-  start = is.start;
-  end = is.end;
-  begins = is.begins;
-  ends = is.ends;
+    → IsDone job size classes w P S done → IsDone job size classes w P' S' done
+done_along job size classes w P P' S S' done q t is = record {
   stop = is.stop;
   ended = go is.stop is.ended;
   lowest = is.lowest;
   passed = λ p. is.passed (q p);
 }
   where
-    go : (stop : Option Stop) → HasEnded job (slice_range classes is.start is.end) w S stop
-        done.firsts.items → HasEnded job (slice_range classes is.start is.end) w S' stop
+    go : (stop : Option Stop) → HasEnded job (stretch size classes done.part) w S stop
+        done.firsts.items → HasEnded job (stretch size classes done.part) w S' stop
         done.firsts.items
     go None e = e
     go (Some stop) e = (
@@ -66,17 +52,17 @@ done_along job ranked classes w P P' S S' done q t is = record {
 pub given_back : {X E : Type 0} (items : X → List Done) (r : Result X E) (j j' : Parts) (u u' : Cut)
     (P P' : Type 0) (S S' : Stops) (w n : ℕ) → j ≡ j' → u ≡ u' → w < n → (P' → P)
     → ((v k b : ℕ) → S v k b → S' v k b)
-    → IfOk r (λ all. AreDone j u.ranked.items u.classes.items w P S (items all))
+    → IfOk r (λ all. AreDone j u.size u.classes.items w P S (items all))
     → IfOk r (λ all. (worker : ℕ) × (worker < n)
-    × AreDone j' u'.ranked.items u'.classes.items worker P' S' (items all))
+    × AreDone j' u'.size u'.classes.items worker P' S' (items all))
 given_back items (Err x) j j' u u' P P' S S' w n ej eu lt q t is = tt
 given_back items (Ok all) j j' u u' P P' S S' w n ej eu lt q t is = (
   w,
   lt,
-  subst (λ x. AreDone x u'.ranked.items u'.classes.items w P' S' (items all)) ej
-      (subst (λ (x : Cut). AreDone j x.ranked.items x.classes.items w P' S' (items all)) eu
-      (All-weaker (λ done. IsDone j u.ranked.items u.classes.items w P S done)
-      (λ done. IsDone j u.ranked.items u.classes.items w P' S' done)
-      (λ done d. done_along j u.ranked.items u.classes.items w P P' S S' done q t d)
+  subst (λ x. AreDone x u'.size u'.classes.items w P' S' (items all)) ej
+      (subst (λ (x : Cut). AreDone j x.size x.classes.items w P' S' (items all)) eu
+      (All-weaker (λ done. IsDone j u.size u.classes.items w P S done)
+      (λ done. IsDone j u.size u.classes.items w P' S' done)
+      (λ done d. done_along j u.size u.classes.items w P P' S S' done q t d)
       (items all) is)),
 )

@@ -1,7 +1,7 @@
 -- The run of one worker alone over a list of classes: block after block, and on each block in the
 -- order of the list. A class that an earlier block detects is left out.
 use Rattle.std.specs.Prelude.{◌≡◌, ◌⊎◌, ◌<◌, ◌≤◌, ◌+◌, ℕ, nat_lt, if◌then◌else◌, List, length}
-use Rattle.std.specs.Prelude.{slice_get, slice_range, All, Option, Some, None, Result, Ok}
+use Rattle.std.specs.Prelude.{slice_get, All, Option, Some, None, Result, Ok}
 use Rattle.std.specs.declared.vec.Vec.{Vec}
 use Rattle.patterns.specs.Least.{Table, least}
 use Rattle.patterns.specs.Tests.{blocks}
@@ -10,9 +10,7 @@ use Rattle.workers.specs.declared.alone.Stop.{Stop}
 use Rattle.workers.specs.declared.alone.Waiting.{Waiting}
 use Rattle.workers.specs.Schedule.{IsTableOf}
 use Rattle.workers.specs.Work.{Stops}
-use Rattle.workers.specs.Part.{ArePartOf}
-use Rattle.workers.specs.Rank.{IsStart}
-use Rattle.workers.specs.declared.ranks.Ranked.{Ranked}
+use Rattle.workers.specs.Part.{AreAllByRegion, stretch, stretch_size}
 use Rattle.workers.specs.declared.taken.Done.{Done}
 
 -- so many first blocks of the class at place k are done before the piece of this place and block
@@ -78,24 +76,19 @@ lower_of (Some one) None = Some one
 lower_of (Some one) (Some other) =
     if nat_lt other.class one.class then Some other else Some one
 
--- What a worker found in a part: in the classes that stand from the part's start up to that of the
--- next its run ended so, it names the lowest class that isn't settled, and where the gate lets all
--- pass it wasn't stopped.
-pub record IsDone (job : Parts) (ranked : List Ranked) (classes : List ℕ) (worker : ℕ)
+-- What a worker found in a part, which is a stretch of the classes: its run over that ended so, it
+-- names the lowest class that isn't settled, and where the gate lets all pass it wasn't stopped.
+pub record IsDone (job : Parts) (size : ℕ) (classes : List ℕ) (worker : ℕ)
     (passing : Type 0) (stops : Stops) (done : Done) : Type 0 where
-  pub start : ℕ
-  pub end : ℕ
-  pub begins : IsStart ranked done.part start
-  pub ends : IsStart ranked (done.part + 1) end
   pub stop : Option Stop
-  pub ended : HasEnded job (slice_range classes start end) worker stops stop done.firsts.items
-  pub lowest : IsLowest (IsOpenIn job (slice_range classes start end) stop) done.waiting
+  pub ended : HasEnded job (stretch size classes done.part) worker stops stop done.firsts.items
+  pub lowest : IsLowest (IsOpenIn job (stretch size classes done.part) stop) done.waiting
   pub passed : passing → stop ≡ None
 
 -- the same of each of several parts
-abbrev pub AreDone : Parts → List Ranked → List ℕ → ℕ → Type 0 → Stops → List Done → Type 0
-AreDone job ranked classes worker passing stops all =
-    All (λ done. IsDone job ranked classes worker passing stops done) all
+abbrev pub AreDone : Parts → ℕ → List ℕ → ℕ → Type 0 → Stops → List Done → Type 0
+AreDone job size classes worker passing stops all =
+    All (λ done. IsDone job size classes worker passing stops done) all
 
 -- What a worker gives back was put into a table of parts: what stands in a place of it stood there,
 -- or is among what was given back, and of the part of this number.
@@ -118,11 +111,11 @@ pub record AreGivenBack {Z E : Type 0} (parts : ℕ) (back : List (Result (Vec D
 
 -- what stands in a place of a table of parts is what one of so many workers found in the part of
 -- this number
-pub record AreFoundByPart (job : Parts) (ranked : List Ranked) (classes : List ℕ) (workers : ℕ)
+pub record AreFoundByPart (job : Parts) (size : ℕ) (classes : List ℕ) (workers : ℕ)
     (passing : Type 0) (stops : Stops) (table : List (Option Done)) : Type 0 where
   pub each : (part : ℕ) (done : Done) → slice_get table part ≡ Some (Some done)
       → (done.part ≡ part) × (worker : ℕ) × (worker < workers)
-      × IsDone job ranked classes worker passing stops done
+      × IsDone job size classes worker passing stops done
 
 -- the run of one part: its classes, the worker that ran it, and where the gate stopped that
 pub record PartRun : Type 0 where
@@ -130,13 +123,13 @@ pub record PartRun : Type 0 where
   pub worker : ℕ
   pub stop : Option Stop
 
--- the runs of the first n parts, each by one of the workers, and stopped only where the gate may
--- stop it
-pub record AreRunsOf (job : Parts) (parts workers : ℕ) (stops : Stops) (n : ℕ)
-    (runs : List PartRun) : Type 0 where
+-- the runs of the first n stretches of classes, each by one of the workers, and stopped only where
+-- the gate may stop it
+pub record AreRunsOf (job : Parts) (size : ℕ) (classes : List ℕ) (workers : ℕ) (stops : Stops)
+    (n : ℕ) (runs : List PartRun) : Type 0 where
   pub count : length runs ≡ n
   pub each : (part : ℕ) (run : PartRun) → slice_get runs part ≡ Some run
-      → ArePartOf job parts part run.classes × (run.worker < workers)
+      → (run.classes ≡ stretch size classes part) × (run.worker < workers)
       × ((stop : Stop) → run.stop ≡ Some stop
       → IsStopAt job run.classes run.worker stops stop)
 
@@ -145,10 +138,13 @@ abbrev pub WaitsIn : Parts → List PartRun → ℕ → ℕ → Type 0
 WaitsIn job runs class block = (part : ℕ) × (run : PartRun) × (slice_get runs part ≡ Some run)
     × IsOpenIn job run.classes run.stop class block
 
--- A run of parts that its gate stopped waits for this class and block: of all classes of all parts
--- that aren't settled the class is the lowest.
+-- A run of all classes in parts that its gate stopped waits for this class and block: of all
+-- classes of all parts that aren't settled the class is the lowest.
 pub record PartsWaitFor (job : Parts) (parts workers : ℕ) (stops : Stops)
     (class block : ℕ) : Type 0 where
+  pub classes : List ℕ
+  pub all : AreAllByRegion job classes
   pub runs : List PartRun
-  pub are : AreRunsOf job parts workers stops parts runs
+  pub are : AreRunsOf job (stretch_size (length job.classes.representative) parts) classes workers
+      stops parts runs
   pub lowest : IsLowest (WaitsIn job runs) (Some (record { class = class; block = block }))

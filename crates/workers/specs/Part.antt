@@ -1,6 +1,7 @@
 -- The parts of the classes, and what a run over a part says of each fault.
-use Rattle.std.specs.Prelude.{◌≡◌, ◌≢◌, ◌⊎◌, ◌<◌, ◌≤◌, ℕ, ◌%◌, List, length, slice_get, Option}
-use Rattle.std.specs.Prelude.{Some, None, slice_index_or}
+use Rattle.std.specs.Prelude.{◌≡◌, ◌≢◌, ◌⊎◌, ◌<◌, ◌≤◌, ⊤, ℕ, ◌%◌, ◌*◌, List, length, take, drop}
+use Rattle.std.specs.Prelude.{slice_get, Option, Some, None, slice_index_or}
+use Rattle.std.specs.Int.{div_ceil}
 use Rattle.fault_model.specs.Fault.{Fault, faults}
 use Rattle.block_sim.specs.First.{IsFirst}
 use Rattle.block_sim.specs.Parts.{Parts}
@@ -29,19 +30,36 @@ ComesBefore job visits first second = (r q : ℕ)
     ⊎ ((slice_index_or visits r 0 ≡ slice_index_or visits q 0)
     × ((r < q) ⊎ ((r ≡ q) × (first < second))))
 
--- The classes of a part, of so many parts, region by region: each is one of the part, each of the
--- part is among them, and each comes before those behind it by some visits to the stems, so that it
+-- Classes of a job for which this holds, region by region: each of the list is one, each such class
+-- is among them, and each comes before those behind it by some visits to the stems, so that it
 -- stands there once and those of one region stand next to each other. So they are no more than the
 -- job's.
-pub record ArePartOf (job : Parts) (parts part : ℕ) (classes : List ℕ) : Type 0 where
+pub record AreByRegion (job : Parts) (Holds : ℕ → Type 0) (classes : List ℕ) : Type 0 where
   pub visits : List ℕ
   pub each : (k class : ℕ) → slice_get classes k ≡ Some class
-      → (class < length job.classes.representative) × IsOfPart job parts part class
+      → (class < length job.classes.representative) × Holds class
   pub all : (class : ℕ) → class < length job.classes.representative
-      → IsOfPart job parts part class → (k : ℕ) × (slice_get classes k ≡ Some class)
+      → Holds class → (k : ℕ) × (slice_get classes k ≡ Some class)
   pub ordered : (i k first second : ℕ) → i < k → slice_get classes i ≡ Some first
       → slice_get classes k ≡ Some second → ComesBefore job visits first second
   pub few : length classes ≤ length job.classes.representative
+
+-- the classes of a part, of so many parts
+abbrev pub ArePartOf : Parts → ℕ → ℕ → List ℕ → Type 0
+ArePartOf job parts part classes = AreByRegion job (IsOfPart job parts part) classes
+
+-- all classes
+abbrev pub AreAllByRegion : Parts → List ℕ → Type 0
+AreAllByRegion job classes = AreByRegion job (λ class. ⊤) classes
+
+-- How many classes a stretch has, where so many are cut into so many stretches of one size, as small
+-- as it can be. The last stretches have fewer, or none.
+abbrev pub stretch_size : ℕ → ℕ → ℕ
+stretch_size count parts = div_ceil count parts
+
+-- the classes of a stretch, counted from 0, of a list that is cut into stretches of this size
+abbrev pub stretch : ℕ → List ℕ → ℕ → List ℕ
+stretch size classes k = take size (drop (k * size) classes)
 
 -- The verdict on a class by the first tests of the classes of a list, up to some place: that of the
 -- class, or of another part where the class is not in the list.

@@ -8,7 +8,7 @@ use Rattle.workers.specs.declared.RunFault.TheVariants.{TooManyPieces, Memory, T
 use Rattle.workers.specs.declared.RunFault.TheVariants.{Unfinished}
 use Rattle.workers.specs.Alone.{PartsWaitFor}
 use Rattle.workers.specs.Chosen.{Chosen, every, chosen_of}
-use Rattle.workers.specs.Part.{ArePartOf}
+use Rattle.workers.specs.Part.{ArePartOf, stretch_size}
 use Rattle.workers.specs.Work.{Stops, WaitsFor}
 
 -- when a number of workers is refused
@@ -22,15 +22,18 @@ abbrev pub IsPartWithin : Parts → ℕ → ℕ → Type 0
 IsPartWithin job parts part = (classes : List ℕ) × ArePartOf job parts part classes
     × (length classes * blocks (length job.tests.tests) ≤ max_pieces)
 
--- each is
+-- so many pieces has the largest stretch of all classes, which are cut into so many
+abbrev pub pieces_of_stretch : Parts → ℕ → ℕ
+pieces_of_stretch job parts =
+    stretch_size (length job.classes.representative) parts * blocks (length job.tests.tests)
+
+-- each is within the limit
 abbrev pub ArePartsWithin : Parts → ℕ → Type 0
-ArePartsWithin job parts = (part : ℕ) → part < parts → IsPartWithin job parts part
+ArePartsWithin job parts = pieces_of_stretch job parts ≤ max_pieces
 
 -- one is past it
 abbrev pub HasLargePart : Parts → ℕ → Type 0
-HasLargePart job parts = (part : ℕ) × (part < parts) × (classes : List ℕ)
-    × ArePartOf job parts part classes
-    × (max_pieces < length classes * blocks (length job.tests.tests))
+HasLargePart job parts = max_pieces < pieces_of_stretch job parts
 
 -- When a schedule of a job with so many pieces is refused: for its number of workers, then for the
 -- first of its moves that is of a worker out of range, then for its pieces, and then for want of
@@ -72,8 +75,8 @@ IsPartFault job parts part workers passing stops (Unfinished class block) =
     × IsRunFaultOver job (chosen_of classes) workers passing stops (Unfinished class block)
 IsPartFault job parts part workers passing stops fault = IsWorkersFault workers fault
 
--- the same where the classes are run in so many parts, each by one worker alone: it is a part that
--- has too many pieces, and the class is the lowest of all classes that aren't settled
+-- the same where all classes are run in so many stretches, each by one worker alone: it is a stretch
+-- that has too many pieces, and the class is the lowest of all classes that aren't settled
 abbrev pub IsPartsFault : Parts → ℕ → ℕ → Type 0 → Stops → RunFault → Type 0
 IsPartsFault job parts workers passing stops Memory = (0 < workers) × (workers ≤ 64)
 IsPartsFault job parts workers passing stops Threads = (0 < workers) × (workers ≤ 64)

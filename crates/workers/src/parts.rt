@@ -9,14 +9,13 @@ ghost use Rattle.workers.specs.Alone.{AreFoundByPart, AreGivenBack, ArePut, IsDo
 ghost use Rattle.workers.specs.Part.{AreClassVerdicts, ArePartOf, ArePartVerdicts, IsInOnePart};
 ghost use Rattle.workers.specs.Part.{IsOfPart, first_in};
 ghost use Rattle.workers.specs.Rank.{IsCutOf};
-ghost use Rattle.workers.specs.Refused.{ArePartsWithin, HasLargePart, IsPartFault, IsPartsFault};
-ghost use Rattle.workers.specs.Refused.{IsPartWithin};
+ghost use Rattle.workers.specs.Refused.{ArePartsWithin, IsPartFault, IsPartsFault, IsPartWithin};
 ghost use Rattle.workers.specs.Verdict.{AreBehindHits, AreClassFirsts, AreFirsts};
 ghost use Rattle.workers.specs.Verdict.{behind, pieces_behind};
 
 use crate::alone::{Waiting, lower_of};
 use crate::classes::{Found, run_listed};
-use crate::ranks::Cut;
+use crate::ranks::{Cut, part_classes};
 use crate::taken::{Done, Member, crew_of, empty_table, run_alone, take_parts};
 use crate::worker::Gate;
 use crate::{RunFault, Verdicts, check_pieces, check_workers};
@@ -153,13 +152,10 @@ pub fn run_part<G: Gate + Sync, R: Threads + Wait>(
         (G.passing gate.now) (G.stops gate.now)) }
 {
     check_workers(workers)?;
-    let cut = Cut::new(alloc, job, parts)?;
-    let start = cut.start_of(part);
-    let end = cut.start_of(part + 1);
-    let own = cut.between(start, end);
-    let found = run_one(rt, alloc, job, own, part, parts, workers, gate)?;
+    let own = part_classes(alloc, job, part, parts)?;
+    let found = run_one(rt, alloc, job, own.as_slice(), part, parts, workers, gate)?;
     let count = job.classes().count();
-    let table = by_class(alloc, count, own, found.firsts.as_slice())?;
+    let table = by_class(alloc, count, own.as_slice(), found.firsts.as_slice())?;
     let verdicts = of_faults(alloc, job, table.as_slice())?;
     Ok(verdicts)
 }
@@ -171,8 +167,14 @@ pub fn run_part<G: Gate + Sync, R: Threads + Wait>(
 /// verdicts are the first tests, for every number of parts and of workers, whatever the workers do
 /// in whatever order. The skipped pieces are those behind the first hits.
 ///
+/// A part is here a stretch of the list of all classes, region by region in the order of the visits:
+/// what a worker reads for one region is then near to what it reads for the next. With n classes a
+/// stretch has n divided by the number of parts, rounded up; the last ones have fewer, or none. The
+/// parts of [`run_part`] are told by stems in place of that, so that other machines come to the
+/// same ones without the list.
+///
 /// It is refused with [`RunFault::NoWorkers`], with [`RunFault::TooManyWorkers`] above 64 workers,
-/// with [`RunFault::TooManyPieces`] where one part has more than [`patterns::MAX_PIECES`] pieces,
+/// with [`RunFault::TooManyPieces`] where a stretch has more than [`patterns::MAX_PIECES`] pieces,
 /// and with [`RunFault::Memory`] or [`RunFault::Threads`] where memory or the start of a thread was
 /// refused; the threads that were started are joined first. Where the gate
 /// stopped workers and not all classes are settled it is [`RunFault::Unfinished`]: it names the
@@ -196,41 +198,14 @@ pub fn run_in_parts<G: Gate + Sync, R: Threads + Wait>(
 {
     check_workers(workers)?;
     let cut = Cut::new(alloc, job, parts)?;
-    check_parts(job, &cut, parts)?;
-    let gathered = gather(rt, alloc, job, &cut, parts, workers, gate)?;
+    check_pieces(job, cut.size)?;
+    let gathered = gather(rt, alloc, job, &cut, workers, gate)?;
     let count = job.classes().count();
     let table = by_class(alloc, count, cut.classes.as_slice(), gathered.as_slice())?;
     let blocks = job.tests().blocks();
     let skipped = skipped_behind(table.as_slice(), blocks);
     let found = firsts_of_faults(alloc, job, table.as_slice())?;
     Ok(Verdicts::of(found, skipped))
-}
-
-/// How many classes a list has, which has no more than the job.
-fn count_in(job: &Job, classes: &[u32]) -> u32
-    requires { length classes.now ≤ length job.now.classes.representative }
-    ensures { result ≡ length classes.now }
-{
-    let most = job.classes().count();
-    let holds = classes.len() <= most as usize;
-    prove!(holds);
-    classes.len() as u32
-}
-
-/// Refuses parts of which one has more pieces than are run at a time.
-fn check_parts(job: &Job, cut: &Cut, parts: u32) -> Result<(), RunFault>
-    requires { IsCutOf job.now parts cut.now.ranked.items cut.now.classes.items }
-    ensures within { OnOk result (ArePartsWithin job.now parts) }
-    ensures refused { IfErr result (λ fault. (fault ≡ RunFault.TooManyPieces)
-        × HasLargePart job.now parts) }
-{
-    for part in 0..parts {
-        let start = cut.start_of(part);
-        let end = cut.start_of(part + 1);
-        let own = cut.between(start, end);
-        check_pieces(job, count_in(job, own))?;
-    }
-    Ok(())
 }
 
 /// The number of pieces behind the first hits of all classes.
@@ -296,12 +271,10 @@ fn found_in<G: Gate>(
     member: &mut Member,
     gate: &G,
 ) -> Result<Done, AllocError>
-    requires cut { (parts : ℕ) × (part < parts)
-        × IsCutOf job.now parts cut.now.ranked.items cut.now.classes.items }
-    requires part { part + 1 < 2 ^ 32 }
+    requires cut { IsCutOf job.now cut.now.parts cut.now.size cut.now.classes.items }
     requires serves { ServesRegions member.old.simulation job.now }
     ensures done { IfOk result (λ done. (place ≡ Some done) ⊎ ((done.part ≡ part)
-        × IsDone job.now cut.now.ranked.items cut.now.classes.items member.old.number
+        × IsDone job.now cut.now.size cut.now.classes.items member.old.number
         (G.passing gate.now) (G.stops gate.now) done)) }
     ensures member { member.new.number ≡ member.old.number }
     ensures serves { ServesRegions member.new.simulation job.now }
@@ -317,21 +290,19 @@ fn join_parts<G: Gate>(
     alloc: Global,
     job: &Job,
     cut: &Cut,
-    parts: u32,
     workers: u32,
     gate: &G,
     table: Vec<Option<Done>>,
 ) -> Result<Vec<Option<u32>>, RunFault>
-    requires cut { IsCutOf job.now parts cut.now.ranked.items cut.now.classes.items }
+    requires cut { IsCutOf job.now cut.now.parts cut.now.size cut.now.classes.items }
     requires workers { (0 < workers) × (workers ≤ 64) }
-    requires parts { 0 < parts }
-    requires count { vec_len table ≡ parts }
-    requires found { AreFoundByPart job.now cut.now.ranked.items cut.now.classes.items workers
+    requires count { vec_len table ≡ cut.now.parts }
+    requires found { AreFoundByPart job.now cut.now.size cut.now.classes.items workers
         (G.passing gate.now) (G.stops gate.now) table.items }
     ensures gathered { IfOk result (λ found. AreClassFirsts job.now.list.model job.now.circuit
         job.now.tests.tests cut.now.classes.items found.items) }
-    ensures refused { IfErr result (IsPartsFault job.now parts workers (G.passing gate.now)
-        (G.stops gate.now)) }
+    ensures refused { IfErr result (IsPartsFault job.now cut.now.parts workers
+        (G.passing gate.now) (G.stops gate.now)) }
 {
     let _tests = job.tests();
     let mut member = Member::new(alloc, job, 0)?;
@@ -356,22 +327,20 @@ fn gather<G: Gate + Sync, R: Threads + Wait>(
     alloc: Global,
     job: &Job,
     cut: &Cut,
-    parts: u32,
     workers: u32,
     gate: &G,
 ) -> Result<Vec<Option<u32>>, RunFault>
-    requires cut { IsCutOf job.now parts cut.now.ranked.items cut.now.classes.items }
+    requires cut { IsCutOf job.now cut.now.parts cut.now.size cut.now.classes.items }
     requires workers { (0 < workers) × (workers ≤ 64) }
-    requires parts { 0 < parts }
     ensures gathered { IfOk result (λ found. AreClassFirsts job.now.list.model job.now.circuit
         job.now.tests.tests cut.now.classes.items found.items) }
-    ensures refused { IfErr result (IsPartsFault job.now parts workers (G.passing gate.now)
-        (G.stops gate.now)) }
+    ensures refused { IfErr result (IsPartsFault job.now cut.now.parts workers
+        (G.passing gate.now) (G.stops gate.now)) }
 {
-    let crew = crew_of(alloc, job, workers.min(parts))?;
-    let back = take_parts(rt, alloc, job, cut, parts, gate, crew)?;
-    let table = table_of(alloc, parts, back)?;
-    join_parts(alloc, job, cut, parts, workers, gate, table)
+    let crew = crew_of(alloc, job, workers.min(cut.parts))?;
+    let back = take_parts(rt, alloc, job, cut, gate, crew)?;
+    let table = table_of(alloc, cut.parts, back)?;
+    join_parts(alloc, job, cut, workers, gate, table)
 }
 
 /// Runs the classes of one part.

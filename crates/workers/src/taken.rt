@@ -1,6 +1,6 @@
 //! Parts that workers take, each of which one worker runs alone.
 
-ghost use Rattle.std.specs.Prelude.{◌≡◌, ◌⊎◌, ◌<◌, ◌≤◌, ◌+◌, ◌^◌, ℕ, All, IfErr, IfOk, IfSome};
+ghost use Rattle.std.specs.Prelude.{◌≡◌, ◌⊎◌, ◌<◌, ◌≤◌, ℕ, All, IfErr, IfOk, IfSome};
 ghost use Rattle.std.specs.Prelude.{None, length, vec_len};
 ghost use Rattle.block_sim.specs.Parts.{BelongTogether};
 ghost use Rattle.block_sim.specs.RegionHits.{ServesRegions};
@@ -57,19 +57,15 @@ pub(crate) fn run_alone<G: Gate>(
     member: &mut Member,
     gate: &G,
 ) -> Result<Done, AllocError>
-    requires cut { (parts : ℕ) × (part < parts)
-        × IsCutOf job.now parts cut.now.ranked.items cut.now.classes.items }
-    requires part { part + 1 < 2 ^ 32 }
+    requires cut { IsCutOf job.now cut.now.parts cut.now.size cut.now.classes.items }
     requires serves { ServesRegions member.old.simulation job.now }
-    ensures done { IfOk result (IsDone job.now cut.now.ranked.items cut.now.classes.items
+    ensures done { IfOk result (IsDone job.now cut.now.size cut.now.classes.items
         member.old.number (G.passing gate.now) (G.stops gate.now)) }
     ensures part { IfOk result (λ done. done.part ≡ part) }
     ensures member { member.new.number ≡ member.old.number }
     ensures serves { ServesRegions member.new.simulation job.now }
 {
-    let start = cut.start_of(part);
-    let end = cut.start_of(part + 1);
-    let own = cut.between(start, end);
+    let own = cut.stretch(part);
     let rows = rows_of(alloc, job, own)?;
     let mut firsts = no_firsts(alloc, own.len())?;
     let number = member.number;
@@ -103,21 +99,20 @@ fn serve<G: Gate>(
     alloc: Global,
     job: &Job,
     cut: &Cut,
-    parts: u32,
     taken: &AtomicU64,
     gate: &G,
     member: Member,
 ) -> Result<Vec<Done>, AllocError>
-    requires cut { IsCutOf job.now parts cut.now.ranked.items cut.now.classes.items }
+    requires cut { IsCutOf job.now cut.now.parts cut.now.size cut.now.classes.items }
     requires serves { ServesRegions member.simulation job.now }
-    ensures { IfOk result (λ all. AreDone job.now cut.now.ranked.items cut.now.classes.items
+    ensures { IfOk result (λ all. AreDone job.now cut.now.size cut.now.classes.items
         member.number (G.passing gate.now) (G.stops gate.now) all.items) }
 {
     let mut member = member;
     let mut all = Vec::new(alloc);
-    for _turn in 0..parts {
+    for _turn in 0..cut.parts {
         let part = taken.fetch_add(1, Ordering::SeqCst);
-        if part >= u64::from(parts) {
+        if part >= u64::from(cut.parts) {
             return Ok(all);
         }
         let done = run_alone(alloc, job, cut, part as u32, &mut member, gate)?;
@@ -144,7 +139,7 @@ impl<G: Gate> Promise<Result<Vec<Done>, AllocError>> for Taker<G> {
     ghost use Rattle.workers.specs.Alone.{AreDone};
 
     ghost kept_by = { λ p r. IfOk r (λ all.
-        AreDone p.job.value p.cut.value.ranked.items p.cut.value.classes.items p.worker
+        AreDone p.job.value p.cut.value.size p.cut.value.classes.items p.worker
         (G.passing p.gate.value) (G.stops p.gate.value) all.items) };
 }
 
@@ -154,16 +149,15 @@ pub(crate) fn take_parts<G: Gate + Sync, R: Threads + Wait>(
     alloc: Global,
     job: &Job,
     cut: &Cut,
-    parts: u32,
     gate: &G,
     crew: Vec<Member>,
 ) -> Result<Vec<Result<Vec<Done>, AllocError>>, RunFault>
-    requires cut { IsCutOf job.now parts cut.now.ranked.items cut.now.classes.items }
+    requires cut { IsCutOf job.now cut.now.parts cut.now.size cut.now.classes.items }
     requires serves { All (λ m. ServesRegions m.simulation job.now) crew.items }
     requires few { All (λ m. m.number < vec_len crew) crew.items }
     ensures done { IfOk result (λ back. All (λ one. IfOk one (λ all. (worker : ℕ)
         × (worker < vec_len crew)
-        × AreDone job.now cut.now.ranked.items cut.now.classes.items worker
+        × AreDone job.now cut.now.size cut.now.classes.items worker
         (G.passing gate.now) (G.stops gate.now) all.items)) back.items) }
     ensures refused { IfErr result (λ fault.
         (fault ≡ RunFault.Memory) ⊎ (fault ≡ RunFault.Threads)) }
@@ -174,12 +168,12 @@ pub(crate) fn take_parts<G: Gate + Sync, R: Threads + Wait>(
         thread::scope_env(),
         rt,
         |scope| -> Result<Vec<Result<Vec<Done>, AllocError>>, RunFault>
-            requires cut { IsCutOf job.now parts cut.now.ranked.items cut.now.classes.items }
+            requires cut { IsCutOf job.now cut.now.parts cut.now.size cut.now.classes.items }
             requires serves { All (λ m. ServesRegions m.simulation job.now) crew.items }
             requires few { All (λ m. m.number < vec_len crew) crew.items }
             ensures done { IfOk result (λ back. All (λ one. IfOk one (λ all. (worker : ℕ)
                 × (worker < vec_len crew)
-                × AreDone job.entry.now cut.entry.now.ranked.items cut.entry.now.classes.items
+                × AreDone job.entry.now cut.entry.now.size cut.entry.now.classes.items
                 worker (G.passing gate.entry.now) (G.stops gate.entry.now) all.items))
                 back.items) }
             ensures refused { IfErr result (λ fault.
@@ -196,7 +190,7 @@ pub(crate) fn take_parts<G: Gate + Sync, R: Threads + Wait>(
                 };
                 let Ok(handle) = scope.spawn_with(
                     kept,
-                    move || serve(alloc, job, cut, parts, taken, gate, member),
+                    move || serve(alloc, job, cut, taken, gate, member),
                 ) else {
                     break;
                 };

@@ -16,8 +16,8 @@ loop-place-init g c =
       left = omega (arith, began.1, c.requires.count);
       number = c.in_ok-member.ensures.number;
       serves = c.in_ok-member.ensures.serves;
-      gathered = gathered_none c.args.job.now c.args.cut.now.ranked.items
-          c.args.cut.now.classes.items c.args.parts c.args.workers
+      gathered = gathered_none c.args.job.now c.args.cut.now.size
+          c.args.cut.now.classes.items c.args.workers
           (g.G.Gate.passing c.args.gate.now) (g.G.Gate.stops c.args.gate.now)
           c.in_ok-firsts.firsts.items
           c.in_ok-firsts.ensures.items;
@@ -27,7 +27,7 @@ pub loop-place-preserved : goal.loop-place-preserved
 loop-place-preserved g c =
     let was = c.loop-place.invariant in
     let job = c.args.job.now in
-    let ranked = c.args.cut.now.ranked.items in
+    let size = c.args.cut.now.size in
     let classes = c.args.cut.now.classes.items in
     let step = c.in-Some.ensures.steps in
     let rest = into_iter_items c.next.new.self in
@@ -37,27 +37,27 @@ loop-place-preserved g c =
     subst (λ n. slice_get c.args.table.items n ≡ Some c.in-Some.place) was.count
     (subst (λ l. slice_get l (length c.loop-place.yielded) ≡ Some c.in-Some.place) order
     (between_others c.loop-place.yielded rest c.in-Some.place)) in
-    let here = found_there job ranked classes c.args.workers c.loop-place.member.number
+    let here = found_there job size classes c.args.workers c.loop-place.member.number
     (g.G.Gate.passing c.args.gate.now) (g.G.Gate.stops c.args.gate.now) c.args.table.items
     c.loop-place.part c.in-Some.place c.in_ok-done.done
     c.requires.found at (omega (arith, was.number, c.requires.workers.0))
     c.in_ok-done.ensures.done in
-    let more = gathered_more job ranked classes c.args.parts c.args.workers here.1
+    let more = gathered_more job size classes c.args.workers here.1
     (g.G.Gate.passing c.args.gate.now) (g.G.Gate.stops c.args.gate.now) c.loop-place.part
     c.loop-place.firsts.items c.loop-place.lowest c.in_ok-done.done
-    c.tests-tests.ensures.together c.requires.cut here.2 here.0 here.3 was.gathered in
+    c.tests-tests.ensures.together here.2 here.0 here.3 was.gathered in
     record {
       order = append_assoc c.loop-place.yielded (c.in-Some.place ∷ []) rest ∙ order;
       count = omega (arith, length-append c.loop-place.yielded (c.in-Some.place ∷ []), was.count);
       left = omega (arith, was.left, step.1);
       number = c.in_ok-done.ensures.member ∙ was.number;
       serves = c.in_ok-done.ensures.serves;
-      gathered = subst (λ l. IsGathered job ranked classes c.args.parts c.args.workers
+      gathered = subst (λ l. IsGathered job size classes c.args.workers
           (g.G.Gate.passing c.args.gate.now) (g.G.Gate.stops c.args.gate.now)
           (c.loop-place.part + 1) l c.lower_of-lowest.result)
           (sym (c.in_ok-extend_from_slice.ensures.items
           ∙ ap (λ l. c.loop-place.firsts.items ++ l) c.as_slice.ensures.value))
-          (subst (IsGathered job ranked classes c.args.parts c.args.workers
+          (subst (IsGathered job size classes c.args.workers
           (g.G.Gate.passing c.args.gate.now) (g.G.Gate.stops c.args.gate.now)
           (c.loop-place.part + 1) (c.loop-place.firsts.items ++ c.in_ok-done.done.firsts.items))
           (sym c.lower_of-lowest.ensures) more);
@@ -65,27 +65,27 @@ loop-place-preserved g c =
 
 pub returns-in-Some-lowest-clause-refused : goal.returns-in-Some-lowest-clause-refused
 returns-in-Some-lowest-clause-refused g c =
-    let full : c.loop-place.part ≡ c.args.parts = omega (
+    let full : c.loop-place.part ≡ c.args.cut.now.parts = omega (
       arith,
       c.loop-place.invariant.left,
       c.in-None.ensures.steps.0,
     ) in
-    let waits = gathered_waits c.args.job.now c.args.cut.now.ranked.items
-    c.args.cut.now.classes.items c.args.parts c.args.workers (g.G.Gate.passing c.args.gate.now)
+    let waits = gathered_waits c.args.job.now c.args.cut.now.parts c.args.cut.now.size
+    c.args.cut.now.classes.items c.args.workers (g.G.Gate.passing c.args.gate.now)
     (g.G.Gate.stops c.args.gate.now) c.loop-place.part c.loop-place.firsts.items
-    c.loop-place.lowest c.in-Some-lowest.field-0.class c.in-Some-lowest.field-0.block full
+    c.loop-place.lowest c.in-Some-lowest.field-0.class c.in-Some-lowest.field-0.block c.requires.cut full
     c.in-Some-lowest.is c.loop-place.invariant.gathered in
     (c.requires.workers.0, c.requires.workers.1, waits.0, waits.1, waits.2, waits.3)
 
 pub returns-clause-gathered : goal.returns-clause-gathered
 returns-clause-gathered g c =
-    let full : c.loop-place.part ≡ c.args.parts = omega (
+    let full : c.loop-place.part ≡ c.args.cut.now.parts = omega (
       arith,
       c.loop-place.invariant.left,
       c.in-None.ensures.steps.0,
     ) in
-    gathered_all c.args.job.now c.args.cut.now.ranked.items c.args.cut.now.classes.items
-    c.args.parts c.args.workers (g.G.Gate.passing c.args.gate.now)
+    gathered_all c.args.job.now c.args.cut.now.parts c.args.cut.now.size
+    c.args.cut.now.classes.items c.args.workers (g.G.Gate.passing c.args.gate.now)
     (g.G.Gate.stops c.args.gate.now) c.loop-place.part c.loop-place.firsts.items
-    c.loop-place.lowest c.requires.parts c.requires.cut full c.in-None-lowest.is
+    c.loop-place.lowest c.requires.cut full c.in-None-lowest.is
     c.loop-place.invariant.gathered

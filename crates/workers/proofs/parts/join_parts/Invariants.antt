@@ -8,9 +8,9 @@ abbrev pub invariant-loop-place : goal.invariant-loop-place
 invariant-loop-place g l = record {
   order : l.yielded ++ into_iter_items l.place-iterator ≡ l.fn.table.items;
   count : length l.yielded ≡ l.part;
-  left : l.part + into_iter_len l.place-iterator ≡ l.fn.parts;
+  left : l.part + into_iter_len l.place-iterator ≡ l.cut.parts;
   number : l.member.number ≡ 0;
   serves : ServesRegions l.member.simulation l.job;
-  gathered : IsGathered l.job l.cut.ranked.items l.cut.classes.items l.fn.parts l.fn.workers
+  gathered : IsGathered l.job l.cut.size l.cut.classes.items l.fn.workers
       (g.G.Gate.passing l.gate) (g.G.Gate.stops l.gate) l.part l.firsts.items l.lowest;
 }

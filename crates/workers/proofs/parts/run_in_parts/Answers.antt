@@ -5,7 +5,7 @@ use Rattle.workers.specs.declared.parts.PartVerdict.{PartVerdict}
 use Rattle.workers.specs.declared.parts.PartVerdict.TheVariants.{OtherPart}
 use Rattle.workers.specs.Part.{first_in}
 use Rattle.workers.specs.Verdict.{AreBehindHits, AreFirsts, pieces_behind}
-use Rattle.workers.proofs.PartsOfClasses.{cut_firsts, cut_hits, cut_within, verdicts_under}
+use Rattle.workers.proofs.PartsOfClasses.{all_firsts, all_hits, all_within, verdicts_under}
 use Rattle.workers.proofs.parts.run_in_parts.Goals as goal
 
 pub by_class-requires-clause-within : goal.by_class-requires-clause-within
@@ -15,8 +15,7 @@ by_class-requires-clause-within g c =
     ∙ ap (λ (x : Collapsed). length x.representative) c.classes.ensures.part in
     subst (λ n. All (λ class. class < n) c.as_slice.result.now) (sym count)
     (subst (All (λ class. class < length job.classes.representative)) (sym c.as_slice.ensures.value)
-    (cut_within job c.args.parts c.in_ok-cut.cut.ranked.items c.in_ok-cut.cut.classes.items
-    c.in_ok-cut.ensures))
+    (all_within job c.in_ok-cut.cut.classes.items c.in_ok-cut.ensures.cut.all))
 
 pub returns-clause-firsts : goal.returns-clause-firsts
 returns-clause-firsts g c =
@@ -35,8 +34,8 @@ returns-clause-firsts g c =
     (λ (l : List PartVerdict). map (λ class. first_in (get_or l class OtherPart))
     job.classes.class_of) c.as_slice-4.ensures.value in
     subst (AreFirsts job.list.model job.circuit job.tests.tests) (sym c.of.ensures.firsts)
-    (cut_firsts job c.args.parts c.in_ok-cut.cut.ranked.items classes firsts
-    c.in_ok-found.found.items table c.classes.ensures.together c.in_ok-cut.ensures
+    (all_firsts job classes firsts
+    c.in_ok-found.found.items table c.classes.ensures.together c.in_ok-cut.ensures.cut.all
     c.in_ok-gathered.ensures.gathered by is)
 
 pub returns-clause-skipped : goal.returns-clause-skipped
@@ -58,6 +57,6 @@ returns-clause-skipped g c =
     ∙ ap (λ (l : List PartVerdict). pieces_behind c.blocks-blocks.result (map first_in l))
     c.as_slice-3.ensures.value in
     subst (AreBehindHits job) (sym c.of.ensures.skipped)
-    (cut_hits job c.args.parts c.in_ok-cut.cut.ranked.items classes firsts table
-    c.blocks-blocks.result c.skipped_behind-skipped.result c.in_ok-cut.ensures
+    (all_hits job classes firsts table
+    c.blocks-blocks.result c.skipped_behind-skipped.result c.in_ok-cut.ensures.cut.all
     c.in_ok-gathered.ensures.gathered by all is)

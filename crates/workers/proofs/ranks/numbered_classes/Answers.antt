@@ -10,10 +10,9 @@ loop-class-preserved c =
     let count = c.count-count.ensures
     ∙ ap (λ (x : Collapsed). length x.representative) c.classes.ensures.part in
     let visits = c.places-visits.result.now in
-    subst (AreNumbered job c.args.parts visits (c.loop-class.class + 1))
+    subst (AreNumbered job visits (c.loop-class.class + 1))
     (sym c.in_ok-push.ensures.items)
-    (numbered_more job c.args.parts visits c.loop-class.class c.loop-class.ranked.items (record {
-      part = _;
+    (numbered_more job visits c.loop-class.class c.loop-class.ranked.items (record {
       visit = _;
       stem = _;
       class = _;
@@ -21,7 +20,6 @@ loop-class-preserved c =
     (record {
       within = omega (arith, c.loop-class-test.true, count);
       stem = c.stem_of_class-stem.ensures.stem;
-      part = refl;
       visit = refl;
     }))
 
@@ -38,6 +36,6 @@ returns c =
       count,
     ) in (
       visits,
-      subst (λ n. AreNumbered job c.args.parts visits n c.loop-class.ranked.items) end
+      subst (λ n. AreNumbered job visits n c.loop-class.ranked.items) end
           c.loop-class.invariant,
     )

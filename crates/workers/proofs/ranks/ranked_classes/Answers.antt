@@ -7,15 +7,15 @@ use Rattle.workers.proofs.ranks.ranked_classes.Goals as goal
 pub returns : goal.returns
 returns c =
     let made = c.in_ok-ranked.ranked in
-    let arranged = c.arrange_classes.new.ranked in
+    let arranged = c.arrange.new.list in
     let whole : length arranged ≡ made.len =
-    omega (arith, c.arrange_classes.auto.ranked, c.as_mut_slice.ensures.len) in
+    omega (arith, c.arrange.auto.list, c.as_mut_slice.ensures.len) in
     let moved : IsPermutation made.items arranged =
     subst (λ xs. IsPermutation xs arranged) c.as_mut_slice.ensures.value
-    c.in_ok-arrange_classes.ensures in
+    c.in_ok-arrange.ensures in
     let sorted : IsPermutation arranged c.sort_unstable.new.self.items =
     subst (λ xs. IsPermutation xs c.sort_unstable.new.self.items)
     (with_items_is made arranged whole) c.sort_unstable.ensures.permutation in
-    sorted_ranked c.args.job.now c.args.parts c.in_ok-ranked.ensures.0 made.items
+    sorted_ranked c.args.job.now c.in_ok-ranked.ensures.0 made.items
     c.sort_unstable.new.self.items c.in_ok-ranked.ensures.1
     (IsPermutation-trans _ _ _ moved sorted) c.sort_unstable.ensures.sorted

@@ -1,30 +1,17 @@
-use Rattle.std.proofs.Common.{◌≡◌, ◌∙◌, ◌<◌, ◌+◌, All, ap, arith, length, subst, sym}
+use Rattle.std.proofs.Common.{◌≡◌, ◌∙◌, ◌<◌, All, ap, arith, length, subst, sym}
 use Rattle.block_sim.specs.Origins.{IsListed}
 use Rattle.workers.specs.Alone.{AreFoundUpTo}
 use Rattle.workers.specs.Turns.{classes_of}
-use Rattle.workers.proofs.PartsOfClasses.{start_le, start_within}
-use Rattle.workers.proofs.TakenParts.{none_found, own_within}
+use Rattle.workers.proofs.PartsOfClasses.{stretch_within}
+use Rattle.workers.proofs.TakenParts.{none_found}
 use Rattle.workers.proofs.taken.run_alone.Goals as goal
-
-pub between-own-requires-clause-order : goal.between-own-requires-clause-order
-between-own-requires-clause-order g c =
-    start_le c.args.cut.now.ranked.items c.args.part c.start_of-start.result c.start_of-end.result
-    c.start_of-start.ensures c.start_of-end.ensures
-
-pub between-own-requires-clause-within : goal.between-own-requires-clause-within
-between-own-requires-clause-within g c =
-    start_within c.args.job.now c.requires.cut.0 (c.args.part + 1) c.start_of-end.result
-    c.args.cut.now.ranked.items c.args.cut.now.classes.items c.requires.cut.2
-    c.start_of-end.ensures
 
 pub rows_of-requires : goal.rows_of-requires
 rows_of-requires g c =
     subst (All (λ class. class < length c.args.job.now.classes.representative))
-    (sym c.between-own.ensures)
-    (own_within c.args.job.now c.requires.cut.0 c.args.part c.start_of-start.result
-    c.start_of-end.result c.args.cut.now.ranked.items c.args.cut.now.classes.items
-    c.requires.cut.2 c.start_of-start.ensures
-    c.start_of-end.ensures)
+    (sym c.stretch-own.ensures)
+    (stretch_within c.args.job.now c.args.cut.now.size c.args.part c.args.cut.now.classes.items
+    c.requires.cut.all)
 
 pub run_list-requires-clause-rows : goal.run_list-requires-clause-rows
 run_list-requires-clause-rows g c =
@@ -33,7 +20,7 @@ run_list-requires-clause-rows g c =
 pub run_list-requires-clause-none : goal.run_list-requires-clause-none
 run_list-requires-clause-none g c =
     let sized = c.in_ok-firsts.firsts.ok.0 in
-    let own = c.between-own.result.now in
+    let own = c.stretch-own.result.now in
     let same : classes_of c.as_slice.result.now ≡ own =
     ap classes_of c.as_slice.ensures.value ∙ c.in_ok-rows.ensures.same in
     subst (λ l. AreFoundUpTo c.args.job.now l 0 0 c.as_mut_slice-found.result.now) (sym same)

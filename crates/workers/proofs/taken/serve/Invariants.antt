@@ -7,6 +7,6 @@ abbrev pub invariant-loop-turn : goal.invariant-loop-turn
 invariant-loop-turn g l = record {
   number : l.member.number ≡ l.fn.member.number;
   serves : ServesRegions l.member.simulation l.job;
-  done : AreDone l.job l.cut.ranked.items l.cut.classes.items l.fn.member.number
+  done : AreDone l.job l.cut.size l.cut.classes.items l.fn.member.number
       (g.G.Gate.passing l.gate) (g.G.Gate.stops l.gate) l.all.items;
 }
