@@ -116,8 +116,11 @@ runs_more job size classes workers part S runs run was own low stopped = record 
     go k x (inl h) = was.each k x h
     go k x (inr h) =
         subst (λ (r : PartRun). (r.classes ≡ stretch size classes k) × (r.worker < workers)
-        × ((stop : Stop) → r.stop ≡ Some stop → IsStopAt job r.classes r.worker S stop)) h.1
-        (subst (λ n. run.classes ≡ stretch size classes n) (sym (h.0 ∙ was.count)) own, low, stopped)
+        × ((stop : Stop) → r.stop ≡ Some stop → IsStopAt job r.classes r.worker S stop)) h.1 (
+          subst (λ n. run.classes ≡ stretch size classes n) (sym (h.0 ∙ was.count)) own,
+          low,
+          stopped,
+        )
 
 -- what waits in one run more
 waits_more : (job : Parts) (runs : List PartRun) (run : PartRun) (lowest own : Option Waiting)
@@ -167,8 +170,8 @@ pub gathered_more : (job : Parts) (size : ℕ) (classes : List ℕ) (workers wor
     (lower_of lowest done.waiting)
 gathered_more job size classes workers worker P S part firsts lowest done b low is d was = record {
   runs = was.runs ++ run ∷ [];
-  are = runs_more job size classes workers part S was.runs run was.are (ap (stretch size classes) is)
-      low (stopped_there job own worker S d.stop done.firsts.items d.ended);
+  are = runs_more job size classes workers part S was.runs run was.are
+      (ap (stretch size classes) is) low (stopped_there job own worker S d.stop done.firsts.items d.ended);
   is_lowest = waits_more job was.runs run lowest done.waiting was.is_lowest d.lowest;
   passed = λ p.
       let all = subst (λ s. IsLowest (IsOpenIn job own s) done.waiting) (d.passed p) d.lowest in

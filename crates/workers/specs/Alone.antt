@@ -6,12 +6,14 @@ use Rattle.std.specs.declared.vec.Vec.{Vec}
 use Rattle.patterns.specs.Least.{Table, least}
 use Rattle.patterns.specs.Tests.{blocks}
 use Rattle.block_sim.specs.Parts.{Parts}
+use Rattle.block_sim.specs.RegionHits.{ServesRegions}
 use Rattle.workers.specs.declared.alone.Stop.{Stop}
 use Rattle.workers.specs.declared.alone.Waiting.{Waiting}
 use Rattle.workers.specs.Schedule.{IsTableOf}
 use Rattle.workers.specs.Work.{Stops}
 use Rattle.workers.specs.Part.{AreAllByRegion, stretch, stretch_size}
 use Rattle.workers.specs.declared.taken.Done.{Done}
+use Rattle.workers.specs.declared.taken.Member.{Member}
 
 -- so many first blocks of the class at place k are done before the piece of this place and block
 abbrev pub done_before : ℕ → ℕ → ℕ → ℕ
@@ -75,6 +77,10 @@ lower_of None second = second
 lower_of (Some one) None = Some one
 lower_of (Some one) (Some other) =
     if nat_lt other.class one.class then Some other else Some one
+
+-- the first of the workers, with room for a run of the job
+abbrev pub IsFirstMember : Parts → Member → Type 0
+IsFirstMember job member = (member.number ≡ 0) × ServesRegions member.simulation job
 
 -- What a worker found in a part, which is a stretch of the classes: its run over that ended so, it
 -- names the lowest class that isn't settled, and where the gate lets all pass it wasn't stopped.

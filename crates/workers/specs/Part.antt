@@ -52,8 +52,8 @@ ArePartOf job parts part classes = AreByRegion job (IsOfPart job parts part) cla
 abbrev pub AreAllByRegion : Parts → List ℕ → Type 0
 AreAllByRegion job classes = AreByRegion job (λ class. ⊤) classes
 
--- How many classes a stretch has, where so many are cut into so many stretches of one size, as small
--- as it can be. The last stretches have fewer, or none.
+-- How many classes a stretch has, where so many are cut into so many stretches of one size, as
+-- small as it can be. The last stretches have fewer, or none.
 abbrev pub stretch_size : ℕ → ℕ → ℕ
 stretch_size count parts = div_ceil count parts
 

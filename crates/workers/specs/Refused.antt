@@ -75,8 +75,8 @@ IsPartFault job parts part workers passing stops (Unfinished class block) =
     × IsRunFaultOver job (chosen_of classes) workers passing stops (Unfinished class block)
 IsPartFault job parts part workers passing stops fault = IsWorkersFault workers fault
 
--- the same where all classes are run in so many stretches, each by one worker alone: it is a stretch
--- that has too many pieces, and the class is the lowest of all classes that aren't settled
+-- the same where all classes are run in so many stretches, each by one worker alone: it is a
+-- stretch that has too many pieces, and the class is the lowest of all that aren't settled
 abbrev pub IsPartsFault : Parts → ℕ → ℕ → Type 0 → Stops → RunFault → Type 0
 IsPartsFault job parts workers passing stops Memory = (0 < workers) × (workers ≤ 64)
 IsPartsFault job parts workers passing stops Threads = (0 < workers) × (workers ≤ 64)

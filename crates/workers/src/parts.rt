@@ -1,11 +1,11 @@
 //! Runs over a part of the classes, and over all parts.
 
-ghost use Rattle.std.specs.Prelude.{◌≡◌, ◌⊎◌, ◌<◌, ◌≤◌, ◌+◌, ◌*◌, ◌^◌, ℕ, [], All, IfErr, IfOk};
-ghost use Rattle.std.specs.Prelude.{OnOk, Some, length, map, slice_get, slice_index_or, vec_len};
+ghost use Rattle.std.specs.Prelude.{◌≡◌, ◌⊎◌, ◌<◌, ◌≤◌, ◌*◌, ◌^◌, ℕ, All, IfErr, IfOk, IfSome};
+ghost use Rattle.std.specs.Prelude.{OnOk, Some, length, map, slice_index_or, vec_len};
 ghost use Rattle.patterns.specs.Tests.{blocks, max_pieces};
 ghost use Rattle.block_sim.specs.Parts.{BelongTogether, Parts};
-ghost use Rattle.block_sim.specs.RegionHits.{ServesRegions};
 ghost use Rattle.workers.specs.Alone.{AreFoundByPart, AreGivenBack, ArePut, IsDone};
+ghost use Rattle.workers.specs.Alone.{IsFirstMember};
 ghost use Rattle.workers.specs.Part.{AreClassVerdicts, ArePartOf, ArePartVerdicts, IsInOnePart};
 ghost use Rattle.workers.specs.Part.{IsOfPart, first_in};
 ghost use Rattle.workers.specs.Rank.{IsCutOf};
@@ -16,7 +16,7 @@ ghost use Rattle.workers.specs.Verdict.{behind, pieces_behind};
 use crate::alone::{Waiting, lower_of};
 use crate::classes::{Found, run_listed};
 use crate::ranks::{Cut, part_classes};
-use crate::taken::{Done, Member, crew_of, empty_table, run_alone, take_parts};
+use crate::taken::{Done, Member, empty_table, run_alone, take_parts};
 use crate::worker::Gate;
 use crate::{RunFault, Verdicts, check_pieces, check_workers};
 use block_sim::Job;
@@ -167,11 +167,11 @@ pub fn run_part<G: Gate + Sync, R: Threads + Wait>(
 /// verdicts are the first tests, for every number of parts and of workers, whatever the workers do
 /// in whatever order. The skipped pieces are those behind the first hits.
 ///
-/// A part is here a stretch of the list of all classes, region by region in the order of the visits:
-/// what a worker reads for one region is then near to what it reads for the next. With n classes a
-/// stretch has n divided by the number of parts, rounded up; the last ones have fewer, or none. The
-/// parts of [`run_part`] are told by stems in place of that, so that other machines come to the
-/// same ones without the list.
+/// A part is here a stretch of the list of all classes, region by region in the order of the
+/// visits: what a worker reads for one region is then near to what it reads for the next. With n
+/// classes a stretch has n divided by the number of parts, rounded up; the last ones have fewer, or
+/// none. The parts of [`run_part`] are told by stems in place of that, which a part text names, so
+/// that other machines come to the same ones.
 ///
 /// It is refused with [`RunFault::NoWorkers`], with [`RunFault::TooManyWorkers`] above 64 workers,
 /// with [`RunFault::TooManyPieces`] where a stretch has more than [`patterns::MAX_PIECES`] pieces,
@@ -261,28 +261,33 @@ fn table_of(
 }
 
 /// What was found in a part: what stands at its place in the table. Where no worker took it, as
-/// the gate stopped them all, it is run by one more.
+/// the gate stopped them all, it is run by a spare one, which is made when it is first wanted.
 fn found_in<G: Gate>(
     alloc: Global,
     job: &Job,
     cut: &Cut,
     part: u32,
     place: Option<Done>,
-    member: &mut Member,
+    spare: &mut Option<Member>,
     gate: &G,
 ) -> Result<Done, AllocError>
     requires cut { IsCutOf job.now cut.now.parts cut.now.size cut.now.classes.items }
-    requires serves { ServesRegions member.old.simulation job.now }
+    requires spare { IfSome spare.old (IsFirstMember job.now) }
     ensures done { IfOk result (λ done. (place ≡ Some done) ⊎ ((done.part ≡ part)
-        × IsDone job.now cut.now.size cut.now.classes.items member.old.number
+        × IsDone job.now cut.now.size cut.now.classes.items 0
         (G.passing gate.now) (G.stops gate.now) done)) }
-    ensures member { member.new.number ≡ member.old.number }
-    ensures serves { ServesRegions member.new.simulation job.now }
+    ensures spare { IfSome spare.new (IsFirstMember job.now) }
 {
-    match place {
-        Some(done) => Ok(done),
-        None => run_alone(alloc, job, cut, part, member, gate),
+    if let Some(done) = place {
+        return Ok(done);
     }
+    let mut member = match spare.take() {
+        Some(member) => member,
+        None => Member::new(alloc, job, 0)?,
+    };
+    let done = run_alone(alloc, job, cut, part, &mut member, gate)?;
+    *spare = Some(member);
+    Ok(done)
 }
 
 /// Puts together what was found in all parts.
@@ -305,12 +310,12 @@ fn join_parts<G: Gate>(
         (G.passing gate.now) (G.stops gate.now)) }
 {
     let _tests = job.tests();
-    let mut member = Member::new(alloc, job, 0)?;
+    let mut spare = None;
     let mut firsts = Vec::with_capacity(alloc, cut.classes.len())?;
     let mut lowest = None;
     let mut part = 0;
     for place in table {
-        let done = found_in(alloc, job, cut, part, place, &mut member, gate)?;
+        let done = found_in(alloc, job, cut, part, place, &mut spare, gate)?;
         firsts.extend_from_slice(done.firsts.as_slice())?;
         lowest = lower_of(lowest, done.waiting);
         part += 1;
@@ -337,8 +342,7 @@ fn gather<G: Gate + Sync, R: Threads + Wait>(
     ensures refused { IfErr result (IsPartsFault job.now cut.now.parts workers
         (G.passing gate.now) (G.stops gate.now)) }
 {
-    let crew = crew_of(alloc, job, workers.min(cut.parts))?;
-    let back = take_parts(rt, alloc, job, cut, gate, crew)?;
+    let back = take_parts(rt, alloc, job, cut, gate, workers.min(cut.parts))?;
     let table = table_of(alloc, cut.parts, back)?;
     join_parts(alloc, job, cut, workers, gate, table)
 }

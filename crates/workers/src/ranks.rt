@@ -1,7 +1,6 @@
 //! The classes of a job, region by region.
 
-ghost use Rattle.std.specs.Prelude.{◌≡◌, ◌<◌, ◌%◌, ◌==◌, ℕ, IfOk, List, length, map, slice_index_or};
-ghost use Rattle.std.specs.Prelude.{IsPermutation, OnOk, filter};
+ghost use Rattle.std.specs.Prelude.{◌≡◌, ◌<◌, ◌%◌, ◌==◌, ℕ, IfOk, List, filter, length, map};
 ghost use Rattle.workers.specs.Part.{ArePartOf, stretch};
 ghost use Rattle.workers.specs.Rank.{AreNumbered, AreRanked, IsCutOf};
 

@@ -1,8 +1,7 @@
 //! Parts that workers take, each of which one worker runs alone.
 
-ghost use Rattle.std.specs.Prelude.{◌≡◌, ◌⊎◌, ◌<◌, ◌≤◌, ℕ, All, IfErr, IfOk, IfSome};
-ghost use Rattle.std.specs.Prelude.{None, length, vec_len};
-ghost use Rattle.block_sim.specs.Parts.{BelongTogether};
+ghost use Rattle.std.specs.Prelude.{◌≡◌, ◌⊎◌, ◌<◌, ℕ, All, IfErr, IfOk, IfSome, None};
+ghost use Rattle.std.specs.Prelude.{vec_len};
 ghost use Rattle.block_sim.specs.RegionHits.{ServesRegions};
 ghost use Rattle.workers.specs.Alone.{AreDone, IsDone};
 ghost use Rattle.workers.specs.Rank.{IsCutOf};
@@ -101,14 +100,13 @@ fn serve<G: Gate>(
     cut: &Cut,
     taken: &AtomicU64,
     gate: &G,
-    member: Member,
+    worker: u32,
 ) -> Result<Vec<Done>, AllocError>
     requires cut { IsCutOf job.now cut.now.parts cut.now.size cut.now.classes.items }
-    requires serves { ServesRegions member.simulation job.now }
     ensures { IfOk result (λ all. AreDone job.now cut.now.size cut.now.classes.items
-        member.number (G.passing gate.now) (G.stops gate.now) all.items) }
+        worker (G.passing gate.now) (G.stops gate.now) all.items) }
 {
-    let mut member = member;
+    let mut member = Member::new(alloc, job, worker)?;
     let mut all = Vec::new(alloc);
     for _turn in 0..cut.parts {
         let part = taken.fetch_add(1, Ordering::SeqCst);
@@ -143,20 +141,18 @@ impl<G: Gate> Promise<Result<Vec<Done>, AllocError>> for Taker<G> {
         (G.passing p.gate.value) (G.stops p.gate.value) all.items) };
 }
 
-/// Lets each worker of a crew take parts in a thread of its own.
+/// Lets each of so many workers take parts in a thread of its own.
 pub(crate) fn take_parts<G: Gate + Sync, R: Threads + Wait>(
     rt: &R,
     alloc: Global,
     job: &Job,
     cut: &Cut,
     gate: &G,
-    crew: Vec<Member>,
+    workers: u32,
 ) -> Result<Vec<Result<Vec<Done>, AllocError>>, RunFault>
-    requires cut { IsCutOf job.now cut.now.parts cut.now.size cut.now.classes.items }
-    requires serves { All (λ m. ServesRegions m.simulation job.now) crew.items }
-    requires few { All (λ m. m.number < vec_len crew) crew.items }
+    requires { IsCutOf job.now cut.now.parts cut.now.size cut.now.classes.items }
     ensures done { IfOk result (λ back. All (λ one. IfOk one (λ all. (worker : ℕ)
-        × (worker < vec_len crew)
+        × (worker < workers)
         × AreDone job.now cut.now.size cut.now.classes.items worker
         (G.passing gate.now) (G.stops gate.now) all.items)) back.items) }
     ensures refused { IfErr result (λ fault.
@@ -168,35 +164,32 @@ pub(crate) fn take_parts<G: Gate + Sync, R: Threads + Wait>(
         thread::scope_env(),
         rt,
         |scope| -> Result<Vec<Result<Vec<Done>, AllocError>>, RunFault>
-            requires cut { IsCutOf job.now cut.now.parts cut.now.size cut.now.classes.items }
-            requires serves { All (λ m. ServesRegions m.simulation job.now) crew.items }
-            requires few { All (λ m. m.number < vec_len crew) crew.items }
+            requires { IsCutOf job.now cut.now.parts cut.now.size cut.now.classes.items }
             ensures done { IfOk result (λ back. All (λ one. IfOk one (λ all. (worker : ℕ)
-                × (worker < vec_len crew)
+                × (worker < workers)
                 × AreDone job.entry.now cut.entry.now.size cut.entry.now.classes.items
                 worker (G.passing gate.entry.now) (G.stops gate.entry.now) all.items))
                 back.items) }
             ensures refused { IfErr result (λ fault.
                 (fault ≡ RunFault.Memory) ⊎ (fault ≡ RunFault.Threads)) }
         {
-            let count = crew.len();
-            let mut handles = Vec::with_capacity(alloc, count)?;
-            for member in crew {
+            let mut handles = Vec::with_capacity(alloc, workers as usize)?;
+            for worker in 0..workers {
                 let kept = Taker {
                     job: Snapshot::of(job),
                     cut: Snapshot::of(cut),
                     gate: Snapshot::of(gate),
-                    worker: member.number,
+                    worker,
                 };
                 let Ok(handle) = scope.spawn_with(
                     kept,
-                    move || serve(alloc, job, cut, taken, gate, member),
+                    move || serve(alloc, job, cut, taken, gate, worker),
                 ) else {
                     break;
                 };
                 handles.push(handle)?;
             }
-            let refused = handles.len() < count;
+            let refused = handles.len() < workers as usize;
             let back = thread::join_promised(rt, handles)?;
             if refused {
                 return Err(RunFault::Threads);
@@ -204,20 +197,6 @@ pub(crate) fn take_parts<G: Gate + Sync, R: Threads + Wait>(
             Ok(back)
         },
     )
-}
-
-/// The workers of a run, by number.
-pub(crate) fn crew_of(alloc: Global, job: &Job, workers: u32) -> Result<Vec<Member>, AllocError>
-    ensures count { IfOk result (λ crew. vec_len crew ≡ workers) }
-    ensures few { IfOk result (λ crew. All (λ m. m.number < workers) crew.items) }
-    ensures serves { IfOk result (λ crew. All (λ m. ServesRegions m.simulation job.now)
-        crew.items) }
-{
-    let mut crew = Vec::with_capacity(alloc, workers as usize)?;
-    for number in 0..workers {
-        crew.push(Member::new(alloc, job, number)?)?;
-    }
-    Ok(crew)
 }
 
 /// A place for each part, which is empty.

@@ -14,8 +14,7 @@ loop-place-init g c =
       order = began.0;
       count = omega arith;
       left = omega (arith, began.1, c.requires.count);
-      number = c.in_ok-member.ensures.number;
-      serves = c.in_ok-member.ensures.serves;
+      spare = tt;
       gathered = gathered_none c.args.job.now c.args.cut.now.size
           c.args.cut.now.classes.items c.args.workers
           (g.G.Gate.passing c.args.gate.now) (g.G.Gate.stops c.args.gate.now)
@@ -37,10 +36,10 @@ loop-place-preserved g c =
     subst (λ n. slice_get c.args.table.items n ≡ Some c.in-Some.place) was.count
     (subst (λ l. slice_get l (length c.loop-place.yielded) ≡ Some c.in-Some.place) order
     (between_others c.loop-place.yielded rest c.in-Some.place)) in
-    let here = found_there job size classes c.args.workers c.loop-place.member.number
+    let here = found_there job size classes c.args.workers 0
     (g.G.Gate.passing c.args.gate.now) (g.G.Gate.stops c.args.gate.now) c.args.table.items
     c.loop-place.part c.in-Some.place c.in_ok-done.done
-    c.requires.found at (omega (arith, was.number, c.requires.workers.0))
+    c.requires.found at c.requires.workers.0
     c.in_ok-done.ensures.done in
     let more = gathered_more job size classes c.args.workers here.1
     (g.G.Gate.passing c.args.gate.now) (g.G.Gate.stops c.args.gate.now) c.loop-place.part
@@ -50,8 +49,7 @@ loop-place-preserved g c =
       order = append_assoc c.loop-place.yielded (c.in-Some.place ∷ []) rest ∙ order;
       count = omega (arith, length-append c.loop-place.yielded (c.in-Some.place ∷ []), was.count);
       left = omega (arith, was.left, step.1);
-      number = c.in_ok-done.ensures.member ∙ was.number;
-      serves = c.in_ok-done.ensures.serves;
+      spare = c.in_ok-done.ensures.spare;
       gathered = subst (λ l. IsGathered job size classes c.args.workers
           (g.G.Gate.passing c.args.gate.now) (g.G.Gate.stops c.args.gate.now)
           (c.loop-place.part + 1) l c.lower_of-lowest.result)
@@ -73,8 +71,8 @@ returns-in-Some-lowest-clause-refused g c =
     let waits = gathered_waits c.args.job.now c.args.cut.now.parts c.args.cut.now.size
     c.args.cut.now.classes.items c.args.workers (g.G.Gate.passing c.args.gate.now)
     (g.G.Gate.stops c.args.gate.now) c.loop-place.part c.loop-place.firsts.items
-    c.loop-place.lowest c.in-Some-lowest.field-0.class c.in-Some-lowest.field-0.block c.requires.cut full
-    c.in-Some-lowest.is c.loop-place.invariant.gathered in
+    c.loop-place.lowest c.in-Some-lowest.field-0.class c.in-Some-lowest.field-0.block
+    c.requires.cut full c.in-Some-lowest.is c.loop-place.invariant.gathered in
     (c.requires.workers.0, c.requires.workers.1, waits.0, waits.1, waits.2, waits.3)
 
 pub returns-clause-gathered : goal.returns-clause-gathered

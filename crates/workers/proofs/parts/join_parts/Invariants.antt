@@ -1,6 +1,6 @@
-use Rattle.std.proofs.Common.{◌≡◌, ◌+◌, ◌++◌, length}
+use Rattle.std.proofs.Common.{◌≡◌, ◌+◌, ◌++◌, IfSome, length}
 use Rattle.std.specs.Vec.Iter.{into_iter_items, into_iter_len}
-use Rattle.block_sim.specs.RegionHits.{ServesRegions}
+use Rattle.workers.specs.Alone.{IsFirstMember}
 use Rattle.workers.proofs.RunsOfParts.{IsGathered}
 use Rattle.workers.proofs.parts.join_parts.Given as goal
 
@@ -9,8 +9,7 @@ invariant-loop-place g l = record {
   order : l.yielded ++ into_iter_items l.place-iterator ≡ l.fn.table.items;
   count : length l.yielded ≡ l.part;
   left : l.part + into_iter_len l.place-iterator ≡ l.cut.parts;
-  number : l.member.number ≡ 0;
-  serves : ServesRegions l.member.simulation l.job;
+  spare : IfSome l.spare (IsFirstMember l.job);
   gathered : IsGathered l.job l.cut.size l.cut.classes.items l.fn.workers
       (g.G.Gate.passing l.gate) (g.G.Gate.stops l.gate) l.part l.firsts.items l.lowest;
 }

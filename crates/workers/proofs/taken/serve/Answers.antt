@@ -8,14 +8,14 @@ use Rattle.workers.proofs.taken.serve.Goals.{In_ok-push}
 
 -- what a turn put in has been done by the worker, and so all that is there
 all_done : (g : given.Over) (c : In_ok-push g) → All (λ (done : Done). IsDone c.args.job.now
-    c.args.cut.now.size c.args.cut.now.classes.items c.args.member.number
+    c.args.cut.now.size c.args.cut.now.classes.items c.args.worker
     (g.G.Gate.passing c.args.gate.now) (g.G.Gate.stops c.args.gate.now) done)
     c.push.new.self.items
 all_done g c =
     let By = λ (worker : ℕ) (done : Done). IsDone c.args.job.now c.args.cut.now.size
     c.args.cut.now.classes.items worker (g.G.Gate.passing c.args.gate.now)
     (g.G.Gate.stops c.args.gate.now) done in
-    let P = By c.args.member.number in
+    let P = By c.args.worker in
     let own = subst (λ w. By w c.in_ok-done.done) c.loop-turn.invariant.number
     c.in_ok-done.ensures.done in
     All-same P c.push.new.self.items _ c.in_ok-push.ensures.items
