@@ -110,9 +110,9 @@ impl Counts {
     }
 
     /// In how many parts at least a run of so many blocks goes.
-    pub(crate) fn parts_of(&self, blocks: u32) -> u64 {
-        let pieces = u64::from(self.classes).saturating_mul(u64::from(blocks));
-        pieces.div_ceil(u64::from(MAX_PIECES)).max(1)
+    pub(crate) fn parts_of(&self, blocks: u32) -> u32 {
+        let classes_of_part = MAX_PIECES / blocks.max(1);
+        self.classes.div_ceil(classes_of_part.max(1)).max(1)
     }
 
     /// Some bytes that a run of so many tests takes, by the figures of the README.
@@ -236,7 +236,7 @@ pub struct Excess {
     /// Classes times blocks.
     pub pieces: u64,
     /// In how many parts at least a run of them goes.
-    pub parts: u64,
+    pub parts: u32,
 }
 
 /// What is too much for one run, where tests are too many.
