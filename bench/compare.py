@@ -12,10 +12,13 @@ ours and the baseline by events had. Times depend on the machine, so their ratio
 
 Without an option it runs the short cases, and with --hard the long ones. With --workers it runs the
 cases for several workers, each with 1, 2 and 4 against the baseline with as many, and prints how much
-faster each program is than its own run with 1 worker: as a whole, and without the time of a run with
-the first test alone, which is reading and setting up. It also prints how much processor time each
-takes beside its run with 1 worker, which says what sharing the work costs even where the processors
-are busy with something else.
+faster each program is than its own run with 1 worker: as a whole, and in the simulation alone. Of the
+program that is the time from the start of its first thread to the end of its last (threads.c), of the
+baseline what it tells of it (--time). It also prints how much processor time each takes beside its
+run with 1 worker, which says what sharing the work costs even where the processors are busy with
+something else. And it runs as many programs of one worker at once, which share nothing but the
+machine: how much faster these are, together, is the most that a run with so many workers can be
+expected to be.
 
 With --counts it prints how many gates the baseline evaluates by events and by regions, and what part of
 the first number the second is. These depend on no machine, and the program isn't built for them.
@@ -24,6 +27,7 @@ out/ already.
 """
 
 import argparse
+import os
 import pathlib
 import re
 import resource
@@ -174,39 +178,80 @@ def compare(folder, baseline, case, options, whole_blocks):
     print(f"{case.name}, {case.title}: {', '.join(ratios)}; {memory(ours):.0f} MB beside {memory(events):.0f}", flush=True)
 
 
+def timed_threads(library, commands):
+    """Starts all at once. The seconds until the last ends, the longest simulation, and the first's outcome."""
+    told = [library.with_name(f"told{number}") for number in range(len(commands))]
+    begin = time.perf_counter()
+    started = [
+        subprocess.Popen(command, stdout=subprocess.PIPE if number == 0 else subprocess.DEVNULL,
+                         stderr=subprocess.PIPE if number == 0 else subprocess.DEVNULL,
+                         env={**os.environ, "LD_PRELOAD": str(library), "THREADS_TOLD": str(told[number])})
+        for number, command in enumerate(commands)
+    ]
+    out, err = started[0].communicate()
+    for process in started[1:]:
+        process.wait()
+    took = time.perf_counter() - begin
+    return took, max(float(file.read_text()) for file in told), (started[0].returncode, out, err)
+
+
+def timed_phase(command):
+    """A run of the baseline: its seconds, those of its simulation, and its outcome."""
+    took, (status, out, err) = timed([*command, "--time"])
+    return took, float(re.search(rb"simulate +([0-9.]+) ms", err)[1]) / 1000, (status, out, b"")
+
+
+class Series(NamedTuple):
+    """The least of each over all rounds, by program and number of workers."""
+    whole: dict
+    phase: dict
+    spent: dict
+
+    def add(self, key, whole, phase, spent):
+        for table, value in ((self.whole, whole), (self.phase, phase), (self.spent, spent)):
+            table[key] = min(value, table.get(key, value))
+
+
 def compare_workers(folder, baseline, case, options):
     words = words_of(folder, case, options.model)
-    first = folder / "first"
-    first.write_text((folder / "tests").read_text().split("\n")[0] + "\n")
-    set_up = [str(first) if word == str(folder / "tests") else word for word in words]
-    programs = {"ours": [str(PROGRAM)], "by events": [str(baseline)], "by regions": [str(baseline)]}
-    more = {"ours": [], "by events": [], "by regions": REGIONS}
-    least, spent = {}, {}
+    library = folder / "threads.so"
+    run(["gcc", "-O1", "-shared", "-fPIC", str(HERE / "threads.c"), "-o", str(library)])
+    ways = {"ours": [str(PROGRAM), *words], "by events": [str(baseline), *words]}
+    ways["by regions"] = [*ways["by events"], *REGIONS]
+    series = Series({}, {}, {})
     for _ in range(options.rounds):
-        # 0 stands for one worker and the first test alone
-        for workers in (0, *WORKERS):
+        for workers in WORKERS:
             outs = []
-            for way, program in programs.items():
+            for way, command in ways.items():
                 before = processor_time()
-                command = [*program, *(words if workers else set_up), "--workers", str(max(workers, 1)), *more[way]]
-                took, out = timed(command)
-                used = processor_time() - before
-                least[way, workers] = min(took, least.get((way, workers), took))
-                spent[way, workers] = min(used, spent.get((way, workers), used))
+                command = [*command, "--workers", str(workers)]
+                took, phase, out = timed_threads(library, [command]) if way == "ours" else timed_phase(command)
+                series.add((way, workers), took, phase, processor_time() - before)
                 outs.append(out)
             if outs.count(outs[0]) != len(outs):
                 sys.exit(f"{case.title}: the reports differ")
+            took, phase, _ = timed_threads(library, [[*ways["ours"], "--workers", "1"]] * workers)
+            series.add(("at once", workers), took, phase, 0)
     print(f"{case.name}, {case.title}")
     for workers in WORKERS:
-        ratios = [f"{least['ours', workers] / least[way, workers]:.2f} {way}" for way in ("by events", "by regions")]
-        line = f"  {workers} workers: {', '.join(ratios)}"
-        for way in programs:
-            one, many, start = (least[way, number] for number in (1, workers, 0))
-            line += f"; {way} {one / many:.2f} times as fast as with 1"
-            if many - start > 0.05:
-                line += f", {(one - start) / (many - start):.2f} without setting up"
-            line += f", for {spent[way, workers] / max(spent[way, 1], 1e-3):.2f} of its processor time"
-        print(line, flush=True)
+        print(line_of(series, ways, workers), flush=True)
+
+
+def line_of(series, ways, workers):
+    """What the runs with so many workers took, beside each other and beside those with one."""
+    whole, phase, spent = series
+    ratios = [f"{whole['ours', workers] / whole[way, workers]:.2f} {way}" for way in ways if way != "ours"]
+    line = f"  {workers} workers: {', '.join(ratios)}"
+    for way in ways:
+        line += f"; {way} {whole[way, 1] / whole[way, workers]:.2f} times as fast as with 1"
+        # shorter ones sway too much
+        if phase[way, 1] > 0.02:
+            line += f", the simulation {phase[way, 1] / phase[way, workers]:.2f}"
+        line += f", for {spent[way, workers] / max(spent[way, 1], 1e-3):.2f} of its processor time"
+    if phase["ours", 1] > 0.02:
+        at_once = workers * phase["ours", 1] / phase["at once", workers]
+        line += f"; {workers} simulations at once of one worker each {at_once:.2f}"
+    return line
 
 
 def count(folder, baseline, case, options):
