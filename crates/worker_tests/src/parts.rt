@@ -190,12 +190,12 @@ fn refusal<R: Threads + Wait>(rt: &R, alloc: Global, job: &Job, workers: u32) ->
     run_in_parts(rt, alloc, job, 3, workers, &Shut).err()
 }
 
-/// Whether runs in parts are refused as they are to be. The regions of part 1 of 3 have the stems
-/// G16 and G23, those of part 0 have G11 and G22. G16 and G11 are visited first, as they stand before
-/// the gates that read them.
+/// Whether runs in parts are refused as they are to be. With all gates shut no class is settled, so
+/// each part of three names its lowest: classes 0, 1 and 2 have the stems 9, 7 and 2.
 fn is_refused<R: Threads + Wait>(rt: &R, alloc: Global, job: &Job) -> bool {
-    names(rt, alloc, job, 1, 1)
-        && names(rt, alloc, job, 0, 5)
+    names(rt, alloc, job, 0, 0)
+        && names(rt, alloc, job, 1, 1)
+        && names(rt, alloc, job, 2, 2)
         && refusal(rt, alloc, job, 1) == Some(RunFault::Unfinished { class: 0, block: 0 })
         && run_in_parts(rt, alloc, job, 3, 0, &OpenGate).err() == Some(RunFault::NoWorkers)
 }

@@ -32,11 +32,6 @@ use Rattle.workers.specs.Part.{AreClassVerdicts, ArePartOf, ArePartVerdicts, IsC
 use Rattle.workers.specs.Part.{AreAllByRegion, AreByRegion, IsInOnePart, IsOfPart, IsPartVerdict}
 use Rattle.workers.specs.Part.{first_in, stretch, stretch_size}
 use Rattle.workers.specs.Rank.{AreRanked, IsCutOf, IsRanked, RanksBefore}
-use Rattle.workers.specs.declared.RunFault.{RunFault}
-use Rattle.workers.specs.declared.RunFault.TheVariants as run_fault
-use Rattle.workers.specs.Chosen.{chosen_of}
-use Rattle.workers.specs.Refused.{IsPartFault, IsRunFaultOver}
-use Rattle.workers.specs.Work.{Stops}
 use Rattle.workers.specs.Settling.{shape_for}
 use Rattle.workers.specs.Verdict.{AreBehindHits, AreClassFirsts, AreFirsts, behind, pieces_behind}
 use Rattle.workers.proofs.TrueOutcomes.{class_count, class_in}
@@ -373,19 +368,18 @@ firsts_all job parts size classes firsts cut found =
   where
     long : length classes ≤ parts * size
     long =
-        let n = length job.classes.representative in
-        let high = (div_ceil_times n parts cut.some).0 in
-        let same : parts * size ≡ stretch_size n parts * parts =
+        let high = (div_ceil_times (length classes) parts cut.some).0 in
+        let same : parts * size ≡ stretch_size (length classes) parts * parts =
         mul_comm parts size ∙ ap (λ k. k * parts) cut.size_is in
-        omega (arith, cut.all.few, high, same)
+        omega (arith, high, same)
 
--- a stretch of all classes has classes of the job
-pub stretch_within : (job : Parts) (size part : ℕ) (classes : List ℕ) → AreAllByRegion job classes
+-- a stretch of classes of the job has such classes
+pub stretch_within : (job : Parts) (size part : ℕ) (classes : List ℕ)
+    → All (λ class. class < length job.classes.representative) classes
     → All (λ class. class < length job.classes.representative) (stretch size classes part)
 stretch_within job size part classes are =
     All-take (λ class. class < length job.classes.representative) size (drop (part * size) classes)
-    (All-drop (λ class. class < length job.classes.representative) (part * size) classes
-    (all_within job classes are))
+    (All-drop (λ class. class < length job.classes.representative) (part * size) classes are)
 
 -- the first test in the verdict on a class is that of its faults
 pub class_first : (job : Parts) (classes : List ℕ)
@@ -475,23 +469,6 @@ behind_room n (x ∷ xs) (suc i) lt =
     + pieces_behind n (map first_in (take i xs)) = sum_by-cons (behind n) (first_in x)
     (map first_in (take i xs)) in
     omega (arith, suc-mul (length xs) n, rest, one, behind_le n (first_in x))
-
--- the fault of a run over the classes of a part is one of the part
-pub own_fault : (job : Parts) (parts part workers : ℕ) (P : Type 0) (S : Stops) (f : RunFault)
-    (classes : List ℕ) → ArePartOf job parts part classes
-    → IsRunFaultOver job (chosen_of classes) workers P S f
-    → IsPartFault job parts part workers P S f
-own_fault job parts part workers P S run_fault.NoWorkers classes are r = r
-own_fault job parts part workers P S run_fault.TooManyWorkers classes are r = r
-own_fault job parts part workers P S (run_fault.NoSuchMove index) classes are r = r
-own_fault job parts part workers P S run_fault.TooManyPieces classes are r = (classes, are, r)
-own_fault job parts part workers P S run_fault.Memory classes are r = r
-own_fault job parts part workers P S run_fault.Threads classes are r = r
-own_fault job parts part workers P S (run_fault.Unfinished class block) classes are r = (
-  classes,
-  are,
-  r,
-)
 
 -- a product of two numbers of 32 bits has 64
 pub small_product : (a b : ℕ) → a < 2 ^ 32 → b < 2 ^ 32 → a * b < 2 ^ 64

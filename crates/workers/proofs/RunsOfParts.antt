@@ -1,7 +1,7 @@
 -- The runs of parts, one part after another.
 use Rattle.std.proofs.Common.{◌≡◌, ◌<◌, ◌+◌, ◌*◌, ◌⊎◌, inl, inr, true, false, ℕ, List, [], ◌∷◌}
-use Rattle.std.proofs.Common.{◌++◌, length, Option, Some, None, refl, sym, ap, ◌∙◌, subst, arith}
-use Rattle.std.proofs.Common.{length-append}
+use Rattle.std.proofs.Common.{◌++◌, length, All, Option, Some, None, refl, sym, ap, ◌∙◌, subst}
+use Rattle.std.proofs.Common.{arith, length-append}
 use Rattle.std.specs.Prelude.{slice_get, nat_lt, if◌then◌else◌}
 use Rattle.std.proofs.Math.Nat.{zero-mul}
 use Rattle.std.proofs.lemmas.Option.{get_or_from_slice_get, slice_get_within}
@@ -14,8 +14,8 @@ use Rattle.workers.specs.declared.alone.Stop.{Stop}
 use Rattle.workers.specs.declared.alone.Waiting.{Waiting}
 use Rattle.workers.specs.declared.taken.Done.{Done}
 use Rattle.workers.specs.Alone.{AreFoundByPart, AreFoundUpTo, AreRunsOf, HasEnded, IsDone, IsLowest}
-use Rattle.workers.specs.Alone.{IsOpenIn, IsStopAt, PartRun, PartsWaitFor, WaitsIn, lower_of}
-use Rattle.workers.specs.Part.{AreAllByRegion, stretch}
+use Rattle.workers.specs.Alone.{IsOpenIn, IsStopAt, PartRun, StretchesWaitFor, WaitsIn, lower_of}
+use Rattle.workers.specs.Part.{stretch}
 use Rattle.workers.specs.Rank.{IsCutOf}
 use Rattle.workers.specs.Verdict.{AreClassFirsts}
 use Rattle.workers.specs.Work.{Stops}
@@ -171,7 +171,8 @@ pub gathered_more : (job : Parts) (size : ℕ) (classes : List ℕ) (workers wor
 gathered_more job size classes workers worker P S part firsts lowest done b low is d was = record {
   runs = was.runs ++ run ∷ [];
   are = runs_more job size classes workers part S was.runs run was.are
-      (ap (stretch size classes) is) low (stopped_there job own worker S d.stop done.firsts.items d.ended);
+      (ap (stretch size classes) is) low
+      (stopped_there job own worker S d.stop done.firsts.items d.ended);
   is_lowest = waits_more job was.runs run lowest done.waiting was.is_lowest d.lowest;
   passed = λ p.
       let all = subst (λ s. IsLowest (IsOpenIn job own s) done.waiting) (d.passed p) d.lowest in
@@ -220,9 +221,10 @@ gathered_all job parts size classes workers P S part firsts lowest cut full none
     firsts_all job parts size classes firsts cut
     (subst (λ n. FirstsUpTo job classes (n * size) firsts) full (was.found none))
 
--- a class that waits in a stretch of all classes is one of the job's, and so is its block
+-- a class that waits in a stretch of classes of the job is one of the job's, and so is its block
 open_within : (job : Parts) (size part : ℕ) (classes own : List ℕ) (stop : Option Stop)
-    (class block : ℕ) → AreAllByRegion job classes → own ≡ stretch size classes part
+    (class block : ℕ) → All (λ class. class < length job.classes.representative) classes
+    → own ≡ stretch size classes part
     → IsOpenIn job own stop class block
     → (class < length job.classes.representative) × (block < blocks (length job.tests.tests))
 open_within job size part classes own None class block all is x = absurd x
@@ -243,22 +245,19 @@ pub gathered_waits : (job : Parts) (parts size : ℕ) (classes : List ℕ) (work
     → part ≡ parts → lowest ≡ Some (record { class = class; block = block })
     → IsGathered job size classes workers P S part firsts lowest
     → (class < length job.classes.representative) × (block < blocks (length job.tests.tests))
-    × (P → ⊥) × PartsWaitFor job parts workers S class block
+    × (P → ⊥) × StretchesWaitFor job size classes parts workers S class block
 gathered_waits job parts size classes workers P S part firsts lowest class block cut full is was =
     let low = subst (IsLowest (WaitsIn job was.runs)) is was.is_lowest in
     let x = low.0 in
-    let within = open_within job size x.0 classes x.1.classes x.1.stop class block cut.all
+    let within = open_within job size x.0 classes x.1.classes x.1.stop class block cut.within
     (was.are.each x.0 x.1 x.2).0 x.3 in (
       within.0,
       within.1,
       λ p. let e = was.passed p in let bad : Some (record { class = class; block = block }) ≡ None =
           sym is ∙ e in absurd (cc),
       record {
-        classes = classes;
-        all = cut.all;
         runs = was.runs;
-        are = subst (λ n. AreRunsOf job n classes workers S parts was.runs) cut.size_is
-            (subst (λ n. AreRunsOf job size classes workers S n was.runs) full was.are);
+        are = subst (λ n. AreRunsOf job size classes workers S n was.runs) full was.are;
         lowest = low;
       },
     )

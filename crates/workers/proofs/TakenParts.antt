@@ -6,7 +6,7 @@ use Rattle.std.proofs.lemmas.List.Elements.{All-weaker}
 use Rattle.std.proofs.lemmas.Option.{get_or_from_slice_get, slice_get_within}
 use Rattle.block_sim.specs.Parts.{Parts}
 use Rattle.workers.specs.declared.alone.Stop.{Stop}
-use Rattle.workers.specs.declared.ranks.Cut.{Cut}
+use Rattle.workers.specs.declared.stretches.Cut.{Cut}
 use Rattle.workers.specs.declared.taken.Done.{Done}
 use Rattle.workers.specs.Alone.{AreDone, AreFoundUpTo, HasEnded, IsDone}
 use Rattle.workers.specs.Part.{stretch}

@@ -11,7 +11,7 @@ use Rattle.workers.specs.declared.alone.Stop.{Stop}
 use Rattle.workers.specs.declared.alone.Waiting.{Waiting}
 use Rattle.workers.specs.Schedule.{IsTableOf}
 use Rattle.workers.specs.Work.{Stops}
-use Rattle.workers.specs.Part.{AreAllByRegion, stretch, stretch_size}
+use Rattle.workers.specs.Part.{AreAllByRegion, ArePartOf, stretch, stretch_size}
 use Rattle.workers.specs.declared.taken.Done.{Done}
 use Rattle.workers.specs.declared.taken.Member.{Member}
 
@@ -144,13 +144,23 @@ abbrev pub WaitsIn : Parts → List PartRun → ℕ → ℕ → Type 0
 WaitsIn job runs class block = (part : ℕ) × (run : PartRun) × (slice_get runs part ≡ Some run)
     × IsOpenIn job run.classes run.stop class block
 
--- A run of all classes in parts that its gate stopped waits for this class and block: of all
--- classes of all parts that aren't settled the class is the lowest.
-pub record PartsWaitFor (job : Parts) (parts workers : ℕ) (stops : Stops)
-    (class block : ℕ) : Type 0 where
-  pub classes : List ℕ
-  pub all : AreAllByRegion job classes
+-- A run of classes in so many stretches of this size that its gate stopped waits for this class and
+-- block: of all classes of all stretches that aren't settled the class is the lowest.
+pub record StretchesWaitFor (job : Parts) (size : ℕ) (classes : List ℕ) (parts workers : ℕ)
+    (stops : Stops) (class block : ℕ) : Type 0 where
   pub runs : List PartRun
-  pub are : AreRunsOf job (stretch_size (length job.classes.representative) parts) classes workers
-      stops parts runs
+  pub are : AreRunsOf job size classes workers stops parts runs
   pub lowest : IsLowest (WaitsIn job runs) (Some (record { class = class; block = block }))
+
+-- the same of all classes
+abbrev pub PartsWaitFor : Parts → ℕ → ℕ → Stops → ℕ → ℕ → Type 0
+PartsWaitFor job parts workers stops class block = (classes : List ℕ) × AreAllByRegion job classes
+    × StretchesWaitFor job (stretch_size (length classes) parts) classes parts workers stops class
+    block
+
+-- the same of the classes of a part, of so many parts, which are run in some stretches
+abbrev pub PartWaitsFor : Parts → ℕ → ℕ → ℕ → Stops → ℕ → ℕ → Type 0
+PartWaitsFor job parts part workers stops class block =
+    (classes : List ℕ) × ArePartOf job parts part classes × (stretches : ℕ)
+    × StretchesWaitFor job (stretch_size (length classes) stretches) classes stretches workers stops
+    class block

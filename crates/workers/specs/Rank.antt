@@ -1,10 +1,10 @@
 -- The classes of a job, region by region.
-use Rattle.std.specs.Prelude.{◌≡◌, ◌⊎◌, ◌<◌, ℕ, List, length, slice_get, Some}
+use Rattle.std.specs.Prelude.{◌≡◌, ◌⊎◌, ◌<◌, ◌≤◌, ℕ, List, All, length, slice_get, Some}
 use Rattle.std.specs.Prelude.{slice_index_or}
 use Rattle.block_sim.specs.Parts.{Parts}
 use Rattle.block_sim.specs.Regions.{IsStemOfClass}
 use Rattle.workers.specs.declared.ranks.Ranked.{Ranked}
-use Rattle.workers.specs.Part.{AreAllByRegion, stretch_size}
+use Rattle.workers.specs.Part.{stretch_size}
 
 -- a class of the job, with the stem of its region and the visit to that
 pub record IsRanked (job : Parts) (visits : List ℕ) (at : Ranked) : Type 0 where
@@ -34,8 +34,9 @@ pub record AreRanked (job : Parts) (ranked : List Ranked) : Type 0 where
   pub ordered : (i k : ℕ) (a b : Ranked) → i < k → slice_get ranked i ≡ Some a
       → slice_get ranked k ≡ Some b → RanksBefore a b
 
--- all classes, region by region, to be cut into so many stretches of this size
+-- classes of the job, to be cut into so many stretches of this size
 pub record IsCutOf (job : Parts) (parts size : ℕ) (classes : List ℕ) : Type 0 where
   pub some : 0 < parts
-  pub size_is : size ≡ stretch_size (length job.classes.representative) parts
-  pub all : AreAllByRegion job classes
+  pub size_is : size ≡ stretch_size (length classes) parts
+  pub few : length classes ≤ length job.classes.representative
+  pub within : All (λ class. class < length job.classes.representative) classes

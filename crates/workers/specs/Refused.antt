@@ -6,8 +6,8 @@ use Rattle.workers.specs.declared.RunFault.{RunFault}
 use Rattle.workers.specs.declared.RunFault.TheVariants.{NoWorkers, TooManyWorkers, NoSuchMove}
 use Rattle.workers.specs.declared.RunFault.TheVariants.{TooManyPieces, Memory, Threads}
 use Rattle.workers.specs.declared.RunFault.TheVariants.{Unfinished}
-use Rattle.workers.specs.Alone.{PartsWaitFor}
-use Rattle.workers.specs.Chosen.{Chosen, every, chosen_of}
+use Rattle.workers.specs.Alone.{PartsWaitFor, PartWaitsFor, StretchesWaitFor}
+use Rattle.workers.specs.Chosen.{Chosen, every}
 use Rattle.workers.specs.Part.{ArePartOf, stretch_size}
 use Rattle.workers.specs.Work.{Stops, WaitsFor}
 
@@ -21,6 +21,11 @@ IsWorkersFault workers _ = ⊥
 abbrev pub IsPartWithin : Parts → ℕ → ℕ → Type 0
 IsPartWithin job parts part = (classes : List ℕ) × ArePartOf job parts part classes
     × (length classes * blocks (length job.tests.tests) ≤ max_pieces)
+
+-- it is past the limit
+abbrev pub IsLargePart : Parts → ℕ → ℕ → Type 0
+IsLargePart job parts part = (classes : List ℕ) × ArePartOf job parts part classes
+    × (max_pieces < length classes * blocks (length job.tests.tests))
 
 -- so many pieces has the largest stretch of all classes, which are cut into so many
 abbrev pub pieces_of_stretch : Parts → ℕ → ℕ
@@ -63,20 +68,34 @@ IsRunFaultOver job chosen workers passing stops (Unfinished class block) =
     × (¬ passing) × WaitsFor job chosen workers stops class block
 IsRunFaultOver job chosen workers passing stops fault = IsWorkersFault workers fault
 
--- the same where the classes are those of a part, of so many parts
+-- the same where classes are run in so many stretches of this size, each by one worker alone: the
+-- class is the lowest of all that aren't settled
+abbrev pub IsStretchesFault : Parts → ℕ → List ℕ → ℕ → ℕ → Type 0 → Stops → RunFault → Type 0
+IsStretchesFault job size classes parts workers passing stops Memory =
+    (0 < workers) × (workers ≤ 64)
+IsStretchesFault job size classes parts workers passing stops Threads =
+    (0 < workers) × (workers ≤ 64)
+IsStretchesFault job size classes parts workers passing stops (Unfinished class block) =
+    (0 < workers) × (workers ≤ 64)
+    × (class < length job.classes.representative) × (block < blocks (length job.tests.tests))
+    × (¬ passing) × StretchesWaitFor job size classes parts workers stops class block
+IsStretchesFault job size classes parts workers passing stops fault = ⊥
+
+-- the same where the classes are those of a part, of so many parts: it is the part that has too
+-- many pieces
 abbrev pub IsPartFault : Parts → ℕ → ℕ → ℕ → Type 0 → Stops → RunFault → Type 0
 IsPartFault job parts part workers passing stops Memory = (0 < workers) × (workers ≤ 64)
 IsPartFault job parts part workers passing stops Threads = (0 < workers) × (workers ≤ 64)
 IsPartFault job parts part workers passing stops TooManyPieces =
-    (classes : List ℕ) × ArePartOf job parts part classes
-    × IsRunFaultOver job (chosen_of classes) workers passing stops TooManyPieces
+    (0 < workers) × (workers ≤ 64) × IsLargePart job parts part
 IsPartFault job parts part workers passing stops (Unfinished class block) =
-    (classes : List ℕ) × ArePartOf job parts part classes
-    × IsRunFaultOver job (chosen_of classes) workers passing stops (Unfinished class block)
+    (0 < workers) × (workers ≤ 64)
+    × (class < length job.classes.representative) × (block < blocks (length job.tests.tests))
+    × (¬ passing) × PartWaitsFor job parts part workers stops class block
 IsPartFault job parts part workers passing stops fault = IsWorkersFault workers fault
 
--- the same where all classes are run in so many stretches, each by one worker alone: it is a
--- stretch that has too many pieces, and the class is the lowest of all that aren't settled
+-- the same where the classes are all, in so many stretches: it is a stretch that has too many
+-- pieces
 abbrev pub IsPartsFault : Parts → ℕ → ℕ → Type 0 → Stops → RunFault → Type 0
 IsPartsFault job parts workers passing stops Memory = (0 < workers) × (workers ≤ 64)
 IsPartsFault job parts workers passing stops Threads = (0 < workers) × (workers ≤ 64)

@@ -13,6 +13,7 @@ ghost use Rattle.workers.specs.Settling.{AreSettled};
 ghost use Rattle.workers.specs.Verdict.{AreClassFirsts, settled_at};
 
 use crate::chosen::Listed;
+use crate::stretches::count_in;
 use crate::threads::run_over;
 use crate::worker::Gate;
 use crate::{RunFault, check_pieces, check_workers};
@@ -49,54 +50,14 @@ pub fn run_classes<G: Gate + Sync, R: Threads + Wait>(
     ensures refused { IfErr result (IsRunFaultOver job.now (chosen_of classes.now) workers
         (G.passing gate.now) (G.stops gate.now)) }
 {
-    let found = run_listed(rt, alloc, job, classes, workers, gate)?;
-    let Found { firsts, skipped: _ } = found;
-    Ok(firsts)
-}
-
-/// What a run over a list of classes gives.
-#[derive(Drop)]
-pub(crate) struct Found {
-    /// For each class of the list the first test that detects it, or none.
-    pub(crate) firsts: Vec<Option<u32>>,
-    /// The number of pieces that were dropped.
-    pub(crate) skipped: u32,
-}
-
-/// The run of [`run_classes`].
-pub(crate) fn run_listed<G: Gate + Sync, R: Threads + Wait>(
-    rt: &R,
-    alloc: Global,
-    job: &Job,
-    classes: &[u32],
-    workers: u32,
-    gate: &G,
-) -> Result<Found, RunFault>
-    requires few { length classes.now ≤ length job.now.classes.representative }
-    requires classes { All (λ class. class < length job.now.classes.representative) classes.now }
-    ensures firsts { IfOk result (λ found. AreClassFirsts job.now.list.model job.now.circuit
-        job.now.tests.tests classes.now found.firsts.items) }
-    ensures workers { OnOk result ((0 < workers) × (workers ≤ 64)) }
-    ensures few { OnOk result (length classes.now * blocks (length job.now.tests.tests)
-        ≤ max_pieces) }
-    ensures refused { IfErr result (IsRunFaultOver job.now (chosen_of classes.now) workers
-        (G.passing gate.now) (G.stops gate.now)) }
-{
     check_workers(workers)?;
-    let most = job.classes().count();
-    let holds = classes.len() <= most as usize;
-    prove!(holds);
-    let count = classes.len() as u32;
+    let count = count_in(job, classes);
     check_pieces(job, count)?;
     let firsts = Vec::with_capacity(alloc, classes.len())?;
     let chosen = Listed { classes, count };
     let closed = run_over(rt, alloc, job, &chosen, workers, gate)?;
-    let skipped = closed.skipped();
     let found = class_firsts(&closed, count, firsts)?;
-    Ok(Found {
-        firsts: found,
-        skipped,
-    })
+    Ok(found)
 }
 
 /// For each class of a closed ledger the test at which it is settled, in a list that was empty.

@@ -10,7 +10,8 @@
 //! its caller gives. [`run`] lets each worker work in a thread of its own, and [`work`] is the
 //! work of one.
 //! [`run_in_parts`] cuts the classes into parts, each of which one worker runs alone, without a
-//! ledger, and [`run_open`] does so with as many parts as serve the workers.
+//! ledger, and [`run_open`] does so with as many parts as serve the workers. [`run_part`] does it
+//! with the classes of one part of a run that several machines share.
 #![tactic(auto)]
 
 mod alone;
@@ -23,6 +24,7 @@ mod parts;
 mod ranks;
 mod schedule;
 mod simulator;
+mod stretches;
 mod taken;
 mod threads;
 mod verdicts;
@@ -36,11 +38,12 @@ ghost use Rattle.workers.specs.Refused.{IsWorkersFault};
 use block_sim::Job;
 pub use classes::run_classes;
 pub use fault_ledger::MAX_WORKERS;
-pub use open::{parts_for, run_open};
+pub use open::run_open;
 pub use parts::{PartVerdict, in_one_part, part_of, run_in_parts, run_part};
 use patterns::MAX_PIECES;
 pub use schedule::run_schedule;
 use std::alloc::{AllocError, AllocFailed};
+pub use stretches::parts_for;
 use thiserror::Error;
 pub use threads::run;
 pub use verdicts::Verdicts;

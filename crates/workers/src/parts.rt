@@ -1,21 +1,21 @@
 //! Runs over a part of the classes, and over all parts.
 
-ghost use Rattle.std.specs.Prelude.{◌≡◌, ◌⊎◌, ◌<◌, ◌≤◌, ◌*◌, ◌^◌, ℕ, All, IfErr, IfOk, IfSome};
+ghost use Rattle.std.specs.Prelude.{◌≡◌, ◌⊎◌, ◌<◌, ◌≤◌, ◌^◌, ℕ, All, IfErr, IfOk, IfSome};
 ghost use Rattle.std.specs.Prelude.{OnOk, Some, length, map, slice_index_or, vec_len};
-ghost use Rattle.patterns.specs.Tests.{blocks, max_pieces};
 ghost use Rattle.block_sim.specs.Parts.{BelongTogether, Parts};
 ghost use Rattle.workers.specs.Alone.{AreFoundByPart, AreGivenBack, ArePut, IsDone};
 ghost use Rattle.workers.specs.Alone.{IsFirstMember};
-ghost use Rattle.workers.specs.Part.{AreClassVerdicts, ArePartOf, ArePartVerdicts, IsInOnePart};
+ghost use Rattle.workers.specs.Part.{AreClassVerdicts, ArePartVerdicts, IsInOnePart};
 ghost use Rattle.workers.specs.Part.{IsOfPart, first_in};
 ghost use Rattle.workers.specs.Rank.{IsCutOf};
 ghost use Rattle.workers.specs.Refused.{ArePartsWithin, IsPartFault, IsPartsFault, IsPartWithin};
+ghost use Rattle.workers.specs.Refused.{IsStretchesFault};
 ghost use Rattle.workers.specs.Verdict.{AreBehindHits, AreClassFirsts, AreFirsts};
 ghost use Rattle.workers.specs.Verdict.{behind, pieces_behind};
 
 use crate::alone::{Waiting, lower_of};
-use crate::classes::{Found, run_listed};
-use crate::ranks::{Cut, part_classes};
+use crate::ranks::{all_classes, part_classes};
+use crate::stretches::{Cut, count_in, stretches_for};
 use crate::taken::{Done, Member, empty_table, run_alone, take_parts};
 use crate::worker::Gate;
 use crate::{RunFault, Verdicts, check_pieces, check_workers};
@@ -128,12 +128,13 @@ fn first_in(verdict: PartVerdict) -> Option<u32>
     }
 }
 
-/// Runs the classes of a part, counted from 0, of so many parts, as [`crate::run`] runs all. Gives
-/// for each fault of the list, before collapsing, the first test that detects it, or none, where
-/// its class is of the part, and else that it is of another part.
+/// Runs the classes of a part, counted from 0, of so many parts, as [`run_in_parts`] runs all: in
+/// stretches, as many as serve the workers. Gives for each fault of the list, before collapsing,
+/// the first test that detects it, or none, where its class is of the part, and else that it is of
+/// another part.
 ///
-/// It is refused as [`crate::run_classes`] is for the classes of the part in the order in which
-/// their regions are visited, whose pieces alone count.
+/// It is refused as [`run_in_parts`] is, but that it is the part that may have more than
+/// [`patterns::MAX_PIECES`] pieces, and not a stretch of it.
 pub fn run_part<G: Gate + Sync, R: Threads + Wait>(
     rt: &R,
     alloc: Global,
@@ -153,9 +154,12 @@ pub fn run_part<G: Gate + Sync, R: Threads + Wait>(
 {
     check_workers(workers)?;
     let own = part_classes(alloc, job, part, parts)?;
-    let found = run_one(rt, alloc, job, own.as_slice(), part, parts, workers, gate)?;
+    let few = count_in(job, own.as_slice());
+    check_pieces(job, few)?;
+    let cut = Cut::new(job, own, stretches_for(job, few, workers));
+    let gathered = gather(rt, alloc, job, &cut, workers, gate)?;
     let count = job.classes().count();
-    let table = by_class(alloc, count, own.as_slice(), found.firsts.as_slice())?;
+    let table = by_class(alloc, count, cut.classes.as_slice(), gathered.as_slice())?;
     let verdicts = of_faults(alloc, job, table.as_slice())?;
     Ok(verdicts)
 }
@@ -197,10 +201,11 @@ pub fn run_in_parts<G: Gate + Sync, R: Threads + Wait>(
         (G.stops gate.now)) }
 {
     check_workers(workers)?;
-    let cut = Cut::new(alloc, job, parts)?;
-    check_pieces(job, cut.size)?;
-    let gathered = gather(rt, alloc, job, &cut, workers, gate)?;
     let count = job.classes().count();
+    check_pieces(job, count.div_ceil(parts))?;
+    let all = all_classes(alloc, job)?;
+    let cut = Cut::new(job, all, parts);
+    let gathered = gather(rt, alloc, job, &cut, workers, gate)?;
     let table = by_class(alloc, count, cut.classes.as_slice(), gathered.as_slice())?;
     let blocks = job.tests().blocks();
     let skipped = skipped_behind(table.as_slice(), blocks);
@@ -306,8 +311,8 @@ fn join_parts<G: Gate>(
         (G.passing gate.now) (G.stops gate.now) table.items }
     ensures gathered { IfOk result (λ found. AreClassFirsts job.now.list.model job.now.circuit
         job.now.tests.tests cut.now.classes.items found.items) }
-    ensures refused { IfErr result (IsPartsFault job.now cut.now.parts workers
-        (G.passing gate.now) (G.stops gate.now)) }
+    ensures refused { IfErr result (IsStretchesFault job.now cut.now.size cut.now.classes.items
+        cut.now.parts workers (G.passing gate.now) (G.stops gate.now)) }
 {
     let _tests = job.tests();
     let mut spare = None;
@@ -339,38 +344,10 @@ fn gather<G: Gate + Sync, R: Threads + Wait>(
     requires workers { (0 < workers) × (workers ≤ 64) }
     ensures gathered { IfOk result (λ found. AreClassFirsts job.now.list.model job.now.circuit
         job.now.tests.tests cut.now.classes.items found.items) }
-    ensures refused { IfErr result (IsPartsFault job.now cut.now.parts workers
-        (G.passing gate.now) (G.stops gate.now)) }
+    ensures refused { IfErr result (IsStretchesFault job.now cut.now.size cut.now.classes.items
+        cut.now.parts workers (G.passing gate.now) (G.stops gate.now)) }
 {
     let back = take_parts(rt, alloc, job, cut, gate, workers.min(cut.parts))?;
     let table = table_of(alloc, cut.parts, back)?;
     join_parts(alloc, job, cut, workers, gate, table)
-}
-
-/// Runs the classes of one part.
-fn run_one<G: Gate + Sync, R: Threads + Wait>(
-    rt: &R,
-    alloc: Global,
-    job: &Job,
-    own: &[u32],
-    part: u32,
-    parts: u32,
-    workers: u32,
-    gate: &G,
-) -> Result<Found, RunFault>
-    requires part { part < parts }
-    requires own { ArePartOf job.now parts part own.now }
-    requires few { length own.now ≤ length job.now.classes.representative }
-    requires workers { (0 < workers) × (workers ≤ 64) }
-    ensures firsts { IfOk result (λ found. AreClassFirsts job.now.list.model job.now.circuit
-        job.now.tests.tests own.now found.firsts.items) }
-    ensures few { OnOk result (length own.now * blocks (length job.now.tests.tests)
-        ≤ max_pieces) }
-    ensures refused { IfErr result (IsPartFault job.now parts part workers (G.passing gate.now)
-        (G.stops gate.now)) }
-{
-    match run_listed(rt, alloc, job, own, workers, gate) {
-        Ok(found) => Ok(found),
-        Err(fault) => Err(fault),
-    }
 }

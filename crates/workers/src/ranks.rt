@@ -1,8 +1,8 @@
 //! The classes of a job, region by region.
 
 ghost use Rattle.std.specs.Prelude.{◌≡◌, ◌<◌, ◌%◌, ◌==◌, ℕ, IfOk, List, filter, length, map};
-ghost use Rattle.workers.specs.Part.{ArePartOf, stretch};
-ghost use Rattle.workers.specs.Rank.{AreNumbered, AreRanked, IsCutOf};
+ghost use Rattle.workers.specs.Part.{AreAllByRegion, ArePartOf};
+ghost use Rattle.workers.specs.Rank.{AreNumbered, AreRanked};
 
 use crate::arrange::arrange;
 use block_sim::Job;
@@ -21,45 +21,13 @@ pub(crate) struct Ranked {
     class: u32,
 }
 
-/// All classes of a job, region by region, as they are visited, cut into stretches of one size. The
-/// last stretches have fewer classes, or none.
-#[derive(Drop)]
-pub(crate) struct Cut {
-    /// The numbers of the classes.
-    pub(crate) classes: Vec<u32>,
-    /// How many stretches there are.
-    pub(crate) parts: u32,
-    /// How many classes a stretch has.
-    pub(crate) size: u32,
-}
-
-impl Cut {
-    /// Cuts the classes of a job into so many stretches.
-    pub(crate) fn new(alloc: Global, job: &Job, parts: u32) -> Result<Cut, AllocError>
-        requires { 0 < parts }
-        ensures cut { IfOk result (λ cut.
-            IsCutOf job.now cut.parts cut.size cut.classes.items) }
-        ensures parts { IfOk result (λ cut. cut.parts ≡ parts) }
-    {
-        let ranked = ranked_classes(alloc, job)?;
-        let classes = ranked.iter().map(|at| at.class).collect(alloc)?;
-        let size = job.classes().count().div_ceil(parts);
-        Ok(Cut {
-            classes,
-            parts,
-            size,
-        })
-    }
-
-    /// The classes of a stretch, counted from 0.
-    pub(crate) fn stretch(&self, part: u32) -> &[u32]
-        ensures { result.now ≡ stretch self.now.size self.now.classes.items part }
-    {
-        let size = self.size as usize;
-        let start = (part as usize).saturating_mul(size).min(self.classes.len());
-        let rest = &self.classes[start..];
-        &rest[..size.min(rest.len())]
-    }
+/// All classes of a job, region by region, as these are visited.
+pub(crate) fn all_classes(alloc: Global, job: &Job) -> Result<Vec<u32>, AllocError>
+    ensures { IfOk result (λ classes. AreAllByRegion job.now classes.items) }
+{
+    let ranked = ranked_classes(alloc, job)?;
+    let classes = ranked.iter().map(|at| at.class).collect(alloc)?;
+    Ok(classes)
 }
 
 /// The classes of a part, counted from 0, of so many parts that are told by the stems of regions.

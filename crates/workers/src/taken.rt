@@ -8,7 +8,7 @@ ghost use Rattle.workers.specs.Rank.{IsCutOf};
 
 use crate::RunFault;
 use crate::alone::{Waiting, lowest_open, rows_of, run_list};
-use crate::ranks::Cut;
+use crate::stretches::Cut;
 use crate::worker::Gate;
 use block_sim::{Job, RegionSimulation};
 use std::alloc::{AllocError, Global};

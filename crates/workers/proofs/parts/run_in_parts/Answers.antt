@@ -4,7 +4,7 @@ use Rattle.patterns.specs.Tests.{TestList, blocks}
 use Rattle.workers.specs.declared.parts.PartVerdict.{PartVerdict}
 use Rattle.workers.specs.declared.parts.PartVerdict.TheVariants.{OtherPart}
 use Rattle.workers.specs.Part.{first_in}
-use Rattle.workers.specs.Verdict.{AreBehindHits, AreFirsts, pieces_behind}
+use Rattle.workers.specs.Verdict.{AreBehindHits, AreClassFirsts, AreFirsts, pieces_behind}
 use Rattle.workers.proofs.PartsOfClasses.{all_firsts, all_hits, all_within, verdicts_under}
 use Rattle.workers.proofs.parts.run_in_parts.Goals as goal
 
@@ -14,20 +14,24 @@ by_class-requires-clause-within g c =
     let count = c.count-count.ensures
     ∙ ap (λ (x : Collapsed). length x.representative) c.classes.ensures.part in
     subst (λ n. All (λ class. class < n) c.as_slice.result.now) (sym count)
-    (subst (All (λ class. class < length job.classes.representative)) (sym c.as_slice.ensures.value)
-    (all_within job c.in_ok-cut.cut.classes.items c.in_ok-cut.ensures.cut.all))
+    (subst (All (λ class. class < length job.classes.representative))
+    (sym (c.as_slice.ensures.value ∙ c.new-cut.ensures.classes))
+    (all_within job c.in_ok-all.all.items c.in_ok-all.ensures))
 
 pub returns-clause-firsts : goal.returns-clause-firsts
 returns-clause-firsts g c =
     let job = c.args.job.now in
-    let classes = c.in_ok-cut.cut.classes.items in
+    let classes = c.in_ok-all.all.items in
     let firsts = c.in_ok-gathered.gathered.items in
     let table = c.in_ok-table.table.items in
     let count = c.count-count.ensures
     ∙ ap (λ (x : Collapsed). length x.representative) c.classes.ensures.part in
     let by = verdicts_under c.count-count.result
     (length job.classes.representative) _ classes _ firsts
-    table count c.as_slice.ensures.value c.as_slice-2.ensures.value c.in_ok-table.ensures in
+    table count (c.as_slice.ensures.value ∙ c.new-cut.ensures.classes)
+    c.as_slice-2.ensures.value c.in_ok-table.ensures in
+    let known = subst (λ l. AreClassFirsts job.list.model job.circuit job.tests.tests l firsts)
+    c.new-cut.ensures.classes c.in_ok-gathered.ensures.gathered in
     let is : c.in_ok-found.found.items ≡ map (λ class. first_in (get_or table class OtherPart))
     job.classes.class_of =
     c.in_ok-found.ensures.firsts ∙ ap
@@ -35,20 +39,23 @@ returns-clause-firsts g c =
     job.classes.class_of) c.as_slice-4.ensures.value in
     subst (AreFirsts job.list.model job.circuit job.tests.tests) (sym c.of.ensures.firsts)
     (all_firsts job classes firsts
-    c.in_ok-found.found.items table c.classes.ensures.together c.in_ok-cut.ensures.cut.all
-    c.in_ok-gathered.ensures.gathered by is)
+    c.in_ok-found.found.items table c.classes.ensures.together c.in_ok-all.ensures
+    known by is)
 
 pub returns-clause-skipped : goal.returns-clause-skipped
 returns-clause-skipped g c =
     let job = c.args.job.now in
-    let classes = c.in_ok-cut.cut.classes.items in
+    let classes = c.in_ok-all.all.items in
     let firsts = c.in_ok-gathered.gathered.items in
     let table = c.in_ok-table.table.items in
     let count = c.count-count.ensures
     ∙ ap (λ (x : Collapsed). length x.representative) c.classes.ensures.part in
     let by = verdicts_under c.count-count.result
     (length job.classes.representative) _ classes _ firsts
-    table count c.as_slice.ensures.value c.as_slice-2.ensures.value c.in_ok-table.ensures in
+    table count (c.as_slice.ensures.value ∙ c.new-cut.ensures.classes)
+    c.as_slice-2.ensures.value c.in_ok-table.ensures in
+    let known = subst (λ l. AreClassFirsts job.list.model job.circuit job.tests.tests l firsts)
+    c.new-cut.ensures.classes c.in_ok-gathered.ensures.gathered in
     let all : c.blocks-blocks.result ≡ blocks (length job.tests.tests) = c.blocks-blocks.ensures
     ∙ ap (λ (t : TestList). blocks (length t.tests)) c.tests.ensures.part in
     let is : c.skipped_behind-skipped.result ≡ pieces_behind c.blocks-blocks.result
@@ -58,5 +65,5 @@ returns-clause-skipped g c =
     c.as_slice-3.ensures.value in
     subst (AreBehindHits job) (sym c.of.ensures.skipped)
     (all_hits job classes firsts table
-    c.blocks-blocks.result c.skipped_behind-skipped.result c.in_ok-cut.ensures.cut.all
-    c.in_ok-gathered.ensures.gathered by all is)
+    c.blocks-blocks.result c.skipped_behind-skipped.result c.in_ok-all.ensures
+    known by all is)

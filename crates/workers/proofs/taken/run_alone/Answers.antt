@@ -11,7 +11,7 @@ rows_of-requires g c =
     subst (All (λ class. class < length c.args.job.now.classes.representative))
     (sym c.stretch-own.ensures)
     (stretch_within c.args.job.now c.args.cut.now.size c.args.part c.args.cut.now.classes.items
-    c.requires.cut.all)
+    c.requires.cut.within)
 
 pub run_list-requires-clause-rows : goal.run_list-requires-clause-rows
 run_list-requires-clause-rows g c =

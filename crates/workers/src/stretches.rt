@@ -1,0 +1,100 @@
+//! The stretches into which the classes of a run are cut.
+
+ghost use Rattle.std.specs.Prelude.{◌≡◌, ◌<◌, ◌≤◌, All, length};
+ghost use Rattle.block_sim.specs.Parts.{BelongTogether};
+ghost use Rattle.workers.specs.Part.{stretch};
+ghost use Rattle.workers.specs.Rank.{IsCutOf};
+
+use crate::MAX_WORKERS;
+use block_sim::Job;
+
+/// How many parts there are for each of several workers. Fewer parts end less evenly: on a circuit
+/// of 5,000 gates with 16,384 tests four workers took 0.18 s with one part each, 0.16 with two and
+/// 0.15 with four. Each part goes over the fault-free words of all tests once more: one worker took
+/// 0.42 s there for one part, 0.45 for 16 and 0.50 for 64.
+const PARTS_OF_A_WORKER: u32 = 4;
+
+/// A job is small where its pieces times its signals are fewer: a run of it takes some
+/// milliseconds, and the start of threads would take longer than they save.
+const SMALL_JOB: u64 = 1 << 26;
+
+/// Whether so many classes of a job are so few that several workers are no faster than one.
+fn is_small(job: &Job, classes: u32) -> bool {
+    let pieces = u64::from(classes) * u64::from(job.tests().blocks());
+    pieces.saturating_mul(u64::from(job.circuit().signals())) < SMALL_JOB
+}
+
+/// In how many stretches so many workers run so many classes of a job: one worker in one, and
+/// several in some times more than they are, so that all end at about one time. A small job is run
+/// in one stretch, and so by one worker.
+pub(crate) fn stretches_for(job: &Job, classes: u32, workers: u32) -> u32
+    ensures { 0 < result }
+{
+    if workers < 2 || is_small(job, classes) {
+        1
+    } else {
+        PARTS_OF_A_WORKER * workers.min(MAX_WORKERS)
+    }
+}
+
+/// In how many parts so many workers run a job where no number of parts is given: one worker or a
+/// small job in one part, and else in some times more parts than there are workers.
+pub fn parts_for(job: &Job, workers: u32) -> u32
+    ensures { 0 < result }
+{
+    stretches_for(job, job.classes().count(), workers)
+}
+
+/// Classes of a job, cut into stretches of one size. The last stretches have fewer classes, or
+/// none.
+#[derive(Drop)]
+pub(crate) struct Cut {
+    /// The numbers of the classes.
+    pub(crate) classes: Vec<u32>,
+    /// How many stretches there are.
+    pub(crate) parts: u32,
+    /// How many classes a stretch has.
+    pub(crate) size: u32,
+}
+
+impl Cut {
+    /// Cuts classes of a job into so many stretches.
+    pub(crate) fn new(job: &Job, classes: Vec<u32>, parts: u32) -> Cut
+        requires parts { 0 < parts }
+        requires few { length classes.items ≤ length job.now.classes.representative }
+        requires within { All (λ class. class < length job.now.classes.representative)
+            classes.items }
+        ensures cut { IsCutOf job.now result.parts result.size result.classes.items }
+        ensures classes { result.classes.items ≡ classes.items }
+        ensures parts { result.parts ≡ parts }
+    {
+        let size = count_in(job, classes.as_slice()).div_ceil(parts);
+        Cut {
+            classes,
+            parts,
+            size,
+        }
+    }
+
+    /// The classes of a stretch, counted from 0.
+    pub(crate) fn stretch(&self, part: u32) -> &[u32]
+        ensures { result.now ≡ stretch self.now.size self.now.classes.items part }
+    {
+        let size = self.size as usize;
+        let start = (part as usize).saturating_mul(size).min(self.classes.len());
+        let rest = &self.classes[start..];
+        &rest[..size.min(rest.len())]
+    }
+}
+
+/// How many classes a list has, which has no more than the job.
+pub(crate) fn count_in(job: &Job, classes: &[u32]) -> u32
+    requires { length classes.now ≤ length job.now.classes.representative }
+    ensures count { result ≡ length classes.now }
+    ensures together { BelongTogether job.now }
+{
+    let most = job.classes().count();
+    let holds = classes.len() <= most as usize;
+    prove!(holds);
+    classes.len() as u32
+}
