@@ -1,17 +1,17 @@
 -- A circuit and the same with its statements in the order of their places: each signal has its place
 -- there as its number.
 use Rattle.std.proofs.Common.{◌≡◌, ◌<◌, ◌≤◌, ℕ, refl, sym, ◌∙◌, ap, subst, List, [], ◌∷◌}
-use Rattle.std.proofs.Common.{arith}
-use Rattle.std.proofs.Common.{inl, inr, length}
+use Rattle.std.proofs.Common.{arith, inl, inr, length, ◌⊎◌}
+use Rattle.std.proofs.lemmas.Bool.{cases_order}
 use Rattle.std.specs.Prelude.{Contains, Some, slice_index_or, map}
 use Rattle.std.proofs.lemmas.List.Elements.{Contains-get_or}
 use Rattle.std.proofs.lemmas.Option.{slice_get-get_or}
 use Rattle.bench_net.specs.declared.Sink.TheVariants as sink
-use Rattle.bench_net.specs.Statement.{Name, Statement}
+use Rattle.bench_net.specs.Statement.{Name, Statement, Gate}
 use Rattle.bench_net.specs.Scan.{names, observers, sources, signal}
 use Rattle.bench_net.specs.Circuit.{IsWellFormed}
 use Rattle.bench_net.specs.Level.{HasDepth, HasLevel}
-use Rattle.bench_net.proofs.Public.{name_of-signal}
+use Rattle.bench_net.proofs.Public.{name_of-signal, read_named}
 use Rattle.lists.proofs.Members.{Among, among, among_map}
 use Rattle.lists.proofs.Places.{at_place, place_within, within_place}
 use Rattle.patterns.specs.Least.{below}
@@ -24,8 +24,9 @@ use Rattle.fault_model.proofs.Public.{same_signals, same_sources, well_reordered
 use Rattle.block_sim.specs.declared.changes.Changes.{Changes}
 use Rattle.block_sim.specs.Changes.{HasRoomFor}
 use Rattle.block_sim.specs.Arranged.{ArePlaces, IsArranged, IsFlowOrder}
-use Rattle.block_sim.specs.Events.{Reads}
+use Rattle.block_sim.specs.Events.{Reads, IsRising}
 use Rattle.block_sim.proofs.FaultStart.{data_observed, output_observed}
+use Rattle.block_sim.proofs.Readers.{no_loop}
 use Rattle.block_sim.proofs.ReorderedReaders.{reads_back}
 use Rattle.block_sim.proofs.ResponseRows.{observed_named}
 
@@ -108,6 +109,23 @@ module _ (c d : List Statement) (well : IsWellFormed c) (arranged : IsArranged c
       arranged.1.forward i j 0 less top.0
       (subst (λ x. Reads c x (slice_index_or order j 0)) (sym same) back.2)
 
+  -- there each gate stands behind the signals that it reads
+  pub rising_there : IsRising d
+  rising_there g s r = go (cases_order s g)
+    where
+      at : Contains (names d) r.read
+      at = read_named d (Gate r.name r.kind r.args) r.read well_there (among d _ r.gate)
+          (among r.args r.read r.reads)
+
+      within : s < length (names d)
+      within = let lt = place_within (names d) (signal d r.read) r.read (name_of-signal d r.read at) in
+          let of = r.of in omega (arith, lt, of)
+
+      go : (s ≡ g) ⊎ ((s < g) ⊎ (g < s)) → s < g
+      go (inl same) = absurd (no_loop d g well_there (subst (Reads d g) same r))
+      go (inr (inl lt)) = lt
+      go (inr (inr gt)) = absurd (rises g s gt within r)
+
   -- there the numbers are a topological order
   pub natural_order : IsFlowOrder d (below (length (names d)))
   natural_order = record {
@@ -147,10 +165,6 @@ module _ (c d : List Statement) (well : IsWellFormed c) (arranged : IsArranged c
   room_there changes room = record {
     overlay = omega (arith, room.overlay, count_there);
     gates = omega (arith, room.gates, count_there);
-    levels = λ g k has. (let from =
-        signals_there.onto g (place_within (names d) g has.1 has.3) in
-        room.levels from.0 k ((signals_there.levels from.0 k).1
-        (subst (λ x. HasLevel d x k) from.2 has)));
   }
 
   -- each signal has a level, and none a greater one than the depth

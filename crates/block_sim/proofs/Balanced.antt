@@ -1,6 +1,6 @@
 -- Simulation by events: of the signals that count the equation of each that does not wait holds,
 -- and one evaluation keeps that.
-use Rattle.std.proofs.Common.{◌≡◌, ◌≢◌, ◌<◌, ℕ, ◌+◌, refl, sym, ◌∙◌, ap, subst, true, List, length}
+use Rattle.std.proofs.Common.{◌≡◌, ◌≢◌, ◌<◌, ℕ, refl, sym, ◌∙◌, ap, subst, true, List, length}
 use Rattle.std.proofs.Common.{arith, set, inl, inr, ◌⊎◌}
 use Rattle.std.specs.Prelude.{Some, None, slice_index_or, bit_xor}
 use Rattle.std.proofs.lemmas.List.{get_or-set_same, get_or-set_other}
@@ -62,7 +62,7 @@ module _ (c : List Statement) (counts : ℕ → Type 0) (tests : List Test) (gro
           → ((s : ℕ) → counts s → Reads c s g → IsLive c s)
           → ((k : ℕ) → k < 128 → lane mask k ≡ true
           → lane (bit_xor (slice_index_or good g 0) diff) k ≡ lane word k)
-          → AreScheduled c lv g (set at g 0) after
+          → AreScheduled c g (set at g 0) after
           → IsBalanced c counts tests group f good mask (set delta g diff) after
       balanced_changed diff after within live changed scheduled s k is_counted idle lt in_mask =
           go (cases_eq s g)
@@ -79,10 +79,10 @@ module _ (c : List Statement) (counts : ℕ → Type 0) (tests : List Test) (gro
           before ne = by (scheduled.only s)
             where
               by : (slice_index_or after s 0 ≡ slice_index_or (set at g 0) s 0)
-                  ⊎ ((Reads c s g × IsLive c s) × (slice_index_or (set at g 0) s 0 ≡ 0)
-                  × (slice_index_or after s 0 ≡ lv s + 1)) → slice_index_or at s 0 ≡ 0
+                  ⊎ ((Reads c s g × IsLive c s) × (slice_index_or after s 0 ≢ 0))
+                  → slice_index_or at s 0 ≡ 0
               by (inl e) = sym (get_or-set_other at g s 0 0 ne) ∙ (sym e ∙ idle)
-              by (inr h) = sym (get_or-set_other at g s 0 0 ne) ∙ h.1
+              by (inr h) = absurd (h.1 idle)
 
           go : (s ≡ g) ⊎ (s ≢ g) → HasEquation c (test_of tests group k) (Some (f k))
               (bits_of c good (set delta g diff) k) s
@@ -109,15 +109,15 @@ module _ (c : List Statement) (counts : ℕ → Type 0) (tests : List Test) (gro
           (slice_index_or delta (signal c n) 0) (clear (signal c n)))
 
   -- the first change: of the signal whose equation the fault is in
-  pub balanced_first : (lv : ℕ → ℕ) (delta at after : List ℕ) (s diff : ℕ)
+  pub balanced_first : (delta at after : List ℕ) (s diff : ℕ)
       → AreWords c tests group None good → ((t : ℕ) → slice_index_or delta t 0 ≡ 0)
       → ((t k : ℕ) → t ≢ s → IsElsewhere (f k) t) → ((t : ℕ) → counts t → Reads c t s → IsLive c t)
-      → AreScheduled c lv s at after
+      → AreScheduled c s at after
       → ((k : ℕ) → k < 128 → lane mask k ≡ true
       → HasEquation c (test_of tests group k) (Some (f k)) (bits_of c good (set delta s diff) k)
       s)
       → IsBalanced c counts tests group f good mask (set delta s diff) after
-  balanced_first lv delta at after s diff words clear off live scheduled holds t k is_counted idle
+  balanced_first delta at after s diff words clear off live scheduled holds t k is_counted idle
       lt
       in_mask = go (cases_eq t s)
     where

@@ -1,6 +1,6 @@
 -- The end of a simulation by events: what was seen is what the fault shows, and what was evaluated
 -- was active.
-use Rattle.std.proofs.Common.{◌≡◌, ◌≢◌, ◌<◌, ◌≤◌, ℕ, ◌+◌, ◌*◌, refl, sym, ◌∙◌, ap, subst, Bool}
+use Rattle.std.proofs.Common.{◌≡◌, ◌≢◌, ◌<◌, ℕ, ◌+◌, ◌*◌, refl, sym, ◌∙◌, ap, subst, Bool}
 use Rattle.std.proofs.Common.{true, false, not, List, [], length, set, arith, inl, inr, ◌⊎◌}
 use Rattle.std.specs.Prelude.{Contains, Some, None, slice_get, slice_index_or}
 use Rattle.std.proofs.lemmas.List.{get_or-set_same, get_or-set_other}
@@ -32,7 +32,6 @@ use Rattle.block_sim.proofs.WordsToSolutions.{lane_same}
 use Rattle.block_sim.proofs.Balanced.{balanced_solves, fault_free_holds}
 use Rattle.block_sim.proofs.LiveSignals.{counts_closed}
 use Rattle.block_sim.proofs.TrueBelowLevel.{right_by_now}
-use Rattle.block_sim.proofs.Readers.{reader_within}
 use Rattle.block_sim.proofs.ListPlaces.{index_of}
 
 pub idle_of : (at : List ℕ) (g : ℕ) → (slice_index_or at g 0 ≢ 0 → ⊥) → slice_index_or at g 0 ≡ 0
@@ -209,13 +208,6 @@ module _ (c : List Statement) (tests : List Test) (group : ℕ) (f : ℕ
       → HasActiveIn c tests group lanes f gates → HasTouched c delta gates
   active_touched gates words sized elsewhere rises all g s r ne =
       all g (touched_active g s words sized elsewhere rises r ne)
-
-  -- above the last level no gate waits
-  pub none_above : (levels : ℕ) → levels ≤ level → ((g : ℕ) → g < length (names c) → lv g < levels)
-      → (s : ℕ) → slice_index_or at s 0 ≡ 0
-  none_above levels le below s = idle_of at s (λ ne. let by = h.touched s ne in
-      let lt = below s (reader_within c s by.0 by.1) in let up = h.not_below s ne in
-      omega (arith, le, lt, up))
 
 -- a first change of no lane at all: nothing is shown
 pub shown_unchanged : (c : List Statement) (tests : List Test) (group : ℕ) (f : ℕ

@@ -42,17 +42,15 @@ module _ (c : List Statement) (tests : List Test) (group : ℕ) (f : ℕ
     → Fault) (good : List ℕ) (lanes : ℕ) (lv : ℕ → ℕ) (start : ℕ) (well : IsWellFormed c)
     (rises : (g s : ℕ) → Reads c g s → lv s < lv g)
     (delta at after : List ℕ) (idle : (t : ℕ)
-    → slice_index_or at t 0 ≡ 0) (scheduled : AreScheduled c lv start at after) where
-  which : (r : ℕ) → slice_index_or after r 0 ≢ 0 → (Reads c r start × IsLive c r)
-      × (slice_index_or after r 0 ≡ lv r + 1)
+    → slice_index_or at t 0 ≡ 0) (scheduled : AreScheduled c start at after) where
+  which : (r : ℕ) → slice_index_or after r 0 ≢ 0 → Reads c r start × IsLive c r
   which r ne = go (scheduled.only r)
     where
       go : (slice_index_or after r 0 ≡ slice_index_or at r 0)
-          ⊎ ((Reads c r start × IsLive c r) × (slice_index_or at r 0 ≡ 0)
-          × (slice_index_or after r 0 ≡ lv r + 1)) → (Reads c r start × IsLive c r)
-          × (slice_index_or after r 0 ≡ lv r + 1)
+          ⊎ ((Reads c r start × IsLive c r) × (slice_index_or after r 0 ≢ 0))
+          → Reads c r start × IsLive c r
       go (inl e) = absurd (ne (e ∙ idle r))
-      go (inr h) = (h.0, h.2)
+      go (inr h) = h.0
 
   pub count_first : (gates : List ℕ)
       → ahead lv after (lv start) gates + count_by (λ g. g == start) gates ≤ length gates
@@ -61,7 +59,7 @@ module _ (c : List Statement) (tests : List Test) (group : ℕ) (f : ℕ
     where
       go : (x : ℕ) → x ≡ start → (lv start < lv x) ⊎ (slice_index_or after x 0 ≢ 0) → ⊥
       go x e (inl lt) = let same : lv x ≡ lv start = ap lv e in omega (arith, lt, same)
-      go x e (inr ne) = let up = rises x start (which x ne).0.0 in
+      go x e (inr ne) = let up = rises x start (which x ne).0 in
           let same : lv x ≡ lv start = ap lv e in omega (arith, up, same)
 
   pub spreading_first : (diff : ℕ) → AreWords c tests group None good
@@ -76,11 +74,10 @@ module _ (c : List Statement) (tests : List Test) (group : ℕ) (f : ℕ
   spreading_first diff words clear off holds within differs a_lane in_lanes = record {
     balanced = balanced_now;
     narrow = λ k lt e. e;
-    at_level = λ g ne. (which g ne).1;
     not_below = not_below;
-    live = λ g ne. (which g ne).0.1;
-    touched = λ g ne. (start, (which g ne).0.0, λ e. differs (sym new_at ∙ e));
-    waits_clear = λ g ne. kept g (λ e. let up = rises g start (which g ne).0.0 in
+    live = λ g ne. (which g ne).1;
+    touched = λ g ne. (start, (which g ne).0, λ e. differs (sym new_at ∙ e));
+    waits_clear = λ g ne. kept g (λ e. let up = rises g start (which g ne).0 in
         let same : lv g ≡ lv start = ap lv e in omega (arith, up, same));
     above_clear = λ g lt. kept g (λ e. let same : lv g ≡ lv start = ap lv e in
         omega (arith, lt, same));
@@ -92,12 +89,12 @@ module _ (c : List Statement) (tests : List Test) (group : ℕ) (f : ℕ
     where
       balanced_now : IsBalanced c (Counts c lv start) tests group f good lanes
           (set delta start diff) after
-      balanced_now = balanced_first c (Counts c lv start) tests group f good lanes lv delta at after
+      balanced_now = balanced_first c (Counts c lv start) tests group f good lanes delta at after
           start diff words clear off (λ t is_counted reads. reader_live c lv start rises start t
           (omega arith) is_counted reads) scheduled holds
 
       not_below : (g : ℕ) → slice_index_or after g 0 ≢ 0 → lv start ≤ lv g
-      not_below g ne = let up = rises g start (which g ne).0.0 in omega (arith, up)
+      not_below g ne = let up = rises g start (which g ne).0 in omega (arith, up)
 
       new_at : slice_index_or (set delta start diff) start 0 ≡ diff
       new_at = get_or-set_same delta start diff 0 within
@@ -134,8 +131,8 @@ module _ (c : List Statement) (tests : List Test) (group : ℕ) (f : ℕ
       idle_here = go (scheduled.only start)
         where
           go : (slice_index_or after start 0 ≡ slice_index_or at start 0)
-              ⊎ ((Reads c start start × IsLive c start) × (slice_index_or at start 0 ≡ 0)
-              × (slice_index_or after start 0 ≡ lv start + 1)) → slice_index_or after start 0 ≡ 0
+              ⊎ ((Reads c start start × IsLive c start) × (slice_index_or after start 0 ≢ 0))
+              → slice_index_or after start 0 ≡ 0
           go (inl e) = e ∙ idle start
           go (inr r) = let up = rises start start r.0.0 in absurd (omega (arith, up))
 

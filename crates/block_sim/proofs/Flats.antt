@@ -1,10 +1,10 @@
 -- Flat lists that grow by a signal at a time, and what a row of them says.
 use Rattle.std.proofs.Common.{◌≡◌, ◌≢◌, ◌<◌, ◌≤◌, ℕ, ◌+◌, ◌-◌, sym, ◌∙◌, ap, subst, List, [], ◌∷◌}
 use Rattle.std.proofs.Common.{◌++◌, length, zero, suc, arith, inl, inr, ◌⊎◌, take, drop}
-use Rattle.std.specs.Prelude.{All, Contains, Some, None, map, slice_get, slice_index_or}
+use Rattle.std.specs.Prelude.{All, Contains, Some, None, slice_get, slice_index_or}
 use Rattle.std.specs.Prelude.{slice_range}
 use Rattle.std.specs.Option.{option_map}
-use Rattle.std.proofs.lemmas.List.{length-append, map-append, take-append-le, drop-append-le}
+use Rattle.std.proofs.lemmas.List.{length-append, take-append-le, drop-append-le}
 use Rattle.std.proofs.lemmas.List.{length-drop}
 use Rattle.std.proofs.lemmas.List.Elements.{All-push, Contains-append_left, Contains-push}
 use Rattle.bench_net.specs.declared.Sink.{Sink}
@@ -12,11 +12,9 @@ use Rattle.bench_net.specs.declared.Sink.TheVariants as sink
 use Rattle.bench_net.specs.Statement.{Name, Statement}
 use Rattle.bench_net.specs.Scan.{names, name_of, sinks}
 use Rattle.bench_net.specs.Circuit.{IsWellFormed}
-use Rattle.bench_net.specs.Level.{HasLevel}
 use Rattle.lists.proofs.Members.{Among}
 use Rattle.lists.proofs.Places.{placed, place_within}
 use Rattle.block_sim.specs.declared.flat.Row.{Row}
-use Rattle.block_sim.specs.declared.flat.Reader.{Reader}
 use Rattle.block_sim.specs.Events.{Reads, IsLive}
 use Rattle.block_sim.specs.declared.flat.Standing.{Standing}
 use Rattle.block_sim.specs.Flat.{AreReaders, IsRow, HasMore, AreRows, IsFlat, IsStanding}
@@ -34,13 +32,12 @@ range_kept xs ys a b up within =
     ∙ take-append-le (b - a) (drop a xs) ys (omega (arith, long, within))
 
 -- ---- the readers of a signal
--- the live gates among the first sinks stand in the list, each with its level
+-- the live gates among the first sinks stand in the list
 pub record AreGathered (c : List Statement) (s : ℕ) (items : List Sink) (i : ℕ)
-    (readers : List Reader) : Type 0 where
-  pub each : All (λ reader. (Reads c reader.gate s × IsLive c reader.gate)
-      × HasLevel c reader.gate reader.level) readers
+    (readers : List ℕ) : Type 0 where
+  pub each : All (λ gate. Reads c gate s × IsLive c gate) readers
   pub all : (gate pin j : ℕ) → j < i → slice_get items j ≡ Some (sink.Pin gate pin) → IsLive c gate
-      → Contains (map (λ reader. reader.gate) readers) gate
+      → Contains readers gate
 
 pub gathered_none : (c : List Statement) (s : ℕ) (items : List Sink) → AreGathered c s items 0 []
 gathered_none c s items = record {
@@ -50,7 +47,7 @@ gathered_none c s items = record {
 
 module _ (c : List Statement) (well : IsWellFormed c) (s : ℕ) (n : Name)
     (named : name_of c s ≡ Some n) (items : List Sink) (are : items ≡ sinks c n) (i : ℕ)
-    (readers : List Reader)
+    (readers : List ℕ)
     (h : AreGathered c s items i readers) where
   -- a sink that is no gate's
   pub gathered_passed : (k d : Sink) → i < length items → slice_index_or items i d ≡ k
@@ -61,7 +58,7 @@ module _ (c : List Statement) (well : IsWellFormed c) (s : ℕ) (n : Name)
   }
     where
       go : (g p j : ℕ) → (j < i) ⊎ (j ≡ i) → slice_get items j ≡ Some (sink.Pin g p) → IsLive c g
-          → Contains (map (λ reader. reader.gate) readers) g
+          → Contains readers g
       go g p j (inl below) is live = h.all g p j below is live
       go g p j (inr same) is live =
           absurd (isnt g p (sym (same_gate c well s n named items are i j g p k d lt e same is)))
@@ -76,7 +73,7 @@ module _ (c : List Statement) (well : IsWellFormed c) (s : ℕ) (n : Name)
   }
     where
       go : (g p j : ℕ) → (j < i) ⊎ (j ≡ i) → slice_get items j ≡ Some (sink.Pin g p) → IsLive c g
-          → Contains (map (λ reader. reader.gate) readers) g
+          → Contains readers g
       go g p j (inl below) is live = h.all g p j below is live
       go g p j (inr same) is live =
           let one : sink.Pin g p ≡ sink.Pin gate pin = same_gate c well s n named items are i j g p
@@ -85,28 +82,23 @@ module _ (c : List Statement) (well : IsWellFormed c) (s : ℕ) (n : Name)
           absurd (dead (subst (IsLive c) here live))
 
   -- one gate more
-  pub gathered_more : (gate pin : ℕ) (d : Sink) (reader : Reader) → i < length items
-      → slice_index_or items i d ≡ sink.Pin gate pin → reader.gate ≡ gate
-      → Reads c reader.gate s → IsLive c reader.gate → HasLevel c reader.gate reader.level
-      → AreGathered c s items (i + 1) (readers ++ reader ∷ [])
-  gathered_more gate pin d reader lt e own reads live level = record {
-    each = All-push (λ r. (Reads c r.gate s × IsLive c r.gate) × HasLevel c r.gate r.level) readers
-        reader h.each ((reads, live), level);
-    all = λ g p j below is alive. subst (λ gates. Contains gates g)
-        (sym (map-append (λ r. r.gate) readers (reader ∷ [])))
-        (go g p j (at_end i j below) is alive);
+  pub gathered_more : (gate pin : ℕ) (d : Sink) → i < length items
+      → slice_index_or items i d ≡ sink.Pin gate pin → Reads c gate s → IsLive c gate
+      → AreGathered c s items (i + 1) (readers ++ gate ∷ [])
+  gathered_more gate pin d lt e reads live = record {
+    each = All-push (λ g. Reads c g s × IsLive c g) readers gate h.each (reads, live);
+    all = λ g p j below is alive. go g p j (at_end i j below) is alive;
   }
     where
       go : (g p j : ℕ) → (j < i) ⊎ (j ≡ i) → slice_get items j ≡ Some (sink.Pin g p) → IsLive c g
-          → Contains (map (λ r. r.gate) readers ++ reader.gate ∷ []) g
-      go g p j (inl below) is alive = Contains-append_left (map (λ r. r.gate) readers)
-          (reader.gate ∷ []) g (h.all g p j below is alive)
+          → Contains (readers ++ gate ∷ []) g
+      go g p j (inl below) is alive = Contains-append_left readers (gate ∷ []) g
+          (h.all g p j below is alive)
       go g p j (inr same) is alive =
           let one : sink.Pin g p ≡ sink.Pin gate pin = same_gate c well s n named items are i j g p
           (sink.Pin gate pin) d lt e same is in
           let here : g ≡ gate = cc in
-          subst (Contains (map (λ r. r.gate) readers ++ reader.gate ∷ [])) (own ∙ sym here)
-          (Contains-push (map (λ r. r.gate) readers) reader.gate)
+          subst (Contains (readers ++ gate ∷ [])) (sym here) (Contains-push readers gate)
 
   -- all gates
   pub gathered_all : length items ≤ i → AreReaders c s readers
@@ -120,7 +112,7 @@ module _ (c : List Statement) (well : IsWellFormed c) (s : ℕ) (n : Name)
   }
 
 -- ---- rows
-pub row_kept : (c : List Statement) (pins more_pins : List ℕ) (readers more_readers : List Reader)
+pub row_kept : (c : List Statement) (pins more_pins : List ℕ) (readers more_readers : List ℕ)
     (s : ℕ) (row : Row) → HasMore pins more_pins → HasMore readers more_readers
     → IsRow c pins readers s row → IsRow c more_pins more_readers s row
 row_kept c pins more_pins readers more_readers s row pins_more readers_more h =
@@ -147,11 +139,11 @@ row_kept c pins more_pins readers more_readers s row pins_more readers_more h =
       observed = h.observed;
     }
 
-pub rows_none : (c : List Statement) (pins : List ℕ) (readers : List Reader)
+pub rows_none : (c : List Statement) (pins : List ℕ) (readers : List ℕ)
     → AreRows c pins readers []
 rows_none c pins readers s row at = let bad : None ≡ Some row = at in cc
 
-pub rows_with : (c : List Statement) (pins more_pins : List ℕ) (readers more_readers : List Reader)
+pub rows_with : (c : List Statement) (pins more_pins : List ℕ) (readers more_readers : List ℕ)
     (rows : List Row) (s : ℕ) (row : Row) → length rows ≡ s
     → AreRows c pins readers rows → HasMore pins more_pins → HasMore readers more_readers
     → IsRow c more_pins more_readers s row → AreRows c more_pins more_readers (rows ++ row ∷ [])
@@ -188,14 +180,14 @@ standings_with c standings s standing count before new t other at =
         (subst (IsStanding c s) h.1 new)
 
 -- the row that is read at a signal's number
-pub row_of : (c : List Statement) (pins : List ℕ) (readers : List Reader) (rows : List Row)
+pub row_of : (c : List Statement) (pins : List ℕ) (readers : List ℕ) (rows : List Row)
     (standings : List Standing) (s : ℕ) (row : Row) → IsFlat c pins readers rows standings
     → s < length (names c) → row ≡ slice_index_or rows s row → IsRow c pins readers s row
 row_of c pins readers rows standings s row flat lt e =
     flat.numbered s row (got rows s row (omega (arith, lt, flat.count)) e)
 
 -- and where the signal stands
-pub standing_of : (c : List Statement) (pins : List ℕ) (readers : List Reader) (rows : List Row)
+pub standing_of : (c : List Statement) (pins : List ℕ) (readers : List ℕ) (rows : List Row)
     (standings : List Standing) (s : ℕ) (standing : Standing)
     → IsFlat c pins readers rows standings → s < length (names c)
     → standing ≡ slice_index_or standings s standing → IsStanding c s standing

@@ -1,10 +1,10 @@
 -- How many gates are still to be evaluated at most: those that wait, and those that lie above the
 -- level.
-use Rattle.std.proofs.Common.{◌≡◌, ◌≢◌, ◌<◌, ◌≤◌, ℕ, suc, ◌+◌, refl, sym, ◌∙◌, ap, Bool, true}
+use Rattle.std.proofs.Common.{◌≡◌, ◌≢◌, ◌<◌, ◌≤◌, ℕ, ◌+◌, refl, sym, ◌∙◌, ap, Bool, true}
 use Rattle.std.proofs.Common.{false, not, cond, List, [], ◌∷◌, length, arith, set, inl, inr, ◌⊎◌}
 use Rattle.std.specs.Prelude.{Contains, count_by, slice_index_or, nat_lt, ◌==◌}
 use Rattle.std.proofs.lemmas.List.{get_or-set_same, get_or-set_other}
-use Rattle.std.proofs.lemmas.List.Sums.{sum_by-cons, sum_by-set}
+use Rattle.std.proofs.lemmas.List.Sums.{sum_by-cons}
 use Rattle.std.proofs.lemmas.Bool.{cases_eq, false≢true, ltb-true, lt-ltb, le-ltb, eq-eqb, eqb-true}
 use Rattle.std.proofs.lemmas.Bool.{or_left, or_right, or_cases}
 use Rattle.bench_net.specs.Statement.{Statement}
@@ -97,7 +97,7 @@ ahead_taken lv at level g gates within here waits listed =
 
 -- gates that are scheduled lie above the level, so they were ahead before
 pub ahead_scheduled : (c : List Statement) (lv : ℕ → ℕ) (before after : List ℕ) (level s : ℕ)
-    (gates : List ℕ) → ((r : ℕ) → Reads c r s → level < lv r) → AreScheduled c lv s before after
+    (gates : List ℕ) → ((r : ℕ) → Reads c r s → level < lv r) → AreScheduled c s before after
     → count_by (is_ahead lv after level) gates ≤ count_by (is_ahead lv before level) gates
 ahead_scheduled c lv before after level s gates above scheduled =
     count_le (is_ahead lv before level) (is_ahead lv after level) gates kept
@@ -107,72 +107,24 @@ ahead_scheduled c lv before after level s gates above scheduled =
       where
         go : (level < lv x) ⊎ (slice_index_or after x 0 ≢ 0)
             → (slice_index_or after x 0 ≡ slice_index_or before x 0)
-            ⊎ ((Reads c x s × IsLive c x) × (slice_index_or before x 0 ≡ 0)
-            × (slice_index_or after x 0 ≡ lv x + 1)) → is_ahead lv before level x ≡ true
+            ⊎ ((Reads c x s × IsLive c x) × (slice_index_or after x 0 ≢ 0))
+            → is_ahead lv before level x ≡ true
         go (inl lt) w = ahead_above lv before level x lt
         go (inr ne) (inl same) = ahead_waits lv before level x (λ h. ne (same ∙ h))
         go (inr ne) (inr w) = ahead_above lv before level x (above x w.0.0)
 
--- one level higher no more are ahead
-pub ahead_higher : (lv : ℕ → ℕ) (at : List ℕ) (level : ℕ) (gates : List ℕ)
-    → count_by (is_ahead lv at (level + 1)) gates ≤ count_by (is_ahead lv at level) gates
-ahead_higher lv at level gates = count_le (is_ahead lv at level) (is_ahead lv at (level + 1)) gates
+-- higher up no more are ahead
+pub ahead_higher : (lv : ℕ → ℕ) (at : List ℕ) (level next : ℕ) (gates : List ℕ) → level ≤ next
+    → count_by (is_ahead lv at next) gates ≤ count_by (is_ahead lv at level) gates
+ahead_higher lv at level next gates le = count_le (is_ahead lv at level) (is_ahead lv at next) gates
     kept
   where
-    kept : (x : ℕ) → is_ahead lv at (level + 1) x ≡ true → is_ahead lv at level x ≡ true
-    kept x e = go (ahead_cases lv at (level + 1) x e)
+    kept : (x : ℕ) → is_ahead lv at next x ≡ true → is_ahead lv at level x ≡ true
+    kept x e = go (ahead_cases lv at next x e)
       where
-        go : (level + 1 < lv x) ⊎ (slice_index_or at x 0 ≢ 0) → is_ahead lv at level x ≡ true
-        go (inl lt) = ahead_above lv at level x (omega (arith, lt))
+        go : (next < lv x) ⊎ (slice_index_or at x 0 ≢ 0) → is_ahead lv at level x ≡ true
+        go (inl lt) = ahead_above lv at level x (omega (arith, lt, le))
         go (inr ne) = ahead_waits lv at level x ne
-
--- ---- the gates that wait at a level
--- places that hold of one list hold of another that is as long
-pub count_places : (p : ℕ → Bool) (xs ys : List ℕ) → length ys ≡ length xs
-    → ((i : ℕ) → p (slice_index_or ys i 0) ≡ true → p (slice_index_or xs i 0) ≡ true)
-    → count_by p ys ≤ count_by p xs
-count_places p [] [] e h = omega arith
-count_places p [] (y ∷ ys) e h = absurd (omega (arith, e))
-count_places p (x ∷ xs) [] e h = absurd (omega (arith, e))
-count_places p (x ∷ xs) (y ∷ ys) e h =
-    let a = count_cons p x xs in let b = count_cons p y ys in let w = weight_le (p x) (p y) (h 0) in
-    let rest = count_places p xs ys (omega (arith, e)) (λ i. h (suc i)) in
-    omega (arith, a, b, w, rest)
-
--- one that is taken waits there no more
-pub count_taken : (at : List ℕ) (g now : ℕ) → g < length at → slice_index_or at g 0 ≡ now + 1
-    → count_by (λ x. x == now + 1) (set at g 0) + 1 ≤ count_by (λ x. x == now + 1) at
-count_taken at g now within e =
-    let h = sum_by-set (λ x. weight (x == now + 1)) at g 0 0 within in
-    let one : weight (slice_index_or at g 0 == now + 1) ≡ 1 =
-    ap weight (eq-eqb (slice_index_or at g 0) (now + 1) e) in
-    let none : weight (0 == now + 1) ≡ 0 = ap weight (not_eq (0 == now + 1) refl) in
-    omega (arith, h, one, none)
-  where
-    not_eq : (b : Bool) → (0 == now + 1) ≡ b → (0 == now + 1) ≡ false
-    not_eq true e = absurd (omega (arith, eqb-true 0 (now + 1) e))
-    not_eq false e = e
-
--- a gate of the level was taken, and what waits anew lies above it
-pub waiting_less : (lv : ℕ → ℕ) (at taken new : List ℕ) (g now : ℕ) → g < length at
-    → slice_index_or at g 0 ≡ now + 1 → taken ≡ set at g 0 → lv g ≡ now → length new ≡ length taken
-    → ((r : ℕ) → (slice_index_or new r 0 ≡ slice_index_or taken r 0)
-    ⊎ ((lv g < lv r) × (slice_index_or new r 0 ≡ lv r + 1)))
-    → count_by (λ x. x == now + 1) new < count_by (λ x. x == now + 1) at
-waiting_less lv at taken new g now within e is here long scheduled =
-    let less = count_taken at g now within e in
-    let same = ap (count_by (λ x. x == now + 1)) is in
-    let le = count_places (λ x. x == now + 1) taken new long
-    (λ r now_at. go r now_at (scheduled r)) in
-    omega (arith, less, same, le)
-  where
-    go : (r : ℕ) → (slice_index_or new r 0 == now + 1) ≡ true
-        → (slice_index_or new r 0 ≡ slice_index_or taken r 0)
-        ⊎ ((lv g < lv r) × (slice_index_or new r 0 ≡ lv r + 1))
-        → (slice_index_or taken r 0 == now + 1) ≡ true
-    go r now_at (inl same) = ap (λ x. x == now + 1) (sym same) ∙ now_at
-    go r now_at (inr w) = let at_now = eqb-true (slice_index_or new r 0) (now + 1) now_at in
-        let up = w.0 in absurd (omega (arith, at_now, up, here, w.1))
 
 pub count_at_most : (p : ℕ → Bool) (xs : List ℕ) → count_by p xs ≤ length xs
 count_at_most p [] = omega arith
@@ -189,17 +141,14 @@ count_one g xs at =
     let less = count_less (λ x. x == g) (λ x. false) g xs (λ x e. absurd (false≢true e))
     (eq-eqb g g refl) refl (among xs g at) in omega (arith, less)
 
--- one that is taken, of the level or not
-pub ahead_skipped : (lv : ℕ → ℕ) (at : List ℕ) (level g : ℕ) (gates : List ℕ) → g < length at
-    → count_by (is_ahead lv (set at g 0) level) gates ≤ count_by (is_ahead lv at level) gates
-ahead_skipped lv at level g gates within =
-    count_le (is_ahead lv at level) (is_ahead lv (set at g 0) level) gates
-    (λ x e. go x (ahead_cases lv (set at g 0) level x e) (cases_eq x g))
+-- where none waits any more
+pub ahead_cleared : (lv : ℕ → ℕ) (at idle : List ℕ) (level : ℕ) (gates : List ℕ)
+    → ((g : ℕ) → slice_index_or idle g 0 ≡ 0)
+    → count_by (is_ahead lv idle level) gates ≤ count_by (is_ahead lv at level) gates
+ahead_cleared lv at idle level gates none =
+    count_le (is_ahead lv at level) (is_ahead lv idle level) gates
+    (λ x e. go x (ahead_cases lv idle level x e))
   where
-    go : (x : ℕ) → (level < lv x) ⊎ (slice_index_or (set at g 0) x 0 ≢ 0) → (x ≡ g) ⊎ (x ≢ g)
-        → is_ahead lv at level x ≡ true
-    go x (inl lt) same = ahead_above lv at level x lt
-    go x (inr ne) (inl same) = absurd (ne (ap (λ y. slice_index_or (set at g 0) y 0) same
-        ∙ get_or-set_same at g 0 0 within))
-    go x (inr ne) (inr other) = ahead_waits lv at level x
-        (λ h. ne (get_or-set_other at g x 0 0 other ∙ h))
+    go : (x : ℕ) → (level < lv x) ⊎ (slice_index_or idle x 0 ≢ 0) → is_ahead lv at level x ≡ true
+    go x (inl lt) = ahead_above lv at level x lt
+    go x (inr ne) = absurd (ne (none x))

@@ -1,5 +1,5 @@
 -- Outcomes that are kept, and classes that are followed to one stem.
-use Rattle.std.proofs.Common.{◌≡◌, ◌≢◌, ◌+◌, ◌<◌, ◌≤◌, ℕ, refl, sym, ◌∙◌, ap, subst, List, [], ◌∷◌}
+use Rattle.std.proofs.Common.{◌≡◌, ◌≢◌, ◌<◌, ◌≤◌, ℕ, refl, sym, ◌∙◌, ap, subst, List, [], ◌∷◌}
 use Rattle.std.proofs.Common.{◌++◌, length, set}
 use Rattle.std.proofs.Common.{inl, inr, ◌⊎◌, arith}
 use Rattle.std.specs.Prelude.{bit_and, slice_index_or}
@@ -21,7 +21,6 @@ use Rattle.block_sim.specs.Simulation.{AreFollowed, AreTrueBut, AreTrueMemos, Ha
 use Rattle.block_sim.specs.Simulation.{IsFollowed, IsTrueMemo, TellsFirstIn}
 use Rattle.block_sim.specs.Spans.{AreInSpan, group_of}
 use Rattle.block_sim.specs.Words.{lane}
-use Rattle.block_sim.proofs.LevelCount.{level_within}
 use Rattle.block_sim.proofs.RegionLanes.{lanes_first, lanes_law}
 
 -- the first test that detects a class that came to a stem in some lanes
@@ -132,14 +131,12 @@ followed_more job span stem followed one before within at x there =
         same (within, at)
     go (inr (inr bad)) = absurd bad
 
--- what is at rest has room for each level of a circuit that it has room for
+-- what is at rest has room for a circuit that it has words for
 pub room_at_rest : (job : Parts) (changes : Changes) → IsWellFormed job.circuit → IsAtRest changes
     → length (names job.circuit) ≤ length changes.overlay → HasRoomFor job.circuit changes
 room_at_rest job changes well rest room = record {
   overlay = room;
   gates = (let same = rest.gates in omega (arith, same, room));
-  levels = λ g k h. (let le = level_within job.circuit g k well h in let same = rest.levels in
-      omega (arith, le, same, room));
 }
 
 -- after a call nothing waits, and there is as much room
@@ -147,6 +144,6 @@ pub rest_after : (before after : Changes) → IsAtRest before → IsAsLarge befo
     → IsAtRest after
 rest_after before after rest large clear = record {
   clear = clear;
-  gates = large.gates ∙ (rest.gates ∙ sym large.overlay);
-  levels = large.levels ∙ (rest.levels ∙ ap (λ n. n + 1) (sym large.overlay));
+  gates = (let a = large.gates in let b = rest.gates in let e = large.overlay in
+      omega (arith, a, b, e));
 }

@@ -3,15 +3,19 @@ use Rattle.std.proofs.Common.{◌≡◌, ◌<◌, ℕ, refl, sym, ◌∙◌, ap,
 use Rattle.std.specs.Prelude.{Contains, Option, map}
 use Rattle.std.specs.Option.{option_map_or}
 use Rattle.bench_net.specs.Statement.{Name, Statement, Gate}
-use Rattle.bench_net.specs.Scan.{names, signal}
+use Rattle.bench_net.specs.Scan.{names, name_of, signal}
 use Rattle.bench_net.specs.Circuit.{IsWellFormed}
 use Rattle.bench_net.specs.Level.{AreLevels, HasLevel}
 use Rattle.lists.proofs.Members.{among, contained, among_map}
 use Rattle.bench_net.proofs.Public.{name_of-signal, read_named}
 use Rattle.lists.proofs.Places.{at_place, within_place}
 use Rattle.fault_model.proofs.Public.{below_greatest, defined_among}
-use Rattle.block_sim.specs.Events.{Reads, level_at}
+use Rattle.block_sim.specs.Events.{Reads}
 use Rattle.block_sim.proofs.LevelOrder.{one_level}
+
+-- the level of a signal, by its number
+abbrev pub level_at : List Statement → (Name → ℕ) → ℕ → ℕ
+level_at c level s = option_map_or level (name_of c s) 0
 
 pub level_named : (c : List Statement) (level : Name → ℕ) (n : Name) (s : ℕ) → Contains (names c) n
     → signal c n ≡ s → level_at c level s ≡ level n

@@ -1,37 +1,35 @@
 -- From one moment of a simulation by events to a later one.
-use Rattle.std.proofs.Common.{◌≡◌, ◌≢◌, ◌<◌, ◌≤◌, ℕ, ◌+◌, refl, sym, ◌∙◌, ap, subst, true, List}
-use Rattle.std.proofs.Common.{length, map, arith, set}
+use Rattle.std.proofs.Common.{◌≡◌, ◌≢◌, ◌<◌, ◌≤◌, ◌⊎◌, ℕ, ◌+◌, refl, sym, ◌∙◌, ap, subst, true, List}
+use Rattle.std.proofs.Common.{length, map, arith, set, inl, inr}
 use Rattle.std.specs.Prelude.{Some, None, slice_index_or, slice_set, bit_or, bit_xor, count_by}
 use Rattle.std.specs.Prelude.{◌==◌}
 use Rattle.std.specs.Bool.{Decides}
-use Rattle.std.proofs.lemmas.Bool.{false≢true}
+use Rattle.std.proofs.lemmas.Bool.{cases_lt}
 use Rattle.std.proofs.lemmas.List.{length-set, set-set, set-get_or, get_or-set_same}
-use Rattle.std.proofs.lemmas.List.{get_or-set_other}
+use Rattle.std.proofs.lemmas.List.{get_or-set_other, get_or_past}
 use Rattle.bench_net.specs.declared.Kind.{Kind}
-use Rattle.bench_net.specs.Statement.{Name, Statement}
+use Rattle.bench_net.specs.Statement.{Statement}
 use Rattle.bench_net.specs.Scan.{gate_of, signal}
 use Rattle.bench_net.specs.Circuit.{IsWellFormed}
-use Rattle.bench_net.specs.Level.{AreLevels}
 use Rattle.fault_model.specs.Fault.{Fault}
 use Rattle.fault_model.specs.Solution.{Test, value}
 use Rattle.event_queue.proofs.Public.{index_zero}
 use Rattle.block_sim.specs.declared.changes.Changes.{Changes}
 use Rattle.block_sim.specs.Changes.{HasRoomFor, IsAsLarge, IsClear, IsTaken}
-use Rattle.block_sim.specs.Events.{level_at, AreScheduled, IsObserved}
+use Rattle.block_sim.specs.Events.{AreScheduled, IsLive, IsObserved, IsRising, Reads}
 use Rattle.block_sim.specs.Moments.{Case, Leads, Moment, Spreads, left, moment}
 use Rattle.block_sim.specs.Spreading.{IsFirstChange, IsSpreading, AreSeen, ahead}
 use Rattle.block_sim.specs.Words.{lane, pin_bits}
-use Rattle.block_sim.proofs.GatesAhead.{ahead_higher, ahead_skipped}
+use Rattle.block_sim.proofs.GatesAhead.{ahead_cleared, ahead_higher}
 use Rattle.block_sim.proofs.FirstChange.{spreading_first, count_first}
 use Rattle.block_sim.proofs.SignalEquations.{gate_named}
-use Rattle.block_sim.proofs.Readers.{reader_within}
-use Rattle.block_sim.proofs.LevelsRise.{reads_rise}
+use Rattle.block_sim.proofs.Readers.{no_loop, reader_within}
 use Rattle.block_sim.proofs.SeenLanes.{seen_changed, seen_first, seen_like, seen_narrower}
 use Rattle.block_sim.proofs.SeenLanes.{from_none}
 use Rattle.block_sim.proofs.SeenLanes.{with_none}
 use Rattle.block_sim.proofs.Spreading.{ahead_changed, ahead_same, evaluated_changed, evaluated_same}
-use Rattle.block_sim.proofs.Spreading.{level_done, spreading_narrower, spreading_skipped}
-use Rattle.block_sim.proofs.Steps.{lane_of_zero, restored}
+use Rattle.block_sim.proofs.Spreading.{level_done, spreading_cleared, spreading_narrower}
+use Rattle.block_sim.proofs.Steps.{restored}
 
 -- a moment, by all that it has
 abbrev pub moment_of : List ℕ → List ℕ → ℕ → ℕ → ℕ → ℕ → Moment
@@ -74,7 +72,7 @@ module _ (c : List Statement) (good : List ℕ) (lanes : ℕ) where
       (moment_of delta at evaluations level narrow seen)
   leads_narrower delta at evaluations level kept seen narrow within = record {
     spreading = λ case h.
-        spreading_narrower c case.tests case.group case.fault good lanes (level_at c case.level)
+        spreading_narrower c case.tests case.group case.fault good lanes (λ s. s)
         case.start kept delta at level narrow within h;
     counted = λ case gates h all. omega arith;
     seen = seen_narrower c delta kept seen narrow within;
@@ -82,70 +80,53 @@ module _ (c : List Statement) (good : List ℕ) (lanes : ℕ) where
     grown = omega arith;
   }
 
-  -- ---- no gate waits at the level any more
-  pub leads_higher : (delta at now : List ℕ) (evaluations level kept seen : ℕ) → now ≡ at
-      → ((g : ℕ) → slice_index_or at g 0 ≢ level + 1)
+  -- ---- no gate waits before a place
+  pub leads_higher : (delta at : List ℕ) (evaluations level next kept seen : ℕ) → level ≤ next
+      → ((g : ℕ) → slice_index_or at g 0 ≢ 0 → next ≤ g)
       → Leads c good lanes (moment_of delta at evaluations level kept seen)
-      (moment_of delta now evaluations (level + 1) kept seen)
-  leads_higher delta at now evaluations level kept seen same none =
-      subst (λ x. Leads c good lanes (moment_of delta at evaluations level kept seen)
-      (moment_of delta x evaluations (level + 1) kept seen)) (sym same) (record {
-        spreading = λ case h.
-            level_done c case.tests case.group case.fault good lanes (level_at c case.level)
-            case.start kept delta at level none h;
-        counted = λ case gates h all. let less =
-            ahead_higher (level_at c case.level) at level gates in omega (arith, less);
-        seen = λ h. h;
-        more = λ s ne. ne;
-        grown = omega arith;
-      })
+      (moment_of delta at evaluations next kept seen)
+  leads_higher delta at evaluations level next kept seen le above = record {
+    spreading = λ case h.
+        level_done c case.tests case.group case.fault good lanes (λ s. s)
+        case.start kept delta at level next le above h;
+    counted = λ case gates h all. let less =
+        ahead_higher (λ s. s) at level next gates le in omega (arith, less);
+    seen = λ h. h;
+    more = λ s ne. ne;
+    grown = omega arith;
+  }
 
-  -- ---- a gate is taken that waits at the level
+  -- ---- a gate is taken
   pub leads_taken : (delta at taken : List ℕ) (evaluations level kept seen gate : ℕ) (n : Moment)
-      → taken ≡ set at gate 0 → slice_index_or at gate 0 ≡ level + 1
-      → Leads c good lanes (moment_of delta (slice_set taken gate (level + 1)) evaluations level
+      → taken ≡ set at gate 0 → slice_index_or at gate 0 ≡ 1
+      → Leads c good lanes (moment_of delta (slice_set taken gate 1) evaluations level
       kept seen) n → Leads c good lanes (moment_of delta at evaluations level kept seen) n
   leads_taken delta at taken evaluations level kept seen gate n is waits h =
       subst (λ x. Leads c good lanes (moment_of delta x evaluations level kept seen) n) back h
     where
-      back : slice_set taken gate (level + 1) ≡ at
-      back = ap (λ x. set x gate (level + 1)) is
-          ∙ (set-set at gate 0 (level + 1) ∙ (ap (set at gate) (sym waits) ∙ set-get_or at gate 0))
+      back : slice_set taken gate 1 ≡ at
+      back = ap (λ x. set x gate 1) is
+          ∙ (set-set at gate 0 1 ∙ (ap (set at gate) (sym waits) ∙ set-get_or at gate 0))
 
-  -- ---- it is not evaluated
-  pub leads_skipped : (delta at : List ℕ) (evaluations level kept seen gate : ℕ) → gate < length at
-      → slice_index_or at gate 0 ≡ 0 → kept ≡ 0
-      → Leads c good lanes (moment_of delta (slice_set at gate (level + 1)) evaluations level kept
-      seen) (moment_of delta at evaluations level kept (bit_or seen 0))
-  leads_skipped delta at evaluations level kept seen gate in_at waits none = record {
+  -- ---- no lane is followed any more, or none waits, and what waits is cleared
+  pub leads_cleared : (delta at idle : List ℕ) (evaluations level kept seen : ℕ)
+      → ((g : ℕ) → slice_index_or idle g 0 ≡ 0)
+      → (kept ≡ 0) ⊎ ((g : ℕ) → slice_index_or at g 0 ≡ 0)
+      → Leads c good lanes (moment_of delta at evaluations level kept seen)
+      (moment_of delta idle evaluations level kept seen)
+  leads_cleared delta at idle evaluations level kept seen clear stop = record {
     spreading = λ case h.
-        let lv = level_at c case.level in
-        subst (λ x. IsSpreading c case.tests case.group case.fault good lanes lv case.start kept
-        delta x level) back
-        (spreading_skipped c case.tests case.group case.fault good lanes lv case.start kept delta
-        taken_at level gate in_taken
-        (λ k e. false≢true (sym (lane_of_zero kept k none) ∙ e)) h);
+        spreading_cleared c case.tests case.group case.fault good lanes (λ s. s) case.start kept
+        delta at idle level clear stop h;
     counted = λ case gates h all.
-        let lv = level_at c case.level in
-        let less = subst (λ x. ahead lv x level gates ≤ ahead lv taken_at level gates) back
-        (ahead_skipped lv taken_at level gate gates in_taken) in
-        omega (arith, less);
-    seen = seen_like c delta kept seen (bit_or seen 0) (with_none seen);
+        let less = ahead_cleared (λ s. s) at idle level gates clear in omega (arith, less);
+    seen = λ h. h;
     more = λ s ne. ne;
     grown = omega arith;
   }
-    where
-      taken_at : List ℕ
-      taken_at = slice_set at gate (level + 1)
-
-      in_taken : gate < length taken_at
-      in_taken = omega (arith, in_at, length-set at gate (level + 1))
-
-      back : slice_set taken_at gate 0 ≡ at
-      back = restored at gate level waits
 
   -- ---- it is evaluated
-  module _ (well : IsWellFormed c) (delta at : List ℕ) (before after level kept seen gate : ℕ)
+  module _ (well : IsWellFormed c) (delta at : List ℕ) (before after kept seen gate : ℕ)
       (in_at : gate < length at) (in_delta : gate < length delta) (waits : slice_index_or at gate 0
       ≡ 0)
       (grown : before ≤ after) (one : after ≤ before + 1) (kind : Kind) (pins : List ℕ)
@@ -153,36 +134,36 @@ module _ (c : List Statement) (good : List ℕ) (lanes : ℕ) where
       (valued : (k : ℕ) → k < 128 → lane word k ≡ value kind (pin_bits None gate pins good delta k))
     where
       abbrev taken_at : List ℕ
-      taken_at = slice_set at gate (level + 1)
+      taken_at = slice_set at gate 1
 
       in_taken : gate < length taken_at
-      in_taken = omega (arith, in_at, length-set at gate (level + 1))
+      in_taken = omega (arith, in_at, length-set at gate 1)
 
-      taken : slice_index_or taken_at gate 0 ≡ level + 1
-      taken = get_or-set_same at gate (level + 1) 0 in_at
+      taken : slice_index_or taken_at gate 0 ≢ 0
+      taken e = let one = get_or-set_same at gate 1 0 in_at in omega (arith, one, e)
 
       back : slice_set taken_at gate 0 ≡ at
-      back = restored at gate level waits
+      back = restored at gate 0 waits
 
       -- its word is what it was
       pub leads_same : ((k : ℕ) → k < 128 → lane kept k ≡ true
           → lane (slice_index_or good gate 0) k ≡ lane word k)
-          → Leads c good lanes (moment_of delta (slice_set at gate (level + 1)) before level kept
-          seen) (moment_of delta at after level kept (bit_or seen 0))
+          → Leads c good lanes (moment_of delta (slice_set at gate 1) before gate kept
+          seen) (moment_of delta at after gate kept (bit_or seen 0))
       leads_same same = record {
         spreading = λ case h.
-            let lv = level_at c case.level in
+            let lv : ℕ → ℕ = (λ s. s) in
             subst (λ x. IsSpreading c case.tests case.group case.fault good lanes lv case.start kept
-            delta x level) back
+            delta x gate) back
             (evaluated_same c case.tests case.group case.fault good lanes lv case.start kept well
-            (reads_rise c case.level well case.levels) case.elsewhere
-            delta taken_at level gate h taken in_taken in_delta kind pins is word valued same);
+            case.rising case.elsewhere
+            delta taken_at gate gate h taken refl in_taken in_delta kind pins is word valued same);
         counted = λ case gates h all.
-            let lv = level_at c case.level in
-            let less = subst (λ x. ahead lv x level gates + 1 ≤ ahead lv taken_at level gates) back
+            let lv : ℕ → ℕ = (λ s. s) in
+            let less = subst (λ x. ahead lv x gate gates + 1 ≤ ahead lv taken_at gate gates) back
             (ahead_same c case.tests case.group case.fault good lanes lv case.start kept well
-            (reads_rise c case.level well case.levels) case.elsewhere
-            delta taken_at level gate h taken in_taken in_delta kind pins is word valued gates
+            case.rising case.elsewhere
+            delta taken_at gate gate h taken refl in_taken in_delta kind pins is word valued gates
             all) in
             omega (arith, less, one);
         seen = seen_like c delta kept seen (bit_or seen 0) (with_none seen);
@@ -196,41 +177,38 @@ module _ (c : List Statement) (good : List ℕ) (lanes : ℕ) where
           → ((k : ℕ) → k < 128 → lane diff k ≡ true → lane kept k ≡ true)
           → ((k : ℕ) → k < 128 → lane kept k ≡ true
           → lane (bit_xor (slice_index_or good gate 0) diff) k ≡ lane word k)
-          → ((level : Name → ℕ) → AreLevels c level → AreScheduled c (level_at c level) gate at new)
+          → AreScheduled c gate at new
           → ((k : ℕ) → k < 128 → Decides (lane shown k) (IsObserved c gate × (lane diff k ≡ true)))
-          → Leads c good lanes (moment_of delta (slice_set at gate (level + 1)) before level kept
-          seen) (moment_of now new after level kept (bit_or seen shown))
+          → Leads c good lanes (moment_of delta (slice_set at gate 1) before gate kept
+          seen) (moment_of now new after gate kept (bit_or seen shown))
       leads_changed diff shown now new clear is_now differs a_lane in_kept changed scheduled
           observed =
           subst (λ x. Leads c good lanes
-          (moment_of delta (slice_set at gate (level + 1)) before level
-          kept seen) (moment_of x new after level kept (bit_or seen shown))) (sym is_now)
+          (moment_of delta (slice_set at gate 1) before gate
+          kept seen) (moment_of x new after gate kept (bit_or seen shown))) (sym is_now)
           (record {
             spreading = λ case h.
                 evaluated_changed c case.tests case.group case.fault good lanes
-                (level_at c case.level) case.start kept well
-                (reads_rise c case.level well case.levels) case.elsewhere
-                delta taken_at level gate h taken in_taken in_delta kind pins is word valued diff
+                (λ s. s) case.start kept well
+                case.rising case.elsewhere
+                delta taken_at gate gate h taken refl in_taken in_delta kind pins is word valued diff
                 new
-                differs a_lane in_kept changed (scheduled_now case);
+                differs a_lane in_kept changed scheduled_now;
             counted = λ case gates h all.
                 let less = ahead_changed c case.tests case.group case.fault good lanes
-                (level_at c case.level) case.start kept well
-                (reads_rise c case.level well case.levels) case.elsewhere
-                delta taken_at level gate h taken in_taken in_delta kind pins is word valued diff
+                (λ s. s) case.start kept well
+                case.rising case.elsewhere
+                delta taken_at gate gate h taken refl in_taken in_delta kind pins is word valued diff
                 new
-                differs a_lane in_kept changed (scheduled_now case) gates all in
+                differs a_lane in_kept changed scheduled_now gates all in
                 omega (arith, less, one);
             seen = seen_changed c delta kept seen gate diff shown clear in_delta observed;
             more = more;
             grown = grown;
           })
         where
-          scheduled_now : (case : Case c) → AreScheduled c (level_at c case.level) gate
-              (set taken_at gate 0) new
-          scheduled_now case = subst (λ b. AreScheduled c (level_at c case.level) gate b new)
-              (sym back)
-              (scheduled case.level case.levels)
+          scheduled_now : AreScheduled c gate (set taken_at gate 0) new
+          scheduled_now = subst (λ b. AreScheduled c gate b new) (sym back) scheduled
 
           more : (s : ℕ) → slice_index_or delta s 0 ≢ 0
               → slice_index_or (set delta gate diff) s 0 ≢ 0
@@ -241,54 +219,46 @@ module _ (c : List Statement) (good : List ℕ) (lanes : ℕ) where
 -- ---- the first moment, after the first change of a fault
 abbrev pub case_of : (c : List Statement) (tests : List Test) (group : ℕ) (f : ℕ
     → Fault) (good : List ℕ) (lanes : ℕ) (delta : List ℕ) (start diff : ℕ)
-    → IsFirstChange c tests group f good lanes delta start diff → (level : Name → ℕ)
-    → AreLevels c level → Case c
-case_of c tests group f good lanes delta start diff first level levels = record {
+    → IsFirstChange c tests group f good lanes delta start diff → IsRising c → Case c
+case_of c tests group f good lanes delta start diff first rising = record {
   tests = tests;
   group = group;
   fault = f;
   start = start;
   elsewhere = first.elsewhere;
-  level = level;
-  levels = levels;
+  rising = rising;
 }
 
 module _ (c : List Statement) (tests : List Test) (group : ℕ) (f : ℕ
     → Fault) (good : List ℕ) (lanes : ℕ) (before after : Changes) (start diff : ℕ)
     (well : IsWellFormed c)
-    (first : IsFirstChange c tests group f good lanes before.overlay start diff) (level : Name
-    → ℕ) (levels : AreLevels c level)
-    (clear : IsClear before) (scheduled : (level : Name → ℕ) → AreLevels c level
-    → AreScheduled c (level_at c level) start before.buckets.at after.buckets.at)
-    (now : ℕ) (here : level_at c level start ≡ now) (kept seen : ℕ) where
+    (first : IsFirstChange c tests group f good lanes before.overlay start diff)
+    (rising : IsRising c) (clear : IsClear before)
+    (scheduled : AreScheduled c start before.waiting after.waiting) (kept seen : ℕ) where
   pub first_spreads : after.overlay ≡ set before.overlay start diff → start < length before.overlay
       → diff ≢ 0 → (k : ℕ) × (k < 128) × (lane diff k ≡ true)
       → ((k : ℕ) → k < 128 → lane diff k ≡ true → lane lanes k ≡ true)
       → ((k : ℕ) → k < 128 → lane kept k ≡ true → lane lanes k ≡ true)
       → Spreads c good lanes (case_of c tests group f good lanes before.overlay start diff first
-      level levels) (moment after now kept seen)
+      rising) (moment after start kept seen)
   first_spreads changed within differs a_lane in_lanes narrow =
-      spreading_narrower c tests group f good lanes (level_at c level) start lanes after.overlay
-      after.buckets.at now kept narrow
-      (subst (λ x. IsSpreading c tests group f good lanes (level_at c level) start lanes x
-      after.buckets.at now) (sym changed)
-      (subst (IsSpreading c tests group f good lanes (level_at c level) start lanes
-      (set before.overlay start diff) after.buckets.at) here
-      (spreading_first c tests group f good lanes (level_at c level) start well
-      (reads_rise c level well levels) before.overlay before.buckets.at after.buckets.at
-      (λ t. index_zero before.buckets.at t clear.gates) (scheduled level levels) diff first.words
+      spreading_narrower c tests group f good lanes (λ s. s) start lanes after.overlay
+      after.waiting start kept narrow
+      (subst (λ x. IsSpreading c tests group f good lanes (λ s. s) start lanes x
+      after.waiting start) (sym changed)
+      (spreading_first c tests group f good lanes (λ s. s) start well
+      rising before.overlay before.waiting after.waiting
+      (λ t. index_zero before.waiting t clear.gates) scheduled diff first.words
       (λ t. index_zero before.overlay t clear.words) first.elsewhere first.first within differs
-      a_lane in_lanes)))
+      a_lane in_lanes))
 
   pub first_left : (gates : List ℕ)
-      → left c (case_of c tests group f good lanes before.overlay start diff first level levels)
-      (moment after now kept seen) gates + count_by (λ g. g == start) gates ≤ length gates
+      → left c (case_of c tests group f good lanes before.overlay start diff first rising)
+      (moment after start kept seen) gates + count_by (λ g. g == start) gates ≤ length gates
   first_left gates =
-      let few = count_first c tests group f good lanes (level_at c level) start well
-      (reads_rise c level well levels) before.overlay before.buckets.at after.buckets.at
-      (λ t. index_zero before.buckets.at t clear.gates) (scheduled level levels) gates in
-      let same = ap (λ x. ahead (level_at c level) after.buckets.at x gates) here in
-      omega (arith, few, same)
+      count_first c tests group f good lanes (λ s. s) start well
+      rising before.overlay before.waiting after.waiting
+      (λ t. index_zero before.waiting t clear.gates) scheduled gates
 
 -- what is seen of the first change, and of the lanes that are then followed
 pub first_seen : (c : List Statement) (lanes : ℕ) (before after : Changes)
@@ -307,11 +277,11 @@ first_seen c lanes before after start diff seen kept rest changed within shown n
     clear : (t : ℕ) → slice_index_or before.overlay t 0 ≡ 0
     clear t = index_zero before.overlay t rest.words
 
--- a gate that waits at the level, and is taken
+-- a gate that waits, and is taken
 pub taken_now : (c : List Statement) (good : List ℕ) (lanes : ℕ) (well : IsWellFormed c)
     (case : Case c) (at : List ℕ) (level kept seen gate : ℕ) (t : Changes)
     → Spreads c good lanes case (moment_of t.overlay at t.evaluations level kept seen)
-    → gate < length at → slice_index_or at gate 0 ≡ level + 1 → t.buckets.at ≡ set at gate 0
+    → gate < length at → slice_index_or at gate 0 ≡ 1 → t.waiting ≡ set at gate 0
     → IsTaken c t gate
 taken_now c good lanes well case at level kept seen gate t h in_at is taken =
     let waits : slice_index_or at gate 0 ≢ 0 = (λ e. omega (arith, e, is)) in
@@ -327,24 +297,43 @@ taken_now c good lanes well case at level kept seen gate t h in_at is taken =
       clear = h.waits_clear gate waits;
     }
 
--- and lies at the level
-pub taken_here : (c : List Statement) (good : List ℕ) (lanes : ℕ) (case : Case c)
-    (delta at : List ℕ) (evaluations level kept seen gate : ℕ)
-    → Spreads c good lanes case (moment_of delta at evaluations level kept seen)
-    → slice_index_or at gate 0 ≡ level + 1 → level_at c case.level gate ≡ level
-taken_here c good lanes case delta at evaluations level kept seen gate h is = let e =
-    h.at_level gate (λ none. omega (arith, none, is)) in omega (arith, e, is)
+-- what waits has a place
+pub place_within : (at : List ℕ) (g : ℕ) → slice_index_or at g 0 ≢ 0 → g < length at
+place_within at g ne = go (cases_lt g (length at))
+  where
+    go : (g < length at) ⊎ (length at ≤ g) → g < length at
+    go (inl lt) = lt
+    go (inr le) = absurd (ne (get_or_past at g 0 le))
+
+-- nor does it wait again for its own change
+pub idle_still : (c : List Statement) (gate : ℕ) (before after : List ℕ) → IsWellFormed c
+    → AreScheduled c gate before after → slice_index_or before gate 0 ≡ 0
+    → slice_index_or after gate 0 ≡ 0
+idle_still c gate before after well scheduled idle = go (scheduled.only gate)
+  where
+    go : (slice_index_or after gate 0 ≡ slice_index_or before gate 0)
+        ⊎ ((Reads c gate gate × IsLive c gate) × (slice_index_or after gate 0 ≢ 0))
+        → slice_index_or after gate 0 ≡ 0
+    go (inl e) = e ∙ idle
+    go (inr w) = absurd (no_loop c gate well w.0.0)
+
+-- it waits no more once it is evaluated, and what waits then lies behind it
+pub taken_behind : (c : List Statement) (good : List ℕ) (lanes : ℕ) (case : Case c) (m : Moment)
+    → Spreads c good lanes case m → slice_index_or m.at m.level 0 ≡ 0
+    → (g : ℕ) → slice_index_or m.at g 0 ≢ 0 → m.level + 1 ≤ g
+taken_behind c good lanes case m h idle g ne = let le = h.not_below g ne in
+    let other : g ≢ m.level = λ e. ne (ap (λ x. slice_index_or m.at x 0) e ∙ idle) in
+    omega (arith, le, other)
 
 -- as large as it is
 pub large_none : (m : Changes) → IsAsLarge m m
-large_none m = record { overlay = refl; gates = refl; levels = refl }
+large_none m = record { overlay = refl; gates = refl }
 
 -- as large, one after another
 pub large_on : (l m n : Changes) → IsAsLarge l m → IsAsLarge m n → IsAsLarge l n
 large_on l m n a b = record {
   overlay = b.overlay ∙ a.overlay;
   gates = b.gates ∙ a.gates;
-  levels = b.levels ∙ a.levels;
 }
 
 pub large_enough : (c : List Statement) (m n : Changes) → HasRoomFor c m → IsAsLarge m n
@@ -352,6 +341,4 @@ pub large_enough : (c : List Statement) (m n : Changes) → HasRoomFor c m → I
 large_enough c m n room large = record {
   overlay = (let a = room.overlay in let b = large.overlay in omega (arith, a, b));
   gates = (let a = room.gates in let b = large.gates in omega (arith, a, b));
-  levels = λ g k h. let lt = room.levels g k h in let same = large.levels in
-      omega (arith, lt, same);
 }

@@ -1,26 +1,23 @@
 -- A pass over the readers of a signal, which wait from then on, and one over its sinks, which tells
 -- whether some is an observer.
-use Rattle.std.proofs.Common.{◌≡◌, ◌≢◌, ◌<◌, ◌≤◌, ℕ, zero, suc, ◌+◌, refl, sym, ◌∙◌, ap, subst}
+use Rattle.std.proofs.Common.{◌≡◌, ◌≢◌, ◌<◌, ◌≤◌, ℕ, ◌+◌, refl, sym, ◌∙◌, ap, subst}
 use Rattle.std.proofs.Common.{Bool, true, false, List, [], ◌∷◌, length, set, arith, inl, inr, ◌⊎◌}
-use Rattle.std.specs.Prelude.{Some, None, map, slice_get, slice_index_or, unwrap_or, IsTrue, ◌↔◌}
-use Rattle.std.proofs.lemmas.List.{get_or-set_same, get_or-set_other, length-map}
+use Rattle.std.specs.Prelude.{Some, slice_get, slice_index_or, IsTrue, ◌↔◌}
+use Rattle.std.proofs.lemmas.List.{get_or-set_same, get_or-set_other}
 use Rattle.std.proofs.lemmas.Bool.{cases_eq, false≢true}
 use Rattle.bench_net.specs.declared.Sink.{Sink}
 use Rattle.bench_net.specs.declared.Sink.TheVariants as sink
 use Rattle.bench_net.specs.Statement.{Name, Statement, Input, Output, Gate, Dff}
 use Rattle.bench_net.specs.Scan.{names, signal, name_of, sinks, cells}
 use Rattle.bench_net.specs.Circuit.{IsWellFormed}
-use Rattle.bench_net.specs.Level.{AreLevels, HasLevel}
-use Rattle.lists.proofs.Members.{Among, contained}
+use Rattle.lists.proofs.Members.{Among, among, contained}
 use Rattle.bench_net.proofs.Public.{name_of-signal, signal-name_of}
 use Rattle.lists.proofs.Places.{at_place, placed, place_within, within_place}
 use Rattle.fault_model.proofs.Public.{observes, data_reads, out_reads}
-use Rattle.block_sim.specs.declared.flat.Reader.{Reader}
-use Rattle.block_sim.specs.Events.{Reads, IsLive, IsObserved, AreScheduled, level_at}
+use Rattle.block_sim.specs.Events.{Reads, IsLive, IsObserved, AreScheduled}
 use Rattle.block_sim.specs.Flat.{AreReaders}
 use Rattle.block_sim.proofs.ListPlaces.{index_of}
 use Rattle.block_sim.proofs.Readers.{reader_within, sink_reads}
-use Rattle.block_sim.proofs.LevelsRise.{level_is}
 use Rattle.block_sim.proofs.FaultStart.{output_observed, cell_observed}
 
 cell_among : (c : List Statement) (q d : Name) → Among (Dff q d) c → Among (q, d) (cells c)
@@ -36,14 +33,12 @@ cell_among (Gate m kind args ∷ c) q d (inl same) = let it : Gate m kind args �
 cell_among (Gate m kind args ∷ c) q d (inr a) = cell_among c q d a
 
 -- the first readers wait, and no others that did not before
-pub record HasScheduled (c : List Statement) (s : ℕ) (items : List Reader) (i : ℕ)
+pub record HasScheduled (c : List Statement) (s : ℕ) (items : List ℕ) (i : ℕ)
     (before at : List ℕ) : Type 0 where
-  pub readers : (j : ℕ) (reader : Reader) → j < i → slice_get items j ≡ Some reader
-      → slice_index_or at reader.gate 0 ≢ 0
-  pub only : (level : Name → ℕ) → AreLevels c level → (r : ℕ)
-      → (slice_index_or at r 0 ≡ slice_index_or before r 0)
-      ⊎ ((Reads c r s × IsLive c r) × (slice_index_or before r 0 ≡ 0)
-      × (slice_index_or at r 0 ≡ level_at c level r + 1))
+  pub readers : (j gate : ℕ) → j < i → slice_get items j ≡ Some gate
+      → slice_index_or at gate 0 ≢ 0
+  pub only : (r : ℕ) → (slice_index_or at r 0 ≡ slice_index_or before r 0)
+      ⊎ ((Reads c r s × IsLive c r) × (slice_index_or at r 0 ≢ 0))
 
 -- whether some of the first sinks is an observer's
 pub record HasObserver (c : List Statement) (s : ℕ) (items : List Sink) (i : ℕ)
@@ -52,11 +47,11 @@ pub record HasObserver (c : List Statement) (s : ℕ) (items : List Sink) (i : �
   pub none : observed ≡ false → (j : ℕ) → j < i → (gate : ℕ) × (pin : ℕ)
       × (slice_get items j ≡ Some (sink.Pin gate pin))
 
-pub scheduled_none : (c : List Statement) (s : ℕ) (items : List Reader) (at : List ℕ)
+pub scheduled_none : (c : List Statement) (s : ℕ) (items at : List ℕ)
     → HasScheduled c s items 0 at at
 scheduled_none c s items at = record {
-  readers = λ j reader lt. absurd (omega (arith, lt));
-  only = λ level are r. inl refl;
+  readers = λ j gate lt. absurd (omega (arith, lt));
+  only = λ r. inl refl;
 }
 
 pub observer_none : (c : List Statement) (s : ℕ) (items : List Sink) → HasObserver c s items 0 false
@@ -72,117 +67,63 @@ at_end i j lt = go (cases_eq j i)
     go (inl e) = inr e
     go (inr ne) = inl (omega (arith, lt, ne))
 
-gate_at : (items : List Reader) (k d : ℕ) (x : Reader) → slice_get items k ≡ Some x
-    → slice_index_or (map (λ reader. reader.gate) items) k d ≡ x.gate
-gate_at [] k d x e = let bad : None ≡ Some x = e in cc
-gate_at (y ∷ items) zero d x e = ap (λ (reader : Reader). reader.gate) (ap (λ o. unwrap_or o x) e)
-gate_at (y ∷ items) (suc k) d x e = gate_at items k d x e
+module _ (c : List Statement) (s : ℕ) (items : List ℕ) (are : AreReaders c s items) where
+  -- one reader more
+  pub scheduled_added : (i gate : ℕ) (before at : List ℕ) → slice_index_or items i 0 ≡ gate
+      → i < length items → HasScheduled c s items i before at → gate < length at
+      → HasScheduled c s items (i + 1) before (set at gate 1)
+  scheduled_added i gate before at is_own lt h within = record {
+    readers = λ j g below is. readers j g (at_end i j below) is;
+    only = λ r. only r (cases_eq r gate);
+  }
+    where
+      after : List ℕ
+      after = set at gate 1
 
-module _ (c : List Statement) (well : IsWellFormed c) (s : ℕ) (items : List Reader)
-    (are : AreReaders c s items) where
-  module _ (i : ℕ) (d own : Reader) (is_own : slice_index_or items i d ≡ own) (before at : List ℕ)
-      (lt : i < length items) (h : HasScheduled c s items i before at) where
-    -- a gate that waits already
-    pub scheduled_waits : slice_index_or at own.gate 0 ≢ 0
-        → HasScheduled c s items (i + 1) before at
-    scheduled_waits waits = record {
-      readers = λ j reader below is. readers j reader (at_end i j below) is;
-      only = h.only;
-    }
-      where
-        readers : (j : ℕ) (reader : Reader) → (j < i) ⊎ (j ≡ i) → slice_get items j ≡ Some reader
-            → slice_index_or at reader.gate 0 ≢ 0
-        readers j reader (inl below) is = h.readers j reader below is
-        readers j reader (inr same) is =
-            let here : own ≡ reader = sym is_own
-            ∙ index_of items i reader d (ap (slice_get items) (sym same) ∙ is) in
-            subst (λ (r : Reader). slice_index_or at r.gate 0 ≢ 0) here waits
+      here : slice_index_or after gate 0 ≢ 0
+      here e = let one = get_or-set_same at gate 1 0 within in omega (arith, one, e)
 
-    has : (Reads c own.gate s × IsLive c own.gate) × HasLevel c own.gate own.level
-    has = subst (λ (r : Reader). (Reads c r.gate s × IsLive c r.gate)
-        × HasLevel c r.gate r.level) is_own (are.each i d lt)
+      stays : (g : ℕ) → slice_index_or at g 0 ≢ 0 → (g ≡ gate) ⊎ (g ≢ gate)
+          → slice_index_or after g 0 ≢ 0
+      stays g ne (inl same) = subst (λ x. slice_index_or after x 0 ≢ 0) (sym same) here
+      stays g ne (inr other) = λ z. ne (sym (get_or-set_other at gate g 1 0 other) ∙ z)
 
-    -- a gate that waits from now on
-    pub scheduled_added : own.gate < length at → slice_index_or at own.gate 0 ≡ 0
-        → HasScheduled c s items (i + 1) before (set at own.gate (own.level + 1))
-    scheduled_added within idle = record {
-      readers = λ j reader below is. readers j reader (at_end i j below) is;
-      only = λ levels are_levels r. only levels are_levels r (cases_eq r own.gate);
-    }
-      where
-        after : List ℕ
-        after = set at own.gate (own.level + 1)
+      readers : (j g : ℕ) → (j < i) ⊎ (j ≡ i) → slice_get items j ≡ Some g
+          → slice_index_or after g 0 ≢ 0
+      readers j g (inl below) is = stays g (h.readers j g below is) (cases_eq g gate)
+      readers j g (inr same) is =
+          let one : gate ≡ g = sym is_own
+          ∙ index_of items i g 0 (ap (slice_get items) (sym same) ∙ is) in
+          subst (λ x. slice_index_or after x 0 ≢ 0) one here
 
-        here : slice_index_or after own.gate 0 ≡ own.level + 1
-        here = get_or-set_same at own.gate (own.level + 1) 0 within
+      only : (r : ℕ) → (r ≡ gate) ⊎ (r ≢ gate)
+          → (slice_index_or after r 0 ≡ slice_index_or before r 0)
+          ⊎ ((Reads c r s × IsLive c r) × (slice_index_or after r 0 ≢ 0))
+      only r (inl same) = inr (
+        subst (λ x. Reads c x s × IsLive c x) (is_own ∙ sym same) (are.each i 0 lt),
+        subst (λ x. slice_index_or after x 0 ≢ 0) (sym same) here,
+      )
+      only r (inr other) = go (h.only r)
+        where
+          kept : slice_index_or after r 0 ≡ slice_index_or at r 0
+          kept = get_or-set_other at gate r 1 0 other
 
-        stays : (g : ℕ) → slice_index_or at g 0 ≢ 0 → slice_index_or after g 0 ≢ 0
-        stays g ne z = ne (sym (get_or-set_other at own.gate g (own.level + 1) 0
-            (λ same. ne (ap (λ x. slice_index_or at x 0) same ∙ idle))) ∙ z)
-
-        readers : (j : ℕ) (reader : Reader) → (j < i) ⊎ (j ≡ i) → slice_get items j ≡ Some reader
-            → slice_index_or after reader.gate 0 ≢ 0
-        readers j reader (inl below) is = stays reader.gate (h.readers j reader below is)
-        readers j reader (inr same) is =
-            let one : own ≡ reader = sym is_own
-            ∙ index_of items i reader d (ap (slice_get items) (sym same) ∙ is) in
-            subst (λ (r : Reader). slice_index_or after r.gate 0 ≢ 0) one (λ z. omega (
-              arith,
-              z,
-              here,
-            ))
-
-        only : (levels : Name → ℕ) → AreLevels c levels → (r : ℕ) → (r ≡ own.gate) ⊎ (r ≢ own.gate)
-            → (slice_index_or after r 0 ≡ slice_index_or before r 0)
-            ⊎ ((Reads c r s × IsLive c r) × (slice_index_or before r 0 ≡ 0)
-            × (slice_index_or after r 0 ≡ level_at c levels r + 1))
-        only levels are_levels r (inl same) =
-            let reads : Reads c r s × IsLive c r = subst (λ x. Reads c x s × IsLive c x)
-            (sym same) has.0 in
-            let old : slice_index_or at r 0 ≡ 0 = ap (λ x. slice_index_or at x 0) same ∙ idle in
-            let now : slice_index_or after r 0 ≡ own.level + 1 =
-            ap (λ x. slice_index_or after x 0) same ∙ here in
-            let up : level_at c levels r ≡ own.level = ap (level_at c levels) same
-            ∙ level_is c levels own.gate own.level well are_levels has.1 in
-            inr (reads, was old (h.only levels are_levels r), now ∙ ap (λ x. x + 1) (sym up))
-          where
-            was : slice_index_or at r 0 ≡ 0 → (slice_index_or at r 0 ≡ slice_index_or before r 0)
-                ⊎ ((Reads c r s × IsLive c r) × (slice_index_or before r 0 ≡ 0)
-                × (slice_index_or at r 0 ≡ level_at c levels r + 1))
-                → slice_index_or before r 0 ≡ 0
-            was old (inl e) = sym e ∙ old
-            was old (inr w) = w.1
-        only levels are_levels r (inr other) = go (h.only levels are_levels r)
-          where
-            kept : slice_index_or after r 0 ≡ slice_index_or at r 0
-            kept = get_or-set_other at own.gate r (own.level + 1) 0 other
-
-            go : (slice_index_or at r 0 ≡ slice_index_or before r 0)
-                ⊎ ((Reads c r s × IsLive c r) × (slice_index_or before r 0 ≡ 0)
-                × (slice_index_or at r 0 ≡ level_at c levels r + 1))
-                → (slice_index_or after r 0 ≡ slice_index_or before r 0)
-                ⊎ ((Reads c r s × IsLive c r) × (slice_index_or before r 0 ≡ 0)
-                × (slice_index_or after r 0 ≡ level_at c levels r + 1))
-            go (inl e) = inl (kept ∙ e)
-            go (inr w) = inr (w.0, w.1, kept ∙ w.2)
+          go : (slice_index_or at r 0 ≡ slice_index_or before r 0)
+              ⊎ ((Reads c r s × IsLive c r) × (slice_index_or at r 0 ≢ 0))
+              → (slice_index_or after r 0 ≡ slice_index_or before r 0)
+              ⊎ ((Reads c r s × IsLive c r) × (slice_index_or after r 0 ≢ 0))
+          go (inl e) = inl (kept ∙ e)
+          go (inr w) = inr (w.0, λ z. w.1 (sym kept ∙ z))
 
   -- all readers
-  pub scheduled_all : (i : ℕ) (before at : List ℕ) (level : Name → ℕ) → length items ≤ i
-      → AreLevels c level → HasScheduled c s items i before at
-      → AreScheduled c (level_at c level) s before at
-  scheduled_all i before later level le are_levels h = record {
+  pub scheduled_all : (i : ℕ) (before at : List ℕ) → length items ≤ i
+      → HasScheduled c s items i before at → AreScheduled c s before at
+  scheduled_all i before later le h = record {
     readers = λ r reads live.
-        let there = are.all r reads live in
-        let within : there.0 < length items = omega (
-          arith,
-          there.1,
-          length-map items (λ (reader : Reader). reader.gate),
-        ) in
-        let at = within_place items there.0 within in
-        let same : at.0.gate ≡ r = sym (gate_at items there.0 r at.0 at.1) ∙ there.2 in
-        subst (λ g. slice_index_or later g 0 ≢ 0) same
-        (h.readers there.0 at.0 (omega (arith, within, le)) at.1);
-    only = h.only level are_levels;
+        let there = placed items r (among items r (are.all r reads live)) in
+        let lt = place_within items there.0 r there.1 in
+        h.readers there.0 r (omega (arith, lt, le)) there.1;
+    only = h.only;
   }
 
 module _ (c : List Statement) (well : IsWellFormed c) (s : ℕ) (n : Name)

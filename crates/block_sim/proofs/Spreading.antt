@@ -3,7 +3,7 @@ use Rattle.std.proofs.Common.{◌≡◌, ◌≢◌, ◌<◌, ◌≤◌, ℕ, ◌
 use Rattle.std.proofs.Common.{arith, set, inl, inr, ◌⊎◌}
 use Rattle.std.specs.Prelude.{Some, None, slice_index_or, bit_xor}
 use Rattle.std.proofs.lemmas.List.{get_or-set_same, get_or-set_other}
-use Rattle.std.proofs.lemmas.Bool.{cases_eq}
+use Rattle.std.proofs.lemmas.Bool.{cases_eq, false≢true}
 use Rattle.bench_net.specs.declared.Kind.{Kind}
 use Rattle.bench_net.specs.Statement.{Statement}
 use Rattle.bench_net.specs.Scan.{names, signal, gate_of}
@@ -11,31 +11,31 @@ use Rattle.bench_net.specs.Circuit.{IsWellFormed}
 use Rattle.lists.proofs.Members.{among}
 use Rattle.fault_model.specs.Fault.{Fault}
 use Rattle.fault_model.specs.Solution.{Test, value}
-use Rattle.block_sim.specs.Words.{lane, pin_bits}
-use Rattle.block_sim.specs.Events.{Reads, IsElsewhere, IsLive, AreScheduled}
+use Rattle.block_sim.specs.Words.{lane, pin_bits, test_of}
+use Rattle.block_sim.specs.Events.{bits_of, HasEquation, Reads, IsElsewhere, IsLive}
+use Rattle.block_sim.specs.Events.{AreScheduled}
 use Rattle.block_sim.specs.Spreading.{IsSpreading, IsBalanced, Counts, IsRightIn, HasTouched, ahead}
 use Rattle.block_sim.proofs.Balanced.{balanced_same, balanced_changed}
 use Rattle.block_sim.proofs.SignalEquations.{word_other}
 use Rattle.block_sim.proofs.LiveSignals.{counts_closed, reader_live}
 use Rattle.block_sim.proofs.TrueBelowLevel.{right_by_now}
 use Rattle.block_sim.proofs.GatesAhead.{ahead_taken, ahead_scheduled}
+use Rattle.block_sim.proofs.Steps.{lane_of_zero}
 
 module _ (c : List Statement) (tests : List Test) (group : ℕ) (f : ℕ
     → Fault) (good : List ℕ) (lanes : ℕ) (lv : ℕ → ℕ) (start mask : ℕ) where
-  -- ---- a level higher
-  pub level_done : (delta at : List ℕ) (level : ℕ) → ((g : ℕ) → slice_index_or at g 0 ≢ level + 1)
+  -- ---- a level higher, where nothing waits below
+  pub level_done : (delta at : List ℕ) (level next : ℕ) → level ≤ next
+      → ((g : ℕ) → slice_index_or at g 0 ≢ 0 → next ≤ lv g)
       → IsSpreading c tests group f good lanes lv start mask delta at level
-      → IsSpreading c tests group f good lanes lv start mask delta at (level + 1)
-  level_done delta at level none h = record {
+      → IsSpreading c tests group f good lanes lv start mask delta at next
+  level_done delta at level next le above h = record {
     balanced = h.balanced;
-    at_level = h.at_level;
-    not_below = λ g ne.
-        let le = h.not_below g ne in let is = h.at_level g ne in
-        let other : lv g ≢ level = λ e. none g (omega (arith, is, e)) in omega (arith, le, other);
+    not_below = above;
     live = h.live;
     touched = h.touched;
     waits_clear = h.waits_clear;
-    above_clear = λ g lt. h.above_clear g (omega (arith, lt));
+    above_clear = λ g lt. h.above_clear g (omega (arith, lt, le));
     after_start = h.after_start;
     narrow = h.narrow;
     inside = h.inside;
@@ -48,17 +48,11 @@ module _ (c : List Statement) (tests : List Test) (group : ℕ) (f : ℕ
       → lv s < lv g) (elsewhere : (t k : ℕ) → t ≢ start → IsElsewhere (f k) t)
       (delta at : List ℕ) (level g : ℕ)
       (h : IsSpreading c tests group f good lanes lv start mask delta at level)
-      (taken : slice_index_or at g 0 ≡ level + 1) (in_at : g < length at)
+      (waits : slice_index_or at g 0 ≢ 0) (here : lv g ≡ level) (in_at : g < length at)
       (in_delta : g < length delta)
       (kind : Kind) (pins : List ℕ) (is : gate_of c g ≡ Some (kind, pins)) (word : ℕ)
       (valued : (k : ℕ) → k < 128
       → lane word k ≡ value kind (pin_bits None g pins good delta k)) where
-    waits : slice_index_or at g 0 ≢ 0
-    waits e = omega (arith, e, taken)
-
-    here : lv g ≡ level
-    here = let e = h.at_level g waits in omega (arith, e, taken)
-
     clear : slice_index_or delta g 0 ≡ 0
     clear = h.waits_clear g waits
 
@@ -85,8 +79,6 @@ module _ (c : List Statement) (tests : List Test) (group : ℕ) (f : ℕ
     evaluated_same same = record {
       balanced = balanced_same c (Counts c lv start) tests group f good mask lv well rises delta at
           g h.balanced (λ k. elsewhere g k not_start) kind pins is word valued clear same;
-      at_level = λ t ne. let w = still_waits t ne in get_or-set_other at g t 0 0 w.0
-          ∙ h.at_level t w.1;
       not_below = λ t ne. h.not_below t (still_waits t ne).1;
       live = λ t ne. h.live t (still_waits t ne).1;
       touched = λ t ne. h.touched t (still_waits t ne).1;
@@ -110,7 +102,7 @@ module _ (c : List Statement) (tests : List Test) (group : ℕ) (f : ℕ
         → lane mask k ≡ true)
         (changed : (k : ℕ) → k < 128 → lane mask k ≡ true
         → lane (bit_xor (slice_index_or good g 0) diff) k ≡ lane word k)
-        (scheduled : AreScheduled c lv g (set at g 0) after) where
+        (scheduled : AreScheduled c g (set at g 0) after) where
       new_at : slice_index_or (set delta g diff) g 0 ≡ diff
       new_at = get_or-set_same delta g diff 0 in_delta
 
@@ -134,24 +126,22 @@ module _ (c : List Statement) (tests : List Test) (group : ℕ) (f : ℕ
       abbrev Waits : ℕ → Type 0
       Waits t = ((t ≢ g) × (slice_index_or at t 0 ≢ 0)
           × (slice_index_or after t 0 ≡ slice_index_or at t 0))
-          ⊎ ((Reads c t g × IsLive c t) × (slice_index_or after t 0 ≡ lv t + 1))
+          ⊎ ((Reads c t g × IsLive c t) × (slice_index_or after t 0 ≢ 0))
 
       which : (t : ℕ) → slice_index_or after t 0 ≢ 0 → Waits t
       which t ne = go (scheduled.only t)
         where
           go : (slice_index_or after t 0 ≡ slice_index_or (set at g 0) t 0)
-              ⊎ ((Reads c t g × IsLive c t) × (slice_index_or (set at g 0) t 0 ≡ 0)
-              × (slice_index_or after t 0 ≡ lv t + 1)) → Waits t
+              ⊎ ((Reads c t g × IsLive c t) × (slice_index_or after t 0 ≢ 0)) → Waits t
           go (inl e) = let w = still_waits t (λ z. ne (e ∙ z)) in
               inl (w.0, w.1, e ∙ get_or-set_other at g t 0 0 w.0)
-          go (inr r) = inr (r.0, r.2)
+          go (inr r) = inr r
 
       pub evaluated_changed : IsSpreading c tests group f good lanes lv start mask
           (set delta g diff) after level
       evaluated_changed = record {
         balanced = balanced_now;
         narrow = h.narrow;
-        at_level = at_level;
         not_below = not_below;
         live = live;
         touched = touched;
@@ -171,13 +161,6 @@ module _ (c : List Statement) (tests : List Test) (group : ℕ) (f : ℕ
               diff after in_delta
               (λ t is_counted reads. reader_live c lv start rises g t from_start is_counted reads)
               changed scheduled
-
-          at_level : (t : ℕ) → slice_index_or after t 0 ≢ 0 → slice_index_or after t 0 ≡ lv t + 1
-          at_level t ne = go (which t ne)
-            where
-              go : Waits t → slice_index_or after t 0 ≡ lv t + 1
-              go (inl w) = w.2 ∙ h.at_level t w.1
-              go (inr r) = r.1
 
           not_below : (t : ℕ) → slice_index_or after t 0 ≢ 0 → level ≤ lv t
           not_below t ne = go (which t ne)
@@ -246,8 +229,8 @@ module _ (c : List Statement) (tests : List Test) (group : ℕ) (f : ℕ
           idle_here = go (scheduled.only g)
             where
               go : (slice_index_or after g 0 ≡ slice_index_or (set at g 0) g 0)
-                  ⊎ ((Reads c g g × IsLive c g) × (slice_index_or (set at g 0) g 0 ≡ 0)
-                  × (slice_index_or after g 0 ≡ lv g + 1)) → slice_index_or after g 0 ≡ 0
+                  ⊎ ((Reads c g g × IsLive c g) × (slice_index_or after g 0 ≢ 0))
+                  → slice_index_or after g 0 ≡ 0
               go (inl e) = e ∙ get_or-set_same at g 0 0 in_at
               go (inr r) = let up = rises g g r.0.0 in absurd (omega (arith, up))
 
@@ -278,7 +261,6 @@ spreading_narrower c tests group f good lanes lv start mask delta at level narro
     record {
       balanced = λ s k is_counted idle lt e. h.balanced s k is_counted idle lt (within k lt e);
       narrow = λ k lt e. h.narrow k lt (within k lt e);
-      at_level = h.at_level;
       not_below = h.not_below;
       live = h.live;
       touched = h.touched;
@@ -290,36 +272,20 @@ spreading_narrower c tests group f good lanes lv start mask delta at level narro
       right = h.right;
     }
 
--- what waits anew lies above the signal that it reads
-pub scheduled_above : (c : List Statement) (lv : ℕ → ℕ) (g : ℕ) (before after : List ℕ)
-    → ((a b : ℕ) → Reads c a b → lv b < lv a) → AreScheduled c lv g before after
-    → (r : ℕ) → (slice_index_or after r 0 ≡ slice_index_or before r 0)
-    ⊎ ((lv g < lv r) × (slice_index_or after r 0 ≡ lv r + 1))
-scheduled_above c lv g before after rises scheduled r = go (scheduled.only r)
-  where
-    go : (slice_index_or after r 0 ≡ slice_index_or before r 0)
-        ⊎ ((Reads c r g × IsLive c r) × (slice_index_or before r 0 ≡ 0)
-        × (slice_index_or after r 0 ≡ lv r + 1))
-        → (slice_index_or after r 0 ≡ slice_index_or before r 0)
-        ⊎ ((lv g < lv r) × (slice_index_or after r 0 ≡ lv r + 1))
-    go (inl e) = inl e
-    go (inr w) = inr (rises r g w.0.0, w.2)
-
--- a gate that is taken where no lane is followed any more
-pub spreading_skipped : (c : List Statement) (tests : List Test) (group : ℕ) (f : ℕ
-    → Fault) (good : List ℕ) (lanes : ℕ) (lv : ℕ → ℕ) (start mask : ℕ) (delta at : List ℕ)
-    (level g : ℕ) → g < length at
-    → ((k : ℕ) → lane mask k ≡ true → ⊥)
+-- where no lane is followed any more, or none waits, what waits is cleared
+pub spreading_cleared : (c : List Statement) (tests : List Test) (group : ℕ) (f : ℕ
+    → Fault) (good : List ℕ) (lanes : ℕ) (lv : ℕ → ℕ) (start mask : ℕ) (delta at idle : List ℕ)
+    (level : ℕ) → ((g : ℕ) → slice_index_or idle g 0 ≡ 0)
+    → (mask ≡ 0) ⊎ ((g : ℕ) → slice_index_or at g 0 ≡ 0)
     → IsSpreading c tests group f good lanes lv start mask delta at level
-    → IsSpreading c tests group f good lanes lv start mask delta (set at g 0) level
-spreading_skipped c tests group f good lanes lv start mask delta at level g in_at none h = record {
-  balanced = λ s k is_counted idle lt e. absurd (none k e);
+    → IsSpreading c tests group f good lanes lv start mask delta idle level
+spreading_cleared c tests group f good lanes lv start mask delta at idle level clear stop h = record {
+  balanced = λ s k is_counted rest lt e. balanced s k is_counted lt e stop;
   narrow = h.narrow;
-  at_level = λ t ne. let w = still_waits t ne in get_or-set_other at g t 0 0 w.0 ∙ h.at_level t w.1;
-  not_below = λ t ne. h.not_below t (still_waits t ne).1;
-  live = λ t ne. h.live t (still_waits t ne).1;
-  touched = λ t ne. h.touched t (still_waits t ne).1;
-  waits_clear = λ t ne. h.waits_clear t (still_waits t ne).1;
+  not_below = λ t ne. absurd (ne (clear t));
+  live = λ t ne. absurd (ne (clear t));
+  touched = λ t ne. absurd (ne (clear t));
+  waits_clear = λ t ne. absurd (ne (clear t));
   above_clear = h.above_clear;
   after_start = h.after_start;
   inside = h.inside;
@@ -327,9 +293,9 @@ spreading_skipped c tests group f good lanes lv start mask delta at level g in_a
   right = h.right;
 }
   where
-    still_waits : (t : ℕ) → slice_index_or (set at g 0) t 0 ≢ 0
-        → (t ≢ g) × (slice_index_or at t 0 ≢ 0)
-    still_waits t ne = (other, λ e. ne (get_or-set_other at g t 0 0 other ∙ e))
-      where
-        other : t ≢ g
-        other e = ne (ap (λ x. slice_index_or (set at g 0) x 0) e ∙ get_or-set_same at g 0 0 in_at)
+    balanced : (s k : ℕ) → Counts c lv start s → k < 128 → lane mask k ≡ true
+        → (mask ≡ 0) ⊎ ((g : ℕ) → slice_index_or at g 0 ≡ 0)
+        → HasEquation c (test_of tests group k) (Some (f k)) (bits_of c good delta k) s
+    balanced s k is_counted lt e (inl none) =
+        absurd (false≢true (sym (lane_of_zero mask k none) ∙ e))
+    balanced s k is_counted lt e (inr none) = h.balanced s k is_counted (none s) lt e

@@ -20,7 +20,7 @@ use Rattle.fault_model.specs.Fault.{Fault, FaultList, fault_list, faults}
 use Rattle.fault_model.specs.Collapse.{AreClassesOf, Collapsed, representatives}
 use Rattle.fault_model.specs.Detection.{name_on}
 use Rattle.fault_model.proofs.Public.{below_greatest, carries, defined_among}
-use Rattle.block_sim.specs.Events.{Reads, level_at}
+use Rattle.block_sim.specs.Events.{Reads}
 use Rattle.block_sim.specs.Regions.{HasStem, HaveStems, IsStem, IsStemOf, IsStemOfClass, LeadLaw}
 use Rattle.block_sim.specs.Regions.{LeadsTo, OneClassStemLaw, OneStemLaw, RunsTo, SomeClassStemLaw}
 use Rattle.block_sim.specs.Regions.{SomeStemLaw, here, lone_reader, onward, way_from}
@@ -29,7 +29,7 @@ use Rattle.block_sim.proofs.LevelOrder.{not_before, order_within}
 use Rattle.block_sim.proofs.OnePin.{pin_law}
 use Rattle.block_sim.proofs.Readers.{no_loop, reader_within}
 use Rattle.block_sim.proofs.Representatives.{representative_at}
-use Rattle.block_sim.proofs.LevelsRise.{level_named}
+use Rattle.block_sim.proofs.LevelsRise.{level_at, level_named}
 use Rattle.block_sim.proofs.Rows.{pushed_get}
 
 -- ---- one stem

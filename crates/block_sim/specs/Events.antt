@@ -1,11 +1,10 @@
 -- Words that differ from the fault-free ones, and the equations of the signals one by one.
-use Rattle.std.specs.Prelude.{◌≡◌, ◌≢◌, ◌⊎◌, ℕ, ◌+◌, ◌<◌, Bool, false, List, Contains, Option, Some}
+use Rattle.std.specs.Prelude.{◌≡◌, ◌≢◌, ◌⊎◌, ℕ, ◌<◌, Bool, false, List, Contains, Option, Some}
 use Rattle.std.specs.Prelude.{slice_get, slice_index_or}
-use Rattle.std.specs.Option.{option_map_or}
 use Rattle.bench_net.specs.declared.Kind.{Kind}
 use Rattle.bench_net.specs.declared.Sink.{Sink}
 use Rattle.bench_net.specs.Statement.{Name, Statement, Gate}
-use Rattle.bench_net.specs.Scan.{signal, name_of, sources, observers}
+use Rattle.bench_net.specs.Scan.{signal, sources, observers}
 use Rattle.fault_model.specs.declared.Line.TheVariants as line
 use Rattle.fault_model.specs.Fault.{Fault}
 use Rattle.fault_model.specs.Solution.{Test, under, value, pins_see}
@@ -50,20 +49,12 @@ pub record IsElsewhere (f : Fault) (s : ℕ) : Type 0 where
   pub stem : f.line ≢ line.Stem s
   pub pin : (pin : ℕ) → f.line ≢ line.Pin s pin
 
--- the level of a signal, by its number
-abbrev pub level_at : List Statement → (Name → ℕ) → ℕ → ℕ
-level_at c level s = option_map_or level (name_of c s) 0
+-- each gate stands behind the signals that it reads
+abbrev pub IsRising : List Statement → Type 0
+IsRising c = (g s : ℕ) → Reads c g s → s < g
 
--- The live readers of a signal wait, each at its level, and no other gate waits that did not.
-pub record AreScheduled (c : List Statement) (lv : ℕ
-    → ℕ) (s : ℕ) (before after : List ℕ) : Type 0 where
+-- The live readers of a signal wait, and no other gate waits that did not.
+pub record AreScheduled (c : List Statement) (s : ℕ) (before after : List ℕ) : Type 0 where
   pub readers : (r : ℕ) → Reads c r s → IsLive c r → slice_index_or after r 0 ≢ 0
   pub only : (r : ℕ) → (slice_index_or after r 0 ≡ slice_index_or before r 0)
-      ⊎ ((Reads c r s × IsLive c r) × (slice_index_or before r 0 ≡ 0)
-      × (slice_index_or after r 0 ≡ lv r + 1))
-
--- a gate waits as before, or lies above the signal and waits at its level
-abbrev pub IsScheduledAbove : (ℕ → ℕ) → ℕ → List ℕ → List ℕ → Type 0
-IsScheduledAbove lv s before after = (r : ℕ)
-    → (slice_index_or after r 0 ≡ slice_index_or before r 0)
-    ⊎ ((lv s < lv r) × (slice_index_or after r 0 ≡ lv r + 1))
+      ⊎ ((Reads c r s × IsLive c r) × (slice_index_or after r 0 ≢ 0))

@@ -2,29 +2,25 @@
 -- readers.
 use Rattle.std.specs.Prelude.{◌≡◌, ◌↔◌, ◌++◌, ℕ, ◌-◌, ◌<◌, ◌≤◌, All, Bool, false, List, Contains}
 use Rattle.std.specs.Prelude.{IfSome}
-use Rattle.std.specs.Prelude.{IsTrue, Option, Some, length, map, slice_get, slice_index_or}
+use Rattle.std.specs.Prelude.{IsTrue, Option, Some, length, slice_get, slice_index_or}
 use Rattle.std.specs.Prelude.{slice_range}
 use Rattle.std.specs.Option.{option_map}
 use Rattle.bench_net.specs.Statement.{Statement}
 use Rattle.bench_net.specs.Scan.{names, gate_of}
 use Rattle.bench_net.specs.Circuit.{IsCircuit}
-use Rattle.bench_net.specs.Level.{HasLevel}
 use Rattle.fault_model.specs.Reordered.{in_order}
 use Rattle.block_sim.specs.declared.flat.Driver.{Driver}
 use Rattle.block_sim.specs.declared.flat.Row.{Row}
-use Rattle.block_sim.specs.declared.flat.Reader.{Reader}
 use Rattle.block_sim.specs.declared.flat.Standing.{Standing}
 use Rattle.block_sim.specs.Events.{Reads, IsObserved, IsLive}
 use Rattle.block_sim.specs.Forms.{IsFormOf}
 use Rattle.block_sim.specs.Arranged.{ArePlaces, IsFlowOrder}
 use Rattle.block_sim.specs.Regions.{lone_reader}
 
--- each reader is a live gate that reads the signal, with its level, and each such gate is among
--- them
-pub record AreReaders (c : List Statement) (s : ℕ) (readers : List Reader) : Type 0 where
-  pub each : All (λ reader. (Reads c reader.gate s × IsLive c reader.gate)
-      × HasLevel c reader.gate reader.level) readers
-  pub all : (g : ℕ) → Reads c g s → IsLive c g → Contains (map (λ reader. reader.gate) readers) g
+-- each reader is a live gate that reads the signal, and each such gate is among them
+pub record AreReaders (c : List Statement) (s : ℕ) (readers : List ℕ) : Type 0 where
+  pub each : All (λ gate. Reads c gate s × IsLive c gate) readers
+  pub all : (g : ℕ) → Reads c g s → IsLive c g → Contains readers g
 
 -- the list says of each signal whether it is live
 abbrev pub IsLiveAt : List Statement → List Bool → ℕ → Type 0
@@ -39,7 +35,7 @@ HasEnds pins first last =
     (slice_index_or pins 0 0 ≡ first) × (slice_index_or pins (length pins - 1) 0 ≡ last)
 
 -- a row says what drives a signal, what reads it, and whether an observer observes it
-pub record IsRow (c : List Statement) (pins : List ℕ) (readers : List Reader) (s : ℕ) (row : Row) :
+pub record IsRow (c : List Statement) (pins readers : List ℕ) (s : ℕ) (row : Row) :
     Type 0 where
   pub pins_in : (row.pins_start ≤ row.pins_end) × (row.pins_end ≤ length pins)
   pub readers_in : (row.readers_start ≤ row.readers_end) × (row.readers_end ≤ length readers)
@@ -51,10 +47,9 @@ pub record IsRow (c : List Statement) (pins : List ℕ) (readers : List Reader) 
   pub read_by : AreReaders c s (slice_range readers row.readers_start row.readers_end)
   pub observed : IsTrue row.observed ↔ IsObserved c s
 
--- what alone reads a signal, its level, and whether an observer is reached from it
+-- what alone reads a signal, and whether an observer is reached from it
 pub record IsStanding (c : List Statement) (s : ℕ) (standing : Standing) : Type 0 where
   pub lone : standing.lone_reader ≡ lone_reader c s
-  pub level : HasLevel c s standing.level
   pub live : IsTrue standing.live ↔ IsLive c s
 
 -- the second list goes on where the first ends
@@ -70,7 +65,7 @@ IsDriver c s before after driver =
     × IfSome driver (λ d. IsFormOf d.kind d.form)
 
 -- the rows of the first signals
-abbrev pub AreRows : List Statement → List ℕ → List Reader → List Row → Type 0
+abbrev pub AreRows : List Statement → List ℕ → List ℕ → List Row → Type 0
 AreRows c pins readers rows = (s : ℕ) (row : Row) → slice_get rows s ≡ Some row
     → IsRow c pins readers s row
 
@@ -80,7 +75,7 @@ AreStandings c standings = (s : ℕ) (standing : Standing) → slice_get standin
     → IsStanding c s standing
 
 -- the lists are those of the circuit: a row for each signal, and where it stands
-pub record IsFlat (c : List Statement) (pins : List ℕ) (readers : List Reader) (rows : List Row)
+pub record IsFlat (c : List Statement) (pins readers : List ℕ) (rows : List Row)
     (standings : List Standing) : Type 0 where
   pub count : length rows ≡ length (names c)
   pub numbered : AreRows c pins readers rows
@@ -98,7 +93,7 @@ pub record ArePlaced (c : List Statement) (order places : List ℕ) (live : List
   pub alive : AreLive c live
 
 -- the same without what is live, and the flat lists of the circuit in that order
-pub record IsArrangedFlat (c : List Statement) (order places pins : List ℕ) (readers : List Reader)
+pub record IsArrangedFlat (c : List Statement) (order places pins readers : List ℕ)
     (rows : List Row) (standings : List Standing) : Type 0 where
   pub ordered : IsFlowOrder c order
   pub room : length places ≡ length (names c)

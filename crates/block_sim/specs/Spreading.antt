@@ -1,6 +1,6 @@
 -- What is true at each step of a simulation by events, and what it tells. Each lane has a fault of
 -- its own, so that a signal can be turned round in lanes in which it has either bit.
-use Rattle.std.specs.Prelude.{◌≡◌, ◌≢◌, ◌⊎◌, ℕ, ◌+◌, ◌<◌, ◌≤◌, Bool, true, false, not}
+use Rattle.std.specs.Prelude.{◌≡◌, ◌≢◌, ◌⊎◌, ℕ, ◌<◌, ◌≤◌, Bool, true, false, not}
 use Rattle.std.specs.Prelude.{◌||◌, ◌==◌, nat_lt, List, Contains, Some, None}
 use Rattle.std.specs.Prelude.{count_by, slice_index_or, slice_set}
 use Rattle.bench_net.specs.declared.Sink.{Sink}
@@ -52,7 +52,6 @@ pub record IsSpreading (c : List Statement) (tests : List Test) (group : ℕ) (f
     Type 0 where
   pub balanced : IsBalanced c (Counts c lv start) tests group f good mask delta at
   pub narrow : (k : ℕ) → k < 128 → lane mask k ≡ true → lane lanes k ≡ true
-  pub at_level : (g : ℕ) → slice_index_or at g 0 ≢ 0 → slice_index_or at g 0 ≡ lv g + 1
   pub not_below : (g : ℕ) → slice_index_or at g 0 ≢ 0 → level ≤ lv g
   pub live : (g : ℕ) → slice_index_or at g 0 ≢ 0 → IsLive c g
   pub touched : (g : ℕ) → slice_index_or at g 0 ≢ 0

@@ -3,19 +3,19 @@
 ghost use Rattle.std.specs.Prelude.{◌≡◌, ◌+◌, ◌<◌, ◌^◌, IfOk, length};
 ghost use Rattle.block_sim.specs.Changes.{IsAtRest};
 
-use event_queue::{Buckets, Overlay};
+use event_queue::{Overlay, Places};
 use std::alloc::{AllocError, Global};
 
 /// The words that differ, the gates that wait, and how often a gate was evaluated.
 #[derive(Drop)]
 pub struct Changes {
     pub overlay: Overlay,
-    pub buckets: Buckets,
+    pub waiting: Places,
     pub evaluations: u64,
 }
 
 impl Changes {
-    /// Nothing differs and no gate waits. There is room for this many signals and one level more.
+    /// Nothing differs and no gate waits. There is room for this many signals.
     pub fn new(alloc: Global, signals: u32) -> Result<Changes, AllocError>
         requires { signals + 1 < 2 ^ 32 }
         ensures rest { IfOk result IsAtRest }
@@ -23,10 +23,10 @@ impl Changes {
         ensures fresh { IfOk result (λ changes. changes.evaluations ≡ 0) }
     {
         let overlay = Overlay::new(alloc, signals)?;
-        let buckets = Buckets::new(alloc, signals, signals + 1)?;
+        let waiting = Places::new(alloc, signals)?;
         Ok(Changes {
             overlay,
-            buckets,
+            waiting,
             evaluations: 0,
         })
     }

@@ -78,7 +78,7 @@ pub fn gate_change(view: BlockView<'_>, fault: Stuck, gate: u32, changes: &mut C
     ensures grown { changes.old.evaluations ≤ changes.new.evaluations }
     ensures counted { changes.new.evaluations ≤ changes.old.evaluations + 1 }
     ensures overlay { changes.new.overlay ≡ changes.old.overlay }
-    ensures buckets { changes.new.buckets ≡ changes.old.buckets }
+    ensures waiting { changes.new.waiting ≡ changes.old.waiting }
 {
     match view.circuit.gate_of(gate) {
         Some(driver) => {

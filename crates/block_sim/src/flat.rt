@@ -13,7 +13,7 @@ ghost use Rattle.bench_net.specs.Level.{HasLevel};
 ghost use Rattle.fault_model.specs.Detection.{name_on};
 ghost use Rattle.fault_model.specs.Known.{only_gate};
 ghost use Rattle.fault_model.specs.Reordered.{in_order, moved_line, place};
-ghost use Rattle.block_sim.specs.Events.{IsLive, IsObserved};
+ghost use Rattle.block_sim.specs.Events.{IsLive, IsObserved, IsRising};
 ghost use Rattle.block_sim.specs.Flat.{ArePlaced, AreReaders, HasMore, IsDriver, IsFlat, IsRow};
 ghost use Rattle.block_sim.specs.Flat.{HasEnds, IsStanding};
 ghost use Rattle.block_sim.specs.Forms.{IsFormOf};
@@ -40,13 +40,6 @@ pub struct Gate<'a> {
     pub pins: &'a [u32],
 }
 
-/// A gate that reads a signal, and its level.
-#[derive(Clone, Copy)]
-pub struct Reader {
-    pub gate: u32,
-    pub level: u32,
-}
-
 /// The kind of the gate that drives a signal, and its form.
 #[derive(Clone, Copy)]
 struct Driver {
@@ -63,7 +56,7 @@ struct Driver {
 /// rows     .. | driver observed first last pins_start pins_end readers_start readers_end | ..
 /// bytes       |      4        1     4    4          4        4             4           4 |
 /// pins     .. | the signals that the gate's pins read    | ..   from pins_start to pins_end
-/// readers  .. | the live gates that read it, with levels | ..   from readers_start to readers_end
+/// readers  .. | the live gates that read it              | ..   from readers_start to readers_end
 /// ```
 ///
 /// That is 29 bytes; 3 are empty, since the next row begins at a multiple of 4.
@@ -87,7 +80,6 @@ struct Row {
 struct Standing {
     /// The gate of the pin that is all that reads the signal; `None` for a stem.
     lone_reader: Option<u32>,
-    level: u32,
     live: bool,
 }
 
@@ -97,7 +89,7 @@ struct Lists {
     rows: Vec<Row>,
     standings: Vec<Standing>,
     pins: Vec<u32>,
-    readers: Vec<Reader>,
+    readers: Vec<u32>,
 }
 
 /// A circuit with what a simulation asks of its signals in flat arrays.
@@ -165,6 +157,7 @@ impl FlatCircuit {
         ensures circuit { IsCircuit self.now.arranged }
         ensures given { IsCircuit self.now.statements }
         ensures arranged { IsArranged self.now.statements self.now.arranged }
+        ensures rising { IsRising self.now.arranged }
     {
         self.circuit.signals()
     }
@@ -275,7 +268,7 @@ impl FlatCircuit {
     /// The live gates that read a signal: those from which an observer is reached. One that reads
     /// it twice may stand there twice.
     #[inline(always)]
-    pub fn readers_of(&self, signal: u32) -> &[Reader]
+    pub fn readers_of(&self, signal: u32) -> &[u32]
         requires { signal < length (names self.now.arranged) }
         ensures { AreReaders self.now.arranged signal result.now }
     {
@@ -309,15 +302,6 @@ impl FlatCircuit {
         ensures { IsTrue result ↔ IsLive self.now.arranged signal }
     {
         self.lists.standings[signal as usize].live
-    }
-
-    /// The level of a signal.
-    #[inline(always)]
-    pub fn level_of(&self, signal: u32) -> u32
-        requires { signal < length (names self.now.arranged) }
-        ensures { HasLevel self.now.arranged signal result }
-    {
-        self.lists.standings[signal as usize].level
     }
 }
 
@@ -381,7 +365,6 @@ fn standing_of(placed: Placed<'_>, signal: u32) -> Standing
 {
     Standing {
         lone_reader: lone_place(placed, signal),
-        level: placed.circuit.level_of(signal),
         live: placed.live[signal as usize],
     }
 }
@@ -428,7 +411,7 @@ fn add_row(
     placed: Placed<'_>,
     signal: u32,
     pins: &mut Vec<u32>,
-    readers: &mut Vec<Reader>,
+    readers: &mut Vec<u32>,
 ) -> Result<Row, AllocError>
     requires placed { ArePlaced placed.circuit.now placed.order.now placed.places.now
         placed.live.now }
@@ -518,15 +501,11 @@ fn only_gate(sinks: &[Sink]) -> Option<u32>
 
 /// Whether an observer observes a signal. The places of the live gates that read it are added
 /// behind the others.
-fn add_readers(
-    placed: Placed<'_>,
-    signal: u32,
-    readers: &mut Vec<Reader>,
-) -> Result<bool, AllocError>
+fn add_readers(placed: Placed<'_>, signal: u32, readers: &mut Vec<u32>) -> Result<bool, AllocError>
     requires placed { ArePlaced placed.circuit.now placed.order.now placed.places.now
         placed.live.now }
     requires signal { signal < length (names placed.circuit.now) }
-    ensures readers { IfOk result (λ _. (more : List Reader)
+    ensures readers { IfOk result (λ _. (more : List ℕ)
         × (readers.new.items ≡ readers.old.items ++ more)
         × AreReaders (in_order placed.entry.circuit.now placed.entry.order.now)
         (place placed.entry.circuit.now
@@ -543,9 +522,7 @@ fn add_readers(
                 if !placed.live[gate as usize] {
                     continue;
                 }
-                let level = placed.circuit.level_of(gate);
-                let gate = placed.places[gate as usize];
-                readers.push(Reader { gate, level })?;
+                readers.push(placed.places[gate as usize])?;
             }
             Sink::Data { .. } => observed = true,
             Sink::Out { .. } => observed = true,

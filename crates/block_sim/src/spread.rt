@@ -1,22 +1,22 @@
-//! Simulation by events: the change of one signal spreads from gate to gate, level by level.
+//! Simulation by events: the change of one signal spreads from gate to gate, in the order of their
+//! places.
 //!
 //! The fault-free words stay as they are. An overlay has for each signal the lanes in which it
 //! differs, and a gate is evaluated only where a signal that it reads differs (event-driven
 //! simulation: Bushnell and Agrawal, Essentials of Electronic Testing).
 
-ghost use Rattle.std.specs.Prelude.{◌≡◌, ◌≢◌, ◌↔◌, ℕ, ◌+◌, ◌<◌, ◌≤◌, ◌==◌, Contains, List, IsTrue};
+ghost use Rattle.std.specs.Prelude.{◌≡◌, ◌≢◌, ◌⊎◌, ◌↔◌, ℕ, ◌+◌, ◌<◌, ◌≤◌, ◌==◌, Contains, List};
+ghost use Rattle.std.specs.Prelude.{IfNone, IfSome, IsTrue};
 ghost use Rattle.std.specs.Prelude.{true, false, length, bit_or, count_by, slice_index_or};
 ghost use Rattle.std.specs.Prelude.{slice_set};
 ghost use Rattle.std.specs.Bool.{Decides};
-ghost use Rattle.bench_net.specs.Statement.{Name};
 ghost use Rattle.bench_net.specs.Scan.{names};
 ghost use Rattle.bench_net.specs.Circuit.{IsCircuit};
-ghost use Rattle.bench_net.specs.Level.{AreLevels, HasLevel};
 ghost use Rattle.fault_model.specs.Fault.{Fault};
 ghost use Rattle.fault_model.specs.Solution.{Test};
 ghost use Rattle.block_sim.specs.Changes.{HasRoomFor, IsAsLarge, IsClear, IsTaken};
-ghost use Rattle.block_sim.specs.Events.{level_at, AreScheduled, IsScheduledAbove, IsObserved};
-ghost use Rattle.block_sim.specs.Moments.{Case, Leads, Spreads, moment, not_yet_taken};
+ghost use Rattle.block_sim.specs.Events.{AreScheduled, IsObserved};
+ghost use Rattle.block_sim.specs.Moments.{Leads, moment, not_yet_taken};
 ghost use Rattle.block_sim.specs.Spreading.{AreShown, HaveHits, IsFirstChange, IsSettled};
 ghost use Rattle.block_sim.specs.Spreading.{LeavesSettled};
 ghost use Rattle.block_sim.specs.ActiveGates.{AreInGroup, HasActiveIn};
@@ -24,10 +24,10 @@ ghost use Rattle.block_sim.specs.Words.{lane, HasWords};
 
 use crate::block_lanes::lanes_below;
 use crate::changes::Changes;
-use crate::flat::{FlatCircuit, Reader};
+use crate::flat::FlatCircuit;
 use crate::view::BlockView;
 use crate::words::evaluate_gate;
-use event_queue::Buckets;
+use event_queue::Places;
 
 /// A class that is followed, the place where what is found out of it is kept, and the lanes in
 /// which its fault came as far as the simulation starts.
@@ -80,28 +80,19 @@ fn below_hits(followed: &[Followed], seen: u128) -> u128
     below
 }
 
-/// Lets the gates that read a signal wait, each at its level, and tells whether an observer reads
-/// it. A plain read of the reader's row ahead of its turn gained nothing (0.92 to 1.20 of the time
+/// Lets the gates that read a signal wait, and tells whether an observer reads it. A plain read of the reader's row ahead of its turn gained nothing (0.92 to 1.20 of the time
 /// on eight cases), and Rattle has no prefetch.
 #[inline(always)]
-fn schedule_fanout(circuit: &FlatCircuit, signal: u32, buckets: &mut Buckets) -> bool
+fn schedule_fanout(circuit: &FlatCircuit, signal: u32, waiting: &mut Places) -> bool
     requires circuit { IsCircuit circuit.now.arranged }
     requires signal { signal < length (names circuit.now.arranged) }
-    requires gates { length (names circuit.now.arranged) ≤ length buckets.old.at }
-    requires levels { (g k : ℕ) → HasLevel circuit.now.arranged g k → k < buckets.old.levels }
-    ensures scheduled { (level : Name → ℕ) → AreLevels circuit.now.arranged level
-        → AreScheduled circuit.now.arranged (level_at circuit.now.arranged level) signal
-        buckets.old.at buckets.new.at }
+    requires gates { length (names circuit.now.arranged) ≤ length waiting.old }
+    ensures scheduled { AreScheduled circuit.now.arranged signal waiting.old waiting.new }
     ensures observed { IsTrue result ↔ IsObserved circuit.now.arranged signal }
-    ensures gates { length buckets.new.at ≡ length buckets.old.at }
-    ensures levels { buckets.new.levels ≡ buckets.old.levels }
+    ensures gates { length waiting.new ≡ length waiting.old }
 {
     for reader in circuit.readers_of(signal) {
-        let Reader { gate, level } = *reader;
-        if buckets.waits(gate) {
-            continue;
-        }
-        buckets.add(gate, level);
+        waiting.add(*reader);
     }
     circuit.is_observed(signal)
 }
@@ -116,9 +107,8 @@ fn change(circuit: &FlatCircuit, signal: u32, diff: u128, changes: &mut Changes)
     requires clear { slice_index_or changes.old.overlay signal 0 ≡ 0 }
     requires differs { diff ≢ 0 }
     ensures changed { changes.new.overlay ≡ slice_set changes.old.overlay signal diff }
-    ensures scheduled { (level : Name → ℕ) → AreLevels circuit.now.arranged level
-        → AreScheduled circuit.now.arranged (level_at circuit.now.arranged level) signal
-        changes.old.buckets.at changes.new.buckets.at }
+    ensures scheduled { AreScheduled circuit.now.arranged signal changes.old.waiting
+        changes.new.waiting }
     ensures shown { (k : ℕ) → k < 128
         → Decides (lane result k) (IsObserved circuit.now.arranged signal × (lane diff k ≡ true)) }
     ensures some { (k : ℕ) × (k < 128) × (lane diff k ≡ true) }
@@ -126,7 +116,7 @@ fn change(circuit: &FlatCircuit, signal: u32, diff: u128, changes: &mut Changes)
     ensures room { IsAsLarge changes.old changes.new }
 {
     changes.overlay.change(signal, diff);
-    if schedule_fanout(circuit, signal, &mut changes.buckets) {
+    if schedule_fanout(circuit, signal, &mut changes.waiting) {
         diff
     } else {
         0
@@ -134,25 +124,19 @@ fn change(circuit: &FlatCircuit, signal: u32, diff: u128, changes: &mut Changes)
 }
 
 /// Evaluates a gate that waited, and lets its signal differ where its word does in some of the
-/// lanes that are followed. Tells in which of them an observer sees that. Where none is followed
-/// nothing is evaluated.
+/// lanes that are followed. Tells in which of them an observer sees that.
 #[inline(always)]
 fn evaluate_waiting(view: BlockView<'_>, kept: u128, gate: u32, changes: &mut Changes) -> u128
     requires view { HasWords view.circuit.now.arranged view.good.now }
     requires room { HasRoomFor view.circuit.now.arranged changes.old }
     requires taken { IsTaken view.circuit.now.arranged changes.old gate }
-    ensures leads { (now seen : ℕ) → Leads
+    ensures leads { (seen : ℕ) → Leads
         view.entry.circuit.now.arranged view.entry.good.now view.entry.lanes
-        (not_yet_taken gate (moment changes.old now kept seen))
-        (moment changes.new now kept (bit_or seen result)) }
-    ensures scheduled { (level : Name → ℕ) → AreLevels view.entry.circuit.now.arranged level
-        → IsScheduledAbove (level_at view.entry.circuit.now.arranged level) gate
-        changes.old.buckets.at changes.new.buckets.at }
+        (not_yet_taken gate (moment changes.old gate kept seen))
+        (moment changes.new gate kept (bit_or seen result)) }
+    ensures idle { slice_index_or changes.new.waiting gate 0 ≡ 0 }
     ensures room { IsAsLarge changes.old changes.new }
 {
-    if kept == 0 {
-        return 0;
-    }
     match view.circuit.gate_of(gate) {
         Some(driver) => {
             let delta = changes.overlay.words();
@@ -175,41 +159,54 @@ struct Found {
     followed: u128,
 }
 
-/// Evaluates the gates that wait at a level, and tells what is found then.
+/// Evaluates a gate that was taken, which was the least of those that wait, and tells what is found
+/// then.
 #[inline(always)]
-fn evaluate_level(
+fn follow_gate(
     view: BlockView<'_>,
     extent: Extent<'_>,
-    level: u32,
+    gate: u32,
     found: Found,
     changes: &mut Changes,
 ) -> Found
     requires view { HasWords view.circuit.now.arranged view.good.now }
     requires room { HasRoomFor view.circuit.now.arranged changes.old }
-    requires level { level < changes.old.buckets.levels }
-    requires spreads { (case : Case view.circuit.now.arranged)
-        × Spreads view.circuit.now.arranged view.good.now view.lanes case
-        (moment changes.old level found.followed found.detected) }
+    requires taken { IsTaken view.circuit.now.arranged changes.old gate }
     ensures leads { Leads view.entry.circuit.now.arranged view.entry.good.now view.entry.lanes
-        (moment changes.old level found.followed found.detected)
-        (moment changes.new (level + 1) result.followed result.detected) }
+        (not_yet_taken gate (moment changes.old gate found.followed found.detected))
+        (moment changes.new gate result.followed result.detected) }
+    ensures idle { slice_index_or changes.new.waiting gate 0 ≡ 0 }
     ensures settled { LeavesSettled extent.entry view.entry.lanes found.followed found.detected
         → LeavesSettled extent.entry view.entry.lanes result.followed result.detected }
     ensures room { IsAsLarge changes.old changes.new }
 {
-    let mut found = found;
-    while let Some(gate) = changes.buckets.take(level) {
-        let seen = found.detected | evaluate_waiting(view, found.followed, gate, changes);
-        if seen == found.detected {
-            continue;
-        }
-        let followed = extent.followed(found.followed, seen);
-        found = Found {
-            detected: seen,
-            followed,
-        };
+    let detected = found.detected | evaluate_waiting(view, found.followed, gate, changes);
+    if detected == found.detected {
+        return found;
     }
-    found
+    Found {
+        detected,
+        followed: extent.followed(found.followed, detected),
+    }
+}
+
+/// Takes the least gate that waits, from a place on before which none does; `None` where none waits,
+/// or where no lane is followed any more, since then nothing can change what is told.
+#[inline(always)]
+fn next_gate(followed: u128, from: u32, waiting: &mut Places) -> Option<u32>
+    requires within { from < length waiting.old }
+    requires low { (gate : ℕ) → slice_index_or waiting.old gate 0 ≢ 0 → from ≤ gate }
+    ensures none { IfNone result ((waiting.new ≡ waiting.old)
+        × ((followed ≡ 0) ⊎ ((gate : ℕ) → slice_index_or waiting.old gate 0 ≡ 0))) }
+    ensures some { IfSome result (λ gate. (slice_index_or waiting.old gate 0 ≡ 1)
+        × (waiting.new ≡ slice_set waiting.old gate 0)) }
+    ensures least { IfSome result (λ gate. (other : ℕ)
+        → slice_index_or waiting.old other 0 ≢ 0 → gate ≤ other) }
+{
+    if followed == 0 {
+        return None;
+    }
+    waiting.take(from)
 }
 
 /// Spreads the first change of a fault, which is that of one signal in some of the lanes that are
@@ -256,12 +253,13 @@ pub fn spread(
         detected: seen,
         followed: kept,
     };
-    for level in view.circuit.level_of(start)..changes.buckets.levels() {
-        if changes.buckets.is_empty() {
-            break;
-        }
-        found = evaluate_level(view, extent, level, found, changes);
+    let _signals = view.circuit.signals();
+    let mut from = start;
+    while let Some(gate) = next_gate(found.followed, from, &mut changes.waiting) {
+        found = follow_gate(view, extent, gate, found, changes);
+        from = gate + 1;
     }
+    changes.waiting.clear(from);
     changes.overlay.clear();
     found.detected
 }

@@ -2,15 +2,16 @@
 //!
 //! From a gate it goes to the signal of its first pin and all that lies behind that, then to that
 //! of its second pin, and so on, and leaves the gate when it has left all of these. So the signals
-//! that lead to a gate are left shortly before it. It starts from the signals of the highest level,
-//! and at last from those that nothing else has led to.
+//! that lead to a gate are left shortly before it. It starts from the observed signals, the lowest
+//! level first, and at last from those that nothing else has led to. So first comes all that leads
+//! to the lowest observer, then what the next one has beyond that, and so on.
 
 ghost use Rattle.std.specs.Prelude.{◌≡◌, ◌<◌, IfOk, IfSome, OnOk, length};
 ghost use Rattle.bench_net.specs.Circuit.{IsCircuit};
 ghost use Rattle.bench_net.specs.Scan.{names};
 ghost use Rattle.block_sim.specs.Order.{IsWalk};
 
-use bench_net::Circuit;
+use bench_net::{Circuit, Sink};
 use std::alloc::{AllocError, Global};
 
 /// A signal that the walk has entered, and how many pins of its gate it has gone on from.
@@ -27,7 +28,7 @@ struct Walk {
     entered: Vec<bool>,
     /// The signals that it has entered and not left, the last one on top.
     path: Vec<Entered>,
-    /// How many signals it has not started from, of those in level order the first.
+    /// How often it has started.
     starts: usize,
     /// For each signal that it has left how many it left before.
     ranks: Vec<u32>,
@@ -49,7 +50,7 @@ pub fn walk_ranks(alloc: Global, circuit: &Circuit) -> Result<Vec<u32>, AllocErr
     let mut walk = Walk {
         entered: vec![in alloc; false; signals]?,
         path: Vec::new(alloc),
-        starts: signals,
+        starts: 0,
         ranks: vec![in alloc; 0u32; signals]?,
         left: 0,
     };
@@ -59,7 +60,7 @@ pub fn walk_ranks(alloc: Global, circuit: &Circuit) -> Result<Vec<u32>, AllocErr
     Ok(walk.ranks)
 }
 
-/// The steps of the walk: one for each pin, and for each signal one to start from it and one to
+/// The steps of the walk: one for each pin, and for each signal two to start from it and one to
 /// leave it.
 fn steps_of(circuit: &Circuit) -> usize
     requires { IsCircuit circuit.now }
@@ -70,7 +71,7 @@ fn steps_of(circuit: &Circuit) -> usize
             Some(line) => line.pins.len(),
             None => 0,
         };
-        steps = steps.saturating_add(pins.saturating_add(2));
+        steps = steps.saturating_add(pins.saturating_add(3));
     }
     steps
 }
@@ -87,17 +88,41 @@ fn step(circuit: &Circuit, walk: &mut Walk) -> Result<(), AllocError>
     }
 }
 
-/// Starts from the last signal in level order from which the walk has not started.
+/// Starts from the next signal: in level order the observed ones, and then all.
 fn start(circuit: &Circuit, walk: &mut Walk) -> Result<(), AllocError>
     requires circuit { IsCircuit circuit.now }
     requires walk { IsWalk circuit.now walk.old }
     ensures { OnOk result (IsWalk circuit.now walk.new) }
 {
-    walk.starts = walk.starts.saturating_sub(1);
-    match circuit.in_level_order().get(walk.starts) {
-        Some(signal) => enter(circuit, *signal, walk),
-        None => Ok(()),
+    let order = circuit.in_level_order();
+    let place = walk.starts;
+    walk.starts = place.saturating_add(1);
+    match order.get(place) {
+        Some(signal) => {
+            if is_observed(circuit, *signal) {
+                enter(circuit, *signal, walk)
+            } else {
+                Ok(())
+            }
+        }
+        None => match order.get(place.saturating_sub(order.len())) {
+            Some(signal) => enter(circuit, *signal, walk),
+            None => Ok(()),
+        },
     }
+}
+
+/// Whether an observer observes a signal.
+fn is_observed(circuit: &Circuit, signal: u32) -> bool
+    requires { signal < length (names circuit.now) }
+{
+    for sink in circuit.sinks_of(signal) {
+        match *sink {
+            Sink::Pin { .. } => {}
+            Sink::Data { .. } | Sink::Out { .. } => return true,
+        }
+    }
+    false
 }
 
 /// Goes on from a signal to the next pin of its gate, or leaves it where there is none.

@@ -102,8 +102,7 @@ pub spread-requires-in-Pin-clause-room : goal.spread-requires-in-Pin-clause-room
 spread-requires-in-Pin-clause-room c =
     let large : IsAsLarge c.args.changes.now c.gate_change-diff.new.changes = record {
       overlay = ap length c.gate_change-diff.ensures.overlay;
-      gates = ap (λ b. length b.at) c.gate_change-diff.ensures.buckets;
-      levels = ap (λ b. b.levels) c.gate_change-diff.ensures.buckets;
+      gates = ap length c.gate_change-diff.ensures.waiting;
     } in
     large_enough c.args.view.circuit.now.arranged c.args.changes.now c.gate_change-diff.new.changes
     c.requires.room large

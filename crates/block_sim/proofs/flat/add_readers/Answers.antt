@@ -6,10 +6,9 @@ use Rattle.bench_net.specs.declared.Sink.TheVariants as sink
 use Rattle.bench_net.specs.Scan.{names}
 use Rattle.lists.proofs.Places.{within_place}
 use Rattle.fault_model.specs.Reordered.{in_order, place}
-use Rattle.block_sim.specs.declared.flat.Reader.{Reader}
 use Rattle.block_sim.proofs.Flats.{gathered_none, gathered_passed, gathered_dead, gathered_more}
 use Rattle.block_sim.proofs.Flats.{gathered_all}
-use Rattle.block_sim.proofs.ArrangedRows.{moved_reader, readers_moved}
+use Rattle.block_sim.proofs.ArrangedRows.{readers_moved}
 use Rattle.block_sim.proofs.ArrangedSignals.{reordered}
 use Rattle.block_sim.proofs.Readers.{reader_within}
 use Rattle.block_sim.proofs.ReorderedReaders.{same_readers}
@@ -26,16 +25,6 @@ loop-sink-init c = record {
   gathered = gathered_none c.args.placed.circuit.now c.args.signal c.sinks_of-sink-items.result.now;
   observer = observer_none c.args.placed.circuit.now c.args.signal c.sinks_of-sink-items.result.now;
 }
-
-pub level_of-level-requires : goal.level_of-level-requires
-level_of-level-requires c =
-    let circuit = c.args.placed.circuit.now in
-    let n = within_place (names circuit) c.args.signal c.requires.signal in
-    let reads = sink_gate circuit c.requires.placed.circuit.well_formed c.args.signal n.0 n.1
-    c.sinks_of-sink-items.result.now (c.sinks_of-sink-items.ensures n.0 n.1)
-    c.loop-sink.sink-index c.in-Pin.gate c.in-Pin.pin (sink.Pin 0 0) c.loop-sink-test.true
-    c.in-Pin.is in
-    reader_within circuit c.in-Pin.gate c.args.signal reads
 
 pub bounds-placed-gate : goal.bounds-placed-gate
 bounds-placed-gate c =
@@ -100,32 +89,25 @@ loop-sink-preserved c =
       | in-Pin+else-not-placed-gate+in_ok-push-in-Pin w ↦
           let reads = sink_gate circuit well s n.0 n.1 items are i w.in-Pin.gate w.in-Pin.pin
           (sink.Pin 0 0) c.loop-sink-test.true w.in-Pin.is in
-          let reader : Reader = record { gate = w.in-Pin.gate; level = w.level_of-level.result } in
-          let placed : slice_index_or c.args.placed.places.now w.in-Pin.gate 0
-          ≡ place circuit there w.in-Pin.gate =
-          c.requires.placed.placed w.in-Pin.gate (reader_within circuit w.in-Pin.gate s reads) in
-          let moved : Reader = record {
-            gate = slice_index_or c.args.placed.places.now w.in-Pin.gate 0;
-            level = w.level_of-level.result;
-          } in
-          let same : moved ≡ moved_reader circuit there reader =
-          ap (λ g. record { gate = g; level = w.level_of-level.result }) placed in
+          let gate = w.in-Pin.gate in
+          let moved = slice_index_or c.args.placed.places.now gate 0 in
+          let placed : moved ≡ place circuit there gate =
+          c.requires.placed.placed gate (reader_within circuit gate s reads) in
           record {
-            more = more ++ reader ∷ [];
+            more = more ++ gate ∷ [];
             is = ap (λ r. r.items) w.readers-is ∙ (w.in_ok-push-in-Pin.ensures.items
                 ∙ (ap (λ l. l ++ moved ∷ []) c.loop-sink.invariant.is
-                ∙ (append_assoc c.args.readers.now.items (map (moved_reader circuit there) more)
+                ∙ (append_assoc c.args.readers.now.items (map (place circuit there) more)
                 (moved ∷ [])
                 ∙ ap (λ l. c.args.readers.now.items ++ l)
-                (ap (λ r. map (moved_reader circuit there) more ++ r ∷ []) same
-                ∙ sym (map-append (moved_reader circuit there) more (reader ∷ []))))));
-            gathered = gathered_more circuit well s n.0 n.1 items are i more before w.in-Pin.gate
-                w.in-Pin.pin (sink.Pin 0 0) reader c.loop-sink-test.true w.in-Pin.is refl reads
-                ((c.requires.placed.alive w.in-Pin.gate
-                (reader_within circuit w.in-Pin.gate s reads)).0
-                w.if-not-placed-gate.false) w.level_of-level.ensures;
+                (ap (λ r. map (place circuit there) more ++ r ∷ []) placed
+                ∙ sym (map-append (place circuit there) more (gate ∷ []))))));
+            gathered = gathered_more circuit well s n.0 n.1 items are i more before gate
+                w.in-Pin.pin (sink.Pin 0 0) c.loop-sink-test.true w.in-Pin.is reads
+                ((c.requires.placed.alive gate (reader_within circuit gate s reads)).0
+                w.if-not-placed-gate.false);
             observer = subst (HasObserver circuit s items (i + 1)) (sym w.observed-is)
-                (observer_passed circuit well s n.0 n.1 items are i w.in-Pin.gate w.in-Pin.pin
+                (observer_passed circuit well s n.0 n.1 items are i gate w.in-Pin.pin
                 (sink.Pin 0 0) c.loop-sink.observed c.loop-sink-test.true w.in-Pin.is
                 c.loop-sink.invariant.observer);
           }
@@ -163,7 +145,7 @@ returns-clause-readers c =
     let there = in_order circuit order in
     let more = c.loop-sink.invariant.more in
     let n = within_place (names circuit) c.args.signal c.requires.signal in (
-      map (moved_reader circuit there) more,
+      map (place circuit there) more,
       c.loop-sink.invariant.is,
       readers_moved circuit there well
           (reordered circuit there well (order, c.requires.placed.ordered, refl)) c.args.signal more

@@ -1,7 +1,7 @@
 use Rattle.std.proofs.Common.{refl}
 use Rattle.fault_model.specs.Reordered.{in_order}
 use Rattle.block_sim.specs.Arranged.{IsArranged}
-use Rattle.block_sim.proofs.ArrangedSignals.{reordered, signals_there}
+use Rattle.block_sim.proofs.ArrangedSignals.{reordered}
 use Rattle.block_sim.proofs.ReorderedReaders.{same_readers}
 use Rattle.block_sim.proofs.flat.standing_of.Goals as goal
 
@@ -17,7 +17,5 @@ returns c =
     let live = (same_readers circuit there well (reordered circuit there well arranged)).live s in
     record {
       lone = c.lone_place.ensures;
-      level = ((signals_there circuit there well arranged).levels s c.level_of.result).0
-          c.level_of.ensures;
       live = (λ on. live.0 (own.0 on), λ l. own.1 (live.1 l));
     }

@@ -92,8 +92,7 @@ pub arrive-requires-in-Pin-clause-room : goal.arrive-requires-in-Pin-clause-room
 arrive-requires-in-Pin-clause-room c =
     let large : IsAsLarge c.args.changes.now c.gate_change-lanes.new.changes = record {
       overlay = ap length c.gate_change-lanes.ensures.overlay;
-      gates = ap (λ b. length b.at) c.gate_change-lanes.ensures.buckets;
-      levels = ap (λ b. b.levels) c.gate_change-lanes.ensures.buckets;
+      gates = ap length c.gate_change-lanes.ensures.waiting;
     } in
     large_enough c.args.view.circuit.now.arranged c.args.changes.now c.gate_change-lanes.new.changes
     c.requires.room large

@@ -22,7 +22,7 @@ loop-place-init c = record {
   counted = λ way ways. let none = ways_none way c.args.rows.now c.args.firsts.now c.args.from in
       omega (arith, none);
   grown = omega arith;
-  room = record { overlay = refl; gates = refl; levels = refl };
+  room = record { overlay = refl; gates = refl };
   clear = c.requires.clear;
 }
 

@@ -1,23 +1,11 @@
 use Rattle.std.proofs.Common.{◌≡◌, ◌<◌, ℕ, sym, ◌∙◌, ap, arith}
 use Rattle.std.specs.Prelude.{None, slice_index_or, bit_and, bit_xor}
 use Rattle.fault_model.specs.Solution.{value}
-use Rattle.block_sim.specs.Events.{level_at}
 use Rattle.block_sim.specs.Words.{lane, pin_bits}
 use Rattle.block_sim.proofs.Equations.{pins_within, pins_few, pins_some}
-use Rattle.block_sim.proofs.Moments.{leads_changed, leads_same, leads_skipped}
-use Rattle.block_sim.proofs.LevelsRise.{reads_rise}
-use Rattle.block_sim.proofs.Spreading.{scheduled_above}
+use Rattle.block_sim.proofs.Moments.{idle_still, leads_changed, leads_same}
 use Rattle.block_sim.proofs.Steps.{no_change, only_lanes, changed_to}
 use Rattle.block_sim.proofs.spread.evaluate_waiting.Goals as goal
-
-pub returns-then-kept-eq0-clause-leads : goal.returns-then-kept-eq0-clause-leads
-returns-then-kept-eq0-clause-leads c = λ now seen.
-    let old = c.args.changes.now in
-    leads_skipped c.args.view.circuit.now.arranged c.args.view.good.now c.args.view.lanes
-    old.overlay
-    old.buckets.at old.evaluations now c.args.kept seen c.args.gate
-    (omega (arith, c.requires.taken.within, c.requires.room.gates)) c.requires.taken.waits
-    c.if-kept-eq0.true
 
 pub evaluate_gate-word-requires-clause-pins_in : goal.evaluate_gate-word-requires-clause-pins_in
 evaluate_gate-word-requires-clause-pins_in c =
@@ -40,7 +28,7 @@ evaluate_gate-word-requires-clause-few c =
     c.requires.view.circuit (sym c.in-Some.ensures.gate)
 
 pub returns-then-diff-eq0-clause-leads : goal.returns-then-diff-eq0-clause-leads
-returns-then-diff-eq0-clause-leads c = λ now seen.
+returns-then-diff-eq0-clause-leads c = λ seen.
     let circuit = c.args.view.circuit.now.arranged in
     let good = c.args.view.good.now in
     let old = c.args.changes.now in
@@ -52,7 +40,7 @@ returns-then-diff-eq0-clause-leads c = λ now seen.
     λ k lt. c.evaluate_gate-word.ensures.value k lt
     ∙ ap (λ d. value own.kind (pin_bits None gate own.pins.now good d k)) c.words-delta.ensures in
     leads_same circuit good c.args.view.lanes c.requires.view.circuit.well_formed old.overlay
-    old.buckets.at old.evaluations c.evaluate_gate-word.new.evaluations now c.args.kept seen
+    old.waiting old.evaluations c.evaluate_gate-word.new.evaluations c.args.kept seen
     gate
     (omega (arith, c.requires.taken.within, c.requires.room.gates)) (omega (
       arith,
@@ -64,7 +52,7 @@ returns-then-diff-eq0-clause-leads c = λ now seen.
     (λ k lt e. no_change word (slice_index_or good gate 0) c.args.kept k c.if-diff-eq0.true e)
 
 pub returns-clause-leads : goal.returns-clause-leads
-returns-clause-leads c = λ now seen.
+returns-clause-leads c = λ seen.
     let circuit = c.args.view.circuit.now.arranged in
     let good = c.args.view.good.now in
     let old = c.args.changes.now in
@@ -78,7 +66,7 @@ returns-clause-leads c = λ now seen.
     let diff = bit_and (bit_xor word (slice_index_or good gate 0)) c.args.kept in
     let counted = c.change.ensures.evaluations in
     leads_changed circuit good c.args.view.lanes c.requires.view.circuit.well_formed old.overlay
-    old.buckets.at old.evaluations c.change.new.changes.evaluations now c.args.kept seen gate
+    old.waiting old.evaluations c.change.new.changes.evaluations c.args.kept seen gate
     (omega (arith, c.requires.taken.within, c.requires.room.gates)) (omega (
       arith,
       c.requires.taken.within,
@@ -90,16 +78,14 @@ returns-clause-leads c = λ now seen.
       c.evaluate_gate-word.ensures.counted,
     )) own.kind own.pins.now (sym c.in-Some.ensures.gate)
     word valued
-    diff c.change.result c.change.new.changes.overlay c.change.new.changes.buckets.at
+    diff c.change.result c.change.new.changes.overlay c.change.new.changes.waiting
     c.requires.taken.clear c.change.ensures.changed c.if-diff-eq0.false c.change.ensures.some
     (λ k lt e. only_lanes (bit_xor word (slice_index_or good gate 0)) c.args.kept k e)
     (λ k lt e. changed_to word (slice_index_or good gate 0) c.args.kept k e)
     c.change.ensures.scheduled c.change.ensures.shown
 
-pub returns-clause-scheduled : goal.returns-clause-scheduled
-returns-clause-scheduled c = λ level are r.
-    let circuit = c.args.view.circuit.now.arranged in
-    scheduled_above circuit (level_at circuit level) c.args.gate c.args.changes.now.buckets.at
-    c.change.new.changes.buckets.at
-    (reads_rise circuit level c.requires.view.circuit.well_formed are)
-    (c.change.ensures.scheduled level are) r
+pub returns-clause-idle : goal.returns-clause-idle
+returns-clause-idle c =
+    idle_still c.args.view.circuit.now.arranged c.args.gate c.args.changes.now.waiting
+    c.change.new.changes.waiting c.requires.view.circuit.well_formed c.change.ensures.scheduled
+    c.requires.taken.waits

@@ -4,9 +4,7 @@ use Rattle.block_sim.proofs.spread.schedule_fanout.Given as goal
 
 abbrev pub invariant-loop-reader : goal.invariant-loop-reader
 invariant-loop-reader l = record {
-  gates : length l.buckets.at ≡ length l.initial.buckets.at;
-  levels : l.buckets.levels ≡ l.initial.buckets.levels;
+  gates : length l.waiting ≡ length l.initial.waiting;
   scheduled : HasScheduled l.circuit.arranged l.signal l.reader-items l.reader-index
-      l.initial.buckets.at
-      l.buckets.at;
+      l.initial.waiting l.waiting;
 }

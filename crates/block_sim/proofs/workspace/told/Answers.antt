@@ -11,7 +11,6 @@ use Rattle.block_sim.specs.Spans.{AreInSpan, IsInSpan, one_block}
 use Rattle.block_sim.specs.ActiveGates.{HasActive, HasActiveIn}
 use Rattle.block_sim.specs.Stuck.{stuck_fault}
 use Rattle.block_sim.specs.Words.{lane}
-use Rattle.block_sim.proofs.LevelCount.{level_within}
 use Rattle.block_sim.proofs.ArrangedSignals.{reordered, room_there}
 use Rattle.block_sim.proofs.ArrangedWords.{carried_name, circuit_there, listed_there, moved_there}
 use Rattle.block_sim.proofs.ArrangedWords.{told_there}
@@ -67,9 +66,6 @@ effect-requires-clause-room c =
     changes (record {
       overlay = omega (arith, signals, c.requires.fits);
       gates = omega (arith, signals, c.requires.fits, c.workspace.invariant.gates);
-      levels = λ g k h.
-          let le = level_within circuit g k well h in
-          omega (arith, le, signals, c.requires.fits, c.workspace.invariant.levels);
     })
 
 pub returns-clause-told : goal.returns-clause-told

@@ -3,7 +3,8 @@ use Rattle.bench_net.specs.Scan.{names}
 use Rattle.bench_net.specs.Circuit.{IsCircuit}
 use Rattle.fault_model.specs.Reordered.{in_order}
 use Rattle.block_sim.specs.Arranged.{IsArranged}
-use Rattle.block_sim.proofs.ArrangedSignals.{count_there}
+use Rattle.block_sim.specs.Events.{IsRising}
+use Rattle.block_sim.proofs.ArrangedSignals.{count_there, rising_there}
 use Rattle.block_sim.proofs.ArrangedWords.{circuit_there}
 use Rattle.block_sim.proofs.flat.FlatCircuit.signals.Goals as goal
 
@@ -25,3 +26,12 @@ returns-clause-circuit c =
     let arranged : IsArranged circuit there = (own.order.items, c.self.invariant.ordered, refl) in
     subst (λ x. IsCircuit x.arranged) c.self.view_is
     (circuit_there circuit there c.signals.ensures.circuit arranged)
+
+pub returns-clause-rising : goal.returns-clause-rising
+returns-clause-rising c =
+    let own = c.self.inside in
+    let circuit = own.circuit in
+    let there = in_order circuit own.order.items in
+    let arranged : IsArranged circuit there = (own.order.items, c.self.invariant.ordered, refl) in
+    subst (λ x. IsRising x.arranged) c.self.view_is
+    (rising_there circuit there c.signals.ensures.circuit.well_formed arranged)
