@@ -3,7 +3,8 @@
 pub use Rattle.fault_ledger.proofs.Acceptance.{claim_answer, drop_answer, report_answer}
 pub use Rattle.fault_ledger.proofs.ClassLooks.{ClearBelow, settled_stays, skipped_not_first}
 pub use Rattle.fault_ledger.proofs.AllSettled.{finish-all}
-pub use Rattle.fault_ledger.proofs.Histories.{claims_past, held-holds, held_goes_on}
+pub use Rattle.fault_ledger.proofs.Histories.{claims_past, entry_past, goes_on_same}
+pub use Rattle.fault_ledger.proofs.Histories.{goes_on_twice, held-holds, held_goes_on}
 pub use Rattle.fault_ledger.proofs.LegalHistories.{claim_accepted, drop_accepted, held_piece}
 pub use Rattle.fault_ledger.proofs.LegalHistories.{legal_after, legal_claims, report_accepted}
 pub use Rattle.fault_ledger.proofs.PieceNumbers.{at-of, block_of-at, block_of-below, class_of-at}

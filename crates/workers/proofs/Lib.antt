@@ -10,8 +10,10 @@ mod PartsOfClasses
 mod ClassRanks
 mod LoneWorkers
 mod Turns
+mod StretchSeats
 mod TakenParts
 mod RunsOfParts
 mod ReturnsByPart
+mod SharedStretches
 mod PartRefusals
 pub mod Public

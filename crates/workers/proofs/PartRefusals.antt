@@ -10,7 +10,7 @@ use Rattle.workers.specs.Part.{stretch_size}
 use Rattle.workers.specs.Refused.{IsPartsFault, IsRunFault}
 
 -- a stretch has no more classes than all
-ceil_le : (n parts : ℕ) → stretch_size n parts ≤ n
+pub ceil_le : (n parts : ℕ) → stretch_size n parts ≤ n
 ceil_le n zero = omega (arith, div-zero n, div-add-mod n 0)
 ceil_le n (suc parts) = omega (arith, div-add-mod n (suc parts), suc-mul parts (n / suc parts))
 

@@ -425,6 +425,39 @@ all_firsts job classes firsts found table b all known by is = record {
     g : ℕ → Option ℕ
     g class = first_in (get_or table class OtherPart)
 
+-- each verdict is the first test of some class of the list
+pub verdict_there : (job : Parts) (classes : List ℕ) (firsts found : List (Option ℕ))
+    (table : List PartVerdict) → BelongTogether job → AreAllByRegion job classes
+    → AreClassVerdicts (length job.classes.representative) classes firsts (length classes) table
+    → found ≡ map (λ class. first_in (get_or table class OtherPart)) job.classes.class_of
+    → (i class : ℕ) (first : Option ℕ) → slice_get job.classes.class_of i ≡ Some class
+    → slice_get found i ≡ Some first
+    → (k : ℕ) × (slice_get classes k ≡ Some class) × (slice_get firsts k ≡ Some first)
+verdict_there job classes firsts found table b all by is i class first at v =
+    let x = from_mapped g job.classes.class_of i first
+    (ap (λ (l : List (Option ℕ)). slice_get l i) (sym is) ∙ v) in
+    let both : Some x.0 ≡ Some class = sym x.1 ∙ at in
+    let one : x.0 ≡ class = cc in
+    let lt : class < length job.classes.representative = class_in job (shape_for job 1) i class b
+    (record { classes = refl; tests = refl }) at in
+    go (ap g (sym one) ∙ x.2) (by.each class lt)
+  where
+    g : ℕ → Option ℕ
+    g class = first_in (get_or table class OtherPart)
+
+    go : g class ≡ first
+        → IsClassVerdict classes firsts (length classes) class (slice_get table class)
+        → (k : ℕ) × (slice_get classes k ≡ Some class) × (slice_get firsts k ≡ Some first)
+    go e (inl x) =
+        let own = get_or_from_slice_get table class (First x.1) OtherPart x.5 in
+        let same : x.1 ≡ first = ap first_in (sym own) ∙ e in
+        (x.0, x.3, x.4 ∙ ap Some same)
+    go e (inr x) =
+        let lt : class < length job.classes.representative = class_in job (shape_for job 1) i class b
+        (record { classes = refl; tests = refl }) at in
+        let y = all.all class lt tt in
+        absurd (x.0 y.0 (slice_get_within classes y.0 class y.1) y.1)
+
 -- and the pieces behind them are behind the hits of all classes
 pub all_hits : (job : Parts) (classes : List ℕ)
     (firsts : List (Option ℕ)) (table : List PartVerdict) (n skipped : ℕ)

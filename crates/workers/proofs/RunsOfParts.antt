@@ -1,8 +1,9 @@
 -- The runs of parts, one part after another.
-use Rattle.std.proofs.Common.{◌≡◌, ◌<◌, ◌+◌, ◌*◌, ◌⊎◌, inl, inr, true, false, ℕ, List, [], ◌∷◌}
-use Rattle.std.proofs.Common.{◌++◌, length, All, Option, Some, None, refl, sym, ap, ◌∙◌, subst}
-use Rattle.std.proofs.Common.{arith, length-append}
+use Rattle.std.proofs.Common.{◌≡◌, ◌≢◌, ◌<◌, ◌≤◌, ◌+◌, ◌*◌, ◌⊎◌, inl, inr, true, false, ℕ, zero, suc}
+use Rattle.std.proofs.Common.{List, [], ◌∷◌, ◌++◌, length, All, Option, Some, None, refl, sym, ap}
+use Rattle.std.proofs.Common.{◌∙◌, subst, arith, length-append}
 use Rattle.std.specs.Prelude.{slice_get, nat_lt, if◌then◌else◌}
+use Rattle.std.proofs.lemmas.Bool.{cases_lt}
 use Rattle.std.proofs.Math.Nat.{zero-mul}
 use Rattle.std.proofs.lemmas.Option.{get_or_from_slice_get, slice_get_within}
 use Rattle.patterns.specs.Least.{least}
@@ -14,7 +15,8 @@ use Rattle.workers.specs.declared.alone.Stop.{Stop}
 use Rattle.workers.specs.declared.alone.Waiting.{Waiting}
 use Rattle.workers.specs.declared.taken.Done.{Done}
 use Rattle.workers.specs.Alone.{AreFoundByPart, AreFoundUpTo, AreRunsOf, HasEnded, IsDone, IsLowest}
-use Rattle.workers.specs.Alone.{IsOpenIn, IsStopAt, PartRun, StretchesWaitFor, WaitsIn, lower_of}
+use Rattle.workers.specs.Alone.{IsOpenIn, IsStopAt, IsUnbegun, IsWholeAt, MayStop, NoneBegan}
+use Rattle.workers.specs.Alone.{PartRun, StretchesWaitFor, WaitsIn, at_first, lower_of}
 use Rattle.workers.specs.Part.{stretch}
 use Rattle.workers.specs.Rank.{IsCutOf}
 use Rattle.workers.specs.Verdict.{AreClassFirsts}
@@ -103,7 +105,7 @@ runs_more : (job : Parts) (size : ℕ) (classes : List ℕ) (workers part : ℕ)
     (runs : List PartRun) (run : PartRun)
     → AreRunsOf job size classes workers S part runs → run.classes ≡ stretch size classes part
     → run.worker < workers
-    → ((stop : Stop) → run.stop ≡ Some stop → IsStopAt job run.classes run.worker S stop)
+    → ((stop : Stop) → run.stop ≡ Some stop → MayStop job size classes workers S run stop)
     → AreRunsOf job size classes workers S (part + 1) (runs ++ run ∷ [])
 runs_more job size classes workers part S runs run was own low stopped = record {
   count = omega (arith, was.count, length-append runs (run ∷ []));
@@ -112,11 +114,11 @@ runs_more job size classes workers part S runs run was own low stopped = record 
   where
     go : (k : ℕ) (x : PartRun) → (slice_get runs k ≡ Some x) ⊎ ((k ≡ length runs) × (run ≡ x))
         → (x.classes ≡ stretch size classes k) × (x.worker < workers) × ((stop : Stop)
-        → x.stop ≡ Some stop → IsStopAt job x.classes x.worker S stop)
+        → x.stop ≡ Some stop → MayStop job size classes workers S x stop)
     go k x (inl h) = was.each k x h
     go k x (inr h) =
         subst (λ (r : PartRun). (r.classes ≡ stretch size classes k) × (r.worker < workers)
-        × ((stop : Stop) → r.stop ≡ Some stop → IsStopAt job r.classes r.worker S stop)) h.1 (
+        × ((stop : Stop) → r.stop ≡ Some stop → MayStop job size classes workers S r stop)) h.1 (
           subst (λ n. run.classes ≡ stretch size classes n) (sym (h.0 ∙ was.count)) own,
           low,
           stopped,
@@ -159,7 +161,29 @@ not_stopped_found : (job : Parts) (classes : List ℕ) (worker : ℕ) (S : Stops
 not_stopped_found job classes worker S None firsts b e is = firsts_found job classes firsts b e
 not_stopped_found job classes worker S (Some stop) firsts b e is = absurd (cc)
 
--- of one part more
+-- of one run more
+gathered_run : (job : Parts) (size : ℕ) (classes : List ℕ) (workers : ℕ)
+    (P : Type 0) (S : Stops) (part : ℕ) (firsts : List (Option ℕ))
+    (lowest : Option Waiting) (run : PartRun) (own : List (Option ℕ)) (waiting : Option Waiting)
+    → run.classes ≡ stretch size classes part → run.worker < workers
+    → ((stop : Stop) → run.stop ≡ Some stop → MayStop job size classes workers S run stop)
+    → IsLowest (IsOpenIn job run.classes run.stop) waiting → (P → waiting ≡ None)
+    → (waiting ≡ None → AreClassFirsts job.list.model job.circuit job.tests.tests
+    (stretch size classes part) own)
+    → IsGathered job size classes workers P S part firsts lowest
+    → IsGathered job size classes workers P S (part + 1) (firsts ++ own) (lower_of lowest waiting)
+gathered_run job size classes workers P S part firsts lowest run own waiting is low may waits passed
+    found was = record {
+      runs = was.runs ++ run ∷ [];
+      are = runs_more job size classes workers part S was.runs run was.are is low may;
+      is_lowest = waits_more job was.runs run lowest waiting was.is_lowest waits;
+      passed = λ p. ap (λ l. lower_of l waiting) (was.passed p) ∙ passed p;
+      found = λ e.
+          let none = lower_none lowest waiting e in
+          firsts_more job classes size part firsts own (was.found none.0) (found none.1);
+    }
+
+-- of one part more, which a worker ran
 pub gathered_more : (job : Parts) (size : ℕ) (classes : List ℕ) (workers worker : ℕ)
     (P : Type 0) (S : Stops) (part : ℕ) (firsts : List (Option ℕ))
     (lowest : Option Waiting) (done : Done)
@@ -168,24 +192,21 @@ pub gathered_more : (job : Parts) (size : ℕ) (classes : List ℕ) (workers wor
     → IsGathered job size classes workers P S part firsts lowest
     → IsGathered job size classes workers P S (part + 1) (firsts ++ done.firsts.items)
     (lower_of lowest done.waiting)
-gathered_more job size classes workers worker P S part firsts lowest done b low is d was = record {
-  runs = was.runs ++ run ∷ [];
-  are = runs_more job size classes workers part S was.runs run was.are
-      (ap (stretch size classes) is) low
-      (stopped_there job own worker S d.stop done.firsts.items d.ended);
-  is_lowest = waits_more job was.runs run lowest done.waiting was.is_lowest d.lowest;
-  passed = λ p.
-      let all = subst (λ s. IsLowest (IsOpenIn job own s) done.waiting) (d.passed p) d.lowest in
-      ap (λ l. lower_of l done.waiting) (was.passed p) ∙ none_open job own done.waiting all;
-  found = λ e.
-      let none = lower_none lowest done.waiting e in
-      let stop = not_stopped job own worker S d.stop done.firsts.items d.ended
-      (subst (IsLowest (IsOpenIn job own d.stop)) none.1 d.lowest) in
-      firsts_more job classes size part firsts done.firsts.items (was.found none.0)
-      (subst (λ n. AreClassFirsts job.list.model job.circuit job.tests.tests
-      (stretch size classes n) done.firsts.items) is
-      (not_stopped_found job own worker S d.stop done.firsts.items b d.ended stop));
-}
+gathered_more job size classes workers worker P S part firsts lowest done b low is d was =
+    gathered_run job size classes workers P S part firsts lowest run done.firsts.items done.waiting
+    (ap (stretch size classes) is) low
+    (λ stop e. inl (stopped_there job own worker S d.stop done.firsts.items d.ended stop e))
+    d.lowest
+    (λ p.
+    let all = subst (λ s. IsLowest (IsOpenIn job own s) done.waiting) (d.passed p) d.lowest in
+    none_open job own done.waiting all)
+    (λ none.
+    let stop = not_stopped job own worker S d.stop done.firsts.items d.ended
+    (subst (IsLowest (IsOpenIn job own d.stop)) none d.lowest) in
+    subst (λ n. AreClassFirsts job.list.model job.circuit job.tests.tests
+    (stretch size classes n) done.firsts.items) is
+    (not_stopped_found job own worker S d.stop done.firsts.items b d.ended stop))
+    was
   where
     own : List ℕ
     own = stretch size classes done.part
@@ -193,23 +214,142 @@ gathered_more job size classes workers worker P S part firsts lowest done b low 
     run : PartRun
     run = record { classes = own; worker = worker; stop = d.stop }
 
--- what was found in a part, whether it stood in the table or a worker more ran it
-pub found_there : (job : Parts) (size : ℕ) (classes : List ℕ) (workers number : ℕ)
-    (P : Type 0) (S : Stops) (table : List (Option Done)) (part : ℕ) (place : Option Done)
-    (done : Done)
-    → AreFoundByPart job size classes workers P S table → slice_get table part ≡ Some place
-    → number < workers
-    → (place ≡ Some done) ⊎ ((done.part ≡ part) × IsDone job size classes number P S done)
-    → (done.part ≡ part) × (worker : ℕ) × (worker < workers)
-    × IsDone job size classes worker P S done
-found_there job size classes workers number P S table part place done found at low (inl e) =
-    found.each part done (at ∙ ap Some e)
-found_there job size classes workers number P S table part place done found at low (inr x) = (
-  x.0,
-  number,
-  low,
-  x.1,
-)
+-- a stretch that no worker began has a class that waits
+pub unbegun_waits : (job : Parts) (own : List ℕ) (lowest : Option Waiting) → 0 < length own
+    → 0 < blocks (length job.tests.tests)
+    → IsLowest (IsOpenIn job own (Some at_first)) lowest → lowest ≢ None
+unbegun_waits job [] lowest some block is none = absurd (omega (arith, some))
+unbegun_waits job (class ∷ own) lowest some block is none =
+    subst (IsLowest (IsOpenIn job (class ∷ own) (Some at_first))) none is class 0 (record {
+      place = 0;
+      low = some;
+      at = refl;
+      block_is = sym (done_high 0 0 0 (omega arith));
+      within = block;
+      undetected = λ table is. refl;
+    })
+
+-- no first test of no class
+firsts_of_none : (job : Parts) (own : List ℕ) (firsts : List (Option ℕ)) → length own ≡ 0
+    → length firsts ≡ 0
+    → AreClassFirsts job.list.model job.circuit job.tests.tests own firsts
+firsts_of_none job own firsts e n = record {
+  count = omega (arith, e, n);
+  first = λ k class f first at of ef.
+      let lt = slice_get_within own k class at in absurd (omega (arith, lt, e));
+}
+
+-- of one part more, which no worker began
+pub gathered_unbegun : (job : Parts) (size : ℕ) (classes : List ℕ) (workers : ℕ)
+    (P : Type 0) (S : Stops) (part : ℕ) (firsts : List (Option ℕ))
+    (lowest : Option Waiting) (done : Done)
+    → 0 < workers → done.part ≡ part → IsUnbegun job size classes done
+    → (0 < length (stretch size classes part) → NoneBegan job size classes workers P S)
+    → IsGathered job size classes workers P S part firsts lowest
+    → IsGathered job size classes workers P S (part + 1) (firsts ++ done.firsts.items)
+    (lower_of lowest done.waiting)
+gathered_unbegun job size classes workers P S part firsts lowest done some is d began was =
+    go (length own) refl
+  where
+    own : List ℕ
+    own = stretch size classes part
+
+    same : stretch size classes done.part ≡ own
+    same = ap (stretch size classes) is
+
+    go : (n : ℕ) → length own ≡ n
+        → IsGathered job size classes workers P S (part + 1) (firsts ++ done.firsts.items)
+        (lower_of lowest done.waiting)
+    go zero e =
+        let none = d.none (ap (λ (l : List ℕ). length l) same ∙ e) in
+        gathered_run job size classes workers P S part firsts lowest
+        (record { classes = own; worker = 0; stop = None }) done.firsts.items done.waiting refl some
+        (λ stop q. let bad : None ≡ Some stop = q in absurd (cc))
+        (subst (IsLowest (IsOpenIn job own None)) (sym none.0) (λ c b x. x)) (λ p. none.0)
+        (λ q. firsts_of_none job own done.firsts.items e none.1) was
+    go (suc n) e =
+        let any : 0 < length own = omega (arith, e) in
+        let left = began any in
+        let low : IsLowest (IsOpenIn job own (Some at_first)) done.waiting =
+        subst (λ l. IsLowest (IsOpenIn job l (Some at_first)) done.waiting) same
+        (d.some (subst (λ (l : List ℕ). 0 < length l) (sym same) any)) in
+        gathered_run job size classes workers P S part firsts lowest
+        (record { classes = own; worker = 0; stop = Some at_first }) done.firsts.items done.waiting
+        refl some
+        (λ stop q. let at : at_first ≡ stop = cc in inr (sym at, left.stopped)) low
+        (λ p. absurd (left.shut p))
+        (λ q. absurd (unbegun_waits job own done.waiting any left.some low q)) was
+
+-- what is known of a part: one of the workers found it, or none began it
+pub gathered_part : (job : Parts) (size : ℕ) (classes : List ℕ) (workers : ℕ)
+    (P : Type 0) (S : Stops) (table : List (Option Done)) (part : ℕ) (firsts : List (Option ℕ))
+    (lowest : Option Waiting) (place : Option Done) (done : Done)
+    → BelongTogether job → 0 < workers → AreFoundByPart job size classes workers P S table
+    → slice_get table part ≡ Some place
+    → (place ≡ Some done)
+    ⊎ ((place ≡ None) × (done.part ≡ part) × IsUnbegun job size classes done)
+    → IsGathered job size classes workers P S part firsts lowest
+    → IsGathered job size classes workers P S (part + 1) (firsts ++ done.firsts.items)
+    (lower_of lowest done.waiting)
+gathered_part job size classes workers P S table part firsts lowest place done b some found at (inl e)
+    was =
+    let x = found.each part done (at ∙ ap Some e) in
+    gathered_more job size classes workers x.1 P S part firsts lowest done b x.2 x.0 x.3 was
+gathered_part job size classes workers P S table part firsts lowest place done b some found at (inr x)
+    was =
+    gathered_unbegun job size classes workers P S part firsts lowest done some x.1 x.2
+    (found.none part (at ∙ ap Some x.0)) was
+
+-- ---- where no class waits
+
+-- the first so many places of a table are whole
+abbrev pub WholeUpTo : ℕ → List ℕ → List (Option Done) → ℕ → Type 0
+WholeUpTo size classes table n = (k : ℕ) (place : Option Done) → k < n
+    → slice_get table k ≡ Some place → IsWholeAt size classes k place
+
+-- one place more
+pub whole_more : (job : Parts) (size : ℕ) (classes : List ℕ) (workers : ℕ)
+    (P : Type 0) (S : Stops) (table : List (Option Done)) (part : ℕ)
+    (lowest : Option Waiting) (place : Option Done) (done : Done)
+    → AreFoundByPart job size classes workers P S table
+    → slice_get table part ≡ Some place
+    → (place ≡ Some done)
+    ⊎ ((place ≡ None) × (done.part ≡ part) × IsUnbegun job size classes done)
+    → (lowest ≡ None → WholeUpTo size classes table part)
+    → lower_of lowest done.waiting ≡ None → WholeUpTo size classes table (part + 1)
+whole_more job size classes workers P S table part lowest place done found at is was e k x lt there =
+    pick (cases_lt k part)
+  where
+    none : (lowest ≡ None) × (done.waiting ≡ None)
+    none = lower_none lowest done.waiting e
+
+    own : (place ≡ Some done)
+        ⊎ ((place ≡ None) × (done.part ≡ part) × IsUnbegun job size classes done)
+        → IsWholeAt size classes part place
+    own (inl q) = subst (IsWholeAt size classes part) (sym q) none.1
+    own (inr q) = subst (IsWholeAt size classes part) (sym q.0) (empty (length s) refl)
+      where
+        s : List ℕ
+        s = stretch size classes part
+
+        empty : (n : ℕ) → length s ≡ n → length s ≡ 0
+        empty zero z = z
+        empty (suc n) z =
+            let any : 0 < length s = omega (arith, z) in
+            let left = found.none part (at ∙ ap Some q.0) any in
+            absurd (unbegun_waits job s done.waiting any left.some
+            (subst (λ l. IsLowest (IsOpenIn job (stretch size classes l) (Some at_first))
+            done.waiting) q.1 (q.2.some (subst (λ l. 0 < length (stretch size classes l)) (sym q.1)
+            any))) none.1)
+
+    pick : (k < part) ⊎ (part ≤ k) → IsWholeAt size classes k x
+    pick (inl low) = was none.0 k x low there
+    pick (inr high) =
+        let same : part ≡ k = omega (arith, lt, high) in
+        let both : Some place ≡ Some x = sym at ∙ ap (slice_get table) same ∙ there in
+        let one : place ≡ x = cc in
+        subst (λ n. IsWholeAt size classes n x) same
+        (subst (IsWholeAt size classes part) one (own is))
 
 -- of all parts: the first tests of all classes
 pub gathered_all : (job : Parts) (parts size : ℕ) (classes : List ℕ) (workers : ℕ)

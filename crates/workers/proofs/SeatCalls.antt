@@ -27,36 +27,47 @@ use Rattle.fault_ledger.specs.declared.Status.{Status}
 use Rattle.fault_ledger.specs.declared.Status.TheVariants as status_is
 use Rattle.workers.specs.Chosen.{Chosen}
 use Rattle.workers.specs.Settling.{AreSettled, IsShapeOver}
-use Rattle.workers.specs.Work.{GivesTrue, IsStopped, ReportsTruly, Stops, WasNoDrop, WorksOver}
+use Rattle.workers.specs.Work.{EachReport, GivesTrue, IsStopped, ReportsTruly, Stops, WasNoDrop}
+use Rattle.workers.specs.Work.{WorksOver}
 use Rattle.workers.proofs.TrueOutcomes.{true_fits}
 use Rattle.workers.proofs.SettledLedgers.{settled_past}
 
 -- where no event is the worker's, none is its report
+pub reports_none : (H : Outcome → History → Type 0) (w : ℕ) (newer earlier : History)
+    → NoneOf w newer → EachReport H w newer earlier
+reports_none H w [] earlier n = tt
+reports_none H w (Event.Claim u ∷ newer) earlier n = reports_none H w newer earlier n.1
+reports_none H w (Event.Report u o ∷ newer) earlier n = (
+  (λ e. absurd (n.0 e)),
+  reports_none H w newer earlier n.1,
+)
+reports_none H w (Event.Drop u ∷ newer) earlier n = reports_none H w newer earlier n.1
+
 pub truly_none : (job : Parts) (over : Chosen) (s : Shape) (w : ℕ) (newer earlier : History)
     → NoneOf w newer → ReportsTruly job over s w newer earlier
-truly_none job over s w [] earlier n = tt
-truly_none job over s w (Event.Claim u ∷ newer) earlier n =
-    truly_none job over s w newer earlier n.1
-truly_none job over s w (Event.Report u o ∷ newer) earlier n = (
-  (λ e. absurd (n.0 e)),
-  truly_none job over s w newer earlier n.1,
-)
-truly_none job over s w (Event.Drop u ∷ newer) earlier n = truly_none job over s w newer earlier n.1
+truly_none job over s w newer earlier n =
+    reports_none (λ o h. GivesTrue job over s (held_by w h) o × WasNoDrop s w h) w newer earlier n
 
 -- newer events on top of newer events
+pub reports_append : (H : Outcome → History → Type 0) (w : ℕ) (later newer earlier : History)
+    → EachReport H w newer earlier → EachReport H w later (newer ++ earlier)
+    → EachReport H w (later ++ newer) earlier
+reports_append H w [] newer earlier t u = t
+reports_append H w (Event.Claim v ∷ later) newer earlier t u =
+    reports_append H w later newer earlier t u
+reports_append H w (Event.Report v o ∷ later) newer earlier t u = (
+  (λ e. subst (λ h. H o h) (sym (append_assoc later newer earlier)) (u.0 e)),
+  reports_append H w later newer earlier t u.1,
+)
+reports_append H w (Event.Drop v ∷ later) newer earlier t u =
+    reports_append H w later newer earlier t u
+
 pub truly_append : (job : Parts) (over : Chosen) (s : Shape) (w : ℕ) (later newer earlier : History)
     → ReportsTruly job over s w newer earlier → ReportsTruly job over s w later (newer ++ earlier)
     → ReportsTruly job over s w (later ++ newer) earlier
-truly_append job over s w [] newer earlier t u = t
-truly_append job over s w (Event.Claim v ∷ later) newer earlier t u =
-    truly_append job over s w later newer earlier t u
-truly_append job over s w (Event.Report v o ∷ later) newer earlier t u = (
-  (λ e. subst (λ h. GivesTrue job over s (held_by w h) o × WasNoDrop s w h)
-      (sym (append_assoc later newer earlier)) (u.0 e)),
-  truly_append job over s w later newer earlier t u.1,
-)
-truly_append job over s w (Event.Drop v ∷ later) newer earlier t u =
-    truly_append job over s w later newer earlier t u
+truly_append job over s w later newer earlier t u =
+    reports_append (λ o h. GivesTrue job over s (held_by w h) o × WasNoDrop s w h) w later newer
+    earlier t u
 
 -- no event is the worker's in two histories of which none is in either
 none_append : (w : ℕ) (later newer : History) → NoneOf w later → NoneOf w newer

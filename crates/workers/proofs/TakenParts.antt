@@ -1,15 +1,19 @@
 -- Parts that workers took, and what was found in them.
 use Rattle.std.proofs.Common.{◌≡◌, ◌<◌, ℕ, List, length, All, Option, Some, None, sym, ◌∙◌}
-use Rattle.std.proofs.Common.{subst}
+use Rattle.std.proofs.Common.{subst, get_or, ap, arith}
 use Rattle.std.specs.Prelude.{Result, Ok, Err, IfOk}
 use Rattle.std.proofs.lemmas.List.Elements.{All-weaker}
 use Rattle.std.proofs.lemmas.Option.{get_or_from_slice_get, slice_get_within}
+use Rattle.patterns.proofs.Public.{length-map-below, get_or-map-below}
 use Rattle.block_sim.specs.Parts.{Parts}
+use Rattle.fault_ledger.specs.Seats.{Place, Sitter, newcomer, newcomers}
 use Rattle.workers.specs.declared.alone.Stop.{Stop}
 use Rattle.workers.specs.declared.stretches.Cut.{Cut}
 use Rattle.workers.specs.declared.taken.Done.{Done}
-use Rattle.workers.specs.Alone.{AreDone, AreFoundUpTo, HasEnded, IsDone}
+use Rattle.workers.specs.declared.taken.Served.{Served}
+use Rattle.workers.specs.Alone.{AreFoundUpTo, HasEnded, IsDone}
 use Rattle.workers.specs.Part.{stretch}
+use Rattle.workers.specs.Stretches.{HasServed}
 use Rattle.workers.specs.Work.{Stops}
 use Rattle.workers.proofs.LoneWorkers.{found_none}
 
@@ -49,20 +53,54 @@ done_along job size classes w P P' S S' done q t is = record {
     )
 
 -- what a thread gives back, under other names of the same
-pub given_back : {X E : Type 0} (items : X → List Done) (r : Result X E) (j j' : Parts) (u u' : Cut)
-    (P P' : Type 0) (S S' : Stops) (w n : ℕ) → j ≡ j' → u ≡ u' → w < n → (P' → P)
-    → ((v k b : ℕ) → S v k b → S' v k b)
-    → IfOk r (λ all. AreDone j u.size u.classes.items w P S (items all))
-    → IfOk r (λ all. (worker : ℕ) × (worker < n)
-    × AreDone j' u'.size u'.classes.items worker P' S' (items all))
-given_back items (Err x) j j' u u' P P' S S' w n ej eu lt q t is = tt
-given_back items (Ok all) j j' u u' P P' S S' w n ej eu lt q t is = (
-  w,
-  lt,
-  subst (λ x. AreDone x u'.size u'.classes.items w P' S' (items all)) ej
-      (subst (λ (x : Cut). AreDone j x.size x.classes.items w P' S' (items all)) eu
-      (All-weaker (λ done. IsDone j u.size u.classes.items w P S done)
-      (λ done. IsDone j u.size u.classes.items w P' S' done)
-      (λ done d. done_along j u.size u.classes.items w P P' S S' done q t d)
-      (items all) is)),
-)
+pub served_along : {E : Type 0} (r r' : Result Served E) (j j' : Parts) (u u' : Cut) (p p' : Place)
+    (w w' : ℕ) (P P' : Type 0) (S S' : Stops) → r ≡ r' → j ≡ j' → u ≡ u' → p ≡ p' → w ≡ w'
+    → (P' → P) → ((v k b : ℕ) → S v k b → S' v k b)
+    → IfOk r (λ served. HasServed j u.size u.classes.items p w P S served.seat served.dones.items)
+    → IfOk r' (λ served. HasServed j' u'.size u'.classes.items p' w' P' S' served.seat
+    served.dones.items)
+served_along {E} r r' j j' u u' p p' w w' P P' S S' er ej eu ep ew q t is =
+    subst (λ (x : Result Served E). IfOk x (λ served. HasServed j' u'.size u'.classes.items p' w' P'
+    S' served.seat served.dones.items)) er (go r is)
+  where
+    go : (x : Result Served E)
+        → IfOk x (λ served. HasServed j u.size u.classes.items p w P S served.seat
+        served.dones.items)
+        → IfOk x (λ served. HasServed j' u'.size u'.classes.items p' w' P' S' served.seat
+        served.dones.items)
+    go (Err x) h = tt
+    go (Ok served) h =
+        subst (λ x. HasServed x u'.size u'.classes.items p' w' P' S' served.seat served.dones.items)
+        ej
+        (subst (λ (x : Cut). HasServed j x.size x.classes.items p' w' P' S' served.seat
+        served.dones.items) eu
+        (subst (λ x. HasServed j u.size u.classes.items x w' P' S' served.seat served.dones.items) ep
+        (subst (λ x. HasServed j u.size u.classes.items p x P' S' served.seat served.dones.items) ew
+        (record {
+          place_is = h.place_is;
+          worker_is = h.worker_is;
+          legal = h.legal;
+          accounts = record {
+            done = All-weaker (λ done. IsDone j u.size u.classes.items w P S done)
+                (λ done. IsDone j u.size u.classes.items w P' S' done)
+                (λ done d. done_along j u.size u.classes.items w P P' S S' done q t d)
+                served.dones.items h.accounts.done;
+            stand = h.accounts.stand;
+            claimed = h.accounts.claimed;
+          };
+          ended = h.ended;
+        }))))
+
+-- how many seats there are
+pub seats_count : (seats : List Sitter) (p : Place) → seats ≡ newcomers p
+    → length seats ≡ p.shape.workers
+seats_count seats p e = ap (λ (l : List Sitter). length l) e
+    ∙ length-map-below (newcomer p) p.shape.workers
+
+-- each is its newcomer's
+pub newcomer_at : (seats : List Sitter) (p : Place) (k : ℕ) (d : Sitter) → seats ≡ newcomers p
+    → k < length seats → get_or seats k d ≡ newcomer p k
+newcomer_at seats p k d e lt =
+    let n = seats_count seats p e in
+    ap (λ (l : List Sitter). get_or l k d) e
+    ∙ get_or-map-below (newcomer p) p.shape.workers k d (omega (arith, n, lt))

@@ -1,19 +1,17 @@
 -- The run of one worker alone over a list of classes: block after block, and on each block in the
 -- order of the list. A class that an earlier block detects is left out.
-use Rattle.std.specs.Prelude.{◌≡◌, ◌⊎◌, ◌<◌, ◌≤◌, ◌+◌, ℕ, nat_lt, if◌then◌else◌, List, length}
-use Rattle.std.specs.Prelude.{slice_get, All, Option, Some, None, Result, Ok}
+use Rattle.std.specs.Prelude.{◌≡◌, ◌≢◌, ◌⊎◌, ◌<◌, ◌≤◌, ◌+◌, ℕ, nat_lt, if◌then◌else◌, List, length}
+use Rattle.std.specs.Prelude.{slice_get, All, Option, Some, None}
 use Rattle.std.specs.declared.vec.Vec.{Vec}
 use Rattle.patterns.specs.Least.{Table, least}
 use Rattle.patterns.specs.Tests.{blocks}
 use Rattle.block_sim.specs.Parts.{Parts}
-use Rattle.block_sim.specs.RegionHits.{ServesRegions}
 use Rattle.workers.specs.declared.alone.Stop.{Stop}
 use Rattle.workers.specs.declared.alone.Waiting.{Waiting}
 use Rattle.workers.specs.Schedule.{IsTableOf}
 use Rattle.workers.specs.Work.{Stops}
 use Rattle.workers.specs.Part.{AreAllByRegion, ArePartOf, stretch, stretch_size}
 use Rattle.workers.specs.declared.taken.Done.{Done}
-use Rattle.workers.specs.declared.taken.Member.{Member}
 
 -- so many first blocks of the class at place k are done before the piece of this place and block
 abbrev pub done_before : ℕ → ℕ → ℕ → ℕ
@@ -78,10 +76,6 @@ lower_of (Some one) None = Some one
 lower_of (Some one) (Some other) =
     if nat_lt other.class one.class then Some other else Some one
 
--- the first of the workers, with room for a run of the job
-abbrev pub IsFirstMember : Parts → Member → Type 0
-IsFirstMember job member = (member.number ≡ 0) × ServesRegions member.simulation job
-
 -- What a worker found in a part, which is a stretch of the classes: its run over that ended so, it
 -- names the lowest class that isn't settled, and where the gate lets all pass it wasn't stopped.
 pub record IsDone (job : Parts) (size : ℕ) (classes : List ℕ) (worker : ℕ)
@@ -104,24 +98,70 @@ pub record ArePut (was : List (Option Done)) (given : List Done)
   pub each : (part : ℕ) (done : Done) → slice_get table part ≡ Some (Some done)
       → (slice_get was part ≡ Some (Some done))
       ⊎ ((done.part ≡ part) × (k : ℕ) × (slice_get given k ≡ Some done))
+  pub stays : (part : ℕ) → slice_get table part ≡ Some None → slice_get was part ≡ Some None
+  pub all : (k : ℕ) (done : Done) → slice_get given k ≡ Some done
+      → slice_get table done.part ≢ Some None
 
 -- A table of so many parts of what threads gave back: what stands in a place of it is of the part
--- of this number, and among what one of the threads gave back.
-pub record AreGivenBack {Z E : Type 0} (parts : ℕ) (back : List (Result (Vec Done Z) E))
+-- of this number, and among what one of the threads gave back, and where one gave back something
+-- the place isn't empty.
+pub record AreGivenBack {Z : Type 0} (parts : ℕ) (back : List (Vec Done Z))
     (table : List (Option Done)) : Type 0 where
   pub count : length table ≡ parts
   pub each : (part : ℕ) (done : Done) → slice_get table part ≡ Some (Some done)
       → (done.part ≡ part) × (thread : ℕ) × (given : Vec Done Z)
-      × (slice_get back thread ≡ Some (Ok given))
+      × (slice_get back thread ≡ Some given)
       × (k : ℕ) × (slice_get given.items k ≡ Some done)
+  pub all : (thread : ℕ) (given : Vec Done Z) (k : ℕ) (done : Done)
+      → slice_get back thread ≡ Some given → slice_get given.items k ≡ Some done
+      → slice_get table done.part ≢ Some None
+
+-- the gate may stop each of so many workers in one of the stretches, so far as there is a stretch
+-- with a class for each
+abbrev pub AreAllStopped : Parts → ℕ → List ℕ → ℕ → Stops → Type 0
+AreAllStopped job size classes workers stops = (w : ℕ) → w < workers
+    → 0 < length (stretch size classes w)
+    → (part : ℕ) × (stop : Stop) × IsStopAt job (stretch size classes part) w stops stop
+
+-- No worker began a stretch that has a class: each was stopped before, so no gate lets all pass, and
+-- there is a block.
+pub record NoneBegan (job : Parts) (size : ℕ) (classes : List ℕ) (workers : ℕ)
+    (passing : Type 0) (stops : Stops) : Type 0 where
+  pub shut : ¬ passing
+  pub some : 0 < blocks (length job.tests.tests)
+  pub stopped : AreAllStopped job size classes workers stops
+
+-- where the run of a stretch that no worker began stands
+abbrev pub at_first : Stop
+at_first = record { place = 0; block = 0 }
+
+-- what is known of a stretch that no worker began: each of its classes waits for block 0
+pub record IsUnbegun (job : Parts) (size : ℕ) (classes : List ℕ) (done : Done) : Type 0 where
+  pub none : length (stretch size classes done.part) ≡ 0
+      → (done.waiting ≡ None) × (length done.firsts.items ≡ 0)
+  pub some : 0 < length (stretch size classes done.part)
+      → IsLowest (IsOpenIn job (stretch size classes done.part) (Some at_first)) done.waiting
 
 -- what stands in a place of a table of parts is what one of so many workers found in the part of
--- this number
+-- this number, and where nothing does no worker began it
 pub record AreFoundByPart (job : Parts) (size : ℕ) (classes : List ℕ) (workers : ℕ)
     (passing : Type 0) (stops : Stops) (table : List (Option Done)) : Type 0 where
   pub each : (part : ℕ) (done : Done) → slice_get table part ≡ Some (Some done)
       → (done.part ≡ part) × (worker : ℕ) × (worker < workers)
       × IsDone job size classes worker passing stops done
+  pub none : (part : ℕ) → slice_get table part ≡ Some None
+      → 0 < length (stretch size classes part)
+      → NoneBegan job size classes workers passing stops
+
+-- a place of a table of parts is whole: a worker found out all of the part, or it has no class
+abbrev pub IsWholeAt : ℕ → List ℕ → ℕ → Option Done → Type 0
+IsWholeAt size classes part None = length (stretch size classes part) ≡ 0
+IsWholeAt size classes part (Some done) = done.waiting ≡ None
+
+-- all are
+abbrev pub AreWhole : ℕ → List ℕ → List (Option Done) → Type 0
+AreWhole size classes table = (part : ℕ) (place : Option Done) → slice_get table part ≡ Some place
+    → IsWholeAt size classes part place
 
 -- the run of one part: its classes, the worker that ran it, and where the gate stopped that
 pub record PartRun : Type 0 where
@@ -129,15 +169,21 @@ pub record PartRun : Type 0 where
   pub worker : ℕ
   pub stop : Option Stop
 
+-- the gate may stop the run there, or no worker began it, as the gate may stop each before
+abbrev pub MayStop : Parts → ℕ → List ℕ → ℕ → Stops → PartRun → Stop → Type 0
+MayStop job size classes workers stops run stop =
+    IsStopAt job run.classes run.worker stops stop
+    ⊎ ((stop ≡ at_first) × AreAllStopped job size classes workers stops)
+
 -- the runs of the first n stretches of classes, each by one of the workers, and stopped only where
--- the gate may stop it
+-- the gate may stop it, or not begun where the gate may stop each worker before
 pub record AreRunsOf (job : Parts) (size : ℕ) (classes : List ℕ) (workers : ℕ) (stops : Stops)
     (n : ℕ) (runs : List PartRun) : Type 0 where
   pub count : length runs ≡ n
   pub each : (part : ℕ) (run : PartRun) → slice_get runs part ≡ Some run
       → (run.classes ≡ stretch size classes part) × (run.worker < workers)
       × ((stop : Stop) → run.stop ≡ Some stop
-      → IsStopAt job run.classes run.worker stops stop)
+      → MayStop job size classes workers stops run stop)
 
 -- a class of one of the runs isn't settled, and waits for this block
 abbrev pub WaitsIn : Parts → List PartRun → ℕ → ℕ → Type 0

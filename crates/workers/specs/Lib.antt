@@ -8,3 +8,4 @@ pub mod Work
 pub mod Alone
 pub mod Refused
 pub mod Turns
+pub mod Stretches

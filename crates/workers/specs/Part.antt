@@ -1,5 +1,5 @@
 -- The parts of the classes, and what a run over a part says of each fault.
-use Rattle.std.specs.Prelude.{◌≡◌, ◌≢◌, ◌⊎◌, ◌<◌, ◌≤◌, ⊤, ℕ, ◌%◌, ◌*◌, List, length, take, drop}
+use Rattle.std.specs.Prelude.{◌≡◌, ◌≢◌, ◌⊎◌, ◌<◌, ◌≤◌, ⊤, ℕ, ◌%◌, ◌*◌, max, List, length, take, drop}
 use Rattle.std.specs.Prelude.{slice_get, Option, Some, None, slice_index_or}
 use Rattle.std.specs.Int.{div_ceil}
 use Rattle.fault_model.specs.Fault.{Fault, faults}
@@ -60,6 +60,10 @@ stretch_size count parts = div_ceil count parts
 -- the classes of a stretch, counted from 0, of a list that is cut into stretches of this size
 abbrev pub stretch : ℕ → List ℕ → ℕ → List ℕ
 stretch size classes k = take size (drop (k * size) classes)
+
+-- how many stretches of this size have a class, the first ones
+abbrev pub stretch_count : ℕ → List ℕ → ℕ
+stretch_count size classes = div_ceil (length classes) (max size 1)
 
 -- The verdict on a class by the first tests of the classes of a list, up to some place: that of the
 -- class, or of another part where the class is not in the list.

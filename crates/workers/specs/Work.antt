@@ -34,16 +34,20 @@ abbrev pub WasNoDrop : Shape → ℕ → History → Type 0
 WasNoDrop shape w h = (at : History) × ContinuesWithout w h at
     × (Refused NoEarlierHit ≡ answer shape at (call.Drop w))
 
+-- This holds of each report of a worker among the newer events: of its outcome, and of the history
+-- just before it.
+abbrev pub EachReport : (Outcome → History → Type 0) → ℕ → History → History → Type 0
+EachReport Holds w [] earlier = Unit {0}
+EachReport Holds w (Event.Report u o ∷ newer) earlier =
+    (u ≡ w → Holds o (newer ++ earlier)) × EachReport Holds w newer earlier
+EachReport Holds w (_ ∷ newer) earlier = EachReport Holds w newer earlier
+
 -- Each report of the worker among the newer events gives the true outcome of the piece that it
 -- held, which the worker could not drop.
 abbrev pub ReportsTruly : Parts → Chosen → Shape → ℕ → History → History → Type 0
-ReportsTruly job chosen shape w [] earlier = Unit {0}
-ReportsTruly job chosen shape w (Event.Report u o ∷ newer) earlier =
-    (u ≡ w → GivesTrue job chosen shape (held_by w (newer ++ earlier)) o
-    × WasNoDrop shape w (newer ++ earlier))
-    × ReportsTruly job chosen shape w newer earlier
-ReportsTruly job chosen shape w (_ ∷ newer) earlier =
-    ReportsTruly job chosen shape w newer earlier
+ReportsTruly job chosen shape w newer earlier =
+    EachReport (λ o h. GivesTrue job chosen shape (held_by w h) o × WasNoDrop shape w h) w newer
+    earlier
 
 -- What a seat has seen after its worker's work is legal and begins with what it had seen, and
 -- each new report of the worker in it is true, of a piece that could not be dropped.

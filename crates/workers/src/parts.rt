@@ -1,25 +1,31 @@
 //! Runs over a part of the classes, and over all parts.
 
-ghost use Rattle.std.specs.Prelude.{◌≡◌, ◌⊎◌, ◌<◌, ◌≤◌, ◌^◌, ℕ, All, IfErr, IfOk, IfSome};
+ghost use Rattle.std.specs.Prelude.{◌≡◌, ◌⊎◌, ◌<◌, ◌≤◌, ◌^◌, ℕ, All, IfErr, IfOk, List, None};
 ghost use Rattle.std.specs.Prelude.{OnOk, Some, length, map, slice_index_or, vec_len};
+ghost use Rattle.patterns.specs.Tests.{blocks, max_pieces};
 ghost use Rattle.block_sim.specs.Parts.{BelongTogether, Parts};
-ghost use Rattle.workers.specs.Alone.{AreFoundByPart, AreGivenBack, ArePut, IsDone};
-ghost use Rattle.workers.specs.Alone.{IsFirstMember};
+ghost use Rattle.fault_ledger.specs.Seats.{ClosedFace, Closes, Sitter, newcomers};
+ghost use Rattle.workers.specs.Alone.{AreFoundByPart, AreGivenBack, ArePut, AreWhole};
+ghost use Rattle.workers.specs.Alone.{IsUnbegun};
 ghost use Rattle.workers.specs.Part.{AreClassVerdicts, ArePartVerdicts, IsInOnePart};
-ghost use Rattle.workers.specs.Part.{IsOfPart, first_in};
+ghost use Rattle.workers.specs.Part.{IsOfPart, first_in, stretch, stretch_count};
 ghost use Rattle.workers.specs.Rank.{IsCutOf};
 ghost use Rattle.workers.specs.Refused.{ArePartsWithin, IsPartFault, IsPartsFault, IsPartWithin};
 ghost use Rattle.workers.specs.Refused.{IsStretchesFault};
+ghost use Rattle.workers.specs.Stretches.{AreApart, AreOfStretches, AreShared};
+ghost use Rattle.workers.specs.Stretches.{IsOfStretches, crew_of, shape_of_stretches};
 ghost use Rattle.workers.specs.Verdict.{AreBehindHits, AreClassFirsts, AreFirsts};
 ghost use Rattle.workers.specs.Verdict.{behind, pieces_behind};
 
 use crate::alone::{Waiting, lower_of};
 use crate::ranks::{all_classes, part_classes};
-use crate::stretches::{Cut, count_in, stretches_for};
-use crate::taken::{Done, Member, empty_table, run_alone, take_parts};
+use crate::stretches::{Cut, count_in, filled, stretches_for};
+use crate::taken::{Done, Served, empty_table, not_begun, take_parts};
 use crate::worker::Gate;
 use crate::{RunFault, Verdicts, check_pieces, check_workers};
 use block_sim::Job;
+use fault_ledger::{Seat, SharedLedger};
+use patterns::BLOCK_SIZE;
 use std::alloc::{AllocError, Global};
 use std::sync::Wait;
 use std::thread::Threads;
@@ -165,11 +171,12 @@ pub fn run_part<G: Gate + Sync, R: Threads + Wait>(
 }
 
 /// Runs all classes of a job in parts, by workers in threads of their own, numbered from 0, of
-/// which no more are started than there are parts. A worker takes a part that none has taken, runs
-/// it alone, and goes on to the next. It simulates the part's classes block after block, and leaves
-/// out a class that an earlier block detects. So workers share no ledger, and none is made. The
-/// verdicts are the first tests, for every number of parts and of workers, whatever the workers do
-/// in whatever order. The skipped pieces are those behind the first hits.
+/// which no more are started than there are parts. A worker claims a part at a ledger that all
+/// share, which has a piece for each part with a class. It runs the part alone, reports it, and
+/// goes on to the next. It simulates the part's classes block after block, and leaves out a class
+/// that an earlier block detects. The verdicts are the first tests, for every number of parts and
+/// of workers, whatever the workers do in whatever order. The skipped pieces are those behind the
+/// first hits.
 ///
 /// A part is here a stretch of the list of all classes, region by region in the order of the
 /// visits: what a worker reads for one region is then near to what it reads for the next. With n
@@ -180,9 +187,10 @@ pub fn run_part<G: Gate + Sync, R: Threads + Wait>(
 /// It is refused with [`RunFault::NoWorkers`], with [`RunFault::TooManyWorkers`] above 64 workers,
 /// with [`RunFault::TooManyPieces`] where a stretch has more than [`patterns::MAX_PIECES`] pieces,
 /// and with [`RunFault::Memory`] or [`RunFault::Threads`] where memory or the start of a thread was
-/// refused; the threads that were started are joined first. Where the gate
-/// stopped workers and not all classes are settled it is [`RunFault::Unfinished`]: it names the
-/// lowest class, by the job's number, of all that aren't settled, and the block that it waits for.
+/// refused; the threads that were started are joined first. A worker that
+/// the gate stops ends, and where it stops all of them the parts that none began are left. Where
+/// not all classes are settled it is [`RunFault::Unfinished`]: it names the lowest class, by the
+/// job's number, of all that aren't settled, and the block that it waits for.
 pub fn run_in_parts<G: Gate + Sync, R: Threads + Wait>(
     rt: &R,
     alloc: Global,
@@ -197,6 +205,7 @@ pub fn run_in_parts<G: Gate + Sync, R: Threads + Wait>(
     ensures skipped { IfOk result (λ v. AreBehindHits job.now v.skipped) }
     ensures workers { OnOk result ((0 < workers) × (workers ≤ 64)) }
     ensures within { OnOk result (ArePartsWithin job.now parts) }
+    ensures stretches { IfOk result (λ v. IsOfStretches job.now parts workers v) }
     ensures refused { IfErr result (IsPartsFault job.now parts workers (G.passing gate.now)
         (G.stops gate.now)) }
 {
@@ -254,45 +263,35 @@ fn put_by_part(table: Vec<Option<Done>>, dones: Vec<Done>) -> Vec<Option<Done>>
 fn table_of(
     alloc: Global,
     parts: u32,
-    back: Vec<Result<Vec<Done>, AllocError>>,
+    back: Vec<Vec<Done>>,
 ) -> Result<Vec<Option<Done>>, AllocError>
     ensures { IfOk result (λ table. AreGivenBack parts back.items table.items) }
 {
     let mut table = empty_table(alloc, parts)?;
     for dones in back {
-        table = put_by_part(table, dones?);
+        table = put_by_part(table, dones);
     }
     Ok(table)
 }
 
-/// What was found in a part: what stands at its place in the table. Where no worker took it, as
-/// the gate stopped them all, it is run by a spare one, which is made when it is first wanted.
-fn found_in<G: Gate>(
+/// What was found in a part: what stands at its place in the table. Where nothing does, no worker
+/// began it.
+fn found_in(
     alloc: Global,
     job: &Job,
     cut: &Cut,
     part: u32,
     place: Option<Done>,
-    spare: &mut Option<Member>,
-    gate: &G,
 ) -> Result<Done, AllocError>
-    requires cut { IsCutOf job.now cut.now.parts cut.now.size cut.now.classes.items }
-    requires spare { IfSome spare.old (IsFirstMember job.now) }
-    ensures done { IfOk result (λ done. (place ≡ Some done) ⊎ ((done.part ≡ part)
-        × IsDone job.now cut.now.size cut.now.classes.items 0
-        (G.passing gate.now) (G.stops gate.now) done)) }
-    ensures spare { IfSome spare.new (IsFirstMember job.now) }
+    requires block { place ≡ None → 0 < length (stretch cut.now.size cut.now.classes.items part)
+        → 0 < blocks (length job.now.tests.tests) }
+    ensures done { IfOk result (λ done. (place ≡ Some done) ⊎ ((place ≡ None)
+        × (done.part ≡ part) × IsUnbegun job.now cut.now.size cut.now.classes.items done)) }
 {
-    if let Some(done) = place {
-        return Ok(done);
+    match place {
+        Some(done) => Ok(done),
+        None => not_begun(alloc, job, cut, part),
     }
-    let mut member = match spare.take() {
-        Some(member) => member,
-        None => Member::new(alloc, job, 0)?,
-    };
-    let done = run_alone(alloc, job, cut, part, &mut member, gate)?;
-    *spare = Some(member);
-    Ok(done)
 }
 
 /// Puts together what was found in all parts.
@@ -311,16 +310,16 @@ fn join_parts<G: Gate>(
         (G.passing gate.now) (G.stops gate.now) table.items }
     ensures gathered { IfOk result (λ found. AreClassFirsts job.now.list.model job.now.circuit
         job.now.tests.tests cut.now.classes.items found.items) }
+    ensures whole { OnOk result (AreWhole cut.now.size cut.now.classes.items table.items) }
     ensures refused { IfErr result (IsStretchesFault job.now cut.now.size cut.now.classes.items
         cut.now.parts workers (G.passing gate.now) (G.stops gate.now)) }
 {
     let _tests = job.tests();
-    let mut spare = None;
     let mut firsts = Vec::with_capacity(alloc, cut.classes.len())?;
     let mut lowest = None;
     let mut part = 0;
     for place in table {
-        let done = found_in(alloc, job, cut, part, place, &mut spare, gate)?;
+        let done = found_in(alloc, job, cut, part, place)?;
         firsts.extend_from_slice(done.firsts.as_slice())?;
         lowest = lower_of(lowest, done.waiting);
         part += 1;
@@ -329,6 +328,97 @@ fn join_parts<G: Gate>(
         Some(Waiting { class, block }) => Err(RunFault::Unfinished { class, block }),
         None => Ok(firsts),
     }
+}
+
+/// The seats of workers and what each of them found.
+#[derive(Drop)]
+struct Returned {
+    seats: Vec<Seat>,
+    dones: Vec<Vec<Done>>,
+}
+
+/// Sets the seats that came back apart from what their workers found.
+fn set_apart(alloc: Global, back: Vec<Result<Served, AllocError>>) -> Result<Returned, AllocError>
+    ensures { IfOk result (λ returned.
+        AreApart back.items returned.seats.items returned.dones.items) }
+{
+    let mut seats = Vec::with_capacity(alloc, back.len())?;
+    let mut dones = Vec::with_capacity(alloc, back.len())?;
+    for one in back {
+        let served = one?;
+        seats.push(served.seat)?;
+        dones.push(served.dones)?;
+    }
+    Ok(Returned { seats, dones })
+}
+
+/// Closes a ledger with what its workers gave back, and gives what they found.
+fn close_over(
+    alloc: Global,
+    ledger: SharedLedger,
+    back: Vec<Result<Served, AllocError>>,
+) -> Result<Vec<Vec<Done>>, RunFault>
+    requires some { 0 < length back.items }
+    requires places { All (λ one. IfOk one (λ served. served.seat.place ≡ ledger)) back.items }
+    ensures closed { IfOk result (λ dones. (seats : List Sitter)
+        × AreApart back.items seats dones.items
+        × (closed : ClosedFace) × Closes ledger.shape seats closed) }
+    ensures refused { IfErr result (λ fault. fault ≡ RunFault.Memory) }
+{
+    let returned = set_apart(alloc, back)?;
+    let Returned { seats, dones } = returned;
+    let Ok(_closed) = ledger.close(alloc, seats) else {
+        return Err(RunFault::Memory);
+    };
+    Ok(dones)
+}
+
+/// A new shared ledger of so many stretches, and the seats of its workers. A job has no more classes
+/// than a ledger takes pieces, so it is refused for want of memory alone.
+fn ledger_of(
+    alloc: Global,
+    stretches: u32,
+    workers: u32,
+) -> Result<(SharedLedger, Vec<Seat>), RunFault>
+    requires workers { (0 < workers) × (workers ≤ 64) }
+    requires few { stretches ≤ max_pieces }
+    ensures ledger { IfOk result (λ made.
+        made.0.shape ≡ shape_of_stretches stretches workers) }
+    ensures seats { IfOk result (λ made. made.1.items ≡ newcomers made.0) }
+    ensures refused { IfErr result (λ fault. fault ≡ RunFault.Memory) }
+{
+    match SharedLedger::new(alloc, stretches, BLOCK_SIZE, workers) {
+        Ok(made) => Ok(made),
+        Err(_) => Err(RunFault::Memory),
+    }
+}
+
+/// Lets workers run the stretches that they claim at a shared ledger, in threads of their own, and
+/// gives what each of them found.
+fn hand_out<G: Gate + Sync, R: Threads + Wait>(
+    rt: &R,
+    alloc: Global,
+    job: &Job,
+    cut: &Cut,
+    workers: u32,
+    gate: &G,
+) -> Result<Vec<Vec<Done>>, RunFault>
+    requires cut { IsCutOf job.now cut.now.parts cut.now.size cut.now.classes.items }
+    requires workers { (0 < workers) × (workers ≤ 64) }
+    ensures shared { IfOk result (λ dones.
+        let stretches = stretch_count cut.now.size cut.now.classes.items in
+        AreShared job.now cut.now.size cut.now.classes.items
+        (shape_of_stretches stretches (crew_of workers stretches)) (G.passing gate.now)
+        (G.stops gate.now) dones.items) }
+    ensures refused { IfErr result (λ fault.
+        (fault ≡ RunFault.Memory) ⊎ (fault ≡ RunFault.Threads)) }
+{
+    let stretches = filled(job, cut);
+    let crew = workers.min(stretches).max(1);
+    let (ledger, seats) = ledger_of(alloc, stretches, crew)?;
+    let back = take_parts(rt, alloc, job, cut, &ledger, gate, seats)?;
+    let dones = close_over(alloc, ledger, back)?;
+    Ok(dones)
 }
 
 /// Runs all parts, each by one worker alone.
@@ -344,10 +434,13 @@ fn gather<G: Gate + Sync, R: Threads + Wait>(
     requires workers { (0 < workers) × (workers ≤ 64) }
     ensures gathered { IfOk result (λ found. AreClassFirsts job.now.list.model job.now.circuit
         job.now.tests.tests cut.now.classes.items found.items) }
+    ensures stretches { IfOk result (λ found. AreOfStretches job.now cut.now.size
+        cut.now.classes.items workers found.items) }
     ensures refused { IfErr result (IsStretchesFault job.now cut.now.size cut.now.classes.items
         cut.now.parts workers (G.passing gate.now) (G.stops gate.now)) }
 {
-    let back = take_parts(rt, alloc, job, cut, gate, workers.min(cut.parts))?;
+    let back = hand_out(rt, alloc, job, cut, workers, gate)?;
     let table = table_of(alloc, cut.parts, back)?;
-    join_parts(alloc, job, cut, workers, gate, table)
+    let found = join_parts(alloc, job, cut, workers, gate, table)?;
+    Ok(found)
 }

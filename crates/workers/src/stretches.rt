@@ -1,8 +1,9 @@
 //! The stretches into which the classes of a run are cut.
 
 ghost use Rattle.std.specs.Prelude.{◌≡◌, ◌<◌, ◌≤◌, All, length};
+ghost use Rattle.patterns.specs.Tests.{max_pieces};
 ghost use Rattle.block_sim.specs.Parts.{BelongTogether};
-ghost use Rattle.workers.specs.Part.{stretch};
+ghost use Rattle.workers.specs.Part.{stretch, stretch_count};
 ghost use Rattle.workers.specs.Rank.{IsCutOf};
 
 use crate::MAX_WORKERS;
@@ -85,6 +86,16 @@ impl Cut {
         let rest = &self.classes[start..];
         &rest[..size.min(rest.len())]
     }
+}
+
+/// How many of the stretches have a class: the first ones.
+pub(crate) fn filled(job: &Job, cut: &Cut) -> u32
+    requires { IsCutOf job.now cut.now.parts cut.now.size cut.now.classes.items }
+    ensures count { result ≡ stretch_count cut.now.size cut.now.classes.items }
+    ensures few { result ≤ max_pieces }
+{
+    let size = cut.size.max(1);
+    count_in(job, cut.classes.as_slice()).div_ceil(size)
 }
 
 /// How many classes a list has, which has no more than the job.

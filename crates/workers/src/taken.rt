@@ -1,20 +1,29 @@
 //! Parts that workers take, each of which one worker runs alone.
 
-ghost use Rattle.std.specs.Prelude.{◌≡◌, ◌⊎◌, ◌<◌, ℕ, All, IfErr, IfOk, IfSome, None};
-ghost use Rattle.std.specs.Prelude.{vec_len};
+ghost use Rattle.std.specs.Prelude.{◌≡◌, ◌⊎◌, ◌<◌, ℕ, All, IfErr, IfNone, IfOk, IfSome, None, Some};
+ghost use Rattle.std.specs.Prelude.{length, vec_len};
+ghost use Rattle.patterns.specs.Tests.{blocks};
 ghost use Rattle.block_sim.specs.RegionHits.{ServesRegions};
-ghost use Rattle.workers.specs.Alone.{AreDone, IsDone};
+ghost use Rattle.fault_ledger.specs.declared.Event.{Event};
+ghost use Rattle.fault_ledger.specs.declared.Reply.TheVariants as reply;
+ghost use Rattle.fault_ledger.specs.History.{held_by};
+ghost use Rattle.fault_ledger.specs.Seats.{Makes, newcomer, newcomers};
+ghost use Rattle.workers.specs.Alone.{IsDone, IsUnbegun};
+ghost use Rattle.workers.specs.Part.{stretch};
 ghost use Rattle.workers.specs.Rank.{IsCutOf};
+ghost use Rattle.workers.specs.Stretches.{AfterRun, AreServed, ClaimsStretch, HasServed};
+ghost use Rattle.workers.specs.Stretches.{SeesAllClaimed};
 
 use crate::RunFault;
-use crate::alone::{Waiting, lowest_open, rows_of, run_list};
+use crate::alone::{Stop, Waiting, lowest_open, rows_of, run_list};
 use crate::stretches::Cut;
 use crate::worker::Gate;
 use block_sim::{Job, RegionSimulation};
+use fault_ledger::{Claim, Seat, SharedLedger};
+use patterns::Outcome;
 use std::alloc::{AllocError, Global};
 use std::snapshot::Snapshot;
 use std::sync::Wait;
-use std::sync::atomic::{AtomicU64, Ordering};
 use std::thread;
 use std::thread::{Promise, Threads};
 
@@ -93,103 +102,226 @@ fn no_firsts(alloc: Global, count: usize) -> Result<Vec<Option<u32>>, AllocError
     Ok(firsts)
 }
 
-/// Lets a worker take parts and run them, until all are taken or the gate stops it.
+/// What is known of a stretch that no worker began: no first test, and each class waits for block 0.
+pub(crate) fn not_begun(alloc: Global, job: &Job, cut: &Cut, part: u32) -> Result<Done, AllocError>
+    requires block { 0 < length (stretch cut.now.size cut.now.classes.items part)
+        → 0 < blocks (length job.now.tests.tests) }
+    ensures part { IfOk result (λ done. done.part ≡ part) }
+    ensures unbegun { IfOk result (IsUnbegun job.now cut.now.size cut.now.classes.items) }
+{
+    let own = cut.stretch(part);
+    let firsts = no_firsts(alloc, own.len())?;
+    if own.is_empty() {
+        return Ok(Done {
+            part,
+            firsts,
+            waiting: None,
+        });
+    }
+    let stop = Stop { place: 0, block: 0 };
+    let waiting = lowest_open(job, own, stop, firsts.as_slice());
+    Ok(Done {
+        part,
+        firsts,
+        waiting,
+    })
+}
+
+/// What a worker gives back: its seat, and what it found in the stretches that it claimed.
+#[derive(Drop)]
+pub(crate) struct Served {
+    pub(crate) seat: Seat,
+    pub(crate) dones: Vec<Done>,
+}
+
+/// Claims the next stretch for a seat that holds none; none where all are claimed.
+fn claim_next(ledger: &SharedLedger, seat: &mut Seat) -> Option<u32>
+    requires place { seat.old.place ≡ ledger.now }
+    requires stretches { ledger.now.shape.tests ≡ 64 }
+    requires free { held_by seat.old.worker seat.old.seen ≡ None }
+    ensures claimed { IfSome result (λ part. ClaimsStretch seat.old part seat.new) }
+    ensures exhausted { IfNone result (SeesAllClaimed seat.old seat.new) }
+{
+    let _sitter = seat.worker();
+    match ledger.claim(seat) {
+        Ok(
+            Claim::Piece {
+                class,
+                block: _block,
+            },
+        ) => Some(class),
+        Ok(Claim::Exhausted) => {
+            let _sitter = seat.worker();
+            None
+        }
+        Err(_) => unreachable!(),
+    }
+}
+
+/// Reports the stretch that a seat holds as done.
+fn report_done(ledger: &SharedLedger, seat: &mut Seat)
+    requires place { seat.old.place ≡ ledger.now }
+    requires holding { (part : ℕ) × (held_by seat.old.worker seat.old.seen ≡ Some part) }
+    ensures { Makes seat.old (Event.Report seat.old.worker Outcome.Clear) reply.Done seat.new }
+{
+    let _sitter = seat.worker();
+    let Ok(()) = ledger.report(seat, Outcome::Clear) else {
+        unreachable!()
+    };
+}
+
+/// Lets a worker run the stretch that its seat holds, and report it where the gate didn't stop it.
+fn run_held<G: Gate>(
+    alloc: Global,
+    job: &Job,
+    cut: &Cut,
+    ledger: &SharedLedger,
+    part: u32,
+    member: &mut Member,
+    seat: &mut Seat,
+    gate: &G,
+) -> Result<Done, AllocError>
+    requires cut { IsCutOf job.now cut.now.parts cut.now.size cut.now.classes.items }
+    requires place { seat.old.place ≡ ledger.now }
+    requires holding { held_by seat.old.worker seat.old.seen ≡ Some part }
+    requires serves { ServesRegions member.old.simulation job.now }
+    ensures done { IfOk result (IsDone job.now cut.now.size cut.now.classes.items
+        member.old.number (G.passing gate.now) (G.stops gate.now)) }
+    ensures part { IfOk result (λ done. done.part ≡ part) }
+    ensures after { IfOk result (λ done. AfterRun seat.old done.waiting seat.new) }
+    ensures member { member.new.number ≡ member.old.number }
+    ensures serves { ServesRegions member.new.simulation job.now }
+{
+    let done = run_alone(alloc, job, cut, part, member, gate)?;
+    if done.waiting.is_none() {
+        report_done(ledger, seat);
+    }
+    Ok(done)
+}
+
+/// Lets a worker claim stretches and run them, until all are claimed or the gate stops it.
+fn serve_seat<G: Gate>(
+    alloc: Global,
+    job: &Job,
+    cut: &Cut,
+    ledger: &SharedLedger,
+    gate: &G,
+    seat: &mut Seat,
+) -> Result<Vec<Done>, AllocError>
+    requires cut { IsCutOf job.now cut.now.parts cut.now.size cut.now.classes.items }
+    requires stretches { ledger.now.shape.tests ≡ 64 }
+    requires new { seat.old ≡ newcomer ledger.now seat.old.worker }
+    ensures { IfOk result (λ dones. HasServed job.now cut.now.size cut.now.classes.items
+        ledger.now seat.old.worker (G.passing gate.now) (G.stops gate.now) seat.new dones.items) }
+{
+    let mut member = Member::new(alloc, job, seat.worker())?;
+    let mut dones = Vec::new(alloc);
+    'claims: loop {
+        let part = match claim_next(ledger, seat) {
+            Some(part) => part,
+            None => return Ok(dones),
+        };
+        let done = run_held(alloc, job, cut, ledger, part, &mut member, seat, gate)?;
+        let stopped = done.waiting.is_some();
+        dones.push(done)?;
+        if stopped {
+            return Ok(dones);
+        }
+    }
+}
+
+/// The work of one thread.
 fn serve<G: Gate>(
     alloc: Global,
     job: &Job,
     cut: &Cut,
-    taken: &AtomicU64,
+    ledger: &SharedLedger,
     gate: &G,
-    worker: u32,
-) -> Result<Vec<Done>, AllocError>
+    seat: Seat,
+) -> Result<Served, AllocError>
     requires cut { IsCutOf job.now cut.now.parts cut.now.size cut.now.classes.items }
-    ensures { IfOk result (λ all. AreDone job.now cut.now.size cut.now.classes.items
-        worker (G.passing gate.now) (G.stops gate.now) all.items) }
+    requires stretches { ledger.now.shape.tests ≡ 64 }
+    requires new { seat ≡ newcomer ledger.now seat.worker }
+    ensures { IfOk result (λ served. HasServed job.now cut.now.size cut.now.classes.items
+        ledger.now seat.worker (G.passing gate.now) (G.stops gate.now) served.seat
+        served.dones.items) }
 {
-    let mut member = Member::new(alloc, job, worker)?;
-    let mut all = Vec::new(alloc);
-    for _turn in 0..cut.parts {
-        let part = taken.fetch_add(1, Ordering::SeqCst);
-        if part >= u64::from(cut.parts) {
-            return Ok(all);
-        }
-        let done = run_alone(alloc, job, cut, part as u32, &mut member, gate)?;
-        let stopped = done.waiting.is_some();
-        all.push(done)?;
-        if stopped {
-            return Ok(all);
-        }
-    }
-    Ok(all)
+    let mut seat = seat;
+    let dones = serve_seat(alloc, job, cut, ledger, gate, &mut seat)?;
+    Ok(Served { seat, dones })
 }
 
-/// What the thread of a worker borrows: it gives back parts that it has run.
+/// What the thread of a worker borrows: the seat that it gives back is its worker's, and it gives
+/// back what it found in each stretch that it claimed.
 #[derive(Drop)]
 struct Taker<G> {
     job: Snapshot<Job>,
     cut: Snapshot<Cut>,
+    ledger: Snapshot<SharedLedger>,
     gate: Snapshot<G>,
     worker: u32,
 }
 
-impl<G: Gate> Promise<Result<Vec<Done>, AllocError>> for Taker<G> {
+impl<G: Gate> Promise<Result<Served, AllocError>> for Taker<G> {
     ghost use Rattle.std.specs.Prelude.{IfOk};
-    ghost use Rattle.workers.specs.Alone.{AreDone};
+    ghost use Rattle.workers.specs.Stretches.{HasServed};
 
-    ghost kept_by = { λ p r. IfOk r (λ all.
-        AreDone p.job.value p.cut.value.size p.cut.value.classes.items p.worker
-        (G.passing p.gate.value) (G.stops p.gate.value) all.items) };
+    ghost kept_by = { λ p r. IfOk r (λ served.
+        HasServed p.job.value p.cut.value.size p.cut.value.classes.items p.ledger.value p.worker
+        (G.passing p.gate.value) (G.stops p.gate.value) served.seat served.dones.items) };
 }
 
-/// Lets each of so many workers take parts in a thread of its own.
+/// Lets each seat's worker take stretches in a thread of its own.
 pub(crate) fn take_parts<G: Gate + Sync, R: Threads + Wait>(
     rt: &R,
     alloc: Global,
     job: &Job,
     cut: &Cut,
+    ledger: &SharedLedger,
     gate: &G,
-    workers: u32,
-) -> Result<Vec<Result<Vec<Done>, AllocError>>, RunFault>
-    requires { IsCutOf job.now cut.now.parts cut.now.size cut.now.classes.items }
-    ensures done { IfOk result (λ back. All (λ one. IfOk one (λ all. (worker : ℕ)
-        × (worker < workers)
-        × AreDone job.now cut.now.size cut.now.classes.items worker
-        (G.passing gate.now) (G.stops gate.now) all.items)) back.items) }
+    seats: Vec<Seat>,
+) -> Result<Vec<Result<Served, AllocError>>, RunFault>
+    requires cut { IsCutOf job.now cut.now.parts cut.now.size cut.now.classes.items }
+    requires stretches { ledger.now.shape.tests ≡ 64 }
+    requires new { seats.items ≡ newcomers ledger.now }
+    ensures served { IfOk result (λ back.
+        AreServed job.now cut.now.size cut.now.classes.items ledger.now (G.passing gate.now)
+        (G.stops gate.now) back.items) }
     ensures refused { IfErr result (λ fault.
         (fault ≡ RunFault.Memory) ⊎ (fault ≡ RunFault.Threads)) }
 {
-    let taken = AtomicU64::new(0);
-    let taken = &taken;
     thread::scope(
         thread::scope_env(),
         rt,
-        |scope| -> Result<Vec<Result<Vec<Done>, AllocError>>, RunFault>
-            requires { IsCutOf job.now cut.now.parts cut.now.size cut.now.classes.items }
-            ensures done { IfOk result (λ back. All (λ one. IfOk one (λ all. (worker : ℕ)
-                × (worker < workers)
-                × AreDone job.entry.now cut.entry.now.size cut.entry.now.classes.items
-                worker (G.passing gate.entry.now) (G.stops gate.entry.now) all.items))
-                back.items) }
+        |scope| -> Result<Vec<Result<Served, AllocError>>, RunFault>
+            requires cut { IsCutOf job.now cut.now.parts cut.now.size cut.now.classes.items }
+            requires stretches { ledger.now.shape.tests ≡ 64 }
+            requires new { seats.items ≡ newcomers ledger.now }
+            ensures served { IfOk result (λ back.
+                AreServed job.entry.now cut.entry.now.size cut.entry.now.classes.items
+                ledger.entry.now (G.passing gate.entry.now) (G.stops gate.entry.now) back.items) }
             ensures refused { IfErr result (λ fault.
                 (fault ≡ RunFault.Memory) ⊎ (fault ≡ RunFault.Threads)) }
         {
-            let mut handles = Vec::with_capacity(alloc, workers as usize)?;
-            for worker in 0..workers {
+            let count = seats.len();
+            let mut handles = Vec::with_capacity(alloc, count)?;
+            for seat in seats {
                 let kept = Taker {
                     job: Snapshot::of(job),
                     cut: Snapshot::of(cut),
+                    ledger: Snapshot::of(ledger),
                     gate: Snapshot::of(gate),
-                    worker,
+                    worker: seat.worker(),
                 };
                 let Ok(handle) = scope.spawn_with(
                     kept,
-                    move || serve(alloc, job, cut, taken, gate, worker),
+                    move || serve(alloc, job, cut, ledger, gate, seat),
                 ) else {
                     break;
                 };
                 handles.push(handle)?;
             }
-            let refused = handles.len() < workers as usize;
+            let refused = handles.len() < count;
             let back = thread::join_promised(rt, handles)?;
             if refused {
                 return Err(RunFault::Threads);

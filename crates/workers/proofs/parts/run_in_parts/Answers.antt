@@ -1,11 +1,14 @@
-use Rattle.std.proofs.Common.{◌≡◌, ◌<◌, ◌∙◌, All, List, ap, get_or, length, map, subst, sym}
+use Rattle.std.proofs.Common.{◌≡◌, ◌<◌, ◌∙◌, All, List, Option, ℕ, ap, get_or, length, map, subst}
+use Rattle.std.proofs.Common.{sym}
+use Rattle.std.specs.Prelude.{slice_get}
 use Rattle.fault_model.specs.Collapse.{Collapsed}
 use Rattle.patterns.specs.Tests.{TestList, blocks}
 use Rattle.workers.specs.declared.parts.PartVerdict.{PartVerdict}
 use Rattle.workers.specs.declared.parts.PartVerdict.TheVariants.{OtherPart}
-use Rattle.workers.specs.Part.{first_in}
+use Rattle.workers.specs.Part.{first_in, stretch_size}
+use Rattle.workers.specs.Stretches.{AreOfStretches}
 use Rattle.workers.specs.Verdict.{AreBehindHits, AreClassFirsts, AreFirsts, pieces_behind}
-use Rattle.workers.proofs.PartsOfClasses.{all_firsts, all_hits, all_within, verdicts_under}
+use Rattle.workers.proofs.PartsOfClasses.{all_firsts, all_hits, all_within, verdict_there, verdicts_under}
 use Rattle.workers.proofs.parts.run_in_parts.Goals as goal
 
 pub by_class-requires-clause-within : goal.by_class-requires-clause-within
@@ -67,3 +70,36 @@ returns-clause-skipped g c =
     (all_hits job classes firsts table
     c.blocks-blocks.result c.skipped_behind-skipped.result c.in_ok-all.ensures
     known by all is)
+
+pub returns-clause-stretches : goal.returns-clause-stretches
+returns-clause-stretches g c =
+    let job = c.args.job.now in
+    let classes = c.in_ok-all.all.items in
+    let firsts = c.in_ok-gathered.gathered.items in
+    let table = c.in_ok-table.table.items in
+    let count = c.count-count.ensures
+    ∙ ap (λ (x : Collapsed). length x.representative) c.classes.ensures.part in
+    let by = verdicts_under c.count-count.result
+    (length job.classes.representative) _ classes _ firsts
+    table count (c.as_slice.ensures.value ∙ c.new-cut.ensures.classes)
+    c.as_slice-2.ensures.value c.in_ok-table.ensures in
+    let is : c.in_ok-found.found.items ≡ map (λ class. first_in (get_or table class OtherPart))
+    job.classes.class_of =
+    c.in_ok-found.ensures.firsts ∙ ap
+    (λ (l : List PartVerdict). map (λ class. first_in (get_or l class OtherPart))
+    job.classes.class_of) c.as_slice-4.ensures.value in
+    record {
+      classes = classes;
+      are = c.in_ok-all.ensures;
+      firsts = firsts;
+      of = subst (λ n. AreOfStretches job (stretch_size (length classes) n) classes c.args.workers
+          firsts) c.new-cut.ensures.parts
+          (subst (λ l. AreOfStretches job (stretch_size (length l) c.new-cut.result.parts) l
+          c.args.workers firsts) c.new-cut.ensures.classes
+          (subst (λ n. AreOfStretches job n c.new-cut.result.classes.items c.args.workers firsts)
+          c.new-cut.ensures.cut.size_is c.in_ok-gathered.ensures.stretches));
+      each = λ i class first at v.
+          verdict_there job classes firsts c.in_ok-found.found.items table
+          c.classes.ensures.together c.in_ok-all.ensures by is i class first at
+          (ap (λ (l : List (Option ℕ)). slice_get l i) (sym c.of.ensures.firsts) ∙ v);
+    }

@@ -1,0 +1,158 @@
+-- Stretches that a shared ledger hands out to workers, and what they give back.
+use Rattle.std.specs.Prelude.{◌≡◌, ◌⊎◌, ◌<◌, ◌*◌, ℕ, max, min, List, [], ◌∷◌, length}
+use Rattle.std.specs.Prelude.{slice_get, take, drop, All, Option, Some, None, Result, Ok, IfOk}
+use Rattle.std.specs.declared.vec.Vec.{Vec}
+use Rattle.patterns.specs.declared.Outcome.TheVariants as outcome
+use Rattle.block_sim.specs.Parts.{Parts}
+use Rattle.fault_ledger.specs.declared.Event.{Event}
+use Rattle.fault_ledger.specs.declared.Shape.{Shape}
+use Rattle.fault_ledger.specs.declared.PieceState.TheVariants.{Clear}
+use Rattle.fault_ledger.specs.declared.Finish.TheVariants.{Finished}
+use Rattle.fault_ledger.specs.declared.Reply.TheVariants as reply
+use Rattle.fault_ledger.specs.History.{History, ContinuesWithout, claims, entry, held_by, piece_count}
+use Rattle.fault_ledger.specs.Answer.{IsLegal}
+use Rattle.fault_ledger.specs.Settled.{finish}
+use Rattle.fault_ledger.specs.Seats.{Makes, Place, Sitter}
+use Rattle.workers.specs.declared.alone.Waiting.{Waiting}
+use Rattle.workers.specs.declared.taken.Done.{Done}
+use Rattle.workers.specs.declared.taken.Served.{Served}
+use Rattle.workers.specs.Alone.{AreDone}
+use Rattle.workers.specs.Part.{AreAllByRegion, stretch, stretch_count, stretch_size}
+use Rattle.workers.specs.Verdict.{AreClassFirsts, VerdictList}
+use Rattle.workers.specs.Work.{EachReport, Stops}
+
+-- the shape of a ledger of so many stretches: each is a class of the ledger, with one block
+abbrev pub shape_of_stretches : ℕ → ℕ → Shape
+shape_of_stretches count workers = record { classes = count; tests = 64; workers = workers }
+
+-- how many workers there are for so many stretches
+abbrev pub crew_of : ℕ → ℕ → ℕ
+crew_of workers stretches = max (min workers stretches) 1
+
+-- A seat claimed this stretch: just before, it had seen this, and the number of the stretch is that
+-- of the claims made.
+pub record ClaimsStretch (old : Sitter) (part : ℕ) (new : Sitter) : Type 0 where
+  pub before : History
+  pub place : new.place ≡ old.place
+  pub worker : new.worker ≡ old.worker
+  pub newer : ContinuesWithout old.worker before old.seen
+  pub seen : new.seen ≡ Event.Claim old.worker ∷ before
+  pub legal : IsLegal old.place.shape new.seen
+  pub number : part ≡ claims before
+  pub within : part < old.place.shape.classes
+
+-- a seat saw all stretches claimed
+pub record SeesAllClaimed (old new : Sitter) : Type 0 where
+  pub place : new.place ≡ old.place
+  pub worker : new.worker ≡ old.worker
+  pub newer : ContinuesWithout old.worker new.seen old.seen
+  pub legal : IsLegal old.place.shape new.seen
+  pub all : claims new.seen ≡ piece_count old.place.shape
+
+-- what a seat does after its worker ran the stretch that it holds: it reports it where no class
+-- waits, else it still holds it
+abbrev pub AfterRun : Sitter → Option Waiting → Sitter → Type 0
+AfterRun old None new = Makes old (Event.Report old.worker outcome.Clear) reply.Done new
+AfterRun old (Some waiting) new = new ≡ old
+
+-- how a stretch stands in a history where a worker found this of it: it is reported where no class
+-- waits, else the worker holds it
+abbrev pub Stands : ℕ → History → ℕ → Option Waiting → Type 0
+Stands w h part None = entry part h ≡ Clear
+Stands w h part (Some waiting) = held_by w h ≡ Some part
+
+-- the part is among what was found
+abbrev pub IsAmong : List Done → ℕ → Type 0
+IsAmong dones part = (k : ℕ) × (done : Done) × (slice_get dones k ≡ Some done)
+    × (done.part ≡ part)
+
+-- this holds of the number of each claim of a worker in a history
+abbrev pub EachClaim : (ℕ → Type 0) → ℕ → History → Type 0
+EachClaim Holds w [] = Unit {0}
+EachClaim Holds w (Event.Claim u ∷ h) = (u ≡ w → Holds (claims h)) × EachClaim Holds w h
+EachClaim Holds w (_ ∷ h) = EachClaim Holds w h
+
+-- What a worker found accounts for what it did in a history: each stretch that it claimed is among
+-- it, and stands so as it was found.
+pub record Accounts (job : Parts) (size : ℕ) (classes : List ℕ) (w : ℕ) (passing : Type 0)
+    (stops : Stops) (h : History) (dones : List Done) : Type 0 where
+  pub done : AreDone job size classes w passing stops dones
+  pub stand : All (λ d. Stands w h d.part d.waiting) dones
+  pub claimed : EachClaim (IsAmong dones) w h
+
+-- the gate stopped the worker in one of these
+abbrev pub IsStoppedIn : List Done → Type 0
+IsStoppedIn dones = (k : ℕ) × (done : Done) × (slice_get dones k ≡ Some done)
+    × (waiting : Waiting) × (done.waiting ≡ Some waiting)
+
+-- how a worker ends: all stretches are claimed, or its gate stopped it
+abbrev pub EndsServing : Shape → History → List Done → Type 0
+EndsServing shape h dones = (claims h ≡ piece_count shape) ⊎ IsStoppedIn dones
+
+-- What became of a worker's seat of a new ledger of stretches: it came back, what it has seen is
+-- legal, and what the worker found accounts for it.
+pub record HasServed (job : Parts) (size : ℕ) (classes : List ℕ) (place : Place) (w : ℕ)
+    (passing : Type 0) (stops : Stops) (seat : Sitter) (dones : List Done) : Type 0 where
+  pub place_is : seat.place ≡ place
+  pub worker_is : seat.worker ≡ w
+  pub legal : IsLegal place.shape seat.seen
+  pub accounts : Accounts job size classes w passing stops seat.seen dones
+  pub ended : EndsServing place.shape seat.seen dones
+
+-- all workers came back, one of each number, unless memory was refused
+pub record AreServed {E : Type 0} (job : Parts) (size : ℕ) (classes : List ℕ) (place : Place)
+    (passing : Type 0) (stops : Stops) (back : List (Result Served E)) : Type 0 where
+  pub count : length back ≡ place.shape.workers
+  pub each : (w : ℕ) (one : Result Served E) → slice_get back w ≡ Some one
+      → IfOk one (λ served. HasServed job size classes place w passing stops served.seat
+      served.dones.items)
+
+-- what came back, set apart: the seats, and what their workers found
+pub record AreApart {E Z : Type 0} (back : List (Result Served E)) (seats : List Sitter)
+    (dones : List (Vec Done Z)) : Type 0 where
+  pub seats_count : length seats ≡ length back
+  pub dones_count : length dones ≡ length back
+  pub each : (k : ℕ) (seat : Sitter) (own : Vec Done Z) → slice_get seats k ≡ Some seat
+      → slice_get dones k ≡ Some own
+      → (served : Served) × (slice_get back k ≡ Some (Ok served)) × (seat ≡ served.seat)
+      × (own.items ≡ served.dones.items)
+
+-- What workers found at a ledger of stretches: some legal history of it accounts for all of it.
+pub record AreShared {Z : Type 0} (job : Parts) (size : ℕ) (classes : List ℕ) (shape : Shape)
+    (passing : Type 0) (stops : Stops) (dones : List (Vec Done Z)) : Type 0 where
+  pub count : length dones ≡ shape.workers
+  pub history : History
+  pub legal : IsLegal shape history
+  pub each : (w : ℕ) (own : Vec Done Z) → slice_get dones w ≡ Some own
+      → Accounts job size classes w passing stops history own.items
+      × EndsServing shape history own.items
+
+-- a report of a stretch stands for these first tests of all classes: those of its own classes
+abbrev pub StandsFor : Parts → ℕ → List ℕ → List (Option ℕ) → Option ℕ → Type 0
+StandsFor job size classes firsts None = ⊥
+StandsFor job size classes firsts (Some part) =
+    AreClassFirsts job.list.model job.circuit job.tests.tests (stretch size classes part)
+    (take size (drop (part * size) firsts))
+
+-- First tests of classes that were found stretch by stretch: some legal and finished history of a
+-- ledger of these stretches says so, in which each report stands for those of its stretch.
+pub record AreOfStretches (job : Parts) (size : ℕ) (classes : List ℕ) (workers : ℕ)
+    (firsts : List (Option ℕ)) : Type 0 where
+  pub history : History
+  pub legal : IsLegal (shape_of_stretches (stretch_count size classes)
+      (crew_of workers (stretch_count size classes))) history
+  pub finished : finish (shape_of_stretches (stretch_count size classes)
+      (crew_of workers (stretch_count size classes))) history ≡ Finished
+  pub reports : (w : ℕ)
+      → EachReport (λ o h. StandsFor job size classes firsts (held_by w h)) w history []
+
+-- The verdicts were found stretch by stretch of all classes, which are cut into so many: that of a
+-- fault is one that was found of its class.
+pub record IsOfStretches (job : Parts) (parts workers : ℕ) (v : VerdictList) : Type 0 where
+  pub classes : List ℕ
+  pub are : AreAllByRegion job classes
+  pub firsts : List (Option ℕ)
+  pub of : AreOfStretches job (stretch_size (length classes) parts) classes workers firsts
+  pub each : (i class : ℕ) (first : Option ℕ) → slice_get job.classes.class_of i ≡ Some class
+      → slice_get v.firsts i ≡ Some first
+      → (k : ℕ) × (slice_get classes k ≡ Some class) × (slice_get firsts k ≡ Some first)
