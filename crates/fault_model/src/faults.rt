@@ -1,10 +1,11 @@
 //! The fault list of a circuit.
 
-ghost use Rattle.std.specs.Prelude.{◌≡◌, ◌++◌, ◌<◌, List, map, length, Contains, IfOk, IfSome};
+ghost use Rattle.std.specs.Prelude.{◌≡◌, ◌++◌, ◌<◌, List, map, length, IfOk, IfSome};
 ghost use Rattle.std.specs.Prelude.{OnOk, Some, slice_get, nat_le, if◌then◌else◌, []};
 ghost use Rattle.fault_model.specs.declared.Line.TheVariants as line;
 ghost use Rattle.fault_model.specs.declared.Model.TheVariants as model;
 ghost use Rattle.fault_model.specs.Fault.{Fault, branch, faults, fault_list};
+ghost use Rattle.fault_model.specs.Signals.{IsSignalOf};
 
 use crate::Line;
 use bench_net::{Circuit, Sink};
@@ -73,11 +74,10 @@ impl Faults {
         fault % 2 == 1
     }
 
-    /// The number of the fault on the stem of a signal, whose number is below that of the circuit's
-    /// signals: [`crate::laws::stems`] says that the list then has it.
+    /// Returns the number of a fault on the stem of `signal`, which counts from 0 and is below the
+    /// number of the circuit's signals: `stuck` is its bit, as [`Faults::stuck_of`] tells it.
     pub fn stem_fault(&self, signal: u32, stuck: bool) -> u32
-        requires { Contains self.now.list (record
-            { model = self.now.model; line = line.Stem signal; stuck = stuck }) }
+        requires { IsSignalOf self.now signal }
         ensures { slice_get self.now.list result ≡ Some
             (record { model = self.now.model; line = line.Stem signal; stuck = stuck }) }
     {

@@ -29,8 +29,8 @@ pub fn solutions()
     ensures are_one { (c : List Statement) → IsWellFormed c → HasOneSolution c }
 {}
 
-/// The list has both faults on the stem of each signal, so [`crate::Faults::stem_fault`] may be
-/// asked for them.
+/// The list has both faults on the stem of each signal: [`crate::Faults::stem_fault`] gives their
+/// numbers.
 pub fn stems()
     ensures { (m : Model) (c : List Statement) (signal : ℕ) (stuck : Bool)
         → signal < length (names c)

@@ -12,7 +12,6 @@ use block_sim::Job;
 use fault_ledger::{
     Claim, Closed, Finish, Ledger, LedgerFault, PieceState, Seat, Shape, SharedLedger, Status,
 };
-use fault_model::laws::stems;
 use fault_model::{Faults, Line, Model};
 use patterns::{Outcome, Tests};
 use report::{RunFault, SimFault};
@@ -68,8 +67,6 @@ fn add_faults(sum: &mut Sum, faults: &Faults) {
 fn add_stem(sum: &mut Sum, job: &Job, signal: u32)
     requires { signal < length (names job.now.circuit) }
 {
-    // The list has these faults.
-    stems();
     let faults = job.faults();
     sum.add(u64::from(faults.stem_fault(signal, false)));
     sum.add(u64::from(faults.stem_fault(signal, true)));

@@ -1,14 +1,15 @@
 use Rattle.std.proofs.Common.{◌≡◌, ◌<◌, ◌+◌, ◌-◌, ℕ, Bool, true, false, List, length, Some, subst}
 use Rattle.std.proofs.Common.{get_or, arith}
-use Rattle.std.specs.Prelude.{slice_get, Contains}
+use Rattle.std.specs.Prelude.{slice_get}
 use Rattle.std.proofs.lemmas.Option.{slice_get-get_or}
 use Rattle.bench_net.specs.Statement.{Statement}
 use Rattle.bench_net.specs.Level.{IsLevelOrder}
+use Rattle.bench_net.specs.Scan.{names}
 use Rattle.lists.proofs.Places.{place_within}
 use Rattle.fault_model.specs.declared.Line.TheVariants as line
 use Rattle.fault_model.specs.declared.Model.{Model}
-use Rattle.fault_model.specs.Fault.{Fault, faults}
-use Rattle.fault_model.proofs.ListedFaults.{fault_on, stem_listed}
+use Rattle.fault_model.specs.Fault.{faults}
+use Rattle.fault_model.proofs.ListedFaults.{fault_on}
 use Rattle.fault_model.proofs.NextFaultLevels.{in_order_named}
 use Rattle.fault_model.proofs.StemClasses.{StemsFrom, stems_kept, stem_next, stems_more, stems_all}
 use Rattle.fault_model.proofs.classes.follow_stems.Goals.{After-stem_fault}
@@ -21,14 +22,13 @@ signal_at : (order : List ℕ) (place : ℕ) → 0 < place → place < length or
 signal_at order place some within =
     slice_get-get_or order (place - 1) 0 (omega (arith, some, within))
 
--- the list has the faults on the stem of that signal
-stem_there : (m : Model) (c : List Statement) (order : List ℕ) (list : List Fault) (place : ℕ)
-    (b : Bool) → IsLevelOrder c order → list ≡ faults m c → 0 < place → place < length order + 1
-    → Contains list (fault_on m (line.Stem (get_or order (place - 1) 0)) b)
-stem_there m c order list place b is same some within =
+-- and it is a signal of the circuit
+signal_within : (c : List Statement) (order : List ℕ) (place : ℕ) → IsLevelOrder c order
+    → 0 < place → place < length order + 1 → get_or order (place - 1) 0 < length (names c)
+signal_within c order place is some within =
     let n = in_order_named c order (place - 1) (get_or order (place - 1) 0) is
     (signal_at order place some within) in
-    rw same (stem_listed m c (get_or order (place - 1) 0) n.0 b n.1)
+    place_within (names c) (get_or order (place - 1) 0) n.0 n.1
 
 -- what is known from a place on is known from the place after the one before it on
 turned : (m : Model) (c : List Statement) (order before after : List ℕ) (place : ℕ) → 0 < place
@@ -45,9 +45,12 @@ stem_fault-requires c =
       c.loop-place.auto.place,
       c.in_level_order-order.ensures.count,
       c.signals-place.ensures.count,
-    ) in
-    stem_there c.args.list.now.model c.args.circuit.now order c.args.list.now.list
-    c.loop-place.place false c.in_level_order-order.ensures c.requires.same (omega arith) few
+    ) in (
+      c.args.circuit.now,
+      c.requires.same,
+      signal_within c.args.circuit.now order c.loop-place.place c.in_level_order-order.ensures
+          (omega arith) few,
+    )
 
 pub follow-requires-clause-in_range : goal.follow-requires-clause-in_range
 follow-requires-clause-in_range c =
@@ -92,9 +95,12 @@ stem_fault-requires-in-loop-place c =
       c.loop-place.auto.place,
       c.in_level_order-order.ensures.count,
       c.signals-place.ensures.count,
-    ) in
-    stem_there c.args.list.now.model c.args.circuit.now order c.args.list.now.list
-    c.loop-place.place true c.in_level_order-order.ensures c.requires.same (omega arith) few
+    ) in (
+      c.args.circuit.now,
+      c.requires.same,
+      signal_within c.args.circuit.now order c.loop-place.place c.in_level_order-order.ensures
+          (omega arith) few,
+    )
 
 pub follow-requires-in-loop-place-clause-in_range :
     goal.follow-requires-in-loop-place-clause-in_range

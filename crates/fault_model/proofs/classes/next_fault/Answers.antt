@@ -1,12 +1,12 @@
 use Rattle.std.proofs.Common.{◌≡◌, ◌<◌, Bool, Some, None, ap, arith, length, sym, ◌∙◌}
-use Rattle.std.specs.Prelude.{Option, slice_get, Contains, option_map, option_and_then}
+use Rattle.std.specs.Prelude.{Option, slice_get, option_map, option_and_then}
 use Rattle.bench_net.specs.Scan.{names, name_of}
 use Rattle.bench_net.specs.Statement.{Name}
 use Rattle.lists.proofs.Places.{place_within}
 use Rattle.fault_model.specs.declared.Line.TheVariants as line
 use Rattle.fault_model.specs.Fault.{Fault, faults}
 use Rattle.fault_model.specs.Collapse.{next, next_stuck, kind_of}
-use Rattle.fault_model.proofs.ListedFaults.{fault_on, stem_listed}
+use Rattle.fault_model.proofs.ListedFaults.{fault_on}
 use Rattle.fault_model.proofs.NextFault.{FaultAt, line_at, fault_at, listed_in_circuit}
 use Rattle.fault_model.proofs.NextFault.{gate_is_signal, next_at_gate, by_table}
 use Rattle.fault_model.proofs.classes.next_fault.Goals.{After-line_of, After-stuck_of, In_ok-gate}
@@ -44,14 +44,11 @@ bounds-kinds-gate c =
     omega (arith, lt, c.requires.kinds.count)
 
 pub stem_fault-requires : goal.stem_fault-requires
-stem_fault-requires c =
-    let circuit = c.args.circuit.now in
-    let m = c.args.list.now.model in
-    let n = gate_named (goal.at.stem_fault-requires c).In_ok-gate in
-    let there : Contains (faults m circuit)
-    (fault_on m (line.Stem c.in_ok-gate.gate) c.in_ok-stuck.stuck) =
-    stem_listed m circuit c.in_ok-gate.gate n.0 c.in_ok-stuck.stuck n.1 in
-    rw c.requires.same there
+stem_fault-requires c = (
+  c.args.circuit.now,
+  c.requires.same,
+  gate_within (goal.at.stem_fault-requires c).In_ok-gate,
+)
 
 -- the next fault, where the table has this row for the gate's kind
 follows : (c : After-stuck_of) (row : Option Bool)

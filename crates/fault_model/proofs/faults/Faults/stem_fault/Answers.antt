@@ -3,21 +3,32 @@ use Rattle.std.specs.Prelude.{Contains, Some, flat_map, slice_get}
 use Rattle.fault_model.specs.declared.Line.{Line}
 use Rattle.fault_model.specs.declared.Line.TheVariants as line
 use Rattle.fault_model.specs.declared.Model.{Model}
-use Rattle.fault_model.proofs.ListedFaults.{fault_on}
+use Rattle.bench_net.specs.Scan.{names}
+use Rattle.lists.proofs.Places.{within_place}
+use Rattle.fault_model.proofs.ListedFaults.{fault_on, stem_listed}
 use Rattle.fault_model.specs.Fault.{FaultList, both}
 use Rattle.fault_model.specs.Lines.{AreStemsOf, IsWithinLimits}
+use Rattle.fault_model.specs.Signals.{IsSignalOf}
 use Rattle.fault_model.proofs.FaultTables.{StemAt, stem_at, stem_within, stem_read}
 use Rattle.fault_model.proofs.FaultTables.{stem_place_within}
 use Rattle.fault_model.proofs.FaultTables.{stem_at_zero, stem_at_one}
 use Rattle.fault_model.proofs.faults.Faults.stem_fault.Goals.{After-index}
 use Rattle.fault_model.proofs.faults.Faults.stem_fault.Goals as goal
 
+-- the list has the faults on the stem of a signal
+listed : (now : FaultList) (s : ℕ) (b : Bool) → IsSignalOf now s
+    → Contains now.list (fault_on now.model (line.Stem s) b)
+listed now s b is =
+    let n = within_place (names is.0) s is.2 in
+    subst (λ l. Contains l (fault_on now.model (line.Stem s) b)) (sym is.1)
+    (stem_listed now.model is.0 s n.0 b n.1)
+
 -- the stem that was looked up, from what the call requires and what the list keeps
 looked_up : (m : Model) (now : FaultList) (ls : List Line) (stems : List ℕ) (s : ℕ) (b : Bool)
     → record { model = m; list = flat_map (both m) ls } ≡ now → AreStemsOf ls stems
-    → Contains now.list (fault_on now.model (line.Stem s) b) → StemAt ls stems s
-looked_up m now ls stems s b same are at = stem_at m ls stems s b are
-    (subst (λ x. Contains x.list (fault_on x.model (line.Stem s) b)) (sym same) at)
+    → IsSignalOf now s → StemAt ls stems s
+looked_up m now ls stems s b same are is = stem_at m ls stems s b are
+    (subst (λ x. Contains x.list (fault_on x.model (line.Stem s) b)) (sym same) (listed now s b is))
 
 pub index-requires : goal.index-requires
 index-requires c =
