@@ -1,84 +1,130 @@
 #!/usr/bin/env python3
-"""Lets each allocation and each start of a thread be refused in turn: of the program, and of the library's calls.
+"""Lets each allocation and each start of a thread be refused in turn: of the program, on C17, and
+of the library's calls.
 
     bench/refusals.py [--program] [--calls] [--built]
+    bench/refusals.py --quick PROGRAM
 
-It builds refuse.c with gcc and runs with it, as LD_PRELOAD, the program that `rt run` builds and the test
-`once::each_call_that_was_refused_succeeds_again` that `rt test` builds in crates/memory_tests (--built: that stand in
-out/ already): with the first refused,
-then with the second and so on, until nothing was refused. Each run of the program must end with status 3, `out of
-memory` or `thread refused`, and nothing on standard output, or do what it does with no refusal. Each run of the test must
-pass, but where it could not set up what its calls need. It ends with status 1 where a run did anything else.
+It builds refuse.c with gcc and runs with it, as LD_PRELOAD, the program that `rt run` builds and the
+test `once::each_call_that_was_refused_succeeds_again` that `rt test` builds in crates/memory_tests
+(--built: that stand in out/ already): with the first refused, then with the second and so on, until
+nothing was refused. Each run of the program must end with status 3, `out of memory` or `thread
+refused`, and nothing on standard output (with --format a beginning of the table), or do what it
+does with no refusal. Each run of the test must pass, but where it could not set up what its calls
+need. With --quick it runs PROGRAM alone, and builds no other; that takes less than a minute.
+
+Status: 0 where all did so, 1 where a run did anything else, 3 where there is no gcc.
 """
 
 import argparse
 import collections
 import os
 import pathlib
+import shutil
 import subprocess
 import sys
 import tempfile
-
-import compare
+from concurrent.futures import ThreadPoolExecutor
 
 HERE = pathlib.Path(__file__).resolve().parent
 CRATES = HERE.parent / "crates"
 DATA = CRATES / "faultsim" / "data"
 TEST = "once::each_call_that_was_refused_succeeds_again"
 REFUSED = (b"faultsim: out of memory\n", b"faultsim: thread refused\n")
+WAYS = ("REFUSE_ALLOCATION", "REFUSE_START")
+# Command lines of the program, in a folder with these files.
+FILES = ("bench", "tests", "order", "first", "second")
+TEXTS = "--bench bench --tests tests"
+COMMANDS = (
+    "faults --bench bench",
+    "faults --bench bench --format json",
+    f"check {TEXTS}",
+    f"run {TEXTS} --list --workers 1",
+    f"run {TEXTS} --list --workers 2 --parts 2",
+    f"run {TEXTS} --undetected --classes --workers 4 --parts 5",
+    f"run {TEXTS} --list --workers 64 --parts 64",
+    f"run {TEXTS} --list --model transition-pairs --workers 2",
+    f"run {TEXTS} --detections 2 --workers 2",
+    f"run {TEXTS} --format csv --workers 2",
+    f"run {TEXTS} --part 1/2 --workers 2",
+    "merge first second --list",
+    f"schedule {TEXTS} --list --workers 2 --order order",
+    f"curve {TEXTS} --workers 2",
+    f"compact {TEXTS} --workers 2",
+    f"responses {TEXTS}",
+)
 
 
-def refusing(library, told, words, what, number):
-    """What came of the words with one refusal, and whether there was one."""
-    told.unlink(missing_ok=True)
-    environment = {**os.environ, "LD_PRELOAD": str(library), what: str(number), "REFUSE_TOLD": str(told)}
-    done = subprocess.run(words, stdout=subprocess.PIPE, stderr=subprocess.PIPE, env=environment, timeout=60)
-    return (done.returncode, done.stdout, done.stderr), told.exists()
+def run_with(words, folder, **more):
+    """What came of the words in a folder: the status, and what was written."""
+    how = {"cwd": folder, "stdin": subprocess.DEVNULL, "env": {**os.environ, **more}}
+    how |= {"stdout": subprocess.PIPE, "stderr": subprocess.PIPE, "timeout": 60}
+    done = subprocess.run(words, check=False, **how)
+    return done.returncode, done.stdout, done.stderr
 
 
-def sweep(library, told, words, what, judge):
+def sweep(library, folder, words, way, judge):
     """Refuses the first, the second and so on, and counts what each run is judged to be."""
     seen, number = collections.Counter(), 1
-    while True:
-        came, was_refused = refusing(library, told, words, what, number)
-        name = judge(came)
-        if name is None:
-            sys.exit(f"{' '.join(words)}: with {what}={number} status {came[0]}, {came[1][-200:]} and {came[2][-200:]}")
-        if not was_refused:
-            return seen
-        seen[name] += 1
-        number += 1
+    with tempfile.TemporaryDirectory() as room:
+        told = pathlib.Path(room) / "told"
+        while True:
+            more = {"LD_PRELOAD": str(library), way: str(number), "REFUSE_TOLD": str(told)}
+            came = run_with(words, folder, **more)
+            name = judge(came)
+            if name is None:
+                what = f"status {came[0]}, {came[1][-200:]} and {came[2][-200:]}"
+                raise AssertionError(f"{' '.join(words)}: with {way}={number} {what}")
+            if not told.exists():
+                return dict(seen)
+            told.unlink()
+            seen[name] += 1
+            number += 1
 
 
-def try_program(folder, library):
-    order = folder / "order"
+def sweep_program(program, library, folder, command):
+    """Both sweeps of a command line, as a line that says what came of them."""
+    words = [program, *command.split()]
+    expected = run_with(words, folder)
+    if expected[0] or not expected[1]:
+        raise AssertionError(f"{command}: status {expected[0]}, {expected[2][-200:]}")
+
+    def judge(came):
+        if came == expected:
+            return "as ever"
+        # (a table is written line by line)
+        is_begun = "--format" in words and expected[1].startswith(came[1])
+        if came[0] == 3 and (is_begun or not came[1]) and came[2] in REFUSED:
+            return came[2].decode().strip().removeprefix("faultsim: ")
+        return None
+
+    seen = [f"{way.lower()}: {sweep(library, folder, words, way, judge)}" for way in WAYS]
+    return f"faultsim {command}: {', '.join(seen)}"
+
+
+def put_files(program, folder):
+    """C17, a test for it, an order, and the texts of both parts of a run."""
+    bench, tests, order, first, second = (folder / name for name in FILES)
+    bench.write_bytes((DATA / "c17.bench").read_bytes())
+    tests.write_bytes((DATA / "one.tests").read_bytes())
     order.write_text("1\n1\n0\n")
-    texts = ["--bench", str(DATA / "c17.bench"), "--tests", str(DATA / "one.tests"), "--list"]
-    for command, words in (
-        ("faults", texts[:2]),
-        ("run", [*texts, "--workers", "2", "--parts", "2"]),
-        ("run", [*texts, "--workers", "64", "--parts", "64"]),
-        ("schedule", [*texts, "--workers", "2", "--order", str(order)]),
-    ):
-        words = [str(compare.PROGRAM), command, *words]
-        done = subprocess.run(words, stdout=subprocess.PIPE, stderr=subprocess.PIPE)
-        expected = (done.returncode, done.stdout, done.stderr)
+    for part, path in ((1, first), (2, second)):
+        words = [program, "run", *TEXTS.split(), "--part", f"{part}/2"]
+        path.write_bytes(run_with(words, folder)[1])
 
-        def judge(came):
-            if came == expected:
-                return "as ever"
-            if came[0] == 3 and not came[1] and came[2] in REFUSED:
-                return came[2].decode().strip().removeprefix("faultsim: ")
-            return None
 
-        for what in ("REFUSE_ALLOCATION", "REFUSE_START"):
-            seen = sweep(library, folder / "told", words, what, judge)
-            print(f"faultsim {command} {words[-1] if command == 'run' else ''}: {what.lower()}: {dict(seen)}", flush=True)
+def try_program(program, folder, library):
+    put_files(program, folder)
+    with ThreadPoolExecutor(os.cpu_count()) as pool:
+        tasks = [pool.submit(sweep_program, program, library, folder, it) for it in COMMANDS]
+        for task in tasks:
+            print(task.result(), flush=True)
 
 
 def try_calls(folder, library, built):
     if not built:
-        subprocess.run(["rt", "test"], cwd=CRATES / "memory_tests", stdout=subprocess.DEVNULL, check=True)
+        how = {"cwd": CRATES / "memory_tests", "stdout": subprocess.DEVNULL}
+        subprocess.run(["rt", "test"], check=True, **how)
     words = [str(CRATES / "memory_tests" / "out" / "memory_tests_tests"), TEST]
 
     def judge(came):
@@ -87,26 +133,46 @@ def try_calls(folder, library, built):
         # A failed assertion ends the process by a signal.
         return "could not set up" if came[0] == 101 and b"the test failed" in came[2] else None
 
-    for what in ("REFUSE_ALLOCATION", "REFUSE_START"):
-        print(f"calls: {what.lower()}: {dict(sweep(library, folder / 'told', words, what, judge))}", flush=True)
+    for way in WAYS:
+        print(f"calls: {way.lower()}: {sweep(library, folder, words, way, judge)}", flush=True)
+
+
+def built_program(built):
+    """The program of the crate faultsim, proved and built where it is not built already."""
+    if not built:
+        how = {"cwd": CRATES / "faultsim", "stdout": subprocess.DEVNULL}
+        subprocess.run(["rt", "run", "--", "--help"], check=True, **how)
+    return str(CRATES / "faultsim" / "out" / "faultsim")
 
 
 def main():
-    parser = argparse.ArgumentParser(description=__doc__, formatter_class=argparse.RawDescriptionHelpFormatter)
-    parser.add_argument("--program", action="store_true")
-    parser.add_argument("--calls", action="store_true")
-    parser.add_argument("--built", action="store_true")
-    options = parser.parse_args()
+    how = {"description": __doc__, "formatter_class": argparse.RawDescriptionHelpFormatter}
+    parser = argparse.ArgumentParser(**how)
+    for flag in ("--program", "--calls", "--built"):
+        parser.add_argument(flag, action="store_true")
+    parser.add_argument("--quick", metavar="PROGRAM")
+    given = parser.parse_args()
+    if not shutil.which("gcc"):
+        print("refusals: there is no gcc", file=sys.stderr)
+        return 3
     with tempfile.TemporaryDirectory() as name:
         folder = pathlib.Path(name)
         library = folder / "refuse.so"
-        compare.run(["gcc", "-O1", "-shared", "-fPIC", str(HERE / "refuse.c"), "-o", str(library)])
-        if options.program or not options.calls:
-            compare.build(folder, options.built)
-            try_program(folder, library)
-        if options.calls or not options.program:
-            try_calls(folder, library, options.built)
+        words = ["gcc", "-O1", "-shared", "-fPIC", str(HERE / "refuse.c"), "-o", str(library)]
+        subprocess.run(words, check=True)
+        try:
+            if given.quick:
+                try_program(os.path.realpath(given.quick), folder, library)
+                return 0
+            if given.program or not given.calls:
+                try_program(built_program(given.built), folder, library)
+            if given.calls or not given.program:
+                try_calls(folder, library, given.built)
+        except AssertionError as why:
+            print(f"refusals: {why}", file=sys.stderr)
+            return 1
+    return 0
 
 
 if __name__ == "__main__":
-    main()
+    sys.exit(main())

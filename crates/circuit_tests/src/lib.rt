@@ -9,6 +9,8 @@ mod checks;
 #[cfg(test)]
 mod circuits;
 #[cfg(test)]
+mod cuts;
+#[cfg(test)]
 mod faults;
 #[cfg(test)]
 mod made;

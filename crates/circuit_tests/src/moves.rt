@@ -24,3 +24,25 @@ fn moves_of_orders(rt: HostRuntime) {
         check(&rt, has_moves(rt.alloc(), text, moves) == Ok(true), text);
     }
 }
+
+/// Texts that are refused, each with why.
+static REFUSED: [(&str, OrderFault); 6] = [
+    ("0000000003", OrderFault::BadNumber(1)),
+    ("0 1", OrderFault::BadNumber(1)),
+    ("-1", OrderFault::BadNumber(1)),
+    ("4", OrderFault::NoSuchWorker(1)),
+    ("0\n\n4\nx\n", OrderFault::NoSuchWorker(3)),
+    ("3\nx\n4\n", OrderFault::BadNumber(2)),
+];
+
+/// Why an order of four workers is refused.
+fn refusal_of(alloc: Global, text: &str) -> Option<OrderFault> {
+    read_order(alloc, text.as_bytes(), 4).err()
+}
+
+#[test]
+fn refused_orders(rt: HostRuntime) {
+    for (text, fault) in &REFUSED {
+        check(&rt, refusal_of(rt.alloc(), text) == Some(*fault), text);
+    }
+}

@@ -182,3 +182,95 @@ fn tests_of_texts(rt: HostRuntime) {
         check(&rt, is_so(rt.alloc(), case) == Ok(true), case.name);
     }
 }
+
+/// A text that is refused, the width of its tests, and why.
+struct Refused {
+    name: &'static str,
+    text: Text,
+    width: u32,
+    fault: TestFault,
+}
+
+static REFUSED: [Refused; 6] = [
+    Refused {
+        name: "blank_inside_a_row",
+        text: Text {
+            row: "",
+            count: 0,
+            last: "1 1\n",
+        },
+        width: 2,
+        fault: TestFault::BadByte(1),
+    },
+    Refused {
+        name: "two_in_a_row",
+        text: Text {
+            row: "",
+            count: 0,
+            last: "11211\n",
+        },
+        width: 5,
+        fault: TestFault::BadByte(1),
+    },
+    Refused {
+        name: "short_third_row",
+        text: Text {
+            row: "",
+            count: 0,
+            last: "11111\n00000\n1111\n",
+        },
+        width: 5,
+        fault: TestFault::BadWidth(3),
+    },
+    Refused {
+        name: "bad_byte_behind_4096_rows",
+        text: Text {
+            row: "00",
+            count: 4_096,
+            last: "2",
+        },
+        width: 2,
+        fault: TestFault::BadByte(4_097),
+    },
+    Refused {
+        name: "row_past_the_limit",
+        text: Text {
+            row: "00",
+            count: 65_536,
+            last: "00",
+        },
+        width: 2,
+        fault: TestFault::TooMany,
+    },
+    Refused {
+        name: "bad_byte_past_the_limit",
+        text: Text {
+            row: "00",
+            count: 65_536,
+            last: "2",
+        },
+        width: 2,
+        fault: TestFault::TooMany,
+    },
+];
+
+/// Why a text is not read as tests of this width.
+fn refusal_of(alloc: Global, text: &str, width: u32) -> Option<TestFault> {
+    if width < 1 {
+        return None;
+    }
+    read_tests(alloc, text.as_bytes(), width).err()
+}
+
+/// Whether a text is refused as its case says.
+fn is_refused(alloc: Global, case: &Refused) -> Result<bool, AllocError> {
+    let text = text_of(alloc, &case.text)?;
+    Ok(refusal_of(alloc, text.as_str(), case.width) == Some(case.fault))
+}
+
+#[test]
+fn refused_texts(rt: HostRuntime) {
+    for case in &REFUSED {
+        check(&rt, is_refused(rt.alloc(), case) == Ok(true), case.name);
+    }
+}

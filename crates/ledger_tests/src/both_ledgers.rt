@@ -80,7 +80,52 @@ const OUT_OF_ORDER: [(Call, Reply); 19] = [
     (Call::Claim(6), HOLDING),
 ];
 
-/// The states of the blocks after them.
+/// The same calls, with a drop of block 2 that is refused: no lower block of the class is a hit.
+const NO_DROP: [(Call, Reply); 17] = [
+    (
+        Call::Claim(0),
+        Reply::Claimed(Claim::Piece { class: 0, block: 0 }),
+    ),
+    (
+        Call::Claim(1),
+        Reply::Claimed(Claim::Piece { class: 0, block: 1 }),
+    ),
+    (
+        Call::Claim(2),
+        Reply::Claimed(Claim::Piece { class: 0, block: 2 }),
+    ),
+    (
+        Call::Claim(3),
+        Reply::Claimed(Claim::Piece { class: 0, block: 3 }),
+    ),
+    (
+        Call::Claim(4),
+        Reply::Claimed(Claim::Piece { class: 0, block: 4 }),
+    ),
+    (
+        Call::Claim(5),
+        Reply::Claimed(Claim::Piece { class: 0, block: 5 }),
+    ),
+    (
+        Call::Claim(6),
+        Reply::Claimed(Claim::Piece { class: 0, block: 6 }),
+    ),
+    (
+        Call::Claim(7),
+        Reply::Claimed(Claim::Piece { class: 0, block: 7 }),
+    ),
+    (Call::Report(5, Hit(3)), Reply::Done),
+    (Call::Drop(2), NO_EARLIER_HIT),
+    (Call::Report(2, Hit(0)), Reply::Done),
+    (Call::Drop(7), Reply::Done),
+    (Call::Report(0, Clear), Reply::Done),
+    (Call::Status(0), Reply::Status(Status::Waiting(1))),
+    (Call::Report(1, Clear), Reply::Done),
+    (Call::Status(0), Reply::Status(Status::Settled(Some(128)))),
+    (Call::Finished, ALL_FINISHED),
+];
+
+/// The states of the blocks after either.
 const LEFT_OUT_OF_ORDER: [(u32, PieceState); 8] = [
     (0, PieceState::Clear),
     (1, PieceState::Clear),
@@ -122,24 +167,8 @@ static CASES: [Case; 9] = [
             tests: 512,
             workers: 8,
         },
-        steps: &[
-            (
-                Call::Claim(0),
-                Reply::Claimed(Claim::Piece { class: 0, block: 0 }),
-            ),
-            (
-                Call::Claim(1),
-                Reply::Claimed(Claim::Piece { class: 0, block: 1 }),
-            ),
-            (
-                Call::Claim(2),
-                Reply::Claimed(Claim::Piece { class: 0, block: 2 }),
-            ),
-            (Call::Report(2, Hit(3)), Reply::Done),
-            (Call::Drop(1), NO_EARLIER_HIT),
-            (Call::Report(1, Hit(0)), Reply::Done),
-        ],
-        states: &[],
+        steps: &NO_DROP,
+        states: &LEFT_OUT_OF_ORDER,
         skipped: None,
     },
     Case {
@@ -170,17 +199,22 @@ static CASES: [Case; 9] = [
         skipped: None,
     },
     Case {
-        name: "a short last block bounds the outcome",
+        name: "one worker gets every refusal",
         shape: Shape {
             classes: 1,
             tests: 65,
             workers: 1,
         },
         steps: &[
+            (Call::Report(0, Clear), NOTHING_HELD),
+            (Call::Drop(0), NOTHING_HELD),
             (
                 Call::Claim(0),
                 Reply::Claimed(Claim::Piece { class: 0, block: 0 }),
             ),
+            (Call::Claim(0), HOLDING),
+            (Call::Report(0, Hit(64)), BAD_OUTCOME),
+            (Call::Drop(0), NO_EARLIER_HIT),
             (Call::Report(0, Clear), Reply::Done),
             (
                 Call::Claim(0),
@@ -332,7 +366,7 @@ fn ledger_after(
 }
 
 /// Whether the blocks of class 0 have these states.
-fn has_states(shape: Shape, closed: &Closed, states: &[(u32, PieceState)]) -> bool
+pub(crate) fn has_states(shape: Shape, closed: &Closed, states: &[(u32, PieceState)]) -> bool
     requires { closed.now.shape ≡ shape }
 {
     for (block, state) in states {

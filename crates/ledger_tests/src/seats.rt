@@ -1,5 +1,8 @@
 //! Cases of seats that look, ask and meet.
 
+ghost use Rattle.std.specs.Prelude.{◌≡◌, IfOk, IfSome};
+
+use crate::both_ledgers::has_states;
 use crate::checks::check;
 use crate::staffed::Staffed;
 use fault_ledger::{
@@ -25,11 +28,12 @@ enum Step {
     Meet,
 }
 
-/// Steps on a new ledger.
+/// Steps on a new ledger, and the states of some blocks of class 0 once it is closed.
 struct Case {
     name: &'static str,
     shape: Shape,
     steps: &'static [Step],
+    states: &'static [(u32, PieceState)],
 }
 
 static CASES: [Case; 5] = [
@@ -59,6 +63,7 @@ static CASES: [Case; 5] = [
             Step::Calls(1, Call::Status(0), Reply::Status(Status::Settled(Some(5)))),
             Step::Calls(1, Call::Finished, Reply::Finish(Finish::Finished)),
         ],
+        states: &[(0, PieceState::Hit(5)), (1, PieceState::Skipped)],
     },
     Case {
         name: "seats_ask_of_a_hit_of_one_they_never_met",
@@ -77,6 +82,7 @@ static CASES: [Case; 5] = [
             Step::Calls(1, Call::Status(0), Reply::Status(Status::Settled(Some(5)))),
             Step::Calls(2, Call::Finished, Reply::Finish(Finish::Finished)),
         ],
+        states: &[(0, PieceState::Hit(5)), (1, PieceState::Open)],
     },
     Case {
         name: "seats_share_a_word",
@@ -103,6 +109,7 @@ static CASES: [Case; 5] = [
             Step::Looks(1, (1, 0), PieceState::Clear),
             Step::Looks(1, (2, 0), PieceState::Open),
         ],
+        states: &[(0, PieceState::Hit(63))],
     },
     // Two classes on two blocks: claims go through the classes of a block before the next block.
     Case {
@@ -149,6 +156,7 @@ static CASES: [Case; 5] = [
             Step::Looks(0, (1, 1), PieceState::Skipped),
             Step::Looks(0, (2, 1), PieceState::Open),
         ],
+        states: &[(0, PieceState::Clear), (1, PieceState::Hit(63))],
     },
     Case {
         name: "one_seat_gets_every_refusal",
@@ -194,11 +202,14 @@ static CASES: [Case; 5] = [
             Step::Calls(0, Call::Report(0, Clear), NOTHING_HELD),
             Step::Calls(0, Call::Status(0), Reply::Status(Status::Settled(Some(64)))),
         ],
+        states: &[(0, PieceState::Clear), (1, PieceState::Hit(0))],
     },
 ];
 
 /// Takes a step that is no meeting, and tells whether what must come of it does.
-fn comes_true(staffed: &mut Staffed, step: Step) -> bool {
+fn comes_true(staffed: &mut Staffed, step: Step) -> bool
+    ensures { staffed.new.shape ≡ staffed.old.shape }
+{
     match step {
         Step::Calls(worker, call, reply) => staffed.reply_with(worker, call) == reply,
         Step::Looks(worker, (class, block), state) => {
@@ -211,18 +222,29 @@ fn comes_true(staffed: &mut Staffed, step: Step) -> bool {
     }
 }
 
-/// Takes the steps of a case, and tells whether all comes of them that must.
-fn come_true(alloc: Global, case: &Case) -> Result<bool, LedgerFault> {
+/// A ledger on which the steps of a case were taken, if all came of them that must.
+fn ledger_after(alloc: Global, case: &Case) -> Result<Option<Staffed>, LedgerFault>
+    ensures { IfOk result (λ staffed. IfSome staffed (λ it. it.shape ≡ case.shape)) }
+{
     let mut staffed = Staffed::new(alloc, case.shape)?;
     for step in case.steps {
         if let Step::Meet = step {
             staffed = staffed.where_two_met(alloc)?;
         }
         if !comes_true(&mut staffed, *step) {
-            return Ok(false);
+            return Ok(None);
         }
     }
-    Ok(true)
+    Ok(Some(staffed))
+}
+
+/// Whether all comes of the steps of a case that must, also once the ledger is closed.
+fn come_true(alloc: Global, case: &Case) -> Result<bool, LedgerFault> {
+    let Some(staffed) = ledger_after(alloc, case)? else {
+        return Ok(false);
+    };
+    let closed = staffed.close(alloc)?;
+    Ok(has_states(case.shape, &closed, case.states))
 }
 
 #[test]

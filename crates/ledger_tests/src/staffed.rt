@@ -67,7 +67,9 @@ impl Staffed {
     }
 
     /// What the seat of this worker finds at a piece that there is.
-    pub(crate) fn look(&mut self, worker: u32, class: u32, block: u32) -> Option<PieceState> {
+    pub(crate) fn look(&mut self, worker: u32, class: u32, block: u32) -> Option<PieceState>
+        ensures { self.new.shape ≡ self.old.shape }
+    {
         let seat = self.seats.get_mut(worker as usize)?;
         if class >= self.shape.classes || block >= self.shape.tests.div_ceil(64) {
             return None;
@@ -76,7 +78,9 @@ impl Staffed {
     }
 
     /// The same where the seats of two workers, the only ones, have met.
-    pub(crate) fn where_two_met(self, alloc: Global) -> Result<Staffed, LedgerFault> {
+    pub(crate) fn where_two_met(self, alloc: Global) -> Result<Staffed, LedgerFault>
+        ensures { IfOk result (λ staffed. staffed.shape ≡ self.shape) }
+    {
         let Staffed {
             shape,
             ledger,

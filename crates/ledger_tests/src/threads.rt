@@ -210,10 +210,15 @@ fn closed_after<R: Threads + Sync>(
 }
 
 /// Whether workers in threads leave a ledger of this shape as it must be, whose pieces are hits in
-/// 3 of 16 cases.
-fn agree<R: Threads + Sync>(rt: &R, alloc: Global, shape: Shape) -> Result<bool, LedgerFault> {
+/// `density` of 16 cases.
+fn agree<R: Threads + Sync>(
+    rt: &R,
+    alloc: Global,
+    shape: Shape,
+    density: u64,
+) -> Result<bool, LedgerFault> {
     let blocks = shape.tests.div_ceil(64);
-    let run = Run::new(alloc, shape.classes, blocks, shape.workers, 3)?;
+    let run = Run::new(alloc, shape.classes, blocks, shape.workers, density)?;
     let closed = closed_after(rt, alloc, shape, &run)?;
     Ok(are_settled(&run, &closed, shape.classes))
 }
@@ -227,5 +232,19 @@ const LARGE: Shape = Shape {
 
 #[test]
 fn many_threads_agree_with_the_outcomes(rt: HostRuntime) {
-    assert!(rt; agree(&rt, rt.alloc(), LARGE) == Ok(true));
+    assert!(rt; agree(&rt, rt.alloc(), LARGE, 3) == Ok(true));
+}
+
+/// Two classes on two blocks.
+const SMALL: Shape = Shape {
+    classes: 2,
+    tests: 128,
+    workers: 4,
+};
+
+/// No piece is a hit, so each of the four is claimed once and then clear, and each class is settled
+/// at no test.
+#[test]
+fn four_threads_report_four_pieces_as_clear(rt: HostRuntime) {
+    assert!(rt; agree(&rt, rt.alloc(), SMALL, 0) == Ok(true));
 }

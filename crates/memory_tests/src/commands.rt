@@ -3,9 +3,8 @@
 use crate::merges::{FIRST, REPORT, SECOND};
 use crate::sweep::{Outcome, Trial, answered, refused, sweep};
 use crate::texts::Screen;
+use crate::written::LISTING;
 use command_line::{Source, SourceFault, run_words};
-use fault_model::Model;
-use report::{SimFault, listing_bytes};
 use std::alloc::Global;
 use std::process::Abort;
 use std::sync::Wait;
@@ -56,21 +55,19 @@ impl<R: Threads + Wait> Trial for Commanded<'_, R> {
 }
 
 /// Tries the listing of C17 with no memory and then with more and more.
-fn sweep_listing<R: Threads + Wait + Abort>(rt: &R, alloc: Global) -> Result<(), SimFault> {
-    let listing = listing_bytes(alloc, Model::StuckAt, C17)?;
+fn sweep_listing<R: Threads + Wait + Abort>(rt: &R, alloc: Global) {
     let listed = Commanded {
         rt,
         words: &["faultsim", "faults", "--bench", "bench"],
-        text: listing.as_slice(),
+        text: LISTING,
         refusal: "faultsim: out of memory\n",
     };
     sweep(rt, alloc, &listed);
-    Ok(())
 }
 
 #[test]
 fn command_lines_say_that_memory_is_out(rt: HostRuntime) {
-    assert!(rt; sweep_listing(&rt, rt.alloc()).is_ok());
+    sweep_listing(&rt, rt.alloc());
 }
 
 /// Tries a merge of two part texts with no memory and then with more and more.

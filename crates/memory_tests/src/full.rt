@@ -5,77 +5,53 @@ ghost use Rattle.block_sim.specs.Parts.{HasRoom};
 ghost use Rattle.workers.specs.Settling.{IsShapeOf};
 
 use crate::ballast::Ballast;
-use crate::parts::{c17_job, tests_of_c17};
+use crate::parts::c17_job;
 use crate::runs::is_right;
 use crate::texts::Screen;
+use crate::written::{LISTING, REPORT};
 use block_sim::{Job, Workspace, first_hit, simulate};
 use fault_ledger::{Claim, Finish, Ledger, LedgerFault, Seat, SharedLedger};
-use fault_model::Model;
-use report::{
-    Contents, Lines, RunFault, SimFault, job_of, listing_bytes, report_bytes, write_listing,
-    write_report,
-};
+use report::{Contents, Lines, RunFault, SimFault, write_listing, write_report};
 use std::alloc::{AllocError, Global};
 use std::sync::Wait;
 use std::thread::Threads;
-use worked_circuits::C17;
 use workers::{End, OpenGate, Verdicts, run, run_schedule, work};
 
-/// Whether the report of a job is written so.
-fn is_reported(job: &Job, verdicts: &Verdicts, report: &[u8]) -> bool {
+/// Whether the report of a job of C17 is written so.
+fn is_reported(job: &Job, verdicts: &Verdicts) -> bool {
     if verdicts.total() != job.faults().count() {
         return false;
     }
     let mut screen = Screen::new();
     let written = write_report(job, verdicts, Contents::of(Lines::All), &mut screen);
-    written.is_ok() && screen.text() == report
+    written.is_ok() && screen.text() == REPORT
 }
 
-/// Whether the listing of a job is written so.
-fn is_listed(job: &Job, listing: &[u8]) -> bool {
+/// Whether the listing of a job of C17 is written so.
+fn is_listed(job: &Job) -> bool {
     let mut screen = Screen::new();
     let written = write_listing(job.circuit(), job.faults(), job.classes(), &mut screen);
-    written.is_ok() && screen.text() == listing
+    written.is_ok() && screen.text() == LISTING
 }
 
 /// Whether both are, with no memory left.
-fn are_written(
-    alloc: Global,
-    job: &Job,
-    verdicts: &Verdicts,
-    report: &[u8],
-    listing: &[u8],
-) -> Result<bool, AllocError> {
+fn are_written(alloc: Global, job: &Job, verdicts: &Verdicts) -> Result<bool, AllocError> {
     let ballast = Ballast::all(alloc)?;
-    let are_written = is_reported(job, verdicts, report) && is_listed(job, listing);
+    let are_written = is_reported(job, verdicts) && is_listed(job);
     drop(ballast);
     Ok(are_written)
 }
 
-/// Whether both texts of a job, whose report is this, are written so.
-fn writes_both(alloc: Global, job: &Job, report: &[u8]) -> Result<bool, SimFault> {
-    let listing = listing_bytes(alloc, Model::StuckAt, C17)?;
-    let verdicts = run_schedule(alloc, job, 2, &[])?;
-    Ok(are_written(alloc, job, &verdicts, report, listing.as_slice())?)
-}
-
-/// Whether both texts of the job of C17 under these tests are.
-fn writes_under<R: Threads + Wait>(rt: &R, alloc: Global, tests: &[u8]) -> Result<bool, SimFault> {
-    let all = Contents::of(Lines::All);
-    let report = report_bytes(rt, alloc, Model::StuckAt, C17, tests, 1, all)?;
-    let job = job_of(alloc, Model::StuckAt, C17, tests)?;
-    writes_both(alloc, &job, report.as_slice())
-}
-
-/// Whether they are under its 65 tests.
-fn writes_all<R: Threads + Wait>(rt: &R, alloc: Global) -> Result<bool, SimFault> {
-    let tests = tests_of_c17(alloc)?;
-    writes_under(rt, alloc, tests.as_slice())
+/// Whether both texts of C17 under its 65 tests are written so.
+fn writes_both(alloc: Global) -> Result<bool, SimFault> {
+    let job = c17_job(alloc)?;
+    let verdicts = run_schedule(alloc, &job, 2, &[])?;
+    Ok(are_written(alloc, &job, &verdicts)?)
 }
 
 #[test]
 fn reports_are_written(rt: HostRuntime) {
-    assert!(rt; writes_all(&rt, rt.alloc()) == Ok(true));
+    assert!(rt; writes_both(rt.alloc()) == Ok(true));
 }
 
 /// Claims a piece, and drops it, else simulates it twice and reports. Says whether all went well.

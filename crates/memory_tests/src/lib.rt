@@ -22,3 +22,5 @@ mod runs;
 mod sweep;
 #[cfg(test)]
 mod texts;
+#[cfg(test)]
+mod written;

@@ -4,10 +4,10 @@
 use crate::parts::{MEANS, Making, PARTS, Setting, tests_of_c17};
 use crate::runs::{Scheduled, Threaded};
 use crate::sweep::once;
-use crate::texts::{CALLS, Written, text_of};
+use crate::texts::{CALLS, Written};
 use block_sim::Job;
 use fault_model::Model;
-use report::{Contents, Lines, SimFault, job_of, listing_bytes, report_bytes};
+use report::{SimFault, job_of};
 use std::alloc::Global;
 use std::process::Abort;
 use std::sync::Wait;
@@ -28,23 +28,10 @@ fn make_means<R: Abort>(rt: &R, alloc: Global, job: &Job) {
     }
 }
 
-/// The text calls, and what they write.
-fn write_texts<R: Threads + Wait + Abort>(
-    rt: &R,
-    alloc: Global,
-    tests: &[u8],
-    report: &[u8],
-    listing: &[u8],
-) {
+/// The text calls.
+fn write_texts<R: Threads + Wait + Abort>(rt: &R, alloc: Global, tests: &[u8]) {
     for call in CALLS {
-        let text = text_of(call, report, listing);
-        let written = Written {
-            rt,
-            call,
-            tests,
-            text,
-        };
-        once(rt, alloc, &written);
+        once(rt, alloc, &Written { rt, call, tests });
     }
 }
 
@@ -52,29 +39,6 @@ fn write_texts<R: Threads + Wait + Abort>(
 fn make_runs<R: Threads + Wait + Abort>(rt: &R, alloc: Global, job: &Job) {
     once(rt, alloc, &Scheduled { job });
     once(rt, alloc, &Threaded { rt, job });
-}
-
-/// Makes the text calls, whose report is this.
-fn write_with_listing<R: Threads + Wait + Abort>(
-    rt: &R,
-    alloc: Global,
-    tests: &[u8],
-    report: &[u8],
-) -> Result<(), SimFault> {
-    let listing = listing_bytes(alloc, Model::StuckAt, C17)?;
-    write_texts(rt, alloc, tests, report, listing.as_slice());
-    Ok(())
-}
-
-/// Makes the text calls.
-fn write_all<R: Threads + Wait + Abort>(
-    rt: &R,
-    alloc: Global,
-    tests: &[u8],
-) -> Result<(), SimFault> {
-    let all = Contents::of(Lines::All);
-    let report = report_bytes(rt, alloc, Model::StuckAt, C17, tests, 1, all)?;
-    write_with_listing(rt, alloc, tests, report.as_slice())
 }
 
 /// Makes the calls on a job.
@@ -93,7 +57,7 @@ fn make_all<R: Threads + Wait + Abort>(
 /// Makes each call.
 fn call_each<R: Threads + Wait + Abort>(rt: &R, alloc: Global) -> Result<(), SimFault> {
     let tests = tests_of_c17(alloc)?;
-    write_all(rt, alloc, tests.as_slice())?;
+    write_texts(rt, alloc, tests.as_slice());
     make_all(rt, alloc, tests.as_slice())
 }
 

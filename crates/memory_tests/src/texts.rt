@@ -4,13 +4,14 @@ ghost use Rattle.std.specs.Prelude.{◌≤◌};
 
 use crate::parts::{ORDER, is_want, tests_of_c17};
 use crate::sweep::{Outcome, Trial, answered, refused, sweep};
+use crate::written::{LISTING, REPORT};
 use fault_model::Model;
 use report::{
     Contents, Lines, Out, OutFailed, RunFault, SimFault, compact_text_in, curve_text_in,
-    detections_text_in, faults_text, listing_bytes, report_bytes, responses_text_in, schedule_text,
-    simulate_text, simulate_text_in_parts,
+    detections_text_in, faults_text, responses_text_in, schedule_text, simulate_text,
+    simulate_text_in_parts,
 };
-use std::alloc::Global;
+use std::alloc::{AllocError, Global};
 use std::process::Abort;
 use std::sync::Wait;
 use std::thread::Threads;
@@ -100,11 +101,11 @@ const RESPONSES: &[u8] = b"\
     10\n10\n10\n10\n10\n10\n10\n10\n10\n10\n10\n10\n10\n10\n10\n10\n\
     00\n";
 
-/// What a text call on C17 writes, of its report and its listing.
-pub(crate) fn text_of<'a>(call: TextCall, report: &'a [u8], listing: &'a [u8]) -> &'a [u8] {
+/// What a text call on C17 writes.
+fn text_of(call: TextCall) -> &'static [u8] {
     match call {
-        TextCall::Simulate | TextCall::InParts | TextCall::Schedule => report,
-        TextCall::Faults => listing,
+        TextCall::Simulate | TextCall::InParts | TextCall::Schedule => REPORT,
+        TextCall::Faults => LISTING,
         TextCall::Curve => CURVE,
         TextCall::Detections => TWICE_DETECTED,
         TextCall::Compact => COMPACTED,
@@ -112,13 +113,12 @@ pub(crate) fn text_of<'a>(call: TextCall, report: &'a [u8], listing: &'a [u8]) -
     }
 }
 
-/// A text call on C17, and what it writes.
+/// A text call on C17 under these tests.
 #[derive(Drop)]
 pub(crate) struct Written<'a, R> {
     pub(crate) rt: &'a R,
     pub(crate) call: TextCall,
     pub(crate) tests: &'a [u8],
-    pub(crate) text: &'a [u8],
 }
 
 impl<R: Threads + Wait> Written<'_, R> {
@@ -172,53 +172,23 @@ impl<R: Threads + Wait> Trial for Written<'_, R> {
     fn attempt(&self, alloc: Global) -> Outcome {
         let mut screen = Screen::new();
         match self.write(alloc, &mut screen) {
-            Ok(()) => answered(screen.text() == self.text),
+            Ok(()) => answered(screen.text() == text_of(self.call)),
             Err(fault) => refused(screen.text().is_empty() && self.is_want(fault)),
         }
     }
 }
 
-/// The text calls on C17, each tried with no memory and then with more and more.
-fn sweep_texts<R: Threads + Wait + Abort>(
-    rt: &R,
-    alloc: Global,
-    tests: &[u8],
-    report: &[u8],
-    listing: &[u8],
-) {
-    for call in CALLS {
-        let text = text_of(call, report, listing);
-        let written = Written {
-            rt,
-            call,
-            tests,
-            text,
-        };
-        sweep(rt, alloc, &written);
-    }
-}
-
-/// Tries the text calls, whose report is this.
-fn sweep_with_listing<R: Threads + Wait + Abort>(
-    rt: &R,
-    alloc: Global,
-    tests: &[u8],
-    report: &[u8],
-) -> Result<(), SimFault> {
-    let listing = listing_bytes(alloc, Model::StuckAt, C17)?;
-    sweep_texts(rt, alloc, tests, report, listing.as_slice());
-    Ok(())
-}
-
-/// Tries the text calls.
-fn sweep_all<R: Threads + Wait + Abort>(rt: &R, alloc: Global) -> Result<(), SimFault> {
+/// Tries the text calls on C17 with no memory and then with more and more.
+fn sweep_texts<R: Threads + Wait + Abort>(rt: &R, alloc: Global) -> Result<(), AllocError> {
     let tests = tests_of_c17(alloc)?;
-    let all = Contents::of(Lines::All);
-    let report = report_bytes(rt, alloc, Model::StuckAt, C17, tests.as_slice(), 1, all)?;
-    sweep_with_listing(rt, alloc, tests.as_slice(), report.as_slice())
+    for call in CALLS {
+        let tests = tests.as_slice();
+        sweep(rt, alloc, &Written { rt, call, tests });
+    }
+    Ok(())
 }
 
 #[test]
 fn nothing_is_written_without_memory(rt: HostRuntime) {
-    assert!(rt; sweep_all(&rt, rt.alloc()).is_ok());
+    assert!(rt; sweep_texts(&rt, rt.alloc()).is_ok());
 }

@@ -6,7 +6,7 @@ ghost use Rattle.workers.specs.Settling.{IsShapeOf};
 use crate::fixtures::{BUFFER, C17, C17_FIRSTS, JobText, WIRE, check, has_firsts, job_of};
 use crate::gates::{Counter, Meeting, Roll, Shut, ShutFor, ShutForTwo, TwoByTwo};
 use block_sim::{Job, Workspace};
-use fault_ledger::{Finish, LedgerFault, Seat, SharedLedger};
+use fault_ledger::{Finish, LedgerFault, Seat, SharedLedger, Status};
 use fault_model::Model;
 use jobs::SimFault;
 use std::alloc::{AllocError, Global};
@@ -143,21 +143,18 @@ fn may_stay_open<R: Threads + Wait>(rt: &R, alloc: Global, job: &Job) -> Result<
     )
 }
 
-/// Runs whose gate holds pieces until others have been claimed: the first two until both have been,
-/// and the first until the last has been.
+/// Runs of two workers whose gate holds pieces until others have been claimed: the first two until
+/// both have been, or the first until the last has been.
 fn is_run_by_meeting<R: Threads + Wait + Clock + Sync>(
     rt: &R,
     alloc: Global,
     job: &Job,
     both: bool,
+    firsts: &[Option<u32>],
 ) -> Result<bool, RunFault> {
-    if both {
-        let gate = Meeting::new(rt, (0, 0), (1, 0), true);
-        is_run(rt, alloc, job, 2, &gate, &[None, Some(0)])
-    } else {
-        let gate = Meeting::new(rt, (0, 0), (1, 1), false);
-        is_run(rt, alloc, job, 2, &gate, &BUFFER_FIRSTS)
-    }
+    let second = if both { (1, 0) } else { (1, 1) };
+    let gate = Meeting::new(rt, (0, 0), second, both);
+    is_run(rt, alloc, job, 2, &gate, firsts)
 }
 
 /// A run whose gate holds the four workers until all have come: each has a thread of its own, and
@@ -203,7 +200,7 @@ fn ends_after_two<R: Threads + Wait>(rt: &R, alloc: Global, job: &Job) -> Result
         job,
         1,
         &gate,
-        &[Some(0), Some(1), Some(0), Some(1)],
+        &[Some(1), Some(0), Some(1), Some(0)],
     )?;
     Ok(is_so && gate.pieces() == 2)
 }
@@ -253,28 +250,40 @@ fn in_threads<G: Gate + Sync, R: Threads + Sync>(
     )
 }
 
-/// Whether two seats that come back close their ledger as finished.
-fn is_finished(alloc: Global, ledger: SharedLedger, seats: Vec<Seat>) -> Result<bool, LedgerFault>
-    requires { All (λ seat. seat.place ≡ ledger) seats.items }
+/// Whether two seats that come back close their ledger of two classes with class 0 settled at test
+/// 64, and class 1 at test 0.
+fn is_settled(alloc: Global, ledger: SharedLedger, seats: Vec<Seat>) -> Result<bool, LedgerFault>
+    requires classes { ledger.shape.classes ≡ 2 }
+    requires places { All (λ seat. seat.place ≡ ledger) seats.items }
 {
     if seats.len() != 2 {
         return Ok(false);
     }
     let closed = ledger.close(alloc, seats)?;
-    Ok(closed.finished() == Finish::Finished)
+    Ok(
+        closed.finished() == Finish::Finished
+            && closed.status(0) == Status::Settled(Some(64))
+            && closed.status(1) == Status::Settled(Some(0)),
+    )
 }
 
-/// Lets two threads of the caller's work at one ledger of a job, and says whether they finish it.
+/// Lets two threads of the caller's work at one ledger of the buffer, and says whether they settle
+/// its classes: that of a/0 and z/0, and that of a/1 and z/1. So all four faults are detected.
+///
+/// The first piece is held until the last has been claimed.
 fn is_shared<R: Threads + Sync + Clock>(
     rt: &R,
     alloc: Global,
     job: &Job,
 ) -> Result<bool, LedgerFault> {
     let (classes, tests) = (job.classes().count(), job.tests().count());
+    if classes != 2 || job.faults().count() != 4 {
+        return Ok(false);
+    }
     let (ledger, seats) = SharedLedger::new(alloc, classes, tests, 2)?;
     let gate = Meeting::new(rt, (0, 0), (1, 1), false);
     let seats = in_threads(rt, alloc, job, &ledger, &gate, seats)?;
-    is_finished(alloc, ledger, seats)
+    is_settled(alloc, ledger, seats)
 }
 
 /// What is asked of a job.
@@ -286,7 +295,10 @@ enum Question {
     IsLeftOpen,
     IsLowestNamed,
     MayStayOpen,
-    IsRunByMeeting { both: bool },
+    IsRunByMeeting {
+        both: bool,
+        firsts: &'static [Option<u32>],
+    },
     IsRunByRoll,
     IsRunByResting,
     IsOneSkipped,
@@ -301,7 +313,7 @@ struct Case {
     question: Question,
 }
 
-static CASES: [Case; 13] = [
+static CASES: [Case; 14] = [
     Case {
         name: "c17_by_one_to_64_workers",
         job: C17,
@@ -355,7 +367,22 @@ static CASES: [Case; 13] = [
             bench: WIRE,
             rows: &[("0", 1)],
         },
-        question: Question::IsRunByMeeting { both: true },
+        question: Question::IsRunByMeeting {
+            both: true,
+            firsts: &[None, Some(0)],
+        },
+    },
+    Case {
+        name: "two_workers_hold_a_piece_of_transitions_at_once",
+        job: JobText {
+            model: Model::Transition,
+            bench: BUFFER,
+            rows: &[("0", 64), ("1", 1)],
+        },
+        question: Question::IsRunByMeeting {
+            both: true,
+            firsts: &[Some(64), None, Some(64), None],
+        },
     },
     Case {
         name: "a_worker_goes_on_while_another_is_held",
@@ -364,7 +391,10 @@ static CASES: [Case; 13] = [
             bench: BUFFER,
             rows: &[("0", 64), ("1", 1)],
         },
-        question: Question::IsRunByMeeting { both: false },
+        question: Question::IsRunByMeeting {
+            both: false,
+            firsts: &[Some(64), Some(0), Some(64), Some(0)],
+        },
     },
     Case {
         name: "four_workers_come_to_the_gate",
@@ -398,7 +428,7 @@ static CASES: [Case; 13] = [
         job: JobText {
             model: Model::StuckAt,
             bench: BUFFER,
-            rows: &[("1", 1), ("0", 4_095)],
+            rows: &[("0", 1), ("1", 1), ("0", 4_094)],
         },
         question: Question::EndsAfterTwo,
     },
@@ -427,7 +457,9 @@ fn is_so<R: Threads + Wait + Clock + Sync>(
         Question::IsLeftOpen => Ok(is_left_open(rt, alloc, job)),
         Question::IsLowestNamed => Ok(is_lowest_named(rt, alloc, job)),
         Question::MayStayOpen => may_stay_open(rt, alloc, job),
-        Question::IsRunByMeeting { both } => is_run_by_meeting(rt, alloc, job, both),
+        Question::IsRunByMeeting { both, firsts } => {
+            is_run_by_meeting(rt, alloc, job, both, firsts)
+        }
         Question::IsRunByRoll => is_run_by_roll(rt, alloc, job),
         Question::IsRunByResting => is_run_by_resting(rt, alloc, job),
         Question::IsOneSkipped => is_one_skipped(rt, alloc, job),
