@@ -5,8 +5,8 @@ of the library's calls.
     bench/refusals.py [--program] [--calls] [--built]
     bench/refusals.py --quick PROGRAM
 
-It builds refuse.c with gcc and runs with it, as LD_PRELOAD, the program that `rt run` builds and the
-test `once::each_call_that_was_refused_succeeds_again` that `rt test` builds in crates/memory_tests
+It builds refuse.c with gcc and runs with it, as LD_PRELOAD, the program that `rt run` builds and
+the test `once::each_call_that_was_refused_succeeds_again` that `rt test` builds in memory_tests
 (--built: that stand in out/ already): with the first refused, then with the second and so on, until
 nothing was refused. Each run of the program must end with status 3, `out of memory` or `thread
 refused`, and nothing on standard output (with --format a beginning of the table), or do what it

@@ -1,8 +1,8 @@
 //! What is written of C17, from the table of its faults and a plain simulator of one fault and one
 //! test at a time, which has nothing of this one.
 
-/// The report of C17, with a line for each fault, under 64 tests of ones and then one of zeros. Ones
-/// detect 14 of the 34 faults, and zeros 5 more.
+/// The report of C17, with a line for each fault, under 64 tests of ones and then one of zeros.
+/// Ones detect 14 of the 34 faults, and zeros 5 more.
 pub(crate) const REPORT: &[u8] = b"\
     stem G1 sa0 0\n\
     stem G1 sa1 none\n\
