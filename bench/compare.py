@@ -1,16 +1,20 @@
 #!/usr/bin/env python3
 """Times `faultsim` against a C++ simulator of the same job, and checks that all write the same.
 
-    bench/compare.py [--hard] [--workers] [--counts] [--model M] [--rounds N] [--only WORD] [--built]
+    bench/compare.py [--designs] [--hard] [--workers] [--counts] [--model M] [--rounds N]
+                     [--only WORD] [--processor] [--program FILE | --built]
 
 It builds baseline.cpp with g++ and the program with `rt run`, makes circuits and tests with
-generate.py in a temporary folder, and runs in turn the program, the baseline by events, and the
-baseline by regions with all of its options (`--algorithm regions --prune --groups`). For each case it
-prints the ratios of the least times: ours beside the baseline by events, beside the baseline by
-regions, and beside the baseline with --no-trim, which looks at whole blocks; and the most memory that
-ours and the baseline by events had. Times depend on the machine, so their ratios alone are printed.
+generate.py in a temporary folder (circuits of designs/ are unpacked), and runs in turn the program,
+the baseline by events, the baseline by regions with all of its options (`--algorithm regions --prune
+--groups`), and the baseline by packs (`--algorithm packs`), which has one worker alone. For each case
+it prints the ratios of the least times: ours beside the baseline by events, by regions, by packs, and
+with --no-trim, which looks at whole blocks; and the most memory that ours and the baseline by events
+had. Times depend on the machine, so their ratios alone are printed. With --processor they are of
+processor time, which says more where the machine has something else to do.
 
-Without an option it runs the short cases, and with --hard the long ones. With --workers it runs the
+Without an option it runs the short cases, with --hard the long ones, and with --designs those of
+designs/: real designs, and structured circuits from Verilog. With --workers it runs the
 cases for several workers, each with 1, 2 and 4 against the baseline with as many, and prints how much
 faster each program is than its own run with 1 worker: as a whole, and in the simulation alone. Of the
 program that is the time from the start of its first thread to the end of its last (threads.c), of the
@@ -20,13 +24,14 @@ something else. And it runs as many programs of one worker at once, which share 
 machine: how much faster these are, together, is the most that a run with so many workers can be
 expected to be.
 
-With --counts it prints how many gates the baseline evaluates by events and by regions, and what part of
-the first number the second is. These depend on no machine, and the program isn't built for them.
+With --counts it prints how many gates the baseline evaluates by events, and what part of that number
+it evaluates by regions and by packs. These depend on no machine, and the program isn't built for them.
 --only takes the name of any case, or a part of a title. --built takes the program that stands in
-out/ already.
+out/ already, and --program another one.
 """
 
 import argparse
+import lzma
 import os
 import pathlib
 import re
@@ -45,7 +50,7 @@ PROGRAM = CRATE / "out" / "faultsim"
 class Case(NamedTuple):
     name: str
     title: str
-    circuit: str        # words for generate.py
+    circuit: str        # words for generate.py, or `design` and a name of designs/
     tests: int = 0      # how many; 0 for the listing
     line: str = ""      # a line that is added to the circuit
 
@@ -90,11 +95,29 @@ HARD_CASES = [
     Case("W", "W: as V with 1,636 flip-flops, 8,192 tests", DEEP + " --ffs 1636", 8192),
 ]
 
+# With --designs: circuits that were written in Verilog (designs/README.md), under random tests.
+DESIGN_CASES = [
+    Case("c880", "c880 of ISCAS-85, 361 gates, 1,024 tests", "design c880", 1024),
+    Case("c880long", "c880 of ISCAS-85, 361 gates, 4,096 tests", "design c880", 4096),
+    Case("simpleuart", "simpleuart, a serial port, 1,024 tests", "design simpleuart", 1024),
+    Case("simpleuartlong", "simpleuart, a serial port, 4,096 tests", "design simpleuart", 4096),
+    Case("picorv32", "picorv32, a RISC-V processor, 1,024 tests", "design picorv32", 1024),
+    Case("picorv32long", "picorv32, a RISC-V processor, 4,096 tests", "design picorv32", 4096),
+    Case("picosoc", "picosoc, a system around it, 1,024 tests", "design picosoc", 1024),
+    Case("picosoclong", "picosoc, a system around it, 4,096 tests", "design picosoc", 4096),
+    Case("alu32", "alu32: an arithmetic unit of 32 bits, 2,048 tests", "design alu32", 2048),
+    Case("sha", "sha: two rounds of SHA-256, 512 tests", "design sha", 512),
+    Case("cpu", "cpu: a processor of four stages, 4,096 tests", "design cpu", 4096),
+    Case("xbar", "xbar: a crossbar of eight ports, 2,048 tests", "design xbar", 2048),
+    Case("aes", "aes: one round of AES, 1,024 tests", "design aes", 1024),
+]
+
 # With --workers, where --only names no other.
 WORKER_CASES = ("c17", "ecc32long", "mult16long", "r22klong", "r100kshort")
 WORKERS = (1, 2, 4)
 
 REGIONS = ["--algorithm", "regions", "--prune", "--groups"]
+PACKS = ["--algorithm", "packs"]
 
 
 def run(words, **options):
@@ -116,7 +139,11 @@ def build(folder, built=False):
 
 def generated(folder, name, words, more=""):
     path = folder / name
-    path.write_bytes(run([sys.executable, str(HERE / "generate.py"), *words]) + more.encode())
+    if words[0] == "design":
+        made = lzma.decompress((HERE / "designs" / f"{words[1]}.bench.xz").read_bytes())
+    else:
+        made = run([sys.executable, str(HERE / "generate.py"), *words])
+    path.write_bytes(made + more.encode())
     return str(path)
 
 
@@ -164,12 +191,16 @@ def compare(folder, baseline, case, options, whole_blocks):
         ours += ["--workers", "1"]
         events += ["--workers", "1"]
         ways["by regions"] = [*events, *REGIONS]
+        ways["by packs"] = [*events, *PACKS]
         if whole_blocks:
             ways["with --no-trim"] = [*events, "--no-trim"]
     least, expected = {}, None
     for _ in range(options.rounds):
         for way, command in ways.items():
+            before = processor_time()
             took, out = timed(command)
+            if options.processor:
+                took = processor_time() - before
             expected = expected or out
             if out != expected:
                 sys.exit(f"{case.title}: the reports differ")
@@ -257,12 +288,14 @@ def line_of(series, ways, workers):
 def count(folder, baseline, case, options):
     words = [str(baseline), *words_of(folder, case, options.model), "--workers", "1", "--time"]
     counts = []
-    for more in ([], REGIONS):
+    for more in ([], REGIONS, PACKS):
         told = subprocess.run([*words, *more], stdout=subprocess.DEVNULL, stderr=subprocess.PIPE, text=True)
         if told.returncode != 0:
             return print(f"{case.name}, {case.title}: {told.stderr.splitlines()[-1]}", flush=True)
         counts.append(int(re.search(r"gate evaluations ([0-9]+)", told.stderr)[1]))
-    print(f"{case.name}, {case.title}: {counts[0]:,} by events, {counts[1] / counts[0]:.3f} of it by regions", flush=True)
+    events, regions, packs = counts
+    parts = f"{regions / events:.3f} of it by regions, {packs / events:.3f} by packs"
+    print(f"{case.name}, {case.title}: {events:,} by events, {parts}", flush=True)
 
 
 def processor_time():
@@ -278,10 +311,18 @@ def main():
     parser.add_argument("--hard", action="store_true")
     parser.add_argument("--workers", action="store_true")
     parser.add_argument("--counts", action="store_true")
+    parser.add_argument("--designs", action="store_true")
+    parser.add_argument("--processor", action="store_true")
     parser.add_argument("--built", action="store_true")
+    parser.add_argument("--program", type=pathlib.Path, default=None)
     options = parser.parse_args()
-    cases = CASES + HARD_CASES
-    if options.workers and not options.only:
+    if options.program:
+        global PROGRAM
+        PROGRAM, options.built = options.program.resolve(), True
+    cases = CASES + HARD_CASES + DESIGN_CASES
+    if options.designs and not options.only:
+        cases = DESIGN_CASES
+    elif options.workers and not options.only:
         cases = [case for case in cases if case.name in WORKER_CASES]
     elif not options.counts and not options.only:
         cases = HARD_CASES if options.hard else CASES
