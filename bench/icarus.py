@@ -201,8 +201,9 @@ def main():
         if bits != good:
             print("the fault-free bits differ")
             differ += 1
-    print(f"{len(lines)} faults under {len(rows)} tests, of a list with {coverage}, and "
-          f"{len(good) * circuit.observers} fault-free bits: {differ} differences")
+    bits = len(good) * circuit.observers
+    print(f"{len(lines)} faults and {bits} fault-free bits under {len(rows)} tests, which detect")
+    print(f"{coverage}: {differ} differences")
     sys.exit(1 if differ else 0)
 
 
