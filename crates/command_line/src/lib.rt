@@ -21,6 +21,6 @@ mod status;
 
 pub use arguments::run_arguments;
 pub use command::run_words;
-pub use options::{MODELS, model_named};
+pub use options::{MODELS, VERSION, model_named};
 pub use source::{Files, Source, SourceFault, Stream};
 pub use status::status_of;

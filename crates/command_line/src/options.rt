@@ -14,8 +14,8 @@ pub(crate) const MAX_PARTS: u32 = 65_536;
 /// The greatest number of tests that are counted of a fault.
 const MAX_DETECTIONS: u32 = 65_536;
 
-/// What `--version` tells.
-const VERSION: &str = "0.2.0";
+/// The version that `faultsim --version` and `faultgen --version` print.
+pub const VERSION: &str = "0.3.0";
 
 /// What the program can be asked to do.
 #[derive(Clone, Copy)]

@@ -1,13 +1,10 @@
 //! The command line of `faultgen`: options and their help.
 
 use clap::{Arg, Command, value_parser};
-use command_line::MODELS;
+use command_line::{MODELS, VERSION};
 use patterns::MAX_TESTS;
 use report::MAX_WORKERS;
 use std::alloc::{AllocError, Global};
-
-/// What `--version` tells.
-const VERSION: &str = "0.2.0";
 
 /// What is said after the long help.
 const ABOUT: &str = "\
