@@ -458,6 +458,40 @@ verdict_there job classes firsts found table b all by is i class first at v =
         let y = all.all class lt tt in
         absurd (x.0 y.0 (slice_get_within classes y.0 class y.1) y.1)
 
+-- so is each verdict of a part that is not of another part
+pub part_verdict_there : (job : Parts) (classes : List ℕ) (firsts : List (Option ℕ))
+    (table verdicts : List PartVerdict) → BelongTogether job
+    → AreClassVerdicts (length job.classes.representative) classes firsts (length classes) table
+    → verdicts ≡ map (λ class. get_or table class OtherPart) job.classes.class_of
+    → (i class : ℕ) (first : Option ℕ) → slice_get job.classes.class_of i ≡ Some class
+    → slice_get verdicts i ≡ Some (First first)
+    → (k : ℕ) × (slice_get classes k ≡ Some class) × (slice_get firsts k ≡ Some first)
+part_verdict_there job classes firsts table verdicts b by is i class first at v =
+    let x = from_mapped g job.classes.class_of i (First first)
+    (ap (λ (l : List PartVerdict). slice_get l i) (sym is) ∙ v) in
+    let both : Some x.0 ≡ Some class = sym x.1 ∙ at in
+    let one : x.0 ≡ class = cc in
+    go (ap g (sym one) ∙ x.2) (by.each class lt)
+  where
+    g : ℕ → PartVerdict
+    g class = get_or table class OtherPart
+
+    lt : class < length job.classes.representative
+    lt = class_in job (shape_for job 1) i class b (record { classes = refl; tests = refl }) at
+
+    go : g class ≡ First first
+        → IsClassVerdict classes firsts (length classes) class (slice_get table class)
+        → (k : ℕ) × (slice_get classes k ≡ Some class) × (slice_get firsts k ≡ Some first)
+    go e (inl x) =
+        let own = get_or_from_slice_get table class (First x.1) OtherPart x.5 in
+        let same : First x.1 ≡ First first = sym own ∙ e in
+        let first_is : x.1 ≡ first = ap first_in same in
+        (x.0, x.3, x.4 ∙ ap Some first_is)
+    go e (inr x) =
+        let own = get_or_from_slice_get table class OtherPart OtherPart x.1 in
+        let bad : OtherPart ≡ First first = sym own ∙ e in
+        absurd (cc)
+
 -- and the pieces behind them are behind the hits of all classes
 pub all_hits : (job : Parts) (classes : List ℕ)
     (firsts : List (Option ℕ)) (table : List PartVerdict) (n skipped : ℕ)

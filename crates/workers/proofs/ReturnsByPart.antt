@@ -229,3 +229,13 @@ apart_more {E} {Z} back seats dones served own same was = record {
       sym a.1,
       ap (λ (v : Vec Done Z). v.items) (sym b.1) ∙ same,
     )
+
+-- what stands in a list at the next place
+pub next_place : {X : Type 0} (yielded rest all items : List X) (place : X) (part : ℕ)
+    → length yielded ≡ part → yielded ++ items ≡ all → items ≡ place ∷ rest
+    → slice_get all part ≡ Some place
+next_place {X} yielded rest all items place part count order step =
+    subst (λ n. slice_get all n ≡ Some place) count
+    (subst (λ (l : List X). slice_get l (length yielded) ≡ Some place)
+    (ap (λ (l : List X). yielded ++ l) (sym step) ∙ order)
+    (between_others yielded rest place))

@@ -1,29 +1,29 @@
 -- The runs of parts, one part after another.
-use Rattle.std.proofs.Common.{◌≡◌, ◌≢◌, ◌<◌, ◌≤◌, ◌+◌, ◌*◌, ◌⊎◌, inl, inr, true, false, ℕ, zero, suc}
+use Rattle.std.proofs.Common.{◌≡◌, ◌<◌, ◌+◌, ◌*◌, ◌⊎◌, inl, inr, ℕ, zero, suc}
 use Rattle.std.proofs.Common.{List, [], ◌∷◌, ◌++◌, length, All, Option, Some, None, refl, sym, ap}
-use Rattle.std.proofs.Common.{◌∙◌, subst, arith, length-append}
-use Rattle.std.specs.Prelude.{slice_get, nat_lt, if◌then◌else◌}
-use Rattle.std.proofs.lemmas.Bool.{cases_lt}
-use Rattle.std.proofs.Math.Nat.{zero-mul}
+use Rattle.std.proofs.Common.{◌∙◌, subst, arith, append-nil}
+use Rattle.std.specs.Prelude.{slice_get}
 use Rattle.std.proofs.lemmas.Option.{get_or_from_slice_get, slice_get_within}
 use Rattle.patterns.specs.Least.{least}
 use Rattle.patterns.specs.Tests.{blocks}
 use Rattle.block_sim.specs.First.{IsFirst}
 use Rattle.block_sim.specs.Parts.{Parts, BelongTogether}
 use Rattle.block_sim.proofs.Public.{least_is_first, true_table}
+use Rattle.lists.proofs.Places.{within_place}
 use Rattle.workers.specs.declared.alone.Stop.{Stop}
 use Rattle.workers.specs.declared.alone.Waiting.{Waiting}
 use Rattle.workers.specs.declared.taken.Done.{Done}
-use Rattle.workers.specs.Alone.{AreFoundByPart, AreFoundUpTo, AreRunsOf, HasEnded, IsDone, IsLowest}
-use Rattle.workers.specs.Alone.{IsOpenIn, IsStopAt, IsUnbegun, IsWholeAt, MayStop, NoneBegan}
-use Rattle.workers.specs.Alone.{PartRun, StretchesWaitFor, WaitsIn, at_first, lower_of}
+use Rattle.workers.specs.Alone.{AreAllFound, AreAllLowest, AreAllStopped, AreFoundByPart}
+use Rattle.workers.specs.Alone.{AreFoundUpTo, AreRunsOf, AreWhole, HasEnded, HasRunSo}
+use Rattle.workers.specs.Alone.{IsFoundAt, IsLowest, IsLowestAt, IsLowestIn, IsOpenIn, IsStopAt}
+use Rattle.workers.specs.Alone.{IsWholeAt, PartRun, StretchesWaitFor, WaitsIn, at_first, lower_of}
+use Rattle.workers.specs.Alone.{run_at, runs_from, unbegun_run}
 use Rattle.workers.specs.Part.{stretch}
 use Rattle.workers.specs.Rank.{IsCutOf}
 use Rattle.workers.specs.Verdict.{AreClassFirsts}
 use Rattle.workers.specs.Work.{Stops}
 use Rattle.workers.proofs.ReturnsByPart.{kept, last_of}
-use Rattle.workers.proofs.PartsOfClasses.{FirstsUpTo, firsts_all, firsts_more, firsts_none}
-use Rattle.workers.proofs.PartsOfClasses.{stretch_within}
+use Rattle.workers.proofs.PartsOfClasses.{FirstsUpTo, firsts_more, stretch_within}
 use Rattle.workers.proofs.ClassRanks.{pushed}
 use Rattle.workers.proofs.LoneWorkers.{done_high, lowest_along, lowest_join}
 
@@ -65,67 +65,70 @@ pub none_open : (job : Parts) (classes : List ℕ) (lowest : Option Waiting)
 none_open job classes None is = refl
 none_open job classes (Some w) is = absurd is.0
 
--- ---- all parts
+-- ---- the runs of which a table tells
 
--- what the first so many parts are together
-pub record IsGathered (job : Parts) (size : ℕ) (classes : List ℕ) (workers : ℕ)
-    (passing : Type 0) (stops : Stops) (part : ℕ)
-    (firsts : List (Option ℕ)) (lowest : Option Waiting) : Type 0 where
-  pub runs : List PartRun
-  pub are : AreRunsOf job size classes workers stops part runs
-  pub is_lowest : IsLowest (WaitsIn job runs) lowest
-  pub passed : passing → lowest ≡ None
-  pub found : lowest ≡ None → FirstsUpTo job classes (part * size) firsts
+-- one more
+pub runs_push : (size : ℕ) (classes : List ℕ) (part : ℕ) (table : List (Option Done))
+    (place : Option Done) → runs_from size classes part (table ++ place ∷ [])
+    ≡ runs_from size classes part table
+    ++ run_at (stretch size classes (part + length table)) place ∷ []
+runs_push size classes part [] place =
+    let same : part ≡ part + 0 = omega arith in
+    ap (λ n. run_at (stretch size classes n) place ∷ []) same
+runs_push size classes part (x ∷ table) place =
+    let same : part + 1 + length table ≡ part + suc (length table) = omega arith in
+    ap (λ l. run_at (stretch size classes part) x ∷ l)
+    (runs_push size classes (part + 1) table place
+    ∙ ap (λ n. runs_from size classes (part + 1) table
+    ++ run_at (stretch size classes n) place ∷ []) same)
 
--- of no part
-pub gathered_none : (job : Parts) (size : ℕ) (classes : List ℕ) (workers : ℕ)
-    (P : Type 0) (S : Stops) (firsts : List (Option ℕ)) → firsts ≡ []
-    → IsGathered job size classes workers P S 0 firsts None
-gathered_none job size classes workers P S firsts empty = record {
-  runs = [];
-  are = record { count = refl; each = λ part run e. let bad : None ≡ Some run = e in absurd (cc) };
-  is_lowest = λ c b x. let bad : None ≡ Some x.1 = x.2 in absurd (cc);
-  passed = λ p. refl;
-  found = λ e. subst (λ n. FirstsUpTo job classes n firsts) (sym (zero-mul size))
-      (subst (FirstsUpTo job classes 0) (sym empty) (firsts_none job classes));
-}
+-- as many as there are places
+pub runs_count : (size : ℕ) (classes : List ℕ) (part : ℕ) (table : List (Option Done))
+    → length (runs_from size classes part table) ≡ length table
+runs_count size classes part [] = refl
+runs_count size classes part (x ∷ table) = ap suc (runs_count size classes (part + 1) table)
 
--- where one of two waits, there is a lowest
-lower_none : (f s : Option Waiting) → lower_of f s ≡ None → (f ≡ None) × (s ≡ None)
-lower_none None s e = (refl, e)
-lower_none (Some v) None e = let bad : Some v ≡ None = e in absurd (cc)
-lower_none (Some v) (Some w) e = pick (nat_lt w.class v.class) e
-  where
-    pick : (t : _) → (if t then Some w else Some v) ≡ None → (Some v ≡ None) × (Some w ≡ None)
-    pick true bad = absurd (cc)
-    pick false bad = absurd (cc)
+-- that of a place
+run_from : (size : ℕ) (classes : List ℕ) (part : ℕ) (table : List (Option Done)) (k : ℕ)
+    (place : Option Done) → slice_get table k ≡ Some place
+    → slice_get (runs_from size classes part table) k
+    ≡ Some (run_at (stretch size classes (part + k)) place)
+run_from size classes part [] k place e = let bad : None ≡ Some place = e in absurd (cc)
+run_from size classes part (x ∷ table) zero place e =
+    let same : x ≡ place = cc in
+    let here : part ≡ part + 0 = omega arith in
+    ap (λ p. Some (run_at (stretch size classes part) p)) same
+    ∙ ap (λ n. Some (run_at (stretch size classes n) place)) here
+run_from size classes part (x ∷ table) (suc k) place e =
+    let here : part + 1 + k ≡ part + suc k = omega arith in
+    run_from size classes (part + 1) table k place e
+    ∙ ap (λ n. Some (run_at (stretch size classes n) place)) here
 
--- one run more
-runs_more : (job : Parts) (size : ℕ) (classes : List ℕ) (workers part : ℕ) (S : Stops)
-    (runs : List PartRun) (run : PartRun)
-    → AreRunsOf job size classes workers S part runs → run.classes ≡ stretch size classes part
-    → run.worker < workers
-    → ((stop : Stop) → run.stop ≡ Some stop → MayStop job size classes workers S run stop)
-    → AreRunsOf job size classes workers S (part + 1) (runs ++ run ∷ [])
-runs_more job size classes workers part S runs run was own low stopped = record {
-  count = omega (arith, was.count, length-append runs (run ∷ []));
-  each = λ k x at. go k x (pushed runs run x k at);
-}
-  where
-    go : (k : ℕ) (x : PartRun) → (slice_get runs k ≡ Some x) ⊎ ((k ≡ length runs) × (run ≡ x))
-        → (x.classes ≡ stretch size classes k) × (x.worker < workers) × ((stop : Stop)
-        → x.stop ≡ Some stop → MayStop job size classes workers S x stop)
-    go k x (inl h) = was.each k x h
-    go k x (inr h) =
-        subst (λ (r : PartRun). (r.classes ≡ stretch size classes k) × (r.worker < workers)
-        × ((stop : Stop) → r.stop ≡ Some stop → MayStop job size classes workers S r stop)) h.1 (
-          subst (λ n. run.classes ≡ stretch size classes n) (sym (h.0 ∙ was.count)) own,
-          low,
-          stopped,
-        )
+pub run_there : (size : ℕ) (classes : List ℕ) (table : List (Option Done)) (part : ℕ)
+    (place : Option Done) → slice_get table part ≡ Some place
+    → slice_get (runs_from size classes 0 table) part
+    ≡ Some (run_at (stretch size classes part) place)
+run_there size classes table part place e =
+    let here : 0 + part ≡ part = omega arith in
+    run_from size classes 0 table part place e
+    ∙ ap (λ n. Some (run_at (stretch size classes n) place)) here
+
+-- and each is that of a place
+pub run_back : (size : ℕ) (classes : List ℕ) (table : List (Option Done)) (part : ℕ)
+    (run : PartRun) → slice_get (runs_from size classes 0 table) part ≡ Some run
+    → (place : Option Done) × (slice_get table part ≡ Some place)
+    × (run ≡ run_at (stretch size classes part) place)
+run_back size classes table part run at =
+    let lt = slice_get_within (runs_from size classes 0 table) part run at in
+    let n = runs_count size classes 0 table in
+    let x = within_place table part (omega (arith, lt, n)) in
+    let there = run_there size classes table part x.0 x.1 in
+    let both : Some run ≡ Some (run_at (stretch size classes part) x.0) = sym at ∙ there in
+    let same : run ≡ run_at (stretch size classes part) x.0 = cc in
+    (x.0, x.1, same)
 
 -- what waits in one run more
-waits_more : (job : Parts) (runs : List PartRun) (run : PartRun) (lowest own : Option Waiting)
+pub waits_more : (job : Parts) (runs : List PartRun) (run : PartRun) (lowest own : Option Waiting)
     → IsLowest (WaitsIn job runs) lowest → IsLowest (IsOpenIn job run.classes run.stop) own
     → IsLowest (WaitsIn job (runs ++ run ∷ [])) (lower_of lowest own)
 waits_more job runs run lowest own was is =
@@ -161,74 +164,6 @@ not_stopped_found : (job : Parts) (classes : List ℕ) (worker : ℕ) (S : Stops
 not_stopped_found job classes worker S None firsts b e is = firsts_found job classes firsts b e
 not_stopped_found job classes worker S (Some stop) firsts b e is = absurd (cc)
 
--- of one run more
-gathered_run : (job : Parts) (size : ℕ) (classes : List ℕ) (workers : ℕ)
-    (P : Type 0) (S : Stops) (part : ℕ) (firsts : List (Option ℕ))
-    (lowest : Option Waiting) (run : PartRun) (own : List (Option ℕ)) (waiting : Option Waiting)
-    → run.classes ≡ stretch size classes part → run.worker < workers
-    → ((stop : Stop) → run.stop ≡ Some stop → MayStop job size classes workers S run stop)
-    → IsLowest (IsOpenIn job run.classes run.stop) waiting → (P → waiting ≡ None)
-    → (waiting ≡ None → AreClassFirsts job.list.model job.circuit job.tests.tests
-    (stretch size classes part) own)
-    → IsGathered job size classes workers P S part firsts lowest
-    → IsGathered job size classes workers P S (part + 1) (firsts ++ own) (lower_of lowest waiting)
-gathered_run job size classes workers P S part firsts lowest run own waiting is low may waits passed
-    found was = record {
-      runs = was.runs ++ run ∷ [];
-      are = runs_more job size classes workers part S was.runs run was.are is low may;
-      is_lowest = waits_more job was.runs run lowest waiting was.is_lowest waits;
-      passed = λ p. ap (λ l. lower_of l waiting) (was.passed p) ∙ passed p;
-      found = λ e.
-          let none = lower_none lowest waiting e in
-          firsts_more job classes size part firsts own (was.found none.0) (found none.1);
-    }
-
--- of one part more, which a worker ran
-pub gathered_more : (job : Parts) (size : ℕ) (classes : List ℕ) (workers worker : ℕ)
-    (P : Type 0) (S : Stops) (part : ℕ) (firsts : List (Option ℕ))
-    (lowest : Option Waiting) (done : Done)
-    → BelongTogether job → worker < workers → done.part ≡ part
-    → IsDone job size classes worker P S done
-    → IsGathered job size classes workers P S part firsts lowest
-    → IsGathered job size classes workers P S (part + 1) (firsts ++ done.firsts.items)
-    (lower_of lowest done.waiting)
-gathered_more job size classes workers worker P S part firsts lowest done b low is d was =
-    gathered_run job size classes workers P S part firsts lowest run done.firsts.items done.waiting
-    (ap (stretch size classes) is) low
-    (λ stop e. inl (stopped_there job own worker S d.stop done.firsts.items d.ended stop e))
-    d.lowest
-    (λ p.
-    let all = subst (λ s. IsLowest (IsOpenIn job own s) done.waiting) (d.passed p) d.lowest in
-    none_open job own done.waiting all)
-    (λ none.
-    let stop = not_stopped job own worker S d.stop done.firsts.items d.ended
-    (subst (IsLowest (IsOpenIn job own d.stop)) none d.lowest) in
-    subst (λ n. AreClassFirsts job.list.model job.circuit job.tests.tests
-    (stretch size classes n) done.firsts.items) is
-    (not_stopped_found job own worker S d.stop done.firsts.items b d.ended stop))
-    was
-  where
-    own : List ℕ
-    own = stretch size classes done.part
-
-    run : PartRun
-    run = record { classes = own; worker = worker; stop = d.stop }
-
--- a stretch that no worker began has a class that waits
-pub unbegun_waits : (job : Parts) (own : List ℕ) (lowest : Option Waiting) → 0 < length own
-    → 0 < blocks (length job.tests.tests)
-    → IsLowest (IsOpenIn job own (Some at_first)) lowest → lowest ≢ None
-unbegun_waits job [] lowest some block is none = absurd (omega (arith, some))
-unbegun_waits job (class ∷ own) lowest some block is none =
-    subst (IsLowest (IsOpenIn job (class ∷ own) (Some at_first))) none is class 0 (record {
-      place = 0;
-      low = some;
-      at = refl;
-      block_is = sym (done_high 0 0 0 (omega arith));
-      within = block;
-      undetected = λ table is. refl;
-    })
-
 -- no first test of no class
 firsts_of_none : (job : Parts) (own : List ℕ) (firsts : List (Option ℕ)) → length own ≡ 0
     → length firsts ≡ 0
@@ -238,128 +173,6 @@ firsts_of_none job own firsts e n = record {
   first = λ k class f first at of ef.
       let lt = slice_get_within own k class at in absurd (omega (arith, lt, e));
 }
-
--- of one part more, which no worker began
-pub gathered_unbegun : (job : Parts) (size : ℕ) (classes : List ℕ) (workers : ℕ)
-    (P : Type 0) (S : Stops) (part : ℕ) (firsts : List (Option ℕ))
-    (lowest : Option Waiting) (done : Done)
-    → 0 < workers → done.part ≡ part → IsUnbegun job size classes done
-    → (0 < length (stretch size classes part) → NoneBegan job size classes workers P S)
-    → IsGathered job size classes workers P S part firsts lowest
-    → IsGathered job size classes workers P S (part + 1) (firsts ++ done.firsts.items)
-    (lower_of lowest done.waiting)
-gathered_unbegun job size classes workers P S part firsts lowest done some is d began was =
-    go (length own) refl
-  where
-    own : List ℕ
-    own = stretch size classes part
-
-    same : stretch size classes done.part ≡ own
-    same = ap (stretch size classes) is
-
-    go : (n : ℕ) → length own ≡ n
-        → IsGathered job size classes workers P S (part + 1) (firsts ++ done.firsts.items)
-        (lower_of lowest done.waiting)
-    go zero e =
-        let none = d.none (ap (λ (l : List ℕ). length l) same ∙ e) in
-        gathered_run job size classes workers P S part firsts lowest
-        (record { classes = own; worker = 0; stop = None }) done.firsts.items done.waiting refl some
-        (λ stop q. let bad : None ≡ Some stop = q in absurd (cc))
-        (subst (IsLowest (IsOpenIn job own None)) (sym none.0) (λ c b x. x)) (λ p. none.0)
-        (λ q. firsts_of_none job own done.firsts.items e none.1) was
-    go (suc n) e =
-        let any : 0 < length own = omega (arith, e) in
-        let left = began any in
-        let low : IsLowest (IsOpenIn job own (Some at_first)) done.waiting =
-        subst (λ l. IsLowest (IsOpenIn job l (Some at_first)) done.waiting) same
-        (d.some (subst (λ (l : List ℕ). 0 < length l) (sym same) any)) in
-        gathered_run job size classes workers P S part firsts lowest
-        (record { classes = own; worker = 0; stop = Some at_first }) done.firsts.items done.waiting
-        refl some
-        (λ stop q. let at : at_first ≡ stop = cc in inr (sym at, left.stopped)) low
-        (λ p. absurd (left.shut p))
-        (λ q. absurd (unbegun_waits job own done.waiting any left.some low q)) was
-
--- what is known of a part: one of the workers found it, or none began it
-pub gathered_part : (job : Parts) (size : ℕ) (classes : List ℕ) (workers : ℕ)
-    (P : Type 0) (S : Stops) (table : List (Option Done)) (part : ℕ) (firsts : List (Option ℕ))
-    (lowest : Option Waiting) (place : Option Done) (done : Done)
-    → BelongTogether job → 0 < workers → AreFoundByPart job size classes workers P S table
-    → slice_get table part ≡ Some place
-    → (place ≡ Some done)
-    ⊎ ((place ≡ None) × (done.part ≡ part) × IsUnbegun job size classes done)
-    → IsGathered job size classes workers P S part firsts lowest
-    → IsGathered job size classes workers P S (part + 1) (firsts ++ done.firsts.items)
-    (lower_of lowest done.waiting)
-gathered_part job size classes workers P S table part firsts lowest place done b some found at (inl e)
-    was =
-    let x = found.each part done (at ∙ ap Some e) in
-    gathered_more job size classes workers x.1 P S part firsts lowest done b x.2 x.0 x.3 was
-gathered_part job size classes workers P S table part firsts lowest place done b some found at (inr x)
-    was =
-    gathered_unbegun job size classes workers P S part firsts lowest done some x.1 x.2
-    (found.none part (at ∙ ap Some x.0)) was
-
--- ---- where no class waits
-
--- the first so many places of a table are whole
-abbrev pub WholeUpTo : ℕ → List ℕ → List (Option Done) → ℕ → Type 0
-WholeUpTo size classes table n = (k : ℕ) (place : Option Done) → k < n
-    → slice_get table k ≡ Some place → IsWholeAt size classes k place
-
--- one place more
-pub whole_more : (job : Parts) (size : ℕ) (classes : List ℕ) (workers : ℕ)
-    (P : Type 0) (S : Stops) (table : List (Option Done)) (part : ℕ)
-    (lowest : Option Waiting) (place : Option Done) (done : Done)
-    → AreFoundByPart job size classes workers P S table
-    → slice_get table part ≡ Some place
-    → (place ≡ Some done)
-    ⊎ ((place ≡ None) × (done.part ≡ part) × IsUnbegun job size classes done)
-    → (lowest ≡ None → WholeUpTo size classes table part)
-    → lower_of lowest done.waiting ≡ None → WholeUpTo size classes table (part + 1)
-whole_more job size classes workers P S table part lowest place done found at is was e k x lt there =
-    pick (cases_lt k part)
-  where
-    none : (lowest ≡ None) × (done.waiting ≡ None)
-    none = lower_none lowest done.waiting e
-
-    own : (place ≡ Some done)
-        ⊎ ((place ≡ None) × (done.part ≡ part) × IsUnbegun job size classes done)
-        → IsWholeAt size classes part place
-    own (inl q) = subst (IsWholeAt size classes part) (sym q) none.1
-    own (inr q) = subst (IsWholeAt size classes part) (sym q.0) (empty (length s) refl)
-      where
-        s : List ℕ
-        s = stretch size classes part
-
-        empty : (n : ℕ) → length s ≡ n → length s ≡ 0
-        empty zero z = z
-        empty (suc n) z =
-            let any : 0 < length s = omega (arith, z) in
-            let left = found.none part (at ∙ ap Some q.0) any in
-            absurd (unbegun_waits job s done.waiting any left.some
-            (subst (λ l. IsLowest (IsOpenIn job (stretch size classes l) (Some at_first))
-            done.waiting) q.1 (q.2.some (subst (λ l. 0 < length (stretch size classes l)) (sym q.1)
-            any))) none.1)
-
-    pick : (k < part) ⊎ (part ≤ k) → IsWholeAt size classes k x
-    pick (inl low) = was none.0 k x low there
-    pick (inr high) =
-        let same : part ≡ k = omega (arith, lt, high) in
-        let both : Some place ≡ Some x = sym at ∙ ap (slice_get table) same ∙ there in
-        let one : place ≡ x = cc in
-        subst (λ n. IsWholeAt size classes n x) same
-        (subst (IsWholeAt size classes part) one (own is))
-
--- of all parts: the first tests of all classes
-pub gathered_all : (job : Parts) (parts size : ℕ) (classes : List ℕ) (workers : ℕ)
-    (P : Type 0) (S : Stops) (part : ℕ) (firsts : List (Option ℕ)) (lowest : Option Waiting)
-    → IsCutOf job parts size classes → part ≡ parts → lowest ≡ None
-    → IsGathered job size classes workers P S part firsts lowest
-    → AreClassFirsts job.list.model job.circuit job.tests.tests classes firsts
-gathered_all job parts size classes workers P S part firsts lowest cut full none was =
-    firsts_all job parts size classes firsts cut
-    (subst (λ n. FirstsUpTo job classes (n * size) firsts) full (was.found none))
 
 -- a class that waits in a stretch of classes of the job is one of the job's, and so is its block
 open_within : (job : Parts) (size part : ℕ) (classes own : List ℕ) (stop : Option Stop)
@@ -378,26 +191,209 @@ open_within job size part classes own (Some stop) class block all is x = (
   x.within,
 )
 
--- or the lowest class that waits
-pub gathered_waits : (job : Parts) (parts size : ℕ) (classes : List ℕ) (workers : ℕ)
-    (P : Type 0) (S : Stops) (part : ℕ) (firsts : List (Option ℕ)) (lowest : Option Waiting)
-    (class block : ℕ) → IsCutOf job parts size classes
-    → part ≡ parts → lowest ≡ Some (record { class = class; block = block })
-    → IsGathered job size classes workers P S part firsts lowest
-    → (class < length job.classes.representative) × (block < blocks (length job.tests.tests))
-    × (P → ⊥) × StretchesWaitFor job size classes parts workers S class block
-gathered_waits job parts size classes workers P S part firsts lowest class block cut full is was =
-    let low = subst (IsLowest (WaitsIn job was.runs)) is was.is_lowest in
-    let x = low.0 in
-    let within = open_within job size x.0 classes x.1.classes x.1.stop class block cut.within
-    (was.are.each x.0 x.1 x.2).0 x.3 in (
-      within.0,
-      within.1,
-      λ p. let e = was.passed p in let bad : Some (record { class = class; block = block }) ≡ None =
-          sym is ∙ e in absurd (cc),
-      record {
-        runs = was.runs;
-        are = subst (λ n. AreRunsOf job size classes workers S n was.runs) full was.are;
-        lowest = low;
-      },
-    )
+-- a run of a stretch that no worker began
+unbegun_so : (job : Parts) (size : ℕ) (classes : List ℕ) (workers : ℕ) (S : Stops)
+    (runs : List PartRun) (own : List ℕ)
+    → (0 < length own → AreAllStopped job size classes workers S runs)
+    → ((unbegun_run own).classes ≡ own)
+    × HasRunSo job size classes workers S runs (unbegun_run own) (unbegun_run own).worker
+unbegun_so job size classes workers S runs [] stopped = (refl, (refl, stopped))
+unbegun_so job size classes workers S runs (class ∷ own) stopped = (refl, (refl, stopped))
+
+-- a class of it waits only where it has one
+unbegun_open : (job : Parts) (own : List ℕ) (class block : ℕ)
+    → IsOpenIn job (unbegun_run own).classes (unbegun_run own).stop class block → 0 < length own
+unbegun_open job [] class block x = absurd x
+unbegun_open job (c ∷ own) class block x = omega arith
+
+-- so none waits in one without a class
+pub unbegun_empty : (job : Parts) (own : List ℕ) → length own ≡ 0
+    → IsLowestIn job (unbegun_run own) None
+unbegun_empty job [] e = λ class block x. x
+unbegun_empty job (class ∷ own) e = absurd (omega (arith, e))
+
+-- and in another the lowest class does
+pub unbegun_lowest : (job : Parts) (own : List ℕ) (lowest : Option Waiting)
+    → IsLowest (IsOpenIn job own (Some at_first)) lowest → IsLowestIn job (unbegun_run own) lowest
+unbegun_lowest job [] lowest is = lowest_along (IsOpenIn job [] (Some at_first))
+    (IsOpenIn job [] None) lowest
+    (λ class block x. let low = x.low in absurd (omega (arith, low)))
+    (λ class block x. absurd x) is
+unbegun_lowest job (class ∷ own) lowest is = is
+
+-- and where it has one it waits
+unbegun_waits : (job : Parts) (own : List ℕ) → 0 < length own → 0 < blocks (length job.tests.tests)
+    → (class : ℕ) × IsOpenIn job (unbegun_run own).classes (unbegun_run own).stop class 0
+unbegun_waits job [] some block = absurd (omega (arith, some))
+unbegun_waits job (class ∷ own) some block = (
+  class,
+  record {
+    place = 0;
+    low = some;
+    at = refl;
+    block_is = sym (done_high 0 0 0 (omega arith));
+    within = block;
+    undetected = λ table is. refl;
+  },
+)
+
+module _ (job : Parts) (size : ℕ) (classes : List ℕ) (workers : ℕ) (P : Type 0) (S : Stops)
+    (table : List (Option Done)) (found : AreFoundByPart job size classes workers P S table) where
+  abbrev pub runs : List PartRun
+  runs = runs_from size classes 0 table
+
+  -- the runs of a table are runs of the stretches
+  pub runs_are : AreRunsOf job size classes workers S (length table) runs
+  runs_are = record {
+    count = runs_count size classes 0 table;
+    each = λ part run at. let x = run_back size classes table part run at in
+        go part run x.0 x.1 x.2;
+  }
+    where
+      go : (part : ℕ) (run : PartRun) (place : Option Done) → slice_get table part ≡ Some place
+          → run ≡ run_at (stretch size classes part) place
+          → (run.classes ≡ stretch size classes part)
+          × HasRunSo job size classes workers S runs run run.worker
+      go part run (Some done) at e =
+          let f = found.each part done at in
+          let ended : HasEnded job (stretch size classes part) done.worker S done.stop
+          done.firsts.items = subst (λ n. HasEnded job (stretch size classes n) done.worker S
+          done.stop done.firsts.items) f.0 f.2.ended in
+          subst (λ (r : PartRun). (r.classes ≡ stretch size classes part)
+          × HasRunSo job size classes workers S runs r r.worker) (sym e) (
+            refl,
+            (
+              f.1,
+              λ stop q. stopped_there job (stretch size classes part) done.worker S done.stop
+                  done.firsts.items ended stop q,
+            ),
+          )
+      go part run None at e =
+          subst (λ (r : PartRun). (r.classes ≡ stretch size classes part)
+          × HasRunSo job size classes workers S runs r r.worker) (sym e)
+          (unbegun_so job size classes workers S runs (stretch size classes part)
+          (λ some. (found.none part at some).2))
+
+  -- a gate that lets all pass leaves no class open
+  none_waits : P → (class block : ℕ) → WaitsIn job runs class block → ⊥
+  none_waits p class block x =
+      let y = run_back size classes table x.0 x.1 x.2 in
+      go x.0 y.0 y.1 (subst (λ (r : PartRun). IsOpenIn job r.classes r.stop class block) y.2 x.3)
+    where
+      go : (part : ℕ) (place : Option Done) → slice_get table part ≡ Some place
+          → IsOpenIn job (run_at (stretch size classes part) place).classes
+          (run_at (stretch size classes part) place).stop class block → ⊥
+      go part (Some done) at still_open =
+          let f = found.each part done at in
+          subst (λ s. IsOpenIn job (stretch size classes part) s class block) (f.2.passed p) still_open
+      go part None at still_open =
+          (found.none part at (unbegun_open job (stretch size classes part) class block still_open)).0 p
+
+  -- the lowest class that waits
+  pub stretches_wait : (parts class block : ℕ) → IsCutOf job parts size classes
+      → length table ≡ parts
+      → IsLowest (WaitsIn job runs) (Some (record { class = class; block = block }))
+      → (class < length job.classes.representative) × (block < blocks (length job.tests.tests))
+      × (P → ⊥) × StretchesWaitFor job size classes parts workers S class block
+  stretches_wait parts class block cut count low =
+      let x = low.0 in
+      let own = (runs_are.each x.0 x.1 x.2).0 in
+      let within = open_within job size x.0 classes x.1.classes x.1.stop class block cut.within own
+      x.3 in (
+        within.0,
+        within.1,
+        λ p. none_waits p class block x,
+        record {
+          runs = runs;
+          are = subst (λ n. AreRunsOf job size classes workers S n runs) count runs_are;
+          lowest = low;
+        },
+      )
+
+  -- what is known of each place tells its lowest class
+  pub all_lowest : AreAllLowest job size classes table
+  all_lowest part place at = go place at
+    where
+      go : (place : Option Done) → slice_get table part ≡ Some place
+          → IsLowestAt job (stretch size classes part) place
+      go None at = λ some. (found.none part at some).1
+      go (Some done) at =
+          let f = found.each part done at in
+          subst (λ n. IsLowest (IsOpenIn job (stretch size classes n) done.stop) done.waiting) f.0
+          f.2.lowest
+
+  -- where no class waits all places are whole
+  pub none_whole : IsLowest (WaitsIn job runs) None → AreWhole size classes table
+  none_whole none part place at = go place at
+    where
+      go : (place : Option Done) → slice_get table part ≡ Some place
+          → IsWholeAt size classes part place
+      go (Some done) at = pick done.waiting refl
+        where
+          low : IsLowest (IsOpenIn job (stretch size classes part) done.stop) done.waiting
+          low = all_lowest part (Some done) at
+
+          pick : (x : Option Waiting) → done.waiting ≡ x → done.waiting ≡ None
+          pick None e = e
+          pick (Some v) e =
+              let own = subst (IsLowest (IsOpenIn job (stretch size classes part) done.stop)) e
+              low in
+              absurd (none v.class v.block (
+                part,
+                run_at (stretch size classes part) (Some done),
+                run_there size classes table part (Some done) at,
+                own.0,
+              ))
+      go None at = pick (length (stretch size classes part)) refl
+        where
+          pick : (n : ℕ) → length (stretch size classes part) ≡ n
+              → length (stretch size classes part) ≡ 0
+          pick zero e = e
+          pick (suc n) e =
+              let some : 0 < length (stretch size classes part) = omega (arith, e) in
+              let x = unbegun_waits job (stretch size classes part) some
+              (found.none part at some).1 in
+              absurd (none x.0 0 (
+                part,
+                run_at (stretch size classes part) None,
+                run_there size classes table part None at,
+                x.1,
+              ))
+
+  -- and whole places tell the first tests
+  pub whole_found : BelongTogether job → AreWhole size classes table
+      → AreAllFound job size classes table
+  whole_found b whole part place at = go place at (whole part place at)
+    where
+      go : (place : Option Done) → slice_get table part ≡ Some place
+          → IsWholeAt size classes part place → IsFoundAt job (stretch size classes part) place
+      go None at none = none
+      go (Some done) at none =
+          let f = found.each part done at in
+          let own = stretch size classes done.part in
+          let low = subst (IsLowest (IsOpenIn job own done.stop)) none f.2.lowest in
+          let stop = not_stopped job own done.worker S done.stop done.firsts.items f.2.ended low in
+          subst (λ n. AreClassFirsts job.list.model job.circuit job.tests.tests
+          (stretch size classes n) done.firsts.items) f.0
+          (not_stopped_found job own done.worker S done.stop done.firsts.items b f.2.ended stop)
+
+-- ---- first tests, one stretch after another
+
+-- those of a stretch more
+pub firsts_joined : (job : Parts) (size : ℕ) (classes : List ℕ) (part : ℕ)
+    (firsts : List (Option ℕ)) (done : Done)
+    → IsFoundAt job (stretch size classes part) (Some done)
+    → FirstsUpTo job classes (part * size) firsts
+    → FirstsUpTo job classes ((part + 1) * size) (firsts ++ done.firsts.items)
+firsts_joined job size classes part firsts done own was =
+    firsts_more job classes size part firsts done.firsts.items was own
+
+-- and of one without a class
+pub firsts_skipped : (job : Parts) (size : ℕ) (classes : List ℕ) (part : ℕ)
+    (firsts : List (Option ℕ)) → IsFoundAt job (stretch size classes part) None
+    → FirstsUpTo job classes (part * size) firsts
+    → FirstsUpTo job classes ((part + 1) * size) firsts
+firsts_skipped job size classes part firsts none was =
+    subst (FirstsUpTo job classes ((part + 1) * size)) (append-nil firsts)
+    (firsts_more job classes size part firsts [] was
+    (firsts_of_none job (stretch size classes part) [] none refl))

@@ -10,7 +10,7 @@ use Rattle.std.proofs.lemmas.Grind.{div_ceil_times}
 use Rattle.std.proofs.lemmas.List.{length-drop, length-take}
 use Rattle.std.proofs.lemmas.List.Sums.{count_by-le-length, length-filter}
 use Rattle.std.proofs.lemmas.Option.{get_or_from_slice_get, slice_get_within}
-use Rattle.std.proofs.Math.Nat.{mul-le-mul_right, mul-one, mul_comm, suc-mul, zero-mul}
+use Rattle.std.proofs.Math.Nat.{mul-le-mul_right, mul-one, mul-zero, mul_comm, suc-mul, zero-mul}
 use Rattle.patterns.specs.Tests.{max_pieces}
 use Rattle.bench_net.specs.Circuit.{max_signals, max_sinks}
 use Rattle.fault_model.specs.Collapse.{next}
@@ -20,22 +20,24 @@ use Rattle.block_sim.specs.Parts.{Parts, BelongTogether}
 use Rattle.fault_ledger.specs.declared.Event.{Event}
 use Rattle.fault_ledger.specs.declared.Shape.{Shape}
 use Rattle.fault_ledger.specs.declared.PieceState.TheVariants as state
+use Rattle.fault_ledger.specs.declared.Finish.{Finish}
 use Rattle.fault_ledger.specs.declared.Finish.TheVariants as finish_is
 use Rattle.fault_ledger.specs.History.{History, ContinuesWithout, claims, entry, held_by}
-use Rattle.fault_ledger.specs.History.{piece_count}
+use Rattle.fault_ledger.specs.History.{block_count, piece_at, piece_count}
 use Rattle.fault_ledger.specs.Answer.{IsLegal}
 use Rattle.fault_ledger.specs.Settled.{finish}
-use Rattle.fault_ledger.specs.Seats.{ClosedFace, Closes, Place, Sitter}
-use Rattle.fault_ledger.proofs.Public.{claim_accepted, claims_past, legal_claims}
-use Rattle.fault_ledger.proofs.Public.{report_accepted}
+use Rattle.fault_ledger.specs.Seats.{ClosedFace, Closes, Place, Sitter, closed_face}
+use Rattle.fault_ledger.proofs.Public.{claim_accepted, claims_past, held_once, held_open}
+use Rattle.fault_ledger.proofs.Public.{held_piece, legal_claims, report_accepted, status-open}
+use Rattle.fault_ledger.proofs.Public.{unclaimed_open}
 use Rattle.lists.proofs.Places.{within_place}
 use Rattle.workers.specs.declared.alone.Stop.{Stop}
 use Rattle.workers.specs.declared.alone.Waiting.{Waiting}
 use Rattle.workers.specs.declared.taken.Done.{Done}
 use Rattle.workers.specs.declared.taken.Served.{Served}
 use Rattle.workers.specs.Alone.{AreFoundByPart, AreGivenBack, AreWhole, HasEnded, IsDone, IsLowest}
-use Rattle.workers.specs.Alone.{IsOpenIn, IsStopAt, IsWholeAt}
-use Rattle.workers.specs.Part.{stretch, stretch_count}
+use Rattle.workers.specs.Alone.{IsOpenIn, IsStopAt, IsStoppedAmong, IsWholeAt, run_at, runs_from}
+use Rattle.workers.specs.Part.{stretch, stretch_count, stretch_size}
 use Rattle.workers.specs.Rank.{IsCutOf}
 use Rattle.workers.specs.Stretches.{AreApart, AreOfStretches, AreServed, AreShared}
 use Rattle.workers.specs.Stretches.{EachClaim, StandsFor}
@@ -44,8 +46,8 @@ use Rattle.workers.specs.Stretches.{shape_of_stretches}
 use Rattle.workers.specs.Verdict.{AreClassFirsts}
 use Rattle.workers.specs.Work.{EachReport, Stops}
 use Rattle.workers.proofs.PartRefusals.{ceil_le}
-use Rattle.workers.proofs.RunsOfParts.{none_open}
-use Rattle.workers.proofs.SettledLedgers.{all_settled, settled_finished}
+use Rattle.workers.proofs.RunsOfParts.{none_open, run_there}
+use Rattle.workers.proofs.SettledLedgers.{all_settled, finished_settled, settled_finished}
 use Rattle.workers.proofs.StretchSeats.{accounts_on}
 use Rattle.workers.proofs.TrueOutcomes.{class_count}
 
@@ -96,11 +98,12 @@ ended_on s w later earlier own l c (inr stopped) = inr stopped
 pub shared : {E Z : Type 0} (job : Parts) (size : ℕ) (classes : List ℕ) (p : Place) (P : Type 0)
     (S : Stops) (back : List (Result Served E)) (seats : List Sitter) (dones : List (Vec Done Z))
     (closed : ClosedFace) → AreServed job size classes p P S back → AreApart back seats dones
-    → Closes p.shape seats closed → AreShared job size classes p.shape P S dones
+    → Closes p.shape seats closed → AreShared job size classes p.shape P S dones closed
 shared {E} {Z} job size classes p P S back seats dones closed served apart closes = record {
   count = apart.dones_count ∙ served.count;
   history = closes.0;
   legal = closes.1;
+  shows = closes.3;
   each = λ w own there.
       let lt = slice_get_within dones w own there in
       let a = within_place seats w (omega (arith, lt, apart.seats_count, apart.dones_count)) in
@@ -121,17 +124,31 @@ shared {E} {Z} job size classes p P S back seats dones closed served apart close
       );
 }
 
+-- what the closed ledger says of its end
+pub face_finish : {Z : Type 0} (job : Parts) (size : ℕ) (classes : List ℕ) (s : Shape) (P : Type 0)
+    (S : Stops) (dones : List (Vec Done Z)) (face : ClosedFace) (end : Finish)
+    → (all : AreShared job size classes s P S dones face)
+    → ((h : History) → IsLegal face.shape h → face ≡ closed_face face.shape h
+    → end ≡ finish face.shape h)
+    → end ≡ finish s all.history
+face_finish {Z} job size classes s P S dones face end all tells =
+    let same : face.shape ≡ s = ap (λ (f : ClosedFace). f.shape) all.shows in
+    tells all.history (subst (λ (z : Shape). IsLegal z all.history) (sym same) all.legal)
+    (subst (λ (z : Shape). face ≡ closed_face z all.history) (sym same) all.shows)
+    ∙ ap (λ (z : Shape). finish z all.history) same
+
 -- what was shared, under another name of the shape
 pub shared_at : {Z : Type 0} (job : Parts) (size : ℕ) (classes : List ℕ) (s : Shape)
-    (n crew workers : ℕ) (P : Type 0) (S : Stops) (dones : List (Vec Done Z))
+    (n crew workers : ℕ) (P : Type 0) (S : Stops) (dones : List (Vec Done Z)) (closed : ClosedFace)
     → s ≡ shape_of_stretches n crew → n ≡ stretch_count size classes → crew ≡ crew_of workers n
-    → AreShared job size classes s P S dones
+    → AreShared job size classes s P S dones closed
     → AreShared job size classes (shape_of_stretches (stretch_count size classes)
-    (crew_of workers (stretch_count size classes))) P S dones
-shared_at {Z} job size classes s n crew workers P S dones e f h x =
-    subst (λ m. AreShared job size classes (shape_of_stretches m (crew_of workers m)) P S dones) f
-    (subst (λ m. AreShared job size classes (shape_of_stretches n m) P S dones) h
-    (subst (λ z. AreShared job size classes z P S dones) e x))
+    (crew_of workers (stretch_count size classes))) P S dones closed
+shared_at {Z} job size classes s n crew workers P S dones closed e f h x =
+    subst (λ m. AreShared job size classes (shape_of_stretches m (crew_of workers m)) P S dones
+    closed) f
+    (subst (λ m. AreShared job size classes (shape_of_stretches n m) P S dones closed) h
+    (subst (λ z. AreShared job size classes z P S dones closed) e x))
 
 -- ---- stretches that have a class
 
@@ -225,20 +242,22 @@ claimed_by s H p (Event.Drop u ∷ h) l lt each = claimed_by s H p h l.1 lt each
 -- where a class of a stretch waits the gate stopped the worker in it
 stopped_in : (job : Parts) (size : ℕ) (classes : List ℕ) (w : ℕ) (P : Type 0) (S : Stops)
     (done : Done) (v : Waiting) → done.waiting ≡ Some v → IsDone job size classes w P S done
-    → (P → ⊥) × (stop : Stop) × IsStopAt job (stretch size classes done.part) w S stop
-stopped_in job size classes w P S done v e is = go is.stop refl is.ended is.lowest
+    → (P → ⊥) × (stop : Stop) × (done.stop ≡ Some stop)
+    × IsStopAt job (stretch size classes done.part) w S stop
+stopped_in job size classes w P S done v e is = go done.stop refl is.ended is.lowest
   where
     own : List ℕ
     own = stretch size classes done.part
 
-    go : (stop : Option Stop) → is.stop ≡ stop → HasEnded job own w S stop done.firsts.items
+    go : (stop : Option Stop) → done.stop ≡ stop → HasEnded job own w S stop done.firsts.items
         → IsLowest (IsOpenIn job own stop) done.waiting
-        → (P → ⊥) × (stop : Stop) × IsStopAt job own w S stop
+        → (P → ⊥) × (stop : Stop) × (done.stop ≡ Some stop) × IsStopAt job own w S stop
     go None q ended low =
         let bad = sym e ∙ none_open job own done.waiting low in absurd (cc)
     go (Some stop) q ended low = (
       (λ x. let bad = sym q ∙ is.passed x in absurd (cc)),
       stop,
+      q,
       ended.0,
     )
 
@@ -247,10 +266,10 @@ pieces n crew = mul-one n
 
 module _ {Z : Type 0} (job : Parts) (parts size : ℕ) (classes : List ℕ) (workers : ℕ)
     (P : Type 0) (S : Stops) (back : List (Vec Done Z)) (table : List (Option Done))
-    (cut : IsCutOf job parts size classes) (many : 0 < workers)
+    (face : ClosedFace) (cut : IsCutOf job parts size classes) (many : 0 < workers)
     (given : AreGivenBack parts back table)
     (all : AreShared job size classes (shape_of_stretches (stretch_count size classes)
-    (crew_of workers (stretch_count size classes))) P S back) where
+    (crew_of workers (stretch_count size classes))) P S back face) where
   abbrev pub n : ℕ
   n = stretch_count size classes
 
@@ -309,52 +328,109 @@ module _ {Z : Type 0} (job : Parts) (parts size : ℕ) (classes : List ℕ) (wor
           absurd (given.all x.0 own among.0 among.1 x.2.1 among.2
           (subst (λ q. slice_get table q ≡ Some None) (sym among.3) none))
 
-  -- and then each worker was stopped
+  -- where a worker was stopped in a stretch, what stands at its place in the table says so
+  stopped_there : (w : ℕ) (own : Vec Done Z) (k : ℕ) (done : Done) (v : Waiting)
+      → slice_get back w ≡ Some own → slice_get own.items k ≡ Some done → done.waiting ≡ Some v
+      → (P → ⊥) × IsStoppedAmong job S (runs_from size classes 0 table) w
+  stopped_there w own k done v at there e = go (slice_get table done.part) refl
+    where
+      held : held_by w h ≡ Some done.part
+      held = subst (Stands w h done.part) e (own_done w own k done at there).1
+
+      low : done.part < length table
+      low =
+          let a = held_piece shape w done.part h all.legal held in
+          let few = filled_few job parts size classes cut in
+          omega (arith, a, few, given.count, pieces n crew)
+
+      by_place : (one : Done) → slice_get table done.part ≡ Some (Some one)
+          → (P → ⊥) × IsStoppedAmong job S (runs_from size classes 0 table) w
+      by_place one stands = pick one.waiting refl
+        where
+          g : (one.part ≡ done.part) × (thread : ℕ) × (given : Vec Done Z)
+              × (slice_get back thread ≡ Some given)
+              × (k : ℕ) × (slice_get given.items k ≡ Some one)
+          g = given.each done.part one stands
+
+          d : IsDone job size classes g.1 P S one
+              × Stands g.1 h one.part one.waiting
+          d = own_done g.1 g.2 g.4 one g.3 g.5
+
+          pick : (x : Option Waiting) → one.waiting ≡ x
+              → (P → ⊥) × IsStoppedAmong job S (runs_from size classes 0 table) w
+          pick None q =
+              let clear : entry one.part h ≡ state.Clear = subst (Stands g.1 h one.part) q d.1 in
+              let still_open : entry done.part h ≡ state.Open = held_open w done.part h held in
+              let bad : state.Clear ≡ state.Open =
+              sym clear ∙ ap (λ p. entry p h) g.0 ∙ still_open in
+              absurd (cc)
+          pick (Some u) q =
+              let theirs : held_by g.1 h ≡ Some one.part = subst (Stands g.1 h one.part) q d.1 in
+              let same : g.1 ≡ w = held_once g.1 w done.part h (theirs ∙ ap Some g.0) held in
+              let y = stopped_in job size classes g.1 P S one u q d.0 in (
+                y.0,
+                (
+                  done.part,
+                  run_at (stretch size classes done.part) (Some one),
+                  y.1,
+                  run_there size classes table done.part (Some one) stands,
+                  ap Some (d.0.worker_is ∙ same),
+                  y.2,
+                  subst (λ v. IsStopAt job (stretch size classes done.part) v S y.1) same
+                      (subst (λ p. IsStopAt job (stretch size classes p) g.1 S y.1) g.0 y.3),
+                ),
+              )
+
+      go : (place : Option (Option Done)) → slice_get table done.part ≡ place
+          → (P → ⊥) × IsStoppedAmong job S (runs_from size classes 0 table) w
+      go None q =
+          let x = within_place table done.part low in
+          let bad = sym q ∙ x.1 in absurd (cc)
+      go (Some None) q = absurd (given.all w own k done at there q)
+      go (Some (Some x)) q = by_place x q
+
+  -- and where no worker began one each was stopped
   all_stopped : (part : ℕ) → slice_get table part ≡ Some None → part < n → (w : ℕ) → w < crew
-      → (P → ⊥) × (q : ℕ) × (stop : Stop) × IsStopAt job (stretch size classes q) w S stop
+      → (P → ⊥) × IsStoppedAmong job S (runs_from size classes 0 table) w
   all_stopped part none low w lt =
       let x = within_place back w (omega (arith, lt, all.count)) in
       go x.0 x.1 (all.each w x.0 x.1).1
     where
       go : (own : Vec Done Z) → slice_get back w ≡ Some own → EndsServing shape h own.items
-          → (P → ⊥) × (q : ℕ) × (stop : Stop) × IsStopAt job (stretch size classes q) w S stop
+          → (P → ⊥) × IsStoppedAmong job S (runs_from size classes 0 table) w
       go own at (inl full) =
           let free = unclaimed part none in
           absurd (omega (arith, full, free, low, pieces n crew))
-      go own at (inr s) =
-          let d = (own_done w own s.0 s.1 at s.2).0 in
-          let y = stopped_in job size classes w P S s.1 s.3 s.4 d in
-          (y.0, s.1.part, y.1, y.2)
+      go own at (inr s) = stopped_there w own s.0 s.1 s.3 at s.2 s.4
+
+  lower : (k : ℕ) → 0 < length (stretch size classes k) → k < n
+  lower k some = go (cases_lt k n)
+    where
+      go : (k < n) ⊎ (n ≤ k) → k < n
+      go (inl lt) = lt
+      go (inr le) = let e = past_empty size k classes le in absurd (omega (arith, some, e))
 
   -- what stands in the table
   pub found_by_part : AreFoundByPart job size classes workers P S table
   found_by_part = record {
     each = λ part done at.
         let g = given.each part done at in
-        let lt = slice_get_within back g.1 g.2 g.3 in (
+        let lt = slice_get_within back g.1 g.2 g.3 in
+        let d = (own_done g.1 g.2 g.4 done g.3 g.5).0 in (
           g.0,
-          g.1,
-          omega (arith, lt, all.count, crew_low),
-          (own_done g.1 g.2 g.4 done g.3 g.5).0,
+          omega (arith, lt, all.count, crew_low, d.worker_is),
+          subst (λ v. IsDone job size classes v P S done) (sym d.worker_is) d,
         );
     none = λ part at some.
         let low : part < n = lower part some in
-        let first = all_stopped part at low 0 (omega arith) in
-        record {
-          shut = first.0;
-          some = (let within = first.3.within in omega (arith, within));
-          stopped = λ w lt any.
-              let x = all_stopped part at low w (let l = lower w any in omega (arith, lt, l)) in
-              (x.1, x.2, x.3);
-        };
+        let first = all_stopped part at low 0 (omega arith) in (
+          first.0,
+          (let within = first.1.6.within in omega (arith, within)),
+          λ w lt any.
+              let l = lower w any in
+              (all_stopped part at low w (omega (arith, lt, l))).1,
+        );
   }
-    where
-      lower : (k : ℕ) → 0 < length (stretch size classes k) → k < n
-      lower k some = go (cases_lt k n)
-        where
-          go : (k < n) ⊎ (n ≤ k) → k < n
-          go (inl lt) = lt
-          go (inr le) = let e = past_empty size k classes le in absurd (omega (arith, some, e))
 
   -- where all places are whole the ledger is finished
   pub whole_finished : AreWhole size classes table → finish shape h ≡ finish_is.Finished
@@ -385,6 +461,47 @@ module _ {Z : Type 0} (job : Parts) (parts size : ℕ) (classes : List ℕ) (wor
               let here : entry p h ≡ state.Clear = subst (λ q. entry q h ≡ state.Clear) g.0 clear in
               let bad = sym e ∙ here in
               absurd (cc)
+
+  -- and where the ledger is finished all places are whole
+  pub finished_whole : finish shape h ≡ finish_is.Finished → AreWhole size classes table
+  finished_whole finished part place at = go place at
+    where
+      -- no stretch is open
+      still_open : (p : ℕ) → p < n → entry p h ≡ state.Open → ⊥
+      still_open p lt e =
+          let settled = finished_settled shape h finished p lt in
+          let none : shape.classes * 0 ≡ 0 = mul-zero shape.classes in
+          let here : entry (piece_at shape p 0) h ≡ state.Open =
+          subst (λ q. entry q h ≡ state.Open) (omega (arith, none)) e in
+          let waits = status-open (λ k. entry (piece_at shape p k) h) (block_count shape) 0
+          (omega arith) (λ j l. absurd (omega (arith, l))) here in
+          let bad = sym waits ∙ settled.1 in
+          absurd (cc)
+
+      go : (place : Option Done) → slice_get table part ≡ Some place
+          → IsWholeAt size classes part place
+      go None at = pick (cases_lt part n)
+        where
+          pick : (part < n) ⊎ (n ≤ part) → length (stretch size classes part) ≡ 0
+          pick (inl lt) = absurd (still_open part lt (unclaimed_open part h (unclaimed part at)))
+          pick (inr le) = past_empty size part classes le
+      go (Some done) at = pick done.waiting refl
+        where
+          g : (done.part ≡ part) × (thread : ℕ) × (given : Vec Done Z)
+              × (slice_get back thread ≡ Some given)
+              × (k : ℕ) × (slice_get given.items k ≡ Some done)
+          g = given.each part done at
+
+          stands : Stands g.1 h done.part done.waiting
+          stands = (own_done g.1 g.2 g.4 done g.3 g.5).1
+
+          pick : (x : Option Waiting) → done.waiting ≡ x → done.waiting ≡ None
+          pick None e = e
+          pick (Some v) e =
+              let held : held_by g.1 h ≡ Some done.part = subst (Stands g.1 h done.part) e stands in
+              let low = held_piece shape g.1 done.part h all.legal held in
+              absurd (still_open done.part (omega (arith, low, pieces n crew))
+              (held_open g.1 done.part h held))
 
 -- ---- first tests of stretches
 
@@ -444,23 +561,37 @@ reports_stand s job size classes firsts w (Event.Report u o ∷ h) l known = (
   reports_stand s job size classes firsts w h l.1 known,
 )
 
--- what was found of all stretches, where no class waits
-pub of_stretches : {Z : Type 0} (job : Parts) (parts size : ℕ) (classes : List ℕ) (workers : ℕ)
-    (P : Type 0) (S : Stops) (back : List (Vec Done Z)) (table : List (Option Done))
-    (firsts : List (Option ℕ)) → IsCutOf job parts size classes → 0 < workers
-    → AreGivenBack parts back table
-    → AreShared job size classes (shape_of_stretches (stretch_count size classes)
-    (crew_of workers (stretch_count size classes))) P S back
-    → AreWhole size classes table
+-- what was found of all stretches, where the ledger is finished
+pub of_stretches : {Z : Type 0} (job : Parts) (size : ℕ) (classes : List ℕ) (workers : ℕ)
+    (P : Type 0) (S : Stops) (back : List (Vec Done Z)) (firsts : List (Option ℕ))
+    (closed : ClosedFace)
+    → (all : AreShared job size classes (shape_of_stretches (stretch_count size classes)
+    (crew_of workers (stretch_count size classes))) P S back closed)
+    → finish (shape_of_stretches (stretch_count size classes)
+    (crew_of workers (stretch_count size classes))) all.history ≡ finish_is.Finished
     → AreClassFirsts job.list.model job.circuit job.tests.tests classes firsts
-    → AreOfStretches job size classes workers firsts
-of_stretches {Z} job parts size classes workers P S back table firsts cut many given all whole known =
+    → AreOfStretches job size classes workers firsts closed
+of_stretches {Z} job size classes workers P S back firsts closed all finished known =
+    let shape : closed.shape ≡ shape_of_stretches (stretch_count size classes)
+    (crew_of workers (stretch_count size classes)) = ap (λ (f : ClosedFace). f.shape) all.shows in
     record {
+      shape = shape;
       history = all.history;
-      legal = all.legal;
-      finished = whole_finished job parts size classes workers P S back table cut many given all
-          whole;
+      legal = subst (λ (s : Shape). IsLegal s all.history) (sym shape) all.legal;
+      shows = subst (λ (s : Shape). closed ≡ closed_face s all.history) (sym shape) all.shows;
+      finished = subst (λ (s : Shape). finish s all.history ≡ finish_is.Finished) (sym shape)
+          finished;
       reports = λ w. reports_stand (shape_of_stretches (stretch_count size classes)
           (crew_of workers (stretch_count size classes))) job size classes firsts w all.history
           all.legal known;
     }
+
+-- the same under other names
+pub stretches_under : (job : Parts) (count parts size : ℕ) (cut classes : List ℕ) (workers : ℕ)
+    (firsts : List (Option ℕ)) (closed : ClosedFace) → IsCutOf job count size cut → count ≡ parts
+    → cut ≡ classes → AreOfStretches job size cut workers firsts closed
+    → AreOfStretches job (stretch_size (length classes) parts) classes workers firsts closed
+stretches_under job count parts size cut classes workers firsts closed is e f of =
+    subst (λ n. AreOfStretches job (stretch_size (length classes) n) classes workers firsts closed) e
+    (subst (λ l. AreOfStretches job (stretch_size (length l) count) l workers firsts closed) f
+    (subst (λ n. AreOfStretches job n cut workers firsts closed) is.size_is of))

@@ -31,8 +31,8 @@ pub done_along : (job : Parts) (size : ℕ) (classes : List ℕ) (w : ℕ) (P P'
     (S S' : Stops) (done : Done) → (P' → P) → ((u k b : ℕ) → S u k b → S' u k b)
     → IsDone job size classes w P S done → IsDone job size classes w P' S' done
 done_along job size classes w P P' S S' done q t is = record {
-  stop = is.stop;
-  ended = go is.stop is.ended;
+  worker_is = is.worker_is;
+  ended = go done.stop is.ended;
   lowest = is.lowest;
   passed = λ p. is.passed (q p);
 }

@@ -1,6 +1,7 @@
 -- The run of one worker alone over a list of classes: block after block, and on each block in the
 -- order of the list. A class that an earlier block detects is left out.
-use Rattle.std.specs.Prelude.{◌≡◌, ◌≢◌, ◌⊎◌, ◌<◌, ◌≤◌, ◌+◌, ℕ, nat_lt, if◌then◌else◌, List, length}
+use Rattle.std.specs.Prelude.{◌≡◌, ◌≢◌, ◌⊎◌, ◌<◌, ◌≤◌, ◌+◌, ℕ, nat_lt, if◌then◌else◌, List, []}
+use Rattle.std.specs.Prelude.{◌∷◌, length}
 use Rattle.std.specs.Prelude.{slice_get, All, Option, Some, None}
 use Rattle.std.specs.declared.vec.Vec.{Vec}
 use Rattle.patterns.specs.Least.{Table, least}
@@ -9,6 +10,7 @@ use Rattle.block_sim.specs.Parts.{Parts}
 use Rattle.workers.specs.declared.alone.Stop.{Stop}
 use Rattle.workers.specs.declared.alone.Waiting.{Waiting}
 use Rattle.workers.specs.Schedule.{IsTableOf}
+use Rattle.workers.specs.Verdict.{AreClassFirsts}
 use Rattle.workers.specs.Work.{Stops}
 use Rattle.workers.specs.Part.{AreAllByRegion, ArePartOf, stretch, stretch_size}
 use Rattle.workers.specs.declared.taken.Done.{Done}
@@ -80,10 +82,11 @@ lower_of (Some one) (Some other) =
 -- names the lowest class that isn't settled, and where the gate lets all pass it wasn't stopped.
 pub record IsDone (job : Parts) (size : ℕ) (classes : List ℕ) (worker : ℕ)
     (passing : Type 0) (stops : Stops) (done : Done) : Type 0 where
-  pub stop : Option Stop
-  pub ended : HasEnded job (stretch size classes done.part) worker stops stop done.firsts.items
-  pub lowest : IsLowest (IsOpenIn job (stretch size classes done.part) stop) done.waiting
-  pub passed : passing → stop ≡ None
+  pub worker_is : done.worker ≡ worker
+  pub ended : HasEnded job (stretch size classes done.part) worker stops done.stop
+      done.firsts.items
+  pub lowest : IsLowest (IsOpenIn job (stretch size classes done.part) done.stop) done.waiting
+  pub passed : passing → done.stop ≡ None
 
 -- the same of each of several parts
 abbrev pub AreDone : Parts → ℕ → List ℕ → ℕ → Type 0 → Stops → List Done → Type 0
@@ -116,42 +119,77 @@ pub record AreGivenBack {Z : Type 0} (parts : ℕ) (back : List (Vec Done Z))
       → slice_get back thread ≡ Some given → slice_get given.items k ≡ Some done
       → slice_get table done.part ≢ Some None
 
--- the gate may stop each of so many workers in one of the stretches, so far as there is a stretch
--- with a class for each
-abbrev pub AreAllStopped : Parts → ℕ → List ℕ → ℕ → Stops → Type 0
-AreAllStopped job size classes workers stops = (w : ℕ) → w < workers
-    → 0 < length (stretch size classes w)
-    → (part : ℕ) × (stop : Stop) × IsStopAt job (stretch size classes part) w stops stop
+-- the run of one stretch: its classes, the worker that ran it, or none that began it, and where it
+-- ended before its last piece
+pub record PartRun : Type 0 where
+  pub classes : List ℕ
+  pub worker : Option ℕ
+  pub stop : Option Stop
 
--- No worker began a stretch that has a class: each was stopped before, so no gate lets all pass, and
--- there is a block.
-pub record NoneBegan (job : Parts) (size : ℕ) (classes : List ℕ) (workers : ℕ)
-    (passing : Type 0) (stops : Stops) : Type 0 where
-  pub shut : ¬ passing
-  pub some : 0 < blocks (length job.tests.tests)
-  pub stopped : AreAllStopped job size classes workers stops
-
--- where the run of a stretch that no worker began stands
+-- where the run of a stretch that no worker began ended
 abbrev pub at_first : Stop
 at_first = record { place = 0; block = 0 }
 
--- what is known of a stretch that no worker began: each of its classes waits for block 0
-pub record IsUnbegun (job : Parts) (size : ℕ) (classes : List ℕ) (done : Done) : Type 0 where
-  pub none : length (stretch size classes done.part) ≡ 0
-      → (done.waiting ≡ None) × (length done.firsts.items ≡ 0)
-  pub some : 0 < length (stretch size classes done.part)
-      → IsLowest (IsOpenIn job (stretch size classes done.part) (Some at_first)) done.waiting
+-- the run of a stretch that no worker began: it ended before its first piece, if it has one
+abbrev pub unbegun_run : List ℕ → PartRun
+unbegun_run [] = record { classes = []; worker = None; stop = None }
+unbegun_run (class ∷ classes) =
+    record { classes = class ∷ classes; worker = None; stop = Some at_first }
 
--- what stands in a place of a table of parts is what one of so many workers found in the part of
--- this number, and where nothing does no worker began it
+-- what a place of a table of stretches tells of the run of a stretch: a worker found this, or none
+-- began it
+abbrev pub run_at : List ℕ → Option Done → PartRun
+run_at classes None = unbegun_run classes
+run_at classes (Some done) =
+    record { classes = classes; worker = Some done.worker; stop = done.stop }
+
+-- these are the runs of the stretches of which a table tells, from this stretch on
+abbrev pub runs_from : ℕ → List ℕ → ℕ → List (Option Done) → List PartRun
+runs_from size classes part [] = []
+runs_from size classes part (place ∷ table) =
+    run_at (stretch size classes part) place ∷ runs_from size classes (part + 1) table
+
+-- the gate stopped this worker in one of the runs
+abbrev pub IsStoppedAmong : Parts → Stops → List PartRun → ℕ → Type 0
+IsStoppedAmong job stops runs w = (part : ℕ) × (run : PartRun) × (stop : Stop)
+    × (slice_get runs part ≡ Some run) × (run.worker ≡ Some w) × (run.stop ≡ Some stop)
+    × IsStopAt job run.classes w stops stop
+
+-- the gate stopped each of so many workers in one of the runs, so far as there is a stretch with a
+-- class for each
+abbrev pub AreAllStopped : Parts → ℕ → List ℕ → ℕ → Stops → List PartRun → Type 0
+AreAllStopped job size classes workers stops runs = (w : ℕ) → w < workers
+    → 0 < length (stretch size classes w) → IsStoppedAmong job stops runs w
+
+-- How a run of a stretch ended: one of the workers ran it, and it was stopped only where the gate
+-- may stop the worker. Or no worker began it: then it has no class, or the gate stopped each worker
+-- in one of the runs.
+abbrev pub HasRunSo : Parts → ℕ → List ℕ → ℕ → Stops → List PartRun → PartRun → Option ℕ → Type 0
+HasRunSo job size classes workers stops runs run (Some w) = (w < workers)
+    × ((stop : Stop) → run.stop ≡ Some stop → IsStopAt job run.classes w stops stop)
+HasRunSo job size classes workers stops runs run None = (run ≡ unbegun_run run.classes)
+    × (0 < length run.classes → AreAllStopped job size classes workers stops runs)
+
+-- the runs of so many stretches of classes
+pub record AreRunsOf (job : Parts) (size : ℕ) (classes : List ℕ) (workers : ℕ) (stops : Stops)
+    (n : ℕ) (runs : List PartRun) : Type 0 where
+  pub count : length runs ≡ n
+  pub each : (part : ℕ) (run : PartRun) → slice_get runs part ≡ Some run
+      → (run.classes ≡ stretch size classes part)
+      × HasRunSo job size classes workers stops runs run run.worker
+
+-- What stands in a place of a table of stretches is what one of so many workers found in the
+-- stretch of this number, and where nothing does no worker began it. Then it has no class, or the
+-- gate stopped each worker in one of the runs, so it does not let all pass, and there is a block.
 pub record AreFoundByPart (job : Parts) (size : ℕ) (classes : List ℕ) (workers : ℕ)
     (passing : Type 0) (stops : Stops) (table : List (Option Done)) : Type 0 where
   pub each : (part : ℕ) (done : Done) → slice_get table part ≡ Some (Some done)
-      → (done.part ≡ part) × (worker : ℕ) × (worker < workers)
-      × IsDone job size classes worker passing stops done
+      → (done.part ≡ part) × (done.worker < workers)
+      × IsDone job size classes done.worker passing stops done
   pub none : (part : ℕ) → slice_get table part ≡ Some None
       → 0 < length (stretch size classes part)
-      → NoneBegan job size classes workers passing stops
+      → (¬ passing) × (0 < blocks (length job.tests.tests))
+      × AreAllStopped job size classes workers stops (runs_from size classes 0 table)
 
 -- a place of a table of parts is whole: a worker found out all of the part, or it has no class
 abbrev pub IsWholeAt : ℕ → List ℕ → ℕ → Option Done → Type 0
@@ -163,32 +201,37 @@ abbrev pub AreWhole : ℕ → List ℕ → List (Option Done) → Type 0
 AreWhole size classes table = (part : ℕ) (place : Option Done) → slice_get table part ≡ Some place
     → IsWholeAt size classes part place
 
--- the run of one part: its classes, the worker that ran it, and where the gate stopped that
-pub record PartRun : Type 0 where
-  pub classes : List ℕ
-  pub worker : ℕ
-  pub stop : Option Stop
-
--- the gate may stop the run there, or no worker began it, as the gate may stop each before
-abbrev pub MayStop : Parts → ℕ → List ℕ → ℕ → Stops → PartRun → Stop → Type 0
-MayStop job size classes workers stops run stop =
-    IsStopAt job run.classes run.worker stops stop
-    ⊎ ((stop ≡ at_first) × AreAllStopped job size classes workers stops)
-
--- the runs of the first n stretches of classes, each by one of the workers, and stopped only where
--- the gate may stop it, or not begun where the gate may stop each worker before
-pub record AreRunsOf (job : Parts) (size : ℕ) (classes : List ℕ) (workers : ℕ) (stops : Stops)
-    (n : ℕ) (runs : List PartRun) : Type 0 where
-  pub count : length runs ≡ n
-  pub each : (part : ℕ) (run : PartRun) → slice_get runs part ≡ Some run
-      → (run.classes ≡ stretch size classes part) × (run.worker < workers)
-      × ((stop : Stop) → run.stop ≡ Some stop
-      → MayStop job size classes workers stops run stop)
-
 -- a class of one of the runs isn't settled, and waits for this block
 abbrev pub WaitsIn : Parts → List PartRun → ℕ → ℕ → Type 0
 WaitsIn job runs class block = (part : ℕ) × (run : PartRun) × (slice_get runs part ≡ Some run)
     × IsOpenIn job run.classes run.stop class block
+
+-- the lowest class of a run that isn't settled
+abbrev pub IsLowestIn : Parts → PartRun → Option Waiting → Type 0
+IsLowestIn job run lowest = IsLowest (IsOpenIn job run.classes run.stop) lowest
+
+-- A place of a table of stretches tells the first tests of the classes of a stretch. An empty one
+-- does where the stretch has no class.
+abbrev pub IsFoundAt : Parts → List ℕ → Option Done → Type 0
+IsFoundAt job own None = length own ≡ 0
+IsFoundAt job own (Some done) =
+    AreClassFirsts job.list.model job.circuit job.tests.tests own done.firsts.items
+
+-- all do
+abbrev pub AreAllFound : Parts → ℕ → List ℕ → List (Option Done) → Type 0
+AreAllFound job size classes table = (part : ℕ) (place : Option Done)
+    → slice_get table part ≡ Some place → IsFoundAt job (stretch size classes part) place
+
+-- A place of a table of stretches tells the lowest class of a stretch that isn't settled. An empty
+-- one does where there is a block, or the stretch has no class.
+abbrev pub IsLowestAt : Parts → List ℕ → Option Done → Type 0
+IsLowestAt job own None = 0 < length own → 0 < blocks (length job.tests.tests)
+IsLowestAt job own (Some done) = IsLowestIn job (run_at own (Some done)) done.waiting
+
+-- all do
+abbrev pub AreAllLowest : Parts → ℕ → List ℕ → List (Option Done) → Type 0
+AreAllLowest job size classes table = (part : ℕ) (place : Option Done)
+    → slice_get table part ≡ Some place → IsLowestAt job (stretch size classes part) place
 
 -- A run of classes in so many stretches of this size that its gate stopped waits for this class and
 -- block: of all classes of all stretches that aren't settled the class is the lowest.

@@ -12,12 +12,14 @@ use Rattle.fault_ledger.specs.declared.Reply.TheVariants as reply
 use Rattle.fault_ledger.specs.History.{History, ContinuesWithout, claims, entry, held_by, piece_count}
 use Rattle.fault_ledger.specs.Answer.{IsLegal}
 use Rattle.fault_ledger.specs.Settled.{finish}
-use Rattle.fault_ledger.specs.Seats.{Makes, Place, Sitter}
+use Rattle.fault_ledger.specs.Seats.{ClosedFace, Makes, Place, Sitter, closed_face}
 use Rattle.workers.specs.declared.alone.Waiting.{Waiting}
 use Rattle.workers.specs.declared.taken.Done.{Done}
 use Rattle.workers.specs.declared.taken.Served.{Served}
 use Rattle.workers.specs.Alone.{AreDone}
-use Rattle.workers.specs.Part.{AreAllByRegion, stretch, stretch_count, stretch_size}
+use Rattle.workers.specs.declared.parts.PartVerdict.{PartVerdict}
+use Rattle.workers.specs.declared.parts.PartVerdict.TheVariants.{First}
+use Rattle.workers.specs.Part.{AreAllByRegion, ArePartOf, stretch, stretch_count, stretch_size}
 use Rattle.workers.specs.Verdict.{AreClassFirsts, VerdictList}
 use Rattle.workers.specs.Work.{EachReport, Stops}
 
@@ -117,12 +119,15 @@ pub record AreApart {E Z : Type 0} (back : List (Result Served E)) (seats : List
       → (served : Served) × (slice_get back k ≡ Some (Ok served)) × (seat ≡ served.seat)
       × (own.items ≡ served.dones.items)
 
--- What workers found at a ledger of stretches: some legal history of it accounts for all of it.
+-- What workers found at a ledger of stretches that is closed: a legal history that it shows accounts
+-- for all of it.
 pub record AreShared {Z : Type 0} (job : Parts) (size : ℕ) (classes : List ℕ) (shape : Shape)
-    (passing : Type 0) (stops : Stops) (dones : List (Vec Done Z)) : Type 0 where
+    (passing : Type 0) (stops : Stops) (dones : List (Vec Done Z))
+    (closed : ClosedFace) : Type 0 where
   pub count : length dones ≡ shape.workers
   pub history : History
   pub legal : IsLegal shape history
+  pub shows : closed ≡ closed_face shape history
   pub each : (w : ℕ) (own : Vec Done Z) → slice_get dones w ≡ Some own
       → Accounts job size classes w passing stops history own.items
       × EndsServing shape history own.items
@@ -134,25 +139,41 @@ StandsFor job size classes firsts (Some part) =
     AreClassFirsts job.list.model job.circuit job.tests.tests (stretch size classes part)
     (take size (drop (part * size) firsts))
 
--- First tests of classes that were found stretch by stretch: some legal and finished history of a
--- ledger of these stretches says so, in which each report stands for those of its stretch.
+-- First tests of classes that were found stretch by stretch: the closed ledger of these stretches
+-- shows a legal and finished history, in which each report stands for those of its stretch.
 pub record AreOfStretches (job : Parts) (size : ℕ) (classes : List ℕ) (workers : ℕ)
-    (firsts : List (Option ℕ)) : Type 0 where
+    (firsts : List (Option ℕ)) (closed : ClosedFace) : Type 0 where
+  pub shape : closed.shape ≡ shape_of_stretches (stretch_count size classes)
+      (crew_of workers (stretch_count size classes))
   pub history : History
-  pub legal : IsLegal (shape_of_stretches (stretch_count size classes)
-      (crew_of workers (stretch_count size classes))) history
-  pub finished : finish (shape_of_stretches (stretch_count size classes)
-      (crew_of workers (stretch_count size classes))) history ≡ Finished
+  pub legal : IsLegal closed.shape history
+  pub shows : closed ≡ closed_face closed.shape history
+  pub finished : finish closed.shape history ≡ Finished
   pub reports : (w : ℕ)
       → EachReport (λ o h. StandsFor job size classes firsts (held_by w h)) w history []
 
 -- The verdicts were found stretch by stretch of all classes, which are cut into so many: that of a
 -- fault is one that was found of its class.
-pub record IsOfStretches (job : Parts) (parts workers : ℕ) (v : VerdictList) : Type 0 where
+pub record IsOfStretches (job : Parts) (parts workers : ℕ) (v : VerdictList)
+    (closed : ClosedFace) : Type 0 where
   pub classes : List ℕ
   pub are : AreAllByRegion job classes
   pub firsts : List (Option ℕ)
-  pub of : AreOfStretches job (stretch_size (length classes) parts) classes workers firsts
+  pub of : AreOfStretches job (stretch_size (length classes) parts) classes workers firsts closed
   pub each : (i class : ℕ) (first : Option ℕ) → slice_get job.classes.class_of i ≡ Some class
       → slice_get v.firsts i ≡ Some first
+      → (k : ℕ) × (slice_get classes k ≡ Some class) × (slice_get firsts k ≡ Some first)
+
+-- The verdicts of a part were found stretch by stretch of its classes, which are cut into some
+-- stretches: that on a fault of one of these is one that was found of its class.
+pub record IsPartOfStretches (job : Parts) (parts part workers : ℕ)
+    (verdicts : List PartVerdict) (closed : ClosedFace) : Type 0 where
+  pub classes : List ℕ
+  pub are : ArePartOf job parts part classes
+  pub stretches : ℕ
+  pub firsts : List (Option ℕ)
+  pub of : AreOfStretches job (stretch_size (length classes) stretches) classes workers firsts
+      closed
+  pub each : (i class : ℕ) (first : Option ℕ) → slice_get job.classes.class_of i ≡ Some class
+      → slice_get verdicts i ≡ Some (First first)
       → (k : ℕ) × (slice_get classes k ≡ Some class) × (slice_get firsts k ≡ Some first)

@@ -39,7 +39,9 @@ use block_sim::Job;
 pub use classes::run_classes;
 pub use fault_ledger::MAX_WORKERS;
 pub use open::run_open;
-pub use parts::{PartVerdict, in_one_part, part_of, run_in_parts, run_part};
+pub use parts::{
+    LedgerRun, PartVerdict, in_one_part, part_of, run_in_parts, run_over_ledger, run_part,
+};
 use patterns::MAX_PIECES;
 pub use schedule::run_schedule;
 use std::alloc::{AllocError, AllocFailed};

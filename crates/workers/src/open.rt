@@ -1,7 +1,9 @@
 //! Runs whose workers nothing stops, in as many parts as serve them.
 
-ghost use Rattle.std.specs.Prelude.{◌<◌, ◌≤◌, ⊤, IfErr, IfOk, OnOk};
+ghost use Rattle.std.specs.Prelude.{◌<◌, ◌≤◌, ⊤, ℕ, IfErr, IfOk, OnOk};
+ghost use Rattle.fault_ledger.specs.Seats.{ClosedFace};
 ghost use Rattle.workers.specs.Refused.{IsRunFault};
+ghost use Rattle.workers.specs.Stretches.{IsOfStretches};
 ghost use Rattle.workers.specs.Verdict.{AreBehindHits, AreFirsts};
 
 use crate::parts::run_in_parts;
@@ -26,6 +28,8 @@ pub fn run_open<R: Threads + Wait>(
         AreFirsts job.now.list.model job.now.circuit job.now.tests.tests v.firsts) }
     ensures skipped { IfOk result (λ v. AreBehindHits job.now v.skipped) }
     ensures workers { OnOk result ((0 < workers) × (workers ≤ 64)) }
+    ensures stretches { IfOk result (λ v. (parts : ℕ) × (ledger : ClosedFace)
+        × IsOfStretches job.now parts workers v ledger) }
     ensures refused { IfErr result (IsRunFault job.now workers ⊤ (λ _ _ _. ⊥)) }
 {
     let parts = parts_for(job, workers);

@@ -1,19 +1,20 @@
 //! Runs over a part of the classes, and over all parts.
 
-ghost use Rattle.std.specs.Prelude.{◌≡◌, ◌⊎◌, ◌<◌, ◌≤◌, ◌^◌, ℕ, All, IfErr, IfOk, List, None};
+ghost use Rattle.std.specs.Prelude.{◌≡◌, ◌⊎◌, ◌<◌, ◌≤◌, ◌^◌, ℕ, All, IfErr, IfOk, List};
 ghost use Rattle.std.specs.Prelude.{OnOk, Some, length, map, slice_index_or, vec_len};
 ghost use Rattle.patterns.specs.Tests.{blocks, max_pieces};
 ghost use Rattle.block_sim.specs.Parts.{BelongTogether, Parts};
 ghost use Rattle.fault_ledger.specs.Seats.{ClosedFace, Closes, Sitter, newcomers};
-ghost use Rattle.workers.specs.Alone.{AreFoundByPart, AreGivenBack, ArePut, AreWhole};
-ghost use Rattle.workers.specs.Alone.{IsUnbegun};
+ghost use Rattle.workers.specs.Alone.{AreAllFound, AreAllLowest, AreGivenBack, ArePut, IsLowest};
+ghost use Rattle.workers.specs.Alone.{IsLowestAt, IsLowestIn, WaitsIn, run_at, runs_from};
 ghost use Rattle.workers.specs.Part.{AreClassVerdicts, ArePartVerdicts, IsInOnePart};
 ghost use Rattle.workers.specs.Part.{IsOfPart, first_in, stretch, stretch_count};
 ghost use Rattle.workers.specs.Rank.{IsCutOf};
 ghost use Rattle.workers.specs.Refused.{ArePartsWithin, IsPartFault, IsPartsFault, IsPartWithin};
 ghost use Rattle.workers.specs.Refused.{IsStretchesFault};
 ghost use Rattle.workers.specs.Stretches.{AreApart, AreOfStretches, AreShared};
-ghost use Rattle.workers.specs.Stretches.{IsOfStretches, crew_of, shape_of_stretches};
+ghost use Rattle.workers.specs.Stretches.{IsOfStretches, IsPartOfStretches, crew_of};
+ghost use Rattle.workers.specs.Stretches.{shape_of_stretches};
 ghost use Rattle.workers.specs.Verdict.{AreBehindHits, AreClassFirsts, AreFirsts};
 ghost use Rattle.workers.specs.Verdict.{behind, pieces_behind};
 
@@ -24,7 +25,7 @@ use crate::taken::{Done, Served, empty_table, not_begun, take_parts};
 use crate::worker::Gate;
 use crate::{RunFault, Verdicts, check_pieces, check_workers};
 use block_sim::Job;
-use fault_ledger::{Seat, SharedLedger};
+use fault_ledger::{Closed, Finish, Seat, SharedLedger};
 use patterns::BLOCK_SIZE;
 use std::alloc::{AllocError, Global};
 use std::sync::Wait;
@@ -155,6 +156,8 @@ pub fn run_part<G: Gate + Sync, R: Threads + Wait>(
         ArePartVerdicts job.now parts part verdicts.items) }
     ensures workers { OnOk result ((0 < workers) × (workers ≤ 64)) }
     ensures within { OnOk result (IsPartWithin job.now parts part) }
+    ensures stretches { IfOk result (λ verdicts. (ledger : ClosedFace)
+        × IsPartOfStretches job.now parts part workers verdicts.items ledger) }
     ensures refused { IfErr result (IsPartFault job.now parts part workers
         (G.passing gate.now) (G.stops gate.now)) }
 {
@@ -162,10 +165,11 @@ pub fn run_part<G: Gate + Sync, R: Threads + Wait>(
     let own = part_classes(alloc, job, part, parts)?;
     let few = count_in(job, own.as_slice());
     check_pieces(job, few)?;
-    let cut = Cut::new(job, own, stretches_for(job, few, workers));
+    let cut = Cut::new(job, own, stretches_for(few, workers));
     let gathered = gather(rt, alloc, job, &cut, workers, gate)?;
     let count = job.classes().count();
-    let table = by_class(alloc, count, cut.classes.as_slice(), gathered.as_slice())?;
+    let found = gathered.firsts.as_slice();
+    let table = by_class(alloc, count, cut.classes.as_slice(), found)?;
     let verdicts = of_faults(alloc, job, table.as_slice())?;
     Ok(verdicts)
 }
@@ -205,7 +209,50 @@ pub fn run_in_parts<G: Gate + Sync, R: Threads + Wait>(
     ensures skipped { IfOk result (λ v. AreBehindHits job.now v.skipped) }
     ensures workers { OnOk result ((0 < workers) × (workers ≤ 64)) }
     ensures within { OnOk result (ArePartsWithin job.now parts) }
-    ensures stretches { IfOk result (λ v. IsOfStretches job.now parts workers v) }
+    ensures stretches { IfOk result (λ v. (ledger : ClosedFace)
+        × IsOfStretches job.now parts workers v ledger) }
+    ensures refused { IfErr result (IsPartsFault job.now parts workers (G.passing gate.now)
+        (G.stops gate.now)) }
+{
+    let run = run_over_ledger(rt, alloc, job, parts, workers, gate)?;
+    let LedgerRun {
+        verdicts,
+        ledger: _ledger,
+    } = run;
+    Ok(verdicts)
+}
+
+/// What a run in parts gives: the verdicts, and the closed ledger that handed out the parts.
+#[derive(Drop)]
+pub struct LedgerRun {
+    /// The verdicts.
+    pub verdicts: Verdicts,
+    /// The ledger, whose classes are the parts that have a class of the job, each with one block. A
+    /// part is Clear in it once all its classes are settled.
+    pub ledger: Closed,
+}
+
+/// Runs all classes of a job as [`run_in_parts`] does, and gives the closed ledger of the parts
+/// beside the verdicts. The ledger shows a finished history, in which each report stands for a part
+/// whose classes have these first tests.
+///
+/// It is refused as [`run_in_parts`] is.
+pub fn run_over_ledger<G: Gate + Sync, R: Threads + Wait>(
+    rt: &R,
+    alloc: Global,
+    job: &Job,
+    parts: u32,
+    workers: u32,
+    gate: &G,
+) -> Result<LedgerRun, RunFault>
+    requires { 0 < parts }
+    ensures firsts { IfOk result (λ run.
+        AreFirsts job.now.list.model job.now.circuit job.now.tests.tests run.verdicts.firsts) }
+    ensures skipped { IfOk result (λ run. AreBehindHits job.now run.verdicts.skipped) }
+    ensures workers { OnOk result ((0 < workers) × (workers ≤ 64)) }
+    ensures within { OnOk result (ArePartsWithin job.now parts) }
+    ensures stretches { IfOk result (λ run.
+        IsOfStretches job.now parts workers run.verdicts run.ledger) }
     ensures refused { IfErr result (IsPartsFault job.now parts workers (G.passing gate.now)
         (G.stops gate.now)) }
 {
@@ -215,11 +262,13 @@ pub fn run_in_parts<G: Gate + Sync, R: Threads + Wait>(
     let all = all_classes(alloc, job)?;
     let cut = Cut::new(job, all, parts);
     let gathered = gather(rt, alloc, job, &cut, workers, gate)?;
-    let table = by_class(alloc, count, cut.classes.as_slice(), gathered.as_slice())?;
+    let Gathered { firsts, ledger } = gathered;
+    let table = by_class(alloc, count, cut.classes.as_slice(), firsts.as_slice())?;
     let blocks = job.tests().blocks();
     let skipped = skipped_behind(table.as_slice(), blocks);
     let found = firsts_of_faults(alloc, job, table.as_slice())?;
-    Ok(Verdicts::of(found, skipped))
+    let verdicts = Verdicts::of(found, skipped);
+    Ok(LedgerRun { verdicts, ledger })
 }
 
 /// The number of pieces behind the first hits of all classes.
@@ -274,60 +323,68 @@ fn table_of(
     Ok(table)
 }
 
-/// What was found in a part: what stands at its place in the table. Where nothing does, no worker
-/// began it.
-fn found_in(
+/// Puts together the first tests of the classes of all stretches.
+fn joined(
+    alloc: Global,
+    job: &Job,
+    cut: &Cut,
+    table: Vec<Option<Done>>,
+) -> Result<Vec<Option<u32>>, AllocError>
+    requires cut { IsCutOf job.now cut.now.parts cut.now.size cut.now.classes.items }
+    requires count { vec_len table ≡ cut.now.parts }
+    requires found { AreAllFound job.now cut.now.size cut.now.classes.items table.items }
+    ensures { IfOk result (λ found. AreClassFirsts job.now.list.model job.now.circuit
+        job.now.tests.tests cut.now.classes.items found.items) }
+{
+    let mut firsts = Vec::with_capacity(alloc, cut.classes.len())?;
+    for place in table {
+        match place {
+            Some(done) => firsts.extend_from_slice(done.firsts.as_slice())?,
+            None => {}
+        }
+    }
+    Ok(firsts)
+}
+
+/// The lowest class of a stretch that isn't settled, by what stands at its place in the table. An
+/// empty place is that of a stretch that no worker began.
+fn waiting_in(
     alloc: Global,
     job: &Job,
     cut: &Cut,
     part: u32,
     place: Option<Done>,
-) -> Result<Done, AllocError>
-    requires block { place ≡ None → 0 < length (stretch cut.now.size cut.now.classes.items part)
-        → 0 < blocks (length job.now.tests.tests) }
-    ensures done { IfOk result (λ done. (place ≡ Some done) ⊎ ((place ≡ None)
-        × (done.part ≡ part) × IsUnbegun job.now cut.now.size cut.now.classes.items done)) }
+) -> Result<Option<Waiting>, AllocError>
+    requires { IsLowestAt job.now (stretch cut.now.size cut.now.classes.items part) place }
+    ensures { IfOk result (IsLowestIn job.now
+        (run_at (stretch cut.now.size cut.now.classes.items part) place)) }
 {
     match place {
-        Some(done) => Ok(done),
+        Some(done) => Ok(done.waiting),
         None => not_begun(alloc, job, cut, part),
     }
 }
 
-/// Puts together what was found in all parts.
-fn join_parts<G: Gate>(
+/// The lowest class of all stretches that isn't settled.
+fn lowest_waiting(
     alloc: Global,
     job: &Job,
     cut: &Cut,
-    workers: u32,
-    gate: &G,
     table: Vec<Option<Done>>,
-) -> Result<Vec<Option<u32>>, RunFault>
-    requires cut { IsCutOf job.now cut.now.parts cut.now.size cut.now.classes.items }
-    requires workers { (0 < workers) × (workers ≤ 64) }
+) -> Result<Option<Waiting>, AllocError>
     requires count { vec_len table ≡ cut.now.parts }
-    requires found { AreFoundByPart job.now cut.now.size cut.now.classes.items workers
-        (G.passing gate.now) (G.stops gate.now) table.items }
-    ensures gathered { IfOk result (λ found. AreClassFirsts job.now.list.model job.now.circuit
-        job.now.tests.tests cut.now.classes.items found.items) }
-    ensures whole { OnOk result (AreWhole cut.now.size cut.now.classes.items table.items) }
-    ensures refused { IfErr result (IsStretchesFault job.now cut.now.size cut.now.classes.items
-        cut.now.parts workers (G.passing gate.now) (G.stops gate.now)) }
+    requires lowest { AreAllLowest job.now cut.now.size cut.now.classes.items table.items }
+    ensures { IfOk result (IsLowest (WaitsIn job.now
+        (runs_from cut.now.size cut.now.classes.items 0 table.items))) }
 {
-    let _tests = job.tests();
-    let mut firsts = Vec::with_capacity(alloc, cut.classes.len())?;
     let mut lowest = None;
     let mut part = 0;
     for place in table {
-        let done = found_in(alloc, job, cut, part, place)?;
-        firsts.extend_from_slice(done.firsts.as_slice())?;
-        lowest = lower_of(lowest, done.waiting);
+        let waiting = waiting_in(alloc, job, cut, part, place)?;
+        lowest = lower_of(lowest, waiting);
         part += 1;
     }
-    match lowest {
-        Some(Waiting { class, block }) => Err(RunFault::Unfinished { class, block }),
-        None => Ok(firsts),
-    }
+    Ok(lowest)
 }
 
 /// The seats of workers and what each of them found.
@@ -352,25 +409,32 @@ fn set_apart(alloc: Global, back: Vec<Result<Served, AllocError>>) -> Result<Ret
     Ok(Returned { seats, dones })
 }
 
-/// Closes a ledger with what its workers gave back, and gives what they found.
+/// A closed ledger of stretches, and what each of its workers found.
+#[derive(Drop)]
+struct Handed {
+    ledger: Closed,
+    dones: Vec<Vec<Done>>,
+}
+
+/// Closes a ledger with what its workers gave back.
 fn close_over(
     alloc: Global,
     ledger: SharedLedger,
     back: Vec<Result<Served, AllocError>>,
-) -> Result<Vec<Vec<Done>>, RunFault>
+) -> Result<Handed, RunFault>
     requires some { 0 < length back.items }
     requires places { All (λ one. IfOk one (λ served. served.seat.place ≡ ledger)) back.items }
-    ensures closed { IfOk result (λ dones. (seats : List Sitter)
-        × AreApart back.items seats dones.items
-        × (closed : ClosedFace) × Closes ledger.shape seats closed) }
+    ensures closed { IfOk result (λ handed. (seats : List Sitter)
+        × AreApart back.items seats handed.dones.items
+        × Closes ledger.shape seats handed.ledger) }
     ensures refused { IfErr result (λ fault. fault ≡ RunFault.Memory) }
 {
     let returned = set_apart(alloc, back)?;
     let Returned { seats, dones } = returned;
-    let Ok(_closed) = ledger.close(alloc, seats) else {
-        return Err(RunFault::Memory);
-    };
-    Ok(dones)
+    match ledger.close(alloc, seats) {
+        Ok(ledger) => Ok(Handed { ledger, dones }),
+        Err(_) => Err(RunFault::Memory),
+    }
 }
 
 /// A new shared ledger of so many stretches, and the seats of its workers. A job has no more classes
@@ -394,7 +458,7 @@ fn ledger_of(
 }
 
 /// Lets workers run the stretches that they claim at a shared ledger, in threads of their own, and
-/// gives what each of them found.
+/// gives the closed ledger and what each of them found.
 fn hand_out<G: Gate + Sync, R: Threads + Wait>(
     rt: &R,
     alloc: Global,
@@ -402,14 +466,14 @@ fn hand_out<G: Gate + Sync, R: Threads + Wait>(
     cut: &Cut,
     workers: u32,
     gate: &G,
-) -> Result<Vec<Vec<Done>>, RunFault>
+) -> Result<Handed, RunFault>
     requires cut { IsCutOf job.now cut.now.parts cut.now.size cut.now.classes.items }
     requires workers { (0 < workers) × (workers ≤ 64) }
-    ensures shared { IfOk result (λ dones.
+    ensures shared { IfOk result (λ handed.
         let stretches = stretch_count cut.now.size cut.now.classes.items in
         AreShared job.now cut.now.size cut.now.classes.items
         (shape_of_stretches stretches (crew_of workers stretches)) (G.passing gate.now)
-        (G.stops gate.now) dones.items) }
+        (G.stops gate.now) handed.dones.items handed.ledger) }
     ensures refused { IfErr result (λ fault.
         (fault ≡ RunFault.Memory) ⊎ (fault ≡ RunFault.Threads)) }
 {
@@ -417,11 +481,19 @@ fn hand_out<G: Gate + Sync, R: Threads + Wait>(
     let crew = workers.min(stretches).max(1);
     let (ledger, seats) = ledger_of(alloc, stretches, crew)?;
     let back = take_parts(rt, alloc, job, cut, &ledger, gate, seats)?;
-    let dones = close_over(alloc, ledger, back)?;
-    Ok(dones)
+    let handed = close_over(alloc, ledger, back)?;
+    Ok(handed)
 }
 
-/// Runs all parts, each by one worker alone.
+/// The first tests of classes that were run in stretches, and the closed ledger of these.
+#[derive(Drop)]
+struct Gathered {
+    firsts: Vec<Option<u32>>,
+    ledger: Closed,
+}
+
+/// Runs all stretches, each by one worker alone. The closed ledger tells whether all classes are
+/// settled.
 fn gather<G: Gate + Sync, R: Threads + Wait>(
     rt: &R,
     alloc: Global,
@@ -429,18 +501,31 @@ fn gather<G: Gate + Sync, R: Threads + Wait>(
     cut: &Cut,
     workers: u32,
     gate: &G,
-) -> Result<Vec<Option<u32>>, RunFault>
+) -> Result<Gathered, RunFault>
     requires cut { IsCutOf job.now cut.now.parts cut.now.size cut.now.classes.items }
     requires workers { (0 < workers) × (workers ≤ 64) }
-    ensures gathered { IfOk result (λ found. AreClassFirsts job.now.list.model job.now.circuit
-        job.now.tests.tests cut.now.classes.items found.items) }
-    ensures stretches { IfOk result (λ found. AreOfStretches job.now cut.now.size
-        cut.now.classes.items workers found.items) }
+    ensures gathered { IfOk result (λ gathered. AreClassFirsts job.now.list.model job.now.circuit
+        job.now.tests.tests cut.now.classes.items gathered.firsts.items) }
+    ensures stretches { IfOk result (λ gathered. AreOfStretches job.now cut.now.size
+        cut.now.classes.items workers gathered.firsts.items gathered.ledger) }
     ensures refused { IfErr result (IsStretchesFault job.now cut.now.size cut.now.classes.items
         cut.now.parts workers (G.passing gate.now) (G.stops gate.now)) }
 {
-    let back = hand_out(rt, alloc, job, cut, workers, gate)?;
-    let table = table_of(alloc, cut.parts, back)?;
-    let found = join_parts(alloc, job, cut, workers, gate, table)?;
-    Ok(found)
+    let _tests = job.tests();
+    let handed = hand_out(rt, alloc, job, cut, workers, gate)?;
+    let Handed { ledger, dones } = handed;
+    let table = table_of(alloc, cut.parts, dones)?;
+    match ledger.finished() {
+        Finish::Finished => {
+            let firsts = joined(alloc, job, cut, table)?;
+            Ok(Gathered { firsts, ledger })
+        }
+        Finish::Waiting {
+            class: _stretch,
+            block: _block,
+        } => match lowest_waiting(alloc, job, cut, table)? {
+            Some(Waiting { class, block }) => Err(RunFault::Unfinished { class, block }),
+            None => unreachable!(),
+        },
+    }
 }

@@ -15,35 +15,27 @@ use block_sim::Job;
 /// 0.42 s there for one part, 0.45 for 16 and 0.50 for 64.
 const PARTS_OF_A_WORKER: u32 = 4;
 
-/// A job is small where its pieces times its signals are fewer: a run of it takes some
-/// milliseconds, and the start of threads would take longer than they save.
-const SMALL_JOB: u64 = 1 << 26;
-
-/// Whether so many classes of a job are so few that several workers are no faster than one.
-fn is_small(job: &Job, classes: u32) -> bool {
-    let pieces = u64::from(classes) * u64::from(job.tests().blocks());
-    pieces.saturating_mul(u64::from(job.circuit().signals())) < SMALL_JOB
-}
-
-/// In how many stretches so many workers run so many classes of a job: one worker in one, and
-/// several in some times more than they are, so that all end at about one time. A small job is run
-/// in one stretch, and so by one worker.
-pub(crate) fn stretches_for(job: &Job, classes: u32, workers: u32) -> u32
+/// The number of stretches in which so many workers run so many classes: one worker runs them in
+/// one, and several in some times more than they are, so that all end at about one time. No more
+/// than there are classes.
+pub(crate) fn stretches_for(classes: u32, workers: u32) -> u32
     ensures { 0 < result }
 {
-    if workers < 2 || is_small(job, classes) {
+    if workers < 2 {
         1
     } else {
-        PARTS_OF_A_WORKER * workers.min(MAX_WORKERS)
+        let most = PARTS_OF_A_WORKER * workers.min(MAX_WORKERS);
+        most.min(classes).max(1)
     }
 }
 
-/// In how many parts so many workers run a job where no number of parts is given: one worker or a
-/// small job in one part, and else in some times more parts than there are workers.
+/// The number of parts in which so many workers run a job if the caller names none: one part for one
+/// worker, and else some times more parts than workers. So each worker gets a thread of its own, if
+/// there are as many classes.
 pub fn parts_for(job: &Job, workers: u32) -> u32
     ensures { 0 < result }
 {
-    stretches_for(job, job.classes().count(), workers)
+    stretches_for(job.classes().count(), workers)
 }
 
 /// Classes of a job, cut into stretches of one size. The last stretches have fewer classes, or

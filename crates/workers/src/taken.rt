@@ -8,7 +8,7 @@ ghost use Rattle.fault_ledger.specs.declared.Event.{Event};
 ghost use Rattle.fault_ledger.specs.declared.Reply.TheVariants as reply;
 ghost use Rattle.fault_ledger.specs.History.{held_by};
 ghost use Rattle.fault_ledger.specs.Seats.{Makes, newcomer, newcomers};
-ghost use Rattle.workers.specs.Alone.{IsDone, IsUnbegun};
+ghost use Rattle.workers.specs.Alone.{IsDone, IsLowestIn, unbegun_run};
 ghost use Rattle.workers.specs.Part.{stretch};
 ghost use Rattle.workers.specs.Rank.{IsCutOf};
 ghost use Rattle.workers.specs.Stretches.{AfterRun, AreServed, ClaimsStretch, HasServed};
@@ -32,9 +32,13 @@ use std::thread::{Promise, Threads};
 pub(crate) struct Done {
     /// The part, counted from 0.
     pub(crate) part: u32,
+    /// The worker that ran it, counted from 0.
+    pub(crate) worker: u32,
     /// The first test of each class of the part, or none, as far as the worker came.
     pub(crate) firsts: Vec<Option<u32>>,
-    /// The lowest class that isn't settled, where the gate stopped the worker.
+    /// Where the gate stopped the worker, if it did.
+    pub(crate) stop: Option<Stop>,
+    /// The lowest class that isn't settled, if the gate stopped the worker.
     pub(crate) waiting: Option<Waiting>,
 }
 
@@ -76,16 +80,19 @@ pub(crate) fn run_alone<G: Gate>(
     let own = cut.stretch(part);
     let rows = rows_of(alloc, job, own)?;
     let mut firsts = no_firsts(alloc, own.len())?;
-    let number = member.number;
+    let worker = member.number;
     let simulation = &mut member.simulation;
     let found = firsts.as_mut_slice();
-    let waiting = match run_list(job, rows.as_slice(), number, simulation, gate, found) {
+    let stop = run_list(job, rows.as_slice(), worker, simulation, gate, found);
+    let waiting = match stop {
         Some(stop) => lowest_open(job, own, stop, firsts.as_slice()),
         None => None,
     };
     Ok(Done {
         part,
+        worker,
         firsts,
+        stop,
         waiting,
     })
 }
@@ -102,29 +109,26 @@ fn no_firsts(alloc: Global, count: usize) -> Result<Vec<Option<u32>>, AllocError
     Ok(firsts)
 }
 
-/// What is known of a stretch that no worker began: no first test, and each class waits for block 0.
-pub(crate) fn not_begun(alloc: Global, job: &Job, cut: &Cut, part: u32) -> Result<Done, AllocError>
+/// The lowest class of a stretch that no worker began, which waits for block 0. None if the stretch
+/// has no class.
+pub(crate) fn not_begun(
+    alloc: Global,
+    job: &Job,
+    cut: &Cut,
+    part: u32,
+) -> Result<Option<Waiting>, AllocError>
     requires block { 0 < length (stretch cut.now.size cut.now.classes.items part)
         → 0 < blocks (length job.now.tests.tests) }
-    ensures part { IfOk result (λ done. done.part ≡ part) }
-    ensures unbegun { IfOk result (IsUnbegun job.now cut.now.size cut.now.classes.items) }
+    ensures { IfOk result (IsLowestIn job.now (unbegun_run
+        (stretch cut.now.size cut.now.classes.items part))) }
 {
     let own = cut.stretch(part);
-    let firsts = no_firsts(alloc, own.len())?;
     if own.is_empty() {
-        return Ok(Done {
-            part,
-            firsts,
-            waiting: None,
-        });
+        return Ok(None);
     }
+    let firsts = no_firsts(alloc, own.len())?;
     let stop = Stop { place: 0, block: 0 };
-    let waiting = lowest_open(job, own, stop, firsts.as_slice());
-    Ok(Done {
-        part,
-        firsts,
-        waiting,
-    })
+    Ok(lowest_open(job, own, stop, firsts.as_slice()))
 }
 
 /// What a worker gives back: its seat, and what it found in the stretches that it claimed.

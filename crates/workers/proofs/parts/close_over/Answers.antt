@@ -11,10 +11,9 @@ close-requires-clause-places c =
     apart_placed c.args.ledger c.args.back.items c.in_ok-returned.returned.seats.items
     c.in_ok-returned.returned.dones.items c.in_ok-returned.ensures c.requires.places
 
-pub returns-clause-closed : goal.returns-clause-closed
-returns-clause-closed c = (
+pub returns-in-Ok-clause-closed : goal.returns-in-Ok-clause-closed
+returns-in-Ok-clause-closed c = (
   c.in_ok-returned.returned.seats.items,
   c.in_ok-returned.ensures,
-  c.in-Ok._closed,
   c.in-Ok.ensures.closed,
 )

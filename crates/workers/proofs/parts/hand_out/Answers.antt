@@ -23,7 +23,7 @@ pub returns-clause-shared : goal.returns-clause-shared
 returns-clause-shared g c =
     let P = g.G.Gate.passing c.args.gate.now in
     let S = g.G.Gate.stops c.args.gate.now in
-    let x = c.in_ok-dones.ensures.closed in
+    let x = c.in_ok-handed.ensures.closed in
     let crew : c.max-crew.result ≡ crew_of c.args.workers c.filled-stretches.result = omega (
       arith,
       c.max-crew.ensures,
@@ -31,6 +31,7 @@ returns-clause-shared g c =
     ) in
     shared_at c.args.job.now c.args.cut.now.size c.args.cut.now.classes.items
     c.in_ok-ledger.ledger.shape c.filled-stretches.result c.max-crew.result c.args.workers P S
-    c.in_ok-dones.dones.items c.in_ok-ledger.ensures.ledger c.filled-stretches.ensures.count crew
+    c.in_ok-handed.handed.dones.items c.in_ok-handed.handed.ledger c.in_ok-ledger.ensures.ledger c.filled-stretches.ensures.count crew
     (shared c.args.job.now c.args.cut.now.size c.args.cut.now.classes.items c.in_ok-ledger.ledger P
-    S c.in_ok-back.back.items x.0 c.in_ok-dones.dones.items x.2 c.in_ok-back.ensures.served x.1 x.3)
+    S c.in_ok-back.back.items x.0 c.in_ok-handed.handed.dones.items c.in_ok-handed.handed.ledger
+    c.in_ok-back.ensures.served x.1 x.2)

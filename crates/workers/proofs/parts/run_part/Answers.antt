@@ -1,28 +1,61 @@
-use Rattle.std.proofs.Common.{◌≡◌, ◌∙◌, List, ap, get_or, length, map, subst}
+use Rattle.std.proofs.Common.{◌≡◌, ◌∙◌, List, ap, get_or, length, map, refl, subst}
 use Rattle.fault_model.specs.Collapse.{Collapsed}
 use Rattle.workers.specs.declared.parts.PartVerdict.{PartVerdict}
 use Rattle.workers.specs.declared.parts.PartVerdict.TheVariants.{OtherPart}
 use Rattle.workers.specs.Verdict.{AreClassFirsts}
-use Rattle.workers.proofs.PartsOfClasses.{part_verdicts, verdicts_under}
+use Rattle.workers.proofs.PartsOfClasses.{part_verdict_there, part_verdicts, verdicts_under}
+use Rattle.workers.proofs.SharedStretches.{stretches_under}
 use Rattle.workers.proofs.parts.run_part.Goals as goal
 
 pub returns-clause-verdicts : goal.returns-clause-verdicts
 returns-clause-verdicts g c =
     let job = c.args.job.now in
     let classes = c.in_ok-own.own.items in
-    let firsts = c.in_ok-gathered.gathered.items in
+    let firsts = c.in_ok-gathered.gathered.firsts.items in
     let table = c.in_ok-table.table.items in
     let count = c.count-count.ensures
     ∙ ap (λ (x : Collapsed). length x.representative) c.classes.ensures.part in
     let by = verdicts_under c.count-count.result
     (length job.classes.representative) _ classes _
     firsts table count (c.as_slice-2.ensures.value ∙ c.new-cut.ensures.classes)
-    c.as_slice-3.ensures.value c.in_ok-table.ensures in
+    c.as_slice-found.ensures.value c.in_ok-table.ensures in
     let is : c.in_ok-verdicts.verdicts.items ≡ map (λ class. get_or table class OtherPart)
     job.classes.class_of =
     c.in_ok-verdicts.ensures ∙ ap (λ (l : List PartVerdict). map (λ class. get_or l class OtherPart)
-    job.classes.class_of) c.as_slice-4.ensures.value in
+    job.classes.class_of) c.as_slice-3.ensures.value in
     let found = subst (λ l. AreClassFirsts job.list.model job.circuit job.tests.tests l firsts)
     c.new-cut.ensures.classes c.in_ok-gathered.ensures.gathered in
     part_verdicts job c.args.parts c.args.part classes firsts table c.in_ok-verdicts.verdicts.items
     c.classes.ensures.together c.in_ok-own.ensures found by is
+
+pub returns-clause-stretches : goal.returns-clause-stretches
+returns-clause-stretches g c =
+    let job = c.args.job.now in
+    let classes = c.in_ok-own.own.items in
+    let firsts = c.in_ok-gathered.gathered.firsts.items in
+    let table = c.in_ok-table.table.items in
+    let count = c.count-count.ensures
+    ∙ ap (λ (x : Collapsed). length x.representative) c.classes.ensures.part in
+    let by = verdicts_under c.count-count.result
+    (length job.classes.representative) _ classes _
+    firsts table count (c.as_slice-2.ensures.value ∙ c.new-cut.ensures.classes)
+    c.as_slice-found.ensures.value c.in_ok-table.ensures in
+    let is : c.in_ok-verdicts.verdicts.items ≡ map (λ class. get_or table class OtherPart)
+    job.classes.class_of =
+    c.in_ok-verdicts.ensures ∙ ap (λ (l : List PartVerdict). map (λ class. get_or l class OtherPart)
+    job.classes.class_of) c.as_slice-3.ensures.value in (
+      c.in_ok-gathered.gathered.ledger,
+      record {
+        classes = classes;
+        are = c.in_ok-own.ensures;
+        stretches = c.new-cut.result.parts;
+        firsts = firsts;
+        of = stretches_under job c.new-cut.result.parts c.new-cut.result.parts
+            c.new-cut.result.size c.new-cut.result.classes.items classes c.args.workers firsts
+            c.in_ok-gathered.gathered.ledger c.new-cut.ensures.cut refl c.new-cut.ensures.classes
+            c.in_ok-gathered.ensures.stretches;
+        each = λ i class first at v.
+            part_verdict_there job classes firsts table c.in_ok-verdicts.verdicts.items
+            c.classes.ensures.together by is i class first at v;
+      },
+    )

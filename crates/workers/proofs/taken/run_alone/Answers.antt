@@ -13,12 +13,12 @@ rows_of-requires g c =
     (stretch_within c.args.job.now c.args.cut.now.size c.args.part c.args.cut.now.classes.items
     c.requires.cut.within)
 
-pub run_list-requires-clause-rows : goal.run_list-requires-clause-rows
-run_list-requires-clause-rows g c =
+pub run_list-stop-requires-clause-rows : goal.run_list-stop-requires-clause-rows
+run_list-stop-requires-clause-rows g c =
     subst (All (IsListed c.args.job.now)) (sym c.as_slice.ensures.value) c.in_ok-rows.ensures.each
 
-pub run_list-requires-clause-none : goal.run_list-requires-clause-none
-run_list-requires-clause-none g c =
+pub run_list-stop-requires-clause-none : goal.run_list-stop-requires-clause-none
+run_list-stop-requires-clause-none g c =
     let sized = c.in_ok-firsts.firsts.ok.0 in
     let own = c.stretch-own.result.now in
     let same : classes_of c.as_slice.result.now ≡ own =
