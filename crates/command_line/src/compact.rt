@@ -1,6 +1,7 @@
 //! The command `compact`.
 
-use crate::command::{read_model, read_option, read_workers};
+use crate::command::{read_model, read_option};
+use crate::crew::read_crew;
 use crate::source::Source;
 use crate::status::Fault;
 use clap::ArgMatches;
@@ -18,9 +19,9 @@ pub(crate) fn do_compact<'a, R: Threads + Wait, S: Source, W: Out>(
     out: &mut W,
 ) -> Result<(), Fault<'a>> {
     let model = read_model(matches)?;
-    let workers = read_workers(matches)?;
     let bench = read_option(alloc, matches, "bench", files)?;
     let tests = read_option(alloc, matches, "tests", files)?;
+    let workers = read_crew(matches, &bench, &tests)?;
     match compact_text_in(rt, alloc, model, &bench, &tests, workers, out) {
         Ok(()) => Ok(()),
         Err(fault) => Err(Fault::Sim(fault)),

@@ -2,7 +2,8 @@
 
 ghost use Rattle.command_line.specs.Form.{HasParts};
 
-use crate::command::{read_model, read_option, read_workers};
+use crate::command::{read_model, read_option};
+use crate::crew::read_crew;
 use crate::progress::Progress;
 use crate::source::Source;
 use crate::status::Fault;
@@ -62,9 +63,9 @@ pub(crate) fn write_form<'a, R: Threads + Wait, S: Source, W: Out, E: Out + Send
     requires { HasParts form }
 {
     let model = read_model(matches)?;
-    let workers = read_workers(matches)?;
     let bench = read_option(alloc, matches, "bench", files)?;
     let tests = read_option(alloc, matches, "tests", files)?;
+    let workers = read_crew(matches, &bench, &tests)?;
     let inputs = Inputs {
         model,
         bench: &bench,

@@ -8,6 +8,7 @@ mod arguments;
 mod check;
 mod command;
 mod compact;
+mod crew;
 mod curve;
 mod detected;
 mod form;
