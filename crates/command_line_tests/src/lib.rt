@@ -12,3 +12,5 @@ mod process;
 mod screen;
 #[cfg(test)]
 mod text_calls;
+#[cfg(test)]
+mod watched;

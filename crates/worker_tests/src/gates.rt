@@ -193,6 +193,75 @@ impl<C: Clock> Gate for TwoByTwo<'_, C> {
     }
 }
 
+/// A gate that is shut for one worker.
+pub(crate) struct ShutForWorker {
+    pub(crate) worker: u32,
+}
+
+impl Gate for ShutForWorker {
+    ghost passing = { λ _. ⊥ };
+
+    ghost stops = { λ _ _ _ _. Unit {0} };
+
+    fn pass(&self, worker: u32, _class: u32, _block: u32) -> bool {
+        worker != self.worker
+    }
+}
+
+/// A gate that holds the worker that comes first until the other one has asked so often. It gives up
+/// as a meeting does.
+#[derive(Drop)]
+pub(crate) struct Holding<'a, C> {
+    clock: &'a C,
+    wanted: u64,
+    // The number of the worker that came first, plus 1; 0 before that.
+    held: AtomicU64,
+    others: AtomicU64,
+}
+
+impl<'a, C: Clock> Holding<'a, C> {
+    pub(crate) fn new(clock: &'a C, wanted: u64) -> Holding<'a, C> {
+        Holding {
+            clock,
+            wanted,
+            held: AtomicU64::new(0),
+            others: AtomicU64::new(0),
+        }
+    }
+}
+
+impl<C: Clock> Gate for Holding<'_, C> {
+    ghost passing = { λ _. ⊥ };
+
+    ghost stops = { λ _ _ _ _. Unit {0} };
+
+    fn pass(&self, worker: u32, _class: u32, _block: u32) -> bool {
+        let number = u64::from(worker) + 1;
+        let first = self
+            .held
+            .compare_exchange(0, number, Ordering::SeqCst, Ordering::SeqCst)
+            .is_ok();
+        if first {
+            return has_reached(self.clock, &self.others, self.wanted);
+        }
+        if self.held.load(Ordering::SeqCst) != number {
+            self.others.fetch_add(1, Ordering::SeqCst);
+        }
+        true
+    }
+}
+
+/// Waits until a word is at least so large, and says whether it is.
+fn has_reached<C: Clock>(clock: &C, word: &AtomicU64, wanted: u64) -> bool {
+    for _ in 0..TURNS {
+        if word.load(Ordering::SeqCst) >= wanted {
+            return true;
+        }
+        thread::sleep(clock, Duration::from_millis(1));
+    }
+    false
+}
+
 /// Waits until two more have been counted than so many, and says whether they have.
 fn both_came<C: Clock>(clock: &C, count: &AtomicU64, before: u64) -> bool {
     for _ in 0..TURNS {

@@ -11,4 +11,6 @@ mod parts;
 #[cfg(test)]
 mod schedules;
 #[cfg(test)]
+mod stretches;
+#[cfg(test)]
 mod threads;
