@@ -2,7 +2,7 @@
 //!
 //! Whether a text is accepted is never decided here but by `bench_net::read_bench`.
 
-use crate::note::Note;
+use crate::note::{Note, OfAbc};
 use crate::suggest::{nearest_gate, nearest_port};
 use crate::tokens::{Place, Token, token_from};
 use std::alloc::{AllocError, AllocFailed, Global};
@@ -197,6 +197,27 @@ fn driven<'a>(
     })
 }
 
+/// The words of ABC's constants.
+static CONSTANTS: [&str; 2] = ["vdd", "gnd"];
+
+/// What the word behind `=` is, where ABC alone writes it so.
+fn of_abc(line: &[u8], word: Name<'_>) -> Option<OfAbc> {
+    match token_from(line, word.place.end()).token {
+        Token::End if is_in(word.text, &CONSTANTS) => Some(OfAbc::Constant),
+        Token::Word(_) if word.text.eq_ignore_ascii_case("LUT") => Some(OfAbc::Table),
+        Token::Open if word.text.eq_ignore_ascii_case("DFFRSE") => Some(OfAbc::FlipFlop),
+        _ => None,
+    }
+}
+
+/// Looks that the word behind `=` isn't one that ABC alone writes.
+fn no_abc<'a>(line: &'a [u8], word: Name<'a>) -> Result<(), Stop<'a>> {
+    match of_abc(line, word) {
+        Some(what) => Err(Stop::Wrong(word.place, Note::OfAbc(what))),
+        None => Ok(()),
+    }
+}
+
 /// The statement of a line that begins with a name.
 fn stated_behind<'a>(
     alloc: Global,
@@ -212,6 +233,7 @@ fn stated_behind<'a>(
         }
         Token::Equals => {
             let word = name_from(line, at, "the kind of a gate")?;
+            no_abc(line, word)?;
             let from = open_from(line, word.place.end())?;
             let names = arguments(alloc, line, from)?;
             driven(alloc, first, word, names)

@@ -23,6 +23,8 @@ pub enum Note<'a> {
         word: &'a str,
         near: Option<&'static str>,
     },
+    /// What ABC writes into such a text, and no bench text has.
+    OfAbc(OfAbc),
     /// Another number of arguments than one.
     OneArgument {
         word: &'a str,
@@ -70,6 +72,27 @@ pub enum Note<'a> {
     },
 }
 
+/// What ABC writes into a text of this kind, and no bench text has.
+#[derive(Clone, Copy, Debug, PartialEq, Eq)]
+pub enum OfAbc {
+    /// `n = vdd` or `n = gnd`.
+    Constant,
+    /// `n = LUT 0x8 ( a, b )`.
+    Table,
+    /// `q = DFFRSE( d, gnd, gnd, gnd, gnd )`.
+    FlipFlop,
+}
+
+impl Display for OfAbc {
+    fn fmt<W: fmt::Write>(&self, f: &mut Formatter<W>) -> fmt::Result {
+        f.write_str(match self {
+            OfAbc::Constant => "a constant of ABC; leave out the output that it drives",
+            OfAbc::Table => "a table of ABC; `strash; write_bench -l` writes gates",
+            OfAbc::FlipFlop => "a flip-flop of ABC; `strash; write_bench -l` writes DFF",
+        })
+    }
+}
+
 /// The end of a number of things.
 fn plural(count: usize) -> &'static str {
     if count == 1 { "" } else { "s" }
@@ -95,6 +118,10 @@ fn write_not_defined<W: fmt::Write>(
         None => Ok(()),
     }
 }
+
+/// What is said of a row with a number and a colon before its bits.
+const NUMBERED: &str =
+    "looks like numbered rows of another tool; docs/VERILOG.md has a line that makes tests of them";
 
 /// How many names of a cycle are told.
 const MAX_NAMES: usize = 12;
@@ -153,6 +180,7 @@ impl Display for Note<'_> {
                 write!(f, "unknown statement {}", Short(*word))?;
                 write_near(*near, f)
             }
+            Note::OfAbc(what) => write!(f, "{what}"),
             Note::OneArgument { word, found } => {
                 write!(f, "{} takes 1 argument, found {found}", Short(*word))
             }
@@ -169,7 +197,7 @@ impl Display for Note<'_> {
             Note::TooMany { found, what } => write!(f, "found {found} {what}"),
             Note::NoStatement => f.write_str("no line has a statement"),
             Note::NoBit(byte) => write_no_bit(*byte, f),
-            Note::NumberedRow => f.write_str("looks like numbered rows of another tool"),
+            Note::NumberedRow => f.write_str(NUMBERED),
             Note::Width {
                 found,
                 inputs,
