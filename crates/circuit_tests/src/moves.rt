@@ -1,7 +1,7 @@
 //! Order texts, and the moves that are read.
 
 use crate::checks::check;
-use orders::{OrderFault, read_order};
+use patterns::{OrderFault, read_order};
 use std::alloc::Global;
 
 /// Texts, each with its moves.

@@ -224,7 +224,7 @@ fn comes_true(staffed: &mut Staffed, step: Step) -> bool
 
 /// A ledger on which the steps of a case were taken, if all came of them that must.
 fn ledger_after(alloc: Global, case: &Case) -> Result<Option<Staffed>, LedgerFault>
-    ensures { IfOk result (λ staffed. IfSome staffed (λ it. it.shape ≡ case.shape)) }
+    ensures { IfOk result (λ staffed. IfSome staffed (λ it. it.shape ≡ case.now.shape)) }
 {
     let mut staffed = Staffed::new(alloc, case.shape)?;
     for step in case.steps {

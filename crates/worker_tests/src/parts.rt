@@ -132,16 +132,16 @@ fn are_by_stem(job: &Job) -> bool {
 }
 
 /// The gate that is shut for one piece, which is the last of its part for each number of parts, so
-/// that all others are settled. The class is that of G22 sa1, the last of the region that is visited
-/// last.
+/// that all others are settled. The class is that of G23 sa1, the last of the region that is visited
+/// last: G22 and what it reads go before G23.
 static LAST: ShutFor = ShutFor {
-    class: 19,
+    class: 21,
     block: 0,
 };
 
 /// What a run is refused with that waits for that piece.
 static WAITING: RunFault = RunFault::Unfinished {
-    class: 19,
+    class: 21,
     block: 0,
 };
 
@@ -149,7 +149,7 @@ static WAITING: RunFault = RunFault::Unfinished {
 fn is_stopped_alone<R: Threads + Wait>(rt: &R, alloc: Global, job: &Job, parts: u32) -> bool {
     for part in 0..parts {
         let stopped = run_part(rt, alloc, job, part, parts, 2, &LAST).err();
-        if stopped != (9 % parts == part).then_some(WAITING) {
+        if stopped != (10 % parts == part).then_some(WAITING) {
             return false;
         }
     }
