@@ -11,8 +11,8 @@ use std::thread::Threads;
 use std::time::Clock;
 use workers::{Gate, OpenGate, RunFault, run_in_parts, run_over_ledger};
 
-/// Into how many parts C17 is cut: seven of three classes and one of the last class, which is 19,
-/// that of G22 sa1. Class 2, that of G3 sa0, is of another region, and so of another part.
+/// Into how many parts C17 is cut: seven of three classes and one of the last class, which is 21,
+/// that of G23 sa1. Class 2, that of G3 sa0, is of another part.
 const PARTS: u32 = 8;
 
 /// Whether a run of C17 in these parts has its verdicts.
@@ -33,7 +33,7 @@ fn is_run_by_meeting<R: Threads + Wait + Clock + Sync>(
     alloc: Global,
     job: &Job,
 ) -> Result<bool, RunFault> {
-    is_run(rt, alloc, job, 2, &Meeting::new(rt, (2, 0), (19, 0), true))
+    is_run(rt, alloc, job, 2, &Meeting::new(rt, (2, 0), (21, 0), true))
 }
 
 /// A run whose four workers wait for each other: each has a thread of its own, and is asked for by
