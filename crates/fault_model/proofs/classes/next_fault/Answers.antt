@@ -4,7 +4,7 @@ use Rattle.bench_net.specs.Scan.{names, name_of}
 use Rattle.bench_net.specs.Statement.{Name}
 use Rattle.lists.proofs.Places.{place_within}
 use Rattle.fault_model.specs.declared.Line.TheVariants as line
-use Rattle.fault_model.specs.Fault.{Fault, faults}
+use Rattle.fault_model.specs.Fault.{Fault}
 use Rattle.fault_model.specs.Collapse.{next, next_stuck, kind_of}
 use Rattle.fault_model.proofs.ListedFaults.{fault_on}
 use Rattle.fault_model.proofs.NextFault.{FaultAt, line_at, fault_at, listed_in_circuit}
