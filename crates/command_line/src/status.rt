@@ -4,8 +4,7 @@ ghost use Rattle.std.specs.Prelude.{◌<◌, ◌≤◌};
 
 use bench_net::BenchFault;
 use block_sim::JobFault;
-use orders::OrderFault;
-use patterns::TestFault;
+use patterns::{OrderFault, TestFault};
 use report::{Formatted, MergeFault, Out, PartFault, ReportFault, RunFault, SimFault};
 use std::fmt::Write;
 

@@ -5,8 +5,7 @@ use bench_net::BenchFault;
 use block_sim::JobFault;
 use command_line::status_of;
 use fault_model::Model;
-use orders::OrderFault;
-use patterns::TestFault;
+use patterns::{OrderFault, TestFault};
 use report::{
     Contents, Lines, Plain, ReportFault, RunFault, SimFault, listing_bytes, report_bytes,
     schedule_text_in,
