@@ -197,10 +197,10 @@ more_refused run part bytes c old (fault.Part f) known of was fresh r =
     read_refused run part bytes f of r
 more_refused run part bytes c old (fault.Again number) known of was fresh r =
     let read = read_told run part bytes c r.0 r.1 r.2 known of r.3 in
-    absurd (fresh (subst (Contains old.seen) (ap (λ (h : PartHead). h.part) read.head) r.4))
+    absurd (fresh (subst (Contains old.seen) (ap (λ (h : PartHead). h.part) read.head) r.5))
 more_refused run part bytes c old (fault.Differs line) known of was fresh r =
     let read = read_told run part bytes c r.0 r.1 r.2 known of r.3 in
-    absurd (no_difference run part c old r.0 r.1 r.2 r.4 known read was fresh r.6)
+    absurd (no_difference run part c old r.0 r.1 r.2 r.6 known read was fresh r.8)
 more_refused run part bytes c old fault.Memory known of was fresh r = tt
 more_refused run part bytes c old fault.OtherModel known of was fresh r =
     let read = read_told run part bytes c r.0 r.1 r.2 known of r.3 in

@@ -81,14 +81,17 @@ IsOtherRun h k fault.OtherInputs = (h.bench ≢ k.bench) ⊎ (h.tests ≢ k.test
 IsOtherRun h k fault.OtherCount = h.parts ≢ k.parts
 IsOtherRun h k _ = ⊥
 
--- When one more text is refused: its fault stands in it, or in it and in what was put together.
+-- When one more text is refused: its fault stands in it, or in it and in what was put together. A
+-- part is there again, and a fault differs, only in a text of the same run; and a fault only in one
+-- of a part that is not there.
 abbrev pub IsMergeRefusal : MergeState → List ℕ → MergeFault → Type 0
 IsMergeRefusal old text (fault.Part f) = IsPartRefusal text f
 IsMergeRefusal old text (fault.Again number) = (h : PartHead) × (faults : List (List ℕ))
-    × (verdicts : List PartVerdict) × IsPart text h faults verdicts × Contains old.seen h.part
-    × (number ≡ h.part + 1)
+    × (verdicts : List PartVerdict) × IsPart text h faults verdicts × AreOfOneRun old.head h
+    × Contains old.seen h.part × (number ≡ h.part + 1)
 IsMergeRefusal old text (fault.Differs line) = (h : PartHead) × (faults : List (List ℕ))
-    × (verdicts : List PartVerdict) × IsPart text h faults verdicts × (k : ℕ) × (line ≡ k + 2)
+    × (verdicts : List PartVerdict) × IsPart text h faults verdicts × AreOfOneRun old.head h
+    × (Contains old.seen h.part → ⊥) × (k : ℕ) × (line ≡ k + 2)
     × (DifferAt old.faults faults k ⊎ HaveBoth old.verdicts verdicts k)
 IsMergeRefusal old text fault.Memory = Unit {0}
 IsMergeRefusal old text f = (h : PartHead) × (faults : List (List ℕ))

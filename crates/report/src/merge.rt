@@ -45,6 +45,14 @@ impl<'a> Merge<'a> {
     }
 
     /// Puts the text of one more part to what is there.
+    ///
+    /// # Errors
+    ///
+    /// [`MergeFault::Part`] if the text is not that of a part; then why it is of another run:
+    /// [`MergeFault::OtherModel`], [`MergeFault::OtherRule`], [`MergeFault::OtherInputs`] or
+    /// [`MergeFault::OtherCount`]; then [`MergeFault::Again`] if its part is there already, and
+    /// [`MergeFault::Differs`] if its faults are others, or one of them is of a part that is there.
+    /// [`MergeFault::Memory`] may come in place of any of them.
     pub fn add(self, alloc: Global, text: &[u8]) -> Result<Merge<'a>, MergeFault>
         ensures merged { IfOk result (λ merge.
             IsMerged (state_of self.entry) text.now (state_of merge)) }

@@ -19,6 +19,21 @@ join-requires c =
       c.args.self.same,
     )
 
+pub returns-in_err-check_new-clause-refused : goal.returns-in_err-check_new-clause-refused
+returns-in_err-check_new-clause-refused c =
+    let p = err_from_is_err_and c.from_residual-in_err-check_new.result
+    c.from_residual-in_err-check_new.ensures.1 in
+    let at = rw (c.deref.ensures.value) at c.in_err-check_new.ensures.refused in
+    rw (p.1, p.2, at.0) (
+      head_in c.in_ok-part.part.header,
+      texts_in c.in_ok-part.part.faults.items,
+      c.in_ok-part.part.verdicts.items,
+      c.in_ok-part.ensures.read,
+      c.in_ok-check_run.ensures.run,
+      at.1,
+      refl,
+    )
+
 pub returns-in_err-check_names-clause-refused : goal.returns-in_err-check_names-clause-refused
 returns-in_err-check_names-clause-refused c =
     let p = err_from_is_err_and c.from_residual-in_err-check_names.result
@@ -32,6 +47,8 @@ returns-in_err-check_names-clause-refused c =
       texts_in c.in_ok-part.part.faults.items,
       c.in_ok-part.part.verdicts.items,
       c.in_ok-part.ensures.read,
+      c.in_ok-check_run.ensures.run,
+      rw (c.deref.ensures.value) at c.in_ok-check_new.ensures.fresh,
       at.0,
       refl,
       inl at.2,
@@ -50,6 +67,8 @@ returns-in_err-join-clause-refused c =
       texts_in c.in_ok-part.part.faults.items,
       c.in_ok-part.part.verdicts.items,
       c.in_ok-part.ensures.read,
+      c.in_ok-check_run.ensures.run,
+      rw (c.deref.ensures.value) at c.in_ok-check_new.ensures.fresh,
       at.0,
       refl,
       inr at.2,
