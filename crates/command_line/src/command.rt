@@ -18,8 +18,8 @@ use clap::error::ErrorKind;
 use clap::{ArgMatches, Error};
 use fault_model::Model;
 use report::{
-    Contents, Formatted, Lines, Merge, Merged, Out, ReportFault, faults_text_in, schedule_text_in,
-    write_merged,
+    Contents, Formatted, Lines, Merge, Merged, Out, ReportFault, faults_text_in,
+    schedule_text_with, write_merged,
 };
 use std::alloc::{AllocError, Global};
 use std::fmt::Write;
@@ -258,7 +258,7 @@ fn do_schedule<'a, S: Source, W: Out>(
     let bench = read_option(alloc, matches, "bench", files)?;
     let tests = read_option(alloc, matches, "tests", files)?;
     let order = read_option(alloc, matches, "order", files)?;
-    match schedule_text_in(alloc, model, &bench, &tests, &order, workers, contents, out) {
+    match schedule_text_with(alloc, model, &bench, &tests, &order, workers, contents, out) {
         Ok(()) => Ok(()),
         Err(fault) => Err(Fault::Sim(fault)),
     }

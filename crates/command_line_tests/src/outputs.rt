@@ -3,7 +3,7 @@
 use crate::checks::check;
 use crate::screen::Screen;
 use command_line::{Source, SourceFault, run_words};
-use report::{Contents, Lines, Plain, ReportFault, SimFault, simulate_text};
+use report::{Plain, ReportFault, SimFault, simulate_text};
 use std::alloc::{AllocError, Global};
 use std::io::{self, Write};
 use std::sync::Wait;
@@ -168,8 +168,7 @@ fn simulate_slowly<R: AllocGlobal + Threads + Wait>(
     rt: &R,
     out: &mut Plain<Slow>,
 ) -> Result<(), SimFault> {
-    let contents = Contents::of(Lines::Omitted);
-    simulate_text(rt, rt.alloc(), C17, b"11111\n", 1, contents, out)
+    simulate_text(rt, rt.alloc(), C17, b"11111\n", 1, false, out)
 }
 
 /// A slow writer with no bytes, as an output.

@@ -7,8 +7,7 @@ use command_line::status_of;
 use fault_model::Model;
 use patterns::{OrderFault, TestFault};
 use report::{
-    Contents, Lines, Plain, ReportFault, RunFault, SimFault, listing_bytes, report_bytes,
-    schedule_text_in,
+    Contents, Plain, ReportFault, RunFault, SimFault, listing_bytes, report_bytes, schedule_text_in,
 };
 use std::alloc::{AllocError, Global};
 use std::sync::Wait;
@@ -34,15 +33,11 @@ fn bytes_of<R: AllocGlobal + Threads + Wait>(rt: &R, case: &Case) -> Result<Vec<
     } else {
         Model::StuckAt
     };
-    let lines = if case.line.contains("--list") {
-        Lines::All
-    } else {
-        Lines::Omitted
-    };
-    let contents = Contents::of(lines);
+    let list = case.line.contains("--list");
     let bench = case.bench.as_bytes();
     let tests = case.tests.as_bytes();
     if case.line.contains(" run ") {
+        let contents = Contents::of_list(list);
         return report_bytes(rt, rt.alloc(), model, bench, tests, 4, contents);
     }
     if case.line.contains(" faults ") {
@@ -50,16 +45,7 @@ fn bytes_of<R: AllocGlobal + Threads + Wait>(rt: &R, case: &Case) -> Result<Vec<
     }
     let order = case.order.as_bytes();
     let mut out = Plain::new(Vec::new(rt.alloc()));
-    schedule_text_in(
-        rt.alloc(),
-        model,
-        bench,
-        tests,
-        order,
-        4,
-        contents,
-        &mut out,
-    )?;
+    schedule_text_in(rt.alloc(), model, bench, tests, order, 4, list, &mut out)?;
     Ok(out.into_writer())
 }
 

@@ -11,7 +11,7 @@ use crate::texts::Screen;
 use crate::written::{LISTING, REPORT};
 use block_sim::{Job, Workspace, first_hit, simulate};
 use fault_ledger::{Claim, Finish, Ledger, LedgerFault, Seat, SharedLedger};
-use report::{Contents, Lines, RunFault, SimFault, write_listing, write_report};
+use report::{RunFault, SimFault, write_listing, write_report};
 use std::alloc::{AllocError, Global};
 use std::sync::Wait;
 use std::thread::Threads;
@@ -23,7 +23,7 @@ fn is_reported(job: &Job, verdicts: &Verdicts) -> bool {
         return false;
     }
     let mut screen = Screen::new();
-    let written = write_report(job, verdicts, Contents::of(Lines::All), &mut screen);
+    let written = write_report(job, verdicts, true, &mut screen);
     written.is_ok() && screen.text() == REPORT
 }
 

@@ -126,11 +126,11 @@ impl<R: Threads + Wait> Written<'_, R> {
         let (rt, tests, model) = (self.rt, self.tests, Model::StuckAt);
         let all = Contents::of(Lines::All);
         match self.call {
-            TextCall::Simulate => simulate_text(rt, alloc, C17, tests, 2, all, screen),
+            TextCall::Simulate => simulate_text(rt, alloc, C17, tests, 2, true, screen),
             TextCall::InParts => {
                 simulate_text_in_parts(rt, alloc, model, C17, tests, 3, 2, all, screen)
             }
-            TextCall::Schedule => schedule_text(alloc, C17, tests, ORDER, 2, all, screen),
+            TextCall::Schedule => schedule_text(alloc, C17, tests, ORDER, 2, true, screen),
             TextCall::Faults => faults_text(alloc, C17, screen),
             TextCall::Curve => curve_text_in(rt, alloc, model, C17, tests, 2, screen),
             TextCall::Detections => {

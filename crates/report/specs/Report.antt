@@ -15,6 +15,11 @@ use Rattle.report.specs.declared.contents.Contents.{Contents}
 use Rattle.report.specs.declared.contents.Lines.{Lines}
 use Rattle.report.specs.declared.contents.Lines.TheVariants.{Omitted, All, Undetected}
 
+-- what a report with the list of faults tells, and one without: the lines of all faults, or none,
+-- and the coverage of the faults
+abbrev pub contents_of : Bool → Contents
+contents_of list = record { lines = if list then All else Omitted; classes = false }
+
 -- the name of a signal, and of the cell of this number
 abbrev pub signal_text : List Statement → ℕ → List ℕ
 signal_text c s = unwrap_or (name_of c s) []

@@ -1,7 +1,7 @@
 //! What a report tells.
 
 ghost use Rattle.std.specs.Prelude.{◌≡◌, false};
-ghost use Rattle.report.specs.Report.{has_line};
+ghost use Rattle.report.specs.Report.{contents_of, has_line};
 
 /// Which faults have a line of their own in a report, before the coverage line.
 #[derive(Clone, Copy, Debug, PartialEq, Eq)]
@@ -46,5 +46,14 @@ impl Contents {
             lines,
             classes: false,
         }
+    }
+
+    /// Returns the contents of a report with a line for each fault, if `list` is set, and else of
+    /// one with the coverage of the faults alone.
+    pub fn of_list(list: bool) -> Contents
+        ensures { result ≡ contents_of list }
+    {
+        let lines = if list { Lines::All } else { Lines::Omitted };
+        Contents::of(lines)
     }
 }

@@ -41,11 +41,12 @@ pub use merged::Merged;
 pub use output::{Formatted, Out, OutFailed, Plain};
 pub use part::{part_text_in, part_text_watched};
 pub use part_reader::{PartFault, PartHeader, PartText, read_part};
-pub use report::{write_listing, write_report};
+pub use report::{write_listing, write_report, write_report_with};
 pub use responses::responses_text_in;
 pub use text::{
     faults_text, faults_text_in, listing_bytes, report_bytes, schedule_text, schedule_text_in,
-    simulate_text, simulate_text_in, simulate_text_in_parts,
+    schedule_text_with, simulate_text, simulate_text_in, simulate_text_in_parts,
+    simulate_text_with,
 };
 pub use watched::simulate_text_watched;
 pub use workers::{Gate, MAX_WORKERS, OpenGate, RunFault};

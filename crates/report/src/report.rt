@@ -12,7 +12,7 @@ ghost use Rattle.report.specs.Report.{cell_text, class_line};
 ghost use Rattle.report.specs.Report.{defect_text, fault_text, fault_lines, first_text, report};
 ghost use Rattle.report.specs.Report.{listing};
 ghost use Rattle.report.specs.Report.{class_coverage_line, class_firsts, coverage_of, first_at};
-ghost use Rattle.report.specs.Report.{whole_report};
+ghost use Rattle.report.specs.Report.{contents_of, whole_report};
 
 use crate::contents::{Contents, Lines};
 use bench_net::Circuit;
@@ -260,13 +260,35 @@ fn put_class_coverage<W: Out>(
     put_coverage(detected_classes(classes, verdicts), total, " classes", out)
 }
 
+/// Writes the report of a job and of the verdicts of its faults: if `list` is set, each fault with
+/// the first test that detects it, and then the coverage line. It takes no memory. For other
+/// reports call [`write_report_with`].
+///
+/// # Errors
+///
+/// [`ReportFault::Write`] if the output takes nothing more. A beginning of the report went out.
+pub fn write_report<W: Out>(
+    job: &Job,
+    verdicts: &Verdicts,
+    list: bool,
+    out: &mut W,
+) -> Result<(), ReportFault>
+    requires count { length verdicts.now.firsts ≡ length job.now.list.list }
+    ensures { Writes result (W.seen out.old) (W.seen out.new)
+        (whole_report job.now.list.model job.now.circuit job.now.classes verdicts.now.firsts
+        (contents_of list)) }
+{
+    write_report_with(job, verdicts, Contents::of_list(list), out)
+}
+
 /// Writes the report of a job and of the verdicts of its faults: the faults of the list that are
 /// asked for, each with the first test that detects it, then the coverage line, and then, where it
 /// is asked for, the same of the classes. It takes no memory.
 ///
-/// Where the output takes nothing more it is refused with [`ReportFault::Write`], and what went
-/// out is a beginning of the report.
-pub fn write_report<W: Out>(
+/// # Errors
+///
+/// [`ReportFault::Write`] if the output takes nothing more. A beginning of the report went out.
+pub fn write_report_with<W: Out>(
     job: &Job,
     verdicts: &Verdicts,
     contents: Contents,

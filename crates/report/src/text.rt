@@ -8,16 +8,17 @@ ghost use Rattle.report.specs.EndToEnd.{IsScheduleTextFault, HasSomeMoves, IsLis
 ghost use Rattle.report.specs.EndToEnd.{IsListFault, IsListingFault, IsListingOfCircuit};
 ghost use Rattle.report.specs.EndToEnd.{IsPartsReportFault};
 ghost use Rattle.report.specs.EndToEnd.{IsScheduleReportFault};
+ghost use Rattle.report.specs.Report.{contents_of};
 
 use crate::contents::Contents;
-use crate::report::{write_listing, write_report};
+use crate::report::{write_listing, write_report_with};
 use crate::watched::{watch_parts, watch_whole};
 use bench_net::{Circuit, read_bench};
 use block_sim::Job;
 use fault_model::{Model, collapse, list_faults_in};
 use jobs::{ReportFault, SimFault, job_for, read_inputs};
-use orders::read_order;
 use output::{Out, Plain};
+use patterns::read_order;
 use std::alloc::Global;
 use std::sync::Wait;
 use std::thread::Threads;
@@ -31,16 +32,38 @@ pub fn simulate_text<R: Threads + Wait, W: Out>(
     bench: &[u8],
     tests: &[u8],
     workers: u32,
-    contents: Contents,
+    list: bool,
     out: &mut W,
 ) -> Result<(), SimFault>
-    ensures written { WritesOneOf (IsReportOf model.StuckAt bench.now tests.now contents) result
+    ensures written { WritesOneOf (IsReportOf model.StuckAt bench.now tests.now (contents_of list)) result
         (W.seen out.old) (W.seen out.new) }
     ensures refused { IfErr result (IsReportFault model.StuckAt bench.now tests.now workers) }
     ensures workers { OnOk result ((0 < workers) × (workers ≤ 64)) }
 {
     let model = Model::StuckAt;
-    simulate_text_in(rt, alloc, model, bench, tests, workers, contents, out)
+    simulate_text_in(rt, alloc, model, bench, tests, workers, list, out)
+}
+
+/// Reads a circuit and tests for it, and writes the report of the faults of a model: if `list` is
+/// set, each fault with the first test that detects it, and then the coverage. For other reports
+/// call [`simulate_text_with`], which does the work.
+pub fn simulate_text_in<R: Threads + Wait, W: Out>(
+    rt: &R,
+    alloc: Global,
+    model: Model,
+    bench: &[u8],
+    tests: &[u8],
+    workers: u32,
+    list: bool,
+    out: &mut W,
+) -> Result<(), SimFault>
+    ensures written { WritesOneOf (IsReportOf model bench.now tests.now (contents_of list)) result
+        (W.seen out.old) (W.seen out.new) }
+    ensures refused { IfErr result (IsReportFault model bench.now tests.now workers) }
+    ensures workers { OnOk result ((0 < workers) × (workers ≤ 64)) }
+{
+    let contents = Contents::of_list(list);
+    simulate_text_with(rt, alloc, model, bench, tests, workers, contents, out)
 }
 
 /// Reads a circuit and tests for it, and writes the report of the faults of a model: of the faults
@@ -50,7 +73,7 @@ pub fn simulate_text<R: Threads + Wait, W: Out>(
 ///
 /// The bench text is read before the tests, then the number of pieces is looked at, and then the
 /// number of workers; nothing is written before the verdicts are there.
-pub fn simulate_text_in<R: Threads + Wait, W: Out>(
+pub fn simulate_text_with<R: Threads + Wait, W: Out>(
     rt: &R,
     alloc: Global,
     model: Model,
@@ -70,7 +93,7 @@ pub fn simulate_text_in<R: Threads + Wait, W: Out>(
     )
 }
 
-/// Reads a circuit and tests for it, and writes the report that [`simulate_text_in`] writes, with
+/// Reads a circuit and tests for it, and writes the report that [`simulate_text_with`] writes, with
 /// the same bytes. The classes of the faults are run in so many parts, each by one worker alone
 /// ([`workers::run_in_parts`]).
 ///
@@ -107,10 +130,10 @@ pub fn schedule_text<W: Out>(
     tests: &[u8],
     order: &[u8],
     workers: u32,
-    contents: Contents,
+    list: bool,
     out: &mut W,
 ) -> Result<(), SimFault>
-    ensures written { WritesOneOf (IsReportOf model.StuckAt bench.now tests.now contents) result
+    ensures written { WritesOneOf (IsReportOf model.StuckAt bench.now tests.now (contents_of list)) result
         (W.seen out.old) (W.seen out.new) }
     ensures refused { IfErr result
         (IsScheduleTextFault model.StuckAt bench.now tests.now order.now workers) }
@@ -124,20 +147,44 @@ pub fn schedule_text<W: Out>(
         tests,
         order,
         workers,
-        contents,
+        list,
         out,
     )
 }
 
 /// Reads a circuit, tests for it and an order of moves, and writes the report of the faults of a
-/// model, as [`simulate_text_in`] does and with the same bytes. The work is done by one thread,
+/// model: if `list` is set, each fault with the first test that detects it, and then the coverage.
+/// For other reports call [`schedule_text_with`], which does the work.
+pub fn schedule_text_in<W: Out>(
+    alloc: Global,
+    model: Model,
+    bench: &[u8],
+    tests: &[u8],
+    order: &[u8],
+    workers: u32,
+    list: bool,
+    out: &mut W,
+) -> Result<(), SimFault>
+    ensures written { WritesOneOf (IsReportOf model bench.now tests.now (contents_of list)) result
+        (W.seen out.old) (W.seen out.new) }
+    ensures refused { IfErr result
+        (IsScheduleTextFault model bench.now tests.now order.now workers) }
+    ensures order { OnOk result (HasSomeMoves order.now workers) }
+    ensures workers { OnOk result ((0 < workers) × (workers ≤ 64)) }
+{
+    let contents = Contents::of_list(list);
+    schedule_text_with(alloc, model, bench, tests, order, workers, contents, out)
+}
+
+/// Reads a circuit, tests for it and an order of moves, and writes the report of the faults of a
+/// model, as [`simulate_text_with`] does and with the same bytes. The work is done by one thread,
 /// which makes the moves of the workers in the order that the text gives, and then lets all move in
 /// turn.
 ///
 /// The bench text is read before the tests, and the tests before the order; then the number of
 /// pieces is looked at, and then the number of workers. Where there are to be no workers, each row
 /// of an order text is at fault already. Nothing is written before the verdicts are there.
-pub fn schedule_text_in<W: Out>(
+pub fn schedule_text_with<W: Out>(
     alloc: Global,
     model: Model,
     bench: &[u8],
@@ -177,11 +224,11 @@ fn report_schedule<W: Out>(
     ensures workers { OnOk result ((0 < workers) × (workers ≤ 64)) }
 {
     let verdicts = run_schedule(alloc, job, workers, moves)?;
-    write_report(job, &verdicts, contents, out)?;
+    write_report_with(job, &verdicts, contents, out)?;
     Ok(())
 }
 
-/// Reads a circuit and tests for it, and gives the report that [`simulate_text_in`] writes.
+/// Reads a circuit and tests for it, and gives the report that [`simulate_text_with`] writes.
 pub fn report_bytes<R: Threads + Wait>(
     rt: &R,
     alloc: Global,
@@ -198,7 +245,7 @@ pub fn report_bytes<R: Threads + Wait>(
     ensures workers { OnOk result ((0 < workers) × (workers ≤ 64)) }
 {
     let mut out = Plain::new(Vec::new(alloc));
-    match simulate_text_in(rt, alloc, model, bench, tests, workers, contents, &mut out) {
+    match simulate_text_with(rt, alloc, model, bench, tests, workers, contents, &mut out) {
         Ok(()) => Ok(out.into_writer()),
         // A vector refuses bytes for want of memory alone.
         Err(SimFault::Report(ReportFault::Write)) => Err(SimFault::Memory),

@@ -7,7 +7,7 @@ ghost use Rattle.report.specs.EndToEnd.{IsJobReportFault, IsReportOf, IsReportOf
 ghost use Rattle.report.specs.EndToEnd.{IsWatchedFault, WritesOneOf};
 
 use crate::contents::Contents;
-use crate::report::write_report;
+use crate::report::write_report_with;
 use block_sim::Job;
 use fault_model::Model;
 use jobs::{SimFault, Watch, job_of, job_of_any_size, run_watched};
@@ -17,12 +17,12 @@ use std::sync::Wait;
 use std::thread::Threads;
 use workers::parts_for;
 
-/// Reads a circuit and tests for it, and writes the report that [`crate::simulate_text_in`] writes,
-/// with the same bytes. The gate is told when the run begins and when it ends, and is asked before
-/// each piece of work; it decides nothing of the report but whether there is one.
+/// Reads a circuit and tests for it, and writes the report that [`crate::simulate_text_with`]
+/// writes, with the same bytes. The gate is told when the run begins and when it ends, and is asked
+/// before each piece of work; it decides nothing of the report but whether there is one.
 ///
 /// With a number of parts it runs as [`crate::simulate_text_in_parts`] does, and with none as
-/// [`crate::simulate_text_in`]. It is refused as these are, and where the gate stops workers and
+/// [`crate::simulate_text_with`]. It is refused as these are, and where the gate stops workers and
 /// not all classes are settled with [`crate::RunFault::Unfinished`].
 pub fn simulate_text_watched<R: Threads + Wait, G: Watch + Sync, W: Out>(
     rt: &R,
@@ -121,6 +121,6 @@ fn report_run<R: Threads + Wait, G: Watch + Sync, W: Out>(
     ensures workers { OnOk result ((0 < workers) × (workers ≤ 64)) }
 {
     let verdicts = run_watched(rt, alloc, job, parts, workers, gate)?;
-    write_report(job, &verdicts, contents, out)?;
+    write_report_with(job, &verdicts, contents, out)?;
     Ok(())
 }

@@ -3,21 +3,22 @@ use Rattle.output.specs.Output.{TakesAll, TakesFront}
 use Rattle.report.proofs.VerdictsOfRuns.{taken_of_job, verdicts_counted}
 use Rattle.report.proofs.text.report_schedule.Goals as goal
 
-pub write_report-requires : goal.write_report-requires
-write_report-requires g c =
+pub write_report_with-requires : goal.write_report_with-requires
+write_report_with-requires g c =
     record {
       count = verdicts_counted c.args.job.now c.in_ok-verdicts.verdicts.firsts c.requires
           c.in_ok-verdicts.ensures.firsts;
     }
 
-pub returns-in_err-write_report-clause-written : goal.returns-in_err-write_report-clause-written
-returns-in_err-write_report-clause-written g c =
-    let p = err_from_is_err_and c.from_residual-in_err-write_report.result
-    c.from_residual-in_err-write_report.ensures.1 in
+pub returns-in_err-write_report_with-clause-written :
+    goal.returns-in_err-write_report_with-clause-written
+returns-in_err-write_report_with-clause-written g c =
+    let p = err_from_is_err_and c.from_residual-in_err-write_report_with.result
+    c.from_residual-in_err-write_report_with.ensures.1 in
     rw (p.1, p.2) (taken_of_job c.args.job.now c.args.contents c.in_ok-verdicts.verdicts.firsts
-    (TakesFront _ _) c.in_ok-verdicts.ensures.firsts c.in_err-write_report.ensures)
+    (TakesFront _ _) c.in_ok-verdicts.ensures.firsts c.in_err-write_report_with.ensures)
 
 pub returns-clause-written : goal.returns-clause-written
 returns-clause-written g c =
     taken_of_job c.args.job.now c.args.contents c.in_ok-verdicts.verdicts.firsts
-    (TakesAll _ _) c.in_ok-verdicts.ensures.firsts c.in_ok-write_report.ensures
+    (TakesAll _ _) c.in_ok-verdicts.ensures.firsts c.in_ok-write_report_with.ensures

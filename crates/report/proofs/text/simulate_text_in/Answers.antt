@@ -1,7 +1,4 @@
-use Rattle.report.proofs.WatchedRuns.{refused_open}
 use Rattle.report.proofs.text.simulate_text_in.Goals as goal
 
-pub returns-clause-refused : goal.returns-clause-refused
-returns-clause-refused g c =
-    refused_open c.args.model c.args.bench.now c.args.tests.now c.args.workers
-    c.watch_whole.result c.watch_whole.ensures.refused
+pub returns-clause-written : goal.returns-clause-written
+returns-clause-written g c = rw (← c.of_list-contents.ensures) c.simulate_text_with.ensures.written

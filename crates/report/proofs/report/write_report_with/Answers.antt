@@ -1,0 +1,18 @@
+use Rattle.std.proofs.lemmas.Result.{err_from_is_err_and}
+use Rattle.output.proofs.Public.{takes_more, stopped_before, stopped_after}
+use Rattle.report.proofs.report.write_report_with.Goals as goal
+
+pub returns-in_err-put_report : goal.returns-in_err-put_report
+returns-in_err-put_report g c =
+    let p = err_from_is_err_and c.from_residual.result c.from_residual.ensures.1 in
+    rw (p.1) (stopped_before _ _ _ _ c.in_err-put_report.ensures)
+
+pub returns-in_err-put_class_coverage : goal.returns-in_err-put_class_coverage
+returns-in_err-put_class_coverage g c =
+    let p = err_from_is_err_and c.from_residual-in_err-put_class_coverage.result
+    c.from_residual-in_err-put_class_coverage.ensures.1 in
+    rw (p.1) (stopped_after _ _ _ _ _ c.in_ok-put_report.ensures
+    c.in_err-put_class_coverage.ensures)
+
+pub returns : goal.returns
+returns g c = takes_more _ _ _ _ _ c.in_ok-put_report.ensures c.in_ok-put_class_coverage.ensures
