@@ -130,6 +130,10 @@ pub on_ok : (P : Type 0) (r : Result (Unit {0}) SimFault) → P → OnOk r P
 on_ok P (Ok u) p = p
 on_ok P (Err f) p = tt
 
+pub ok_as : (P Q : Type 0) (r : Result (Unit {0}) SimFault) → (P → Q) → OnOk r P → OnOk r Q
+ok_as P Q (Ok u) into p = into p
+ok_as P Q (Err f) into p = tt
+
 -- the listing that is written of a circuit
 pub taken_of_circuit : (m : Model) (c : List Statement) (list : FaultList) (classes : Collapsed)
     (IsTaken : List ℕ → Type 0) → list ≡ fault_list m c → AreClassesOf list.model c classes

@@ -13,7 +13,8 @@ use Rattle.patterns.specs.Tests.{TestList, HasTests}
 use Rattle.block_sim.specs.Parts.{Parts, piece_count}
 use Rattle.workers.specs.declared.RunFault.TheVariants as run_fault
 use Rattle.workers.specs.declared.RunFault.{RunFault}
-use Rattle.workers.specs.Refused.{IsPartFault, IsPartsFault, IsRunFault, IsScheduleFault}
+use Rattle.workers.specs.Refused.{ArePartsWithin, IsPartFault, IsPartsFault, IsRunFault}
+use Rattle.workers.specs.Refused.{IsScheduleFault}
 use Rattle.workers.specs.Verdict.{AreFirsts}
 use Rattle.workers.specs.Work.{Stops}
 use Rattle.jobs.specs.declared.fault.SimFault.{SimFault}
@@ -83,6 +84,11 @@ IsTextFault m bench text workers IsFault (fault.Run f) =
 IsTextFault m bench text workers IsFault (fault.Report f) =
     (job : Parts) × IsJobOf m bench text job × (0 < workers) × (workers ≤ 64)
 IsTextFault m bench text workers IsFault f = IsReadFault bench text f
+
+-- the classes of the texts' faults, in so many parts, have each part within the limit of pieces
+abbrev pub HasPartsWithin : Model → List ℕ → List ℕ → ℕ → Type 0
+HasPartsWithin m bench text parts =
+    (job : Parts) × IsJobOf m bench text job × ArePartsWithin job parts
 
 -- when the report of a run in so many parts is refused, and the text of one part
 abbrev pub IsPartsReportFault : Model → List ℕ → List ℕ → ℕ → ℕ → SimFault → Type 0

@@ -6,7 +6,7 @@ ghost use Rattle.block_sim.specs.Parts.{BelongTogether, piece_count};
 ghost use Rattle.report.specs.EndToEnd.{WritesOneOf, IsReportOf, IsReportFault, IsReportOfJob};
 ghost use Rattle.report.specs.EndToEnd.{IsScheduleTextFault, HasSomeMoves, IsListingOf};
 ghost use Rattle.report.specs.EndToEnd.{IsListFault, IsListingFault, IsListingOfCircuit};
-ghost use Rattle.report.specs.EndToEnd.{IsPartsReportFault};
+ghost use Rattle.report.specs.EndToEnd.{HasPartsWithin, IsPartsReportFault};
 ghost use Rattle.report.specs.EndToEnd.{IsScheduleReportFault};
 ghost use Rattle.report.specs.Report.{contents_of};
 
@@ -97,8 +97,9 @@ pub fn simulate_text_with<R: Threads + Wait, W: Out>(
 /// the same bytes. The classes of the faults are run in so many parts, each by one worker alone
 /// ([`workers::run_in_parts`]).
 ///
-/// It is refused as [`simulate_text_in`] is, but for the number of pieces: that of the whole has no
-/// limit, and the run is refused with [`RunFault::TooManyPieces`] where one part has too many.
+/// It is refused as [`simulate_text_with`] is, but for the number of pieces: that of the whole has no
+/// limit, and the run is refused with [`RunFault::TooManyPieces`] where one part has too many. Here
+/// the number of workers is looked at before the pieces.
 pub fn simulate_text_in_parts<R: Threads + Wait, W: Out>(
     rt: &R,
     alloc: Global,
@@ -116,6 +117,7 @@ pub fn simulate_text_in_parts<R: Threads + Wait, W: Out>(
     ensures refused { IfErr result
         (IsPartsReportFault model bench.now tests.now parts workers) }
     ensures workers { OnOk result ((0 < workers) × (workers ≤ 64)) }
+    ensures within { OnOk result (HasPartsWithin model bench.now tests.now parts) }
 {
     watch_parts(
         rt, alloc, model, bench, tests, parts, workers, contents, &OpenGate, out,

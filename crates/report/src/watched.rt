@@ -2,9 +2,9 @@
 
 ghost use Rattle.std.specs.Prelude.{◌<◌, ◌≤◌, IfErr, IfSome, None, OnOk};
 ghost use Rattle.block_sim.specs.Parts.{BelongTogether};
-ghost use Rattle.workers.specs.Refused.{IsPartsFault};
-ghost use Rattle.report.specs.EndToEnd.{IsJobReportFault, IsReportOf, IsReportOfJob, IsTextFault};
-ghost use Rattle.report.specs.EndToEnd.{IsWatchedFault, WritesOneOf};
+ghost use Rattle.workers.specs.Refused.{ArePartsWithin, IsPartsFault};
+ghost use Rattle.report.specs.EndToEnd.{HasPartsWithin, IsJobReportFault, IsReportOf};
+ghost use Rattle.report.specs.EndToEnd.{IsReportOfJob, IsTextFault, IsWatchedFault, WritesOneOf};
 
 use crate::contents::Contents;
 use crate::report::write_report_with;
@@ -42,6 +42,8 @@ pub fn simulate_text_watched<R: Threads + Wait, G: Watch + Sync, W: Out>(
     ensures refused { IfErr result (IsWatchedFault model bench.now tests.now parts workers
         (G.passing gate.now) (G.stops gate.now)) }
     ensures workers { OnOk result ((0 < workers) × (workers ≤ 64)) }
+    ensures within { IfSome parts (λ count. OnOk result
+        (HasPartsWithin model bench.now tests.now count)) }
 {
     match parts {
         Some(parts) => {
@@ -72,6 +74,7 @@ pub(crate) fn watch_parts<R: Threads + Wait, G: Watch + Sync, W: Out>(
     ensures refused { IfErr result (IsTextFault model bench.now tests.now workers
         (λ job. IsPartsFault job parts workers (G.passing gate.now) (G.stops gate.now))) }
     ensures workers { OnOk result ((0 < workers) × (workers ≤ 64)) }
+    ensures within { OnOk result (HasPartsWithin model bench.now tests.now parts) }
 {
     let job = job_of_any_size(alloc, model, bench, tests)?;
     report_run(rt, alloc, &job, parts, workers, contents, gate, out)
@@ -119,6 +122,7 @@ fn report_run<R: Threads + Wait, G: Watch + Sync, W: Out>(
     ensures refused { IfErr result (IsJobReportFault workers
         (IsPartsFault job.now parts workers (G.passing gate.now) (G.stops gate.now))) }
     ensures workers { OnOk result ((0 < workers) × (workers ≤ 64)) }
+    ensures within { OnOk result (ArePartsWithin job.now parts) }
 {
     let verdicts = run_watched(rt, alloc, job, parts, workers, gate)?;
     write_report_with(job, &verdicts, contents, out)?;

@@ -1,10 +1,16 @@
 use Rattle.std.proofs.Common.{ℕ, Option, Some, subst, sym}
-use Rattle.std.specs.Prelude.{IfErr}
+use Rattle.std.specs.Prelude.{IfErr, IfSome, OnOk}
 use Rattle.workers.specs.Refused.{IsPartsFault}
-use Rattle.report.specs.EndToEnd.{IsTextFault, IsWatchedFault}
+use Rattle.report.specs.EndToEnd.{HasPartsWithin, IsTextFault, IsWatchedFault}
 use Rattle.report.proofs.ReportsOfTexts.{refused_as}
 use Rattle.report.proofs.WatchedRuns.{watched_parts}
 use Rattle.report.proofs.watched.simulate_text_watched.Goals as goal
+
+pub returns-in-Some-clause-within : goal.returns-in-Some-clause-within
+returns-in-Some-clause-within g c =
+    subst (λ (given : Option ℕ). IfSome given (λ count. OnOk c.watch_parts.result
+    (HasPartsWithin c.args.model c.args.bench.now c.args.tests.now count))) (sym c.in-Some.is)
+    c.watch_parts.ensures.within
 
 pub returns-in-Some-clause-refused : goal.returns-in-Some-clause-refused
 returns-in-Some-clause-refused g c =

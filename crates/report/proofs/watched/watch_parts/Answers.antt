@@ -1,14 +1,21 @@
 use Rattle.block_sim.specs.Parts.{Parts}
 use Rattle.workers.specs.declared.RunFault.{RunFault}
-use Rattle.workers.specs.Refused.{IsPartsFault}
-use Rattle.report.specs.EndToEnd.{IsJobReportFault, IsTextFault}
-use Rattle.report.proofs.ReportsOfTexts.{refused_as, text_fault, written_of_texts}
+use Rattle.workers.specs.Refused.{ArePartsWithin, IsPartsFault}
+use Rattle.report.specs.EndToEnd.{HasPartsWithin, IsJobReportFault, IsTextFault}
+use Rattle.report.proofs.ReportsOfTexts.{ok_as, refused_as, text_fault, written_of_texts}
 use Rattle.report.proofs.watched.watch_parts.Goals as goal
 
 pub returns-clause-written : goal.returns-clause-written
 returns-clause-written g c =
     written_of_texts c.args.model c.args.bench.now c.args.tests.now c.args.contents c.in_ok-job.job
     c.report_run.result _ _ c.in_ok-job.ensures.job c.report_run.ensures.written
+
+pub returns-clause-within : goal.returns-clause-within
+returns-clause-within g c =
+    ok_as (ArePartsWithin c.in_ok-job.job c.args.parts)
+    (HasPartsWithin c.args.model c.args.bench.now c.args.tests.now c.args.parts)
+    c.report_run.result (λ within. (c.in_ok-job.job, c.in_ok-job.ensures.job, within))
+    c.report_run.ensures.within
 
 pub returns-clause-refused : goal.returns-clause-refused
 returns-clause-refused g c =
