@@ -14,3 +14,5 @@ mod schedules;
 mod stretches;
 #[cfg(test)]
 mod threads;
+#[cfg(test)]
+mod watched;
