@@ -65,7 +65,7 @@ fn is_met<R: Threads + Wait + Clock + Sync>(rt: &R, alloc: Global) -> Result<boo
     simulate_text_watched(
         rt, alloc, model, bench, b"11111\n", None, 4, contents, &gate, &mut out,
     )?;
-    Ok(out.into_writer().as_slice() == b"14 of 34 (41.17%)\n")
+    Ok(out.into_writer().as_slice() == b"14 of 34 (41.17%)\n".as_slice())
 }
 
 #[test]
