@@ -1,4 +1,4 @@
 use Rattle.report.proofs.report.write_report.Goals as goal
 
 pub returns : goal.returns
-returns g c = rw (← c.of_list.ensures) c.write_report_with.ensures
+returns g c = rw (c.of_list.ensures) at c.write_report_with.ensures
