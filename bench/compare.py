@@ -10,8 +10,8 @@ the baseline by events, the baseline by regions with all of its options (`--algo
 --groups`), and the baseline by packs (`--algorithm packs`), which has one worker alone. For each case
 it prints the ratios of the least times: ours beside the baseline by events, by regions, by packs, and
 with --no-trim, which looks at whole blocks; and the most memory that ours and the baseline by events
-had. Times depend on the machine, so their ratios alone are printed. With --processor they are of
-processor time, which says more where the machine has something else to do.
+had. Times depend on the machine, so their ratios alone are printed. With --processor those of
+different programs are of processor time, which says more on a machine that does something else too.
 
 Without an option it runs the short cases, with --hard the long ones, and with --designs those of
 designs/: real designs, and structured circuits from Verilog. With --workers it runs the
@@ -265,13 +265,14 @@ def compare_workers(folder, baseline, case, options):
             series.add(("at once", workers), took, phase, 0)
     print(f"{case.name}, {case.title}")
     for workers in WORKERS:
-        print(line_of(series, ways, workers), flush=True)
+        print(line_of(series, ways, workers, options.processor), flush=True)
 
 
-def line_of(series, ways, workers):
+def line_of(series, ways, workers, processor):
     """What the runs with so many workers took, beside each other and beside those with one."""
     whole, phase, spent = series
-    ratios = [f"{whole['ours', workers] / whole[way, workers]:.2f} {way}" for way in ways if way != "ours"]
+    took = spent if processor else whole
+    ratios = [f"{took['ours', workers] / took[way, workers]:.2f} {way}" for way in ways if way != "ours"]
     line = f"  {workers} workers: {', '.join(ratios)}"
     for way in ways:
         line += f"; {way} {whole[way, 1] / whole[way, workers]:.2f} times as fast as with 1"
