@@ -1,0 +1,35 @@
+-- A session's box, and the rows of what holds its pointer.
+use mathlib.Core.List.{[]}
+use mir.Syntax.{impl, tnil, dnil}
+use denote.Signature.{Slot, plain}
+use denote.Struct.Owning.{Owning, row}
+use Rattle.std.proofs.alloc.Calls.{Al}
+use Rattle.std_heap.specs.contracts.Global as heap
+use Rattle.std_heap.specs.contracts.GlobalAllocator.TheImpl.{ghosts, dict}
+use Rattle.std_heap.proofs.Global.TheLaws as heap_laws
+use Rattle.faultsim_c.specs.contracts.session.Session as session
+use Rattle.faultsim_c.specs.contracts.taken.Taken as taken
+use Rattle.faultsim_c.specs.contracts.held.Held as held
+
+-- the C library's allocator
+abbrev pub heap_of_c : Al
+heap_of_c = record {
+  row = heap.the_row;
+  laws = heap_laws.the_row_laws;
+  g = ghosts;
+  d = dict;
+  drops
+      = impl [] tnil dnil;
+}
+
+abbrev pub handle : Slot 0
+handle = plain (λ _. heap.the_row)
+
+abbrev pub taken_type : Owning
+taken_type = taken.the_type session.the_row heap.the_row ghosts
+
+abbrev pub taken_session : Slot 0
+taken_session = plain (λ _. row taken_type)
+
+abbrev pub held_session : Slot 0
+held_session = plain (λ _. held.the_row)

@@ -1,0 +1,5 @@
+pub mod Boxed
+mod Firsts
+pub mod Pointed
+mod Replies
+mod Options

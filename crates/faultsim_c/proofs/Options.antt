@@ -1,0 +1,6 @@
+-- What an option has.
+use Rattle.std.proofs.Common.{◌≡◌, Some, ap}
+use Rattle.std.specs.Prelude.{unwrap_or}
+
+pub some_inj : {A : Type 0} {x y : A} → Some x ≡ Some y → x ≡ y
+some_inj {x = x} e = ap (λ o. unwrap_or o x) e

@@ -1,0 +1,90 @@
+-- What C is told of a call that isn't done.
+use Rattle.std.specs.Prelude.{◌≡◌, ◌⊎◌, ⊤, ℕ, List, length}
+use Rattle.bench_net.specs.Refusal.{IsAccepted, IsRefused}
+use Rattle.bench_net.specs.Scan.{sources}
+use Rattle.bench_net.specs.Statement.{Statement}
+use Rattle.bench_net.specs.declared.BenchFault.{BenchFault}
+use Rattle.bench_net.specs.declared.BenchFault.TheVariants as bench
+use Rattle.bench_net.specs.declared.Limit.TheVariants as limit
+use Rattle.patterns.specs.Making.{IsWordsRefusal}
+use Rattle.patterns.specs.Tests.{IsTestRefusal}
+use Rattle.patterns.specs.declared.TestFault.{TestFault}
+use Rattle.patterns.specs.declared.TestFault.TheVariants as tests
+use Rattle.patterns.specs.declared.WordsFault.TheVariants as words
+use Rattle.faultsim_c.specs.declared.status.FsFault.{FsFault}
+use Rattle.faultsim_c.specs.declared.status.Refusal.{Refusal}
+use Rattle.faultsim_c.specs.declared.status.Refusal.TheVariants as refusal
+
+-- the status
+abbrev pub told_status : Refusal → ℕ
+told_status refusal.Memory = 2
+told_status (refusal.Bench bench.Memory) = 2
+told_status (refusal.Tests tests.Memory) = 2
+told_status (refusal.Words words.Memory) = 2
+told_status refusal.Shared = 5
+told_status _ = 3
+
+-- a kind and a place
+abbrev fault : ℕ → ℕ → FsFault
+fault kind place = record { kind = kind; place = place }
+
+-- why, by a kind and a place; 0 if no text and no words are wrong
+abbrev pub told_fault : Refusal → FsFault
+told_fault (refusal.Bench (bench.TooLarge limit.Bytes)) = fault 1 0
+told_fault (refusal.Bench (bench.TooLarge limit.Signals)) = fault 2 0
+told_fault (refusal.Bench (bench.TooLarge limit.Sinks)) = fault 3 0
+told_fault (refusal.Bench (bench.Syntax line)) = fault 4 line
+told_fault (refusal.Bench (bench.Redefined line)) = fault 5 line
+told_fault (refusal.Bench (bench.Undefined line)) = fault 6 line
+told_fault (refusal.Bench (bench.Cycle line)) = fault 7 line
+told_fault (refusal.Bench bench.Empty) = fault 8 0
+told_fault (refusal.Bench bench.Memory) = fault 0 0
+told_fault (refusal.Tests (tests.BadByte line)) = fault 9 line
+told_fault (refusal.Tests (tests.BadWidth line)) = fault 10 line
+told_fault (refusal.Tests tests.TooMany) = fault 11 0
+told_fault (refusal.Tests tests.Memory) = fault 0 0
+told_fault (refusal.Words words.TooMany) = fault 12 0
+told_fault (refusal.Words words.BadCount) = fault 13 0
+told_fault (refusal.Words (words.IdleBits source)) = fault 14 source
+told_fault (refusal.Words words.Memory) = fault 0 0
+told_fault refusal.Shared = fault 0 0
+told_fault refusal.Memory = fault 0 0
+
+-- why a circuit isn't read
+abbrev pub IsBenchReply : List ℕ → Refusal → Type 0
+IsBenchReply netlist (refusal.Bench f) = (f ≡ bench.Memory) ⊎ IsRefused netlist f
+IsBenchReply netlist refusal.Memory = ⊤
+IsBenchReply netlist _ = ⊥
+
+-- why the tests of a text aren't taken
+abbrev pub IsTestsReply : ℕ → List ℕ → Refusal → Type 0
+IsTestsReply width text (refusal.Tests f) = (f ≡ tests.Memory) ⊎ IsTestRefusal text width f
+IsTestsReply width text refusal.Memory = ⊤
+IsTestsReply width text refusal.Shared = ⊤
+IsTestsReply width text _ = ⊥
+
+-- why tests in words aren't taken
+abbrev pub IsWordsReply : ℕ → ℕ → List ℕ → Refusal → Type 0
+IsWordsReply width count ws (refusal.Words f) =
+    (f ≡ words.Memory) ⊎ IsWordsRefusal width count ws f
+IsWordsReply width count ws refusal.Memory = ⊤
+IsWordsReply width count ws refusal.Shared = ⊤
+IsWordsReply width count ws _ = ⊥
+
+-- the circuit is accepted, and its tests are refused
+abbrev pub IsRefusedFor : List ℕ → List ℕ → TestFault → Type 0
+IsRefusedFor netlist text f = (c : List Statement) × IsAccepted netlist c
+    × IsTestRefusal text (length (sources c)) f
+
+-- why a circuit and its tests aren't read
+abbrev pub IsTextsReply : List ℕ → List ℕ → Refusal → Type 0
+IsTextsReply netlist text (refusal.Bench f) = (f ≡ bench.Memory) ⊎ IsRefused netlist f
+IsTextsReply netlist text (refusal.Tests f) = (f ≡ tests.Memory) ⊎ IsRefusedFor netlist text f
+IsTextsReply netlist text refusal.Memory = ⊤
+IsTextsReply netlist text _ = ⊥
+
+-- the circuit is refused, or its tests are, and this tells why
+abbrev pub AreRefusedTexts : List ℕ → List ℕ → FsFault → Type 0
+AreRefusedTexts netlist text told =
+    ((f : BenchFault) × IsRefused netlist f × (told ≡ told_fault (refusal.Bench f)))
+    ⊎ ((f : TestFault) × IsRefusedFor netlist text f × (told ≡ told_fault (refusal.Tests f)))

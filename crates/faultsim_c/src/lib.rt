@@ -1,0 +1,421 @@
+//! The library for C: a job behind a handle, and calls that keep `include/faultsim.h`.
+//!
+//! A handle is taken apart at the start of a call and put together at its end, so that the code
+//! between is safe. A call returns a status: 0 if it is done, 1 for a handle without a job, 2 if
+//! memory ran out, 3 for a wrong text or wrong words, 4 for a number or a length out of range, and
+//! 5 for a job that another handle shares.
+#![tactic(auto)]
+
+ghost use Rattle.std.specs.Prelude.{◌≡◌, ◌≢◌, ◌↔◌, ◌⊎◌, ◌<◌, ◌≤◌, All, IfNone, IfSome};
+ghost use Rattle.std.specs.Prelude.{IsSome, IsTrue, None, Some, length};
+ghost use Rattle.bench_net.specs.Refusal.{IsRefused};
+ghost use Rattle.bench_net.specs.Scan.{sources};
+ghost use Rattle.bench_net.specs.declared.BenchFault.{BenchFault};
+ghost use Rattle.fault_model.specs.declared.Model.{Model as ModelOf};
+ghost use Rattle.patterns.specs.Making.{IsMadeOf, IsWordsRefusal};
+ghost use Rattle.patterns.specs.Tests.{HasTests, IsTestRefusal, TestList, blocks};
+ghost use Rattle.patterns.specs.declared.TestFault.{TestFault as TestFaultOf};
+ghost use Rattle.patterns.specs.declared.WordsFault.{WordsFault as WordsFaultOf};
+ghost use Rattle.block_sim.specs.First.{AreDetecting};
+ghost use Rattle.block_sim.specs.Parts.{Parts, with_tests};
+ghost use Rattle.faultsim_c.specs.Calls.{AreClassesOf, AreFaultFirsts, AreFirsts, AreRequests};
+ghost use Rattle.faultsim_c.specs.Calls.{AreSizes, IsCircuitJob, IsJobOfTexts, IsModelNumber};
+ghost use Rattle.faultsim_c.specs.Told.{AreRefusedTexts, told_fault};
+ghost use Rattle.faultsim_c.specs.declared.status.Refusal.TheVariants as refusal;
+
+mod handle;
+mod held;
+mod run;
+mod session;
+mod signals;
+mod status;
+mod taken;
+
+use fault_model::Model as FaultModel;
+use handle::{FsJob, give, put, take};
+use run::{fault_firsts, simulate};
+use session::{Session, is_send};
+use status::{DONE, FsFault, MEMORY, NO_JOB, RANGE, tell};
+use std::alloc::Global;
+
+/// How large a job is.
+#[repr(C)]
+#[derive(Clone, Copy, Debug)]
+pub struct FsSizes {
+    /// Primary inputs and scan cells.
+    pub sources: u32,
+    /// Signals.
+    pub signals: u32,
+    /// Faults before collapsing.
+    pub faults: u32,
+    /// Equivalence classes of faults.
+    pub classes: u32,
+    /// Tests.
+    pub tests: u32,
+    /// Blocks of 64 tests; the last may be short.
+    pub blocks: u32,
+}
+
+/// The version of the calls, which changes if a program that calls them must.
+const VERSION: u32 = 1;
+
+/// Tells the version of the calls.
+#[unsafe(no_mangle)]
+pub extern "C" fn fs_version() -> u32
+    ensures { result ≡ 1 }
+{
+    VERSION
+}
+
+/// Frees what a handle has, and leaves zeros.
+#[unsafe(no_mangle)]
+pub extern "C" fn fs_job_free(alloc: Global, job: &mut FsJob)
+    ensures { job.new.held.session ≡ None }
+{
+    drop(take(alloc, job));
+}
+
+/// Returns the model of a number.
+fn model_of(model: u32) -> Option<FaultModel>
+    ensures some { IfSome result (IsModelNumber model) }
+    ensures none { IfNone result (2 < model) }
+{
+    match model {
+        0 => Some(FaultModel::StuckAt),
+        1 => Some(FaultModel::Transition),
+        2 => Some(FaultModel::TransitionPairs),
+        _ => None,
+    }
+}
+
+/// Reads a circuit, lists the faults of a model and collapses them. The job has no tests yet.
+#[unsafe(no_mangle)]
+pub extern "C" fn fs_job_read(
+    alloc: Global,
+    model: u32,
+    bench: &[u8],
+    job: &mut FsJob,
+    fault: &mut FsFault,
+) -> u32
+    ensures done { result ≡ 0 → (parts : Parts) × (job.new.held.session ≡ Some parts)
+        × ((m : ModelOf) × IsModelNumber model m × IsCircuitJob m bench.now parts) }
+    ensures refused { result ≡ 3 → (f : BenchFault) × IsRefused bench.now f
+        × (fault.new ≡ told_fault (refusal.Bench f)) }
+    ensures range { (result ≡ 4) ↔ (2 < model) }
+    ensures statuses { (result ≡ 0) ⊎ (result ≡ 2) ⊎ (result ≡ 3) ⊎ (result ≡ 4) }
+    ensures kept { result ≢ 0 → job.new.held.session ≡ job.old.held.session }
+    ensures quiet { result ≢ 3 → fault.new ≡ fault.old }
+{
+    let Some(model) = model_of(model) else {
+        return RANGE;
+    };
+    match Session::read(alloc, model, bench) {
+        Ok(session) => give(alloc, job, session),
+        Err(refusal) => tell(refusal, fault),
+    }
+}
+
+/// Makes a second handle of the same job.
+#[unsafe(no_mangle)]
+pub extern "C" fn fs_job_share(alloc: Global, job: &mut FsJob, other: &mut FsJob) -> u32
+    ensures done { result ≡ 0 → other.new.held.session ≡ job.old.held.session }
+    ensures no_job { (result ≡ 1) ↔ (job.old.held.session ≡ None) }
+    ensures serves { IsSome job.old.held.session → (result ≡ 0) ⊎ (result ≡ 2) }
+    ensures unshared { result ≢ 0 → other.new.held.session ≡ other.old.held.session }
+    ensures kept { job.new.held.session ≡ job.old.held.session }
+{
+    let Some(session) = take(alloc, job) else {
+        return NO_JOB;
+    };
+    let second = session.share(alloc);
+    put(alloc, job, session);
+    match second {
+        Ok(second) => give(alloc, other, second),
+        Err(_) => MEMORY,
+    }
+}
+
+/// Tells how large the job is.
+#[unsafe(no_mangle)]
+pub extern "C" fn fs_sizes_of(alloc: Global, job: &mut FsJob, sizes: &mut FsSizes) -> u32
+    ensures done { (parts : Parts) → job.old.held.session ≡ Some parts
+        → (result ≡ 0) × AreSizes parts sizes.new }
+    ensures no_job { job.old.held.session ≡ None → (result ≡ 1) × (sizes.new ≡ sizes.old) }
+    ensures kept { job.new.held.session ≡ job.old.held.session }
+{
+    let Some(session) = take(alloc, job) else {
+        return NO_JOB;
+    };
+    *sizes = sizes_of(&session);
+    put(alloc, job, session);
+    DONE
+}
+
+/// Returns how large the job of a session is.
+fn sizes_of(session: &Session) -> FsSizes
+    ensures { AreSizes session.now result }
+{
+    let job = session.job();
+    FsSizes {
+        sources: job.circuit().sources(),
+        signals: job.circuit().signals(),
+        faults: job.faults().count(),
+        classes: job.classes().count(),
+        tests: job.tests().count(),
+        blocks: job.tests().blocks(),
+    }
+}
+
+/// Takes tests in words in place of the job's: for each block one for each source.
+#[unsafe(no_mangle)]
+pub extern "C" fn fs_set_words(
+    alloc: Global,
+    job: &mut FsJob,
+    count: u32,
+    words: &[u64],
+    fault: &mut FsFault,
+) -> u32
+    ensures done { result ≡ 0 → (parts : Parts) × (tests : TestList)
+        × (job.old.held.session ≡ Some parts)
+        × IsMadeOf (length (sources parts.circuit)) count words.now tests
+        × (job.new.held.session ≡ Some (with_tests parts tests)) }
+    ensures refused { result ≡ 3 → (parts : Parts) × (f : WordsFaultOf)
+        × (job.old.held.session ≡ Some parts)
+        × IsWordsRefusal (length (sources parts.circuit)) count words.now f
+        × (fault.new ≡ told_fault (refusal.Words f)) }
+    ensures no_job { (result ≡ 1) ↔ (job.old.held.session ≡ None) }
+    ensures statuses { IsSome job.old.held.session
+        → (result ≡ 0) ⊎ (result ≡ 2) ⊎ (result ≡ 3) ⊎ (result ≡ 5) }
+    ensures kept { result ≢ 0 → job.new.held.session ≡ job.old.held.session }
+    ensures quiet { result ≢ 3 → fault.new ≡ fault.old }
+{
+    let Some(mut session) = take(alloc, job) else {
+        return NO_JOB;
+    };
+    let done = session.set_words(alloc, count, words);
+    put(alloc, job, session);
+    match done {
+        Ok(()) => DONE,
+        Err(refusal) => tell(refusal, fault),
+    }
+}
+
+/// Takes the tests of a text in place of the job's.
+#[unsafe(no_mangle)]
+pub extern "C" fn fs_set_text(
+    alloc: Global,
+    job: &mut FsJob,
+    text: &[u8],
+    fault: &mut FsFault,
+) -> u32
+    ensures done { result ≡ 0 → (parts : Parts) × (tests : TestList)
+        × (job.old.held.session ≡ Some parts)
+        × HasTests text.now (length (sources parts.circuit)) tests
+        × (job.new.held.session ≡ Some (with_tests parts tests)) }
+    ensures refused { result ≡ 3 → (parts : Parts) × (f : TestFaultOf)
+        × (job.old.held.session ≡ Some parts)
+        × IsTestRefusal text.now (length (sources parts.circuit)) f
+        × (fault.new ≡ told_fault (refusal.Tests f)) }
+    ensures no_job { (result ≡ 1) ↔ (job.old.held.session ≡ None) }
+    ensures statuses { IsSome job.old.held.session
+        → (result ≡ 0) ⊎ (result ≡ 2) ⊎ (result ≡ 3) ⊎ (result ≡ 5) }
+    ensures kept { result ≢ 0 → job.new.held.session ≡ job.old.held.session }
+    ensures quiet { result ≢ 3 → fault.new ≡ fault.old }
+{
+    let Some(mut session) = take(alloc, job) else {
+        return NO_JOB;
+    };
+    let done = session.set_text(alloc, text);
+    put(alloc, job, session);
+    match done {
+        Ok(()) => DONE,
+        Err(refusal) => tell(refusal, fault),
+    }
+}
+
+/// Tells the class of each fault. The length is the number of faults.
+#[unsafe(no_mangle)]
+pub extern "C" fn fs_classes_of(alloc: Global, job: &mut FsJob, classes: &mut [u32]) -> u32
+    ensures done { (parts : Parts) → job.old.held.session ≡ Some parts
+        → length classes.old ≡ length parts.list.list
+        → (result ≡ 0) × AreClassesOf parts classes.new }
+    ensures range { (parts : Parts) → job.old.held.session ≡ Some parts
+        → length classes.old ≢ length parts.list.list → result ≡ 4 }
+    ensures no_job { job.old.held.session ≡ None → result ≡ 1 }
+    ensures untouched { result ≢ 0 → classes.new ≡ classes.old }
+    ensures kept { job.new.held.session ≡ job.old.held.session }
+{
+    let Some(session) = take(alloc, job) else {
+        return NO_JOB;
+    };
+    let status = classes_of(&session, classes);
+    put(alloc, job, session);
+    status
+}
+
+/// Tells the class of each fault of a session.
+fn classes_of(session: &Session, classes: &mut [u32]) -> u32
+    ensures done { length classes.old ≡ length session.now.list.list
+        → (result ≡ 0) × AreClassesOf session.now classes.new }
+    ensures range { length classes.old ≢ length session.now.list.list → result ≡ 4 }
+    ensures untouched { result ≢ 0 → classes.new ≡ classes.old }
+{
+    let job = session.job();
+    if classes.len() != job.faults().count() as usize {
+        return RANGE;
+    }
+    for fault in 0..job.faults().count() {
+        classes[fault as usize] = job.classes().class_of(fault);
+    }
+    DONE
+}
+
+/// Tells the first test that detects each class of a list. The lengths are equal.
+#[unsafe(no_mangle)]
+pub extern "C" fn fs_simulate(
+    alloc: Global,
+    job: &mut FsJob,
+    classes: &[u32],
+    firsts: &mut [u32],
+) -> u32
+    ensures done { result ≡ 0 → (parts : Parts) × (job.old.held.session ≡ Some parts)
+        × AreFirsts parts classes.now firsts.new }
+    ensures serves { (parts : Parts) → job.old.held.session ≡ Some parts
+        → AreRequests parts classes.now firsts.old → (result ≡ 0) ⊎ (result ≡ 2) }
+    ensures range { (parts : Parts) → job.old.held.session ≡ Some parts
+        → ¬ AreRequests parts classes.now firsts.old → result ≡ 4 }
+    ensures no_job { job.old.held.session ≡ None → result ≡ 1 }
+    ensures kept { job.new.held.session ≡ job.old.held.session }
+{
+    let Some(session) = take(alloc, job) else {
+        return NO_JOB;
+    };
+    let status = simulate_in(alloc, &session, classes, firsts);
+    put(alloc, job, session);
+    status
+}
+
+/// Tells the first test that detects each class of a list, in a session.
+fn simulate_in(alloc: Global, session: &Session, classes: &[u32], firsts: &mut [u32]) -> u32
+    ensures done { result ≡ 0 → AreFirsts session.now classes.now firsts.new }
+    ensures serves { AreRequests session.now classes.now firsts.old
+        → (result ≡ 0) ⊎ (result ≡ 2) }
+    ensures range { ¬ AreRequests session.now classes.now firsts.old → result ≡ 4 }
+{
+    let job = session.job();
+    if firsts.len() != classes.len() || !are_classes(classes, job.classes().count()) {
+        return RANGE;
+    }
+    match simulate(alloc, job, classes, firsts) {
+        Ok(()) => DONE,
+        Err(_) => MEMORY,
+    }
+}
+
+/// Tells whether all are below the number of classes.
+fn are_classes(classes: &[u32], count: u32) -> bool
+    ensures { IsTrue result ↔ All (λ class. class < count) classes.now }
+{
+    classes.iter().all(|class| *class < count)
+}
+
+/// Tells the lanes of a block whose tests detect a class.
+#[unsafe(no_mangle)]
+pub extern "C" fn fs_detecting(
+    alloc: Global,
+    job: &mut FsJob,
+    class: u32,
+    block: u32,
+    lanes: &mut u64,
+) -> u32
+    ensures done { (parts : Parts) → job.old.held.session ≡ Some parts
+        → class < length parts.classes.representative → block < blocks (length parts.tests.tests)
+        → (result ≡ 0) × AreDetecting parts.list.model parts.circuit parts.tests.tests class
+        block lanes.new }
+    ensures range { (parts : Parts) → job.old.held.session ≡ Some parts
+        → (length parts.classes.representative ≤ class)
+        ⊎ (blocks (length parts.tests.tests) ≤ block) → result ≡ 4 }
+    ensures no_job { job.old.held.session ≡ None → result ≡ 1 }
+    ensures untouched { result ≢ 0 → lanes.new ≡ lanes.old }
+    ensures kept { job.new.held.session ≡ job.old.held.session }
+{
+    let Some(mut session) = take(alloc, job) else {
+        return NO_JOB;
+    };
+    let status = detecting_in(&mut session, class, block, lanes);
+    put(alloc, job, session);
+    status
+}
+
+/// Tells the lanes of a block whose tests detect a class, in a session.
+fn detecting_in(session: &mut Session, class: u32, block: u32, lanes: &mut u64) -> u32
+    ensures done { class < length session.old.classes.representative
+        → block < blocks (length session.old.tests.tests)
+        → (result ≡ 0) × AreDetecting session.old.list.model session.old.circuit
+        session.old.tests.tests class block lanes.new }
+    ensures range { (length session.old.classes.representative ≤ class)
+        ⊎ (blocks (length session.old.tests.tests) ≤ block) → result ≡ 4 }
+    ensures untouched { result ≢ 0 → lanes.new ≡ lanes.old }
+    ensures kept { session.new ≡ session.old }
+{
+    let job = session.job();
+    if class >= job.classes().count() || block >= job.tests().blocks() {
+        return RANGE;
+    }
+    *lanes = session.detecting(class, block);
+    DONE
+}
+
+/// Tells the first test of a text that detects each fault of a circuit, without a handle. If
+/// `firsts` has a length other than the number of faults, the status is 4, and `faults` tells it.
+#[unsafe(no_mangle)]
+pub extern "C" fn fs_firsts(
+    alloc: Global,
+    model: u32,
+    bench: &[u8],
+    text: &[u8],
+    firsts: &mut [u32],
+    faults: &mut u32,
+    fault: &mut FsFault,
+) -> u32
+    ensures done { result ≡ 0 → (m : ModelOf) × (parts : Parts) × IsModelNumber model m
+        × IsJobOfTexts m bench.now text.now parts × AreFaultFirsts parts firsts.new }
+    ensures refused { result ≡ 3 → AreRefusedTexts bench.now text.now fault.new }
+    ensures statuses { (result ≡ 0) ⊎ (result ≡ 2) ⊎ (result ≡ 3) ⊎ (result ≡ 4) }
+    ensures model { 2 < model → (result ≡ 4) × (faults.new ≡ faults.old) }
+    ensures range { model ≤ 2 → result ≡ 4 → (m : ModelOf) × (parts : Parts)
+        × IsModelNumber model m × IsJobOfTexts m bench.now text.now parts
+        × (faults.new ≡ length parts.list.list) × (length firsts.old ≢ faults.new) }
+    ensures quiet { result ≢ 3 → fault.new ≡ fault.old }
+{
+    let Some(model) = model_of(model) else {
+        return RANGE;
+    };
+    match Session::read_both(alloc, model, bench, text) {
+        Ok(session) => firsts_in(alloc, &session, firsts, faults),
+        Err(refusal) => tell(refusal, fault),
+    }
+}
+
+/// Tells the first test that detects each fault of a session.
+fn firsts_in(alloc: Global, session: &Session, firsts: &mut [u32], faults: &mut u32) -> u32
+    ensures done { result ≡ 0 → AreFaultFirsts session.now firsts.new }
+    ensures statuses { (result ≡ 0) ⊎ (result ≡ 2) ⊎ (result ≡ 4) }
+    ensures range { (result ≡ 4) ↔ (length firsts.old ≢ length session.now.list.list) }
+    ensures faults { faults.new ≡ length session.now.list.list }
+{
+    let job = session.job();
+    *faults = job.faults().count();
+    if firsts.len() != *faults as usize {
+        return RANGE;
+    }
+    match fault_firsts(alloc, job, firsts) {
+        Ok(()) => DONE,
+        Err(_) => MEMORY,
+    }
+}
+
+/// A handle may go to another thread, because what it holds may.
+pub fn may_go(job: &FsJob) {
+    is_send(job)
+}

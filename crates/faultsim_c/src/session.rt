@@ -1,0 +1,176 @@
+//! What a handle stands for: a job with room to simulate it.
+
+ghost use Rattle.std.specs.Prelude.{◌≡◌, ◌⊎◌, ◌<◌, IfErr, IfOk, length};
+ghost use Rattle.bench_net.specs.Circuit.{IsCircuit};
+ghost use Rattle.bench_net.specs.Scan.{sources};
+ghost use Rattle.patterns.specs.Making.{IsMadeOf};
+ghost use Rattle.patterns.specs.Tests.{HasTests, IsTestList, TestList, blocks};
+ghost use Rattle.block_sim.specs.First.{AreDetecting};
+ghost use Rattle.block_sim.specs.Parts.{BelongTogether, with_tests};
+ghost use Rattle.faultsim_c.specs.Calls.{IsCircuitJob, IsJobOfTexts};
+ghost use Rattle.faultsim_c.specs.Told.{IsBenchReply, IsTestsReply, IsTextsReply, IsWordsReply};
+ghost use Rattle.faultsim_c.specs.declared.status.Refusal.TheVariants as refusal;
+
+use crate::status::Refusal;
+use bench_net::{Circuit, read_bench};
+use block_sim::{Job, Workspace, detecting};
+use fault_model::{Model as FaultModel, collapse, list_faults_in};
+use patterns::{Tests, read_tests};
+use std::alloc::{AllocError, Global};
+use std::marker::Model;
+use std::sync::Arc;
+
+/// A job, which sessions of several threads share, and room of one's own to simulate it.
+#[derive(Drop)]
+pub(crate) struct Session {
+    job: Arc<Job>,
+    workspace: Workspace,
+}
+
+impl Model for Session {
+    ghost use Rattle.block_sim.specs.Parts.{HasRoom, Parts};
+
+    ghost Value = { Parts };
+
+    ghost view = { λ s. s.job.value };
+
+    ghost invariant = { λ s. HasRoom s.workspace s.job.value };
+}
+
+impl Session {
+    /// Reads a circuit. The session has no tests.
+    pub(crate) fn read(alloc: Global, model: FaultModel, bench: &[u8]) -> Result<Session, Refusal>
+        ensures read { IfOk result (IsCircuitJob model bench.now) }
+        ensures refused { IfErr result (IsBenchReply bench.now) }
+    {
+        let circuit = read_bench(alloc, bench)?;
+        let tests = Tests::new(alloc, circuit.sources());
+        let job = job_of(alloc, model, circuit, tests)?;
+        Ok(Session::of(alloc, job)?)
+    }
+
+    /// Reads a circuit and its tests.
+    pub(crate) fn read_both(
+        alloc: Global,
+        model: FaultModel,
+        bench: &[u8],
+        text: &[u8],
+    ) -> Result<Session, Refusal>
+        ensures read { IfOk result (IsJobOfTexts model bench.now text.now) }
+        ensures refused { IfErr result (IsTextsReply bench.now text.now) }
+    {
+        let circuit = read_bench(alloc, bench)?;
+        let tests = read_tests(alloc, text, circuit.sources())?;
+        let job = job_of(alloc, model, circuit, tests)?;
+        Ok(Session::of(alloc, job)?)
+    }
+
+    /// Makes a session of a job.
+    fn of(alloc: Global, job: Job) -> Result<Session, AllocError>
+        ensures { IfOk result (λ session. session ≡ job) }
+    {
+        let workspace = Workspace::new(alloc, &job)?;
+        let job = Arc::new(alloc, job)?;
+        Ok(Session { job, workspace })
+    }
+
+    /// Makes a second session of the same job, for another thread.
+    pub(crate) fn share(&self, alloc: Global) -> Result<Session, AllocError>
+        ensures { IfOk result (λ session. session ≡ self.now) }
+    {
+        let workspace = Workspace::new(alloc, &self.job)?;
+        let job = Arc::try_clone(&self.job)?;
+        Ok(Session { job, workspace })
+    }
+
+    /// The job.
+    pub(crate) fn job(&self) -> &Job
+        ensures { result.now ≡ self.now }
+    {
+        &self.job
+    }
+
+    /// Takes tests in words in place of the job's.
+    pub(crate) fn set_words(
+        &mut self,
+        alloc: Global,
+        count: u32,
+        words: &[u64],
+    ) -> Result<(), Refusal>
+        ensures done { IfOk result (λ _. (tests : TestList)
+            × IsMadeOf (length (sources self.old.circuit)) count words.now tests
+            × (self.new ≡ with_tests self.old tests)) }
+        ensures refused { IfErr result
+            (IsWordsReply (length (sources self.old.circuit)) count words.now) }
+        ensures kept { IfErr result (λ _. self.new ≡ self.old) }
+    {
+        let tests = Tests::from_words(alloc, self.job.circuit().sources(), count, words)?;
+        self.set_tests(alloc, tests)
+    }
+
+    /// Takes the tests of a text in place of the job's.
+    pub(crate) fn set_text(&mut self, alloc: Global, text: &[u8]) -> Result<(), Refusal>
+        ensures done { IfOk result (λ _. (tests : TestList)
+            × HasTests text.now (length (sources self.old.circuit)) tests
+            × (self.new ≡ with_tests self.old tests)) }
+        ensures refused { IfErr result
+            (IsTestsReply (length (sources self.old.circuit)) text.now) }
+        ensures kept { IfErr result (λ _. self.new ≡ self.old) }
+    {
+        let tests = read_tests(alloc, text, self.job.circuit().sources())?;
+        self.set_tests(alloc, tests)
+    }
+
+    /// Takes tests in place of the job's, unless another session has the job.
+    fn set_tests(&mut self, alloc: Global, tests: Tests) -> Result<(), Refusal>
+        requires tests { IsTestList tests }
+        requires width { tests.width ≡ length (sources self.old.circuit) }
+        ensures done { IfOk result (λ _. self.new ≡ with_tests self.old tests) }
+        ensures refused { IfErr result (λ r. (r ≡ refusal.Shared) ⊎ (r ≡ refusal.Memory)) }
+        ensures kept { IfErr result (λ _. self.new ≡ self.old) }
+    {
+        match Arc::get_mut(&mut self.job) {
+            Some(job) => Ok(job.set_tests_of_any_size(alloc, tests)?),
+            None => Err(Refusal::Shared),
+        }
+    }
+
+    /// The lanes of a block whose tests detect a class.
+    pub(crate) fn detecting(&mut self, class: u32, block: u32) -> u64
+        requires class { class < length self.old.classes.representative }
+        requires block { block < blocks (length self.old.tests.tests) }
+        ensures lanes { AreDetecting self.old.list.model self.old.circuit
+            self.old.tests.tests class block result }
+        ensures kept { self.new ≡ self.old }
+    {
+        detecting(&self.job, &mut self.workspace, class, block)
+    }
+}
+
+/// Makes the job of a circuit and its tests: its faults under a model, and their classes.
+fn job_of(
+    alloc: Global,
+    model: FaultModel,
+    circuit: Circuit,
+    tests: Tests,
+) -> Result<Job, AllocError>
+    requires circuit { IsCircuit circuit }
+    requires tests { IsTestList tests }
+    requires width { tests.width ≡ length (sources circuit) }
+    ensures circuit { IfOk result (λ job. job.circuit ≡ circuit) }
+    ensures model { IfOk result (λ job. job.list.model ≡ model) }
+    ensures tests { IfOk result (λ job. job.tests ≡ tests) }
+    ensures together { IfOk result (λ job. BelongTogether job) }
+{
+    let faults = list_faults_in(alloc, &circuit, model)?;
+    let classes = collapse(alloc, &circuit, &faults)?;
+    Job::of_any_size(alloc, circuit, faults, classes, tests)
+}
+
+/// A session may go to another thread: each has room of its own, and all have one job.
+pub(crate) fn may_cross(session: &Session) {
+    is_send(session)
+}
+
+/// Takes what may go to another thread.
+pub(crate) fn is_send<T: Send>(_value: &T) {}

@@ -1,0 +1,158 @@
+//! Calls about signals: their names, their places in a test, and their fault-free words.
+
+ghost use Rattle.std.specs.Prelude.{◌≡◌, ◌≢◌, ◌↔◌, ◌⊎◌, ◌<◌, ◌≤◌, IsSome, List, None, Some};
+ghost use Rattle.std.specs.Prelude.{length, slice_get, ℕ};
+ghost use Rattle.bench_net.specs.Scan.{name_of, names, sources};
+ghost use Rattle.patterns.specs.Tests.{blocks};
+ghost use Rattle.block_sim.specs.Parts.{Parts};
+ghost use Rattle.block_sim.specs.Words.{IsFaultFreeWord};
+ghost use Rattle.faultsim_c.specs.Calls.{IsCopied};
+
+use crate::handle::{FsJob, put, take};
+use crate::status::{DONE, NO_JOB, RANGE};
+use block_sim::Job;
+use std::alloc::Global;
+
+/// Tells the fault-free word of a signal under a block: bit k is its value under test
+/// `64 * block + k`.
+#[unsafe(no_mangle)]
+pub extern "C" fn fs_word(
+    alloc: Global,
+    job: &mut FsJob,
+    block: u32,
+    signal: u32,
+    word: &mut u64,
+) -> u32
+    ensures done { (parts : Parts) → job.old.held.session ≡ Some parts
+        → block < blocks (length parts.tests.tests) → signal < length (names parts.circuit)
+        → (result ≡ 0)
+        × IsFaultFreeWord parts.circuit parts.tests.tests block signal word.new }
+    ensures range { (parts : Parts) → job.old.held.session ≡ Some parts
+        → (blocks (length parts.tests.tests) ≤ block) ⊎ (length (names parts.circuit) ≤ signal)
+        → result ≡ 4 }
+    ensures no_job { job.old.held.session ≡ None → result ≡ 1 }
+    ensures untouched { result ≢ 0 → word.new ≡ word.old }
+    ensures kept { job.new.held.session ≡ job.old.held.session }
+{
+    let Some(session) = take(alloc, job) else {
+        return NO_JOB;
+    };
+    let status = word_in(session.job(), block, signal, word);
+    put(alloc, job, session);
+    status
+}
+
+/// Tells the fault-free word of a signal under a block of a job.
+fn word_in(job: &Job, block: u32, signal: u32, word: &mut u64) -> u32
+    ensures done { block < blocks (length job.now.tests.tests)
+        → signal < length (names job.now.circuit) → (result ≡ 0)
+        × IsFaultFreeWord job.now.circuit job.now.tests.tests block signal word.new }
+    ensures range { (blocks (length job.now.tests.tests) ≤ block)
+        ⊎ (length (names job.now.circuit) ≤ signal) → result ≡ 4 }
+    ensures untouched { result ≢ 0 → word.new ≡ word.old }
+{
+    if block >= job.tests().blocks() || signal >= job.circuit().signals() {
+        return RANGE;
+    }
+    *word = job.word(block, signal);
+    DONE
+}
+
+/// Tells the name of a signal, and how many bytes it has. If the text has less room than that, the
+/// status is 4, and `wanted` tells how much it takes.
+#[unsafe(no_mangle)]
+pub extern "C" fn fs_name_of(
+    alloc: Global,
+    job: &mut FsJob,
+    signal: u32,
+    text: &mut [u8],
+    wanted: &mut usize,
+) -> u32
+    ensures done { (parts : Parts) (name : List ℕ) → job.old.held.session ≡ Some parts
+        → signal < length (names parts.circuit) → name_of parts.circuit signal ≡ Some name
+        → IsCopied name text.old text.new wanted.new result }
+    ensures range { (parts : Parts) → job.old.held.session ≡ Some parts
+        → length (names parts.circuit) ≤ signal
+        → (result ≡ 4) × (wanted.new ≡ wanted.old) × (text.new ≡ text.old) }
+    ensures no_job { job.old.held.session ≡ None → result ≡ 1 }
+    ensures kept { job.new.held.session ≡ job.old.held.session }
+{
+    let Some(session) = take(alloc, job) else {
+        return NO_JOB;
+    };
+    let status = name_in(session.job(), signal, text, wanted);
+    put(alloc, job, session);
+    status
+}
+
+/// Tells the name of a signal of a job.
+fn name_in(job: &Job, signal: u32, text: &mut [u8], wanted: &mut usize) -> u32
+    ensures done { (name : List ℕ) → signal < length (names job.now.circuit)
+        → name_of job.now.circuit signal ≡ Some name
+        → IsCopied name text.old text.new wanted.new result }
+    ensures range { length (names job.now.circuit) ≤ signal
+        → (result ≡ 4) × (wanted.new ≡ wanted.old) × (text.new ≡ text.old) }
+{
+    let circuit = job.circuit();
+    if signal >= circuit.signals() {
+        return RANGE;
+    }
+    copy_text(circuit.name_of(signal).as_bytes(), text, wanted)
+}
+
+/// Copies bytes to the front of a text, if it has room for them, and tells how many they are.
+fn copy_text(bytes: &[u8], text: &mut [u8], wanted: &mut usize) -> u32
+    ensures { IsCopied bytes.now text.old text.new wanted.new result }
+{
+    *wanted = bytes.len();
+    if text.len() < bytes.len() {
+        return RANGE;
+    }
+    let (front, _) = text.split_at_mut(bytes.len());
+    front.copy_from_slice(bytes);
+    DONE
+}
+
+/// Tells the place of a signal in a test, from 0. The status is 4 if the signal is a gate's, too.
+#[unsafe(no_mangle)]
+pub extern "C" fn fs_source_of(alloc: Global, job: &mut FsJob, signal: u32, place: &mut u32) -> u32
+    ensures done { result ≡ 0 → (parts : Parts) × (job.old.held.session ≡ Some parts)
+        × (signal < length (names parts.circuit))
+        × (slice_get (sources parts.circuit) place.new ≡ name_of parts.circuit signal) }
+    ensures range { result ≡ 4 → (parts : Parts) × (job.old.held.session ≡ Some parts)
+        × ((length (names parts.circuit) ≤ signal) ⊎ ((i : ℕ)
+        → slice_get (sources parts.circuit) i ≢ name_of parts.circuit signal)) }
+    ensures statuses { IsSome job.old.held.session → (result ≡ 0) ⊎ (result ≡ 4) }
+    ensures no_job { job.old.held.session ≡ None → result ≡ 1 }
+    ensures untouched { result ≢ 0 → place.new ≡ place.old }
+    ensures kept { job.new.held.session ≡ job.old.held.session }
+{
+    let Some(session) = take(alloc, job) else {
+        return NO_JOB;
+    };
+    let status = source_in(session.job(), signal, place);
+    put(alloc, job, session);
+    status
+}
+
+/// Tells the place of a signal of a job in a test.
+fn source_in(job: &Job, signal: u32, place: &mut u32) -> u32
+    ensures done { result ≡ 0 → (signal < length (names job.now.circuit))
+        × (slice_get (sources job.now.circuit) place.new ≡ name_of job.now.circuit signal) }
+    ensures range { result ≡ 4 → (length (names job.now.circuit) ≤ signal) ⊎ ((i : ℕ)
+        → slice_get (sources job.now.circuit) i ≢ name_of job.now.circuit signal) }
+    ensures statuses { (result ≡ 0) ⊎ (result ≡ 4) }
+    ensures untouched { result ≢ 0 → place.new ≡ place.old }
+{
+    let circuit = job.circuit();
+    if signal >= circuit.signals() {
+        return RANGE;
+    }
+    match circuit.source_of(signal) {
+        Some(source) => {
+            *place = source;
+            DONE
+        }
+        None => RANGE,
+    }
+}

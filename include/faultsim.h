@@ -1,0 +1,149 @@
+/* faultsim.h: fault simulation of combinational circuits and of circuits with full scan, from C.
+ *
+ * A call never ends the process, never waits and starts no thread. It returns one of the statuses
+ * below. It reads no text past its length and keeps nothing of what a caller passes.
+ *
+ * Rules that nothing checks; what is proved of the calls holds for callers that keep them:
+ *   - No pointer is null, not even where a length is 0. While a call runs, nobody writes to what a
+ *     pointer to const leads to, and only the call uses what any other pointer leads to.
+ *   - An fs_job is zeros before its first use, and only these calls change it. Never use a copy of
+ *     one. Free it with fs_job_free, which leaves zeros; to free it again does nothing.
+ *   - Give a handle to one call at a time. It may go to another thread, with a lock or the start or
+ *     join of the thread in between. Handles that fs_job_share made of one another may be in calls
+ *     in several threads at once.
+ *   - malloc, realloc and free are thread-safe and belong to one allocator. No call comes from a
+ *     signal handler.
+ */
+#ifndef FAULTSIM_H
+#define FAULTSIM_H
+
+#include <stdbool.h>
+#include <stddef.h>
+#include <stdint.h>
+
+#ifdef __cplusplus
+extern "C" {
+#endif
+
+/* A handle: a job (a circuit, its faults in classes, and tests), or none. */
+typedef struct fs_job {
+    bool live;
+    void *at;
+} fs_job;
+
+/* How large a job is. Signals, faults, classes, tests and blocks are numbered from 0. */
+typedef struct fs_sizes {
+    uint32_t sources; /* primary inputs and scan cells: the width of a test */
+    uint32_t signals;
+    uint32_t faults;  /* before collapsing */
+    uint32_t classes; /* equivalence classes of faults */
+    uint32_t tests;
+    uint32_t blocks; /* blocks of 64 tests; the last may be short */
+} fs_sizes;
+
+/* Why a status is FS_REFUSED: one of the kinds below, and a place. */
+typedef struct fs_fault {
+    uint32_t kind;
+    uint64_t place;
+} fs_fault;
+
+/* Statuses. */
+enum {
+    FS_DONE,    /* the call did what it is for */
+    FS_NO_JOB,  /* the handle has no job */
+    FS_MEMORY,  /* memory ran out */
+    FS_REFUSED, /* a text or words are wrong; fs_fault tells why */
+    FS_RANGE,   /* a number is out of range, or a length is not what it must be */
+    FS_SHARED   /* another handle shares the job */
+};
+
+/* Fault models. */
+enum {
+    FS_STUCK_AT,
+    FS_TRANSITION,      /* each test is the capture test of the one before it */
+    FS_TRANSITION_PAIRS /* tests 2k and 2k + 1 are a launch/capture pair */
+};
+
+/* Kinds of fs_fault. The place is the line, from 1, of 4 to 7, 9 and 10; the source, from 0, of 14;
+ * and else 0. */
+enum {
+    FS_BENCH_BYTES = 1, /* more bytes than the limit */
+    FS_BENCH_SIGNALS,   /* more signals than the limit */
+    FS_BENCH_SINKS,     /* more pins than the limit */
+    FS_BENCH_SYNTAX,    /* the line is no line of a bench file */
+    FS_BENCH_REDEFINED, /* the line defines a name that an earlier line defines */
+    FS_BENCH_UNDEFINED, /* the line reads a name that no line defines */
+    FS_BENCH_CYCLE,     /* the gate of the line is on a cycle, or fed by one */
+    FS_BENCH_EMPTY,     /* there is no line */
+    FS_TESTS_BYTE,      /* the line has a byte other than 0 and 1 */
+    FS_TESTS_WIDTH,     /* the line hasn't a bit for each source */
+    FS_TESTS_MANY,      /* more than 65,536 tests */
+    FS_WORDS_MANY,      /* more than 65,536 tests */
+    FS_WORDS_COUNT,     /* not a word for each block and source */
+    FS_WORDS_IDLE       /* the source has a bit past the last test */
+};
+
+/* Stands in place of a first test if no test detects. */
+#define FS_NONE UINT32_MAX
+
+/* The version of these calls. A program that was compiled with this header needs a library with the
+ * same: fs_version() == FAULTSIM_VERSION. */
+#define FAULTSIM_VERSION 1
+uint32_t fs_version(void);
+
+/* Reads a circuit, lists the faults of a model and collapses them. The job has no tests yet. On
+ * FS_DONE the handle has the new job, and what it had is freed; else it is as it was. */
+uint32_t fs_job_read(uint32_t model, const uint8_t *bench, size_t bench_len, fs_job *job,
+                     fs_fault *fault);
+
+/* Frees what a handle has, and leaves zeros. */
+void fs_job_free(fs_job *job);
+
+/* Gives `other` the same job, with room of its own to simulate: for another thread. On FS_DONE what
+ * `other` had is freed; else it is as it was. */
+uint32_t fs_job_share(fs_job *job, fs_job *other);
+
+/* Tells how large the job is. */
+uint32_t fs_sizes_of(fs_job *job, fs_sizes *sizes);
+
+/* Takes tests in place of the job's. Words: for each block of 64 tests one for each source; bit k
+ * of it is the source's bit in test 64 * block + k, and 0 past the last test. Text: a line of 0s
+ * and 1s for each test. On any status but FS_DONE the tests are as they were. */
+uint32_t fs_set_words(fs_job *job, uint32_t count, const uint64_t *words, size_t words_len,
+                      fs_fault *fault);
+uint32_t fs_set_text(fs_job *job, const uint8_t *text, size_t text_len, fs_fault *fault);
+
+/* Tells the class of each fault. classes_len is the number of faults. */
+uint32_t fs_classes_of(fs_job *job, uint32_t *classes, size_t classes_len);
+
+/* Tells the name of a signal, and in `wanted` how many bytes it has; no 0 follows it. If the text
+ * has less room than that, the status is FS_RANGE, and `wanted` tells how much it takes. */
+uint32_t fs_name_of(fs_job *job, uint32_t signal, uint8_t *text, size_t text_len, size_t *wanted);
+
+/* Tells the place of a signal in a test, from 0. The status is FS_RANGE if the signal is a gate's. */
+uint32_t fs_source_of(fs_job *job, uint32_t signal, uint32_t *place);
+
+/* Tells the fault-free value of a signal: bit k of `word` is its value in test 64 * block + k. */
+uint32_t fs_word(fs_job *job, uint32_t block, uint32_t signal, uint64_t *word);
+
+/* Tells for each class of a list the first test that detects it, or FS_NONE. The lengths are
+ * equal. */
+uint32_t fs_simulate(fs_job *job, const uint32_t *classes, size_t classes_len, uint32_t *firsts,
+                     size_t firsts_len);
+
+/* Tells which tests of a block detect a class: bit k of `lanes` is 1 exactly if test
+ * 64 * block + k does. */
+uint32_t fs_detecting(fs_job *job, uint32_t class_number, uint32_t block, uint64_t *lanes);
+
+/* All in one call, without a handle: tells the first test of a text that detects each fault of a
+ * circuit, or FS_NONE. If firsts_len is not the number of faults, the status is FS_RANGE, and
+ * `faults` tells that number. */
+uint32_t fs_firsts(uint32_t model, const uint8_t *bench, size_t bench_len, const uint8_t *text,
+                   size_t text_len, uint32_t *firsts, size_t firsts_len, uint32_t *faults,
+                   fs_fault *fault);
+
+#ifdef __cplusplus
+}
+#endif
+
+#endif
