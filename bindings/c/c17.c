@@ -1,0 +1,109 @@
+/* C17 under one test, 11111, and what each status is for. Prints '14 of 34' and returns 0. */
+#include "faultsim.h"
+
+#include <inttypes.h>
+#include <stdio.h>
+#include <stdlib.h>
+#include <string.h>
+
+static const char C17[] =
+    "INPUT(1)\nINPUT(2)\nINPUT(3)\nINPUT(6)\nINPUT(7)\nOUTPUT(22)\nOUTPUT(23)\n"
+    "10 = NAND(1, 3)\n11 = NAND(3, 6)\n16 = NAND(2, 11)\n19 = NAND(11, 7)\n"
+    "22 = NAND(10, 16)\n23 = NAND(16, 19)\n";
+
+static const uint8_t *bytes(const char *text) { return (const uint8_t *)text; }
+
+/* Ends the process with the number of the line if what must hold doesn't. */
+#define MUST(holds)                                                                              \
+    do {                                                                                         \
+        if (!(holds)) {                                                                          \
+            fprintf(stderr, "c17.c:%d: %s\n", __LINE__, #holds);                                 \
+            exit(1);                                                                             \
+        }                                                                                        \
+    } while (0)
+
+/* How many faults the job's tests detect. */
+static uint32_t detected(fs_job *job) {
+    fs_sizes n;
+    MUST(fs_sizes_of(job, &n) == FS_DONE);
+    uint32_t *classes = calloc(n.classes, sizeof *classes);
+    uint32_t *firsts = calloc(n.classes, sizeof *firsts);
+    uint32_t *of = calloc(n.faults, sizeof *of);
+    MUST(classes && firsts && of);
+    for (uint32_t i = 0; i < n.classes; i++)
+        classes[i] = i;
+    MUST(fs_simulate(job, classes, n.classes, firsts, n.classes) == FS_DONE);
+    MUST(fs_classes_of(job, of, n.faults) == FS_DONE);
+    uint32_t found = 0;
+    for (uint32_t i = 0; i < n.faults; i++)
+        found += firsts[of[i]] != FS_NONE;
+    classes[0] = n.classes;
+    MUST(fs_simulate(job, classes, n.classes, firsts, n.classes) == FS_RANGE);
+    MUST(fs_simulate(job, classes, 0, firsts, 1) == FS_RANGE);
+    MUST(fs_classes_of(job, of, n.faults - 1) == FS_RANGE);
+    free(classes);
+    free(firsts);
+    free(of);
+    return found;
+}
+
+/* Texts and words that are wrong, and a job that two handles share. */
+static void wrong(fs_job *job) {
+    fs_fault fault = {0};
+    fs_job second = {0};
+    uint64_t lanes = 7, word = 7, words[5] = {1, 1, 1, 1, 2};
+    /* Under 11111 NAND(1, 3), signal 5, is 0. */
+    MUST(fs_word(job, 0, 5, &word) == FS_DONE && (word & 1) == 0);
+    MUST(fs_word(job, 0, 0, &word) == FS_DONE && (word & 1) == 1);
+    MUST(fs_word(job, 0, 11, &word) == FS_RANGE && fs_word(job, 1, 0, &word) == FS_RANGE);
+    uint8_t name[3] = "???";
+    size_t wanted = 0;
+    MUST(fs_name_of(job, 5, name, 1, &wanted) == FS_RANGE && wanted == 2 && name[0] == '?');
+    MUST(fs_name_of(job, 5, name, 3, &wanted) == FS_DONE && !memcmp(name, "10?", 3));
+    MUST(fs_name_of(job, 11, name, 3, &wanted) == FS_RANGE);
+    uint32_t place = 7;
+    MUST(fs_source_of(job, 4, &place) == FS_DONE && place == 4);
+    MUST(fs_source_of(job, 5, &place) == FS_RANGE && place == 4);
+    MUST(fs_detecting(job, 1000, 0, &lanes) == FS_RANGE && lanes == 7);
+    MUST(fs_set_words(job, 1, words, 5, &fault) == FS_REFUSED);
+    MUST(fault.kind == FS_WORDS_IDLE && fault.place == 4);
+    MUST(fs_set_words(job, 1, words, 4, &fault) == FS_REFUSED && fault.kind == FS_WORDS_COUNT);
+    MUST(fs_set_text(job, bytes("11111\n111\n"), 10, &fault) == FS_REFUSED);
+    MUST(fault.kind == FS_TESTS_WIDTH && fault.place == 2);
+    MUST(fs_job_share(job, &second) == FS_DONE);
+    MUST(fs_set_text(job, bytes("00000\n"), 6, &fault) == FS_SHARED);
+    MUST(detected(&second) == 14);
+    fs_job_free(&second);
+    MUST(fs_job_read(FS_STUCK_AT, bytes("INPUT(a)\nz = AND(a, b)\n"), 23, job, &fault)
+         == FS_REFUSED);
+    MUST(fault.kind == FS_BENCH_UNDEFINED && fault.place == 2);
+    MUST(fs_job_read(3, bytes(C17), strlen(C17), job, &fault) == FS_RANGE);
+    MUST(detected(job) == 14);
+}
+
+int main(void) {
+    fs_job job = {0};
+    fs_fault fault = {0};
+    fs_sizes n;
+    MUST(fs_version() == FAULTSIM_VERSION);
+    MUST(fs_sizes_of(&job, &n) == FS_NO_JOB);
+    MUST(fs_job_read(FS_STUCK_AT, bytes(C17), strlen(C17), &job, &fault) == FS_DONE);
+    MUST(fs_set_text(&job, bytes("11111\n"), 6, &fault) == FS_DONE);
+    MUST(fs_sizes_of(&job, &n) == FS_DONE);
+    printf("%" PRIu32 " of %" PRIu32 "\n", detected(&job), n.faults);
+    wrong(&job);
+    fs_job_free(&job);
+    fs_job_free(&job);
+    MUST(fs_sizes_of(&job, &n) == FS_NO_JOB);
+
+    uint32_t faults = 0, firsts[34], found = 0;
+    const uint8_t *bench = bytes(C17), *tests = bytes("11111\n");
+    size_t length = strlen(C17);
+    MUST(fs_firsts(0, bench, length, tests, 6, firsts, 0, &faults, &fault) == FS_RANGE);
+    MUST(faults == 34);
+    MUST(fs_firsts(0, bench, length, tests, 6, firsts, 34, &faults, &fault) == FS_DONE);
+    for (uint32_t i = 0; i < faults; i++)
+        found += firsts[i] != FS_NONE;
+    MUST(found == 14);
+    return 0;
+}

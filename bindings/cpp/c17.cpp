@@ -1,0 +1,49 @@
+// C17 under one test, 11111, by one thread and by two. Prints '14 of 34' and returns 0.
+#include "faultsim.hpp"
+
+#include <algorithm>
+#include <array>
+#include <cstdio>
+#include <numeric>
+#include <span>
+#include <thread>
+#include <vector>
+
+static const char *const C17 =
+    "INPUT(1)\nINPUT(2)\nINPUT(3)\nINPUT(6)\nINPUT(7)\nOUTPUT(22)\nOUTPUT(23)\n"
+    "10 = NAND(1, 3)\n11 = NAND(3, 6)\n16 = NAND(2, 11)\n19 = NAND(11, 7)\n"
+    "22 = NAND(10, 16)\n23 = NAND(16, 19)\n";
+
+static bool fails_with(std::uint32_t status, auto call) {
+    try {
+        call();
+    } catch (const faultsim::Error &error) {
+        return error.status == status;
+    }
+    return false;
+}
+
+int main() {
+    faultsim::Job job(C17);
+    job.set_words(1, std::array<std::uint64_t, 5>{1, 1, 1, 1, 1});
+    std::vector<std::uint32_t> classes(job.sizes().classes), firsts(classes.size());
+    std::iota(classes.begin(), classes.end(), 0u);
+    {
+        faultsim::Job second = job.share();
+        std::span whole(classes), found(firsts);
+        std::size_t half = whole.size() / 2;
+        std::jthread back([&] { second.simulate(whole.subspan(half), found.subspan(half)); });
+        job.simulate(whole.first(half), found.first(half));
+        if (!fails_with(FS_SHARED, [&] { job.set_text("00000\n"); }))
+            return 1;
+    }
+    auto of = job.classes_of();
+    auto found = std::ranges::count_if(of, [&](auto it) { return firsts[it] != FS_NONE; });
+    std::printf("%td of %zu\n", found, of.size());
+    faultsim::Job moved = std::move(job);
+    bool well = fails_with(FS_NO_JOB, [&] { job.sizes(); })
+        && fails_with(FS_RANGE, [&] { moved.detecting(1000, 0); })
+        && fails_with(FS_REFUSED, [&] { moved.set_text("111\n"); })
+        && fails_with(FS_REFUSED, [&] { faultsim::Job("z = AND(a, b)\n"); });
+    return well ? 0 : 1;
+}

@@ -1,0 +1,178 @@
+// faultsim.hpp: fault simulation from C++20, over faultsim.h.
+//
+// A Job owns its handle and moves. Give it to one thread at a time; share() makes another one for
+// another thread. A call that fails throws faultsim::Error, or std::bad_alloc if memory ran out.
+#ifndef FAULTSIM_HPP
+#define FAULTSIM_HPP
+
+#include "faultsim.h"
+
+#include <cstdint>
+#include <new>
+#include <optional>
+#include <span>
+#include <stdexcept>
+#include <string>
+#include <string_view>
+#include <utility>
+#include <vector>
+
+namespace faultsim {
+
+enum class Model : std::uint32_t {
+    stuck_at = FS_STUCK_AT,
+    transition = FS_TRANSITION,
+    transition_pairs = FS_TRANSITION_PAIRS
+};
+
+// Why a call fails: a status of faultsim.h, and if a text or words are wrong a kind and a place.
+class Error : public std::runtime_error {
+public:
+    Error(std::uint32_t status, fs_fault fault)
+        : std::runtime_error(text_of(status, fault)), status(status), fault(fault) {}
+
+    std::uint32_t status;
+    fs_fault fault;
+
+private:
+    static std::string text_of(std::uint32_t status, fs_fault fault) {
+        switch (status) {
+        case FS_NO_JOB: return "no job";
+        case FS_REFUSED:
+            return "wrong text or words: kind " + std::to_string(fault.kind) + ", place "
+                + std::to_string(fault.place);
+        case FS_RANGE: return "a number or a length is out of range";
+        case FS_SHARED: return "another handle shares the job";
+        default: return "status " + std::to_string(status);
+        }
+    }
+};
+
+// A circuit, its faults in classes, and tests.
+class Job {
+public:
+    // Reads a bench file's text. The job has no tests yet.
+    explicit Job(std::string_view bench, Model model = Model::stuck_at) {
+        fs_fault fault{};
+        check(fs_job_read(static_cast<std::uint32_t>(model), bytes(bench), bench.size(), &handle,
+                          &fault),
+              fault);
+    }
+
+    Job(Job &&other) noexcept : handle(std::exchange(other.handle, fs_job{})) {}
+
+    Job &operator=(Job &&other) noexcept {
+        if (this != &other) {
+            fs_job_free(&handle);
+            handle = std::exchange(other.handle, fs_job{});
+        }
+        return *this;
+    }
+
+    Job(const Job &) = delete;
+    Job &operator=(const Job &) = delete;
+    ~Job() { fs_job_free(&handle); }
+
+    // Makes a second job of the same circuit, faults and tests, for another thread.
+    Job share() {
+        Job other;
+        check(fs_job_share(&handle, &other.handle));
+        return other;
+    }
+
+    fs_sizes sizes() {
+        fs_sizes sizes{};
+        check(fs_sizes_of(&handle, &sizes));
+        return sizes;
+    }
+
+    // Takes the tests of a text: a line of 0s and 1s for each.
+    void set_text(std::string_view text) {
+        fs_fault fault{};
+        check(fs_set_text(&handle, bytes(text), text.size(), &fault), fault);
+    }
+
+    // Takes tests in words: for each block of 64 tests one for each source.
+    void set_words(std::uint32_t count, std::span<const std::uint64_t> words) {
+        fs_fault fault{};
+        check(fs_set_words(&handle, count, at(words), words.size(), &fault), fault);
+    }
+
+    // Returns the class of each fault.
+    std::vector<std::uint32_t> classes_of() {
+        std::vector<std::uint32_t> classes(sizes().faults);
+        check(fs_classes_of(&handle, at(std::span(classes)), classes.size()));
+        return classes;
+    }
+
+    std::string name_of(std::uint32_t signal) {
+        std::uint8_t nothing = 0;
+        std::size_t wanted = 0;
+        std::uint32_t status = fs_name_of(&handle, signal, &nothing, 0, &wanted);
+        if (status != FS_RANGE || wanted == 0) {
+            check(status);
+            return {};
+        }
+        std::string name(wanted, '\0');
+        check(fs_name_of(&handle, signal, reinterpret_cast<std::uint8_t *>(name.data()), wanted,
+                         &wanted));
+        return name;
+    }
+
+    // Tells the place of a signal in a test, from 0, or none for the signal of a gate.
+    std::optional<std::uint32_t> source_of(std::uint32_t signal) {
+        std::uint32_t place = 0;
+        std::uint32_t status = fs_source_of(&handle, signal, &place);
+        if (status == FS_RANGE)
+            return std::nullopt;
+        check(status);
+        return place;
+    }
+
+    // Returns the fault-free value of a signal: bit k is that in test 64 * block + k.
+    std::uint64_t word(std::uint32_t block, std::uint32_t signal) {
+        std::uint64_t word = 0;
+        check(fs_word(&handle, block, signal, &word));
+        return word;
+    }
+
+    // Tells for each class of a list the first test that detects it, or FS_NONE. The lengths are
+    // equal.
+    void simulate(std::span<const std::uint32_t> classes, std::span<std::uint32_t> firsts) {
+        check(fs_simulate(&handle, at(classes), classes.size(), at(firsts), firsts.size()));
+    }
+
+    // Returns a word: bit k is 1 exactly if test 64 * block + k detects the class.
+    std::uint64_t detecting(std::uint32_t class_number, std::uint32_t block) {
+        std::uint64_t lanes = 0;
+        check(fs_detecting(&handle, class_number, block, &lanes));
+        return lanes;
+    }
+
+private:
+    Job() = default;
+
+    static void check(std::uint32_t status, fs_fault fault = {}) {
+        if (status == FS_MEMORY)
+            throw std::bad_alloc();
+        if (status != FS_DONE)
+            throw Error(status, fault);
+    }
+
+    static const std::uint8_t *bytes(std::string_view text) {
+        static constexpr std::uint8_t nothing = 0;
+        return text.empty() ? &nothing : reinterpret_cast<const std::uint8_t *>(text.data());
+    }
+
+    // The address of the first item. It is never null, not even of an empty span.
+    template <class Item> static Item *at(std::span<Item> items) {
+        static std::remove_const_t<Item> nothing{};
+        return items.empty() ? &nothing : items.data();
+    }
+
+    fs_job handle{};
+};
+
+} // namespace faultsim
+
+#endif

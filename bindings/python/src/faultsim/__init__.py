@@ -1,0 +1,294 @@
+"""Fault simulation of combinational circuits and of circuits with full scan.
+
+>>> import faultsim
+>>> with faultsim.Job("INPUT(a)\\nINPUT(b)\\nOUTPUT(z)\\nz = AND(a, b)\\n") as job:
+...     job.set_tests("11\\n01\\n")
+...     job.coverage()
+(5, 6)
+
+Faults, classes, tests, blocks and sources are numbered from 0. Block `b` holds the tests `64 * b`
+to `64 * b + 63`. Arrays are numpy's if numpy is there, and else `array.array`.
+"""
+
+from __future__ import annotations
+
+import ctypes
+import enum
+from array import array
+from concurrent.futures import ThreadPoolExecutor
+from typing import Any, Iterable, Optional, Sequence, Union
+
+from . import _library
+from ._library import NONE, Error, FsFault, FsJob, FsSizes, check, library
+
+try:
+    import numpy
+except ImportError:
+    numpy = None
+
+__all__ = ["NONE", "Error", "Job", "Model", "firsts"]
+__version__ = "0.1.0"
+
+Text = Union[str, bytes]
+
+
+class Model(enum.IntEnum):
+    """A fault model."""
+
+    STUCK_AT = 0
+    TRANSITION = 1
+    TRANSITION_PAIRS = 2
+
+
+def _bytes(text: Text) -> bytes:
+    return text.encode() if isinstance(text, str) else bytes(text)
+
+
+def _numbers(values: Iterable[int], code: str) -> Any:
+    """Numbers in one piece of memory, of 32 bits ('I') or 64 bits ('Q')."""
+    if numpy is not None:
+        kind = {"I": numpy.uint32, "Q": numpy.uint64}[code]
+        if not isinstance(values, (numpy.ndarray, array)):
+            values = list(values)
+        return numpy.ascontiguousarray(values, dtype=kind).reshape(-1)
+    if isinstance(values, array) and values.typecode == code:
+        return values
+    return array(code, values)
+
+
+def _room(count: int, code: str) -> Any:
+    """Zeros, to be written by a call."""
+    if numpy is not None:
+        return numpy.zeros(count, {"I": numpy.uint32, "Q": numpy.uint64}[code])
+    return array(code, bytes(count * (4 if code == "I" else 8)))
+
+
+_NOTHING = ctypes.c_uint64()
+
+
+def _address(numbers: Any) -> int:
+    """The address of the first number. It is never null, not even of an empty array."""
+    if len(numbers) == 0:
+        return ctypes.addressof(_NOTHING)
+    return numbers.ctypes.data if numpy is not None else numbers.buffer_info()[0]
+
+
+def _words_of(rows: Sequence[Sequence[int]], width: int) -> tuple[int, Any]:
+    """The number of tests, and their words: for each block of 64 tests one for each source."""
+    if any(len(row) != width for row in rows):
+        raise IndexError(f"a test hasn't {width} bits")
+    if any(bit not in (0, 1) for row in rows for bit in row):
+        raise ValueError("a bit is neither 0 nor 1")
+    words = []
+    for first in range(0, len(rows), 64):
+        block = rows[first : first + 64]
+        for source in range(width):
+            words.append(sum(int(row[source]) << lane for lane, row in enumerate(block)))
+    return len(rows), _numbers(words, "Q")
+
+
+def _packed(rows: Any, width: int) -> tuple[int, Any]:
+    """The same of a numpy array of shape (tests, sources)."""
+    if rows.ndim != 2 or rows.shape[1] != width:
+        raise IndexError(f"the tests haven't the shape (tests, {width})")
+    if not ((rows == 0) | (rows == 1)).all():
+        raise ValueError("a bit is neither 0 nor 1")
+    count = rows.shape[0]
+    bits = numpy.zeros((-(-count // 64) * 64, width), numpy.uint8)
+    bits[:count] = rows
+    lanes = bits.reshape(-1, 64, width).transpose(0, 2, 1)
+    packed = numpy.packbits(lanes, axis=2, bitorder="little")
+    return count, numpy.ascontiguousarray(packed).reshape(-1).view("<u8")
+
+
+class Job:
+    """A circuit, its faults in classes, and tests.
+
+    A job is also a context manager, which closes it. A call on a closed job raises `ValueError`.
+    Give a job to one thread at a time; `share` makes another one for another thread.
+
+    sources, signals, faults, classes, tests, blocks: how many of each the job has.
+    """
+
+    def __init__(self, bench: Text, model: int = Model.STUCK_AT) -> None:
+        """Reads a bench file's text. Raises `Error` if it is wrong, with the line in `place`."""
+        self._handle, text, fault = FsJob(), _bytes(bench), FsFault()
+        self._measure(FsSizes())
+        check(library.fs_job_read(model, text, len(text), self._handle, fault), fault)
+        self._sizes()
+
+    def _measure(self, sizes: FsSizes) -> None:
+        self.sources: int = sizes.sources
+        self.signals: int = sizes.signals
+        self.faults: int = sizes.faults
+        self.classes: int = sizes.classes
+        self.tests: int = sizes.tests
+        self.blocks: int = sizes.blocks
+
+    def _sizes(self) -> None:
+        sizes = FsSizes()
+        check(library.fs_sizes_of(self._handle, sizes))
+        self._measure(sizes)
+
+    def close(self) -> None:
+        """Frees the job. A second call does nothing."""
+        handle = getattr(self, "_handle", None)
+        if handle is not None:
+            library.fs_job_free(handle)
+
+    __del__ = close
+
+    def __enter__(self) -> "Job":
+        return self
+
+    def __exit__(self, *_: object) -> None:
+        self.close()
+
+    def share(self) -> "Job":
+        """Makes a second job of the same circuit, faults and tests, for another thread.
+
+        While there are two, `set_tests` raises `RuntimeError`.
+        """
+        other = Job.__new__(Job)
+        other._handle = FsJob()
+        check(library.fs_job_share(self._handle, other._handle))
+        other._sizes()
+        return other
+
+    def set_tests(self, tests: Any, count: Optional[int] = None) -> None:
+        """Takes tests in place of the job's.
+
+        tests: a text with a line of 0s and 1s for each test; or rows of 0 and 1, of the shape
+        (tests, sources), as a list or a numpy array; or, with `count`, words: for each block of 64
+        tests one for each source, with bit k for test 64 * block + k.
+
+        Raises `Error` if a text or words are wrong, and `IndexError` if rows have another width.
+        """
+        fault = FsFault()
+        if isinstance(tests, (str, bytes, bytearray)):
+            text = _bytes(tests)
+            check(library.fs_set_text(self._handle, text, len(text), fault), fault)
+        else:
+            if count is not None:
+                words = _numbers(tests, "Q")
+            elif numpy is not None and isinstance(tests, numpy.ndarray):
+                count, words = _packed(tests, self.sources)
+            else:
+                count, words = _words_of(tests, self.sources)
+            status = library.fs_set_words(
+                self._handle, count, _address(words), len(words), fault
+            )
+            check(status, fault)
+        self._sizes()
+
+    def classes_of(self) -> Any:
+        """The class of each fault: an array of the shape (faults,)."""
+        classes = _room(self.faults, "I")
+        check(library.fs_classes_of(self._handle, _address(classes), len(classes)))
+        return classes
+
+    def name_of(self, signal: int) -> str:
+        """The name of a signal."""
+        wanted = ctypes.c_size_t()
+        status = library.fs_name_of(self._handle, signal, b"", 0, wanted)
+        if status != _library.RANGE or wanted.value == 0:
+            check(status)
+            return ""
+        text = ctypes.create_string_buffer(wanted.value)
+        check(library.fs_name_of(self._handle, signal, text, len(text), wanted))
+        return text.raw.decode()
+
+    def source_names(self) -> list[str]:
+        """The name of each source, in the order of the bits of a test."""
+        names, place = [""] * self.sources, ctypes.c_uint32()
+        for signal in range(self.signals):
+            status = library.fs_source_of(self._handle, signal, place)
+            if status != _library.RANGE:
+                check(status)
+                names[place.value] = self.name_of(signal)
+        return names
+
+    def word(self, block: int, signal: int) -> int:
+        """The fault-free value of a signal: bit k is that in test 64 * block + k."""
+        word = ctypes.c_uint64()
+        check(library.fs_word(self._handle, block, signal, word))
+        return word.value
+
+    def simulate(self, classes: Optional[Iterable[int]] = None, workers: int = 1) -> Any:
+        """The first test that detects each class of a list, or of all: an array of the shape
+        (classes,), with `NONE` for a class that no test detects.
+
+        workers: the number of threads, each with a job that `share` makes.
+        """
+        asked = _numbers(range(self.classes) if classes is None else classes, "I")
+        found = _room(len(asked), "I")
+        workers = max(1, min(workers, len(asked)))
+        if workers == 1:
+            self._simulate(asked, found)
+            return found
+        jobs = [self.share() for _ in range(workers)]
+        try:
+            cuts = [len(asked) * part // workers for part in range(workers + 1)]
+            with ThreadPoolExecutor(workers) as pool:
+                runs = [
+                    pool.submit(job._part, asked[first:end])
+                    for job, first, end in zip(jobs, cuts, cuts[1:])
+                ]
+                for run, first, end in zip(runs, cuts, cuts[1:]):
+                    found[first:end] = run.result()
+        finally:
+            for job in jobs:
+                job.close()
+        return found
+
+    def _part(self, asked: Any) -> Any:
+        found = _room(len(asked), "I")
+        self._simulate(asked, found)
+        return found
+
+    def _simulate(self, asked: Any, found: Any) -> None:
+        status = library.fs_simulate(
+            self._handle, _address(asked), len(asked), _address(found), len(found)
+        )
+        check(status)
+
+    def detecting(self, class_: int, block: int) -> int:
+        """A word: bit k is 1 exactly if test 64 * block + k detects the class."""
+        lanes = ctypes.c_uint64()
+        check(library.fs_detecting(self._handle, class_, block, lanes))
+        return lanes.value
+
+    def detections(self, most: int, classes: Optional[Iterable[int]] = None) -> Any:
+        """How many tests detect each class of a list, or of all, counted up to `most`: an array
+        of the shape (classes,)."""
+        asked = _numbers(range(self.classes) if classes is None else classes, "I")
+        counts = _room(len(asked), "I")
+        for place, class_ in enumerate(asked):
+            for block in range(self.blocks):
+                if counts[place] >= most:
+                    break
+                word = self.detecting(int(class_), block)
+                counts[place] = min(most, int(counts[place]) + bin(word).count("1"))
+        return counts
+
+    def coverage(self, workers: int = 1) -> tuple[int, int]:
+        """How many faults the tests detect, and how many there are."""
+        found = self.simulate(workers=workers)
+        of = self.classes_of()
+        return sum(int(found[int(class_)]) != NONE for class_ in of), self.faults
+
+
+def firsts(bench: Text, tests: Text, model: int = Model.STUCK_AT) -> Any:
+    """The first test of a text that detects each fault of a circuit, in one call: an array of the
+    shape (faults,), with `NONE` for a fault that no test detects."""
+    bench, tests = _bytes(bench), _bytes(tests)
+    count, fault, found = ctypes.c_uint32(), FsFault(), _room(0, "I")
+    for _ in range(2):
+        status = library.fs_firsts(
+            model, bench, len(bench), tests, len(tests), _address(found), len(found), count, fault
+        )
+        if status != _library.RANGE or count.value == len(found):
+            break
+        found = _room(count.value, "I")
+    check(status, fault)
+    return found

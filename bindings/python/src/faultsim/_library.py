@@ -1,0 +1,132 @@
+"""The shared library: its functions by ctypes, and statuses as exceptions."""
+
+import ctypes as c
+import os
+import pathlib
+
+VERSION = 1
+NONE = 0xFFFFFFFF
+DONE, NO_JOB, MEMORY, REFUSED, RANGE, SHARED = range(6)
+KINDS = (
+    "unknown",
+    "bench: more bytes than the limit",
+    "bench: more signals than the limit",
+    "bench: more pins than the limit",
+    "bench line {}: syntax",
+    "bench line {}: name defined before",
+    "bench line {}: name not defined",
+    "bench line {}: gate on a cycle, or fed by one",
+    "bench: no line",
+    "tests line {}: not 0 or 1",
+    "tests line {}: wrong width",
+    "tests: more than 65,536 rows",
+    "words: more than 65,536 tests",
+    "words: wrong number of words",
+    "words: source {} has a bit past the last test",
+)
+
+
+class FsJob(c.Structure):
+    """A handle: `struct fs_job`."""
+
+    _fields_ = [("live", c.c_bool), ("at", c.c_void_p)]
+
+
+class FsSizes(c.Structure):
+    """How large a job is: `struct fs_sizes`."""
+
+    _fields_ = [
+        ("sources", c.c_uint32),
+        ("signals", c.c_uint32),
+        ("faults", c.c_uint32),
+        ("classes", c.c_uint32),
+        ("tests", c.c_uint32),
+        ("blocks", c.c_uint32),
+    ]
+
+
+class FsFault(c.Structure):
+    """Why a text or words are wrong: `struct fs_fault`."""
+
+    _fields_ = [("kind", c.c_uint32), ("place", c.c_uint64)]
+
+
+class Error(ValueError):
+    """A text or words are wrong.
+
+    `kind` is a number of `faultsim.h`. `place` is a line, from 1, or a source, from 0, or 0.
+    """
+
+    def __init__(self, kind: int, place: int) -> None:
+        super().__init__(KINDS[kind if kind < len(KINDS) else 0].format(place))
+        self.kind, self.place = kind, place
+
+
+_U32, _SIZE = c.c_uint32, c.c_size_t
+# A text; the address of an array of 32 or of 64 bits.
+_U8S, _U32S, _U64S = c.c_char_p, c.c_void_p, c.c_void_p
+_JOB, _SIZES, _FAULT = c.POINTER(FsJob), c.POINTER(FsSizes), c.POINTER(FsFault)
+_TO_U32, _TO_U64, _TO_SIZE = (c.POINTER(it) for it in (c.c_uint32, c.c_uint64, c.c_size_t))
+
+# Each function with its result and its parameters, as faultsim.h has them (contrib/check-bindings).
+SIGNATURES = {
+    "fs_version": (_U32, []),
+    "fs_job_read": (_U32, [_U32, _U8S, _SIZE, _JOB, _FAULT]),
+    "fs_job_free": (None, [_JOB]),
+    "fs_job_share": (_U32, [_JOB, _JOB]),
+    "fs_sizes_of": (_U32, [_JOB, _SIZES]),
+    "fs_set_words": (_U32, [_JOB, _U32, _U64S, _SIZE, _FAULT]),
+    "fs_set_text": (_U32, [_JOB, _U8S, _SIZE, _FAULT]),
+    "fs_classes_of": (_U32, [_JOB, _U32S, _SIZE]),
+    "fs_name_of": (_U32, [_JOB, _U32, _U8S, _SIZE, _TO_SIZE]),
+    "fs_source_of": (_U32, [_JOB, _U32, _TO_U32]),
+    "fs_word": (_U32, [_JOB, _U32, _U32, _TO_U64]),
+    "fs_simulate": (_U32, [_JOB, _U32S, _SIZE, _U32S, _SIZE]),
+    "fs_detecting": (_U32, [_JOB, _U32, _U32, _TO_U64]),
+    "fs_firsts": (
+        _U32,
+        [_U32, _U8S, _SIZE, _U8S, _SIZE, _U32S, _SIZE, _TO_U32, _FAULT],
+    ),
+}
+
+
+def _path() -> str:
+    """The shared library: FAULTSIM_LIBRARY, or the file beside this one, or that of a checkout."""
+    named = os.environ.get("FAULTSIM_LIBRARY")
+    if named:
+        return named
+    here = pathlib.Path(__file__).resolve()
+    beside = here.with_name("libfaultsim.so")
+    if beside.exists() or len(here.parents) < 5:
+        return str(beside)
+    return str(here.parents[4] / "out" / "libfaultsim.so")
+
+
+def _load() -> c.CDLL:
+    library = c.CDLL(_path())
+    for name, (result, parameters) in SIGNATURES.items():
+        function = getattr(library, name)
+        function.restype, function.argtypes = result, parameters
+    if library.fs_version() != VERSION:
+        raise ImportError(f"{_path()} has version {library.fs_version()}, and not {VERSION}")
+    return library
+
+
+library = _load()
+
+
+def check(status: int, fault: "FsFault | None" = None) -> None:
+    """Raises the exception of a status other than DONE."""
+    if status == DONE:
+        return
+    if status == REFUSED and fault is not None:
+        raise Error(fault.kind, fault.place)
+    if status == NO_JOB:
+        raise ValueError("the job is closed")
+    if status == MEMORY:
+        raise MemoryError("no memory for the call")
+    if status == RANGE:
+        raise IndexError("a number is out of range, or an array has the wrong length")
+    if status == SHARED:
+        raise RuntimeError("another handle shares the job")
+    raise RuntimeError(f"unknown status {status}")

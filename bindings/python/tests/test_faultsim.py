@@ -1,0 +1,163 @@
+"""The package, on C17 and on circuits of a line. Expected values are worked out by hand."""
+
+import subprocess
+import sys
+import tempfile
+import threading
+import unittest
+from array import array
+
+import faultsim
+
+C17 = """INPUT(1)
+INPUT(2)
+INPUT(3)
+INPUT(6)
+INPUT(7)
+OUTPUT(22)
+OUTPUT(23)
+10 = NAND(1, 3)
+11 = NAND(3, 6)
+16 = NAND(2, 11)
+19 = NAND(11, 7)
+22 = NAND(10, 16)
+23 = NAND(16, 19)
+"""
+AND = "INPUT(a)\nINPUT(b)\nOUTPUT(z)\nz = AND(a, b)\n"
+
+
+class Reading(unittest.TestCase):
+    def test_sizes(self):
+        with faultsim.Job(C17) as job:
+            self.assertEqual((job.sources, job.signals, job.faults), (5, 11, 34))
+            self.assertEqual((job.tests, job.blocks), (0, 0))
+            self.assertEqual(len(job.classes_of()), 34)
+
+    def test_error_has_kind_and_line(self):
+        with self.assertRaises(faultsim.Error) as caught:
+            faultsim.Job("INPUT(a)\nz = AND(a, b)\n")
+        self.assertEqual((caught.exception.kind, caught.exception.place), (6, 2))
+        self.assertEqual(str(caught.exception), "bench line 2: name not defined")
+
+    def test_closed(self):
+        job = faultsim.Job(AND)
+        job.close()
+        job.close()
+        with self.assertRaises(ValueError):
+            job.simulate([0])
+
+
+class Tests(unittest.TestCase):
+    def test_one_test_of_c17(self):
+        with faultsim.Job(C17) as job:
+            for tests, count in (
+                ("11111\n", None),
+                (b"11111", None),
+                ([[1, 1, 1, 1, 1]], None),
+                ([1] * 5, 1),
+                (array("Q", [1] * 5), 1),
+            ):
+                job.set_tests(tests, count)
+                self.assertEqual(job.tests, 1)
+                self.assertEqual(job.coverage(), (14, 34))
+
+    def test_wrong_tests(self):
+        with faultsim.Job(AND) as job:
+            job.set_tests("11\n")
+            for tests, count, error in (
+                ("11\n1\n", None, faultsim.Error),
+                ([3, 1], 1, faultsim.Error),
+                ([[1]], None, IndexError),
+                ([[1, 2]], None, ValueError),
+            ):
+                with self.assertRaises(error):
+                    job.set_tests(tests, count)
+                self.assertEqual((job.tests, job.coverage()), (1, (3, 6)))
+
+    def test_rows_past_a_block(self):
+        # Test 70 alone is 11, which detects z stuck at 0; no test before it does.
+        rows = [[0, 1]] * 70 + [[1, 1]]
+        with faultsim.Job(AND) as job:
+            job.set_tests(rows)
+            self.assertEqual((job.tests, job.blocks), (71, 2))
+            of, firsts = job.classes_of(), job.simulate()
+            found = [int(firsts[int(it)]) for it in of]
+            # faults: a sa0, a sa1, b sa0, b sa1, z sa0, z sa1
+            self.assertEqual(found, [70, 0, 70, faultsim.NONE, 70, 0])
+            self.assertEqual(job.detecting(int(of[4]), 1), 1 << 6)
+            self.assertEqual(list(job.detections(3, [int(of[5])])), [3])
+
+
+    def test_words_and_names(self):
+        with faultsim.Job(AND) as job:
+            job.set_tests("11\n01\n")
+            self.assertEqual([job.word(0, it) for it in range(3)], [0b01, 0b11, 0b01])
+            self.assertEqual(job.source_names(), ["a", "b"])
+            self.assertEqual([job.name_of(it) for it in range(3)], ["a", "b", "z"])
+            for call in (lambda: job.word(1, 0), lambda: job.name_of(3)):
+                with self.assertRaises(IndexError):
+                    call()
+
+
+class Threads(unittest.TestCase):
+    def test_workers_find_the_same(self):
+        with faultsim.Job(C17) as job:
+            job.set_tests("11111\n01010\n10101\n")
+            self.assertEqual(list(job.simulate()), list(job.simulate(workers=3)))
+            job.set_tests("11111\n")
+            self.assertEqual(job.coverage(workers=4), (14, 34))
+
+    def test_shared_tests_stay(self):
+        with faultsim.Job(AND) as job, job.share() as other:
+            with self.assertRaises(RuntimeError):
+                job.set_tests("11\n")
+            other.close()
+            job.set_tests("11\n")
+
+    def test_jobs_of_two_threads(self):
+        found = []
+
+        def run():
+            with faultsim.Job(C17) as job:
+                job.set_tests("11111\n")
+                found.append(job.coverage())
+
+        threads = [threading.Thread(target=run) for _ in range(2)]
+        for it in threads:
+            it.start()
+        for it in threads:
+            it.join()
+        self.assertEqual(found, [(14, 34)] * 2)
+
+
+class InOneCall(unittest.TestCase):
+    def test_firsts(self):
+        found = faultsim.firsts(C17, "11111\n")
+        self.assertEqual(sum(int(it) != faultsim.NONE for it in found), 14)
+
+    def test_module(self):
+        with tempfile.NamedTemporaryFile("w") as bench, tempfile.NamedTemporaryFile("w") as tests:
+            bench.write(C17)
+            tests.write("11111\n")
+            bench.flush()
+            tests.flush()
+            words = [sys.executable, "-m", "faultsim", bench.name, tests.name]
+            said = subprocess.run(words, capture_output=True, text=True, check=True)
+        self.assertEqual(said.stdout, "14 of 34 (41.17%)\n")
+
+
+@unittest.skipIf(faultsim.numpy is None, "numpy is not there")
+class Arrays(unittest.TestCase):
+    def test_rows_of_numpy(self):
+        rows = faultsim.numpy.array([[0, 1]] * 70 + [[1, 1]], dtype=bool)
+        with faultsim.Job(AND) as job:
+            job.set_tests(rows)
+            firsts = job.simulate(faultsim.numpy.arange(job.classes))
+            self.assertEqual(firsts.dtype, faultsim.numpy.uint32)
+            self.assertEqual(int(firsts[int(job.classes_of()[4])]), 70)
+            with self.assertRaises(IndexError):
+                job.set_tests(faultsim.numpy.zeros((2, 3)))
+
+
+if __name__ == "__main__":
+    unittest.main()

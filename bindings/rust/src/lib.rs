@@ -1,0 +1,276 @@
+//! Fault simulation of combinational circuits and of circuits with full scan, over the static
+//! library of `faultsim.h`.
+//!
+//! The code below keeps the header's rules, so that a caller of it has none to keep. [`Job`] is
+//! `Send` and not `Sync`: [`Job::share`] gives another thread a job of its own.
+
+mod sys;
+
+pub use sys::{Fault, Sizes};
+
+use std::error::Error as StdError;
+use std::fmt;
+use sys::Handle;
+
+/// A fault model.
+#[derive(Clone, Copy, Debug, PartialEq, Eq)]
+pub enum Model {
+    /// A line is stuck at 0 or at 1.
+    StuckAt = 0,
+    /// A line is slow to rise or to fall; each test is the capture test of the one before it.
+    Transition = 1,
+    /// The same; tests 2k and 2k + 1 are a launch/capture pair.
+    TransitionPairs = 2,
+}
+
+/// Why a call fails.
+#[derive(Clone, Copy, Debug, PartialEq, Eq)]
+pub enum Error {
+    /// Memory ran out.
+    Memory,
+    /// A text or words are wrong: a kind of `faultsim.h`, and a line from 1 or a source from 0.
+    Refused(Fault),
+    /// A number is out of range, or a length is not what it must be.
+    OutOfRange,
+    /// Another job shares the circuit and its tests.
+    Shared,
+}
+
+impl fmt::Display for Error {
+    fn fmt(&self, to: &mut fmt::Formatter<'_>) -> fmt::Result {
+        match self {
+            Error::Memory => write!(to, "out of memory"),
+            Error::Refused(fault) => {
+                write!(
+                    to,
+                    "wrong text or words: kind {}, place {}",
+                    fault.kind, fault.place
+                )
+            }
+            Error::OutOfRange => write!(to, "a number or a length is out of range"),
+            Error::Shared => write!(to, "another job shares the tests"),
+        }
+    }
+}
+
+impl StdError for Error {}
+
+/// The error of a status. A [`Job`] always has a job, so status 1 never comes.
+fn told(status: u32, fault: Fault) -> Result<(), Error> {
+    match status {
+        0 => Ok(()),
+        2 => Err(Error::Memory),
+        3 => Err(Error::Refused(fault)),
+        5 => Err(Error::Shared),
+        _ => Err(Error::OutOfRange),
+    }
+}
+
+/// A circuit, its faults in classes, and tests.
+#[derive(Debug)]
+pub struct Job(Handle);
+
+// SAFETY: the library's proof says that what a handle holds may go to another thread.
+unsafe impl Send for Job {}
+
+impl Job {
+    /// Reads a bench file's text. The job has no tests yet.
+    pub fn read(model: Model, bench: &[u8]) -> Result<Job, Error> {
+        let (mut job, mut fault) = (Job(Handle::EMPTY), Fault::default());
+        // SAFETY: each pointer comes of a reference, and the handle is zeros.
+        let status = unsafe {
+            sys::fs_job_read(
+                model as u32,
+                bench.as_ptr(),
+                bench.len(),
+                &mut job.0,
+                &mut fault,
+            )
+        };
+        told(status, fault)?;
+        Ok(job)
+    }
+
+    /// Makes a second job of the same circuit, faults and tests, for another thread.
+    pub fn share(&mut self) -> Result<Job, Error> {
+        let mut other = Job(Handle::EMPTY);
+        // SAFETY: as above, and the two handles are two.
+        told(
+            unsafe { sys::fs_job_share(&mut self.0, &mut other.0) },
+            Fault::default(),
+        )?;
+        Ok(other)
+    }
+
+    /// Tells how large the job is.
+    pub fn sizes(&mut self) -> Sizes {
+        let mut sizes = Sizes::default();
+        // SAFETY: as above. A `Job` has a job, so the call is done.
+        unsafe { sys::fs_sizes_of(&mut self.0, &mut sizes) };
+        sizes
+    }
+
+    /// Takes tests in words in place of the job's: for each block of 64 tests one for each source;
+    /// bit k of it is the source's bit in test `64 * block + k`.
+    pub fn set_words(&mut self, count: u32, words: &[u64]) -> Result<(), Error> {
+        let mut fault = Fault::default();
+        // SAFETY: as above.
+        let status = unsafe {
+            sys::fs_set_words(&mut self.0, count, words.as_ptr(), words.len(), &mut fault)
+        };
+        told(status, fault)
+    }
+
+    /// Takes the tests of a text in place of the job's: a line of 0s and 1s for each.
+    pub fn set_text(&mut self, text: &[u8]) -> Result<(), Error> {
+        let mut fault = Fault::default();
+        // SAFETY: as above.
+        let status =
+            unsafe { sys::fs_set_text(&mut self.0, text.as_ptr(), text.len(), &mut fault) };
+        told(status, fault)
+    }
+
+    /// Tells the class of each fault.
+    pub fn classes_of(&mut self) -> Vec<u32> {
+        let mut of = vec![0; self.sizes().faults as usize];
+        // SAFETY: as above, and the length is the number of faults.
+        unsafe { sys::fs_classes_of(&mut self.0, of.as_mut_ptr(), of.len()) };
+        of
+    }
+
+    /// Tells the name of a signal.
+    pub fn name_of(&mut self, signal: u32) -> Result<String, Error> {
+        let (mut text, mut wanted) = (Vec::new(), 0);
+        loop {
+            // SAFETY: as above.
+            let status = unsafe {
+                sys::fs_name_of(
+                    &mut self.0,
+                    signal,
+                    text.as_mut_ptr(),
+                    text.len(),
+                    &mut wanted,
+                )
+            };
+            if status == 4 && text.len() < wanted {
+                text.resize(wanted, 0);
+                continue;
+            }
+            told(status, Fault::default())?;
+            return Ok(String::from_utf8_lossy(&text).into_owned());
+        }
+    }
+
+    /// Tells the place of a signal in a test, from 0, or none for the signal of a gate.
+    pub fn source_of(&mut self, signal: u32) -> Option<u32> {
+        let mut place = 0;
+        // SAFETY: as above; the call tests the number.
+        let status = unsafe { sys::fs_source_of(&mut self.0, signal, &mut place) };
+        (status == 0).then_some(place)
+    }
+
+    /// Returns the fault-free value of a signal: bit k is that in test `64 * block + k`.
+    pub fn word(&mut self, block: u32, signal: u32) -> Result<u64, Error> {
+        let mut word = 0;
+        // SAFETY: as above; the call tests the numbers.
+        told(
+            unsafe { sys::fs_word(&mut self.0, block, signal, &mut word) },
+            Fault::default(),
+        )?;
+        Ok(word)
+    }
+
+    /// Finds the first test that detects each class of a list.
+    pub fn simulate(&mut self, classes: &[u32]) -> Result<Vec<Option<u32>>, Error> {
+        let mut firsts = vec![0; classes.len()];
+        // SAFETY: as above; the call tests the classes.
+        let status = unsafe {
+            sys::fs_simulate(
+                &mut self.0,
+                classes.as_ptr(),
+                classes.len(),
+                firsts.as_mut_ptr(),
+                firsts.len(),
+            )
+        };
+        told(status, Fault::default())?;
+        Ok(firsts.into_iter().map(some_test).collect())
+    }
+
+    /// Returns a word: bit k is 1 exactly if test `64 * block + k` detects the class.
+    pub fn detecting(&mut self, class: u32, block: u32) -> Result<u64, Error> {
+        let mut lanes = 0;
+        // SAFETY: as above; the call tests the numbers.
+        let status = unsafe { sys::fs_detecting(&mut self.0, class, block, &mut lanes) };
+        told(status, Fault::default())?;
+        Ok(lanes)
+    }
+
+    /// Iterates over the faults, each with its class and the first test that detects it.
+    pub fn faults(&mut self) -> Result<impl Iterator<Item = FaultFirst>, Error> {
+        let classes: Vec<u32> = (0..self.sizes().classes).collect();
+        let firsts = self.simulate(&classes)?;
+        let of = self.classes_of();
+        Ok(of
+            .into_iter()
+            .enumerate()
+            .map(move |(fault, class)| FaultFirst {
+                fault: fault as u32,
+                class,
+                first: firsts[class as usize],
+            }))
+    }
+}
+
+impl Drop for Job {
+    fn drop(&mut self) {
+        // SAFETY: as above.
+        unsafe { sys::fs_job_free(&mut self.0) }
+    }
+}
+
+/// A fault, its class and the first test that detects it. All count from 0.
+#[derive(Clone, Copy, Debug, PartialEq, Eq)]
+pub struct FaultFirst {
+    pub fault: u32,
+    pub class: u32,
+    pub first: Option<u32>,
+}
+
+/// The test of a number, which tells that there is none if it is the greatest.
+fn some_test(first: u32) -> Option<u32> {
+    (first != u32::MAX).then_some(first)
+}
+
+/// Tells the version of the calls in the library that is linked; this crate is for 1.
+pub fn version() -> u32 {
+    // SAFETY: the call takes nothing.
+    unsafe { sys::fs_version() }
+}
+
+/// Finds the first test of a text that detects each fault of a circuit, in one call.
+pub fn firsts(model: Model, bench: &[u8], tests: &[u8]) -> Result<Vec<Option<u32>>, Error> {
+    let (mut firsts, mut count, mut fault) = (Vec::new(), 0, Fault::default());
+    loop {
+        // SAFETY: each pointer comes of a reference.
+        let status = unsafe {
+            sys::fs_firsts(
+                model as u32,
+                bench.as_ptr(),
+                bench.len(),
+                tests.as_ptr(),
+                tests.len(),
+                firsts.as_mut_ptr(),
+                firsts.len(),
+                &mut count,
+                &mut fault,
+            )
+        };
+        if status == 4 && firsts.len() != count as usize {
+            firsts.resize(count as usize, 0);
+            continue;
+        }
+        told(status, fault)?;
+        return Ok(firsts.into_iter().map(some_test).collect());
+    }
+}

@@ -1,0 +1,98 @@
+//! The calls of `faultsim.h`, as C has them.
+
+use std::ffi::c_void;
+use std::ptr::null_mut;
+
+#[repr(C)]
+#[derive(Debug)]
+pub struct Handle {
+    live: bool,
+    at: *mut c_void,
+}
+
+impl Handle {
+    pub const EMPTY: Handle = Handle {
+        live: false,
+        at: null_mut(),
+    };
+}
+
+/// How large a job is.
+#[repr(C)]
+#[derive(Clone, Copy, Debug, Default, PartialEq, Eq)]
+pub struct Sizes {
+    /// Primary inputs and scan cells: the width of a test.
+    pub sources: u32,
+    pub signals: u32,
+    /// Faults before collapsing.
+    pub faults: u32,
+    /// Equivalence classes of faults.
+    pub classes: u32,
+    pub tests: u32,
+    /// Blocks of 64 tests; the last may be short.
+    pub blocks: u32,
+}
+
+/// Why a text or words are wrong: a kind of `faultsim.h`, and a line from 1 or a source from 0.
+#[repr(C)]
+#[derive(Clone, Copy, Debug, Default, PartialEq, Eq)]
+pub struct Fault {
+    pub kind: u32,
+    pub place: u64,
+}
+
+extern "C" {
+    pub fn fs_version() -> u32;
+    pub fn fs_job_read(
+        model: u32,
+        bench: *const u8,
+        bench_len: usize,
+        job: *mut Handle,
+        fault: *mut Fault,
+    ) -> u32;
+    pub fn fs_job_free(job: *mut Handle);
+    pub fn fs_job_share(job: *mut Handle, other: *mut Handle) -> u32;
+    pub fn fs_sizes_of(job: *mut Handle, sizes: *mut Sizes) -> u32;
+    pub fn fs_set_words(
+        job: *mut Handle,
+        count: u32,
+        words: *const u64,
+        words_len: usize,
+        fault: *mut Fault,
+    ) -> u32;
+    pub fn fs_set_text(
+        job: *mut Handle,
+        text: *const u8,
+        text_len: usize,
+        fault: *mut Fault,
+    ) -> u32;
+    pub fn fs_classes_of(job: *mut Handle, classes: *mut u32, classes_len: usize) -> u32;
+    pub fn fs_name_of(
+        job: *mut Handle,
+        signal: u32,
+        text: *mut u8,
+        text_len: usize,
+        wanted: *mut usize,
+    ) -> u32;
+    pub fn fs_source_of(job: *mut Handle, signal: u32, place: *mut u32) -> u32;
+    pub fn fs_word(job: *mut Handle, block: u32, signal: u32, word: *mut u64) -> u32;
+    pub fn fs_simulate(
+        job: *mut Handle,
+        classes: *const u32,
+        classes_len: usize,
+        firsts: *mut u32,
+        firsts_len: usize,
+    ) -> u32;
+    pub fn fs_detecting(job: *mut Handle, class: u32, block: u32, lanes: *mut u64) -> u32;
+    pub fn fs_firsts(
+        model: u32,
+        bench: *const u8,
+        bench_len: usize,
+        text: *const u8,
+        text_len: usize,
+        firsts: *mut u32,
+        firsts_len: usize,
+        faults: *mut u32,
+        fault: *mut Fault,
+    ) -> u32;
+}
