@@ -116,6 +116,10 @@ uint32_t fs_set_text(fs_job *job, const uint8_t *text, size_t text_len, fs_fault
 /* Tells the class of each fault. classes_len is the number of faults. */
 uint32_t fs_classes_of(fs_job *job, uint32_t *classes, size_t classes_len);
 
+/* Tells the stem of each class: the signal at which the fanout-free region of its representative
+ * ends. stems_len is the number of classes. A thread that simulates whole regions spares work. */
+uint32_t fs_stems_of(fs_job *job, uint32_t *stems, size_t stems_len);
+
 /* Tells the name of a signal, and in `wanted` how many bytes it has; no 0 follows it. If the text
  * has less room than that, the status is FS_RANGE, and `wanted` tells how much it takes. */
 uint32_t fs_name_of(fs_job *job, uint32_t signal, uint8_t *text, size_t text_len, size_t *wanted);

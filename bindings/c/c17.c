@@ -56,6 +56,11 @@ static void wrong(fs_job *job) {
     MUST(fs_word(job, 0, 5, &word) == FS_DONE && (word & 1) == 0);
     MUST(fs_word(job, 0, 0, &word) == FS_DONE && (word & 1) == 1);
     MUST(fs_word(job, 0, 11, &word) == FS_RANGE && fs_word(job, 1, 0, &word) == FS_RANGE);
+    uint32_t stems[34];
+    fs_sizes n;
+    MUST(fs_sizes_of(job, &n) == FS_DONE && n.classes <= 34);
+    MUST(fs_stems_of(job, stems, n.classes) == FS_DONE && stems[0] < n.signals);
+    MUST(fs_stems_of(job, stems, n.classes - 1) == FS_RANGE);
     uint8_t name[3] = "???";
     size_t wanted = 0;
     MUST(fs_name_of(job, 5, name, 1, &wanted) == FS_RANGE && wanted == 2 && name[0] == '?');

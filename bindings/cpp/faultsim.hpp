@@ -105,6 +105,13 @@ public:
         return classes;
     }
 
+    // Returns the stem of each class, the signal at which its fanout-free region ends.
+    std::vector<std::uint32_t> stems_of() {
+        std::vector<std::uint32_t> stems(sizes().classes);
+        check(fs_stems_of(&handle, at(std::span(stems)), stems.size()));
+        return stems;
+    }
+
     std::string name_of(std::uint32_t signal) {
         std::uint8_t nothing = 0;
         std::size_t wanted = 0;

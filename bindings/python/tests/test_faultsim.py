@@ -92,6 +92,7 @@ class Tests(unittest.TestCase):
         with faultsim.Job(AND) as job:
             job.set_tests("11\n01\n")
             self.assertEqual([job.word(0, it) for it in range(3)], [0b01, 0b11, 0b01])
+            self.assertEqual(set(int(it) for it in job.stems_of()), {2})
             self.assertEqual(job.source_names(), ["a", "b"])
             self.assertEqual([job.name_of(it) for it in range(3)], ["a", "b", "z"])
             for call in (lambda: job.word(1, 0), lambda: job.name_of(3)):

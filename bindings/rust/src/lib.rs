@@ -138,6 +138,14 @@ impl Job {
         of
     }
 
+    /// Tells the stem of each class, the signal at which its fanout-free region ends.
+    pub fn stems_of(&mut self) -> Vec<u32> {
+        let mut stems = vec![0; self.sizes().classes as usize];
+        // SAFETY: as above, and the length is the number of classes.
+        unsafe { sys::fs_stems_of(&mut self.0, stems.as_mut_ptr(), stems.len()) };
+        stems
+    }
+
     /// Tells the name of a signal.
     pub fn name_of(&mut self, signal: u32) -> Result<String, Error> {
         let (mut text, mut wanted) = (Vec::new(), 0);

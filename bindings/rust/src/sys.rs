@@ -67,6 +67,7 @@ extern "C" {
         fault: *mut Fault,
     ) -> u32;
     pub fn fs_classes_of(job: *mut Handle, classes: *mut u32, classes_len: usize) -> u32;
+    pub fn fs_stems_of(job: *mut Handle, stems: *mut u32, stems_len: usize) -> u32;
     pub fn fs_name_of(
         job: *mut Handle,
         signal: u32,

@@ -15,6 +15,7 @@ fn one_test_detects_14_of_34() -> Result<(), Error> {
     // Under 11111 NAND(1, 3), signal 5, is 0.
     assert_eq!((job.word(0, 0)? & 1, job.word(0, 5)? & 1), (1, 0));
     assert_eq!((job.source_of(4), job.source_of(5)), (Some(4), None));
+    assert!(job.stems_of().iter().all(|stem| *stem < 11));
     let all = firsts(Model::StuckAt, C17, b"11111\n")?;
     assert_eq!(all.iter().filter(|it| it.is_some()).count(), 14);
     assert_eq!(version(), 1);

@@ -2,4 +2,5 @@ pub mod Boxed
 mod Firsts
 pub mod Pointed
 mod Replies
+mod Tables
 mod Options

@@ -16,6 +16,7 @@ use Rattle.patterns.specs.declared.Outcome.TheVariants.{Clear, Hit}
 use Rattle.patterns.specs.Tests.{HasTests, blocks}
 use Rattle.block_sim.specs.First.{IsFirst}
 use Rattle.block_sim.specs.Parts.{BelongTogether, Parts}
+use Rattle.block_sim.specs.Regions.{IsStemOfClass}
 use Rattle.faultsim_c.specs.declared.FsSizes.{FsSizes}
 
 -- the numbers of the models
@@ -111,6 +112,15 @@ AreCounted count classes = (k : ℕ) → k < count → slice_index classes k ≡
 abbrev pub AreGiven : Parts → List ℕ → List ℕ → Type 0
 AreGiven parts found firsts = (i : ℕ) → i < length parts.list.list
     → slice_index firsts i ≡ slice_index found (slice_index parts.classes.class_of i)
+
+-- the number is that of the signal at which the region of the class ends
+pub record IsStemAt (parts : Parts) (class stem : ℕ) : Type 0 where
+  pub is : IsStemOfClass parts.list.model parts.circuit class stem
+
+-- at each class's place stands its stem
+abbrev pub AreStemsOf : Parts → List ℕ → Type 0
+AreStemsOf parts stems = (class : ℕ) → class < length parts.classes.representative
+    → IsStemAt parts class (slice_index stems class)
 
 -- bytes stand at the front of a text that has room for them, and it is told how many they are
 abbrev pub IsCopied : List ℕ → List ℕ → List ℕ → ℕ → ℕ → Type 0

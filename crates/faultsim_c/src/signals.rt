@@ -1,4 +1,5 @@
-//! Calls about signals: their names, their places in a test, and their fault-free words.
+//! Calls about signals: their names, places in a test and fault-free words, and the stems of
+//! classes.
 
 ghost use Rattle.std.specs.Prelude.{◌≡◌, ◌≢◌, ◌↔◌, ◌⊎◌, ◌<◌, ◌≤◌, IsSome, List, None, Some};
 ghost use Rattle.std.specs.Prelude.{length, slice_get, ℕ};
@@ -6,12 +7,49 @@ ghost use Rattle.bench_net.specs.Scan.{name_of, names, sources};
 ghost use Rattle.patterns.specs.Tests.{blocks};
 ghost use Rattle.block_sim.specs.Parts.{Parts};
 ghost use Rattle.block_sim.specs.Words.{IsFaultFreeWord};
-ghost use Rattle.faultsim_c.specs.Calls.{IsCopied};
+ghost use Rattle.faultsim_c.specs.Calls.{AreStemsOf, IsCopied};
 
 use crate::handle::{FsJob, put, take};
 use crate::status::{DONE, NO_JOB, RANGE};
 use block_sim::Job;
 use std::alloc::Global;
+
+/// Tells the stem of each class: the signal at which the fanout-free region of its representative
+/// ends. The length is the number of classes.
+#[unsafe(no_mangle)]
+pub extern "C" fn fs_stems_of(alloc: Global, job: &mut FsJob, stems: &mut [u32]) -> u32
+    ensures done { (parts : Parts) → job.old.held.session ≡ Some parts
+        → length stems.old ≡ length parts.classes.representative
+        → (result ≡ 0) × AreStemsOf parts stems.new }
+    ensures range { (parts : Parts) → job.old.held.session ≡ Some parts
+        → length stems.old ≢ length parts.classes.representative → result ≡ 4 }
+    ensures no_job { job.old.held.session ≡ None → result ≡ 1 }
+    ensures untouched { result ≢ 0 → stems.new ≡ stems.old }
+    ensures kept { job.new.held.session ≡ job.old.held.session }
+{
+    let Some(session) = take(alloc, job) else {
+        return NO_JOB;
+    };
+    let status = stems_of(session.job(), stems);
+    put(alloc, job, session);
+    status
+}
+
+/// Tells the stem of each class of a job.
+fn stems_of(job: &Job, stems: &mut [u32]) -> u32
+    ensures done { length stems.old ≡ length job.now.classes.representative
+        → (result ≡ 0) × AreStemsOf job.now stems.new }
+    ensures range { length stems.old ≢ length job.now.classes.representative → result ≡ 4 }
+    ensures untouched { result ≢ 0 → stems.new ≡ stems.old }
+{
+    if stems.len() != job.classes().count() as usize {
+        return RANGE;
+    }
+    for class in 0..job.classes().count() {
+        stems[class as usize] = job.stem_of_class(class);
+    }
+    DONE
+}
 
 /// Tells the fault-free word of a signal under a block: bit k is its value under test
 /// `64 * block + k`.

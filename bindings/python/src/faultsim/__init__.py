@@ -187,6 +187,13 @@ class Job:
         check(library.fs_classes_of(self._handle, _address(classes), len(classes)))
         return classes
 
+    def stems_of(self) -> Any:
+        """The stem of each class, the signal at which its fanout-free region ends: an array of the
+        shape (classes,)."""
+        stems = _room(self.classes, "I")
+        check(library.fs_stems_of(self._handle, _address(stems), len(stems)))
+        return stems
+
     def name_of(self, signal: int) -> str:
         """The name of a signal."""
         wanted = ctypes.c_size_t()
@@ -218,7 +225,8 @@ class Job:
         """The first test that detects each class of a list, or of all: an array of the shape
         (classes,), with `NONE` for a class that no test detects.
 
-        workers: the number of threads, each with a job that `share` makes.
+        workers: the number of threads, each with a job that `share` makes and with whole regions,
+        so that no two simulate one region.
         """
         asked = _numbers(range(self.classes) if classes is None else classes, "I")
         found = _room(len(asked), "I")
@@ -226,20 +234,37 @@ class Job:
         if workers == 1:
             self._simulate(asked, found)
             return found
-        jobs = [self.share() for _ in range(workers)]
+        parts = self._parts(asked, workers)
+        jobs = [self.share() for _ in parts]
         try:
-            cuts = [len(asked) * part // workers for part in range(workers + 1)]
             with ThreadPoolExecutor(workers) as pool:
                 runs = [
-                    pool.submit(job._part, asked[first:end])
-                    for job, first, end in zip(jobs, cuts, cuts[1:])
+                    pool.submit(job._part, _numbers([asked[at] for at in part], "I"))
+                    for job, part in zip(jobs, parts)
                 ]
-                for run, first, end in zip(runs, cuts, cuts[1:]):
-                    found[first:end] = run.result()
+                for run, part in zip(runs, parts):
+                    for at, first in zip(part, run.result()):
+                        found[at] = first
         finally:
             for job in jobs:
                 job.close()
         return found
+
+    def _parts(self, asked: Any, workers: int) -> list[list[int]]:
+        """The places of a list of classes in so many parts, each with whole regions."""
+        stems = self.stems_of()
+        if any(int(class_) >= self.classes for class_ in asked):
+            raise IndexError("a class is out of range")
+        stem_at = [int(stems[int(class_)]) for class_ in asked]
+        places = sorted(range(len(asked)), key=stem_at.__getitem__)
+        parts: list[list[int]] = [[] for _ in range(workers)]
+        part = 0
+        for done, at in enumerate(places):
+            new_region = done == 0 or stem_at[at] != stem_at[places[done - 1]]
+            if new_region:
+                part = max(part, done * workers // len(places))
+            parts[part].append(at)
+        return [it for it in parts if it]
 
     def _part(self, asked: Any) -> Any:
         found = _room(len(asked), "I")

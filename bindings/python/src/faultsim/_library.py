@@ -78,6 +78,7 @@ SIGNATURES = {
     "fs_set_words": (_U32, [_JOB, _U32, _U64S, _SIZE, _FAULT]),
     "fs_set_text": (_U32, [_JOB, _U8S, _SIZE, _FAULT]),
     "fs_classes_of": (_U32, [_JOB, _U32S, _SIZE]),
+    "fs_stems_of": (_U32, [_JOB, _U32S, _SIZE]),
     "fs_name_of": (_U32, [_JOB, _U32, _U8S, _SIZE, _TO_SIZE]),
     "fs_source_of": (_U32, [_JOB, _U32, _TO_U32]),
     "fs_word": (_U32, [_JOB, _U32, _U32, _TO_U64]),
