@@ -3,7 +3,7 @@
 --     word_typed              that value has the struct's type
 --     fields_of               what the two fields own
 --     fields_out, fields_in   they own no more than the handle does
-use Rattle.std.proofs.Common.{◌≡◌, List, [], ◌∷◌, ◌++◌, refl, sym, ap, ◌∙◌, subst, lit<}
+use Rattle.std.proofs.Common.{◌≡◌, List, [], ◌∷◌, ◌++◌, refl, ap, ◌∙◌, lit<}
 use seplogic.Ra.Ura.{Ura}
 use lib.Dec.{T}
 use mir.Syntax.{ty_ptr, ty_struct}

@@ -1,4 +1,4 @@
-use Rattle.std.proofs.Common.{rules, ◌≡◌, length, refl, subst}
+use Rattle.std.proofs.Common.{rules, ◌≡◌, length, subst}
 use Rattle.block_sim.specs.Parts.{Parts}
 use Rattle.faultsim_c.specs.Calls.{AreStemsOf}
 use Rattle.faultsim_c.proofs.signals.fs_stems_of.Goals as goal

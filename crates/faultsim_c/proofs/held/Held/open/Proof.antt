@@ -18,7 +18,7 @@ use denote.Steps.{heard, nothing}
 use denote.Triple.Walked.{says, Stays, stay_dropped, walk_of, ends_at, Goes-dropped}
 use Rattle.std.proofs.raw_atomic.Walks.{proved_at}
 use Rattle.faultsim_c.specs.Held.{Value, held_by}
-use Rattle.faultsim_c.proofs.Boxed.{heap_of_c, held_session, taken_session, taken_type}
+use Rattle.faultsim_c.proofs.Boxed.{heap_of_c, held_session, taken_type}
 use Rattle.faultsim_c.proofs.Pointed.{word, word_typed, pointer_typed, fields_out, fields_in}
 use Rattle.faultsim_c.specs.contracts.held.Held as held
 use Rattle.faultsim_c.specs.contracts.held.Held.«open» as f

@@ -30,12 +30,11 @@ use denote.Triple.Walked.{says, Stays, stay_dropped, walk_of, ends_at}
 use Rattle.std.proofs.VecSteps.Shapes.{after}
 use Rattle.std.proofs.alloc.Calls.{Al, Goes-blank}
 use Rattle.std.proofs.raw_atomic.Walks.{proved_at}
-use Rattle.std.specs.Box.Ownership.{box_owns}
 use Rattle.std.specs.contracts.boxed.Box as boxed
 use Rattle.std.proofs.boxed.Box.TheLaws as boxed_laws
 use Rattle.std.specs.contracts.boxed.Box.from_raw as g
 use Rattle.std.proofs.boxed.Box.from_raw.Met.{met}
-use Rattle.faultsim_c.proofs.Pointed.{word, word_typed, pointer_typed, fields_out}
+use Rattle.faultsim_c.proofs.Pointed.{word_typed, pointer_typed, fields_out}
 use Rattle.faultsim_c.specs.contracts.taken.Taken as taken
 use Rattle.faultsim_c.specs.contracts.taken.Taken.into_box as f
 use Rattle.faultsim_c.proofs.taken.Taken.into_box.Statement.{statement}

@@ -1,6 +1,6 @@
 -- `of` has the box turned into its pointer and its allocator, which own what it owned.
 use Rattle.std.proofs.Common.{◌≡◌, List, [], ◌∷◌, ◌++◌, refl, sym, ap}
-use mir.Syntax.{Args, Dict, a_type, dcons, dnil}
+use mir.Syntax.{Args, a_type, dcons, dnil}
 use mir.MapTy.{inst_fn}
 use mir.Val.{Val}
 use base.Fml.{ftrue, fsep, flft}
