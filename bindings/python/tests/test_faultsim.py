@@ -1,5 +1,7 @@
 """The package, on C17 and on circuits of a line. Expected values are worked out by hand."""
 
+import pathlib
+import pickle
 import subprocess
 import sys
 import tempfile
@@ -39,6 +41,23 @@ class Reading(unittest.TestCase):
         self.assertEqual((caught.exception.kind, caught.exception.place), (6, 2))
         self.assertEqual(str(caught.exception), "bench line 2: name not defined")
 
+    def test_error_goes_to_another_process(self):
+        error = pickle.loads(pickle.dumps(faultsim.Error(6, 2)))
+        self.assertEqual((error.kind, error.place), (6, 2))
+        self.assertEqual(str(error), "bench line 2: name not defined")
+
+    def test_what_is_no_text(self):
+        for text in (pathlib.Path("a.bench"), 5, None, [73]):
+            with self.assertRaises(TypeError):
+                faultsim.Job(text)
+
+    def test_models_out_of_range(self):
+        for model in (3, -1, 1 << 32):
+            with self.assertRaises(IndexError):
+                faultsim.Job(AND, model)
+        with self.assertRaises(TypeError):
+            faultsim.Job(AND, "stuck")
+
     def test_closed(self):
         job = faultsim.Job(AND)
         job.close()
@@ -69,6 +88,9 @@ class Tests(unittest.TestCase):
                 ([3, 1], 1, faultsim.Error),
                 ([[1]], None, IndexError),
                 ([[1, 2]], None, ValueError),
+                ([1, 1], (1 << 32) + 1, IndexError),
+                ([1 << 64, 1], 1, IndexError),
+                ("11\n", 1, TypeError),
             ):
                 with self.assertRaises(error):
                     job.set_tests(tests, count)
@@ -87,6 +109,21 @@ class Tests(unittest.TestCase):
             self.assertEqual(job.detecting(int(of[4]), 1), 1 << 6)
             self.assertEqual(list(job.detections(3, [int(of[5])])), [3])
 
+    def test_numbers_out_of_range(self):
+        with faultsim.Job(AND) as job:
+            job.set_tests("11\n")
+            for wrong in (-1, job.classes, 1 << 32):
+                for call in (
+                    lambda: job.detecting(wrong, 0),
+                    lambda: job.detecting(0, wrong),
+                    lambda: job.word(0, wrong),
+                    lambda: job.name_of(wrong),
+                    lambda: job.simulate([wrong]),
+                ):
+                    with self.assertRaises(IndexError):
+                        call()
+            with self.assertRaises(TypeError):
+                job.simulate([0.5])
 
     def test_words_and_names(self):
         with faultsim.Job(AND) as job:
@@ -114,6 +151,21 @@ class Threads(unittest.TestCase):
                 job.set_tests("11\n")
             other.close()
             job.set_tests("11\n")
+
+    def test_threads_of_one_job(self):
+        with faultsim.Job(C17) as job:
+            job.set_tests("11111\n" * 64)
+            wanted, found = list(job.simulate()), []
+
+            def run():
+                found.extend(list(job.simulate()) for _ in range(200))
+
+            threads = [threading.Thread(target=run) for _ in range(4)]
+            for it in threads:
+                it.start()
+            for it in threads:
+                it.join()
+            self.assertEqual(found, [wanted] * 800)
 
     def test_jobs_of_two_threads(self):
         found = []
@@ -158,6 +210,24 @@ class Arrays(unittest.TestCase):
             self.assertEqual(int(firsts[int(job.classes_of()[4])]), 70)
             with self.assertRaises(IndexError):
                 job.set_tests(faultsim.numpy.zeros((2, 3)))
+
+    def test_arrays_of_other_numbers(self):
+        numpy = faultsim.numpy
+        with faultsim.Job(AND) as job:
+            job.set_tests("11\n01\n")
+            wanted = list(job.simulate([0, 1]))
+            odd = numpy.frombuffer(bytes(1) + array("I", [0, 1]).tobytes(), numpy.uint32, offset=1)
+            for classes in (odd, numpy.array([0, 1], ">i8"), numpy.array([0, 7, 1])[::2]):
+                self.assertEqual(list(job.simulate(classes)), wanted)
+            self.assertEqual(len(job.simulate(numpy.array([]))), 0)
+            for classes, error in (
+                (numpy.array([True, False]), TypeError),
+                (numpy.array([0.5]), TypeError),
+                (numpy.array([1 << 32]), IndexError),
+                (numpy.array([-1]), IndexError),
+            ):
+                with self.assertRaises(error):
+                    job.simulate(classes)
 
 
 if __name__ == "__main__":

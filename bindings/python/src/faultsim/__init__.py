@@ -14,6 +14,8 @@ from __future__ import annotations
 
 import ctypes
 import enum
+import operator
+import threading
 from array import array
 from concurrent.futures import ThreadPoolExecutor
 from typing import Any, Iterable, Optional, Sequence, Union
@@ -41,19 +43,38 @@ class Model(enum.IntEnum):
 
 
 def _bytes(text: Text) -> bytes:
-    return text.encode() if isinstance(text, str) else bytes(text)
+    if isinstance(text, str):
+        return text.encode()
+    if isinstance(text, (bytes, bytearray, memoryview)):
+        return bytes(text)
+    raise TypeError(f"a text is str or bytes, and not {type(text).__name__}")
+
+
+def _number(value: int) -> int:
+    """A number of 32 bits. ctypes would cut off the bits of a greater one."""
+    number = operator.index(value)
+    if not 0 <= number < 1 << 32:
+        raise IndexError(f"{number} is out of range")
+    return number
 
 
 def _numbers(values: Iterable[int], code: str) -> Any:
     """Numbers in one piece of memory, of 32 bits ('I') or 64 bits ('Q')."""
-    if numpy is not None:
+    if numpy is not None and isinstance(values, numpy.ndarray):
+        if values.size and values.dtype.kind not in "iu":
+            raise TypeError(f"an array of {values.dtype}, and not of integers")
+        if values.size and code == "I" and not 0 <= values.min() <= values.max() < 1 << 32:
+            raise IndexError("a number of the array is out of range")
         kind = {"I": numpy.uint32, "Q": numpy.uint64}[code]
-        if not isinstance(values, (numpy.ndarray, array)):
-            values = list(values)
-        return numpy.ascontiguousarray(values, dtype=kind).reshape(-1)
-    if isinstance(values, array) and values.typecode == code:
+        return numpy.require(values, kind, ["C", "A"]).reshape(-1)
+    if not (isinstance(values, array) and values.typecode == code):
+        try:
+            values = array(code, values)
+        except OverflowError as error:
+            raise IndexError(f"a number of the list is out of range: {error}") from None
+    if numpy is None:
         return values
-    return array(code, values)
+    return numpy.array(values, {"I": numpy.uint32, "Q": numpy.uint64}[code])
 
 
 def _room(count: int, code: str) -> Any:
@@ -91,7 +112,7 @@ def _packed(rows: Any, width: int) -> tuple[int, Any]:
     """The same of a numpy array of shape (tests, sources)."""
     if rows.ndim != 2 or rows.shape[1] != width:
         raise IndexError(f"the tests haven't the shape (tests, {width})")
-    if not ((rows == 0) | (rows == 1)).all():
+    if rows.dtype.kind not in "biuf" or not ((rows == 0) | (rows == 1)).all():
         raise ValueError("a bit is neither 0 nor 1")
     count = rows.shape[0]
     bits = numpy.zeros((-(-count // 64) * 64, width), numpy.uint8)
@@ -104,18 +125,29 @@ def _packed(rows: Any, width: int) -> tuple[int, Any]:
 class Job:
     """A circuit, its faults in classes, and tests.
 
-    A job is also a context manager, which closes it. A call on a closed job raises `ValueError`.
-    Give a job to one thread at a time; `share` makes another one for another thread.
+    A job is also a context manager, which closes it. A call on a closed job raises `ValueError`, and
+    a number out of range `IndexError`. Threads that call one job wait for each other; `share` makes
+    another one for another thread.
 
     sources, signals, faults, classes, tests, blocks: how many of each the job has.
     """
 
     def __init__(self, bench: Text, model: int = Model.STUCK_AT) -> None:
-        """Reads a bench file's text. Raises `Error` if it is wrong, with the line in `place`."""
-        self._handle, text, fault = FsJob(), _bytes(bench), FsFault()
-        self._measure(FsSizes())
+        """Reads a bench file's text (not its path). Raises `Error` if it is wrong, with the line in
+        `place`."""
+        self._start()
+        model, text, fault = _number(model), _bytes(bench), FsFault()
         check(library.fs_job_read(model, text, len(text), self._handle, fault), fault)
         self._sizes()
+
+    def _start(self) -> None:
+        self._handle, self._lock = FsJob(), threading.Lock()
+        self._measure(FsSizes())
+
+    def _call(self, function: Any, *arguments: Any) -> int:
+        """Gives the handle to one call at a time."""
+        with self._lock:
+            return function(self._handle, *arguments)
 
     def _measure(self, sizes: FsSizes) -> None:
         self.sources: int = sizes.sources
@@ -127,14 +159,13 @@ class Job:
 
     def _sizes(self) -> None:
         sizes = FsSizes()
-        check(library.fs_sizes_of(self._handle, sizes))
+        check(self._call(library.fs_sizes_of, sizes))
         self._measure(sizes)
 
     def close(self) -> None:
         """Frees the job. A second call does nothing."""
-        handle = getattr(self, "_handle", None)
-        if handle is not None:
-            library.fs_job_free(handle)
+        if hasattr(self, "_lock"):
+            self._call(library.fs_job_free)
 
     __del__ = close
 
@@ -150,8 +181,8 @@ class Job:
         While there are two, `set_tests` raises `RuntimeError`.
         """
         other = Job.__new__(Job)
-        other._handle = FsJob()
-        check(library.fs_job_share(self._handle, other._handle))
+        other._start()
+        check(self._call(library.fs_job_share, other._handle))
         other._sizes()
         return other
 
@@ -160,23 +191,27 @@ class Job:
 
         tests: a text with a line of 0s and 1s for each test; or rows of 0 and 1, of the shape
         (tests, sources), as a list or a numpy array; or, with `count`, words: for each block of 64
-        tests one for each source, with bit k for test 64 * block + k.
+        tests one for each source, in one list, with bit k for test 64 * block + k.
 
-        Raises `Error` if a text or words are wrong, and `IndexError` if rows have another width.
+        Raises `Error` if a text or words are wrong, `IndexError` if rows have another width,
+        `ValueError` if they have another bit, and `RuntimeError` if `share` made another job that
+        isn't closed.
         """
         fault = FsFault()
-        if isinstance(tests, (str, bytes, bytearray)):
+        if isinstance(tests, (str, bytes, bytearray, memoryview)):
+            if count is not None:
+                raise TypeError("count goes with words, and not with a text")
             text = _bytes(tests)
-            check(library.fs_set_text(self._handle, text, len(text), fault), fault)
+            check(self._call(library.fs_set_text, text, len(text), fault), fault)
         else:
             if count is not None:
                 words = _numbers(tests, "Q")
             elif numpy is not None and isinstance(tests, numpy.ndarray):
                 count, words = _packed(tests, self.sources)
             else:
-                count, words = _words_of(tests, self.sources)
-            status = library.fs_set_words(
-                self._handle, count, _address(words), len(words), fault
+                count, words = _words_of(list(tests), self.sources)
+            status = self._call(
+                library.fs_set_words, _number(count), _address(words), len(words), fault
             )
             check(status, fault)
         self._sizes()
@@ -184,7 +219,7 @@ class Job:
     def classes_of(self) -> Any:
         """The class of each fault: an array of the shape (faults,)."""
         classes = _room(self.faults, "I")
-        check(library.fs_classes_of(self._handle, _address(classes), len(classes)))
+        check(self._call(library.fs_classes_of, _address(classes), len(classes)))
         return classes
 
     def stems_of(self) -> Any:
@@ -196,20 +231,20 @@ class Job:
 
     def name_of(self, signal: int) -> str:
         """The name of a signal."""
-        wanted = ctypes.c_size_t()
-        status = library.fs_name_of(self._handle, signal, b"", 0, wanted)
+        signal, wanted = _number(signal), ctypes.c_size_t()
+        status = self._call(library.fs_name_of, signal, b"", 0, wanted)
         if status != _library.RANGE or wanted.value == 0:
             check(status)
             return ""
         text = ctypes.create_string_buffer(wanted.value)
-        check(library.fs_name_of(self._handle, signal, text, len(text), wanted))
+        check(self._call(library.fs_name_of, signal, text, len(text), wanted))
         return text.raw.decode()
 
     def source_names(self) -> list[str]:
         """The name of each source, in the order of the bits of a test."""
         names, place = [""] * self.sources, ctypes.c_uint32()
         for signal in range(self.signals):
-            status = library.fs_source_of(self._handle, signal, place)
+            status = self._call(library.fs_source_of, signal, place)
             if status != _library.RANGE:
                 check(status)
                 names[place.value] = self.name_of(signal)
@@ -218,7 +253,7 @@ class Job:
     def word(self, block: int, signal: int) -> int:
         """The fault-free value of a signal: bit k is that in test 64 * block + k."""
         word = ctypes.c_uint64()
-        check(library.fs_word(self._handle, block, signal, word))
+        check(self._call(library.fs_word, _number(block), _number(signal), word))
         return word.value
 
     def simulate(self, classes: Optional[Iterable[int]] = None, workers: int = 1) -> Any:
@@ -272,15 +307,15 @@ class Job:
         return found
 
     def _simulate(self, asked: Any, found: Any) -> None:
-        status = library.fs_simulate(
-            self._handle, _address(asked), len(asked), _address(found), len(found)
+        status = self._call(
+            library.fs_simulate, _address(asked), len(asked), _address(found), len(found)
         )
         check(status)
 
     def detecting(self, class_: int, block: int) -> int:
         """A word: bit k is 1 exactly if test 64 * block + k detects the class."""
         lanes = ctypes.c_uint64()
-        check(library.fs_detecting(self._handle, class_, block, lanes))
+        check(self._call(library.fs_detecting, _number(class_), _number(block), lanes))
         return lanes.value
 
     def detections(self, most: int, classes: Optional[Iterable[int]] = None) -> Any:
@@ -306,7 +341,7 @@ class Job:
 def firsts(bench: Text, tests: Text, model: int = Model.STUCK_AT) -> Any:
     """The first test of a text that detects each fault of a circuit, in one call: an array of the
     shape (faults,), with `NONE` for a fault that no test detects."""
-    bench, tests = _bytes(bench), _bytes(tests)
+    model, bench, tests = _number(model), _bytes(bench), _bytes(tests)
     count, fault, found = ctypes.c_uint32(), FsFault(), _room(0, "I")
     for _ in range(2):
         status = library.fs_firsts(

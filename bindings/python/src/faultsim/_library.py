@@ -58,8 +58,11 @@ class Error(ValueError):
     """
 
     def __init__(self, kind: int, place: int) -> None:
-        super().__init__(KINDS[kind if kind < len(KINDS) else 0].format(place))
+        super().__init__(kind, place)
         self.kind, self.place = kind, place
+
+    def __str__(self) -> str:
+        return KINDS[self.kind if self.kind < len(KINDS) else 0].format(self.place)
 
 
 _U32, _SIZE = c.c_uint32, c.c_size_t
