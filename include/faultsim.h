@@ -107,13 +107,15 @@ uint32_t fs_job_share(fs_job *job, fs_job *other);
 uint32_t fs_sizes_of(fs_job *job, fs_sizes *sizes);
 
 /* Takes tests in place of the job's. Words: for each block of 64 tests one for each source; bit k
- * of it is the source's bit in test 64 * block + k, and 0 past the last test. Text: a line of 0s
- * and 1s for each test. On any status but FS_DONE the tests are as they were. */
+ * of words[block * sources + source] is the source's bit in test 64 * block + k, and 0 past the
+ * last test. Text: a line of 0s and 1s for each test. On any status but FS_DONE the tests are as
+ * they were. */
 uint32_t fs_set_words(fs_job *job, uint32_t count, const uint64_t *words, size_t words_len,
                       fs_fault *fault);
 uint32_t fs_set_text(fs_job *job, const uint8_t *text, size_t text_len, fs_fault *fault);
 
-/* Tells the class of each fault. classes_len is the number of faults. */
+/* Tells the class of each fault, in the order in which `faultsim faults` lists them. classes_len is
+ * the number of faults. */
 uint32_t fs_classes_of(fs_job *job, uint32_t *classes, size_t classes_len);
 
 /* Tells the stem of each class: the signal at which the fanout-free region of its representative
@@ -124,7 +126,8 @@ uint32_t fs_stems_of(fs_job *job, uint32_t *stems, size_t stems_len);
  * has less room than that, the status is FS_RANGE, and `wanted` tells how much it takes. */
 uint32_t fs_name_of(fs_job *job, uint32_t signal, uint8_t *text, size_t text_len, size_t *wanted);
 
-/* Tells the place of a signal in a test, from 0. The status is FS_RANGE if the signal is a gate's. */
+/* Tells the place of a signal in a test, from 0. The status is FS_RANGE if the signal is a gate's,
+ * or out of range. */
 uint32_t fs_source_of(fs_job *job, uint32_t signal, uint32_t *place);
 
 /* Tells the fault-free value of a signal: bit k of `word` is its value in test 64 * block + k. */
@@ -140,8 +143,9 @@ uint32_t fs_simulate(fs_job *job, const uint32_t *classes, size_t classes_len, u
 uint32_t fs_detecting(fs_job *job, uint32_t class_number, uint32_t block, uint64_t *lanes);
 
 /* All in one call, without a handle: tells the first test of a text that detects each fault of a
- * circuit, or FS_NONE. If firsts_len is not the number of faults, the status is FS_RANGE, and
- * `faults` tells that number. */
+ * circuit, or FS_NONE, and in `faults` the number of faults. If firsts_len is not that number, the
+ * status is FS_RANGE, and `faults` tells the number nevertheless. If the model is out of range,
+ * `faults` is as it was. */
 uint32_t fs_firsts(uint32_t model, const uint8_t *bench, size_t bench_len, const uint8_t *text,
                    size_t text_len, uint32_t *firsts, size_t firsts_len, uint32_t *faults,
                    fs_fault *fault);
