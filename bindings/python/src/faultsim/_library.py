@@ -107,7 +107,12 @@ def _path() -> str:
 
 
 def _load() -> c.CDLL:
-    library = c.CDLL(_path())
+    try:
+        library = c.CDLL(_path())
+    except OSError as error:
+        raise ImportError(
+            f"{error} (contrib/build-library makes it; FAULTSIM_LIBRARY names another file)"
+        ) from None
     for name, (result, parameters) in SIGNATURES.items():
         function = getattr(library, name)
         function.restype, function.argtypes = result, parameters
