@@ -6,6 +6,7 @@
 #include <cstdio>
 #include <numeric>
 #include <span>
+#include <string_view>
 #include <thread>
 #include <vector>
 
@@ -41,6 +42,13 @@ int main() {
     auto found = std::ranges::count_if(of, [&](auto it) { return firsts[it] != FS_NONE; });
     std::printf("%td of %zu\n", found, of.size());
     faultsim::Job moved = std::move(job);
+    try {
+        moved.set_text("11111\n111\n");
+        return 1;
+    } catch (const faultsim::Error &error) {
+        if (std::string_view(error.what()) != "tests line 2: wrong width")
+            return 1;
+    }
     bool well = fails_with(FS_NO_JOB, [&] { job.sizes(); })
         && fails_with(FS_RANGE, [&] { moved.detecting(1000, 0); })
         && fails_with(FS_REFUSED, [&] { moved.set_text("111\n"); })

@@ -8,6 +8,7 @@
 #include "faultsim.h"
 
 #include <cstdint>
+#include <iterator>
 #include <new>
 #include <optional>
 #include <span>
@@ -38,13 +39,36 @@ private:
     static std::string text_of(std::uint32_t status, fs_fault fault) {
         switch (status) {
         case FS_NO_JOB: return "no job";
-        case FS_REFUSED:
-            return "wrong text or words: kind " + std::to_string(fault.kind) + ", place "
-                + std::to_string(fault.place);
+        case FS_REFUSED: return text_of(fault);
         case FS_RANGE: return "a number or a length is out of range";
         case FS_SHARED: return "another handle shares the job";
         default: return "status " + std::to_string(status);
         }
+    }
+
+    // What is wrong; the place is for the braces.
+    static std::string text_of(fs_fault fault) {
+        static constexpr const char *kinds[] = {
+            "unknown",
+            "bench: more bytes than the limit",
+            "bench: more signals than the limit",
+            "bench: more pins than the limit",
+            "bench line {}: syntax",
+            "bench line {}: name defined before",
+            "bench line {}: name not defined",
+            "bench line {}: gate on a cycle, or fed by one",
+            "bench: no line",
+            "tests line {}: not 0 or 1",
+            "tests line {}: wrong width",
+            "tests: more than 65,536 rows",
+            "words: more than 65,536 tests",
+            "words: wrong number of words",
+            "words: source {} has a bit past the last test",
+        };
+        std::string text = kinds[fault.kind < std::size(kinds) ? fault.kind : 0];
+        if (auto braces = text.find("{}"); braces != text.npos)
+            text.replace(braces, 2, std::to_string(fault.place));
+        return text;
     }
 };
 

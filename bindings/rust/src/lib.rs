@@ -36,16 +36,32 @@ pub enum Error {
     Shared,
 }
 
+/// What is wrong, by the kind of a [`Fault`]; its place is for the braces.
+const KINDS: [&str; 15] = [
+    "unknown",
+    "bench: more bytes than the limit",
+    "bench: more signals than the limit",
+    "bench: more pins than the limit",
+    "bench line {}: syntax",
+    "bench line {}: name defined before",
+    "bench line {}: name not defined",
+    "bench line {}: gate on a cycle, or fed by one",
+    "bench: no line",
+    "tests line {}: not 0 or 1",
+    "tests line {}: wrong width",
+    "tests: more than 65,536 rows",
+    "words: more than 65,536 tests",
+    "words: wrong number of words",
+    "words: source {} has a bit past the last test",
+];
+
 impl fmt::Display for Error {
     fn fmt(&self, to: &mut fmt::Formatter<'_>) -> fmt::Result {
         match self {
             Error::Memory => write!(to, "out of memory"),
             Error::Refused(fault) => {
-                write!(
-                    to,
-                    "wrong text or words: kind {}, place {}",
-                    fault.kind, fault.place
-                )
+                let kind = KINDS.get(fault.kind as usize).unwrap_or(&KINDS[0]);
+                write!(to, "{}", kind.replace("{}", &fault.place.to_string()))
             }
             Error::OutOfRange => write!(to, "a number or a length is out of range"),
             Error::Shared => write!(to, "another job shares the tests"),

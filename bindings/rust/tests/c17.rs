@@ -57,7 +57,16 @@ fn two_threads_share_a_job() -> Result<(), Error> {
 fn errors_name_the_line() {
     let wrong = Job::read(Model::StuckAt, b"INPUT(a)\nz = AND(a, b)\n").err();
     assert_eq!(wrong, Some(Error::Refused(Fault { kind: 6, place: 2 })));
+    let said = wrong.map(|it| it.to_string());
+    assert_eq!(said.as_deref(), Some("bench line 2: name not defined"));
     let mut job = Job::read(Model::StuckAt, C17).expect("read");
+    let idle = job
+        .set_words(1, &[1, 1, 1, 1, 2])
+        .expect_err("a bit is idle");
+    assert_eq!(
+        idle.to_string(),
+        "words: source 4 has a bit past the last test"
+    );
     assert_eq!(job.simulate(&[1000]), Err(Error::OutOfRange));
     assert_eq!(job.detecting(0, 0), Err(Error::OutOfRange));
     assert_eq!(job.name_of(5), Ok("10".to_string()));
