@@ -35,7 +35,13 @@ Text = Union[str, bytes]
 
 
 class Model(enum.IntEnum):
-    """A fault model."""
+    """A fault model.
+
+    STUCK_AT: a line is stuck at 0 or at 1.
+    TRANSITION: a line is slow to rise or to fall; each test is the capture test of the one before
+    it.
+    TRANSITION_PAIRS: the same; tests 2k and 2k + 1 are a launch/capture pair.
+    """
 
     STUCK_AT = 0
     TRANSITION = 1
