@@ -153,19 +153,21 @@ class Threads(unittest.TestCase):
             job.set_tests("11\n")
 
     def test_threads_of_one_job(self):
-        with faultsim.Job(C17) as job:
-            job.set_tests("11111\n" * 64)
+        # A chain long enough for the calls of several threads to meet.
+        gates = "".join(f"n{i} = XOR(n{i - 1}, {'ab'[i % 2]})\n" for i in range(1, 500))
+        with faultsim.Job("INPUT(a)\nINPUT(b)\nOUTPUT(n499)\nn0 = NAND(a, b)\n" + gates) as job:
+            job.set_tests("00\n01\n10\n11\n")
             wanted, found = list(job.simulate()), []
 
             def run():
-                found.extend(list(job.simulate()) for _ in range(200))
+                found.extend(list(job.simulate()) for _ in range(10))
 
             threads = [threading.Thread(target=run) for _ in range(4)]
             for it in threads:
                 it.start()
             for it in threads:
                 it.join()
-            self.assertEqual(found, [wanted] * 800)
+            self.assertTrue(len(found) == 40 and all(it == wanted for it in found))
 
     def test_jobs_of_two_threads(self):
         found = []
