@@ -4,30 +4,30 @@
     bench/compare.py [--designs] [--hard] [--workers] [--counts] [--model M] [--rounds N]
                      [--only WORD] [--processor] [--program FILE | --built]
 
-It builds baseline.cpp with g++ and the program with `rt run`, makes circuits and tests with
-generate.py in a temporary folder (circuits of designs/ are unpacked), and runs in turn the program,
-the baseline by events, the baseline by regions with all of its options (`--algorithm regions --prune
---groups`), and the baseline by packs (`--algorithm packs`), which has one worker alone. For each case
-it prints the ratios of the least times: ours beside the baseline by events, by regions, by packs, and
-with --no-trim, which looks at whole blocks; and the most memory that ours and the baseline by events
-had. Times depend on the machine, so their ratios alone are printed. With --processor those of
-different programs are of processor time, which says more on a machine that does something else too.
+It builds baseline.cpp with g++ and the program with `rt run`, and makes circuits and tests with
+generate.py in a temporary folder (circuits of designs/ are unpacked). It runs in turn the program, the
+baseline by events, the baseline by regions with all of its options (`--algorithm regions --prune
+--groups`), and the baseline by packs (`--algorithm packs`), which has only one worker. For each case it
+prints the ratios of our least time to the baseline's: by events, by regions, by packs, and with
+--no-trim, which simulates whole blocks; and the peak memory of ours and of the baseline by events. It
+prints only ratios, since times depend on the machine. --processor uses processor time for different
+programs, which is more reliable on a busy machine.
 
 Without an option it runs the short cases, with --hard the long ones, and with --designs those of
-designs/: real designs, and structured circuits from Verilog. With --workers it runs the
-cases for several workers, each with 1, 2 and 4 against the baseline with as many, and prints how much
-faster each program is than its own run with 1 worker: as a whole, and in the simulation alone. Of the
-program that is the time from the start of its first thread to the end of its last (threads.c), of the
-baseline what it tells of it (--time). It also prints how much processor time each takes beside its
-run with 1 worker, which says what sharing the work costs even where the processors are busy with
-something else. And it runs as many programs of one worker at once, which share nothing but the
-machine: how much faster these are, together, is the most that a run with so many workers can be
-expected to be.
+designs/: real designs, and structured circuits from Verilog.
 
-With --counts it prints how many gates the baseline evaluates by events, and what part of that number
-it evaluates by regions and by packs. These depend on no machine, and the program isn't built for them.
---only takes the name of any case, or a part of a title. --built takes the program that stands in
-out/ already, and --program another one.
+With --workers it runs the cases for several workers, each with 1, 2 and 4 against the baseline with as
+many. It prints the speedup of each program over its own run with 1 worker, for the whole run and for
+the simulation: from the start of the first thread to the end of the last (ours: threads.c; the
+baseline: --time). It prints the processor time as a ratio to the run with 1 worker, too: the overhead
+of sharing the work, even if the processors are busy. And it runs as many programs of one worker at
+once, which share only the machine: their speedup is the most that a run with so many workers can
+reach.
+
+With --counts it prints how many gates the baseline evaluates by events, and the fraction of it by
+regions and by packs. These don't depend on the machine, and the program isn't built for them.
+--only takes the name of a case, or a part of a title. --built takes the program in out/, and --program
+another one.
 """
 
 import argparse

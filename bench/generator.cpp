@@ -3,13 +3,13 @@
 //   g++ -O3 -march=x86-64-v2 -std=c++17 -pthread generator.cpp -o generator
 //   generator BENCH [stuck|transition] [SEED] [MOST] > TESTS
 //
-// It does what `faultgen` does, in one thread. It tries rounds of 20 blocks of random tests. A class is
-// simulated by events, block after block, up to the first that detects it; of the tests of that block
-// that detect it one is kept, unless one that is kept already does. It ends where no class is left, or
-// after a round without news. Stuck-at tests are then turned round and sorted three times by how many
-// faults each is the first to detect. Of the first MOST those are left that are needed: the first for
-// some fault, and for stuck-at faults the last for some fault, too. The tests go to standard output, the
-// seconds and counts to standard error.
+// It does the same as `faultgen`, in one thread. It tries rounds of 20 blocks of random tests. A class is
+// simulated by events, block after block, up to the first that detects it; one test of that block that
+// detects it is kept, unless a kept one already does. It ends if no class is left, or after a round without
+// new detections. Stuck-at tests are then reversed and sorted three times by how many faults each is the
+// first to detect. Of the first MOST, the needed ones remain: the first for some fault, and for stuck-at
+// faults the last for some fault, too. The tests go to standard output, the seconds and counts to standard
+// error.
 
 #include <algorithm>
 #include <chrono>

@@ -7,7 +7,7 @@
 It writes the circuit as Verilog primitives (Debian: iverilog), in which each stem and each branch
 is a net of its own. For each fault of the list (--sample: of N of them, drawn at random) Icarus
 forces the net to its bit, applies the tests from the first on, and stops at the first whose outputs
-or data pins differ from those without a fault. So nothing is collapsed, packed or dropped there. It
+or data pins differ from the fault-free ones. So nothing is collapsed, packed or dropped there. It
 also compares the fault-free bits with `responses`. FILE is the program
 (crates/faultsim/out/faultsim). N jobs (4) share the faults. The last line counts. Status: 0 without
 a difference, 1 with one, 3 if iverilog is missing.

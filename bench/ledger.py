@@ -1,11 +1,11 @@
 #!/usr/bin/env python3
-"""Times what the ledgers take beside the simulation of the same pieces.
+"""Compares the time of the ledgers with the simulation of the same pieces.
 
     bench/ledger.py [--only WORD]
 
 It puts the crates and the program `ledger_times.rt.txt` into a temporary folder, builds the program with
-`rt run`, and runs it on circuits of generate.py with 65,536 tests, all of them 0 on every source: most
-classes are then clear on each of 1,024 blocks, and each drop that is tried looks at all earlier ones.
+`rt run`, and runs it on circuits of generate.py with 65,536 tests of zeros: most classes are then clear
+on each of 1,024 blocks, and each drop that is tried looks at all earlier blocks.
 """
 
 import argparse

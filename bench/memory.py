@@ -1,13 +1,13 @@
 #!/usr/bin/env python3
-"""Runs `faultsim` where memory is refused, and checks how it ends.
+"""Runs `faultsim` with too little memory, and checks how it ends.
 
     bench/memory.py [--only WORD]
 
 It runs crates/faultsim/out/faultsim, which `rt run` builds, under limits of its address space, from
-too small to ample. A run must end by itself within its time: either with `faultsim: out of memory` on
-standard error (or `faultsim: thread refused`, where the memory that is refused is a thread's stack),
-nothing on standard output and status 3, or with the answer that it gives without a limit, which is
-also that of baseline.cpp. A run that a signal ends, or that says anything else, fails.
+too small to ample. A run must end by itself within its time. It must either print `faultsim: out of
+memory` on standard error (or `faultsim: thread refused`, if a thread's stack gets no memory) and nothing
+on standard output, with status 3, or print the same as without a limit, and as baseline.cpp. A run that a
+signal ends, or that prints anything else, fails.
 """
 
 import argparse

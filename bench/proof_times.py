@@ -1,8 +1,8 @@
 #!/usr/bin/env python3
-"""Lists what took long in the last `rt check` of a crate, by the times of the files that it kept.
+"""Lists the slowest modules of the last `rt check` of a crate, by the times of the files that it kept.
 
-A check writes a file as soon as a module is checked, so the time since the file before is about what
-the module took. Run `rt check --jobs 1` (or with `--test`) in the crate first, on a quiet machine.
+A check writes a file as soon as a module is checked, so the time since the file before is about the time
+of the module. Run `rt check --jobs 1` (or with `--test`) in the crate first, on a quiet machine.
 
     bench/proof_times.py CRATE.. [--least SECONDS] [--minutes M]
 

@@ -1,19 +1,19 @@
 #!/usr/bin/env python3
-"""Lets each allocation and each start of a thread be refused in turn: of the program, on C17, and
-of the library's calls.
+"""Makes each allocation and each start of a thread fail in turn: in the program, on C17, and in the
+library's calls.
 
     bench/refusals.py [--program] [--calls] [--built]
     bench/refusals.py --quick PROGRAM
 
-It builds refuse.c with gcc and runs with it, as LD_PRELOAD, the program that `rt run` builds and
+It builds refuse.c with gcc and preloads it (LD_PRELOAD) into the program that `rt run` builds and
 the test `once::each_call_that_was_refused_succeeds_again` that `rt test` builds in memory_tests
-(--built: that stand in out/ already): with the first refused, then with the second and so on, until
-nothing was refused. Each run of the program must end with status 3, `out of memory` or `thread
-refused`, and nothing on standard output (with --format a beginning of the table), or do what it
-does with no refusal. Each run of the test must pass, but where it could not set up what its calls
-need. With --quick it runs PROGRAM alone, and builds no other; that takes less than a minute.
+(--built: the ones in out/). The first allocation fails, then in the next run the second, and so on,
+until none fails. Each run of the program must end with status 3, `out of memory` or `thread
+refused`, and nothing on standard output (with --format a prefix of the table), or do the same as
+without a failure. Each run of the test must pass, unless it couldn't set up its calls. With --quick it
+runs only PROGRAM, and builds no other; that takes less than a minute.
 
-Status: 0 where all did so, 1 where a run did anything else, 3 where there is no gcc.
+Status: 0 if all runs did so, 1 if one did anything else, 3 if there is no gcc.
 """
 
 import argparse

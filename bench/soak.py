@@ -1,12 +1,13 @@
 #!/usr/bin/env python3
-"""Runs `faultsim` in many threads on many small random circuits, and compares what it writes.
+"""Runs `faultsim` in many threads on many small random circuits, and compares the reports.
 
     bench/soak.py [--runs N] [--seed N] [--built]
 
-It builds baseline.cpp with g++ and the program with `rt run`, as compare.py does; --built takes the program that stands
-in out/ already. Each run is of a circuit of generate.py's `tiny_circuit` or of 10 to 200 random gates, with 1 to 300
-tests, of one of the fault models, and of 2 to 64 workers with one to three parts each. What the program writes with the list, and its status, must be the same byte for byte as with
-`--workers 1` and as the baseline's. It ends with status 1 at the first run that differs, and names its seed.
+It builds baseline.cpp with g++ and the program with `rt run`, as compare.py does; --built takes the program
+in out/. Each run has a circuit of generate.py's `tiny_circuit` or of 10 to 200 random gates, 1 to 300 tests,
+one of the fault models, and 2 to 64 workers with one to three parts each. The report with the list, and
+the status, must be byte for byte the same as with `--workers 1` and as the baseline's. It ends with status 1
+at the first run that differs, and prints its seed.
 """
 
 import argparse
