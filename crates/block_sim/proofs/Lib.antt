@@ -60,5 +60,7 @@ mod ReorderedGates
 mod ArrangedRows
 pub mod Public
 mod Ways
+mod KnownWords
+mod SensitizedLanes
 mod Groups
 mod PartsOfJobs

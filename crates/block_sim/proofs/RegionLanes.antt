@@ -254,6 +254,27 @@ crossed c tests group f good lanes s g diff word kind pins before delta well wor
     (λ x ne. ap (λ d. slice_index_or d x 0) is ∙ (get_or-set_other before s x diff 0 ne
     ∙ index_zero before x clear)) valued f lanes come
 
+-- in the lanes of that change the word tells which tests the gate lets it pass under
+pub crossed_where : (c : List Statement) (tests : List Test) (group : ℕ) (good : List ℕ)
+    (lanes s g diff word : ℕ) (kind : Kind) (pins before delta : List ℕ) → IsWellFormed c
+    → AreWords c tests group None good
+    → IsReadBy c g s → gate_of c g ≡ Some (kind, pins) → All (λ x. x ≡ 0) before → s < length before
+    → delta ≡ set before s diff
+    → ((k : ℕ) → k < 128 → lane word k ≡ value kind (pin_bits None g pins good delta k))
+    → (k : ℕ) → k < 128 → lane diff k ≡ true
+    → Decides (lane (bit_and (bit_xor word (slice_index_or good g 0)) lanes) k)
+    ((lane lanes k ≡ true) × Passes c (test_of tests group k) s g)
+crossed_where c tests group good lanes s g diff word kind pins before delta well words h gate clear
+    within is valued k lt e =
+    let turns = turned_lanes word (slice_index_or good g 0) lanes k (lane word k) refl in
+    let over = passed c well tests group good words s g h kind pins gate delta diff word
+    (ap (λ d. slice_index_or d s 0) is ∙ get_or-set_same before s diff 0 within)
+    (λ x ne. ap (λ d. slice_index_or d x 0) is ∙ (get_or-set_other before s x diff 0 ne
+    ∙ index_zero before x clear)) valued k lt e in (
+      λ x. (let both = turns.0 x in (both.0, over.1 both.1)),
+      λ p. turns.1 (p.0, over.0 p.1),
+    )
+
 -- a fault that has come in no lane comes on in none
 pub come_nowhere : (c : List Statement) (tests : List Test) (group : ℕ) (f : Fault)
     (lanes s g diff : ℕ) → diff ≡ 0 → HasCome c tests group f lanes s diff

@@ -2,19 +2,20 @@
 //! the signal before it, to the stem; and the stem turned round for all that came to it.
 
 ghost use Rattle.std.specs.Prelude.{◌≡◌, ◌≢◌, ℕ, ◌+◌, ◌<◌, ◌≤◌, Contains, List, None, true};
-ghost use Rattle.std.specs.Prelude.{length};
+ghost use Rattle.std.specs.Prelude.{Some, length};
+ghost use Rattle.std.specs.Bool.{Decides};
 ghost use Rattle.bench_net.specs.Scan.{names};
 ghost use Rattle.fault_model.specs.Fault.{Fault, faults};
 ghost use Rattle.fault_model.specs.Solution.{Test};
 ghost use Rattle.block_sim.specs.Changes.{HasRoomFor, IsAsLarge, IsClear};
 ghost use Rattle.block_sim.specs.Origins.{Carries};
 ghost use Rattle.block_sim.specs.Regions.{HasCome, IsReached, IsReadBy, IsStemOf, IsStemOfLine};
-ghost use Rattle.block_sim.specs.Regions.{TellsFirstFlips};
+ghost use Rattle.block_sim.specs.Regions.{Passes, TellsFirstFlips, way_from};
 ghost use Rattle.block_sim.specs.Spans.{AreInSpan, group_of};
 ghost use Rattle.block_sim.specs.declared.span.Span.{Span};
 ghost use Rattle.block_sim.specs.Stuck.{stuck_fault};
 ghost use Rattle.block_sim.specs.Ways.{HasActiveByFlip, IsWay, IsWayOfLine};
-ghost use Rattle.block_sim.specs.Words.{lane, AreWords, HasWords};
+ghost use Rattle.block_sim.specs.Words.{lane, test_of, AreWords, HasWords};
 
 use crate::changes::Changes;
 use crate::effect::gate_change;
@@ -34,7 +35,7 @@ pub struct Arrival {
 /// The lanes in which a fault comes over the gate that alone reads a signal, of those in which it
 /// has come to the signal. There is one at least.
 #[inline(always)]
-fn cross(view: BlockView<'_>, at: Arrival, gate: u32, changes: &mut Changes) -> u128
+pub fn cross(view: BlockView<'_>, at: Arrival, gate: u32, changes: &mut Changes) -> u128
     requires view { HasWords view.circuit.now.arranged view.good.now }
     requires room { HasRoomFor view.circuit.now.arranged changes.old }
     requires clear { IsClear changes.old }
@@ -44,6 +45,12 @@ fn cross(view: BlockView<'_>, at: Arrival, gate: u32, changes: &mut Changes) -> 
         → AreWords view.entry.circuit.now.arranged tests group None view.entry.good.now
         → HasCome view.entry.circuit.now.arranged tests group f view.entry.lanes at.signal at.lanes
         → HasCome view.entry.circuit.now.arranged tests group f view.entry.lanes gate result }
+    ensures passed { (tests : List Test) (group k : ℕ)
+        → AreWords view.entry.circuit.now.arranged tests group None view.entry.good.now
+        → k < 128 → lane at.lanes k ≡ true
+        → Decides (lane result k) ((lane view.entry.lanes k ≡ true)
+        × Passes view.entry.circuit.now.arranged (test_of tests group k) at.signal gate) }
+    ensures inside { (k : ℕ) → lane result k ≡ true → lane view.entry.lanes k ≡ true }
     ensures counted { changes.new.evaluations ≤ changes.old.evaluations + 1 }
     ensures grown { changes.old.evaluations ≤ changes.new.evaluations }
     ensures room { IsAsLarge changes.old changes.new }
@@ -119,6 +126,60 @@ pub enum Reach {
     Stem(Arrival),
 }
 
+/// Follows a fault from its line to the first signal that it can turn: a fault on a signal to that,
+/// one on a gate's pin to the gate's signal. One on an observer's line is detected where it turns
+/// that.
+#[inline(always)]
+pub fn set_out(view: BlockView<'_>, origin: Origin, changes: &mut Changes) -> Reach
+    requires view { HasWords view.circuit.now.arranged view.good.now }
+    requires words { (tests : List Test) × (group : ℕ)
+        × AreWords view.circuit.now.arranged tests group None view.good.now }
+    requires listed { Contains (faults origin.fault.model view.circuit.now.arranged)
+        (stuck_fault origin.fault) }
+    requires carried { Carries view.circuit.now.arranged origin.fault.line origin.carried }
+    requires room { HasRoomFor view.circuit.now.arranged changes.old }
+    requires clear { IsClear changes.old }
+    ensures reached { (tests : List Test) (group : ℕ)
+        → AreWords view.entry.circuit.now.arranged tests group None view.entry.good.now
+        → IsReached view.entry.circuit.now.arranged tests group (stuck_fault origin.fault)
+        view.entry.lanes result }
+    ensures signal { (at : Arrival) → result ≡ Reach.Stem at
+        → at.signal < length (names view.entry.circuit.now.arranged) }
+    ensures from { (at : Arrival) → result ≡ Reach.Stem at
+        → way_from view.entry.circuit.now.arranged origin.fault.line ≡ Some at.signal }
+    ensures seen { (word : ℕ) → result ≡ Reach.Observed word
+        → changes.new.evaluations ≡ changes.old.evaluations }
+    ensures left { (at : Arrival) (way : ℕ) → result ≡ Reach.Stem at
+        → IsWayOfLine view.entry.circuit.now.arranged origin.fault.line way
+        → (more : ℕ) × IsWay view.entry.circuit.now.arranged at.signal more
+        × (changes.new.evaluations + more ≤ changes.old.evaluations + way) }
+    ensures grown { changes.old.evaluations ≤ changes.new.evaluations }
+    ensures room { IsAsLarge changes.old changes.new }
+    ensures clear { IsClear changes.new }
+{
+    let fault = origin.fault;
+    let excited = (fault.word() ^ view.good[origin.carried as usize]) & view.lanes;
+    if excited == 0 {
+        return Reach::Observed(0);
+    }
+    match fault.line {
+        Line::Stem(start) => {
+            Reach::Stem(Arrival {
+                signal: start,
+                lanes: excited,
+            })
+        }
+        Line::Pin { gate, pin: _ } => {
+            let lanes = gate_change(view, fault, gate, changes);
+            Reach::Stem(Arrival {
+                signal: gate,
+                lanes,
+            })
+        }
+        Line::Data { .. } | Line::Out { .. } => Reach::Observed(excited),
+    }
+}
+
 /// Follows a fault from its line to the stem of its region: a fault on a signal from that, one on a
 /// gate's pin from the gate's signal. One on an observer's line is detected where it turns that.
 pub fn follow(view: BlockView<'_>, origin: Origin, changes: &mut Changes) -> Reach
@@ -144,28 +205,9 @@ pub fn follow(view: BlockView<'_>, origin: Origin, changes: &mut Changes) -> Rea
     ensures room { IsAsLarge changes.old changes.new }
     ensures clear { IsClear changes.new }
 {
-    let fault = origin.fault;
-    let excited = (fault.word() ^ view.good[origin.carried as usize]) & view.lanes;
-    if excited == 0 {
-        return Reach::Observed(0);
-    }
-    match fault.line {
-        Line::Stem(start) => {
-            let from = Arrival {
-                signal: start,
-                lanes: excited,
-            };
-            Reach::Stem(arrive(view, from, changes))
-        }
-        Line::Pin { gate, pin: _ } => {
-            let lanes = gate_change(view, fault, gate, changes);
-            let from = Arrival {
-                signal: gate,
-                lanes,
-            };
-            Reach::Stem(arrive(view, from, changes))
-        }
-        Line::Data { .. } | Line::Out { .. } => Reach::Observed(excited),
+    match set_out(view, origin, changes) {
+        Reach::Observed(word) => Reach::Observed(word),
+        Reach::Stem(from) => Reach::Stem(arrive(view, from, changes)),
     }
 }
 

@@ -1,7 +1,7 @@
 //! The first tests of the classes of a list, found out region by region.
 
 ghost use Rattle.std.specs.Prelude.{◌≡◌, ◌⊎◌, ◌+◌, ◌^◌, ◌<◌, ◌≤◌, ℕ, All, Contains, IfOk, List};
-ghost use Rattle.std.specs.Prelude.{[], Some, length, slice_get, slice_set, vec_capacity, vec_len};
+ghost use Rattle.std.specs.Prelude.{[], None, Some, length, slice_get, slice_set, vec_capacity, vec_len};
 ghost use Rattle.std.specs.List.{sum_by};
 ghost use Rattle.bench_net.specs.Scan.{names};
 ghost use Rattle.patterns.specs.Tests.{blocks};
@@ -11,16 +11,21 @@ ghost use Rattle.block_sim.specs.RegionHits.{AreConcluded, AreFollowedAt, HaveFi
 ghost use Rattle.block_sim.specs.RegionHits.{HaveFirstsBut, HaveStem, IsEndOfRegion, IsFollowedAt};
 ghost use Rattle.block_sim.specs.RegionHits.{IsFoundOrFollowed, IsTestOf, ServesRegions};
 ghost use Rattle.block_sim.specs.RegionHits.{open_between};
-ghost use Rattle.block_sim.specs.Simulation.{AreFollowed};
+ghost use Rattle.block_sim.specs.Sensitized.{HasBegun, IsSameRegion, IsViewOf};
+ghost use Rattle.block_sim.specs.Simulation.{AreFollowed, IsApproach};
 ghost use Rattle.block_sim.specs.Spans.{IsSpan, group_of, span_of};
-ghost use Rattle.block_sim.specs.Ways.{AreWays, HasActiveByFlip};
+ghost use Rattle.block_sim.specs.Ways.{AreWays, HasActiveByFlip, IsWayOfClass};
 
 use crate::changes::Changes;
 use crate::job::Job;
-use crate::origin::Listed;
-use crate::simulation::{Approach, flip_stem, follow_from};
+use crate::look_back::lanes_that_fit;
+use crate::origin::{Listed, origin_of};
+use crate::region::{Arrival, Reach};
+use crate::sensitized::{Sensitized, follow_within};
+use crate::simulation::{Approach, flip_stem};
 use crate::span::Span;
 use crate::spread::Followed;
+use crate::view::BlockView;
 use std::alloc::{AllocError, Global};
 use std::marker::Model;
 
@@ -35,12 +40,13 @@ pub struct RegionSimulation {
     changes: Changes,
     followed: Vec<Followed>,
     hits: Vec<Option<u32>>,
+    region: Sensitized,
 }
 
 impl Model for RegionSimulation {
     ghost use Rattle.std.specs.Prelude.{length, vec_capacity};
-    ghost use Rattle.block_sim.specs.Changes.{IsAtRest};
     ghost use Rattle.block_sim.specs.RegionHits.{RegionsSimulated};
+    ghost use Rattle.block_sim.specs.Sensitized.{IsReady};
 
     ghost Value = { RegionsSimulated };
 
@@ -51,7 +57,7 @@ impl Model for RegionSimulation {
       capacity = vec_capacity s.followed;
     } };
 
-    ghost invariant = { λ s. IsAtRest s.changes };
+    ghost invariant = { λ s. IsReady s.changes s.region };
 }
 
 impl RegionSimulation {
@@ -60,15 +66,19 @@ impl RegionSimulation {
     pub fn new(alloc: Global, job: &Job) -> Result<RegionSimulation, AllocError>
         ensures serves { IfOk result (λ simulation. ServesRegions simulation job.now) }
         ensures fresh { IfOk result (λ simulation. simulation.evaluations ≡ 0) }
+        ensures none { IfOk result (λ simulation. All (λ hit. hit ≡ None) simulation.hits) }
     {
         let classes = job.classes().count() as usize;
-        let changes = Changes::new(alloc, job.circuit().signals())?;
+        let signals = job.circuit().signals();
+        let changes = Changes::new(alloc, signals)?;
         let followed = Vec::with_capacity(alloc, classes)?;
         let hits = vec![in alloc; None; classes]?;
+        let region = Sensitized::new(alloc, signals)?;
         Ok(RegionSimulation {
             changes,
             followed,
             hits,
+            region,
         })
     }
 
@@ -115,6 +125,8 @@ impl RegionSimulation {
             firsts.now from result self.new.hits }
         ensures others { (place : ℕ) → (place < from) ⊎ (result ≤ place)
             → slice_get self.new.hits place ≡ slice_get self.old.hits place }
+        ensures known { (place test : ℕ) → slice_get firsts.now place ≡ Some (Some test)
+            → slice_get self.new.hits place ≡ slice_get self.old.hits place }
         ensures serves { ServesRegions self.new job.now }
         ensures counted { (way : ℕ → ℕ) (first : Listed) (gates : List ℕ) → AreWays job.now way
             → slice_get rows.now from ≡ Some first
@@ -127,11 +139,16 @@ impl RegionSimulation {
         let span = Span::from(job.tests(), block);
         let stem = row_at(rows, from).stem;
         let end = end_of_region(rows, from);
+        let view = view_of(job, span);
         self.followed.clear();
+        let region = &mut self.region;
         let changes = &mut self.changes;
         let followed = &mut self.followed;
         let hits = self.hits.as_mut_slice();
-        follow_region(job, span, rows, from, end, firsts, changes, followed, hits);
+        region.begin(view, view.circuit.place_of(stem));
+        follow_region(
+            job, view, span, rows, from, end, firsts, region, changes, followed, hits,
+        );
         let all = followed.as_slice();
         let seen = flip_stem(job, span, stem, all, changes);
         conclude(span, seen, all, hits);
@@ -162,14 +179,30 @@ fn end_of_region(rows: &[Listed], from: usize) -> usize
     rows.len()
 }
 
+/// The circuit as the job's simulation reads it, with the words of a span's group and the lanes of
+/// its tests.
+fn view_of(job: &Job, span: Span) -> BlockView<'_>
+    requires { IsSpan (length job.now.tests.tests) span }
+    ensures { IsViewOf job.now span result }
+{
+    let words = job.words();
+    BlockView {
+        circuit: words.circuit,
+        good: words.of(span.first / 2),
+        lanes: span.test_lanes(job.tests()),
+    }
+}
+
 /// Follows the classes of a region that are open, which stand from one place up to another.
 fn follow_region(
     job: &Job,
+    view: BlockView<'_>,
     span: Span,
     rows: &[Listed],
     from: usize,
     to: usize,
     firsts: &[Option<u32>],
+    region: &mut Sensitized,
     changes: &mut Changes,
     followed: &mut Vec<Followed>,
     hits: &mut [Option<u32>],
@@ -186,6 +219,9 @@ fn follow_region(
     requires capacity { length rows.now ≤ vec_capacity followed.old }
     requires none { followed.old.items ≡ [] }
     requires len { vec_len followed.old ≡ 0 }
+    requires view { IsViewOf job.now span view }
+    requires begun { (stem : ℕ) × HaveStem rows.now from to stem
+        × HasBegun job.now view stem region.old }
     ensures found { HaveFirstsBut job.now span rows.now firsts.now followed.new.items from to
         hits.new }
     ensures at { AreFollowedAt rows.now from to followed.new.items }
@@ -193,6 +229,11 @@ fn follow_region(
         → AreFollowed job.now span stem followed.new.items }
     ensures others { (place : ℕ) → (place < from) ⊎ (to ≤ place)
         → slice_get hits.new place ≡ slice_get hits.old place }
+    ensures known { (place test : ℕ) → slice_get firsts.now place ≡ Some (Some test)
+        → slice_get hits.new place ≡ slice_get hits.old place }
+    ensures open { (one : Followed) → Contains followed.new.items one
+        → slice_get firsts.now one.place ≡ Some None }
+    ensures same { IsSameRegion region.old region.new }
     ensures places { length hits.new ≡ length hits.old }
     ensures capacity { vec_capacity followed.new ≡ vec_capacity followed.old }
     ensures counted { (way : ℕ → ℕ) → AreWays job.now way
@@ -208,7 +249,7 @@ fn follow_region(
             None => {}
         }
         let row = row_at(rows, place);
-        follow_row(job, span, row, place, changes, followed, hits);
+        follow_row(job, view, span, row, place, region, changes, followed, hits);
     }
 }
 
@@ -223,9 +264,11 @@ fn first_at(firsts: &[Option<u32>], place: usize) -> Option<u32>
 /// Follows one class of a region, and keeps its first test where that is known at once.
 fn follow_row(
     job: &Job,
+    view: BlockView<'_>,
     span: Span,
     row: Listed,
     place: usize,
+    region: &mut Sensitized,
     changes: &mut Changes,
     followed: &mut Vec<Followed>,
     hits: &mut [Option<u32>],
@@ -237,23 +280,74 @@ fn follow_row(
     requires row { IsListed job.now row }
     requires place { place < length hits.old }
     requires capacity { vec_len followed.old < vec_capacity followed.old }
+    requires view { IsViewOf job.now span view }
+    requires begun { HasBegun job.now view row.stem region.old }
     ensures found { IsFoundOrFollowed job.now span row place followed.old.items followed.new.items
         hits.old hits.new }
     ensures len { vec_len followed.new ≤ vec_len followed.old + 1 }
     ensures capacity { vec_capacity followed.new ≡ vec_capacity followed.old }
     ensures counted { (way : ℕ → ℕ) → AreWays job.now way
         → changes.new.evaluations ≤ changes.old.evaluations + way row.class }
+    ensures begun { HasBegun job.now view.entry row.stem region.new }
+    ensures same { IsSameRegion region.old region.new }
     ensures grown { changes.old.evaluations ≤ changes.new.evaluations }
     ensures room { IsAsLarge changes.old changes.new }
     ensures clear { IsClear changes.new }
 {
-    match follow_from(job, row.representative, span, changes) {
+    match follow_listed(job, view, span, row, region, changes) {
         Approach::Known(word) => keep(hits, place, test_of(span, word)),
         Approach::Stem(at) => followed.push_reserved(Followed {
             class: row.class,
             place,
             lanes: at.lanes,
         }),
+    }
+}
+
+/// Follows a class to the stem of its region, with which was begun.
+fn follow_listed(
+    job: &Job,
+    view: BlockView<'_>,
+    span: Span,
+    row: Listed,
+    region: &mut Sensitized,
+    changes: &mut Changes,
+) -> Approach
+    requires span { IsSpan (length job.now.tests.tests) span }
+    requires room { HasRoomFor job.now.circuit changes.old }
+    requires clear { IsClear changes.old }
+    requires row { IsListed job.now row }
+    requires view { IsViewOf job.now span view }
+    requires begun { HasBegun job.now view row.stem region.old }
+    ensures approach { IsApproach job.now row.class span result }
+    ensures stem { (at : Arrival) → result ≡ Approach.Stem at → at.signal ≡ row.stem }
+    ensures counted { (way : ℕ) → IsWayOfClass job.now.list.model job.now.circuit row.class way
+        → changes.new.evaluations ≤ changes.old.evaluations + way }
+    ensures begun { HasBegun job.now view.entry row.stem region.new }
+    ensures same { IsSameRegion region.old region.new }
+    ensures grown { changes.old.evaluations ≤ changes.new.evaluations }
+    ensures room { IsAsLarge changes.old changes.new }
+    ensures clear { IsClear changes.new }
+{
+    let lanes = view.lanes & lanes_that_fit(job, span.first / 2, row.representative);
+    let own = BlockView {
+        circuit: view.circuit,
+        good: view.good,
+        lanes,
+    };
+    let origin = origin_of(view.circuit, row.representative);
+    match follow_within(own, origin, region, changes) {
+        Reach::Observed(word) => Approach::Known(word),
+        Reach::Stem(at) => {
+            let lanes = lanes & at.lanes;
+            if lanes == 0 {
+                return Approach::Known(0);
+            }
+            Approach::Stem(Arrival {
+                signal: row.stem,
+                lanes,
+            })
+        }
     }
 }
 

@@ -4,7 +4,8 @@ use Rattle.fault_model.specs.Solution.{value}
 use Rattle.block_sim.specs.Words.{lane, pin_bits}
 use Rattle.block_sim.proofs.Equations.{pins_within, pins_few, pins_some}
 use Rattle.block_sim.proofs.Readers.{reader_within}
-use Rattle.block_sim.proofs.RegionLanes.{crossed, read_within, reader_driven}
+use Rattle.block_sim.proofs.RegionLanes.{crossed, crossed_where, read_within, reader_driven}
+use Rattle.block_sim.proofs.Steps.{only_lanes}
 use Rattle.block_sim.proofs.region.cross.Goals as goal
 
 pub gate_of-requires : goal.gate_of-requires
@@ -72,3 +73,31 @@ returns-clause-come c = λ tests group f words come.
     c.change.new.self
     c.requires.view.circuit.well_formed words c.requires.read (sym c.in-Some.ensures.gate)
     c.requires.clear.words within c.change.ensures valued come
+
+pub returns-clause-passed : goal.returns-clause-passed
+returns-clause-passed c = λ tests group k words lt e.
+    let circuit = c.args.view.circuit.now.arranged in
+    let good = c.args.view.good.now in
+    let s = c.args.at.signal in
+    let own = c.in-Some.driver in
+    let low = read_within circuit c.args.gate s c.requires.view.circuit.well_formed
+    c.requires.read.reads in
+    let within : s < length c.args.changes.now.overlay = omega (
+      arith,
+      low,
+      c.requires.room.overlay,
+    ) in
+    let valued : (k : ℕ) → k < 128
+    → lane c.evaluate_gate-word.result k ≡ value own.kind
+    (pin_bits None c.args.gate own.pins.now good c.change.new.self k) =
+    λ k lt. c.evaluate_gate-word.ensures.value k lt
+    ∙ ap (λ d. value own.kind (pin_bits None c.args.gate own.pins.now good d k))
+    c.words-delta.ensures in
+    crossed_where circuit tests group good c.args.view.lanes s c.args.gate c.args.at.lanes
+    c.evaluate_gate-word.result own.kind own.pins.now c.args.changes.now.overlay
+    c.change.new.self
+    c.requires.view.circuit.well_formed words c.requires.read (sym c.in-Some.ensures.gate)
+    c.requires.clear.words within c.change.ensures valued k lt e
+
+pub returns-clause-inside : goal.returns-clause-inside
+returns-clause-inside c = λ k e. only_lanes _ c.args.view.lanes k e

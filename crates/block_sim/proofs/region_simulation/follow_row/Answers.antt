@@ -1,7 +1,6 @@
 use Rattle.std.proofs.Common.{inl, inr, refl, subst}
 use Rattle.block_sim.specs.Simulation.{HasArrived}
 use Rattle.block_sim.proofs.RegionHits.{first_of_word}
-use Rattle.block_sim.proofs.Stems.{one_class_stem}
 use Rattle.block_sim.proofs.region_simulation.follow_row.Goals as goal
 
 pub test_of-requires : goal.test_of-requires
@@ -12,34 +11,30 @@ returns-in-Known-clause-found c = inl (
   refl,
   c.test_of.result,
   first_of_word c.args.job.now c.args.span c.args.row.class c.in-Known.word c.test_of.result
-      c.requires.span (c.in-Known.ensures.approach c.args.row.class c.requires.row.stands)
-      c.test_of.ensures,
+      c.requires.span c.in-Known.ensures.approach c.test_of.ensures,
   c.keep.ensures,
 )
 
 pub returns-in-Known-clause-counted : goal.returns-in-Known-clause-counted
 returns-in-Known-clause-counted c = λ way ways.
-    c.follow_from.ensures.counted c.args.row.class (way c.args.row.class) c.requires.row.stands
+    c.follow_listed.ensures.counted (way c.args.row.class)
     (ways c.args.row.class c.requires.row.within)
 
 pub returns-in-Stem-clause-found : goal.returns-in-Stem-clause-found
 returns-in-Stem-clause-found c =
-    let job = c.args.job.now in
     let row = c.args.row in
     let at = c.in-Stem.at in
-    let same = one_class_stem job.list.model job.circuit row.class at.signal row.stem
-    (c.in-Stem.ensures.stem row.class at c.requires.row.stands refl) c.requires.row.stem in
     inr (
       refl,
       record { class = row.class; place = c.args.place; lanes = at.lanes },
       refl,
       refl,
-      subst (λ s. HasArrived job c.args.span s row.class at.lanes) same
-          (c.in-Stem.ensures.approach row.class c.requires.row.stands).1,
+      subst (λ s. HasArrived c.args.job.now c.args.span s row.class at.lanes)
+          (c.in-Stem.ensures.stem at refl) c.in-Stem.ensures.approach.1,
       c.push_reserved.ensures.items,
     )
 
 pub returns-in-Stem-clause-counted : goal.returns-in-Stem-clause-counted
 returns-in-Stem-clause-counted c = λ way ways.
-    c.follow_from.ensures.counted c.args.row.class (way c.args.row.class) c.requires.row.stands
+    c.follow_listed.ensures.counted (way c.args.row.class)
     (ways c.args.row.class c.requires.row.within)

@@ -1,0 +1,32 @@
+use Rattle.std.proofs.Common.{◌≡◌, ◌<◌, ◌≤◌, ◌∙◌, ap, arith, length, refl, subst, sym}
+use Rattle.bench_net.specs.Scan.{names}
+use Rattle.block_sim.specs.Sensitized.{CarriesFlip}
+use Rattle.block_sim.proofs.sensitized.Sensitized.lanes_of.Goals as goal
+
+pub returns-in-Some-clause-told : goal.returns-in-Some-clause-told
+returns-in-Some-clause-told c = λ tests group words.
+    c.requires.sensitized.known.each c.args.signal c.in-Some.lanes (sym c.in-Some.ensures) tests
+    group words
+
+pub returns-in-None-clause-told : goal.returns-in-None-clause-told
+returns-in-None-clause-told c = λ tests group words.
+    let own = c.args.self.now in
+    subst (λ s. CarriesFlip c.args.view.circuit.now.arranged tests group own.lanes s own.stem
+    c.descend.result) c.climb-at.ensures.first
+    (c.descend.ensures.told own.lanes own.stem c.requires.sensitized.known
+    c.climb-at.ensures.known tests group words)
+
+pub returns-in-None-clause-sensitized : goal.returns-in-None-clause-sensitized
+returns-in-None-clause-sensitized c =
+    let own = c.args.self.now in
+    let path = c.requires.sensitized.path in
+    record {
+      known = c.descend.ensures.known own.lanes own.stem c.requires.sensitized.known
+          c.climb-at.ensures.known;
+      path = omega (arith, path, c.descend.ensures.capacity, c.climb-at.ensures.capacity);
+    }
+
+pub returns-in-None-clause-counted : goal.returns-in-None-clause-counted
+returns-in-None-clause-counted c = λ way w.
+    let short = c.climb-at.ensures.short way w in
+    omega (arith, short, c.descend.ensures.counted)
