@@ -213,6 +213,39 @@ module _ (job : Parts) (span : Span) (rows : List Listed) (firsts : List (Option
   others_more first before place (inr le) =
       elsewhere place (λ e. omega (arith, le, e)) ∙ before place (inr (omega (arith, le)))
 
+  -- what was found of a class whose first test is known is still, and none that is followed is one
+  module _ (idle : slice_get firsts p ≡ Some None) where
+    not_here : (place test : ℕ) → slice_get firsts place ≡ Some (Some test) → place ≢ p
+    not_here place test e same =
+        let bad : Some None ≡ Some (Some test) = sym idle
+        ∙ (ap (slice_get firsts) (sym same) ∙ e) in
+        cc
+
+    pub known_more : (first : List (Option ℕ))
+        → ((place test : ℕ) → slice_get firsts place ≡ Some (Some test)
+        → slice_get old place ≡ slice_get first place)
+        → (place test : ℕ) → slice_get firsts place ≡ Some (Some test)
+        → slice_get hits place ≡ slice_get first place
+    known_more first before place test e =
+        elsewhere place (not_here place test e) ∙ before place test e
+
+    pub open_more : ((one : Followed) → Contains was one → slice_get firsts one.place ≡ Some None)
+        → (one : Followed) → Contains followed one → slice_get firsts one.place ≡ Some None
+    open_more before one there = go step
+      where
+        new_one : (s : Followed) → s.place ≡ p → Among one was ⊎ Among one (s ∷ [])
+            → slice_get firsts one.place ≡ Some None
+        new_one s place (inl h) = before one (contained was one h)
+        new_one s place (inr (inl same)) =
+            ap (slice_get firsts) (ap (λ (x : Followed). x.place) (sym same) ∙ place) ∙ idle
+        new_one s place (inr (inr bad)) = absurd bad
+
+        go : IsFoundOrFollowed job span row p was followed old hits
+            → slice_get firsts one.place ≡ Some None
+        go (inl s) = before one (subst (λ l. Contains l one) s.0 there)
+        go (inr s) = new_one s.1 s.3 (among_append was (s.1 ∷ []) one
+            (among (was ++ s.1 ∷ []) one (subst (λ l. Contains l one) s.5 there)))
+
 -- ---- the classes that are open
 take_more : {X : Type 0} (xs : List X) (p : ℕ) (x : X) → slice_get xs p ≡ Some x
     → take (p + 1) xs ≡ take p xs ++ x ∷ []

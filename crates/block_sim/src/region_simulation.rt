@@ -231,7 +231,7 @@ fn follow_region(
         → slice_get hits.new place ≡ slice_get hits.old place }
     ensures known { (place test : ℕ) → slice_get firsts.now place ≡ Some (Some test)
         → slice_get hits.new place ≡ slice_get hits.old place }
-    ensures open { (one : Followed) → Contains followed.new.items one
+    ensures idle { (one : Followed) → Contains followed.new.items one
         → slice_get firsts.now one.place ≡ Some None }
     ensures same { IsSameRegion region.old region.new }
     ensures places { length hits.new ≡ length hits.old }

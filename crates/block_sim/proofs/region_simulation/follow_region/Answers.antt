@@ -1,10 +1,13 @@
 use Rattle.std.proofs.Common.{◌≡◌, ◌<◌, ◌≤◌, ◌∙◌, ap, arith, length, refl, sym, subst, inl, inr}
+use Rattle.std.specs.Prelude.{Contains}
 use Rattle.std.specs.List.{sum_by}
 use Rattle.block_sim.specs.RegionHits.{AreFollowedAt, HaveFirstsBut}
+use Rattle.block_sim.specs.Sensitized.{HasBegun}
 use Rattle.block_sim.specs.Simulation.{AreFollowed}
 use Rattle.block_sim.proofs.Moments.{large_enough, large_on}
 use Rattle.block_sim.proofs.RegionHits.{as_many, at_more, arrived_more, found_known, found_more}
-use Rattle.block_sim.proofs.RegionHits.{listed_at, others_more, some_at, ways_more, ways_none}
+use Rattle.block_sim.proofs.RegionHits.{known_more, listed_at, open_more, others_more, some_at}
+use Rattle.block_sim.proofs.RegionHits.{ways_more, ways_none}
 use Rattle.block_sim.proofs.RegionHits.{ways_same}
 use Rattle.block_sim.proofs.region_simulation.follow_region.Goals as goal
 
@@ -16,6 +19,11 @@ loop-place-init c = record {
   followed = λ stem h. subst (AreFollowed c.args.job.now c.args.span stem) (sym c.requires.none)
       (λ one there. let bad = there.1 in absurd (omega (arith, bad)));
   others = λ place h. refl;
+  known = λ place test e. refl;
+  idle = λ one there. (let bad = (subst (λ l. Contains l one) c.requires.none there).1 in
+      absurd (omega (arith, bad)));
+  begun = λ stem h. h;
+  same = record { stem = refl; lanes = refl; known = refl; path = refl };
   places = refl;
   few = omega (arith, c.requires.len);
   capacity = refl;
@@ -46,6 +54,10 @@ loop-place-preserved-in-Some c =
         | inl x ↦ inl x
         | inr x ↦ inr (omega (arith, x))
       ]);
+      known = before.known;
+      idle = before.idle;
+      begun = before.begun;
+      same = before.same;
       places = before.places;
       few = let f = before.few in omega (arith, f);
       capacity = before.capacity;
@@ -68,6 +80,15 @@ pub follow_row-requires-clause-row : goal.follow_row-requires-clause-row
 follow_row-requires-clause-row c =
     listed_at c.args.job.now c.args.rows.now c.loop-place.place c.row_at-row.result c.requires.rows
     c.row_at-row.ensures
+
+pub follow_row-requires-clause-begun : goal.follow_row-requires-clause-begun
+follow_row-requires-clause-begun c =
+    let begun = c.requires.begun in
+    let from = c.loop-place.auto in
+    let same = begun.1 c.loop-place.place c.row_at-row.result (omega (arith, from))
+    c.loop-place-test.true c.row_at-row.ensures in
+    subst (λ s. HasBegun c.args.job.now c.args.view s c.loop-place.region) (sym same)
+    (c.loop-place.invariant.begun begun.0 begun.2)
 
 pub loop-place-preserved : goal.loop-place-preserved
 loop-place-preserved c =
@@ -99,6 +120,24 @@ loop-place-preserved c =
           low after step stem (all p row after lt is) listed.within (before.followed stem all);
       others = others_more job span rows firsts from p row was followed old hits is low after step
           c.args.hits.now before.others;
+      known = known_more job span rows firsts from p row was followed old hits is low after step
+          c.in-None.ensures c.args.hits.now before.known;
+      idle = open_more job span rows firsts from p row was followed old hits is low after step
+          c.in-None.ensures before.idle;
+      begun = λ stem h.
+          let now = before.begun stem h in
+          let next = c.follow_row.ensures in
+          record {
+            sensitized = next.begun.sensitized;
+            at = next.same.stem ∙ now.at;
+            lanes = next.same.lanes ∙ now.lanes;
+          };
+      same = (let next = c.follow_row.ensures.same in record {
+        stem = next.stem ∙ before.same.stem;
+        lanes = next.lanes ∙ before.same.lanes;
+        known = next.known ∙ before.same.known;
+        path = next.path ∙ before.same.path;
+      });
       places = as_many job span rows firsts from p row was followed old hits is low after step
           ∙ before.places;
       few = let f = before.few in let len = c.follow_row.ensures.len in omega (arith, f, len);

@@ -1,8 +1,10 @@
 use Rattle.std.proofs.Common.{◌≡◌, ◌⊎◌, ◌+◌, ◌<◌, ◌≤◌, ℕ, length}
-use Rattle.std.specs.Prelude.{slice_get, vec_capacity, vec_len}
+use Rattle.std.specs.Prelude.{Contains, None, Some, slice_get, vec_capacity, vec_len}
 use Rattle.std.specs.List.{sum_by}
 use Rattle.block_sim.specs.Changes.{IsAsLarge, IsClear}
 use Rattle.block_sim.specs.RegionHits.{AreFollowedAt, HaveFirstsBut, HaveStem, open_between}
+use Rattle.block_sim.specs.declared.spread.Followed.{Followed}
+use Rattle.block_sim.specs.Sensitized.{HasBegun, IsSameRegion}
 use Rattle.block_sim.specs.Simulation.{AreFollowed}
 use Rattle.block_sim.specs.Ways.{AreWays}
 use Rattle.block_sim.proofs.region_simulation.follow_region.Given as goal
@@ -15,6 +17,12 @@ invariant-loop-place l = record {
       → AreFollowed l.job l.span stem l.followed.items;
   others : (place : ℕ) → (place < l.from) ⊎ (l.place ≤ place)
       → slice_get l.hits place ≡ slice_get l.fn.hits place;
+  known : (place test : ℕ) → slice_get l.firsts place ≡ Some (Some test)
+      → slice_get l.hits place ≡ slice_get l.fn.hits place;
+  idle : (one : Followed) → Contains l.followed.items one
+      → slice_get l.firsts one.place ≡ Some None;
+  begun : (stem : ℕ) → HasBegun l.job l.view stem l.fn.region → HasBegun l.job l.view stem l.region;
+  same : IsSameRegion l.fn.region l.region;
   places : length l.hits ≡ length l.fn.hits;
   few : vec_len l.followed + l.from ≤ l.place;
   capacity : vec_capacity l.followed ≡ vec_capacity l.fn.followed;

@@ -15,9 +15,11 @@ pub loop-signal-init : goal.loop-signal-init
 loop-signal-init c = record {
   path = c.requires.path;
   first = refl;
-  known = λ mask stem before e.
-      (before, λ tests group words. before.each c.args.from.signal c.args.from.lanes e tests group
-          words);
+  known = λ mask stem before e. (
+    before,
+    λ tests group words. before.each c.args.from.signal c.args.from.lanes e tests group
+        words,
+  );
   signals = refl;
   capacity = refl;
   counted = omega arith;

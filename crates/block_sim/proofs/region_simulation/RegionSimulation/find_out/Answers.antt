@@ -1,12 +1,18 @@
 use Rattle.std.proofs.Common.{◌≡◌, ◌++◌, ◌∙◌, ap, arith, drop, take, length, sym}
 use Rattle.std.proofs.Common.{inl, inr, subst, List, ℕ}
-use Rattle.std.specs.Prelude.{Contains, slice_get}
-use Rattle.std.proofs.Math.Seq.{take-append_seam}
+use Rattle.std.specs.Prelude.{Contains, None, Option, Some, slice_get, unwrap_or}
+use Rattle.fault_model.specs.Fault.{Fault}
+use Rattle.fault_model.specs.Reordered.{place}
 use Rattle.patterns.specs.Tests.{TestList}
 use Rattle.block_sim.specs.RegionHits.{AreConcluded, HaveFirsts, IsFollowedAt, ServesRegions}
+use Rattle.block_sim.specs.Regions.{IsStem, IsStemOfLine}
 use Rattle.block_sim.specs.Simulation.{AreFollowed}
 use Rattle.block_sim.specs.Spans.{IsSpan, span_of}
+use Rattle.block_sim.proofs.ArrangedSignals.{count_there, reordered}
+use Rattle.block_sim.proofs.ArrangedWords.{circuit_there}
 use Rattle.block_sim.proofs.KeptOutcomes.{room_at_rest}
+use Rattle.block_sim.proofs.KnownWords.{written}
+use Rattle.block_sim.proofs.ReorderedReaders.{same_stems}
 use Rattle.block_sim.proofs.Moments.{large_enough}
 use Rattle.block_sim.proofs.RegionHits.{concluded, listed_at}
 use Rattle.block_sim.proofs.region_simulation.RegionSimulation.find_out.Goals as goal
@@ -16,7 +22,66 @@ follow_region-requires-clause-room c =
     let served = subst (λ v. ServesRegions v c.args.job.now) (sym c.self.view_is)
     c.requires.serves in
     room_at_rest c.args.job.now c.self.inside.changes
-    c.tests.ensures.together.circuit.well_formed c.self.invariant served.room
+    c.tests.ensures.together.circuit.well_formed c.self.invariant.rest served.room
+
+pub begin-requires-clause-view : goal.begin-requires-clause-view
+begin-requires-clause-view c =
+    let view = c.view_of-view.ensures in
+    record {
+      circuit = circuit_there c.args.job.now.circuit c.view_of-view.result.circuit.now.arranged
+          view.together.circuit view.arranged;
+      count = view.count;
+    }
+
+pub begin-requires-clause-room : goal.begin-requires-clause-room
+begin-requires-clause-room c =
+    let circuit = c.args.job.now.circuit in
+    let there = c.view_of-view.result.circuit.now.arranged in
+    let view = c.view_of-view.ensures in
+    let well = view.together.circuit.well_formed in
+    let served = subst (λ v. ServesRegions v c.args.job.now) (sym c.self.view_is)
+    c.requires.serves in
+    let many = served.room in
+    let own = c.self.invariant.room in
+    let same = count_there circuit there well view.arranged in
+    record {
+      known = (let k = own.known in omega (arith, many, k, same));
+      path = (let k = own.path in omega (arith, many, k, same));
+    }
+
+pub begin-requires-clause-stem : goal.begin-requires-clause-stem
+begin-requires-clause-stem c =
+    let job = c.args.job.now in
+    let circuit = job.circuit in
+    let there = c.view_of-view.result.circuit.now.arranged in
+    let view = c.view_of-view.ensures in
+    let well = view.together.circuit.well_formed in
+    let row = c.row_at-stem.result in
+    let at = listed_at job c.args.rows.now c.args.from row c.requires.rows c.row_at-stem.ensures in
+    let h = at.stem in
+    let o = at.stands in
+    let same : h.0 ≡ o.0 = ap (λ (x : Option Fault). unwrap_or x h.0) (sym h.1 ∙ o.1) in
+    let own = subst (λ f. IsStemOfLine circuit row.stem f.line) same h.2 in
+    let on = ((same_stems circuit there well (reordered circuit there well view.arranged)).of_line
+    o.0.model o.0 row.stem o.2.listed).0 own in
+    let place_is : c.place_of.result ≡ place circuit there row.stem = c.place_of.ensures.place
+    ∙ ap (λ x. place x there row.stem) view.part in
+    subst (IsStem there) (sym place_is) on.2.1
+
+pub follow_region-requires-clause-begun : goal.follow_region-requires-clause-begun
+follow_region-requires-clause-begun c =
+    let there = c.view_of-view.result.circuit.now.arranged in
+    let view = c.view_of-view.ensures in
+    let row = c.row_at-stem.result in (
+      row.stem,
+      c.end_of_region-end.ensures.same row c.row_at-stem.ensures,
+      record {
+        sensitized = c.begin.ensures.sensitized;
+        at = c.begin.ensures.stem ∙ (c.place_of.ensures.place
+            ∙ ap (λ x. place x there row.stem) view.part);
+        lanes = c.begin.ensures.lanes;
+      },
+    )
 
 pub flip_stem-seen-requires-clause-room : goal.flip_stem-seen-requires-clause-room
 flip_stem-seen-requires-clause-room c =
@@ -24,7 +89,7 @@ flip_stem-seen-requires-clause-room c =
     c.requires.serves in
     large_enough c.args.job.now.circuit c.self.inside.changes c.follow_region.new.changes
     (room_at_rest c.args.job.now c.self.inside.changes
-    c.tests.ensures.together.circuit.well_formed c.self.invariant served.room)
+    c.tests.ensures.together.circuit.well_formed c.self.invariant.rest served.room)
     c.follow_region.ensures.room
 
 pub flip_stem-seen-requires-clause-stem : goal.flip_stem-seen-requires-clause-stem
@@ -38,10 +103,6 @@ flip_stem-seen-requires-clause-followed c =
     (sym c.as_slice-all.ensures.value)
     (c.follow_region.ensures.followed c.row_at-stem.result.stem
     (c.end_of_region-end.ensures.same c.row_at-stem.result c.row_at-stem.ensures))
-
--- a list that was written over whole
-written : {X : Type 0} (n : ℕ) (xs ys : List X) → length xs ≡ n → take n (xs ++ ys) ≡ xs
-written n xs ys e = ap (λ m. take m (xs ++ ys)) (sym e) ∙ take-append_seam xs ys
 
 pub conclude-requires-clause-places : goal.conclude-requires-clause-places
 conclude-requires-clause-places c = λ one there.
@@ -109,5 +170,24 @@ returns-clause-others c = λ place outside.
     ap (λ l. slice_get l place)
     (written c.self.inside.hits.len last (drop (length last) items) long)
     ∙ (c.conclude.ensures.kept place none ∙ (c.follow_region.ensures.others place outside
+    ∙ (ap (λ l. slice_get l place) c.as_mut_slice-hits.ensures.value
+    ∙ ap (λ v. slice_get v.hits place) c.self.view_is)))
+
+pub returns-clause-known : goal.returns-clause-known
+returns-clause-known c = λ place test e.
+    let firsts = c.args.firsts.now in
+    let items = c.self.inside.hits.items in
+    let last = c.conclude.new.hits in
+    let all = c.as_slice-all.ensures.value in
+    let long : length last ≡ c.self.inside.hits.len =
+    c.conclude.ensures.places ∙ (c.follow_region.ensures.places
+    ∙ c.as_mut_slice-hits.ensures.len) in
+    let none : IsFollowedAt c.as_slice-all.result.now place → ⊥ = λ h.
+    let idle = c.follow_region.ensures.idle h.0 (subst (λ l. Contains l h.0) all h.1) in
+    let bad : Some None ≡ Some (Some test) = sym idle ∙ (ap (slice_get firsts) h.2 ∙ e) in
+    cc in
+    ap (λ l. slice_get l place)
+    (written c.self.inside.hits.len last (drop (length last) items) long)
+    ∙ (c.conclude.ensures.kept place none ∙ (c.follow_region.ensures.known place test e
     ∙ (ap (λ l. slice_get l place) c.as_mut_slice-hits.ensures.value
     ∙ ap (λ v. slice_get v.hits place) c.self.view_is)))

@@ -20,10 +20,10 @@ returns-clause-sensitized c =
     → CarriesFlip circuit tests group mask stem stem word = λ tests group words.
     elim c.if-is_live.branch [
       | then-is_live w ↦ subst (CarriesFlip circuit tests group mask stem stem) (sym w.word-is)
-        (carried_live circuit tests group mask stem)
+          (carried_live circuit tests group mask stem)
       | else-is_live w ↦ subst (CarriesFlip circuit tests group mask stem stem) (sym w.word-is)
-        (carried_dead circuit tests group mask stem c.requires.view.circuit.well_formed
-        (λ live. false≢true (sym w.if-is_live.false ∙ c.is_live.ensures.1 live)))
+          (carried_dead circuit tests group mask stem c.requires.view.circuit.well_formed
+          (λ live. false≢true (sym w.if-is_live.false ∙ c.is_live.ensures.1 live)))
     ] in
     let low = c.requires.within in
     let wide = c.requires.room.known in
