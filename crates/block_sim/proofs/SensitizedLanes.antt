@@ -1,6 +1,6 @@
 -- The lanes in which a signal turned round turns the stem: those of the gate that alone reads it,
 -- where the gate passes that on.
-use Rattle.std.proofs.Common.{◌≡◌, ◌≢◌, ◌<◌, ◌≤◌, ℕ, ◌+◌, refl, sym, ◌∙◌, ap, subst, Bool, true, false}
+use Rattle.std.proofs.Common.{◌≡◌, ◌<◌, ◌≤◌, ℕ, refl, sym, ◌∙◌, ap, subst, Bool, true, false}
 use Rattle.std.proofs.Common.{List, [], ◌∷◌, ◌++◌, ◌⊎◌, ◌==◌, inl, inr, length, set, arith}
 use Rattle.std.proofs.Common.{eq-eqb, eqb-true}
 use Rattle.std.specs.Prelude.{Option, Some, None, bit_and, slice_index_or}
@@ -12,13 +12,12 @@ use Rattle.bench_net.specs.Scan.{names}
 use Rattle.bench_net.specs.Circuit.{IsWellFormed}
 use Rattle.fault_model.specs.Fault.{Fault}
 use Rattle.fault_model.specs.Solution.{Test}
-use Rattle.block_sim.specs.Events.{IsLive, IsRising}
-use Rattle.block_sim.specs.Regions.{DetectsFlip, HasCome, IsReadBy, IsStemOf, LeadsTo, Passes}
-use Rattle.block_sim.specs.Regions.{here, lone_reader, onward}
+use Rattle.block_sim.specs.Events.{IsLive}
+use Rattle.block_sim.specs.Regions.{DetectsFlip, HasCome, IsReadBy, Passes}
+use Rattle.block_sim.specs.Regions.{lone_reader}
 use Rattle.block_sim.specs.Sensitized.{AreKnownFlips, CarriesFlip, IsPathTo, on_from}
 use Rattle.block_sim.specs.Words.{lane, test_of, AreWords}
 use Rattle.block_sim.proofs.Arrivals.{dead_flip}
-use Rattle.block_sim.proofs.Lanes.{lane_and}
 use Rattle.block_sim.proofs.OnePin.{pin_law}
 use Rattle.block_sim.proofs.RegionLanes.{lanes_both, lanes_first}
 use Rattle.block_sim.proofs.Regions.{step_law}

@@ -5,11 +5,9 @@ use Rattle.bench_net.proofs.Public.{name_of-signal}
 use Rattle.lists.proofs.Places.{place_within}
 use Rattle.fault_model.specs.Detection.{argument, name_on}
 use Rattle.fault_model.proofs.Public.{carries}
-use Rattle.block_sim.specs.Changes.{IsAsLarge}
 use Rattle.block_sim.specs.Stuck.{stuck_fault}
 use Rattle.block_sim.proofs.CarriedSignals.{pin_of, gate_within}
 use Rattle.block_sim.proofs.Lanes.{lane_zero}
-use Rattle.block_sim.proofs.Moments.{large_enough}
 use Rattle.block_sim.proofs.FaultStart.{shown_none, turned_is}
 use Rattle.block_sim.proofs.Steps.{lane_of_zero}
 use Rattle.block_sim.specs.Regions.{start_of}

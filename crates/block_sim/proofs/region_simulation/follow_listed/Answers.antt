@@ -1,21 +1,16 @@
-use Rattle.std.proofs.Common.{◌≡◌, ◌≢◌, ◌<◌, true, refl, sym, ◌∙◌, ap, subst, length, arith}
-use Rattle.std.specs.Prelude.{◌+◌, ◌*◌, ℕ, Contains, Option, bit_and, unwrap_or}
-use Rattle.std.specs.Bool.{Decides}
-use Rattle.std.specs.Int.Bits.{and_zero_r}
+use Rattle.std.proofs.Common.{◌≡◌, true, refl, sym, ◌∙◌, ap, subst, arith}
+use Rattle.std.specs.Prelude.{Contains, Option, bit_and, unwrap_or}
 use Rattle.std.proofs.lemmas.Bool.{false≢true}
-use Rattle.bench_net.specs.Scan.{names}
-use Rattle.patterns.specs.Tests.{TestList}
 use Rattle.fault_model.specs.Fault.{Fault, faults}
 use Rattle.fault_model.specs.Reordered.{moved_fault, place}
-use Rattle.block_sim.specs.Spans.{IsInSpan, group_of}
+use Rattle.block_sim.specs.Spans.{group_of}
 use Rattle.block_sim.specs.declared.region.Reach.TheVariants.{Observed, Stem}
-use Rattle.block_sim.specs.declared.simulation.Approach.TheVariants as approach
 use Rattle.block_sim.specs.Regions.{AreLanesFor, HasCome, IsReached, IsStemOfLine}
 use Rattle.block_sim.specs.Stuck.{stuck_fault}
 use Rattle.block_sim.specs.Ways.{IsWayOfLine}
 use Rattle.block_sim.specs.Words.{lane}
 use Rattle.block_sim.proofs.Lanes.{lane_zero}
-use Rattle.block_sim.proofs.ArrangedSignals.{reordered, room_there, signals_there}
+use Rattle.block_sim.proofs.ArrangedSignals.{reordered, room_there}
 use Rattle.block_sim.proofs.ArrangedWords.{circuit_there, listed_there, reached_there}
 use Rattle.block_sim.specs.Origins.{IsStuckOf}
 use Rattle.block_sim.proofs.ArrangedWords.{starts_there}

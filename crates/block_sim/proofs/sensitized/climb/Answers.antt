@@ -1,4 +1,4 @@
-use Rattle.std.proofs.Common.{◌≡◌, ◌<◌, ◌≤◌, ◌∙◌, ap, arith, length, refl, subst, sym}
+use Rattle.std.proofs.Common.{◌≡◌, ◌∙◌, ap, arith, subst, sym}
 use Rattle.std.specs.Prelude.{Some, None, slice_index_or}
 use Rattle.block_sim.specs.Regions.{here, lone_reader}
 use Rattle.block_sim.specs.Sensitized.{IsPathTo, on_from}

@@ -1,6 +1,6 @@
-use Rattle.std.proofs.Common.{◌≡◌, ◌<◌, ◌≤◌, ◌∙◌, ap, arith, length, refl, subst, sym}
+use Rattle.std.proofs.Common.{◌≡◌, ◌∙◌, arith, refl, subst, sym}
 use Rattle.std.specs.Prelude.{Some}
-use Rattle.block_sim.specs.Regions.{HasCome, IsStemOf}
+use Rattle.block_sim.specs.Regions.{IsStemOf}
 use Rattle.block_sim.specs.Stuck.{stuck_fault}
 use Rattle.block_sim.proofs.RegionLanes.{come_nowhere}
 use Rattle.block_sim.proofs.SensitizedLanes.{come_to_stem}

@@ -1,4 +1,3 @@
-use Rattle.std.proofs.Common.{◌≡◌, ◌<◌, ℕ, sym}
 use Rattle.block_sim.proofs.OnePin.{pin_law}
 use Rattle.block_sim.proofs.SensitizedLanes.{carried_before, passed_nowhere, passed_where}
 use Rattle.block_sim.proofs.sensitized.lanes_before.Goals as goal

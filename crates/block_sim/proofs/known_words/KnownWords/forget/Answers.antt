@@ -1,4 +1,4 @@
-use Rattle.std.proofs.Common.{◌≡◌, ◌≢◌, ◌<◌, ◌∙◌, ℕ, ap, arith, drop, inl, inr, length, subst, sym}
+use Rattle.std.proofs.Common.{◌≡◌, ◌∙◌, ap, arith, drop, length, subst, sym}
 use Rattle.std.specs.Prelude.{None, slice_index_or}
 use Rattle.block_sim.specs.KnownWords.{AreMarked, known_words}
 use Rattle.block_sim.proofs.KnownWords.{known_count, none_known, written}

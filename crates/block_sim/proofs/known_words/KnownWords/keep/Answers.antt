@@ -1,7 +1,6 @@
-use Rattle.std.proofs.Common.{◌≡◌, ◌<◌, ◌∙◌, ap, arith, length, sym}
+use Rattle.std.proofs.Common.{◌∙◌, ap, arith, length}
 use Rattle.std.specs.Prelude.{Some, slice_set}
-use Rattle.block_sim.proofs.KnownWords.{known_count, known_more, marks_set}
-use Rattle.std.proofs.lemmas.List.{length-set}
+use Rattle.block_sim.proofs.KnownWords.{known_count, known_more}
 use Rattle.block_sim.proofs.known_words.KnownWords.keep.Goals as goal
 
 pub index_mut-requires : goal.index_mut-requires

@@ -1,4 +1,4 @@
-use Rattle.std.proofs.Common.{◌≡◌, ◌∙◌, ap, arith, length, sym}
+use Rattle.std.proofs.Common.{◌≡◌, ◌∙◌, length, sym}
 use Rattle.block_sim.proofs.KnownWords.{known_count}
 use Rattle.block_sim.proofs.known_words.KnownWords.new.Goals as goal
 

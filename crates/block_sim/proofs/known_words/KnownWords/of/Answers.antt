@@ -1,4 +1,4 @@
-use Rattle.std.proofs.Common.{◌≡◌, ◌<◌, ◌∙◌, ap, arith, length, sym}
+use Rattle.std.proofs.Common.{◌∙◌, ap, arith, length}
 use Rattle.std.specs.Prelude.{None, slice_index_or}
 use Rattle.block_sim.proofs.KnownWords.{known_count, known_here, unknown_here}
 use Rattle.block_sim.proofs.known_words.KnownWords.of.Goals as goal

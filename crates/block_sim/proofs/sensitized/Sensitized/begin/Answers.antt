@@ -1,5 +1,5 @@
-use Rattle.std.proofs.Common.{◌≡◌, ◌<◌, ◌≤◌, ◌∙◌, ℕ, arith, length, sym, subst, List}
-use Rattle.std.specs.Prelude.{None, Option, slice_index_or}
+use Rattle.std.proofs.Common.{◌<◌, ◌≤◌, ◌∙◌, ℕ, arith, length, sym, subst, List}
+use Rattle.std.specs.Prelude.{None}
 use Rattle.std.proofs.lemmas.Bool.{false≢true}
 use Rattle.bench_net.specs.Scan.{names}
 use Rattle.fault_model.specs.Solution.{Test}

@@ -1,5 +1,4 @@
-use Rattle.std.proofs.Common.{◌≡◌, ◌<◌, ◌≤◌, ◌∙◌, ap, arith, length, refl, subst, sym}
-use Rattle.bench_net.specs.Scan.{names}
+use Rattle.std.proofs.Common.{arith, subst, sym}
 use Rattle.block_sim.specs.Sensitized.{CarriesFlip}
 use Rattle.block_sim.proofs.sensitized.Sensitized.lanes_of.Goals as goal
 
