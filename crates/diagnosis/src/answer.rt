@@ -8,7 +8,7 @@ use crate::summary::{Counts, Excess, count_circuit, count_tests, excess_of};
 use crate::tests::{TestCheck, check_tests};
 use bench_net::Circuit;
 use fault_model::Model;
-use findings::{Findings, Warning, circuit_warnings, test_warnings};
+use findings::{Findings, Warning, circuit_warnings, pair_warnings, test_warnings};
 use patterns::Tests;
 use std::alloc::{AllocError, Global};
 
@@ -85,7 +85,11 @@ fn answer_for_tests<'a>(
     }
     let mut table = format!(in alloc; "{counts}{taken}")?;
     add_warnings(&mut table, alloc, &circuit_warnings(alloc, circuit)?)?;
-    add_warnings(&mut table, alloc, &test_warnings(alloc, circuit, tests)?)?;
+    let warnings = match counts.model {
+        Model::StuckAt | Model::Transition => test_warnings(alloc, circuit, tests)?,
+        Model::TransitionPairs => pair_warnings(alloc, circuit, tests)?,
+    };
+    add_warnings(&mut table, alloc, &warnings)?;
     Ok(CircuitAnswer::Accepted(table))
 }
 

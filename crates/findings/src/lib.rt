@@ -20,4 +20,4 @@ pub use finding::{Fault, Finding, Findings, Found, Located};
 pub use note::Note;
 pub use tests::find_in_tests;
 pub use tokens::{Place, Token};
-pub use warning::{NameList, Warning, circuit_warnings, test_warnings};
+pub use warning::{NameList, Warning, circuit_warnings, pair_warnings, test_warnings};

@@ -2,7 +2,7 @@
 
 use indexmap::IndexSet;
 use std::alloc::{AllocError, Global};
-use strsim::levenshtein;
+use strsim::osa_distance;
 
 /// The words of gates and flip-flops, each with what it is called here.
 static GATES: [(&str, &str); 20] = [
@@ -38,12 +38,12 @@ static PORTS: [(&str, &str); 6] = [
     ("PO", "OUTPUT"),
 ];
 
-/// Up to how many changed letters a word is taken for another.
+/// Up to how many changes a word is taken for another: letters, and neighbours in the wrong order.
 fn far(word: &str) -> usize {
     1 + word.len() / 4
 }
 
-/// The word of a table that a word in any case is nearest to, by its changed letters.
+/// The word of a table that a word in any case is nearest to, by its changed letters and by neighbours that changed places.
 fn nearest_of(
     alloc: Global,
     word: &str,
@@ -54,7 +54,7 @@ fn nearest_of(
     let mut least = far(word).saturating_add(1);
     let mut near = None;
     for (spelled, meant) in table {
-        let distance = levenshtein(alloc, word, *spelled)?;
+        let distance = osa_distance(alloc, word, *spelled)?;
         if distance < least {
             least = distance;
             near = Some(*meant);
@@ -89,7 +89,7 @@ pub(crate) fn nearest_name<'a>(
         if name.len().abs_diff(word.len()) >= least {
             continue;
         }
-        let distance = levenshtein(alloc, word, *name)?;
+        let distance = osa_distance(alloc, word, *name)?;
         if distance < least {
             least = distance;
             near = Some(*name);

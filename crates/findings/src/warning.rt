@@ -71,6 +71,11 @@ pub enum Warning<'a> {
     NoTest,
     /// A test that is the same as one before it, both counted from 0, and how many more there are.
     SameTest { test: u32, as_test: u32, more: u64 },
+    /// A pair of tests that is the same as one before it, each named by the number of its first test,
+    /// and how many more there are.
+    SamePair { test: u32, as_test: u32, more: u64 },
+    /// The last test, where tests are pairs and their number is odd.
+    NoSecond { test: u32 },
     /// Inputs and flip-flops that have the same bit in all tests.
     Unturned(NameList<'a>),
 }
@@ -95,8 +100,38 @@ impl Display for Warning<'_> {
                     more => write!(f, ", and {more} more are as one before them"),
                 }
             }
+            Warning::SamePair {
+                test,
+                as_test,
+                more,
+            } => fmt_same_pair(*test, *as_test, *more, f),
+            Warning::NoSecond { test } => {
+                write!(
+                    f,
+                    "an odd number of tests: test {test} has no second and detects nothing"
+                )
+            }
             Warning::Unturned(names) => write!(f, "no test turns {names}"),
         }
+    }
+}
+
+/// Writes that a pair is the same as one before it.
+fn fmt_same_pair<W: fmt::Write>(
+    test: u32,
+    as_test: u32,
+    more: u64,
+    f: &mut Formatter<W>,
+) -> fmt::Result {
+    let second = u64::from(test) + 1;
+    let as_second = u64::from(as_test) + 1;
+    write!(
+        f,
+        "tests {test} and {second} are the same pair as tests {as_test} and {as_second}"
+    )?;
+    match more {
+        0 => Ok(()),
+        more => write!(f, ", and {more} more are as one before them"),
     }
 }
 
@@ -148,14 +183,70 @@ pub fn test_warnings<'a>(
         warnings.push(Warning::NoTest)?;
         return Ok(warnings);
     }
-    if let Some(warning) = same_tests(alloc, tests)? {
-        warnings.push(warning)?;
+    if let Some(
+        Same {
+            test,
+            as_test,
+            more,
+        },
+    ) = first_same(alloc, tests, Unit::Test)?
+    {
+        warnings.push(Warning::SameTest {
+            test,
+            as_test,
+            more,
+        })?;
     }
+    add_unturned(&mut warnings, alloc, circuit, tests)?;
+    Ok(warnings)
+}
+
+/// The warnings of a list of launch and capture pairs of tests for a circuit: tests 0 and 1 are a
+/// pair, 2 and 3, and so on. Only memory can be refused.
+pub fn pair_warnings<'a>(
+    alloc: Global,
+    circuit: &'a Circuit,
+    tests: &Tests,
+) -> Result<Vec<Warning<'a>>, AllocError> {
+    let mut warnings = Vec::new(alloc);
+    let count = tests.count();
+    if count == 0 {
+        warnings.push(Warning::NoTest)?;
+        return Ok(warnings);
+    }
+    if count % 2 == 1 {
+        warnings.push(Warning::NoSecond { test: count - 1 })?;
+    }
+    if let Some(
+        Same {
+            test,
+            as_test,
+            more,
+        },
+    ) = first_same(alloc, tests, Unit::Pair)?
+    {
+        warnings.push(Warning::SamePair {
+            test: test.saturating_mul(2),
+            as_test: as_test.saturating_mul(2),
+            more,
+        })?;
+    }
+    add_unturned(&mut warnings, alloc, circuit, tests)?;
+    Ok(warnings)
+}
+
+/// Adds the warning of sources that have the same bit in all tests, of two or more.
+fn add_unturned<'a>(
+    warnings: &mut Vec<Warning<'a>>,
+    alloc: Global,
+    circuit: &'a Circuit,
+    tests: &Tests,
+) -> Result<(), AllocError> {
     let unturned = unturned_sources(alloc, circuit, tests)?;
     if tests.count() > 1 && !unturned.is_empty() {
         warnings.push(Warning::Unturned(unturned))?;
     }
-    Ok(warnings)
+    Ok(())
 }
 
 /// The sources that have the same bit in all tests.
@@ -214,9 +305,70 @@ fn sum_of(row: &[u8]) -> u64 {
     sum
 }
 
-/// The tests that are the same as one before them.
-fn same_tests<'a>(alloc: Global, tests: &Tests) -> Result<Option<Warning<'a>>, AllocError> {
-    let sums = sums_of(alloc, tests)?;
+/// What of a list of tests stands by itself.
+#[derive(Clone, Copy)]
+enum Unit {
+    /// Each test.
+    Test,
+    /// Each pair of tests: 0 and 1, 2 and 3, and so on.
+    Pair,
+}
+
+impl Unit {
+    /// How many of them a list has.
+    fn count(self, tests: &Tests) -> u32 {
+        match self {
+            Unit::Test => tests.count(),
+            Unit::Pair => tests.count() / 2,
+        }
+    }
+
+    /// Adds the bits of the one of this number to a row.
+    fn push_row(self, tests: &Tests, number: u32, row: &mut Vec<u8>) -> Result<(), AllocError> {
+        match self {
+            Unit::Test => push_test(tests, number, row),
+            Unit::Pair => {
+                let first = number.saturating_mul(2);
+                push_test(tests, first, row)?;
+                push_test(tests, first.saturating_add(1), row)
+            }
+        }
+    }
+}
+
+/// Adds the bits of a test to a row, where the list has it.
+fn push_test(tests: &Tests, test: u32, row: &mut Vec<u8>) -> Result<(), AllocError> {
+    if test < tests.count() {
+        tests.push_row(test, row)?;
+    }
+    Ok(())
+}
+
+/// A test or a pair that is the same as one before it, the first of them, by their numbers, and how
+/// many more there are.
+#[derive(Clone, Copy)]
+struct Same {
+    test: u32,
+    as_test: u32,
+    more: u64,
+}
+
+/// The first that is the same as one before it.
+fn first_same(alloc: Global, tests: &Tests, unit: Unit) -> Result<Option<Same>, AllocError> {
+    let same = same_as_before(alloc, tests, unit)?;
+    let Some(first) = same.iter().copied().min() else {
+        return Ok(None);
+    };
+    Ok(Some(Same {
+        test: first.0,
+        as_test: first.1,
+        more: (same.len() as u64).saturating_sub(1),
+    }))
+}
+
+/// Each that is the same as one before it, with that one.
+fn same_as_before(alloc: Global, tests: &Tests, unit: Unit) -> Result<Vec<(u32, u32)>, AllocError> {
+    let sums = sums_of(alloc, tests, unit)?;
     let mut same = Vec::new(alloc);
     let mut row = Vec::new(alloc);
     let mut other = Vec::new(alloc);
@@ -224,38 +376,29 @@ fn same_tests<'a>(alloc: Global, tests: &Tests) -> Result<Option<Warning<'a>>, A
         let [first, second] = pair else {
             continue;
         };
-        if first.0 != second.0 || first.1 >= tests.count() || second.1 >= tests.count() {
+        if first.0 != second.0 {
             continue;
         }
         row.clear();
         other.clear();
-        tests.push_row(first.1, &mut row)?;
-        tests.push_row(second.1, &mut other)?;
+        unit.push_row(tests, first.1, &mut row)?;
+        unit.push_row(tests, second.1, &mut other)?;
         if row.as_slice() == other.as_slice() {
             same.push((second.1, first.1))?;
         }
     }
-    Ok(first_same(same.as_slice()))
+    Ok(same)
 }
 
-/// The warning of tests that are as others, with the first of them.
-fn first_same<'a>(same: &[(u32, u32)]) -> Option<Warning<'a>> {
-    let first = same.iter().copied().min()?;
-    Some(Warning::SameTest {
-        test: first.0,
-        as_test: first.1,
-        more: (same.len() as u64).saturating_sub(1),
-    })
-}
-
-/// The tests by a number that equal tests have in common, and then in their order.
-fn sums_of(alloc: Global, tests: &Tests) -> Result<Vec<(u64, u32)>, AllocError> {
+/// The numbers of all, each with a sum that equal ones have in common, by the sums and then in their
+/// order.
+fn sums_of(alloc: Global, tests: &Tests, unit: Unit) -> Result<Vec<(u64, u32)>, AllocError> {
     let mut sums = Vec::new(alloc);
     let mut row = Vec::new(alloc);
-    for test in 0..tests.count() {
+    for number in 0..unit.count(tests) {
         row.clear();
-        tests.push_row(test, &mut row)?;
-        sums.push((sum_of(row.as_slice()), test))?;
+        unit.push_row(tests, number, &mut row)?;
+        sums.push((sum_of(row.as_slice()), number))?;
     }
     sums.sort_unstable();
     Ok(sums)
