@@ -1,7 +1,10 @@
 -- The parts of a job as a box lends them.
-use Rattle.std.proofs.Common.{◌≡◌, ◌∙◌, ap, subst, sym}
+use Rattle.std.proofs.Common.{◌≡◌, ◌∙◌, ℕ, ap, Global, length, subst, sym, Vec}
 use Rattle.std.specs.Prelude.{map}
-use Rattle.block_sim.specs.Job.{IsJob}
+use Rattle.bench_net.specs.Scan.{sources}
+use Rattle.patterns.specs.Tests.{IsTestList, TestList}
+use Rattle.block_sim.specs.Job.{AreFaultFree, IsJob}
+use Rattle.block_sim.specs.Spans.{groups}
 use Rattle.block_sim.specs.Parts.{Parts}
 use Rattle.block_sim.specs.declared.job.JobParts.{JobParts}
 
@@ -25,3 +28,28 @@ whole same is = subst IsWhole (sym same) is
 pub seen : {lent own : JobParts} {job : Parts} → lent ≡ own → view_of own ≡ job
     → view_of lent ≡ job
 seen same is = ap view_of same ∙ is
+
+-- with other tests and their words they are those of a job still
+pub taken : (own new : JobParts) (tests : TestList) (rows : Vec (Vec ℕ Global) Global)
+    → new ≡ record own { tests = tests; rows = rows } → IsWhole own → IsTestList tests
+    → tests.width ≡ length (sources own.flat.statements)
+    → length (map (λ row. row.items) rows.items) ≡ groups (length tests.tests)
+    → AreFaultFree own.flat.arranged tests.tests (map (λ row. row.items) rows.items)
+    → IsWhole new
+taken own new tests rows is was listed width count words = subst IsWhole (sym is) (record {
+  together = record {
+    circuit = was.together.circuit;
+    list = was.together.list;
+    classes = was.together.classes;
+    tests = listed;
+    width = width;
+  };
+  count = count;
+  fault_free = words;
+  stem_count = was.stem_count;
+  stems = was.stems;
+  nexts = was.nexts;
+  next_within = was.next_within;
+  stuck_count = was.stuck_count;
+  stucks_are = was.stucks_are;
+})

@@ -1,12 +1,16 @@
 -- Rows of words, one a group.
 use Rattle.std.proofs.Common.{◌≡◌, ◌<◌, ℕ, zero, suc, refl, sym, ◌∙◌, ap, subst, List, [], ◌∷◌}
 use Rattle.std.proofs.Common.{◌++◌, length, arith, inl, inr, ◌⊎◌}
+use Rattle.std.proofs.Common.{◌+◌, ◌≤◌, length-append}
 use Rattle.std.specs.Prelude.{All, Some, None, map, slice_get, slice_index_or, unwrap_or}
+use Rattle.std.proofs.lemmas.List.{length_push}
 use Rattle.std.proofs.lemmas.Option.{get_or_from_slice_get}
 use Rattle.bench_net.specs.Statement.{Statement}
 use Rattle.bench_net.specs.Scan.{names}
 use Rattle.fault_model.specs.Solution.{Test}
 use Rattle.lists.proofs.Places.{place_within}
+use Rattle.block_sim.specs.GroupRows.{AreRowsFrom}
+use Rattle.block_sim.specs.Spans.{groups}
 use Rattle.block_sim.specs.Words.{AreWords}
 use Rattle.block_sim.specs.Job.{AreFaultFree}
 
@@ -28,22 +32,76 @@ pushed_get {X} (z ∷ xs) x y (suc i) e = go (pushed_get xs x y i e)
     go (inl h) = inl h
     go (inr h) = inr (ap suc h.0, h.1)
 
--- the words of one group more
-pub rows_more : (c : List Statement) (tests : List Test) (rows : List (List ℕ)) (row : List ℕ)
-    (group : ℕ) → length rows ≡ group → AreFaultFree c tests rows
-    → length row ≡ length (names c) → AreWords c tests group None row
-    → AreFaultFree c tests (rows ++ row ∷ [])
-rows_more c tests rows row group count before room words b r at = go (pushed_get rows row r b at)
+-- what stands in two lists put together stands in one of them
+pub appended_get : {X : Type 0} (xs ys : List X) (y : X) (i : ℕ) → slice_get (xs ++ ys) i ≡ Some y
+    → (slice_get xs i ≡ Some y) ⊎ ((j : ℕ) × (i ≡ length xs + j) × (slice_get ys j ≡ Some y))
+appended_get [] ys y i e = inr (i, omega arith, e)
+appended_get (z ∷ xs) ys y zero e = inl e
+appended_get {X} (z ∷ xs) ys y (suc i) e = go (appended_get xs ys y i e)
   where
-    go : (slice_get rows b ≡ Some r) ⊎ ((b ≡ length rows) × (row ≡ r))
-        → (length r ≡ length (names c)) × AreWords c tests b None r
-    go (inl h) = before b r h
-    go (inr h) =
-        let same : group ≡ b = sym count ∙ sym h.0 in (
+    go : (slice_get xs i ≡ Some y) ⊎ ((j : ℕ) × (i ≡ length xs + j) × (slice_get ys j ≡ Some y))
+        → (slice_get xs i ≡ Some y)
+        ⊎ ((j : ℕ) × (suc i ≡ suc (length xs) + j) × (slice_get ys j ≡ Some y))
+    go (inl h) = inl h
+    go (inr h) = inr (h.0, omega (arith, h.1), h.2)
+
+-- no group has no row
+pub no_rows : (c : List Statement) (tests : List Test) (first : ℕ) → first ≤ groups (length tests)
+    → AreRowsFrom c tests first []
+no_rows c tests first low = record {
+  within = omega (arith, low);
+  each = λ k row at. let bad : None ≡ Some row = at in absurd (cc);
+}
+
+-- the words of one group more
+pub rows_more : (c : List Statement) (tests : List Test) (first : ℕ) (rows : List (List ℕ))
+    (row : List ℕ) (group : ℕ) → first + length rows ≡ group → group < groups (length tests)
+    → AreRowsFrom c tests first rows → length row ≡ length (names c)
+    → AreWords c tests group None row → AreRowsFrom c tests first (rows ++ row ∷ [])
+rows_more c tests first rows row group count some before room words = record {
+  within = omega (arith, length_push rows row, count, some);
+  each = λ k r at. go k r (pushed_get rows row r k at);
+}
+  where
+    go : (k : ℕ) (r : List ℕ) → (slice_get rows k ≡ Some r) ⊎ ((k ≡ length rows) × (row ≡ r))
+        → (length r ≡ length (names c)) × AreWords c tests (first + k) None r
+    go k r (inl h) = before.each k r h
+    go k r (inr h) =
+        let same : group ≡ first + k = sym count ∙ ap (λ n. first + n) (sym h.0) in (
           ap length (sym h.1) ∙ room,
           subst (λ n. AreWords c tests n None r) same
               (subst (AreWords c tests group None) h.1 words),
         )
+
+-- the rows of the groups that follow
+pub rows_append : (c : List Statement) (tests : List Test) (rows more : List (List ℕ)) (first : ℕ)
+    → AreRowsFrom c tests 0 rows → first ≡ length rows → AreRowsFrom c tests first more
+    → AreRowsFrom c tests 0 (rows ++ more)
+rows_append c tests rows more first before follows behind = record {
+  within = omega (arith, length-append rows more, behind.within, follows);
+  each = λ k row at. go k row (appended_get rows more row k at);
+}
+  where
+    go : (k : ℕ) (row : List ℕ) → (slice_get rows k ≡ Some row)
+        ⊎ ((j : ℕ) × (k ≡ length rows + j) × (slice_get more j ≡ Some row))
+        → (length row ≡ length (names c)) × AreWords c tests (0 + k) None row
+    go k row (inl h) = before.each k row h
+    go k row (inr h) =
+        let own = behind.each h.0 row h.2 in
+        let same : first + h.0 ≡ 0 + k = omega (arith, follows, h.1) in (
+          own.0,
+          subst (λ n. AreWords c tests n None row) same own.1,
+        )
+
+-- rows from the first group on are the words of the first groups
+pub from_first : (c : List Statement) (tests : List Test) (rows : List (List ℕ))
+    → AreRowsFrom c tests 0 rows → AreFaultFree c tests rows
+from_first c tests rows are group row at =
+    let own = are.each group row at in
+    let same : 0 + group ≡ group = omega arith in (
+      own.0,
+      subst (λ n. AreWords c tests n None row) same own.1,
+    )
 
 -- what is so of each row is so of the row at a place
 pub each_row : (P : List ℕ → Type 0) (rows : List (List ℕ)) (at : ℕ) (row : List ℕ) → All P rows

@@ -14,17 +14,20 @@ ghost use Rattle.block_sim.specs.Spans.{groups, span_of};
 ghost use Rattle.block_sim.specs.Words.{IsFaultFreeWord};
 
 use crate::block_lanes::block_word;
+use crate::fault_free::{fault_free_rows, fault_free_rows_in_threads};
 use crate::flat::FlatCircuit;
 use crate::origin::{Listed, representatives_of};
 use crate::region_classes::{class_stems, next_with_stem};
 use crate::span::Span;
 use crate::view::GroupWords;
-use crate::words::{Stuck, evaluate};
+use crate::words::Stuck;
 use bench_net::Circuit;
 use fault_model::{Classes, Faults};
 use patterns::{MAX_PIECES, Tests};
 use std::alloc::{AllocError, Global};
 use std::marker::Model;
+use std::sync::Wait;
+use std::thread::Threads;
 use thiserror::Error;
 
 /// Why a job is refused.
@@ -70,6 +73,16 @@ struct JobParts {
     class_stems: Vec<u32>,
     next_in_region: Vec<u32>,
     representatives: Vec<Stuck>,
+}
+
+impl JobParts {
+    /// Takes other tests and their words.
+    fn take_tests(&mut self, tests: Tests, rows: Vec<Vec<u128>>)
+        ensures { self.new ≡ record self.old { tests = tests; rows = rows } }
+    {
+        self.tests = tests;
+        self.rows = rows;
+    }
 }
 
 impl Model for Job {
@@ -162,6 +175,103 @@ impl Job {
     {
         let flat = FlatCircuit::new(alloc, circuit)?;
         let rows = fault_free_rows(alloc, &flat, &tests)?;
+        Job::with_rows(alloc, flat, faults, classes, tests, rows)
+    }
+
+    /// A job as [`Job::new`] makes it, with the same refusals, by no more threads than there are
+    /// workers: the words of its blocks are shared out among them. If the start of a thread is
+    /// refused, the caller's thread does its work.
+    pub fn new_in_threads<R: Threads + Wait>(
+        rt: &R,
+        alloc: Global,
+        circuit: Circuit,
+        faults: Faults,
+        classes: Classes,
+        tests: Tests,
+        workers: u32,
+    ) -> Result<Job, JobFault>
+        requires { BelongTogether (record {
+          circuit = circuit;
+          list = faults;
+          classes = classes;
+          tests = tests;
+        }) }
+        ensures too_many { (result ≡ Err JobFault.TooManyPieces)
+            ↔ (max_pieces < piece_count (record {
+              circuit = circuit;
+              list = faults;
+              classes = classes;
+              tests = tests;
+            })) }
+        ensures few { IfOk result (λ job. piece_count job ≤ max_pieces) }
+        ensures job { IfOk result (λ job. job ≡ record {
+          circuit = circuit;
+          list = faults;
+          classes = classes;
+          tests = tests;
+        }) }
+    {
+        if has_too_many_pieces(&classes, &tests) {
+            return Err(JobFault::TooManyPieces);
+        }
+        let made = Job::of_any_size_in_threads(rt, alloc, circuit, faults, classes, tests, workers);
+        Ok(made?)
+    }
+
+    /// A job as [`Job::of_any_size`] makes it, by threads as in [`Job::new_in_threads`].
+    pub fn of_any_size_in_threads<R: Threads + Wait>(
+        rt: &R,
+        alloc: Global,
+        circuit: Circuit,
+        faults: Faults,
+        classes: Classes,
+        tests: Tests,
+        workers: u32,
+    ) -> Result<Job, AllocError>
+        requires { BelongTogether (record {
+          circuit = circuit;
+          list = faults;
+          classes = classes;
+          tests = tests;
+        }) }
+        ensures { IfOk result (λ job. job ≡ record {
+          circuit = circuit;
+          list = faults;
+          classes = classes;
+          tests = tests;
+        }) }
+    {
+        let flat = FlatCircuit::new(alloc, circuit)?;
+        let rows = fault_free_rows_in_threads(rt, alloc, &flat, &tests, workers)?;
+        Job::with_rows(alloc, flat, faults, classes, tests, rows)
+    }
+
+    /// The job of a circuit in flat rows whose fault-free words these are.
+    fn with_rows(
+        alloc: Global,
+        flat: FlatCircuit,
+        faults: Faults,
+        classes: Classes,
+        tests: Tests,
+        rows: Vec<Vec<u128>>,
+    ) -> Result<Job, AllocError>
+        requires together { BelongTogether (record {
+          circuit = flat.statements;
+          list = faults;
+          classes = classes;
+          tests = tests;
+        }) }
+        requires count { length (map (λ row. row.items) rows.items)
+            ≡ groups (length tests.tests) }
+        requires rows { AreFaultFree flat.arranged tests.tests
+            (map (λ row. row.items) rows.items) }
+        ensures { IfOk result (λ job. job ≡ record {
+          circuit = flat.statements;
+          list = faults;
+          classes = classes;
+          tests = tests;
+        }) }
+    {
         let class_stems = class_stems(alloc, flat.circuit(), &faults, &classes)?;
         let representatives = representatives_of(alloc, flat.circuit(), &faults, &classes)?;
         let signals = flat.signals();
@@ -211,9 +321,48 @@ impl Job {
         ensures kept { IfErr result (λ fault. self.new ≡ self.old) }
     {
         let rows = fault_free_rows(alloc, &self.parts.flat, &tests)?;
-        let parts = &mut *self.parts;
-        parts.tests = tests;
-        parts.rows = rows;
+        self.parts.take_tests(tests, rows);
+        Ok(())
+    }
+
+    /// Takes other tests as [`Job::set_tests`] does, by threads as in [`Job::new_in_threads`].
+    pub fn set_tests_in_threads<R: Threads + Wait>(
+        &mut self,
+        rt: &R,
+        alloc: Global,
+        tests: Tests,
+        workers: u32,
+    ) -> Result<(), JobFault>
+        requires tests { IsTestList tests }
+        requires width { tests.width ≡ length (sources self.old.circuit) }
+        ensures too_many { (result ≡ Err JobFault.TooManyPieces)
+            ↔ (max_pieces < piece_count (with_tests self.old tests)) }
+        ensures few { OnOk result (piece_count self.new ≤ max_pieces) }
+        ensures job { OnOk result (self.new ≡ with_tests self.old tests) }
+        ensures kept { IfErr result (λ fault. self.new ≡ self.old) }
+    {
+        if has_too_many_pieces(&self.parts.classes, &tests) {
+            return Err(JobFault::TooManyPieces);
+        }
+        Ok(self.set_tests_of_any_size_in_threads(rt, alloc, tests, workers)?)
+    }
+
+    /// Takes other tests as [`Job::set_tests_of_any_size`] does, by threads as in
+    /// [`Job::new_in_threads`].
+    pub fn set_tests_of_any_size_in_threads<R: Threads + Wait>(
+        &mut self,
+        rt: &R,
+        alloc: Global,
+        tests: Tests,
+        workers: u32,
+    ) -> Result<(), AllocError>
+        requires tests { IsTestList tests }
+        requires width { tests.width ≡ length (sources self.old.circuit) }
+        ensures job { OnOk result (self.new ≡ with_tests self.old tests) }
+        ensures kept { IfErr result (λ fault. self.new ≡ self.old) }
+    {
+        let rows = fault_free_rows_in_threads(rt, alloc, &self.parts.flat, &tests, workers)?;
+        self.parts.take_tests(tests, rows);
         Ok(())
     }
 
@@ -352,28 +501,4 @@ fn has_too_many_pieces(classes: &Classes, tests: &Tests) -> bool
         < length classes.now.representative * blocks (length tests.now.tests)) }
 {
     u64::from(classes.count()) * u64::from(tests.blocks()) > u64::from(MAX_PIECES)
-}
-
-/// The words of every group of two blocks without a fault, one row a group.
-fn fault_free_rows(
-    alloc: Global,
-    circuit: &FlatCircuit,
-    tests: &Tests,
-) -> Result<Vec<Vec<u128>>, AllocError>
-    requires width { tests.now.width ≡ length (sources circuit.now.statements) }
-    ensures count { IfOk result (λ rows. length (map (λ row. row.items) rows.items)
-        ≡ groups (length tests.now.tests)) }
-    ensures rows { IfOk result (λ rows. AreFaultFree circuit.now.arranged tests.now.tests
-        (map (λ row. row.items) rows.items)) }
-{
-    let signals = circuit.signals() as usize;
-    let same = vec![in alloc; 0u128; signals]?;
-    let mut evaluations = 0;
-    let mut rows = Vec::new(alloc);
-    for group in 0..tests.blocks().div_ceil(2) {
-        let mut row = vec![in alloc; 0u128; signals]?;
-        evaluate(circuit, tests, group, &mut row, &same, &mut evaluations);
-        rows.push(row)?;
-    }
-    Ok(rows)
 }

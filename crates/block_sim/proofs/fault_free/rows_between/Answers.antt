@@ -1,12 +1,12 @@
-use Rattle.std.proofs.Common.{◌≡◌, ◌+◌, ◌∙◌, ◌∷◌, ◌++◌, [], ℕ, ap, subst, sym, arith, length, Vec}
+use Rattle.std.proofs.Common.{◌≡◌, ◌∙◌, ◌∷◌, ◌++◌, [], ℕ, ap, subst, sym, arith, length, Vec}
 use Rattle.std.proofs.Common.{Global}
 use Rattle.std.specs.Prelude.{map, vec_len}
 use Rattle.std.proofs.lemmas.List.{map-append, length_push, with_items_is}
 use Rattle.bench_net.specs.Scan.{names}
-use Rattle.block_sim.specs.Job.{AreFaultFree}
+use Rattle.block_sim.specs.GroupRows.{AreRowsFrom}
 use Rattle.block_sim.proofs.ArrangedSignals.{sources_there}
 use Rattle.block_sim.proofs.Rows.{rows_more}
-use Rattle.block_sim.proofs.job.fault_free_rows.Goals as goal
+use Rattle.block_sim.proofs.fault_free.rows_between.Goals as goal
 
 pub evaluate-requires-clause-width : goal.evaluate-requires-clause-width
 evaluate-requires-clause-width c =
@@ -34,11 +34,16 @@ loop-group-preserved c =
     ap (map items) c.in_ok-push.ensures.items ∙ (map-append items c.loop-group.rows.items _
     ∙ ap (λ row. before ++ row ∷ []) (with_items_is c.in_ok-row.row words long)) in
     record {
-      count = ap length pushed ∙ (length_push before words
-          ∙ ap (λ n. n + 1) c.loop-group.invariant.count);
-      rows = subst (AreFaultFree c.args.circuit.now.arranged c.args.tests.now.tests) (sym pushed)
-          (rows_more c.args.circuit.now.arranged c.args.tests.now.tests before words
-          c.loop-group.group
-          c.loop-group.invariant.count c.loop-group.invariant.rows room
+      count = omega (
+        arith,
+        ap length pushed,
+        length_push before words,
+        c.loop-group.invariant.count,
+      );
+      rows = subst (AreRowsFrom c.args.circuit.now.arranged c.args.tests.now.tests c.args.first)
+          (sym pushed)
+          (rows_more c.args.circuit.now.arranged c.args.tests.now.tests c.args.first before words
+          c.loop-group.group c.loop-group.invariant.count (omega (arith, c.loop-group-test.true, c.requires.end))
+          c.loop-group.invariant.rows room
           c.evaluate.ensures.words);
     }

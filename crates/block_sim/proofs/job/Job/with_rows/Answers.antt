@@ -1,12 +1,11 @@
-use Rattle.std.proofs.Common.{◌≡◌, ◌<◌, ◌∙◌, ap, arith, length, subst, sym}
+use Rattle.std.proofs.Common.{◌≡◌, ◌<◌, ◌∙◌, ap, arith, length, subst}
 use Rattle.std.specs.Prelude.{slice_index_or}
 use Rattle.std.proofs.lemmas.Option.{slice_get-get_or}
 use Rattle.bench_net.specs.Scan.{names}
 use Rattle.block_sim.specs.Origins.{HaveRepresentatives}
-use Rattle.block_sim.specs.Parts.{BelongTogether}
 use Rattle.block_sim.specs.Regions.{HaveStems}
 use Rattle.block_sim.proofs.PartsOfJobs.{whole}
-use Rattle.block_sim.proofs.job.Job.of_any_size.Goals as goal
+use Rattle.block_sim.proofs.job.Job.with_rows.Goals as goal
 
 pub next_with_stem-requires-clause-stems : goal.next_with_stem-requires-clause-stems
 next_with_stem-requires-clause-stems c = λ k d lt.
@@ -23,14 +22,9 @@ invariant_of-result c =
     let counted : length c.as_slice.result.now ≡ length c.args.classes.representative =
     ap length c.as_slice.ensures.value ∙ c.in_ok-class_stems.ensures.count in
     whole c.in_ok-parts.ensures.ok (record {
-      together = subst (λ x. BelongTogether (record {
-        circuit = x;
-        list = c.args.faults;
-        classes = c.args.classes;
-        tests = c.args.tests;
-      })) (sym c.in_ok-flat.ensures) c.requires;
-      count = c.in_ok-rows.ensures.count;
-      fault_free = c.in_ok-rows.ensures.rows;
+      together = c.requires.together;
+      count = c.requires.count;
+      fault_free = c.requires.rows;
       stem_count = c.in_ok-class_stems.ensures.count;
       stems = subst (λ x. HaveStems c.args.faults.model x c.in_ok-class_stems.class_stems.items)
           c.circuit.ensures c.in_ok-class_stems.ensures.stems;

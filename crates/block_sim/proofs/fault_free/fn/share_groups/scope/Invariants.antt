@@ -1,0 +1,11 @@
+use Rattle.std.proofs.Common.{◌≡◌, ◌<◌, ◌≤◌, ℕ, get_or, vec_items, vec_len}
+use Rattle.block_sim.proofs.fault_free.fn.share_groups.scope.Given as goal
+
+-- no group is given out past the last, and each handle is promised words of these tests
+abbrev pub invariant-loop-thread : goal.invariant-loop-thread
+invariant-loop-thread g l = record {
+  low : l.first ≤ l.count;
+  each : (k : ℕ) (d : _) → k < vec_len l.handles
+      → ((get_or (vec_items l.handles) k d).promise.circuit.value ≡ l.circuit.now)
+      × ((get_or (vec_items l.handles) k d).promise.tests.value ≡ l.tests.now);
+}

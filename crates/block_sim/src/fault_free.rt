@@ -1,0 +1,220 @@
+//! The words of all signals without a fault, worked out in one thread or in several.
+
+ghost use Rattle.std.specs.Prelude.{◌≡◌, ◌+◌, ◌<◌, ◌≤◌, ℕ, IfOk, length, map};
+ghost use Rattle.bench_net.specs.Scan.{sources};
+ghost use Rattle.block_sim.specs.GroupRows.{AreRowsFrom, HasRows, HaveRows};
+ghost use Rattle.block_sim.specs.Job.{AreFaultFree};
+ghost use Rattle.block_sim.specs.Spans.{groups};
+
+use crate::flat::FlatCircuit;
+use crate::words::evaluate;
+use patterns::Tests;
+use std::alloc::{AllocError, Global};
+use std::snapshot::Snapshot;
+use std::sync::Wait;
+use std::thread;
+use std::thread::{Promise, Threads};
+
+/// So many words take about a millisecond, some twenty times as long as the start of a thread.
+const WORDS_OF_A_THREAD: u64 = 1 << 15;
+
+/// No more threads than this work out words, whatever is asked for.
+const MAX_THREADS: u32 = 64;
+
+/// The words of groups that follow each other.
+#[derive(Drop)]
+struct GroupRows {
+    /// The first of the groups.
+    first: u32,
+    /// For each group the word of each signal, at the signal's place.
+    rows: Vec<Vec<u128>>,
+}
+
+/// The words of every group of two blocks without a fault, one row a group.
+pub fn fault_free_rows(
+    alloc: Global,
+    circuit: &FlatCircuit,
+    tests: &Tests,
+) -> Result<Vec<Vec<u128>>, AllocError>
+    requires width { tests.now.width ≡ length (sources circuit.now.statements) }
+    ensures count { IfOk result (λ rows. length (map (λ row. row.items) rows.items)
+        ≡ groups (length tests.now.tests)) }
+    ensures rows { IfOk result (λ rows. AreFaultFree circuit.now.arranged tests.now.tests
+        (map (λ row. row.items) rows.items)) }
+{
+    rows_between(alloc, circuit, tests, 0, groups_of(tests))
+}
+
+/// The rows of [`fault_free_rows`], by no more threads than there are workers. Each thread works
+/// out the rows of groups that follow each other, and the caller's thread those of a thread that
+/// was refused. A job of few words is worked out by the caller's thread alone.
+pub fn fault_free_rows_in_threads<R: Threads + Wait>(
+    rt: &R,
+    alloc: Global,
+    circuit: &FlatCircuit,
+    tests: &Tests,
+    workers: u32,
+) -> Result<Vec<Vec<u128>>, AllocError>
+    requires width { tests.now.width ≡ length (sources circuit.now.statements) }
+    ensures count { IfOk result (λ rows. length (map (λ row. row.items) rows.items)
+        ≡ groups (length tests.now.tests)) }
+    ensures rows { IfOk result (λ rows. AreFaultFree circuit.now.arranged tests.now.tests
+        (map (λ row. row.items) rows.items)) }
+{
+    let threads = threads_for(circuit.signals(), groups_of(tests), workers);
+    if threads < 2 {
+        return fault_free_rows(alloc, circuit, tests);
+    }
+    let parts = share_groups(rt, alloc, circuit, tests, threads)?;
+    join_rows(alloc, circuit, tests, parts)
+}
+
+/// How many groups of two blocks the tests have.
+fn groups_of(tests: &Tests) -> u32
+    ensures { result ≡ groups (length tests.now.tests) }
+{
+    tests.blocks().div_ceil(2)
+}
+
+/// How many threads are worth their start: each works out so many words, and some group.
+fn threads_for(signals: u32, groups: u32, workers: u32) -> u32 {
+    let worth = u64::from(signals) * u64::from(groups) / WORDS_OF_A_THREAD;
+    let most = workers.min(groups).min(MAX_THREADS);
+    u64::from(most).min(worth) as u32
+}
+
+/// The words of the groups from one up to another, which is not among them.
+fn rows_between(
+    alloc: Global,
+    circuit: &FlatCircuit,
+    tests: &Tests,
+    first: u32,
+    end: u32,
+) -> Result<Vec<Vec<u128>>, AllocError>
+    requires width { tests.now.width ≡ length (sources circuit.now.statements) }
+    requires order { first ≤ end }
+    requires end { end ≤ groups (length tests.now.tests) }
+    ensures count { IfOk result (λ rows. first + length (map (λ row. row.items) rows.items)
+        ≡ end) }
+    ensures rows { IfOk result (λ rows. AreRowsFrom circuit.now.arranged tests.now.tests first
+        (map (λ row. row.items) rows.items)) }
+{
+    let signals = circuit.signals() as usize;
+    let same = vec![in alloc; 0u128; signals]?;
+    let mut evaluations = 0;
+    let mut rows = Vec::new(alloc);
+    for group in first..end {
+        let mut row = vec![in alloc; 0u128; signals]?;
+        evaluate(circuit, tests, group, &mut row, &same, &mut evaluations);
+        rows.push(row)?;
+    }
+    Ok(rows)
+}
+
+/// What a thread is promised to give back: words of the groups of these tests.
+#[derive(Drop)]
+struct WordsOf {
+    circuit: Snapshot<FlatCircuit>,
+    tests: Snapshot<Tests>,
+}
+
+impl Promise<Result<GroupRows, AllocError>> for WordsOf {
+    ghost use Rattle.block_sim.specs.GroupRows.{HasRows};
+
+    ghost kept_by = { λ p r. HasRows p.circuit.value.arranged p.tests.value.tests r };
+}
+
+/// The work of one thread.
+fn group_rows(
+    alloc: Global,
+    circuit: &FlatCircuit,
+    tests: &Tests,
+    first: u32,
+    end: u32,
+) -> Result<GroupRows, AllocError>
+    requires width { tests.now.width ≡ length (sources circuit.now.statements) }
+    requires order { first ≤ end }
+    requires end { end ≤ groups (length tests.now.tests) }
+    ensures { HasRows circuit.now.arranged tests.now.tests result }
+{
+    let rows = rows_between(alloc, circuit, tests, first, end)?;
+    Ok(GroupRows { first, rows })
+}
+
+/// The words of the groups, by so many threads, each of which has as many groups as the others but
+/// for the last. Where the start of a thread is refused no further one is started, and the rows of
+/// the groups from there on are missing.
+fn share_groups<R: Threads + Wait>(
+    rt: &R,
+    alloc: Global,
+    circuit: &FlatCircuit,
+    tests: &Tests,
+    threads: u32,
+) -> Result<Vec<Result<GroupRows, AllocError>>, AllocError>
+    requires width { tests.now.width ≡ length (sources circuit.now.statements) }
+    requires some { 0 < threads }
+    ensures { IfOk result (λ parts. HaveRows circuit.now.arranged tests.now.tests parts.items) }
+{
+    thread::scope(
+        thread::scope_env(),
+        rt,
+        |scope| -> Result<Vec<Result<GroupRows, AllocError>>, AllocError>
+            requires width { tests.now.width ≡ length (sources circuit.now.statements) }
+            requires some { 0 < threads }
+            ensures { IfOk result (λ parts. HaveRows circuit.entry.now.arranged
+                tests.entry.now.tests parts.items) }
+        {
+            let count = groups_of(tests);
+            let size = count.div_ceil(threads);
+            let mut handles = Vec::with_capacity(alloc, threads as usize)?;
+            let mut first = 0;
+            for _thread in 0..threads {
+                let end = first + size.min(count - first);
+                let promised = WordsOf {
+                    circuit: Snapshot::of(circuit),
+                    tests: Snapshot::of(tests),
+                };
+                let Ok(handle) = scope.spawn_with(
+                    promised,
+                    move || group_rows(alloc, circuit, tests, first, end),
+                ) else {
+                    break;
+                };
+                handles.push(handle)?;
+                first = end;
+            }
+            match thread::join_promised(rt, handles) {
+                Ok(parts) => Ok(parts),
+                Err(_) => Err(AllocError),
+            }
+        },
+    )
+}
+
+/// The rows of all groups: those that threads gave back, one part after another, and then those
+/// that are missing.
+fn join_rows(
+    alloc: Global,
+    circuit: &FlatCircuit,
+    tests: &Tests,
+    parts: Vec<Result<GroupRows, AllocError>>,
+) -> Result<Vec<Vec<u128>>, AllocError>
+    requires width { tests.now.width ≡ length (sources circuit.now.statements) }
+    requires parts { HaveRows circuit.now.arranged tests.now.tests parts.items }
+    ensures count { IfOk result (λ rows. length (map (λ row. row.items) rows.items)
+        ≡ groups (length tests.now.tests)) }
+    ensures rows { IfOk result (λ rows. AreFaultFree circuit.now.arranged tests.now.tests
+        (map (λ row. row.items) rows.items)) }
+{
+    let count = groups_of(tests);
+    let mut all = Vec::with_capacity(alloc, count as usize)?;
+    for part in parts {
+        let GroupRows { first, mut rows } = part?;
+        if first as usize == all.len() {
+            all.append(&mut rows)?;
+        }
+    }
+    let mut rest = rows_between(alloc, circuit, tests, all.len() as u32, count)?;
+    all.append(&mut rest)?;
+    Ok(all)
+}
