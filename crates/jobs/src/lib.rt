@@ -10,5 +10,8 @@ mod texts;
 mod watch;
 
 pub use fault::{ReportFault, SimFault};
-pub use texts::{job_for, job_of, job_of_any_size, read_inputs};
+pub use texts::{
+    job_for, job_for_in_threads, job_of, job_of_any_size, job_of_any_size_in_threads,
+    job_of_in_threads, read_inputs,
+};
 pub use watch::{Watch, run_watched};

@@ -14,6 +14,8 @@ use block_sim::Job;
 use fault_model::{Model, collapse, list_faults_in};
 use patterns::{Tests, read_tests};
 use std::alloc::{AllocError, Global};
+use std::sync::Wait;
+use std::thread::Threads;
 
 /// The job of a bench text and a test text under a model.
 ///
@@ -26,6 +28,24 @@ pub fn job_of(alloc: Global, model: Model, bench: &[u8], tests: &[u8]) -> Result
 {
     let (circuit, tests) = read_inputs(alloc, bench, tests)?;
     job_for(alloc, model, circuit, tests)
+}
+
+/// The job that [`job_of`] makes, with the same refusals, by no more threads than there are workers
+/// ([`Job::new_in_threads`]).
+pub fn job_of_in_threads<R: Threads + Wait>(
+    rt: &R,
+    alloc: Global,
+    model: Model,
+    bench: &[u8],
+    tests: &[u8],
+    workers: u32,
+) -> Result<Job, SimFault>
+    ensures job { IfOk result (IsJobOf model bench.now tests.now) }
+    ensures few { IfOk result (λ job. piece_count job ≤ max_pieces) }
+    ensures refused { IfErr result (IsJobFault model bench.now tests.now) }
+{
+    let (circuit, tests) = read_inputs(alloc, bench, tests)?;
+    job_for_in_threads(rt, alloc, model, circuit, tests, workers)
 }
 
 /// The job of a bench text and a test text under a model, whatever the number of its pieces.
@@ -42,6 +62,23 @@ pub fn job_of_any_size(
     Ok(make_any_job(alloc, model, circuit, tests)?)
 }
 
+/// The job that [`job_of_any_size`] makes, with the same refusals, by no more threads than there
+/// are workers ([`Job::new_in_threads`]).
+pub fn job_of_any_size_in_threads<R: Threads + Wait>(
+    rt: &R,
+    alloc: Global,
+    model: Model,
+    bench: &[u8],
+    tests: &[u8],
+    workers: u32,
+) -> Result<Job, SimFault>
+    ensures job { IfOk result (IsJobOf model bench.now tests.now) }
+    ensures refused { IfErr result (IsReadFault bench.now tests.now) }
+{
+    let (circuit, tests) = read_inputs(alloc, bench, tests)?;
+    Ok(make_any_job_in_threads(rt, alloc, model, circuit, tests, workers)?)
+}
+
 /// The job of a circuit and of tests for it under a model, whatever the number of its pieces.
 fn make_any_job(
     alloc: Global,
@@ -55,6 +92,23 @@ fn make_any_job(
     let faults = list_faults_in(alloc, &circuit, model)?;
     let classes = collapse(alloc, &circuit, &faults)?;
     Job::of_any_size(alloc, circuit, faults, classes, tests)
+}
+
+/// The job that [`make_any_job`] makes, by threads.
+fn make_any_job_in_threads<R: Threads + Wait>(
+    rt: &R,
+    alloc: Global,
+    model: Model,
+    circuit: Circuit,
+    tests: Tests,
+    workers: u32,
+) -> Result<Job, AllocError>
+    requires { AreTestsFor circuit tests }
+    ensures { IfOk result (IsJobFor model circuit tests) }
+{
+    let faults = list_faults_in(alloc, &circuit, model)?;
+    let classes = collapse(alloc, &circuit, &faults)?;
+    Job::of_any_size_in_threads(rt, alloc, circuit, faults, classes, tests, workers)
 }
 
 /// The circuit of a bench text, and the tests for it of a test text. The bench text is read first.
@@ -80,4 +134,24 @@ pub fn job_for(alloc: Global, model: Model, circuit: Circuit, tests: Tests) -> R
     let faults = list_faults_in(alloc, &circuit, model)?;
     let classes = collapse(alloc, &circuit, &faults)?;
     Ok(Job::new(alloc, circuit, faults, classes, tests)?)
+}
+
+/// The job that [`job_for`] makes, with the same refusals, by no more threads than there are
+/// workers ([`Job::new_in_threads`]).
+pub fn job_for_in_threads<R: Threads + Wait>(
+    rt: &R,
+    alloc: Global,
+    model: Model,
+    circuit: Circuit,
+    tests: Tests,
+    workers: u32,
+) -> Result<Job, SimFault>
+    requires { AreTestsFor circuit tests }
+    ensures job { IfOk result (IsJobFor model circuit tests) }
+    ensures few { IfOk result (λ job. piece_count job ≤ max_pieces) }
+    ensures refused { IfErr result (IsPiecesFault model circuit tests) }
+{
+    let faults = list_faults_in(alloc, &circuit, model)?;
+    let classes = collapse(alloc, &circuit, &faults)?;
+    Ok(Job::new_in_threads(rt, alloc, circuit, faults, classes, tests, workers)?)
 }
