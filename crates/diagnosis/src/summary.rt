@@ -136,7 +136,7 @@ impl Counts {
             .saturating_add(u64::from(self.faults).saturating_mul(4))
             .saturating_add(classes.saturating_mul(12 + 40));
         let each = signals
-            .saturating_mul(33)
+            .saturating_mul(53)
             .saturating_add(classes.saturating_mul(48));
         text.saturating_add(words)
             .saturating_add(lists)
