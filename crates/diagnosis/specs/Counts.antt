@@ -1,24 +1,39 @@
 -- How much a circuit and its tests have of what.
-use Rattle.std.specs.Prelude.{◌≡◌, List, length}
+use Rattle.std.specs.Prelude.{◌≡◌, ◌<◌, ◌*◌, ℕ, List, length}
 use Rattle.bench_net.specs.Level.{HasDepth}
-use Rattle.bench_net.specs.Scan.{names}
+use Rattle.bench_net.specs.Scan.{cells, inputs, names, outputs}
 use Rattle.bench_net.specs.Statement.{Statement}
 use Rattle.fault_model.specs.declared.Model.{Model}
 use Rattle.fault_model.specs.Collapse.{Collapsed, AreClassesOf}
 use Rattle.fault_model.specs.Fault.{faults}
-use Rattle.patterns.specs.Tests.{TestList, blocks}
+use Rattle.patterns.specs.Tests.{TestList, blocks, max_pieces}
+use Rattle.block_sim.specs.Parts.{Parts, piece_count}
 use Rattle.diagnosis.specs.declared.summary.Counts.{Counts}
+use Rattle.diagnosis.specs.declared.summary.Excess.{Excess}
 use Rattle.diagnosis.specs.declared.summary.TestCounts.{TestCounts}
 
--- signals, depth, faults and classes are those of the circuit under the model
+-- inputs, outputs, flip-flops, signals, depth, faults and classes are those of the circuit under
+-- the model, which is named
 pub record AreCountsOf (m : Model) (c : List Statement) (counts : Counts) : Type 0 where
+  pub model : counts.model ≡ m
+  pub inputs : counts.inputs ≡ length (inputs c)
+  pub outputs : counts.outputs ≡ length (outputs c)
+  pub cells : counts.cells ≡ length (cells c)
   pub signals : counts.signals ≡ length (names c)
   pub depth : HasDepth c counts.depth
   pub faults : counts.faults ≡ length (faults m c)
   pub classes : (classes : Collapsed) × AreClassesOf m c classes
       × (counts.classes ≡ length classes.representative)
 
--- tests and blocks are those of the tests
-pub record AreTestCountsOf (list : TestList) (taken : TestCounts) : Type 0 where
+-- tests and blocks are those of the tests, and each of so many classes makes a piece with each block
+pub record AreTestCountsOf (classes : ℕ) (list : TestList) (taken : TestCounts) : Type 0 where
   pub tests : taken.tests ≡ length list.tests
   pub blocks : taken.blocks ≡ blocks (length list.tests)
+  pub pieces : taken.pieces ≡ classes * taken.blocks
+
+-- the pieces of a job are past the limit, and so many
+pub record IsExcessOf (job : Parts) (excess : Excess) : Type 0 where
+  pub past : max_pieces < piece_count job
+  pub classes : excess.classes ≡ length job.classes.representative
+  pub blocks : excess.blocks ≡ blocks (length job.tests.tests)
+  pub pieces : excess.pieces ≡ piece_count job

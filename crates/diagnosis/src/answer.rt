@@ -1,10 +1,12 @@
 //! What is found of a bench text and a test text together.
 
-ghost use Rattle.std.specs.Prelude.{IfOk};
-ghost use Rattle.diagnosis.specs.Checks.{IsAnswerTo};
+ghost use Rattle.std.specs.Prelude.{IfOk, option_map};
+ghost use Rattle.bench_net.specs.Circuit.{IsCircuit};
+ghost use Rattle.jobs.specs.Jobs.{AreTestsFor};
+ghost use Rattle.diagnosis.specs.Checks.{IsAnswerTo, IsCircuitAnswer, IsTestsAnswer, IsTextAnswer};
 
 use crate::bench::{BenchCheck, check_bench};
-use crate::summary::{Counts, Excess, count_circuit, count_tests, excess_of};
+use crate::summary::{Excess, count_circuit, count_tests, excess_of};
 use crate::tests::{TestCheck, check_tests};
 use bench_net::Circuit;
 use fault_model::Model;
@@ -33,24 +35,13 @@ pub fn check_texts<'a>(
     bench: &'a [u8],
     tests: Option<&'a [u8]>,
 ) -> Result<Answer<'a>, AllocError>
-    ensures { IfOk result (IsAnswerTo bench.now) }
+    ensures { IfOk result
+        (IsAnswerTo model bench.now (option_map (λ text. text.now) tests.entry)) }
 {
     match check_bench(alloc, bench)? {
-        BenchCheck::Accepted(circuit) => match answer_for(alloc, model, &circuit, tests)? {
-            CircuitAnswer::Accepted(table) => Ok(Answer::Accepted(table)),
-            CircuitAnswer::TestsRefused(findings) => Ok(Answer::TestsRefused(findings)),
-            CircuitAnswer::TooManyPieces(excess) => Ok(Answer::TooManyPieces(excess)),
-        },
+        BenchCheck::Accepted(circuit) => answer_for(alloc, model, &circuit, tests),
         BenchCheck::Refused(findings) => Ok(Answer::BenchRefused(findings)),
     }
-}
-
-/// What is found of a circuit and the texts of a run.
-#[derive(Drop)]
-enum CircuitAnswer<'a> {
-    Accepted(String),
-    TestsRefused(Findings<'a>),
-    TooManyPieces(Excess),
 }
 
 /// The answer for a circuit.
@@ -59,38 +50,77 @@ fn answer_for<'a>(
     model: Model,
     circuit: &Circuit,
     tests: Option<&'a [u8]>,
-) -> Result<CircuitAnswer<'a>, AllocError> {
-    let counts = count_circuit(alloc, model, circuit)?;
-    let Some(text) = tests else {
-        let mut table = format!(in alloc; "{counts}")?;
-        add_warnings(&mut table, alloc, &circuit_warnings(alloc, circuit)?)?;
-        return Ok(CircuitAnswer::Accepted(table));
-    };
-    match check_tests(alloc, text, circuit)? {
-        TestCheck::Accepted(tests) => answer_for_tests(alloc, circuit, &counts, &tests),
-        TestCheck::Refused(findings) => Ok(CircuitAnswer::TestsRefused(findings)),
+) -> Result<Answer<'a>, AllocError>
+    requires { IsCircuit circuit.now }
+    ensures { IfOk result
+        (IsCircuitAnswer model circuit.now (option_map (λ text. text.now) tests.entry)) }
+{
+    match tests {
+        Some(text) => answer_for_text(alloc, model, circuit, text),
+        None => {
+            let counts = count_circuit(alloc, model, circuit)?;
+            let mut table = format!(in alloc; "{counts}")?;
+            add_warnings(&mut table, alloc, &circuit_warnings(alloc, circuit)?)?;
+            Ok(Answer::Accepted(table))
+        }
     }
 }
 
-/// The answer for a circuit with these counts and tests for it.
+/// The answer for a circuit and the text of tests.
+fn answer_for_text<'a>(
+    alloc: Global,
+    model: Model,
+    circuit: &Circuit,
+    text: &'a [u8],
+) -> Result<Answer<'a>, AllocError>
+    requires { IsCircuit circuit.now }
+    ensures { IfOk result (IsTextAnswer model circuit.now text.now) }
+{
+    match check_tests(alloc, text, circuit)? {
+        TestCheck::Accepted(tests) => answer_for_tests(alloc, model, circuit, &tests),
+        TestCheck::Refused(findings) => Ok(Answer::TestsRefused(findings)),
+    }
+}
+
+/// The answer for a circuit and tests for it.
 fn answer_for_tests<'a>(
     alloc: Global,
+    model: Model,
     circuit: &Circuit,
-    counts: &Counts,
     tests: &Tests,
-) -> Result<CircuitAnswer<'a>, AllocError> {
-    let taken = count_tests(counts, tests);
-    if let Some(excess) = excess_of(counts, &taken) {
-        return Ok(CircuitAnswer::TooManyPieces(excess));
+) -> Result<Answer<'a>, AllocError>
+    requires { AreTestsFor circuit.now tests.now }
+    ensures { IfOk result (IsTestsAnswer model circuit.now tests.now) }
+{
+    let counts = count_circuit(alloc, model, circuit)?;
+    let taken = count_tests(&counts, tests);
+    match excess_of(&counts, &taken) {
+        Some(excess) => Ok(Answer::TooManyPieces(excess)),
+        None => {
+            let table = format!(in alloc; "{counts}{taken}")?;
+            Ok(Answer::Accepted(with_warnings(
+                alloc, model, table, circuit, tests,
+            )?))
+        }
     }
-    let mut table = format!(in alloc; "{counts}{taken}")?;
+}
+
+/// A table with a line for each warning of a circuit and of tests for it.
+fn with_warnings(
+    alloc: Global,
+    model: Model,
+    table: String,
+    circuit: &Circuit,
+    tests: &Tests,
+) -> Result<String, AllocError> {
+    let mut table = table;
     add_warnings(&mut table, alloc, &circuit_warnings(alloc, circuit)?)?;
-    let warnings = match counts.model {
+    let warnings = match model {
         Model::StuckAt | Model::Transition => test_warnings(alloc, circuit, tests)?,
         Model::TransitionPairs => pair_warnings(alloc, circuit, tests)?,
     };
     add_warnings(&mut table, alloc, &warnings)?;
-    Ok(CircuitAnswer::Accepted(table))
+    Ok(table)
 }
 
 /// Adds a line for each warning to a table.

@@ -1,6 +1,7 @@
 //! What a circuit and its tests have, and what a run of them takes.
 
-ghost use Rattle.std.specs.Prelude.{IfOk};
+ghost use Rattle.std.specs.Prelude.{◌≡◌, ◌<◌, ◌≤◌, IfNone, IfOk, IfSome};
+ghost use Rattle.patterns.specs.Tests.{max_pieces};
 ghost use Rattle.diagnosis.specs.Counts.{AreCountsOf, AreTestCountsOf};
 
 use bench_net::{Circuit, Kind};
@@ -215,7 +216,7 @@ pub struct TestCounts {
 
 /// Counts what a run of tests takes on a circuit with these counts.
 pub fn count_tests(counts: &Counts, tests: &Tests) -> TestCounts
-    ensures { AreTestCountsOf tests.now result }
+    ensures { AreTestCountsOf counts.now.classes tests.now result }
 {
     let blocks = tests.blocks();
     TestCounts {
@@ -240,7 +241,13 @@ pub struct Excess {
 }
 
 /// What is too much for one run, where tests are too many.
-pub(crate) fn excess_of(counts: &Counts, taken: &TestCounts) -> Option<Excess> {
+pub(crate) fn excess_of(counts: &Counts, taken: &TestCounts) -> Option<Excess>
+    ensures none { IfNone result (taken.now.pieces ≤ max_pieces) }
+    ensures past { IfSome result (λ excess. max_pieces < taken.now.pieces) }
+    ensures classes { IfSome result (λ excess. excess.classes ≡ counts.now.classes) }
+    ensures blocks { IfSome result (λ excess. excess.blocks ≡ taken.now.blocks) }
+    ensures pieces { IfSome result (λ excess. excess.pieces ≡ taken.now.pieces) }
+{
     if taken.pieces <= u64::from(MAX_PIECES) {
         return None;
     }
