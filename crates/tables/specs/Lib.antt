@@ -1,1 +1,4 @@
+pub mod Records
 pub mod Refusals
+pub mod Rows
+pub mod Tables

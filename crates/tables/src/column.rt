@@ -1,81 +1,56 @@
-//! The last column of a table.
+//! What a table tells of each fault beside its name.
 
-ghost use Rattle.std.specs.Prelude.{◌≡◌, length};
+ghost use Rattle.std.specs.Prelude.{◌≡◌, ◌<◌, Some, length, slice_get};
+ghost use Rattle.tables.specs.Tables.{column_in, has_row};
 
-use fault_model::{Classes, Faults};
+use fault_model::Classes;
 use report::Lines;
-use std::alloc::{AllocError, Global};
 use workers::Verdicts;
 
-/// What is told of each fault beside its name.
-#[derive(Drop)]
-pub(crate) struct Column {
-    /// Its name.
-    pub(crate) name: &'static str,
-    /// What it has for each fault, in the order of the list.
-    pub(crate) values: Vec<Option<u32>>,
-    /// Whether faults that have a value are left out.
-    pub(crate) is_of_none: bool,
-    /// The sums of the table.
-    pub(crate) sums: Sums,
-}
-
-/// The sums of a table.
+/// What is told of each fault.
 #[derive(Clone, Copy)]
-pub(crate) enum Sums {
-    /// So many of the faults are detected.
-    Detected { detected: u32, faults: u32 },
-    /// So many faults in so many classes.
-    Classes { faults: u32, classes: u32 },
+pub(crate) enum Column<'a> {
+    /// The first test that detects it, and of which faults.
+    First {
+        verdicts: &'a Verdicts,
+        lines: Lines,
+    },
+    /// Its class.
+    Class(&'a Classes),
 }
 
-impl Column {
+impl Column<'_> {
+    /// Its name.
+    pub(crate) fn name(&self) -> &'static str
+        ensures { result.now ≡ (column_in self.now).name }
+    {
+        match self {
+            Column::First { .. } => "first",
+            Column::Class(_) => "class",
+        }
+    }
+
     /// What it has for a fault.
-    pub(crate) fn value(&self, fault: u32) -> Option<u32> {
-        self.values.get(fault as usize).copied().flatten()
+    pub(crate) fn value(&self, fault: u32) -> Option<u32>
+        requires { fault < length (column_in self.now).values }
+        ensures { slice_get (column_in self.now).values fault ≡ Some result }
+    {
+        match self {
+            Column::First { verdicts, .. } => verdicts.first(fault),
+            Column::Class(classes) => Some(classes.class_of(fault)),
+        }
     }
-}
 
-/// The first test that detects each fault.
-pub(crate) fn first_column(
-    alloc: Global,
-    verdicts: &Verdicts,
-    lines: Lines,
-) -> Result<Column, AllocError> {
-    let mut values = Vec::new(alloc);
-    for fault in 0..verdicts.total() {
-        values.push(verdicts.first(fault))?;
+    /// Whether a fault for which it has this value has a row.
+    pub(crate) fn has_row(&self, value: Option<u32>) -> bool
+        ensures { result ≡ has_row (column_in self.now).lines value }
+    {
+        match self {
+            Column::First {
+                lines: Lines::Undetected,
+                ..
+            } => value.is_none(),
+            Column::First { .. } | Column::Class(_) => true,
+        }
     }
-    Ok(Column {
-        name: "first",
-        values,
-        is_of_none: lines == Lines::Undetected,
-        sums: Sums::Detected {
-            detected: verdicts.detected(),
-            faults: verdicts.total(),
-        },
-    })
-}
-
-/// The class of each fault.
-pub(crate) fn class_column(
-    alloc: Global,
-    list: &Faults,
-    classes: &Classes,
-) -> Result<Column, AllocError>
-    requires { length classes.now.class_of ≡ length list.now.list }
-{
-    let mut values = Vec::new(alloc);
-    for fault in 0..list.count() {
-        values.push(Some(classes.class_of(fault)))?;
-    }
-    Ok(Column {
-        name: "class",
-        values,
-        is_of_none: false,
-        sums: Sums::Classes {
-            faults: list.count(),
-            classes: classes.count(),
-        },
-    })
 }

@@ -1,91 +1,101 @@
 //! Tables of faults as comma-separated values (RFC 4180).
 
-ghost use Rattle.std.specs.Prelude.{IfErr};
-ghost use Rattle.tables.specs.Refusals.{IsTableFault};
+ghost use Rattle.std.specs.Prelude.{◌≡◌, ◌++◌, ◌∷◌, [], ℕ, List, IfOk, OnOk, length, zip};
+ghost use Rattle.csv.specs.Writing.{default_writer, row_text};
+ghost use Rattle.fault_model.specs.Fault.{faults};
+ghost use Rattle.tables.specs.Records.{HasTaken};
+ghost use Rattle.tables.specs.Rows.{row_in};
+ghost use Rattle.tables.specs.Tables.{column_in, csv_record, csv_table};
 
 use crate::column::Column;
+use crate::number::{number_text, widened};
 use crate::row::{Row, row_of};
-use crate::writer::Bytes;
 use bench_net::Circuit;
-use csv::{Error, ErrorKind, Writer, WriterBuilder};
+use csv::{Writer, WriterBuilder};
 use fault_model::Faults;
-use report::{Out, ReportFault, SimFault};
+use itoa::Buffer;
 use std::alloc::{AllocError, Global};
 
-/// Why a record was not written.
-fn refusal(error: &Error) -> SimFault
-    ensures { IsTableFault result }
-{
-    match error.kind() {
-        ErrorKind::OutOfMemory => SimFault::Memory,
-        _ => SimFault::Report(ReportFault::Write),
-    }
-}
-
-/// Writes the header, and then a record for each fault that is asked for.
-pub(crate) fn write_csv<W: Out>(
+/// A header, and then a record for each fault that has a row.
+pub(crate) fn csv_table(
     alloc: Global,
     circuit: &Circuit,
     list: &Faults,
-    column: &Column,
-    out: &mut W,
-) -> Result<(), SimFault>
-    ensures { IfErr result IsTableFault }
+    column: &Column<'_>,
+) -> Result<Vec<u8>, AllocError>
+    requires list { list.now.list ≡ faults list.now.model circuit.now }
+    requires count { length (column_in column.now).values ≡ length list.now.list }
+    ensures { IfOk result (λ text. text.items
+        ≡ csv_table circuit.now list.now.list (column_in column.now)) }
 {
-    let mut writer = WriterBuilder::new().from_writer(Bytes(out));
-    put_record(&mut writer, "kind", "name", "pin", "defect", column.name)?;
+    let mut writer = WriterBuilder::new().from_writer(Vec::new(alloc));
+    put_record(
+        &mut writer,
+        "kind",
+        "name",
+        "pin",
+        "defect",
+        column.name(),
+        "net",
+    )?;
     for fault in 0..list.count() {
         let value = column.value(fault);
-        if column.is_of_none && value.is_some() {
+        if !column.has_row(value) {
             continue;
         }
-        put_row(alloc, &mut writer, &row_of(circuit, list, fault), value)?;
+        put_row(&mut writer, &row_of(circuit, list, fault), value)?;
     }
-    match writer.flush() {
-        Ok(()) => Ok(()),
-        Err(error) => Err(refusal(&error)),
+    text_of(writer)
+}
+
+/// The text that a writer between two records has taken.
+fn text_of(writer: Writer<Vec<u8>>) -> Result<Vec<u8>, AllocError>
+    ensures { (taken : List ℕ) → HasTaken writer taken
+        → IfOk result (λ text. text.items ≡ taken) }
+{
+    match writer.into_inner() {
+        Ok(text) => Ok(text),
+        // A vector refuses bytes for want of memory alone.
+        Err(_) => Err(AllocError),
     }
 }
 
-/// A number as a text, and an empty one for none.
-fn text_of(alloc: Global, number: Option<u64>) -> Result<String, AllocError> {
-    match number {
-        Some(number) => format!(in alloc; "{number}"),
-        None => Ok(String::new(alloc)),
-    }
-}
-
-/// Writes the record of a fault.
-fn put_row<W: Out>(
-    alloc: Global,
-    writer: &mut Writer<Bytes<'_, W>>,
+/// Writes the record of a row.
+fn put_row(
+    writer: &mut Writer<Vec<u8>>,
     row: &Row<'_>,
     value: Option<u32>,
-) -> Result<(), SimFault>
-    ensures { IfErr result IsTableFault }
+) -> Result<(), AllocError>
+    ensures { (taken : List ℕ) → HasTaken writer.old taken
+        → OnOk result (HasTaken writer.new (taken ++ csv_record (row_in row.now) value)) }
 {
-    let pin = text_of(alloc, row.pin)?;
-    let last = text_of(alloc, value.map(u64::from))?;
+    let Row { place, defect } = *row;
+    let mut pin = Buffer::new();
+    let mut last = Buffer::new();
     put_record(
         writer,
-        row.kind,
-        row.name,
-        pin.as_str(),
-        row.defect,
-        last.as_str(),
+        place.kind,
+        place.name,
+        number_text(place.pin, "", &mut pin),
+        defect,
+        number_text(widened(value), "", &mut last),
+        place.net,
     )
 }
 
 /// Writes a record.
-fn put_record<'a, W: Out>(
-    writer: &mut Writer<Bytes<'_, W>>,
+fn put_record<'a>(
+    writer: &mut Writer<Vec<u8>>,
     kind: &'a str,
     name: &'a str,
     pin: &'a str,
     defect: &'a str,
     last: &'a str,
-) -> Result<(), SimFault>
-    ensures { IfErr result IsTableFault }
+    net: &'a str,
+) -> Result<(), AllocError>
+    ensures { (taken : List ℕ) → HasTaken writer.old taken
+        → OnOk result (HasTaken writer.new (taken ++ row_text default_writer
+        (kind.now ∷ name.now ∷ pin.now ∷ defect.now ∷ last.now ∷ net.now ∷ []))) }
 {
     let fields = [
         kind.as_bytes(),
@@ -93,9 +103,11 @@ fn put_record<'a, W: Out>(
         pin.as_bytes(),
         defect.as_bytes(),
         last.as_bytes(),
+        net.as_bytes(),
     ];
     match writer.write_fields(&fields) {
         Ok(()) => Ok(()),
-        Err(error) => Err(refusal(&error)),
+        // A vector refuses bytes for want of memory alone.
+        Err(_) => Err(AllocError),
     }
 }

@@ -1,112 +1,263 @@
 //! Tables of faults as JSON (RFC 8259).
 
-ghost use Rattle.std.specs.Prelude.{IfErr};
-ghost use Rattle.tables.specs.Refusals.{IsTableFault};
+ghost use Rattle.std.specs.Prelude.{◌≡◌, ◌<◌, ◌*◌, ◌/◌, ◌++◌, IfOk, OnOk, codes, drop, length};
+ghost use Rattle.std.specs.Prelude.{string_bytes, zip};
+ghost use Rattle.std.specs.List.{flat_map};
+ghost use Rattle.json.specs.Print.{quoted};
+ghost use Rattle.fault_model.specs.Fault.{faults};
+ghost use Rattle.output.specs.Output.{Writes};
+ghost use Rattle.tables.specs.Rows.{row_in};
+ghost use Rattle.tables.specs.Tables.{classes_object, column_in, coverage_object, json_object};
+ghost use Rattle.tables.specs.Tables.{object_of, object_text, rows_text};
 
-use crate::column::{Column, Sums};
+use crate::column::Column;
+use crate::number::{number_text, widened};
 use crate::row::{Row, row_of};
 use bench_net::Circuit;
 use fault_model::Faults;
-use report::{Formatted, Out, ReportFault, SimFault};
+use itoa::Buffer;
+use jobs::ReportFault;
+use output::{Out, OutFailed, put_all, put_pieces};
 use serde_json::Value;
 use std::alloc::{AllocError, Global};
-use std::fmt::{self, Write};
 
-/// The output takes nothing more.
-fn written(written: fmt::Result) -> Result<(), SimFault>
-    ensures { IfErr result IsTableFault }
-{
-    match written {
-        Ok(()) => Ok(()),
-        Err(_) => Err(SimFault::Report(ReportFault::Write)),
-    }
-}
-
-/// Writes an array with an object for each fault that is asked for, and the sums.
-pub(crate) fn write_json<W: Out>(
+/// The objects of the faults that have a row, each behind a comma and a line feed.
+pub(crate) fn json_rows(
     alloc: Global,
     circuit: &Circuit,
     list: &Faults,
-    column: &Column,
-    out: &mut W,
-) -> Result<(), SimFault>
-    ensures { IfErr result IsTableFault }
+    column: &Column<'_>,
+) -> Result<Vec<u8>, AllocError>
+    requires list { list.now.list ≡ faults list.now.model circuit.now }
+    requires count { length (column_in column.now).values ≡ length list.now.list }
+    ensures { IfOk result (λ rows. rows.items
+        ≡ rows_text (json_object (column_in column.now).name) circuit.now (column_in column.now).lines
+        (zip list.now.list (column_in column.now).values)) }
 {
-    written(write!(Formatted(out), "[\n"))?;
+    let mut rows = Vec::new(alloc);
     for fault in 0..list.count() {
         let value = column.value(fault);
-        if column.is_of_none && value.is_some() {
+        if !column.has_row(value) {
             continue;
         }
-        put_row(
+        add_row(
+            &mut rows,
             alloc,
+            column.name(),
             &row_of(circuit, list, fault),
-            column.name,
             value,
-            out,
         )?;
     }
-    put_sums(column.sums, out)
+    Ok(rows)
 }
 
 /// A text as a JSON string.
-fn quoted(alloc: Global, text: &str) -> Result<String, AllocError> {
+fn quoted(alloc: Global, text: &str) -> Result<String, AllocError>
+    ensures { IfOk result (λ string. string_bytes string ≡ quoted text.now) }
+{
     Value::String(String::from_str(alloc, text)?).to_string(alloc)
 }
 
-/// Writes the object of a fault, and a comma.
-fn put_row<W: Out>(
+/// Adds the object of a row.
+fn add_row(
+    rows: &mut Vec<u8>,
     alloc: Global,
+    column: &str,
     row: &Row<'_>,
-    last: &str,
     value: Option<u32>,
+) -> Result<(), AllocError>
+    ensures { OnOk result (rows.new.items
+        ≡ rows.old.items ++ json_object column.now (row_in row.now) value) }
+{
+    let Row { place, defect } = *row;
+    let name = quoted(alloc, place.name)?;
+    let net = quoted(alloc, place.net)?;
+    let mut pin = Buffer::new();
+    let mut last = Buffer::new();
+    add_object(
+        rows,
+        place.kind,
+        name.as_str(),
+        number_text(place.pin, "null", &mut pin),
+        defect,
+        column,
+        number_text(widened(value), "null", &mut last),
+        net.as_str(),
+    )
+}
+
+/// Adds an object whose members are spelled so, behind a comma and a line feed.
+fn add_object<'a>(
+    rows: &mut Vec<u8>,
+    kind: &'a str,
+    name: &'a str,
+    pin: &'a str,
+    defect: &'a str,
+    column: &'a str,
+    value: &'a str,
+    net: &'a str,
+) -> Result<(), AllocError>
+    ensures { OnOk result (rows.new.items ≡ rows.old.items
+        ++ object_of kind.now name.now pin.now defect.now column.now value.now net.now) }
+{
+    let pieces = [
+        ",\n{\"kind\":\"",
+        kind,
+        "\",\"name\":",
+        name,
+        ",\"pin\":",
+        pin,
+        ",\"defect\":\"",
+        defect,
+        "\",\"",
+        column,
+        "\":",
+        value,
+        ",\"net\":",
+        net,
+        "}",
+    ];
+    add_pieces(rows, &pieces)
+}
+
+/// Adds pieces of text, one after another.
+fn add_pieces(rows: &mut Vec<u8>, pieces: &[&str]) -> Result<(), AllocError>
+    ensures { OnOk result (rows.new.items
+        ≡ rows.old.items ++ flat_map (λ piece. piece.now) pieces.now) }
+{
+    for piece in pieces {
+        rows.extend_from_slice(piece.as_bytes())?;
+    }
+    Ok(())
+}
+
+/// Writes the object of a table: the sums, and an array of the rows, of which the first loses its
+/// comma.
+pub(crate) fn put_json<W: Out>(
+    column: &Column<'_>,
+    faults: u32,
+    rows: &[u8],
     out: &mut W,
-) -> Result<(), SimFault>
-    ensures { IfErr result IsTableFault }
+) -> Result<(), ReportFault>
+    requires some { 0 < faults }
+    requires count { faults ≡ length (column_in column.now).values }
+    ensures { Writes result (W.seen out.old) (W.seen out.new)
+        (object_text (column_in column.now).summary (drop 1 rows.now)) }
 {
-    let name = quoted(alloc, row.name)?;
-    let kind = row.kind;
-    let defect = row.defect;
-    written(write!(
-        Formatted(out),
-        "{{\"kind\":\"{kind}\",\"name\":{name},\"pin\":"
-    ))?;
-    put_number(row.pin, out)?;
-    written(write!(Formatted(out), ",\"defect\":\"{defect}\",\"{last}\":"))?;
-    put_number(value.map(u64::from), out)?;
-    written(write!(Formatted(out), "}},\n"))
+    Ok(put_object(column, faults, rows, out)?)
 }
 
-/// Writes a number, or null.
-fn put_number<W: Out>(number: Option<u64>, out: &mut W) -> Result<(), SimFault>
-    ensures { IfErr result IsTableFault }
+/// Writes it, and tells no more than that the output failed.
+fn put_object<W: Out>(
+    column: &Column<'_>,
+    faults: u32,
+    rows: &[u8],
+    out: &mut W,
+) -> Result<(), OutFailed>
+    requires some { 0 < faults }
+    requires count { faults ≡ length (column_in column.now).values }
+    ensures { Writes result (W.seen out.old) (W.seen out.new)
+        (object_text (column_in column.now).summary (drop 1 rows.now)) }
 {
-    match number {
-        Some(number) => written(write!(Formatted(out), "{number}")),
-        None => written(write!(Formatted(out), "null")),
+    put_summary(column, faults, out)?;
+    put_array(rows, out)
+}
+
+/// Writes the first member of the object.
+fn put_summary<W: Out>(column: &Column<'_>, faults: u32, out: &mut W) -> Result<(), OutFailed>
+    requires some { 0 < faults }
+    requires count { faults ≡ length (column_in column.now).values }
+    ensures { Writes result (W.seen out.old) (W.seen out.new)
+        (codes "{\"summary\":" ++ (column_in column.now).summary) }
+{
+    put_pieces(&["{\"summary\":"], out)?;
+    put_sums(column, faults, out)
+}
+
+/// Writes the second member of the object, and its end.
+fn put_array<W: Out>(rows: &[u8], out: &mut W) -> Result<(), OutFailed>
+    ensures { Writes result (W.seen out.old) (W.seen out.new)
+        (codes ",\"faults\":[" ++ (drop 1 rows.now ++ codes "\n]}\n")) }
+{
+    put_pieces(&[",\"faults\":["], out)?;
+    put_elements(rows, out)
+}
+
+/// Writes the elements of the array, and the end of the object.
+fn put_elements<W: Out>(rows: &[u8], out: &mut W) -> Result<(), OutFailed>
+    ensures { Writes result (W.seen out.old) (W.seen out.new)
+        (drop 1 rows.now ++ codes "\n]}\n") }
+{
+    put_all(without_first(rows), out)?;
+    put_pieces(&["\n]}\n"], out)
+}
+
+/// A text without its first byte.
+fn without_first(text: &[u8]) -> &[u8]
+    ensures { result.now ≡ drop 1 text.now }
+{
+    if text.is_empty() { text } else { &text[1..] }
+}
+
+/// Writes the object of the sums.
+fn put_sums<W: Out>(column: &Column<'_>, faults: u32, out: &mut W) -> Result<(), OutFailed>
+    requires some { 0 < faults }
+    requires count { faults ≡ length (column_in column.now).values }
+    ensures { Writes result (W.seen out.old) (W.seen out.new) (column_in column.now).summary }
+{
+    match *column {
+        Column::First { verdicts, .. } => put_coverage(verdicts.detected(), faults, out),
+        Column::Class(classes) => put_counts(faults, classes.count(), out),
     }
 }
 
-/// Writes the object with the sums, and the end of the array. The percentage is cut off.
-fn put_sums<W: Out>(sums: Sums, out: &mut W) -> Result<(), SimFault>
-    ensures { IfErr result IsTableFault }
+/// How many hundredths of a percent a part is of a whole, cut off.
+fn hundredths(part: u32, whole: u32) -> u64
+    requires { 0 < whole }
+    ensures { result ≡ 10000 * part / whole }
 {
-    match sums {
-        Sums::Detected { detected, faults } => {
-            let hundredths = 10_000 * u64::from(detected) / u64::from(faults.max(1));
-            let whole = hundredths / 100;
-            let part = hundredths % 100;
-            written(write!(
-                Formatted(out),
-                "{{\"detected\":{detected},\"faults\":{faults},"
-            ))?;
-            written(write!(Formatted(out), "\"percent\":{whole}.{part:02}}}\n]\n"))
-        }
-        Sums::Classes { faults, classes } => {
-            written(write!(
-                Formatted(out),
-                "{{\"faults\":{faults},\"classes\":{classes}}}\n]\n"
-            ))
-        }
-    }
+    10_000 * u64::from(part) / u64::from(whole)
+}
+
+/// Writes the sums of a run. The percentage is cut off.
+fn put_coverage<W: Out>(detected: u32, faults: u32, out: &mut W) -> Result<(), OutFailed>
+    requires { 0 < faults }
+    ensures { Writes result (W.seen out.old) (W.seen out.new) (coverage_object detected faults) }
+{
+    let hundredths = hundredths(detected, faults);
+    let decimals = hundredths % 100;
+    let mut found = Buffer::new();
+    let mut all = Buffer::new();
+    let mut whole = Buffer::new();
+    let mut tens = Buffer::new();
+    let mut ones = Buffer::new();
+    let pieces = [
+        "{\"detected\":",
+        found.format(detected),
+        ",\"faults\":",
+        all.format(faults),
+        ",\"percent\":",
+        whole.format(hundredths / 100),
+        ".",
+        tens.format(decimals / 10),
+        ones.format(decimals % 10),
+        "}",
+    ];
+    put_pieces(&pieces, out)
+}
+
+/// Writes the sums of the classes.
+fn put_counts<W: Out>(faults: u32, classes: u32, out: &mut W) -> Result<(), OutFailed>
+    ensures { Writes result (W.seen out.old) (W.seen out.new) (classes_object faults classes) }
+{
+    let mut all = Buffer::new();
+    let mut number = Buffer::new();
+    let pieces = [
+        "{\"faults\":",
+        all.format(faults),
+        ",\"classes\":",
+        number.format(classes),
+        "}",
+    ];
+    put_pieces(&pieces, out)
 }

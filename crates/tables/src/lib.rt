@@ -5,8 +5,8 @@
 mod column;
 mod csv_table;
 mod json_table;
+mod number;
 mod row;
 mod table;
-mod writer;
 
 pub use table::{Format, faults_table_in, run_table_in, run_table_watched};

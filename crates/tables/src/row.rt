@@ -1,13 +1,20 @@
 //! What a row says of a fault.
 
-ghost use Rattle.std.specs.Prelude.{◌<◌, length};
+ghost use Rattle.std.specs.Prelude.{◌≡◌, ◌<◌, Some, Contains, length, slice_get};
+ghost use Rattle.bench_net.specs.Scan.{cells, names};
+ghost use Rattle.bench_net.specs.Statement.{Name};
+ghost use Rattle.fault_model.specs.declared.Line.TheVariants as line;
+ghost use Rattle.fault_model.specs.Detection.{name_on};
+ghost use Rattle.fault_model.specs.Fault.{Fault, faults};
+ghost use Rattle.report.specs.Report.{cell_text};
+ghost use Rattle.tables.specs.Rows.{defect_name, line_cells, place_in, row_cells, row_in};
 
 use bench_net::Circuit;
 use fault_model::{Faults, Line, Model};
 
-/// A fault in columns.
+/// A line of a circuit in columns.
 #[derive(Clone, Copy)]
-pub(crate) struct Row<'a> {
+pub(crate) struct Place<'a> {
     /// `stem`, `pin`, `data` or `out`.
     pub(crate) kind: &'static str,
     /// The name of the stem, of the gate that has the pin, of the flip-flop, or of the signal that
@@ -15,37 +22,36 @@ pub(crate) struct Row<'a> {
     pub(crate) name: &'a str,
     /// The number of a gate's pin or of an OUTPUT line, from 1.
     pub(crate) pin: Option<u64>,
+    /// The name of the signal that the line carries.
+    pub(crate) net: &'a str,
+}
+
+/// A fault in columns.
+#[derive(Clone, Copy)]
+pub(crate) struct Row<'a> {
+    pub(crate) place: Place<'a>,
     /// `sa0`, `sa1`, `str` or `stf`.
     pub(crate) defect: &'static str,
 }
 
-/// The name of a signal.
-fn name_of(circuit: &Circuit, signal: u32) -> &str {
-    if signal < circuit.signals() {
-        circuit.name_of(signal)
-    } else {
-        ""
-    }
-}
-
-/// The name of the signal that a flip-flop drives, by the flip-flop's number.
-fn cell_name(circuit: &Circuit, cell: u32) -> &str {
-    match circuit.scan_cells().get(cell as usize) {
-        Some(cell) => name_of(circuit, cell.q),
-        None => "",
-    }
-}
-
-/// The name of the signal that an OUTPUT line observes, by the line's number.
-fn output_name(circuit: &Circuit, output: u32) -> &str {
-    match circuit.outputs().get(output as usize) {
-        Some(signal) => name_of(circuit, *signal),
-        None => "",
+/// The row of a fault.
+pub(crate) fn row_of<'a>(circuit: &'a Circuit, list: &Faults, fault: u32) -> Row<'a>
+    requires list { list.now.list ≡ faults list.now.model circuit.now }
+    requires in_range { fault < length list.now.list }
+    ensures { (f : Fault) → slice_get list.now.list fault ≡ Some f
+        → row_in result ≡ row_cells circuit.now f }
+{
+    let _signals = circuit.signals();
+    Row {
+        place: place_of(circuit, list.line_of(fault)),
+        defect: defect(list.model(), list.stuck_of(fault)),
     }
 }
 
 /// What is wrong with a line, by the model of its fault and the bit.
-fn defect(model: Model, bit: bool) -> &'static str {
+fn defect(model: Model, bit: bool) -> &'static str
+    ensures { result.now ≡ defect_name model bit }
+{
     match (model, bit) {
         (Model::StuckAt, false) => "sa0",
         (Model::StuckAt, true) => "sa1",
@@ -54,25 +60,110 @@ fn defect(model: Model, bit: bool) -> &'static str {
     }
 }
 
-/// The row of a fault.
-pub(crate) fn row_of<'a>(circuit: &'a Circuit, list: &Faults, fault: u32) -> Row<'a>
-    requires { fault < length list.now.list }
+/// A line that carries a signal.
+fn place_of(circuit: &Circuit, line: Line) -> Place<'_>
+    requires { (n : Name) × (name_on circuit.now line ≡ Some n) × Contains (names circuit.now) n }
+    ensures { place_in result ≡ line_cells circuit.now line }
 {
-    let defect = defect(list.model(), list.stuck_of(fault));
-    let (kind, name, pin) = match list.line_of(fault) {
-        Line::Stem(signal) => ("stem", name_of(circuit, signal), None),
-        Line::Pin { gate, pin } => ("pin", name_of(circuit, gate), Some(u64::from(pin) + 1)),
-        Line::Data { cell } => ("data", cell_name(circuit, cell), None),
-        Line::Out { output } => (
-            "out",
-            output_name(circuit, output),
-            Some(u64::from(output) + 1),
-        ),
-    };
-    Row {
-        kind,
-        name,
-        pin,
-        defect,
+    match line {
+        Line::Stem(signal) => stem_place(circuit, signal),
+        Line::Pin { gate, pin } => pin_place(circuit, gate, pin),
+        Line::Data { cell } => data_place(circuit, cell),
+        Line::Out { output } => out_place(circuit, output),
     }
+}
+
+/// The stem of a signal.
+fn stem_place(circuit: &Circuit, signal: u32) -> Place<'_>
+    requires { signal < length (names circuit.now) }
+    ensures { place_in result ≡ line_cells circuit.now (line.Stem signal) }
+{
+    let name = circuit.name_of(signal);
+    Place {
+        kind: "stem",
+        name,
+        pin: None,
+        net: name,
+    }
+}
+
+/// A pin of a gate.
+fn pin_place(circuit: &Circuit, gate: u32, pin: u32) -> Place<'_>
+    requires { (n : Name) × (name_on circuit.now (line.Pin gate pin) ≡ Some n)
+        × Contains (names circuit.now) n }
+    ensures { place_in result ≡ line_cells circuit.now (line.Pin gate pin) }
+{
+    Place {
+        kind: "pin",
+        name: circuit.name_of(gate),
+        pin: Some(u64::from(pin) + 1),
+        net: pin_net(circuit, gate, pin),
+    }
+}
+
+/// The name of the signal that a pin of a gate reads.
+fn pin_net(circuit: &Circuit, gate: u32, pin: u32) -> &str
+    requires { (n : Name) × (name_on circuit.now (line.Pin gate pin) ≡ Some n)
+        × Contains (names circuit.now) n }
+    ensures { name_on circuit.now (line.Pin gate pin) ≡ Some result.now }
+{
+    match circuit.gate_of(gate) {
+        Some(driver) => circuit.name_of(driver.pins[pin as usize]),
+        None => unreachable!(),
+    }
+}
+
+/// The data pin of a flip-flop.
+fn data_place(circuit: &Circuit, cell: u32) -> Place<'_>
+    requires { (n : Name) × (name_on circuit.now (line.Data cell) ≡ Some n)
+        × Contains (names circuit.now) n }
+    ensures { place_in result ≡ line_cells circuit.now (line.Data cell) }
+{
+    Place {
+        kind: "data",
+        name: cell_name(circuit, cell),
+        pin: None,
+        net: data_net(circuit, cell),
+    }
+}
+
+/// The name of the signal that a flip-flop drives, by the flip-flop's number.
+fn cell_name(circuit: &Circuit, cell: u32) -> &str
+    requires { cell < length (cells circuit.now) }
+    ensures { result.now ≡ cell_text circuit.now cell }
+{
+    circuit.name_of(circuit.scan_cells()[cell as usize].q)
+}
+
+/// The name of the signal that a flip-flop's data pin reads, by the flip-flop's number.
+fn data_net(circuit: &Circuit, cell: u32) -> &str
+    requires { (n : Name) × (name_on circuit.now (line.Data cell) ≡ Some n)
+        × Contains (names circuit.now) n }
+    ensures { name_on circuit.now (line.Data cell) ≡ Some result.now }
+{
+    circuit.name_of(circuit.scan_cells()[cell as usize].d)
+}
+
+/// An OUTPUT line.
+fn out_place(circuit: &Circuit, output: u32) -> Place<'_>
+    requires { (n : Name) × (name_on circuit.now (line.Out output) ≡ Some n)
+        × Contains (names circuit.now) n }
+    ensures { place_in result ≡ line_cells circuit.now (line.Out output) }
+{
+    let name = output_net(circuit, output);
+    Place {
+        kind: "out",
+        name,
+        pin: Some(u64::from(output) + 1),
+        net: name,
+    }
+}
+
+/// The name of the signal that an OUTPUT line observes, by the line's number.
+fn output_net(circuit: &Circuit, output: u32) -> &str
+    requires { (n : Name) × (name_on circuit.now (line.Out output) ≡ Some n)
+        × Contains (names circuit.now) n }
+    ensures { name_on circuit.now (line.Out output) ≡ Some result.now }
+{
+    circuit.name_of(circuit.outputs()[output as usize])
 }

@@ -1,22 +1,25 @@
 //! Tables of faults, from the bytes of texts.
 
-ghost use Rattle.std.specs.Prelude.{◌<◌, ◌≤◌, List, IfErr, None, OnOk};
-ghost use Rattle.bench_net.specs.Refusal.{IsAccepted};
-ghost use Rattle.bench_net.specs.Statement.{Statement};
+ghost use Rattle.std.specs.Prelude.{◌≡◌, ◌<◌, ◌≤◌, IfErr, None, OnOk, length};
 ghost use Rattle.block_sim.specs.Parts.{BelongTogether};
+ghost use Rattle.fault_model.specs.Fault.{faults};
+ghost use Rattle.output.specs.Output.{Writes};
 ghost use Rattle.report.specs.EndToEnd.{IsJobTextFault, IsListingFault, IsReportFault};
-ghost use Rattle.report.specs.EndToEnd.{IsWatchedFault};
+ghost use Rattle.report.specs.EndToEnd.{IsWatchedFault, WritesOneOf};
 ghost use Rattle.tables.specs.Refusals.{IsTableFault};
+ghost use Rattle.tables.specs.Tables.{IsClassTableOf, IsClassTableOfCircuit, IsFirstTableOf};
+ghost use Rattle.tables.specs.Tables.{IsFirstTableOfJob, IsTable, column_in, csv_table, json_table};
 ghost use Rattle.workers.specs.Refused.{IsPartsFault};
 
-use crate::column::{Column, class_column, first_column};
-use crate::csv_table::write_csv;
-use crate::json_table::write_json;
+use crate::column::Column;
+use crate::csv_table::csv_table;
+use crate::json_table::{json_rows, put_json};
 use bench_net::{Circuit, read_bench};
 use block_sim::Job;
 use fault_model::{Faults, Model, collapse, list_faults_in};
 use jobs::{Watch, job_of, run_watched};
-use report::{Lines, OpenGate, Out, SimFault};
+use output::put_all;
+use report::{Lines, OpenGate, Out, ReportFault, SimFault};
 use std::alloc::Global;
 use std::sync::Wait;
 use std::thread::Threads;
@@ -27,25 +30,80 @@ use workers::parts_for;
 pub enum Format {
     /// A header, and a record for each fault. A field with nothing is empty.
     Csv,
-    /// An array with an object for each fault, and one with the sums at its end.
+    /// An object with the sums, and an array with an object for each fault.
     Json,
 }
 
-/// Writes a table of faults.
+/// Writes a table of faults. Its text is made first, so an output gets a table or a beginning of
+/// one, or nothing where memory is refused.
 fn write_table<W: Out>(
     alloc: Global,
     circuit: &Circuit,
     list: &Faults,
-    column: &Column,
+    column: &Column<'_>,
     format: Format,
     out: &mut W,
 ) -> Result<(), SimFault>
-    ensures { IfErr result IsTableFault }
+    requires list { list.now.list ≡ faults list.now.model circuit.now }
+    requires count { length (column_in column.now).values ≡ length list.now.list }
+    ensures written { WritesOneOf
+        (IsTable format circuit.now list.now.list (column_in column.now)) result
+        (W.seen out.old) (W.seen out.new) }
+    ensures refused { IfErr result IsTableFault }
 {
     match format {
         Format::Csv => write_csv(alloc, circuit, list, column, out),
         Format::Json => write_json(alloc, circuit, list, column, out),
     }
+}
+
+/// Writes a table as comma-separated values.
+fn write_csv<W: Out>(
+    alloc: Global,
+    circuit: &Circuit,
+    list: &Faults,
+    column: &Column<'_>,
+    out: &mut W,
+) -> Result<(), SimFault>
+    requires list { list.now.list ≡ faults list.now.model circuit.now }
+    requires count { length (column_in column.now).values ≡ length list.now.list }
+    ensures written { WritesOneOf
+        (λ bytes. bytes ≡ csv_table circuit.now list.now.list (column_in column.now)) result
+        (W.seen out.old) (W.seen out.new) }
+    ensures refused { IfErr result IsTableFault }
+{
+    let text = csv_table(alloc, circuit, list, column)?;
+    put_text(&text, out)?;
+    Ok(())
+}
+
+/// Writes a text.
+fn put_text<W: Out>(text: &[u8], out: &mut W) -> Result<(), ReportFault>
+    ensures { Writes result (W.seen out.old) (W.seen out.new) text.now }
+{
+    Ok(put_all(text, out)?)
+}
+
+/// Writes a table as a JSON object.
+fn write_json<W: Out>(
+    alloc: Global,
+    circuit: &Circuit,
+    list: &Faults,
+    column: &Column<'_>,
+    out: &mut W,
+) -> Result<(), SimFault>
+    requires list { list.now.list ≡ faults list.now.model circuit.now }
+    requires count { length (column_in column.now).values ≡ length list.now.list }
+    ensures written { WritesOneOf
+        (λ bytes. bytes ≡ json_table circuit.now list.now.list (column_in column.now)) result
+        (W.seen out.old) (W.seen out.new) }
+    ensures refused { IfErr result IsTableFault }
+{
+    let signals = circuit.signals();
+    prove!(signals > 0);
+    let rows = json_rows(alloc, circuit, list, column)?;
+    put_json(column, list.count(), &rows, out)?;
+    Ok(())
 }
 
 /// Reads a circuit, and writes a table of the faults of a model with the class of each. It is
@@ -57,14 +115,30 @@ pub fn faults_table_in<W: Out>(
     format: Format,
     out: &mut W,
 ) -> Result<(), SimFault>
-    ensures accepted { OnOk result ((c : List Statement) × IsAccepted bench.now c) }
+    ensures written { WritesOneOf (IsClassTableOf model bench.now format) result
+        (W.seen out.old) (W.seen out.new) }
     ensures refused { IfErr result (IsListingFault bench.now) }
 {
     let circuit = read_bench(alloc, bench)?;
-    let list = list_faults_in(alloc, &circuit, model)?;
-    let classes = collapse(alloc, &circuit, &list)?;
-    let column = class_column(alloc, &list, &classes)?;
-    write_table(alloc, &circuit, &list, &column, format, out)
+    write_classes(alloc, model, &circuit, format, out)
+}
+
+/// Writes a table of the faults of a circuit with the class of each.
+fn write_classes<W: Out>(
+    alloc: Global,
+    model: Model,
+    circuit: &Circuit,
+    format: Format,
+    out: &mut W,
+) -> Result<(), SimFault>
+    ensures written { WritesOneOf (IsClassTableOfCircuit model circuit.now format) result
+        (W.seen out.old) (W.seen out.new) }
+    ensures refused { IfErr result IsTableFault }
+{
+    let list = list_faults_in(alloc, circuit, model)?;
+    let classes = collapse(alloc, circuit, &list)?;
+    let column = Column::Class(&classes);
+    write_table(alloc, circuit, &list, &column, format, out)
 }
 
 /// Reads a circuit and tests for it, runs them by workers in threads of their own, and writes a
@@ -82,6 +156,8 @@ pub fn run_table_in<R: Threads + Wait, W: Out>(
     format: Format,
     out: &mut W,
 ) -> Result<(), SimFault>
+    ensures written { WritesOneOf (IsFirstTableOf model bench.now tests.now lines format) result
+        (W.seen out.old) (W.seen out.new) }
     ensures refused { IfErr result (IsReportFault model bench.now tests.now workers) }
     ensures workers { OnOk result ((0 < workers) × (workers ≤ 64)) }
 {
@@ -104,6 +180,8 @@ pub fn run_table_watched<R: Threads + Wait, G: Watch + Sync, W: Out>(
     gate: &G,
     out: &mut W,
 ) -> Result<(), SimFault>
+    ensures written { WritesOneOf (IsFirstTableOf model bench.now tests.now lines format) result
+        (W.seen out.old) (W.seen out.new) }
     ensures refused { IfErr result (IsWatchedFault model bench.now tests.now None workers
         (G.passing gate.now) (G.stops gate.now)) }
     ensures workers { OnOk result ((0 < workers) × (workers ≤ 64)) }
@@ -127,11 +205,16 @@ fn write_run<R: Threads + Wait, G: Watch + Sync, W: Out>(
 ) -> Result<(), SimFault>
     requires job { BelongTogether job.now }
     requires parts { 0 < parts }
+    ensures written { WritesOneOf (IsFirstTableOfJob job.now lines format) result
+        (W.seen out.old) (W.seen out.new) }
     ensures refused { IfErr result (IsJobTextFault workers
         (IsPartsFault job.now parts workers (G.passing gate.now) (G.stops gate.now))) }
     ensures workers { OnOk result ((0 < workers) × (workers ≤ 64)) }
 {
     let verdicts = run_watched(rt, alloc, job, parts, workers, gate)?;
-    let column = first_column(alloc, &verdicts, lines)?;
+    let column = Column::First {
+        verdicts: &verdicts,
+        lines,
+    };
     write_table(alloc, job.circuit(), job.faults(), &column, format, out)
 }

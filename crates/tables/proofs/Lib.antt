@@ -1,0 +1,4 @@
+mod Nets
+mod RowsByPairs
+mod TablesOfTexts
+mod Texts

@@ -1,0 +1,136 @@
+-- The names of the signals that lines carry, out of what the calls of a circuit give.
+use Rattle.std.proofs.Common.{◌≡◌, ◌<◌, ℕ, zero, suc, refl, sym, ◌∙◌, ap, List, [], ◌∷◌, length}
+use Rattle.std.proofs.Common.{arith, drop, subst}
+use Rattle.std.proofs.lemmas.Option.{get_or_from_slice_get, slice_get-map, slice_get_within}
+use Rattle.std.specs.Prelude.{Contains, Option, Some, None, map, option_map, slice_get}
+use Rattle.std.specs.Prelude.{slice_index_or, unwrap_or}
+use Rattle.bench_net.specs.declared.Kind.{Kind}
+use Rattle.bench_net.specs.declared.ScanCell.{ScanCell}
+use Rattle.bench_net.specs.Statement.{Name, Statement, Input, Output, Gate, Dff}
+use Rattle.bench_net.specs.Scan.{names, signal, definition, gate_line, gate_of, cells, name_of}
+use Rattle.bench_net.proofs.Public.{definition_defines, defined_among, name_of-signal, of_cell}
+use Rattle.lists.proofs.Members.{contained}
+use Rattle.lists.proofs.Places.{at_place}
+use Rattle.fault_model.specs.Detection.{argument}
+
+-- what stands at a place of a list of numbers that is made of another
+pub mapped_at : {X : Type 0} (f : X → ℕ) (xs : List X) (ys : List ℕ) (i : ℕ) (x : X)
+    → ys ≡ map f xs → slice_get xs i ≡ Some x
+    → (i < length ys) × (slice_index_or ys i 0 ≡ f x)
+mapped_at f xs ys i x e at =
+    let there : slice_get ys i ≡ Some (f x) = ap (λ l. slice_get l i) e
+    ∙ (slice_get-map f xs i ∙ ap (option_map f) at) in (
+      slice_get_within ys i (f x) there,
+      get_or_from_slice_get ys i (f x) 0 there,
+    )
+
+-- the number of a defined name is that of a signal, which has this name
+pub signal_named : (c : List Statement) (n : Name) → Contains (names c) n
+    → (signal c n < length (names c)) × (name_of c (signal c n) ≡ Some n)
+signal_named c n at = let e = name_of-signal c n at in
+    (slice_get_within (names c) (signal c n) n e, e)
+
+-- a pin that reads a name is one of a gate
+pub record PinOf (c : List Statement) (gate pin : ℕ) (n : Name) : Type 0 where
+  pub name : Name
+  pub kind : Kind
+  pub args : List Name
+  pub is : definition c gate ≡ Some (Gate name kind args)
+  pub reads : slice_get args pin ≡ Some n
+
+pub pin_of : (c : List Statement) (gate pin : ℕ) (n : Name)
+    → argument (definition c gate) pin ≡ Some n → PinOf c gate pin n
+pin_of c gate pin n e = go (definition c gate) refl e
+  where
+    go : (o : Option Statement) → definition c gate ≡ o → argument o pin ≡ Some n
+        → PinOf c gate pin n
+    go None d e = let bad : None ≡ Some n = e in cc
+    go (Some (Input m)) d e = let bad : None ≡ Some n = e in cc
+    go (Some (Output m)) d e = let bad : None ≡ Some n = e in cc
+    go (Some (Dff q m)) d e = let bad : None ≡ Some n = e in cc
+    go (Some (Gate m kind args)) d e = record {
+      name = m;
+      kind = kind;
+      args = args;
+      is = d;
+      reads = e;
+    }
+
+pub gate_within : (c : List Statement) (gate pin : ℕ) (n : Name)
+    → argument (definition c gate) pin ≡ Some n → gate < length (names c)
+gate_within c gate pin n e =
+    let p = pin_of c gate pin n e in
+    let d = definition_defines c gate (Gate p.name p.kind p.args) p.is in
+    slice_get_within (names c) gate d.0 d.2
+
+never : (o : Option (Kind × List ℕ)) (g : Kind × List ℕ) → o ≡ Some g → None ≡ o → ⊥
+never o g p q = let bad : None ≡ Some g = q ∙ p in cc
+
+pub is_gate_there : (c : List Statement) (gate pin : ℕ) (n : Name)
+    → argument (definition c gate) pin ≡ Some n → None ≡ gate_of c gate → ⊥
+is_gate_there c gate pin n e none = let p = pin_of c gate pin n e in
+    never (gate_of c gate) (p.kind, map (signal c) p.args) (ap (gate_line c) p.is) none
+
+pub pin_reads_signal : (c : List Statement) (gate pin : ℕ) (n : Name) (kind : Kind) (pins : List ℕ)
+    → argument (definition c gate) pin ≡ Some n → Some (kind, pins) ≡ gate_of c gate
+    → (pin < length pins) × (slice_index_or pins pin 0 ≡ signal c n)
+pin_reads_signal c gate pin n kind pins e at =
+    let p = pin_of c gate pin n e in
+    let same : Some (kind, pins) ≡ Some (p.kind, map (signal c) p.args) = at
+    ∙ ap (gate_line c) p.is in
+    let read : pins ≡ map (signal c) p.args =
+    ap (λ (o : Option (Kind × List ℕ)). (unwrap_or o (kind, pins)).1) same in
+    mapped_at (signal c) p.args pins pin n read p.reads
+
+-- what a list of stored cells has at the place of a cell of the circuit
+pub record StoredAt (cs : List (Name × Name)) (rs : List ScanCell) (f : Name → ℕ) (i : ℕ)
+    (other : ScanCell) : Type 0 where
+  pub cell : Name × Name
+  pub is : slice_get cs i ≡ Some cell
+  pub within : i < length rs
+  pub q : (slice_index_or rs i other).q ≡ f cell.0
+  pub d : (slice_index_or rs i other).d ≡ f cell.1
+
+pub stored_at : (cs : List (Name × Name)) (rs : List ScanCell) (f : Name → ℕ) (i : ℕ)
+    (other : ScanCell)
+    → map {B = ℕ × ℕ} (λ cell. (cell.q, cell.d)) rs ≡ map (λ cell. (f cell.0, f cell.1)) cs
+    → i < length cs → StoredAt cs rs f i other
+stored_at [] rs f i other e h = absurd (omega (arith, h))
+stored_at (c ∷ cs) [] f i other e h = cc
+stored_at (c ∷ cs) (r ∷ rs) f zero other e h = record {
+  cell = c;
+  is = refl;
+  within = omega arith;
+  q = ap (λ (l : List (ℕ × ℕ)). (slice_index_or l 0 (0, 0)).0) e;
+  d = ap (λ (l : List (ℕ × ℕ)). (slice_index_or l 0 (0, 0)).1) e;
+}
+stored_at (c ∷ cs) (r ∷ rs) f (suc i) other e h =
+    let rest : map {B = ℕ × ℕ} (λ cell. (cell.q, cell.d)) rs ≡ map (λ cell. (
+      f cell.0,
+      f cell.1,
+    )) cs = ap (λ (l : List (ℕ × ℕ)). drop 1 l) e in
+    let p = stored_at cs rs f i other rest (omega (arith, h)) in
+    let near = p.within in record {
+      cell = p.cell;
+      is = p.is;
+      within = omega (arith, near);
+      q = p.q;
+      d = p.d;
+    }
+
+-- a cell's q is a name of the circuit
+pub q_named : (c : List Statement) (i : ℕ) (cell : Name × Name) → slice_get (cells c) i ≡ Some cell
+    → Contains (names c) cell.0
+q_named c i cell e =
+    let there : slice_get (map (λ qd. qd.0) (cells c)) i ≡ Some cell.0 =
+    slice_get-map (λ qd. qd.0) (cells c) i ∙ ap (option_map (λ qd. qd.0)) e in
+    let p = of_cell c cell.0 (at_place (map (λ qd. qd.0) (cells c)) i cell.0 there) in
+    contained (names c) cell.0 (defined_among c (Dff cell.0 p.0) cell.0 p.1 refl)
+
+-- the cell whose data pin reads a name
+pub data_at : (cs : List (Name × Name)) (i : ℕ) (n : Name)
+    → option_map (λ (qd : Name × Name). qd.1) (slice_get cs i) ≡ Some n
+    → (qd : Name × Name) × (slice_get cs i ≡ Some qd) × (qd.1 ≡ n)
+data_at [] i n e = let bad : None ≡ Some n = e in cc
+data_at (qd ∷ cs) zero n e = (qd, refl, ap (λ o. unwrap_or o n) e)
+data_at (qd ∷ cs) (suc i) n e = data_at cs i n e

@@ -1,0 +1,55 @@
+-- Rows of a list of faults and of what is told of each, one after another.
+use Rattle.std.proofs.Common.{◌≡◌, ◌≤◌, ◌∙◌, ℕ, zero, suc, ◌+◌, List, [], ◌∷◌, ◌++◌, length, take}
+use Rattle.std.proofs.Common.{ap, append-nil, arith, refl, sym, get_or}
+use Rattle.std.proofs.lemmas.Option.{get_or_from_slice_get, slice_get_within}
+use Rattle.std.specs.Prelude.{Option, Some, None, true, false, slice_get, unwrap_or, zip}
+use Rattle.std.specs.Prelude.{if◌then◌else◌}
+use Rattle.bench_net.specs.Statement.{Statement}
+use Rattle.fault_model.specs.Fault.{Fault}
+use Rattle.output.proofs.Public.{flat_map_taken}
+use Rattle.report.specs.declared.contents.Lines.{Lines}
+use Rattle.tables.specs.Rows.{RowCells, row_cells}
+use Rattle.tables.specs.Tables.{has_row, rows_text}
+
+zipped_at : {F X : Type 0} (fs : List F) (xs : List X) (i : ℕ) (f : F) (x : X)
+    → slice_get fs i ≡ Some f → slice_get xs i ≡ Some x → slice_get (zip fs xs) i ≡ Some (f, x)
+zipped_at [] xs i f x e h = let bad : None ≡ Some f = e in cc
+zipped_at (g ∷ fs) [] i f x e h = let bad : None ≡ Some x = h in cc
+zipped_at (g ∷ fs) (z ∷ xs) zero f x e h = let p : g ≡ f = ap (λ o. unwrap_or o f) e in
+    let q : z ≡ x = ap (λ o. unwrap_or o x) h in rw (p, q) refl
+zipped_at (g ∷ fs) (z ∷ xs) (suc i) f x e h = zipped_at fs xs i f x e h
+
+-- all pairs
+pub all_zipped : {F X : Type 0} (fs : List F) (xs : List X) (i : ℕ) → length xs ≡ length fs
+    → length fs ≤ i → take i (zip fs xs) ≡ zip fs xs
+all_zipped [] xs zero same e = refl
+all_zipped [] xs (suc i) same e = refl
+all_zipped (f ∷ fs) [] i same e = absurd (omega (arith, same))
+all_zipped (f ∷ fs) (x ∷ xs) zero same e = absurd (omega (arith, e))
+all_zipped (f ∷ fs) (x ∷ xs) (suc i) same e =
+    ap (λ l. (f, x) ∷ l) (all_zipped fs xs i (omega (arith, same)) (omega (arith, e)))
+
+-- the row of a fault that has one stands behind those before it
+pub row_added : (row : RowCells → Option ℕ → List ℕ) (c : List Statement) (lines : Lines)
+    (fs : List Fault) (xs : List (Option ℕ)) (i : ℕ) (f : Fault) (x : Option ℕ)
+    → slice_get fs i ≡ Some f → slice_get xs i ≡ Some x → has_row lines x ≡ true
+    → rows_text row c lines (take (i + 1) (zip fs xs))
+    ≡ rows_text row c lines (take i (zip fs xs)) ++ row (row_cells c f) x
+row_added row c lines fs xs i f x e h has =
+    let at = zipped_at fs xs i f x e h in
+    flat_map_taken (λ at. if has_row lines at.1 then row (row_cells c at.0) at.1 else [])
+    (zip fs xs) i (f, x) (row (row_cells c f) x) (slice_get_within (zip fs xs) i (f, x) at)
+    (rw (get_or_from_slice_get (zip fs xs) i (f, x) (f, x) at, has) refl)
+
+-- a fault that has none adds nothing
+pub row_skipped : (row : RowCells → Option ℕ → List ℕ) (c : List Statement) (lines : Lines)
+    (fs : List Fault) (xs : List (Option ℕ)) (i : ℕ) (f : Fault) (x : Option ℕ)
+    → slice_get fs i ≡ Some f → slice_get xs i ≡ Some x → has_row lines x ≡ false
+    → rows_text row c lines (take (i + 1) (zip fs xs))
+    ≡ rows_text row c lines (take i (zip fs xs))
+row_skipped row c lines fs xs i f x e h has =
+    let at = zipped_at fs xs i f x e h in
+    flat_map_taken (λ at. if has_row lines at.1 then row (row_cells c at.0) at.1 else [])
+    (zip fs xs) i (f, x) [] (slice_get_within (zip fs xs) i (f, x) at)
+    (rw (get_or_from_slice_get (zip fs xs) i (f, x) (f, x) at, has) refl)
+    ∙ append-nil _

@@ -1,0 +1,93 @@
+-- From the table of a circuit or a job to that of the texts that it was read from.
+use Rattle.std.proofs.Common.{◌≡◌, ◌∙◌, ℕ, List, ap, length, subst, sym}
+use Rattle.std.specs.Prelude.{Err, Ok, Option, Result}
+use Rattle.bench_net.specs.Refusal.{IsAccepted}
+use Rattle.bench_net.specs.Statement.{Statement}
+use Rattle.block_sim.specs.Parts.{Parts}
+use Rattle.fault_model.specs.declared.Model.{Model}
+use Rattle.fault_model.specs.Collapse.{AreClassesOf, Collapsed}
+use Rattle.fault_model.specs.Fault.{FaultList, fault_list, faults}
+use Rattle.workers.specs.Verdict.{AreFirsts}
+use Rattle.jobs.specs.declared.fault.SimFault.{SimFault}
+use Rattle.jobs.specs.declared.fault.SimFault.TheVariants as fault
+use Rattle.jobs.specs.Jobs.{IsJobOf}
+use Rattle.output.specs.Output.{Output}
+use Rattle.report.specs.declared.contents.Lines.{Lines}
+use Rattle.report.specs.EndToEnd.{IsListingFault, WritesOneOf}
+use Rattle.tables.specs.declared.table.Format.{Format}
+use Rattle.tables.specs.Refusals.{IsTableFault}
+use Rattle.tables.specs.Tables.{IsClassTableOf, IsClassTableOfCircuit, IsFirstTableOf}
+use Rattle.tables.specs.Tables.{IsFirstTableOfJob, IsTable, class_column, first_column, table_text}
+
+-- a text of one kind is one of another
+pub written_as : (A B : List ℕ → Type 0) (r : Result (Unit {0}) SimFault) (old new : Output)
+    → ((text : List ℕ) → A text → B text) → WritesOneOf A r old new → WritesOneOf B r old new
+written_as A B (Ok u) old new into w = (w.0, into w.0 w.1, w.2)
+written_as A B (Err (fault.Report f)) old new into w = (w.0, into w.0 w.1, w.2)
+written_as A B (Err (fault.Bench f)) old new into w = w
+written_as A B (Err (fault.Tests f)) old new into w = w
+written_as A B (Err (fault.Order f)) old new into w = w
+written_as A B (Err (fault.Job f)) old new into w = w
+written_as A B (Err (fault.Run f)) old new into w = w
+written_as A B (Err fault.Memory) old new into w = w
+
+-- a table that is refused is one of a refused listing
+pub table_fault : (bench : List ℕ) (f : SimFault) → IsTableFault f → IsListingFault bench f
+table_fault bench (fault.Report f) h = tt
+table_fault bench fault.Memory h = tt
+table_fault bench (fault.Bench f) h = absurd h
+table_fault bench (fault.Tests f) h = absurd h
+table_fault bench (fault.Order f) h = absurd h
+table_fault bench (fault.Job f) h = absurd h
+table_fault bench (fault.Run f) h = absurd h
+
+-- the table of a list of faults and of their classes
+pub classes_table : (m : Model) (c : List Statement) (list : FaultList) (classes : Collapsed)
+    (format : Format) → list ≡ fault_list m c → AreClassesOf list.model c classes
+    → (bytes : List ℕ)
+    → IsTable format c list.list
+    (class_column classes.class_of (length classes.representative)) bytes
+    → IsClassTableOfCircuit m c format bytes
+classes_table m c list classes format listed are bytes is =
+    let of_model : list.model ≡ m = ap (λ l. l.model) listed in
+    let own : list.list ≡ faults m c = ap (λ l. l.list) listed in (
+      classes,
+      subst (λ k. AreClassesOf k c classes) of_model are,
+      is ∙ ap (λ l. table_text format c l
+          (class_column classes.class_of (length classes.representative))) own,
+    )
+
+-- that of the circuit of a text
+pub classes_of_text : (m : Model) (bench : List ℕ) (c : List Statement) (format : Format)
+    → IsAccepted bench c → (bytes : List ℕ) → IsClassTableOfCircuit m c format bytes
+    → IsClassTableOf m bench format bytes
+classes_of_text m bench c format accepted bytes is = (c, is.0, accepted, is.1, is.2)
+
+-- the table of a job's faults and of their first tests
+pub firsts_table : (job : Parts) (firsts : List (Option ℕ)) (lines : Lines) (format : Format)
+    → job.list ≡ fault_list job.list.model job.circuit
+    → AreFirsts job.list.model job.circuit job.tests.tests firsts → (bytes : List ℕ)
+    → IsTable format job.circuit job.list.list (first_column firsts lines) bytes
+    → IsFirstTableOfJob job lines format bytes
+firsts_table job firsts lines format listed are bytes is = (
+  firsts,
+  are,
+  is ∙ ap (λ l. table_text format job.circuit l (first_column firsts lines))
+      (ap (λ l. l.list) listed),
+)
+
+-- that of the job of texts
+pub firsts_of_texts : (m : Model) (bench text : List ℕ) (job : Parts) (lines : Lines)
+    (format : Format) → IsJobOf m bench text job → (bytes : List ℕ)
+    → IsFirstTableOfJob job lines format bytes → IsFirstTableOf m bench text lines format bytes
+firsts_of_texts m bench text job lines format is bytes of_job =
+    let are = subst (λ k. AreFirsts k job.circuit job.tests.tests of_job.0) is.3 of_job.1 in (
+      job.circuit,
+      job.tests,
+      of_job.0,
+      is.0,
+      is.1,
+      are,
+      of_job.2 ∙ ap (λ k. table_text format job.circuit (faults k job.circuit)
+          (first_column of_job.0 lines)) is.3,
+    )

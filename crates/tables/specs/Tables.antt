@@ -1,0 +1,160 @@
+-- The bytes of tables.
+use Rattle.std.specs.Prelude.{◌≡◌, ℕ, Bool, true, List, [], ◌∷◌, ◌++◌, length, map, zip, drop}
+use Rattle.std.specs.Prelude.{Option, Some, None, is_none, codes, decimal, if◌then◌else◌}
+use Rattle.std.specs.List.{flat_map}
+use Rattle.csv.specs.Writing.{default_writer, row_text}
+use Rattle.json.specs.Print.{quoted}
+use Rattle.bench_net.specs.Refusal.{IsAccepted}
+use Rattle.bench_net.specs.Scan.{sources}
+use Rattle.bench_net.specs.Statement.{Statement}
+use Rattle.fault_model.specs.declared.Model.{Model}
+use Rattle.fault_model.specs.Collapse.{AreClassesOf, Collapsed}
+use Rattle.fault_model.specs.Fault.{Fault, faults}
+use Rattle.patterns.specs.Tests.{HasTests, TestList}
+use Rattle.block_sim.specs.Parts.{Parts}
+use Rattle.workers.specs.Verdict.{AreFirsts, detected_count}
+use Rattle.report.specs.declared.contents.Lines.{Lines}
+use Rattle.report.specs.declared.contents.Lines.TheVariants.{All, Omitted, Undetected}
+use Rattle.report.specs.Report.{percentage}
+use Rattle.tables.specs.declared.column.Column.{Column}
+use Rattle.tables.specs.declared.column.Column.TheVariants as column
+use Rattle.tables.specs.declared.table.Format.{Format}
+use Rattle.tables.specs.declared.table.Format.TheVariants.{Csv, Json}
+use Rattle.tables.specs.Rows.{RowCells, row_cells}
+
+-- What is told of the faults: the name of the column, what it has for each fault in the order of
+-- the list, which faults have a row, and the sums as a JSON object.
+pub record Told : Type 0 where
+  pub name : List ℕ
+  pub values : List (Option ℕ)
+  pub lines : Lines
+  pub summary : List ℕ
+
+-- whether a fault has a row, by what is told of it: those without a value alone, where these are
+-- asked for
+abbrev pub has_row : Lines → Option ℕ → Bool
+has_row Undetected value = is_none value
+has_row All value = true
+has_row Omitted value = true
+
+-- the sums of a run
+abbrev pub coverage_object : ℕ → ℕ → List ℕ
+coverage_object detected total =
+    codes "{\"detected\":" ++ (decimal detected ++ (codes ",\"faults\":" ++ (decimal total
+    ++ (codes ",\"percent\":" ++ (percentage detected total ++ codes "}")))))
+
+-- the sums of the classes
+abbrev pub classes_object : ℕ → ℕ → List ℕ
+classes_object total classes =
+    codes "{\"faults\":" ++ (decimal total ++ (codes ",\"classes\":" ++ (decimal classes
+    ++ codes "}")))
+
+-- the first test of each fault, or none
+abbrev pub first_column : List (Option ℕ) → Lines → Told
+first_column firsts lines = record {
+  name = codes "first";
+  values = firsts;
+  lines = lines;
+  summary = coverage_object (detected_count firsts) (length firsts);
+}
+
+-- the class of each fault, of so many classes
+abbrev pub class_column : List ℕ → ℕ → Told
+class_column class_of classes = record {
+  name = codes "class";
+  values = map Some class_of;
+  lines = All;
+  summary = classes_object (length class_of) classes;
+}
+
+-- a number, or the word for none
+abbrev pub number_or : List ℕ → Option ℕ → List ℕ
+number_or none None = none
+number_or none (Some n) = decimal n
+
+-- the record of a row as comma-separated values
+abbrev pub csv_record : RowCells → Option ℕ → List ℕ
+csv_record row value = row_text default_writer (row.line.kind ∷ row.line.name
+    ∷ number_or [] row.line.pin ∷ row.defect ∷ number_or [] value ∷ row.line.net ∷ [])
+
+-- a JSON object of a fault, on a line of its own behind a comma
+abbrev pub object_of : List ℕ → List ℕ → List ℕ → List ℕ → List ℕ → List ℕ → List ℕ → List ℕ
+object_of kind name pin defect column value net =
+    codes ",\n{\"kind\":\"" ++ (kind ++ (codes "\",\"name\":" ++ (name
+    ++ (codes ",\"pin\":" ++ (pin ++ (codes ",\"defect\":\"" ++ (defect
+    ++ (codes "\",\"" ++ (column ++ (codes "\":" ++ (value
+    ++ (codes ",\"net\":" ++ (net ++ codes "}")))))))))))))
+
+-- that of a row
+abbrev pub json_object : List ℕ → RowCells → Option ℕ → List ℕ
+json_object column row value =
+    object_of row.line.kind (quoted row.line.name) (number_or (codes "null") row.line.pin)
+    row.defect column (number_or (codes "null") value) (quoted row.line.net)
+
+-- the rows of the faults that have one
+abbrev pub rows_text : (RowCells → Option ℕ → List ℕ) → List Statement → Lines
+    → List (Fault × Option ℕ) → List ℕ
+rows_text row c lines told =
+    flat_map (λ at. if has_row lines at.1 then row (row_cells c at.0) at.1 else []) told
+
+-- the header of a table as comma-separated values
+abbrev pub csv_header : List ℕ → List ℕ
+csv_header column = row_text default_writer (codes "kind" ∷ codes "name" ∷ codes "pin"
+    ∷ codes "defect" ∷ column ∷ codes "net" ∷ [])
+
+-- the table as comma-separated values: a header, and a record for each row
+abbrev pub csv_table : List Statement → List Fault → Told → List ℕ
+csv_table c list told = csv_header told.name
+    ++ rows_text csv_record c told.lines (zip list told.values)
+
+-- a JSON object of sums and of an array of rows
+abbrev pub object_text : List ℕ → List ℕ → List ℕ
+object_text summary rows =
+    (codes "{\"summary\":" ++ summary) ++ (codes ",\"faults\":[" ++ (rows ++ codes "\n]}\n"))
+
+-- the table as a JSON object, in which the first row has no comma before it
+abbrev pub json_table : List Statement → List Fault → Told → List ℕ
+json_table c list told = object_text told.summary
+    (drop 1 (rows_text (json_object told.name) c told.lines (zip list told.values)))
+
+abbrev pub table_text : Format → List Statement → List Fault → Told → List ℕ
+table_text Csv c list told = csv_table c list told
+table_text Json c list told = json_table c list told
+
+-- the bytes are this table
+abbrev pub IsTable : Format → List Statement → List Fault → Told → List ℕ → Type 0
+IsTable format c list told bytes = bytes ≡ table_text format c list told
+
+-- the bytes are the table of a run of a bench text and a test text under a model: each fault with
+-- the first test that detects it, or none
+abbrev pub IsFirstTableOf : Model → List ℕ → List ℕ → Lines → Format → List ℕ → Type 0
+IsFirstTableOf m bench text lines format bytes = (c : List Statement) × (tests : TestList)
+    × (firsts : List (Option ℕ)) × IsAccepted bench c × HasTests text (length (sources c)) tests
+    × AreFirsts m c tests.tests firsts
+    × (bytes ≡ table_text format c (faults m c) (first_column firsts lines))
+
+-- the same of a job
+abbrev pub IsFirstTableOfJob : Parts → Lines → Format → List ℕ → Type 0
+IsFirstTableOfJob job lines format bytes = (firsts : List (Option ℕ))
+    × AreFirsts job.list.model job.circuit job.tests.tests firsts
+    × (bytes ≡ table_text format job.circuit (faults job.list.model job.circuit)
+    (first_column firsts lines))
+
+-- the bytes are the table of the faults of a bench text under a model with their classes
+abbrev pub IsClassTableOf : Model → List ℕ → Format → List ℕ → Type 0
+IsClassTableOf m bench format bytes = (c : List Statement) × (classes : Collapsed)
+    × IsAccepted bench c × AreClassesOf m c classes
+    × (bytes ≡ table_text format c (faults m c)
+    (class_column classes.class_of (length classes.representative)))
+
+-- the same of a circuit
+abbrev pub IsClassTableOfCircuit : Model → List Statement → Format → List ℕ → Type 0
+IsClassTableOfCircuit m c format bytes = (classes : Collapsed) × AreClassesOf m c classes
+    × (bytes ≡ table_text format c (faults m c)
+    (class_column classes.class_of (length classes.representative)))
+
+-- what the program keeps of what is told
+abbrev pub column_in : Column → Told
+column_in (column.First verdicts lines) = first_column verdicts.now.firsts lines
+column_in (column.Class classes) =
+    class_column classes.now.class_of (length classes.now.representative)
