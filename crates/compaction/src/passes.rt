@@ -78,7 +78,7 @@ fn last_tests<R: Threads + Wait>(
     ensures refused { IfErr result (IsRunFault job.old workers ⊤ (λ _ _ _. ⊥)) }
 {
     let turned = reversed_tests(alloc, tests)?;
-    job.set_tests_of_any_size(alloc, turned)?;
+    job.set_tests_of_any_size_in_threads(rt, alloc, turned, workers)?;
     let mut found = finding_tests(rt, alloc, job, workers)?;
     found.reverse();
     Ok(marked_tests(alloc, tests, &found)?)

@@ -10,7 +10,7 @@ use crate::whole::put_text;
 use block_sim::Job;
 use compaction::compact;
 use fault_model::Model;
-use jobs::{SimFault, job_of};
+use jobs::{SimFault, job_of_in_threads};
 use output::Out;
 use patterns::write_tests;
 use std::alloc::Global;
@@ -36,7 +36,7 @@ pub fn compact_text_in<R: Threads + Wait, W: Out>(
     ensures refused { IfErr result (IsReportFault model bench.now tests.now workers) }
     ensures workers { OnOk result ((0 < workers) × (workers ≤ 64)) }
 {
-    let mut job = job_of(alloc, model, bench, tests)?;
+    let mut job = job_of_in_threads(rt, alloc, model, bench, tests, workers)?;
     write_compacted(rt, alloc, &mut job, workers, out)
 }
 

@@ -16,7 +16,7 @@ use block_sim::Job;
 use fault_model::Model;
 use fault_model::laws::stems;
 use itoa::Buffer;
-use jobs::{ReportFault, SimFault, Watch, job_of, run_watched};
+use jobs::{ReportFault, SimFault, Watch, job_of_in_threads, run_watched};
 use output::{Out, OutFailed, put_pieces};
 use std::alloc::{AllocError, Global};
 use std::sync::Wait;
@@ -76,7 +76,7 @@ pub fn curve_text_watched<R: Threads + Wait, G: Watch + Sync, W: Out>(
         (G.passing gate.now) (G.stops gate.now)) }
     ensures workers { OnOk result ((0 < workers) × (workers ≤ 64)) }
 {
-    let job = job_of(alloc, model, bench, tests)?;
+    let job = job_of_in_threads(rt, alloc, model, bench, tests, workers)?;
     let parts = parts_for(&job, workers);
     report_curve(rt, alloc, &job, parts, workers, gate, out)
 }

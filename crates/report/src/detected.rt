@@ -18,7 +18,7 @@ use block_sim::Job;
 use detections::{CountFault, detections};
 use fault_model::{Faults, Model};
 use itoa::Buffer;
-use jobs::{ReportFault, SimFault, job_of};
+use jobs::{ReportFault, SimFault, job_of_in_threads};
 use output::{Out, OutFailed};
 use std::alloc::Global;
 use std::sync::Wait;
@@ -46,7 +46,7 @@ pub fn detections_text_in<R: Threads + Wait, W: Out>(
     ensures refused { IfErr result (IsReportFault model bench.now tests.now workers) }
     ensures workers { OnOk result ((0 < workers) × (workers ≤ 64)) }
 {
-    let job = job_of(alloc, model, bench, tests)?;
+    let job = job_of_in_threads(rt, alloc, model, bench, tests, workers)?;
     report_counts(rt, alloc, &job, most, workers, list, out)
 }
 

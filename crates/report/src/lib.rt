@@ -30,7 +30,7 @@ pub use contents::{Contents, Lines};
 pub use curve::{CurvePoint, curve_of, curve_text_in, curve_text_watched, write_curve};
 pub use detected::{detections_text_in, write_detections};
 pub use ending::write_merged;
-pub use jobs::{ReportFault, SimFault, Watch, job_of};
+pub use jobs::{ReportFault, SimFault, Watch, job_of, job_of_in_threads};
 pub use joining::MergeFault;
 pub use laws::{
     class_firsts_are, merged_report, no_refusal_of_merge, no_refusal_of_part_text, one_part_text,

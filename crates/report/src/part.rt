@@ -22,7 +22,7 @@ use block_sim::Job;
 use fault_model::{Faults, Model};
 use hex::encode;
 use itoa::Buffer;
-use jobs::{ReportFault, SimFault, Watch, job_of_any_size};
+use jobs::{ReportFault, SimFault, Watch, job_of_any_size_in_threads};
 use output::{Out, OutFailed, put_pieces};
 use sha2::{Digest, Sha256};
 use std::alloc::{AllocError, Global};
@@ -90,7 +90,7 @@ pub fn part_text_watched<R: Threads + Wait, G: Watch + Sync, W: Out>(
         (λ job. IsPartFault job parts part workers (G.passing gate.now) (G.stops gate.now))) }
     ensures workers { OnOk result ((0 < workers) × (workers ≤ 64)) }
 {
-    let job = job_of_any_size(alloc, model, bench, tests)?;
+    let job = job_of_any_size_in_threads(rt, alloc, model, bench, tests, workers)?;
     let bench_sum = sum_of(alloc, bench)?;
     let test_sum = sum_of(alloc, tests)?;
     let head = Head {

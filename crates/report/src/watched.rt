@@ -10,7 +10,7 @@ use crate::contents::Contents;
 use crate::report::write_report_with;
 use block_sim::Job;
 use fault_model::Model;
-use jobs::{SimFault, Watch, job_of, job_of_any_size, run_watched};
+use jobs::{SimFault, Watch, job_of_any_size_in_threads, job_of_in_threads, run_watched};
 use output::Out;
 use std::alloc::Global;
 use std::sync::Wait;
@@ -76,7 +76,7 @@ pub(crate) fn watch_parts<R: Threads + Wait, G: Watch + Sync, W: Out>(
     ensures workers { OnOk result ((0 < workers) × (workers ≤ 64)) }
     ensures within { OnOk result (HasPartsWithin model bench.now tests.now parts) }
 {
-    let job = job_of_any_size(alloc, model, bench, tests)?;
+    let job = job_of_any_size_in_threads(rt, alloc, model, bench, tests, workers)?;
     report_run(rt, alloc, &job, parts, workers, contents, gate, out)
 }
 
@@ -98,7 +98,7 @@ pub(crate) fn watch_whole<R: Threads + Wait, G: Watch + Sync, W: Out>(
         (G.passing gate.now) (G.stops gate.now)) }
     ensures workers { OnOk result ((0 < workers) × (workers ≤ 64)) }
 {
-    let job = job_of(alloc, model, bench, tests)?;
+    let job = job_of_in_threads(rt, alloc, model, bench, tests, workers)?;
     let parts = parts_for(&job, workers);
     report_run(rt, alloc, &job, parts, workers, contents, gate, out)
 }

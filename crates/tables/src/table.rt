@@ -17,7 +17,7 @@ use crate::json_table::{json_rows, put_json};
 use bench_net::{Circuit, read_bench};
 use block_sim::Job;
 use fault_model::{Faults, Model, collapse, list_faults_in};
-use jobs::{Watch, job_of, run_watched};
+use jobs::{Watch, job_of_in_threads, run_watched};
 use output::put_all;
 use report::{Lines, OpenGate, Out, ReportFault, SimFault};
 use std::alloc::Global;
@@ -186,7 +186,7 @@ pub fn run_table_watched<R: Threads + Wait, G: Watch + Sync, W: Out>(
         (G.passing gate.now) (G.stops gate.now)) }
     ensures workers { OnOk result ((0 < workers) × (workers ≤ 64)) }
 {
-    let job = job_of(alloc, model, bench, tests)?;
+    let job = job_of_in_threads(rt, alloc, model, bench, tests, workers)?;
     let parts = parts_for(&job, workers);
     write_run(rt, alloc, &job, parts, workers, lines, format, gate, out)
 }

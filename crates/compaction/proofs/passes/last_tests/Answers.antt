@@ -8,8 +8,8 @@ use Rattle.compaction.specs.Marks.{AreFinding, AreLast}
 use Rattle.compaction.proofs.KeptTests.{are_last, refused_alike}
 use Rattle.compaction.proofs.passes.last_tests.Goals as goal
 
-pub set_tests_of_any_size-requires-clause-width : goal.set_tests_of_any_size-requires-clause-width
-set_tests_of_any_size-requires-clause-width g c = c.in_ok-turned.ensures.width
+pub set_tests_of_any_size_in_threads-requires-clause-width : goal.set_tests_of_any_size_in_threads-requires-clause-width
+set_tests_of_any_size_in_threads-requires-clause-width g c = c.in_ok-turned.ensures.width
     ∙ (c.requires.width ∙ c.requires.job.width)
 
 pub returns-in_err-found-clause-refused : goal.returns-in_err-found-clause-refused
@@ -18,7 +18,7 @@ returns-in_err-found-clause-refused g c =
     c.from_residual-in_err-found.ensures.1 in
     let job = c.args.job.now in
     let given = subst (λ x. IsRunFault x c.args.workers ⊤ (λ _ _ _. ⊥) c.in_err-found.field-0.0)
-    c.in_ok-set_tests_of_any_size.ensures.job c.in_err-found.ensures.refused in
+    c.in_ok-set_tests_of_any_size_in_threads.ensures.job c.in_err-found.ensures.refused in
     rw (p.1, p.2) (refused_alike job c.in_ok-turned.turned c.args.workers
     c.in_err-found.field-0.0
     (omega (arith, c.in_ok-turned.ensures.count, c.requires.few)) given)
@@ -31,7 +31,7 @@ returns-clause-last g c =
     let found = c.in_ok-found.found.items in
     let marks = c.deref.result.now in
     let given = subst (λ p. AreFinding p.list.model p.circuit p.tests.tests found)
-    c.in_ok-set_tests_of_any_size.ensures.job c.in_ok-found.ensures.marks in
+    c.in_ok-set_tests_of_any_size_in_threads.ensures.job c.in_ok-found.ensures.marks in
     let are : AreFinding StuckAt job.circuit turned found =
     subst (λ m. AreFinding m job.circuit turned found) c.requires.model given in
     let all : length found ≡ length tests = are.count ∙ c.in_ok-turned.ensures.count in
