@@ -34,6 +34,8 @@ REFUSED = (b"faultsim: out of memory\n", b"faultsim: thread refused\n")
 WAYS = ("REFUSE_ALLOCATION", "REFUSE_START")
 # Command lines of the program, in a folder with these files.
 FILES = ("bench", "tests", "order", "first", "second")
+# A chain of inverters under tests of one bit each: threads share their fault-free words.
+CHAIN, MANY = 1024, 16384
 TEXTS = "--bench bench --tests tests"
 COMMANDS = (
     "faults --bench bench",
@@ -47,6 +49,7 @@ COMMANDS = (
     f"run {TEXTS} --detections 2 --workers 2",
     f"run {TEXTS} --format csv --workers 2",
     f"run {TEXTS} --part 1/2 --workers 2",
+    "run --bench chain --tests many --list --workers 3",
     "merge first second --list",
     f"schedule {TEXTS} --list --workers 2 --order order",
     f"curve {TEXTS} --workers 2",
@@ -103,11 +106,14 @@ def sweep_program(program, library, folder, command):
 
 
 def put_files(program, folder):
-    """C17, a test for it, an order, and the texts of both parts of a run."""
+    """C17, a test for it, an order, the texts of both parts of a run, and a chain with its tests."""
     bench, tests, order, first, second = (folder / name for name in FILES)
     bench.write_bytes((DATA / "c17.bench").read_bytes())
     tests.write_bytes((DATA / "one.tests").read_bytes())
     order.write_text("1\n1\n0\n")
+    gates = (f"n{at} = NOT(n{at - 1})\n" for at in range(1, CHAIN))
+    (folder / "chain").write_text(f"INPUT(n0)\nOUTPUT(n{CHAIN - 1})\n{''.join(gates)}")
+    (folder / "many").write_text("0\n" * (MANY - 1) + "1\n")
     for part, path in ((1, first), (2, second)):
         words = [program, "run", *TEXTS.split(), "--part", f"{part}/2"]
         path.write_bytes(run_with(words, folder)[1])

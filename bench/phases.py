@@ -1,0 +1,144 @@
+#!/usr/bin/env python3
+"""Tells what share of a run each of its phases takes, by the samples of perf.
+
+    bench/phases.py [--program FILE] [--workers N ..] [--only NAME] [--rounds N] [--folder F]
+
+For each case it runs the program under `perf record` with each number of workers, and prints for each
+phase the milliseconds of processor time of the thread that starts the program, and of the other
+threads, as means of all rounds. A phase of the first thread begins with the first sample in a
+function of its own (PHASES) and goes on until that of another one, so what the system does for it, as
+handing out memory, counts for it. The times of a busy machine are still shares of the work, since a
+sample is of processor time.
+
+It wants a program with symbols, such as `contrib/build -O 3` leaves in out/faultsim, which is the
+default. The circuits and tests are made in a temporary folder, or stay in the one that --folder names.
+"""
+
+import argparse
+import pathlib
+import re
+import subprocess
+import sys
+import tempfile
+
+import compare
+from compare import Case
+
+HERE = pathlib.Path(__file__).resolve().parent
+
+CASES = [
+    Case("picosoc", "picosoc, 1,024 tests", "design picosoc", 1024),
+    Case("picosoc16k", "picosoc, 16,384 tests", "design picosoc", 16384),
+    Case("r100k", "100,000 random gates, 256 tests", compare.R100K, 256),
+    Case("r100k64k", "100,000 random gates, 65,536 tests", compare.R100K, 65536),
+    Case("list900k", "900,000 random gates, listed", compare.R900K),
+]
+# As many parts as the tests of these need.
+PARTS = {"picosoc16k": 8, "r100k64k": 32}
+
+# The functions whose first sample begins a phase. Those of no phase belong to the one before.
+PHASES = {
+    "read bench": r"bench_net::",
+    "read tests": r"patterns::test_text|patterns::word_rows::\w*add|patterns::read_tests",
+    "faults and classes": r"fault_model::(classes|faults)::",
+    "rows": r"block_sim::(flat::FlatCircuit::new|flat::lists_of|flat::add_|order|walk|live|places|form)",
+    "fault-free words": r"block_sim::(words|job::fault_free_rows|job::rows_)",
+    "classes of the job": r"block_sim::(region_classes|origin)::",
+    "cut": r"workers::(ranks|arrange|stretches)::",
+    "verdicts": r"workers::(parts|verdicts|alone::lowest)",
+    "report": r"report::|output::|itoa::",
+}
+WAITS = "waits"
+BEGIN = "start"
+
+
+def phase_of(symbol):
+    return next((name for name, words in PHASES.items() if re.match(words, symbol)), None)
+
+
+def samples(data):
+    """The samples of a recording: whether of the first thread, the milliseconds, and the function."""
+    words = ["perf", "script", "-i", str(data), "-F", "pid,tid,period,ip,sym"]
+    out = subprocess.run(words, stdout=subprocess.PIPE, stderr=subprocess.DEVNULL, check=True, text=True)
+    for line in out.stdout.splitlines():
+        found = re.match(r"\s*(\d+)/(\d+)\s+(\d+)\s+\w+ (.*)", line)
+        if found:
+            pid, tid, period, symbol = found.groups()
+            yield pid == tid, int(period) / 1e6, symbol.strip()
+
+
+def times(data):
+    """The milliseconds of each phase of the first thread, and those of all other threads by phase."""
+    own, others, now = {}, {}, BEGIN
+    for is_first, took, symbol in samples(data):
+        if is_first:
+            now = phase_of(symbol) or now
+            own[now] = own.get(now, 0) + took
+        else:
+            others[now] = others.get(now, 0) + took
+    return own, others
+
+
+def recorded(words, folder):
+    data = folder / "perf.data"
+    command = ["perf", "record", "-q", "-F", "5000", "-e", "cpu-clock", "-o", str(data), "--", *words]
+    ran = subprocess.run(command, stdout=subprocess.DEVNULL, stderr=subprocess.PIPE, check=False)
+    if ran.returncode:
+        sys.exit(f"perf: {ran.stderr.decode()[:500]}")
+    return times(data)
+
+
+def measure(words, options, folder):
+    own, others = {}, {}
+    for _ in range(options.rounds):
+        for table, found in zip((own, others), recorded(words, folder)):
+            for phase, took in found.items():
+                table[phase] = table.get(phase, 0) + took / options.rounds
+    return own, others
+
+
+def told(case, workers, own, others):
+    whole = sum(own.values()) + sum(others.values())
+    print(f"{case.name}, {case.title}, {workers} workers: {whole:.0f} ms of processor time")
+    for phase in [BEGIN, *PHASES]:
+        mine, theirs = own.get(phase, 0), others.get(phase, 0)
+        if mine + theirs >= whole / 1000:
+            beside = f"  {theirs:8.1f} in other threads" if theirs else ""
+            print(f"  {phase:20} {mine:8.1f}{beside}")
+    alone = sum(own.values())
+    print(f"  {'first thread':20} {alone:8.1f}, {alone / whole:.0%} of all", flush=True)
+
+
+def words_of(case, folder, program, workers):
+    bench, tests = folder / f"{case.name}.bench", folder / f"{case.name}.tests"
+    if not bench.exists():
+        compare.generated(folder, bench.name, case.circuit.split(), case.line)
+    if not case.tests:
+        return [str(program), "faults", "--bench", str(bench)]
+    if not tests.exists():
+        compare.generated(folder, tests.name, ["tests", "--bench", str(bench), "--count", str(case.tests)])
+    words = [str(program), "run", "--bench", str(bench), "--tests", str(tests), "--list"]
+    words += ["--workers", str(workers)]
+    return words + (["--parts", str(PARTS[case.name])] if case.name in PARTS else [])
+
+
+def main():
+    parser = argparse.ArgumentParser(description=__doc__, formatter_class=argparse.RawDescriptionHelpFormatter)
+    parser.add_argument("--program", type=pathlib.Path, default=HERE.parent / "out" / "faultsim")
+    parser.add_argument("--workers", type=int, nargs="+", default=[1, 4])
+    parser.add_argument("--only", default="")
+    parser.add_argument("--rounds", type=int, default=3)
+    parser.add_argument("--folder", type=pathlib.Path, default=None)
+    options = parser.parse_args()
+    with tempfile.TemporaryDirectory() as name:
+        folder = options.folder or pathlib.Path(name)
+        for case in CASES:
+            if options.only and options.only != case.name:
+                continue
+            for workers in options.workers if case.tests else [1]:
+                own, others = measure(words_of(case, folder, options.program.resolve(), workers), options, pathlib.Path(name))
+                told(case, workers, own, others)
+
+
+if __name__ == "__main__":
+    main()
