@@ -1,1 +1,2 @@
 mod JobsOfAnswers
+mod LeastParts

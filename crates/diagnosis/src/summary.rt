@@ -1,8 +1,8 @@
 //! What a circuit and its tests have, and what a run of them takes.
 
-ghost use Rattle.std.specs.Prelude.{◌≡◌, ◌<◌, ◌≤◌, IfNone, IfOk, IfSome};
+ghost use Rattle.std.specs.Prelude.{◌≡◌, ◌<◌, ◌≤◌, ◌*◌, IfNone, IfOk, IfSome};
 ghost use Rattle.patterns.specs.Tests.{max_pieces};
-ghost use Rattle.diagnosis.specs.Counts.{AreCountsOf, AreTestCountsOf};
+ghost use Rattle.diagnosis.specs.Counts.{AreCountsOf, AreLeastParts, AreTestCountsOf};
 
 use bench_net::{Circuit, Kind};
 use fault_model::{Model, collapse, list_faults_in};
@@ -111,9 +111,13 @@ impl Counts {
     }
 
     /// In how many parts at least a run of so many blocks goes.
-    pub(crate) fn parts_of(&self, blocks: u32) -> u32 {
-        let classes_of_part = MAX_PIECES / blocks.max(1);
-        self.classes.div_ceil(classes_of_part.max(1)).max(1)
+    pub(crate) fn parts_of(&self, blocks: u32) -> u32
+        requires some { 0 < blocks }
+        requires few { blocks ≤ 1024 }
+        ensures { AreLeastParts self.now.classes blocks result }
+    {
+        let classes_of_part = MAX_PIECES / blocks;
+        self.classes.div_ceil(classes_of_part).max(1)
     }
 
     /// Some bytes that a run of so many tests takes, by the figures of the README.
@@ -242,11 +246,15 @@ pub struct Excess {
 
 /// What is too much for one run, where tests are too many.
 pub(crate) fn excess_of(counts: &Counts, taken: &TestCounts) -> Option<Excess>
+    requires blocks { taken.now.blocks ≤ 1024 }
+    requires pieces { taken.now.pieces ≡ counts.now.classes * taken.now.blocks }
     ensures none { IfNone result (taken.now.pieces ≤ max_pieces) }
     ensures past { IfSome result (λ excess. max_pieces < taken.now.pieces) }
     ensures classes { IfSome result (λ excess. excess.classes ≡ counts.now.classes) }
     ensures blocks { IfSome result (λ excess. excess.blocks ≡ taken.now.blocks) }
     ensures pieces { IfSome result (λ excess. excess.pieces ≡ taken.now.pieces) }
+    ensures parts { IfSome result (λ excess.
+        AreLeastParts counts.now.classes taken.now.blocks excess.parts) }
 {
     if taken.pieces <= u64::from(MAX_PIECES) {
         return None;
