@@ -1,6 +1,6 @@
 -- The names of the signals that lines carry, out of what the calls of a circuit give.
-use Rattle.std.proofs.Common.{◌≡◌, ◌<◌, ℕ, zero, suc, refl, sym, ◌∙◌, ap, List, [], ◌∷◌, length}
-use Rattle.std.proofs.Common.{arith, drop, subst}
+use Rattle.std.proofs.Common.{◌≡◌, ◌<◌, ℕ, zero, suc, refl, ◌∙◌, ap, List, [], ◌∷◌, length}
+use Rattle.std.proofs.Common.{arith, drop}
 use Rattle.std.proofs.lemmas.Option.{get_or_from_slice_get, slice_get-map, slice_get_within}
 use Rattle.std.specs.Prelude.{Contains, Option, Some, None, map, option_map, slice_get}
 use Rattle.std.specs.Prelude.{slice_index_or, unwrap_or}

@@ -1,6 +1,6 @@
 -- Rows of a list of faults and of what is told of each, one after another.
 use Rattle.std.proofs.Common.{◌≡◌, ◌≤◌, ◌∙◌, ℕ, zero, suc, ◌+◌, List, [], ◌∷◌, ◌++◌, length, take}
-use Rattle.std.proofs.Common.{ap, append-nil, arith, refl, sym, get_or}
+use Rattle.std.proofs.Common.{ap, append-nil, arith, refl}
 use Rattle.std.proofs.lemmas.Option.{get_or_from_slice_get, slice_get_within}
 use Rattle.std.specs.Prelude.{Option, Some, None, true, false, slice_get, unwrap_or, zip}
 use Rattle.std.specs.Prelude.{if◌then◌else◌}

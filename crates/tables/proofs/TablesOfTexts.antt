@@ -1,5 +1,5 @@
 -- From the table of a circuit or a job to that of the texts that it was read from.
-use Rattle.std.proofs.Common.{◌≡◌, ◌∙◌, ℕ, List, ap, length, subst, sym}
+use Rattle.std.proofs.Common.{◌≡◌, ◌∙◌, ℕ, List, ap, length, subst}
 use Rattle.std.specs.Prelude.{Err, Ok, Option, Result}
 use Rattle.bench_net.specs.Refusal.{IsAccepted}
 use Rattle.bench_net.specs.Statement.{Statement}

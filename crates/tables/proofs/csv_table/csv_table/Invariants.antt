@@ -1,6 +1,5 @@
-use Rattle.std.proofs.Common.{[], ◌∷◌, ◌++◌, take}
-use Rattle.std.specs.Prelude.{codes, zip}
-use Rattle.csv.specs.Writing.{default_writer, row_text}
+use Rattle.std.proofs.Common.{◌++◌, take}
+use Rattle.std.specs.Prelude.{zip}
 use Rattle.tables.specs.Records.{HasTaken}
 use Rattle.tables.specs.Tables.{column_in, csv_header, csv_record, rows_text}
 use Rattle.tables.proofs.csv_table.csv_table.Given as goal

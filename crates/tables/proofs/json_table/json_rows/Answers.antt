@@ -1,4 +1,4 @@
-use Rattle.std.proofs.Common.{◌≡◌, ◌<◌, ◌≤◌, ◌∙◌, ◌++◌, ap, arith, length, subst, sym, take}
+use Rattle.std.proofs.Common.{◌≡◌, ◌<◌, ◌≤◌, ◌∙◌, ◌++◌, ap, arith, length, sym, take}
 use Rattle.std.specs.Prelude.{zip}
 use Rattle.lists.proofs.Places.{within_place}
 use Rattle.tables.specs.Rows.{row_cells, row_in}

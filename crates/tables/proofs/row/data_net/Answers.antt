@@ -1,7 +1,7 @@
-use Rattle.std.proofs.Common.{◌≡◌, ◌<◌, ◌∙◌, ap, length, subst, sym}
+use Rattle.std.proofs.Common.{◌≡◌, ◌∙◌, ap, sym}
 use Rattle.std.proofs.lemmas.Option.{slice_get_within}
-use Rattle.std.specs.Prelude.{Contains, Some, option_map, slice_get, unwrap_or}
-use Rattle.bench_net.specs.Scan.{cells, name_of, names, signal}
+use Rattle.std.specs.Prelude.{unwrap_or}
+use Rattle.bench_net.specs.Scan.{cells, name_of, signal}
 use Rattle.tables.proofs.Nets.{data_at, signal_named, stored_at}
 use Rattle.tables.proofs.row.data_net.Goals as goal
 

@@ -1,5 +1,4 @@
-use Rattle.std.proofs.Common.{◌∙◌, ap, sym}
-use Rattle.bench_net.specs.Scan.{name_of}
+use Rattle.std.proofs.Common.{◌∙◌, sym}
 use Rattle.tables.proofs.Nets.{gate_within, is_gate_there, pin_reads_signal, signal_named}
 use Rattle.tables.proofs.row.pin_net.Goals as goal
 

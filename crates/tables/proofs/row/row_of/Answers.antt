@@ -1,4 +1,4 @@
-use Rattle.std.proofs.Common.{◌≡◌, ap, refl, subst, sym}
+use Rattle.std.proofs.Common.{◌≡◌, refl, subst}
 use Rattle.std.specs.Prelude.{Contains}
 use Rattle.lists.proofs.Members.{contained}
 use Rattle.lists.proofs.Places.{at_place, within_place}
