@@ -9,3 +9,5 @@ mod counts;
 mod lanes;
 #[cfg(test)]
 mod tests;
+#[cfg(test)]
+mod words;

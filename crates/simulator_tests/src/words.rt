@@ -1,0 +1,114 @@
+//! The fault-free words of a chain of inverters, which threads share.
+
+use crate::checks::check;
+use block_sim::Job;
+use fault_model::Model;
+use jobs::{SimFault, job_of_in_threads};
+use patterns::read_tests;
+use std::alloc::{AllocError, Global};
+use std::sync::Wait;
+use std::thread::Threads;
+
+/// So many inverters under so many tests are enough words for four threads. The last group of
+/// tests is short.
+const GATES: u32 = 256;
+
+const TESTS: u32 = 65_500;
+
+/// Numbers of workers, with what they are called.
+const CREWS: [(u32, &str); 4] = [
+    (0, "no worker"),
+    (1, "one worker"),
+    (3, "three workers"),
+    (64, "sixty-four workers"),
+];
+
+/// Adds the name of a signal of the chain, by its number.
+fn push_name(text: &mut Vec<u8>, signal: u32) -> Result<(), AllocError> {
+    for _ in 0..signal {
+        text.push(b'x')?;
+    }
+    text.extend_from_slice(b"x")
+}
+
+/// Adds the line of a gate of the chain, by the number of the signal that it reads.
+fn push_gate(text: &mut Vec<u8>, read: u32) -> Result<(), AllocError> {
+    push_name(text, read.saturating_add(1))?;
+    text.extend_from_slice(b"=NOT(")?;
+    push_name(text, read)?;
+    text.extend_from_slice(b")\n")
+}
+
+/// The chain: its signal 0 is the input, and each other one inverts the one before.
+fn chain(alloc: Global) -> Result<Vec<u8>, AllocError> {
+    let mut text = Vec::new(alloc);
+    text.extend_from_slice(b"INPUT(x)\nOUTPUT(")?;
+    push_name(&mut text, GATES)?;
+    text.extend_from_slice(b")\n")?;
+    for read in 0..GATES {
+        push_gate(&mut text, read)?;
+    }
+    Ok(text)
+}
+
+/// The bit of a test: 1 for every third one. Past the last test there are zeros.
+fn bit(test: u64) -> bool {
+    test < u64::from(TESTS) && test % 3 == 0
+}
+
+/// The text of the tests.
+fn rows(alloc: Global) -> Result<Vec<u8>, AllocError> {
+    let mut text = Vec::new(alloc);
+    for test in 0..TESTS {
+        text.push(if bit(u64::from(test)) { b'1' } else { b'0' })?;
+        text.push(b'\n')?;
+    }
+    Ok(text)
+}
+
+/// The word of a signal on a block: the bits of the tests, which each inverter inverts.
+fn expected(block: u32, signal: u32) -> u64 {
+    let mut word = 0;
+    for lane in 0..64u32 {
+        if bit(64 * u64::from(block) + u64::from(lane)) != (signal % 2 == 1) {
+            word |= 1u64 << lane;
+        }
+    }
+    word
+}
+
+/// Whether a signal has its word on a block.
+fn has_word(job: &Job, block: u32, signal: u32) -> bool {
+    block < job.tests().blocks()
+        && signal < job.circuit().signals()
+        && job.word(block, signal) == expected(block, signal)
+}
+
+/// Whether the input, the first gate and the last have their words on each block.
+fn is_right(job: &Job) -> bool {
+    for block in 0..job.tests().blocks() {
+        if !(has_word(job, block, 0) && has_word(job, block, 1) && has_word(job, block, GATES)) {
+            return false;
+        }
+    }
+    job.tests().blocks() == TESTS.div_ceil(64) && job.circuit().signals() == GATES + 1
+}
+
+/// Whether a job that so many workers make has its words, and one that they give its tests.
+fn is_right_by<R: Threads + Wait>(rt: &R, alloc: Global, workers: u32) -> Result<bool, SimFault> {
+    let bench = chain(alloc)?;
+    let tests = rows(alloc)?;
+    let (bench, tests) = (bench.as_slice(), tests.as_slice());
+    let whole = job_of_in_threads(rt, alloc, Model::StuckAt, bench, tests, workers)?;
+    let mut later = job_of_in_threads(rt, alloc, Model::StuckAt, bench, b"1\n", workers)?;
+    let others = read_tests(alloc, tests, later.circuit().sources())?;
+    later.set_tests_in_threads(rt, alloc, others, workers)?;
+    Ok(is_right(&whole) && is_right(&later))
+}
+
+#[test]
+fn threads_work_out_the_words_of_a_chain(rt: HostRuntime) {
+    for (workers, name) in CREWS {
+        check(&rt, is_right_by(&rt, rt.alloc(), workers) == Ok(true), name);
+    }
+}
