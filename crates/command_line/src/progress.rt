@@ -236,7 +236,7 @@ impl<'a, E: Out> Progress<'a, E> {
 impl<E: Out> Gate for Progress<'_, E> {
     ghost passing = { λ _. Unit {0} };
 
-    ghost stops = { λ _ _ _ _. ⊥ };
+    ghost stops = { λ _. record { may = λ _ _ _. ⊥; must = λ _ _ _. ⊥ } };
 
     fn pass(&self, worker: u32, class: u32, block: u32) -> bool {
         if class % EVERY != block % EVERY {

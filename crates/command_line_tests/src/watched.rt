@@ -1,5 +1,7 @@
 //! A report under a gate of the caller's: each worker has a thread, and comes to the gate.
 
+ghost use Rattle.workers.specs.Stops.{any_stop};
+
 use crate::checks::check;
 use fault_model::Model;
 use report::{Contents, Lines, Plain, SimFault, Watch, simulate_text_watched};
@@ -35,7 +37,7 @@ impl<'a, C: Clock> Roll<'a, C> {
 impl<C: Clock> Gate for Roll<'_, C> {
     ghost passing = { λ _. ⊥ };
 
-    ghost stops = { λ _ _ _ _. Unit {0} };
+    ghost stops = { λ _. any_stop };
 
     fn pass(&self, worker: u32, _class: u32, _block: u32) -> bool {
         self.called.fetch_or(1 << (worker % 64), Ordering::SeqCst);

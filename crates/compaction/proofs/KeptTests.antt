@@ -27,6 +27,7 @@ use Rattle.block_sim.specs.Parts.{Parts, with_tests}
 use Rattle.workers.specs.declared.RunFault.{RunFault}
 use Rattle.workers.specs.declared.RunFault.TheVariants as run_fault
 use Rattle.workers.specs.Refused.{IsRunFault}
+use Rattle.workers.specs.Stops.{no_stop}
 use Rattle.workers.specs.Verdict.{AreFirsts}
 use Rattle.compaction.specs.Compaction.{Covers, IsCompaction, IsFirstForSome, IsLastForSome}
 use Rattle.compaction.specs.Compaction.{IsNeeded, finds, is_first, at_marks}
@@ -513,8 +514,8 @@ fewer_pieces classes few many le =
 -- a run under tests that are no more is refused as one under the job's own
 pub refused_alike : (job : Parts) (tests : TestList) (workers : ℕ) (f : RunFault)
     → length tests.tests ≤ length job.tests.tests
-    → IsRunFault (with_tests job tests) workers ⊤ (λ _ _ _. ⊥) f
-    → IsRunFault job workers ⊤ (λ _ _ _. ⊥) f
+    → IsRunFault (with_tests job tests) workers ⊤ no_stop f
+    → IsRunFault job workers ⊤ no_stop f
 refused_alike job tests workers run_fault.NoWorkers le h = h
 refused_alike job tests workers run_fault.TooManyWorkers le h = h
 refused_alike job tests workers (run_fault.NoSuchMove index) le h = h

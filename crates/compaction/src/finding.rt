@@ -5,6 +5,7 @@ ghost use Rattle.std.specs.Prelude.{length, slice_index_or};
 ghost use Rattle.compaction.specs.Compaction.{finds, is_first};
 ghost use Rattle.compaction.specs.Marks.{AreFinding};
 ghost use Rattle.workers.specs.Refused.{IsRunFault};
+ghost use Rattle.workers.specs.Stops.{no_stop};
 
 use block_sim::Job;
 use std::alloc::{AllocError, Global};
@@ -22,7 +23,7 @@ pub fn finding_tests<R: Threads + Wait>(
     ensures marks { IfOk result (λ marks. AreFinding job.now.list.model job.now.circuit
         job.now.tests.tests marks.items) }
     ensures workers { OnOk result ((0 < workers) × (workers ≤ 64)) }
-    ensures refused { IfErr result (IsRunFault job.now workers ⊤ (λ _ _ _. ⊥)) }
+    ensures refused { IfErr result (IsRunFault job.now workers ⊤ no_stop) }
 {
     let verdicts = run_open(rt, alloc, job, workers)?;
     Ok(marks_of(alloc, &verdicts, job.tests().count())?)

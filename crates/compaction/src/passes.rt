@@ -7,6 +7,7 @@ ghost use Rattle.compaction.specs.Marks.{AreLast};
 ghost use Rattle.patterns.specs.Tests.{IsTestList};
 ghost use Rattle.fault_model.specs.declared.Model.TheVariants as model;
 ghost use Rattle.workers.specs.Refused.{IsRunFault};
+ghost use Rattle.workers.specs.Stops.{no_stop};
 
 use crate::finding::{finding_tests, mark_before};
 use crate::rows::{marked_tests, reversed_tests};
@@ -42,7 +43,7 @@ pub fn compact<R: Threads + Wait>(
     ensures width { IfOk result (λ kept. kept.width ≡ job.old.tests.width) }
     ensures job { job.new ≡ with_tests job.old job.new.tests }
     ensures workers { OnOk result ((0 < workers) × (workers ≤ 64)) }
-    ensures refused { IfErr result (IsRunFault job.old workers ⊤ (λ _ _ _. ⊥)) }
+    ensures refused { IfErr result (IsRunFault job.old workers ⊤ no_stop) }
 {
     let mut found = finding_tests(rt, alloc, job, workers)?;
     match job.faults().model() {
@@ -75,7 +76,7 @@ fn last_tests<R: Threads + Wait>(
     ensures list { IfOk result (λ kept. IsTestList kept) }
     ensures width { IfOk result (λ kept. kept.width ≡ job.old.tests.width) }
     ensures job { job.new ≡ with_tests job.old job.new.tests }
-    ensures refused { IfErr result (IsRunFault job.old workers ⊤ (λ _ _ _. ⊥)) }
+    ensures refused { IfErr result (IsRunFault job.old workers ⊤ no_stop) }
 {
     let turned = reversed_tests(alloc, tests)?;
     job.set_tests_of_any_size_in_threads(rt, alloc, turned, workers)?;

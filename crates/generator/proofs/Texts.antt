@@ -17,6 +17,7 @@ use Rattle.block_sim.specs.Parts.{Parts, BelongTogether, piece_count, with_tests
 use Rattle.workers.specs.declared.RunFault.{RunFault}
 use Rattle.workers.specs.declared.RunFault.TheVariants as run_fault
 use Rattle.workers.specs.Refused.{IsRunFault}
+use Rattle.workers.specs.Stops.{no_stop}
 use Rattle.jobs.specs.declared.fault.ReportFault.{ReportFault}
 use Rattle.jobs.specs.declared.fault.SimFault.{SimFault}
 use Rattle.jobs.specs.declared.fault.SimFault.TheVariants as fault
@@ -59,7 +60,7 @@ same_pieces one_circuit m bench text job other is also =
 
 -- a run of a job within the limit of pieces is refused as a run of the search is
 run_refused : (job : Parts) (workers : ℕ) (f : RunFault) → piece_count job ≤ max_pieces
-    → IsRunFault job workers ⊤ (λ _ _ _. ⊥) f → IsSearchFault workers f
+    → IsRunFault job workers ⊤ no_stop f → IsSearchFault workers f
 run_refused job workers run_fault.NoWorkers few is = is
 run_refused job workers run_fault.TooManyWorkers few is = is
 run_refused job workers (run_fault.NoSuchMove index) few is = absurd is

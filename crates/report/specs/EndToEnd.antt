@@ -13,10 +13,11 @@ use Rattle.patterns.specs.Tests.{TestList, HasTests}
 use Rattle.block_sim.specs.Parts.{Parts, piece_count}
 use Rattle.workers.specs.declared.RunFault.TheVariants as run_fault
 use Rattle.workers.specs.declared.RunFault.{RunFault}
+use Rattle.workers.specs.Part.{parts_for}
 use Rattle.workers.specs.Refused.{ArePartsWithin, IsPartFault, IsPartsFault, IsRunFault}
 use Rattle.workers.specs.Refused.{IsScheduleFault}
+use Rattle.workers.specs.Stops.{Stops, no_stop}
 use Rattle.workers.specs.Verdict.{AreFirsts}
-use Rattle.workers.specs.Work.{Stops}
 use Rattle.jobs.specs.declared.fault.SimFault.{SimFault}
 use Rattle.jobs.specs.declared.fault.SimFault.TheVariants as fault
 use Rattle.jobs.specs.Jobs.{IsInputFault, IsJobFault, IsJobOf, IsJobWithin, IsReadFault}
@@ -69,7 +70,7 @@ IsListFault _ = ⊥
 -- piece pass, then an output that takes nothing more.
 abbrev pub IsReportFault : Model → List ℕ → List ℕ → ℕ → SimFault → Type 0
 IsReportFault m bench text workers (fault.Run f) =
-    (job : Parts) × IsJobWithin m bench text job × IsRunFault job workers ⊤ (λ _ _ _. ⊥) f
+    (job : Parts) × IsJobWithin m bench text job × IsRunFault job workers ⊤ no_stop f
 IsReportFault m bench text workers (fault.Report f) =
     (job : Parts) × IsJobWithin m bench text job × (0 < workers) × (workers ≤ 64)
 IsReportFault m bench text workers f = IsJobFault m bench text f
@@ -93,11 +94,11 @@ HasPartsWithin m bench text parts =
 -- when the report of a run in so many parts is refused, and the text of one part
 abbrev pub IsPartsReportFault : Model → List ℕ → List ℕ → ℕ → ℕ → SimFault → Type 0
 IsPartsReportFault m bench text parts workers f =
-    IsTextFault m bench text workers (λ job. IsPartsFault job parts workers ⊤ (λ _ _ _. ⊥)) f
+    IsTextFault m bench text workers (λ job. IsPartsFault job parts workers ⊤ no_stop) f
 
 abbrev pub IsPartReportFault : Model → List ℕ → List ℕ → ℕ → ℕ → ℕ → SimFault → Type 0
 IsPartReportFault m bench text part parts workers f =
-    IsTextFault m bench text workers (λ job. IsPartFault job parts part workers ⊤ (λ _ _ _. ⊥)) f
+    IsTextFault m bench text workers (λ job. IsPartFault job parts part workers ⊤ no_stop) f
 
 -- When the report of a run that a gate watches is refused, in so many parts where a number is
 -- given:
@@ -114,8 +115,9 @@ IsWatchedFault m bench text (Some parts) workers passing stops f =
     IsPartsReportFault m bench text parts workers f
 IsWatchedFault m bench text None workers passing stops
     (fault.Run (run_fault.Unfinished class block)) =
-    (job : Parts) × (parts : ℕ) × IsJobWithin m bench text job
-    × IsPartsFault job parts workers passing stops (run_fault.Unfinished class block)
+    (job : Parts) × IsJobWithin m bench text job
+    × IsPartsFault job (parts_for job workers) workers passing stops
+    (run_fault.Unfinished class block)
 IsWatchedFault m bench text None workers passing stops f = IsReportFault m bench text workers f
 
 -- the order text spells moves of so many workers
@@ -151,7 +153,7 @@ IsReportOfJob job contents bytes = (firsts : List (Option ℕ))
 -- When each fault of the report of a job that is run in threads comes: those of the run, then an
 -- output that takes nothing more.
 abbrev pub IsRunReportFault : Parts → ℕ → SimFault → Type 0
-IsRunReportFault job workers (fault.Run f) = IsRunFault job workers ⊤ (λ _ _ _. ⊥) f
+IsRunReportFault job workers (fault.Run f) = IsRunFault job workers ⊤ no_stop f
 IsRunReportFault job workers (fault.Report f) = (0 < workers) × (workers ≤ 64)
 IsRunReportFault job workers _ = ⊥
 

@@ -11,6 +11,7 @@ ghost use Rattle.report.specs.Detected.{IsDetectionReportOf, IsDetectionReportOf
 ghost use Rattle.report.specs.Detected.{detection_report, reached_count};
 ghost use Rattle.report.specs.EndToEnd.{IsReportFault, IsRunReportFault, WritesOneOf};
 ghost use Rattle.workers.specs.Refused.{IsRunFault};
+ghost use Rattle.workers.specs.Stops.{no_stop};
 
 use crate::report::{put_coverage, put_fault_line};
 use bench_net::Circuit;
@@ -81,7 +82,7 @@ fn counts_of<R: Threads + Wait>(
 ) -> Result<Vec<u32>, RunFault>
     ensures counts { IfOk result (λ counts. AreCounts job.now.list.model job.now.circuit
         job.now.tests.tests most counts.items) }
-    ensures refused { IfErr result (IsRunFault job.now workers ⊤ (λ _ _ _. ⊥)) }
+    ensures refused { IfErr result (IsRunFault job.now workers ⊤ no_stop) }
     ensures workers { OnOk result ((0 < workers) × (workers ≤ 64)) }
 {
     match workers {

@@ -1,6 +1,9 @@
 //! Gates that stop workers, count pieces, or hold a piece until another piece or other workers have
 //! come.
 
+ghost use Rattle.std.specs.Prelude.{◌≡◌};
+ghost use Rattle.workers.specs.Stops.{any_stop};
+
 use std::sync::atomic::{AtomicU64, Ordering};
 use std::thread;
 use std::time::{Clock, Duration};
@@ -16,7 +19,7 @@ pub(crate) struct Shut;
 impl Gate for Shut {
     ghost passing = { λ _. ⊥ };
 
-    ghost stops = { λ _ _ _ _. Unit {0} };
+    ghost stops = { λ _. record { may = λ _ _ _. Unit {0}; must = λ _ _ _. Unit {0} } };
 
     fn pass(&self, _worker: u32, _class: u32, _block: u32) -> bool {
         false
@@ -33,7 +36,7 @@ pub(crate) struct ShutFor {
 impl Gate for ShutFor {
     ghost passing = { λ _. ⊥ };
 
-    ghost stops = { λ _ _ _ _. Unit {0} };
+    ghost stops = { λ _. any_stop };
 
     fn pass(&self, _worker: u32, class: u32, block: u32) -> bool {
         (class, block) != (self.class, self.block)
@@ -50,7 +53,7 @@ pub(crate) struct ShutForTwo {
 impl Gate for ShutForTwo {
     ghost passing = { λ _. ⊥ };
 
-    ghost stops = { λ _ _ _ _. Unit {0} };
+    ghost stops = { λ _. any_stop };
 
     fn pass(&self, _worker: u32, class: u32, block: u32) -> bool {
         (class, block) != self.first && (class, block) != self.second
@@ -78,7 +81,7 @@ impl Counter {
 impl Gate for Counter {
     ghost passing = { λ _. ⊥ };
 
-    ghost stops = { λ _ _ _ _. Unit {0} };
+    ghost stops = { λ _. any_stop };
 
     fn pass(&self, _worker: u32, _class: u32, _block: u32) -> bool {
         self.pieces.fetch_add(1, Ordering::SeqCst);
@@ -119,7 +122,7 @@ impl<'a, C: Clock> Meeting<'a, C> {
 impl<C: Clock> Gate for Meeting<'_, C> {
     ghost passing = { λ _. ⊥ };
 
-    ghost stops = { λ _ _ _ _. Unit {0} };
+    ghost stops = { λ _. any_stop };
 
     fn pass(&self, _worker: u32, class: u32, block: u32) -> bool {
         if (class, block) == self.first {
@@ -157,7 +160,7 @@ impl<'a, C: Clock> Roll<'a, C> {
 impl<C: Clock> Gate for Roll<'_, C> {
     ghost passing = { λ _. ⊥ };
 
-    ghost stops = { λ _ _ _ _. Unit {0} };
+    ghost stops = { λ _. any_stop };
 
     fn pass(&self, worker: u32, _class: u32, _block: u32) -> bool {
         self.called.fetch_or(1 << (worker % 64), Ordering::SeqCst);
@@ -185,7 +188,7 @@ impl<'a, C: Clock> TwoByTwo<'a, C> {
 impl<C: Clock> Gate for TwoByTwo<'_, C> {
     ghost passing = { λ _. ⊥ };
 
-    ghost stops = { λ _ _ _ _. Unit {0} };
+    ghost stops = { λ _. any_stop };
 
     fn pass(&self, _worker: u32, _class: u32, _block: u32) -> bool {
         let before = self.called.fetch_add(1, Ordering::SeqCst);
@@ -201,7 +204,10 @@ pub(crate) struct ShutForWorker {
 impl Gate for ShutForWorker {
     ghost passing = { λ _. ⊥ };
 
-    ghost stops = { λ _ _ _ _. Unit {0} };
+    ghost stops = { λ gate. record {
+      may = λ worker _ _. worker ≡ gate.worker;
+      must = λ worker _ _. worker ≡ gate.worker;
+    } };
 
     fn pass(&self, worker: u32, _class: u32, _block: u32) -> bool {
         worker != self.worker
@@ -233,7 +239,7 @@ impl<'a, C: Clock> Holding<'a, C> {
 impl<C: Clock> Gate for Holding<'_, C> {
     ghost passing = { λ _. ⊥ };
 
-    ghost stops = { λ _ _ _ _. Unit {0} };
+    ghost stops = { λ _. any_stop };
 
     fn pass(&self, worker: u32, _class: u32, _block: u32) -> bool {
         let number = u64::from(worker) + 1;

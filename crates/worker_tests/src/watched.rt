@@ -1,5 +1,7 @@
 //! What a run tells the gate that watches it.
 
+ghost use Rattle.workers.specs.Stops.{no_stop};
+
 use crate::fixtures::{JobText, job_of};
 use block_sim::Job;
 use fault_model::Model;
@@ -24,7 +26,20 @@ struct Record {
     starts: AtomicU64,
     classes: AtomicU64,
     blocks: AtomicU64,
+    passed: AtomicU64,
     ends: AtomicU64,
+    passed_at_end: AtomicU64,
+}
+
+/// What a gate was told: how often a run began, with how many classes and blocks, how often one
+/// ended, and whether workers had passed before that.
+#[derive(Clone, Copy, Debug, PartialEq, Eq)]
+struct Told {
+    starts: u64,
+    classes: u64,
+    blocks: u64,
+    ends: u64,
+    passed: bool,
 }
 
 impl Record {
@@ -33,27 +48,30 @@ impl Record {
             starts: AtomicU64::new(0),
             classes: AtomicU64::new(0),
             blocks: AtomicU64::new(0),
+            passed: AtomicU64::new(0),
             ends: AtomicU64::new(0),
+            passed_at_end: AtomicU64::new(0),
         }
     }
 
-    /// How often a run began, with how many classes and blocks, and how often one ended.
-    fn told(&self) -> (u64, u64, u64, u64) {
-        (
-            self.starts.load(Ordering::SeqCst),
-            self.classes.load(Ordering::SeqCst),
-            self.blocks.load(Ordering::SeqCst),
-            self.ends.load(Ordering::SeqCst),
-        )
+    fn told(&self) -> Told {
+        Told {
+            starts: self.starts.load(Ordering::SeqCst),
+            classes: self.classes.load(Ordering::SeqCst),
+            blocks: self.blocks.load(Ordering::SeqCst),
+            ends: self.ends.load(Ordering::SeqCst),
+            passed: self.passed_at_end.load(Ordering::SeqCst) > 0,
+        }
     }
 }
 
 impl Gate for Record {
     ghost passing = { λ _. Unit {0} };
 
-    ghost stops = { λ _ _ _ _. ⊥ };
+    ghost stops = { λ _. no_stop };
 
     fn pass(&self, _worker: u32, _class: u32, _block: u32) -> bool {
+        self.passed.fetch_add(1, Ordering::SeqCst);
         true
     }
 }
@@ -67,21 +85,37 @@ impl Watch for Record {
 
     fn ends(&self) {
         self.ends.fetch_add(1, Ordering::SeqCst);
+        let passed = self.passed.load(Ordering::SeqCst);
+        self.passed_at_end.store(passed, Ordering::SeqCst);
     }
 }
 
-/// Whether the gate of a run of this job is told once that it begins, with 22 classes on 2 blocks,
-/// and once that it ends.
-fn is_told<R: Threads + Wait>(rt: &R, alloc: Global, job: &Job) -> Result<bool, SimFault> {
+/// What the gate of a run of a job in three parts is told, by so many workers.
+fn told_of<R: Threads + Wait>(rt: &R, alloc: Global, job: &Job, workers: u32) -> Told {
     let record = Record::new();
-    let _verdicts = run_watched(rt, alloc, job, 3, 2, &record)?;
-    Ok(record.told() == (1, 22, 2, 1))
+    let _verdicts = run_watched(rt, alloc, job, 3, workers, &record);
+    record.told()
 }
 
-/// Whether it is so of C17.
+/// Whether the gate of a run is told once that it begins, with 22 classes on 2 blocks, and once that
+/// it ends, when workers have passed; and that of a run that is refused is told that it begins alone.
 fn is_told_of_c17<R: Threads + Wait>(rt: &R, alloc: Global) -> Result<bool, SimFault> {
     let job = job_of(alloc, &TWO_BLOCKS)?;
-    is_told(rt, alloc, &job)
+    let done = Told {
+        starts: 1,
+        classes: 22,
+        blocks: 2,
+        ends: 1,
+        passed: true,
+    };
+    let refused = Told {
+        ends: 0,
+        passed: false,
+        ..done
+    };
+    let two = told_of(rt, alloc, &job, 2);
+    let none = told_of(rt, alloc, &job, 0);
+    Ok(two == done && none == refused)
 }
 
 #[test]

@@ -24,7 +24,8 @@ use Rattle.workers.specs.Chosen.{AreChosenOf, Chosen, every, chosen_of}
 use Rattle.workers.specs.Settling.{AreSettled, IsShapeOf, IsShapeOver, shape_over}
 use Rattle.fault_ledger.specs.Settled.{is_skipped}
 use Rattle.workers.specs.Work.{AllReportTruly, AreBack, HasRested, HasRun, IsOfHistory, IsStopped}
-use Rattle.workers.specs.Work.{ReportsTruly, Returns, Stops, WaitsFor, stops_over}
+use Rattle.workers.specs.Stops.{Stops}
+use Rattle.workers.specs.Work.{ReportsTruly, Returns, WaitsFor, stops_over}
 use Rattle.workers.proofs.SettledLedgers.{none_open, all_settled, settled_goes_on, settled_finished}
 use Rattle.workers.proofs.SettledLedgers.{finished_settled}
 use Rattle.workers.specs.Schedule.{IsTableOf}

@@ -9,6 +9,7 @@ mod ClosedLedgers
 mod PartsOfClasses
 mod ClassRanks
 mod LoneWorkers
+mod PassedPieces
 mod Turns
 mod StretchSeats
 mod TakenParts

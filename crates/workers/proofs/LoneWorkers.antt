@@ -1,9 +1,9 @@
 -- What a worker that runs a list alone has found, piece by piece.
-use Rattle.std.proofs.Common.{◌≡◌, ◌≢◌, ◌<◌, ◌≤◌, ◌+◌, ◌*◌, ◌⊎◌, inl, inr, ℕ, zero, suc, true}
-use Rattle.std.proofs.Common.{false, List, [], ◌∷◌, map, length, set, All, Option, Some, None, refl}
-use Rattle.std.proofs.Common.{sym, ap, ◌∙◌, subst, arith, lt-ltb}
-use Rattle.std.specs.Prelude.{slice_get, if◌then◌else◌, nat_lt}
-use Rattle.std.proofs.lemmas.Bool.{cases_lt, le-ltb, ltb-true, ltb-false}
+use Rattle.std.proofs.Common.{◌≡◌, ◌≢◌, ◌<◌, ◌≤◌, ◌+◌, ◌*◌, ◌⊎◌, inl, inr, ℕ, zero, suc}
+use Rattle.std.proofs.Common.{List, [], ◌∷◌, map, length, set, All, Option, Some, None, refl}
+use Rattle.std.proofs.Common.{sym, ap, ◌∙◌, subst, arith}
+use Rattle.std.specs.Prelude.{slice_get}
+use Rattle.std.proofs.lemmas.Bool.{cases_lt}
 use Rattle.std.proofs.lemmas.Option.{get_or_from_slice_get, slice_get-get_or, slice_get_within}
 use Rattle.std.proofs.lemmas.List.{get_or-set_same, get_or-set_other, length-set}
 use Rattle.patterns.specs.Least.{Table, least, from_up, first_hit}
@@ -16,8 +16,8 @@ use Rattle.block_sim.proofs.Public.{one_outcome, true_table}
 use Rattle.workers.specs.declared.alone.Stop.{Stop}
 use Rattle.workers.specs.declared.alone.Waiting.{Waiting}
 use Rattle.workers.specs.Schedule.{IsTableOf}
-use Rattle.workers.specs.Alone.{AreFoundUpTo, IsLowest, IsOpenBelow, IsUndetected, done_before}
-use Rattle.workers.specs.Alone.{lower_of}
+use Rattle.workers.specs.Alone.{AreEarlier, AreFoundUpTo, IsEarlier, IsLowerOf, IsLowest}
+use Rattle.workers.specs.Alone.{IsNoHigher, IsOpenBelow, IsUndetected}
 use Rattle.workers.proofs.TrueOutcomes.{class_count}
 
 -- the test that an outcome of a block hits
@@ -79,11 +79,33 @@ least_more table block class none =
     same (hit_more (table class) 0 block none))
 
 -- which blocks are done
-done_low : (place block k : ℕ) → k < place → done_before place block k ≡ block + 1
-done_low place block k lt = ap (λ b. if b then block + 1 else block) (lt-ltb k place lt)
+pub done_low : (place block k : ℕ) → k < place → AreEarlier place block k (block + 1)
+done_low place block k lt = λ b. (λ l. to b l (cases_lt b block), λ e. from b e)
+  where
+    to : (b : ℕ) → b < block + 1 → (b < block) ⊎ (block ≤ b) → IsEarlier k b place block
+    to b l (inl x) = inl x
+    to b l (inr x) = inr (omega (arith, l, x), lt)
 
-pub done_high : (place block k : ℕ) → place ≤ k → done_before place block k ≡ block
-done_high place block k le = ap (λ b. if b then block + 1 else block) (le-ltb k place le)
+    from : (b : ℕ) → IsEarlier k b place block → b < block + 1
+    from b (inl x) = omega (arith, x)
+    from b (inr x) = let e = x.0 in omega (arith, e)
+
+pub done_high : (place block k : ℕ) → place ≤ k → AreEarlier place block k block
+done_high place block k le = λ b. (λ l. inl l, λ e. from b e)
+  where
+    from : (b : ℕ) → IsEarlier k b place block → b < block
+    from b (inl x) = x
+    from b (inr x) = let low = x.1 in absurd (omega (arith, low, le))
+
+-- they are of one number
+pub one_count : (place block k n m : ℕ) → AreEarlier place block k n → AreEarlier place block k m
+    → n ≡ m
+one_count place block k n m p q = go (cases_lt n m) (cases_lt m n)
+  where
+    go : (n < m) ⊎ (m ≤ n) → (m < n) ⊎ (n ≤ m) → n ≡ m
+    go (inl lt) y = let bad = (p n).1 ((q n).0 lt) in absurd (omega (arith, bad))
+    go (inr x) (inl lt) = let bad = (q m).1 ((p m).0 lt) in absurd (omega (arith, bad))
+    go (inr x) (inr y) = omega (arith, x, y)
 
 -- at first none
 pub found_none : (job : Parts) (classes : List ℕ) (firsts : List (Option ℕ))
@@ -92,8 +114,8 @@ pub found_none : (job : Parts) (classes : List ℕ) (firsts : List (Option ℕ))
     → AreFoundUpTo job classes 0 0 firsts
 found_none job classes firsts count none = record {
   count = count;
-  each = λ table is k class first ec ef. none k first ef
-      ∙ ap (λ n. least table n class) (sym (done_high 0 0 k (omega arith)));
+  each = λ table is k class n first ec ef up. none k first ef
+      ∙ ap (λ n. least table n class) (one_count 0 0 k 0 n (done_high 0 0 k (omega arith)) up);
 }
 
 -- behind the last place the block is done
@@ -102,11 +124,12 @@ pub found_block : (job : Parts) (classes : List ℕ) (place block : ℕ) (firsts
     → AreFoundUpTo job classes 0 (block + 1) firsts
 found_block job classes place block firsts all was = record {
   count = was.count;
-  each = λ table is k class first ec ef.
+  each = λ table is k class n first ec ef up.
       let lt = slice_get_within classes k class ec in
-      was.each table is k class first ec ef
-      ∙ ap (λ n. least table n class) (done_low place block k (omega (arith, lt, all))
-      ∙ sym (done_high 0 (block + 1) k (omega arith)));
+      was.each table is k class (block + 1) first ec ef
+      (done_low place block k (omega (arith, lt, all)))
+      ∙ ap (λ n. least table n class) (one_count 0 (block + 1) k (block + 1) n
+      (done_high 0 (block + 1) k (omega arith)) up);
 }
 
 -- one place more, whose first test is known over the block too
@@ -120,27 +143,31 @@ found_place : (job : Parts) (classes : List ℕ) (place block : ℕ) (was firsts
     → AreFoundUpTo job classes place block was → AreFoundUpTo job classes (place + 1) block firsts
 found_place job classes place block was firsts long other here found = record {
   count = long ∙ found.count;
-  each = λ table is k class first ec ef. go table is k class first ec ef (cases_lt k place)
-      (cases_lt place k);
+  each = λ table is k class n first ec ef up. go table is k class n first ec ef up
+      (cases_lt k place) (cases_lt place k);
 }
   where
-    go : (table : Table) → IsTableOf job table → (k class : ℕ) (first : Option ℕ)
+    go : (table : Table) → IsTableOf job table → (k class n : ℕ) (first : Option ℕ)
         → slice_get classes k ≡ Some class → slice_get firsts k ≡ Some first
+        → AreEarlier (place + 1) block k n
         → (k < place) ⊎ (place ≤ k) → (place < k) ⊎ (k ≤ place)
-        → first ≡ least table (done_before (place + 1) block k) class
-    go table is k class first ec ef (inl x) y =
-        found.each table is k class first ec (other k first (λ e. omega (arith, x, e)) ef)
-        ∙ ap (λ n. least table n class) (done_low place block k x
-        ∙ sym (done_low (place + 1) block k (omega (arith, x))))
-    go table is k class first ec ef (inr x) (inl y) =
-        found.each table is k class first ec (other k first (λ e. omega (arith, y, e)) ef)
-        ∙ ap (λ n. least table n class) (done_high place block k x
-        ∙ sym (done_high (place + 1) block k (omega (arith, y))))
-    go table is k class first ec ef (inr x) (inr y) =
+        → first ≡ least table n class
+    go table is k class n first ec ef up (inl x) y =
+        found.each table is k class (block + 1) first ec
+        (other k first (λ e. omega (arith, x, e)) ef) (done_low place block k x)
+        ∙ ap (λ n. least table n class) (one_count (place + 1) block k (block + 1) n
+        (done_low (place + 1) block k (omega (arith, x))) up)
+    go table is k class n first ec ef up (inr x) (inl y) =
+        found.each table is k class block first ec
+        (other k first (λ e. omega (arith, y, e)) ef) (done_high place block k x)
+        ∙ ap (λ n. least table n class) (one_count (place + 1) block k block n
+        (done_high (place + 1) block k (omega (arith, y))) up)
+    go table is k class n first ec ef up (inr x) (inr y) =
         let same : k ≡ place = omega (arith, x, y) in
         here table is class first (ap (slice_get classes) (sym same)
         ∙ ec) (ap (slice_get firsts) (sym same) ∙ ef)
-        ∙ ap (λ n. least table n class) (sym (done_low (place + 1) block k (omega (arith, y))))
+        ∙ ap (λ n. least table n class) (one_count (place + 1) block k (block + 1) n
+        (done_low (place + 1) block k (omega (arith, y))) up)
 
 -- the class at a place was hit before
 pub found_known : (job : Parts) (classes : List ℕ) (place block t : ℕ) (firsts : List (Option ℕ))
@@ -151,26 +178,26 @@ found_known job classes place block t firsts at was =
     found_place job classes place block firsts firsts refl (λ k first d e. e)
     (λ table is class first ec ef.
     let same : first ≡ Some t = let q = sym ef ∙ at in cc in
-    let before = was.each table is place class (Some t) ec at
-    ∙ ap (λ n. least table n class) (done_high place block place (omega arith)) in
+    let before = was.each table is place class block (Some t) ec at
+    (done_high place block place (omega arith)) in
     same ∙ sym (least_kept table block class t (sym before)))
     was
 
 -- the class at a place is one of those that no earlier block detects
-pub undetected : (job : Parts) (classes : List ℕ) (place block k class : ℕ)
+pub undetected : (job : Parts) (classes : List ℕ) (place block k class n : ℕ)
     (firsts : List (Option ℕ)) → slice_get classes k ≡ Some class → slice_get firsts k ≡ Some None
-    → AreFoundUpTo job classes place block firsts
-    → IsUndetected job class (done_before place block k)
-undetected job classes place block k class firsts ec ef was =
-    λ table is. sym (was.each table is k class None ec ef)
+    → AreEarlier place block k n → AreFoundUpTo job classes place block firsts
+    → IsUndetected job class n
+undetected job classes place block k class n firsts ec ef up was =
+    λ table is. sym (was.each table is k class n None ec ef up)
 
 pub undetected_here : (job : Parts) (classes : List ℕ) (place block class : ℕ)
     (firsts : List (Option ℕ)) → slice_get classes place ≡ Some class
     → slice_get firsts place ≡ Some None
     → AreFoundUpTo job classes place block firsts → IsUndetected job class block
 undetected_here job classes place block class firsts ec ef was =
-    subst (IsUndetected job class) (done_high place block place (omega arith))
-    (undetected job classes place block place class firsts ec ef was)
+    undetected job classes place block place class block firsts ec ef
+    (done_high place block place (omega arith)) was
 
 -- its true outcome is that of each true table
 told : (job : Parts) (table : Table) (class block : ℕ) (o : Outcome) → BelongTogether job
@@ -246,40 +273,39 @@ pub lowest_along : (P Q : ℕ → ℕ → Type 0) (lowest : Option Waiting) → 
 lowest_along P Q None to from is = λ c b q. is c b (from c b q)
 lowest_along P Q (Some w) to from is = (to w.class w.block is.0, λ c b q. is.1 c b (from c b q))
 
--- of two kinds
-pub lowest_join : (P Q : ℕ → ℕ → Type 0) (f s : Option Waiting) → IsLowest P f → IsLowest Q s
-    → IsLowest (λ c b. P c b ⊎ Q c b) (lower_of f s)
-lowest_join P Q None None p q = λ c b x. go c b x
+-- none is no higher than one of a kind only where there is none of it
+lowest_none : (P : ℕ → ℕ → Type 0) (f : Option Waiting) → IsNoHigher None f → IsLowest P f
+    → (c b : ℕ) → P c b → ⊥
+lowest_none P None h p = p
+lowest_none P (Some v) h p = absurd h
+
+-- what is no higher than the lowest is no higher than any
+lowest_bound : (P : ℕ → ℕ → Type 0) (f : Option Waiting) (w : Waiting) → IsNoHigher (Some w) f
+    → IsLowest P f → (c b : ℕ) → P c b → w.class ≤ c
+lowest_bound P None w h p c b x = absurd (p c b x)
+lowest_bound P (Some v) w h p c b x = let m = p.1 c b x in omega (arith, h, m)
+
+lowest_holds : (P : ℕ → ℕ → Type 0) (f : Option Waiting) (w : Waiting) → Some w ≡ f
+    → IsLowest P f → P w.class w.block
+lowest_holds P f w e p = (subst (IsLowest P) (sym e) p).0
+
+-- the lowest of two kinds
+pub lowest_join : (P Q : ℕ → ℕ → Type 0) (f s lowest : Option Waiting) → IsLowest P f
+    → IsLowest Q s → IsLowerOf f s lowest → IsLowest (λ c b. P c b ⊎ Q c b) lowest
+lowest_join P Q f s None p q is = λ c b x. go c b x
   where
     go : (c b : ℕ) → P c b ⊎ Q c b → ⊥
-    go c b (inl x) = p c b x
-    go c b (inr x) = q c b x
-lowest_join P Q None (Some w) p q = (inr q.0, λ c b x. go c b x)
+    go c b (inl x) = lowest_none P f is.1 p c b x
+    go c b (inr x) = lowest_none Q s is.2 q c b x
+lowest_join P Q f s (Some w) p q is = (either is.0, λ c b x. go c b x)
   where
+    either : (Some w ≡ f) ⊎ (Some w ≡ s) → P w.class w.block ⊎ Q w.class w.block
+    either (inl e) = inl (lowest_holds P f w e p)
+    either (inr e) = inr (lowest_holds Q s w e q)
+
     go : (c b : ℕ) → P c b ⊎ Q c b → w.class ≤ c
-    go c b (inl x) = absurd (p c b x)
-    go c b (inr x) = q.1 c b x
-lowest_join P Q (Some v) None p q = (inl p.0, λ c b x. go c b x)
-  where
-    go : (c b : ℕ) → P c b ⊎ Q c b → v.class ≤ c
-    go c b (inl x) = p.1 c b x
-    go c b (inr x) = absurd (q c b x)
-lowest_join P Q (Some v) (Some w) p q = pick (nat_lt w.class v.class) refl
-  where
-    pick : (t : _) → nat_lt w.class v.class ≡ t
-        → IsLowest (λ c b. P c b ⊎ Q c b) (if t then Some w else Some v)
-    pick true e = (inr q.0, λ c b x. go c b x)
-      where
-        go : (c b : ℕ) → P c b ⊎ Q c b → w.class ≤ c
-        go c b (inl x) = let l = ltb-true w.class v.class e in let m = p.1 c b x in
-            omega (arith, l, m)
-        go c b (inr x) = q.1 c b x
-    pick false e = (inl p.0, λ c b x. go c b x)
-      where
-        go : (c b : ℕ) → P c b ⊎ Q c b → v.class ≤ c
-        go c b (inl x) = p.1 c b x
-        go c b (inr x) = let l = ltb-false w.class v.class e in let m = q.1 c b x in
-            omega (arith, l, m)
+    go c b (inl x) = lowest_bound P f w is.1 p c b x
+    go c b (inr x) = lowest_bound Q s w is.2 q c b x
 
 -- before the first place none waits
 pub open_none : (job : Parts) (classes : List ℕ) (stop : Stop)
@@ -326,41 +352,41 @@ pub open_hit : (job : Parts) (classes : List ℕ) (stop : Stop) (place t : ℕ)
 open_hit job classes stop place t firsts lowest b found ef =
     open_same job classes stop place lowest (λ c block x e.
     let table = true_table job.list.model job.circuit job.tests.tests b.circuit.well_formed in
-    let hit : Some t ≡ least table.0 (done_before stop.place stop.block place) c =
-    found.each table.0 table.1 place c (Some t) (ap (slice_get classes) (sym e) ∙ x.at) ef in
-    let none : least table.0 (done_before stop.place stop.block place) c ≡ None =
-    ap (λ n. least table.0 n c) (ap (done_before stop.place stop.block) (sym e) ∙ sym x.block_is)
-    ∙ x.undetected table.0 table.1 in
+    let hit : Some t ≡ least table.0 block c =
+    found.each table.0 table.1 x.place c block (Some t) x.at (ap (slice_get firsts) e ∙ ef)
+    x.block_is in
+    let none : least table.0 block c ≡ None = x.undetected table.0 table.1 in
     let bad : Some t ≡ None = hit ∙ none in absurd (cc))
 
 -- as all blocks of it are done
 pub open_past : (job : Parts) (classes : List ℕ) (stop : Stop) (place block : ℕ)
-    (lowest : Option Waiting) → block ≡ done_before stop.place stop.block place
+    (lowest : Option Waiting) → AreEarlier stop.place stop.block place block
     → blocks (length job.tests.tests) ≤ block
     → IsLowest (IsOpenBelow job classes stop place) lowest
     → IsLowest (IsOpenBelow job classes stop (place + 1)) lowest
 open_past job classes stop place block lowest is past =
     open_same job classes stop place lowest (λ c b x e.
-    let same : b ≡ block = x.block_is ∙ ap (done_before stop.place stop.block) e ∙ sym is in
+    let same : b ≡ block = one_count stop.place stop.block place b block
+    (subst (λ k. AreEarlier stop.place stop.block k b) e x.block_is) is in
     omega (arith, same, x.within, past))
 
 -- that at one place more waits
 pub open_more : (job : Parts) (classes : List ℕ) (stop : Stop) (place class block : ℕ)
-    (firsts : List (Option ℕ)) (w : Waiting) (lowest : Option Waiting)
+    (firsts : List (Option ℕ)) (w : Waiting) (lowest lower : Option Waiting)
     → AreFoundUpTo job classes stop.place stop.block firsts
     → slice_get classes place ≡ Some class → slice_get firsts place ≡ Some None
-    → block ≡ done_before stop.place stop.block place → block < blocks (length job.tests.tests)
-    → w.class ≡ class → w.block ≡ block
+    → AreEarlier stop.place stop.block place block → block < blocks (length job.tests.tests)
+    → w.class ≡ class → w.block ≡ block → IsLowerOf lowest (Some w) lower
     → IsLowest (IsOpenBelow job classes stop place) lowest
-    → IsLowest (IsOpenBelow job classes stop (place + 1)) (lower_of lowest (Some w))
-open_more job classes stop place class block firsts w lowest found ec ef is low wc wb was =
+    → IsLowest (IsOpenBelow job classes stop (place + 1)) lower
+open_more job classes stop place class block firsts w lowest lower found ec ef is low wc wb lo was =
     lowest_along (λ c b. IsOpenBelow job classes stop place c b ⊎ Here c b)
-    (IsOpenBelow job classes stop (place + 1)) (lower_of lowest (Some w)) (λ c b x. to c b x)
+    (IsOpenBelow job classes stop (place + 1)) lower (λ c b x. to c b x)
     (λ c b x. from c b x (cases_lt x.place place))
-    (lowest_join (IsOpenBelow job classes stop place) Here lowest (Some w) was (
+    (lowest_join (IsOpenBelow job classes stop place) Here lowest (Some w) lower was (
       (wc, wb),
       λ c b x. omega (arith, wc, x.0),
-    ))
+    ) lo)
   where
     Here : ℕ → ℕ → Type 0
     Here c b = (c ≡ class) × (b ≡ block)
@@ -372,8 +398,8 @@ open_more job classes stop place class block firsts w lowest found ec ef is low 
       at = ec;
       block_is = is;
       within = low;
-      undetected = subst (IsUndetected job class) (sym is)
-          (undetected job classes stop.place stop.block place class firsts ec ef found);
+      undetected = undetected job classes stop.place stop.block place class block firsts ec ef is
+          found;
     }
 
     to : (c b : ℕ) → IsOpenBelow job classes stop place c b ⊎ Here c b
@@ -403,4 +429,8 @@ open_more job classes stop place class block firsts w lowest found ec ef is low 
         let e : x.place ≡ place = omega (arith, l, x.low) in
         let same : slice_get classes place ≡ Some c = ap (slice_get classes) (sym e) ∙ x.at in
         let q : c ≡ class = let r = sym same ∙ ec in cc in
-        inr (q, x.block_is ∙ ap (done_before stop.place stop.block) e ∙ sym is)
+        inr (
+          q,
+          one_count stop.place stop.block place b block
+              (subst (λ k. AreEarlier stop.place stop.block k b) e x.block_is) is,
+        )

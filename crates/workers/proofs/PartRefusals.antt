@@ -8,6 +8,7 @@ use Rattle.workers.specs.declared.RunFault.{RunFault}
 use Rattle.workers.specs.declared.RunFault.TheVariants as run_fault
 use Rattle.workers.specs.Part.{stretch_size}
 use Rattle.workers.specs.Refused.{IsPartsFault, IsRunFault}
+use Rattle.workers.specs.Stops.{no_stop}
 
 -- a stretch has no more classes than all
 pub ceil_le : (n parts : ℕ) → stretch_size n parts ≤ n
@@ -16,7 +17,7 @@ ceil_le n (suc parts) = omega (arith, div-add-mod n (suc parts), suc-mul parts (
 
 -- it is refused as a run is
 pub parts_fault : (job : Parts) (parts workers : ℕ) (f : RunFault)
-    → IsPartsFault job parts workers ⊤ (λ _ _ _. ⊥) f → IsRunFault job workers ⊤ (λ _ _ _. ⊥) f
+    → IsPartsFault job parts workers ⊤ no_stop f → IsRunFault job workers ⊤ no_stop f
 parts_fault job parts workers run_fault.NoWorkers h = h
 parts_fault job parts workers run_fault.TooManyWorkers h = h
 parts_fault job parts workers (run_fault.NoSuchMove index) h = h

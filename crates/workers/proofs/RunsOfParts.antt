@@ -4,7 +4,6 @@ use Rattle.std.proofs.Common.{List, [], ◌∷◌, ◌++◌, length, All, Option
 use Rattle.std.proofs.Common.{◌∙◌, subst, arith, append-nil}
 use Rattle.std.specs.Prelude.{slice_get}
 use Rattle.std.proofs.lemmas.Option.{get_or_from_slice_get, slice_get_within}
-use Rattle.patterns.specs.Least.{least}
 use Rattle.patterns.specs.Tests.{blocks}
 use Rattle.block_sim.specs.First.{IsFirst}
 use Rattle.block_sim.specs.Parts.{Parts, BelongTogether}
@@ -14,14 +13,14 @@ use Rattle.workers.specs.declared.alone.Stop.{Stop}
 use Rattle.workers.specs.declared.alone.Waiting.{Waiting}
 use Rattle.workers.specs.declared.taken.Done.{Done}
 use Rattle.workers.specs.Alone.{AreAllFound, AreAllLowest, AreAllStopped, AreFoundByPart}
-use Rattle.workers.specs.Alone.{AreFoundUpTo, AreRunsOf, AreWhole, HasEnded, HasRunSo}
-use Rattle.workers.specs.Alone.{IsFoundAt, IsLowest, IsLowestAt, IsLowestIn, IsOpenIn, IsStopAt}
-use Rattle.workers.specs.Alone.{IsWholeAt, PartRun, StretchesWaitFor, WaitsIn, at_first, lower_of}
+use Rattle.workers.specs.Alone.{AreFoundUpTo, AreRunsOf, AreWhole, HasEnded, HasPassed, HasRunSo}
+use Rattle.workers.specs.Alone.{IsDone, IsFoundAt, IsLowerOf, IsLowest, IsLowestAt, IsLowestIn, IsOpenIn}
+use Rattle.workers.specs.Alone.{IsStopAt, IsWholeAt, PartRun, StretchesWaitFor, WaitsIn, at_first}
 use Rattle.workers.specs.Alone.{run_at, runs_from, unbegun_run}
 use Rattle.workers.specs.Part.{stretch}
 use Rattle.workers.specs.Rank.{IsCutOf}
 use Rattle.workers.specs.Verdict.{AreClassFirsts}
-use Rattle.workers.specs.Work.{Stops}
+use Rattle.workers.specs.Stops.{Stops}
 use Rattle.workers.proofs.ReturnsByPart.{kept, last_of}
 use Rattle.workers.proofs.PartsOfClasses.{FirstsUpTo, firsts_more, stretch_within}
 use Rattle.workers.proofs.ClassRanks.{pushed}
@@ -35,9 +34,8 @@ firsts_found job classes firsts b found = record {
   count = found.count;
   first = λ k class f first ec of ef.
       let table = true_table job.list.model job.circuit job.tests.tests b.circuit.well_formed in
-      let least_is = found.each table.0 table.1 k class first ec ef
-      ∙ ap (λ n. least table.0 n class) (done_high 0 (blocks (length job.tests.tests)) k
-      (omega arith)) in
+      let least_is = found.each table.0 table.1 k class (blocks (length job.tests.tests)) first ec ef
+      (done_high 0 (blocks (length job.tests.tests)) k (omega arith)) in
       subst (IsFirst job.circuit job.tests.tests f) (sym least_is)
       (least_is_first job.list.model job.circuit job.tests.tests table.0 b.circuit.well_formed
       b.circuit.arities table.1 f class of);
@@ -54,7 +52,7 @@ not_stopped job classes worker S (Some stop) firsts e none =
       place = stop.place;
       low = slice_get_within classes stop.place at.class at.at;
       at = at.at;
-      block_is = sym (done_high stop.place stop.block stop.place (omega arith));
+      block_is = done_high stop.place stop.block stop.place (omega arith);
       within = at.within;
       undetected = at.undetected;
     }))
@@ -128,14 +126,15 @@ run_back size classes table part run at =
     (x.0, x.1, same)
 
 -- what waits in one run more
-pub waits_more : (job : Parts) (runs : List PartRun) (run : PartRun) (lowest own : Option Waiting)
+pub waits_more : (job : Parts) (runs : List PartRun) (run : PartRun)
+    (lowest own lower : Option Waiting)
     → IsLowest (WaitsIn job runs) lowest → IsLowest (IsOpenIn job run.classes run.stop) own
-    → IsLowest (WaitsIn job (runs ++ run ∷ [])) (lower_of lowest own)
-waits_more job runs run lowest own was is =
+    → IsLowerOf lowest own lower → IsLowest (WaitsIn job (runs ++ run ∷ [])) lower
+waits_more job runs run lowest own lower was is lo =
     lowest_along (λ c b. WaitsIn job runs c b ⊎ IsOpenIn job run.classes run.stop c b)
-    (WaitsIn job (runs ++ run ∷ [])) (lower_of lowest own) (λ c b x. to c b x)
+    (WaitsIn job (runs ++ run ∷ [])) lower (λ c b x. to c b x)
     (λ c b x. from c b x (pushed runs run x.1 x.0 x.2))
-    (lowest_join (WaitsIn job runs) (IsOpenIn job run.classes run.stop) lowest own was is)
+    (lowest_join (WaitsIn job runs) (IsOpenIn job run.classes run.stop) lowest own lower was is lo)
   where
     to : (c b : ℕ) → WaitsIn job runs c b ⊎ IsOpenIn job run.classes run.stop c b
         → WaitsIn job (runs ++ run ∷ []) c b
@@ -157,11 +156,18 @@ stopped_there job classes worker S None firsts e at is = absurd (cc)
 stopped_there job classes worker S (Some stop) firsts e at is = let same : stop ≡ at = cc in
     subst (IsStopAt job classes worker S) same e.0
 
+-- and the gate let it pass all before
+passed_there : (job : Parts) (classes : List ℕ) (worker : ℕ) (S : Stops) (stop : Option Stop)
+    (firsts : List (Option ℕ)) → HasEnded job classes worker S stop firsts
+    → HasPassed job classes worker S stop
+passed_there job classes worker S None firsts e = e.1
+passed_there job classes worker S (Some stop) firsts e = e.2
+
 -- one that was not has found the first tests
 not_stopped_found : (job : Parts) (classes : List ℕ) (worker : ℕ) (S : Stops) (stop : Option Stop)
     (firsts : List (Option ℕ)) → BelongTogether job → HasEnded job classes worker S stop firsts
     → stop ≡ None → AreClassFirsts job.list.model job.circuit job.tests.tests classes firsts
-not_stopped_found job classes worker S None firsts b e is = firsts_found job classes firsts b e
+not_stopped_found job classes worker S None firsts b e is = firsts_found job classes firsts b e.0
 not_stopped_found job classes worker S (Some stop) firsts b e is = absurd (cc)
 
 -- no first test of no class
@@ -231,11 +237,43 @@ unbegun_waits job (class ∷ own) some block = (
     place = 0;
     low = some;
     at = refl;
-    block_is = sym (done_high 0 0 0 (omega arith));
+    block_is = done_high 0 0 0 (omega arith);
     within = block;
     undetected = λ table is. refl;
   },
 )
+
+-- no worker ran a stretch that none began
+unbegun_none : (own : List ℕ) → (unbegun_run own).worker ≡ None
+unbegun_none [] = refl
+unbegun_none (class ∷ own) = refl
+
+-- what a worker found in a stretch that it ran stands at the place of this
+begun : (own : List ℕ) (place : Option Done) (run : PartRun) (w : ℕ) → run ≡ run_at own place
+    → run.worker ≡ Some w
+    → (done : Done) × (place ≡ Some done) × (done.worker ≡ w) × (run.stop ≡ done.stop)
+begun own None run w e q =
+    let bad : None ≡ Some w = sym (unbegun_none own) ∙ (sym (ap (λ (r : PartRun). r.worker) e) ∙ q)
+    in absurd (cc)
+begun own (Some done) run w e q =
+    let both : Some done.worker ≡ Some w = sym (ap (λ (r : PartRun). r.worker) e) ∙ q in
+    (done, refl, cc, ap (λ (r : PartRun). r.stop) e)
+
+-- where a worker was stopped a class waits
+stopped_waits : (job : Parts) (size : ℕ) (classes : List ℕ) (worker : ℕ) (P : Type 0) (S : Stops)
+    (done : Done) (stop : Stop) → IsDone job size classes worker P S done → done.stop ≡ Some stop
+    → (v : Waiting) × (done.waiting ≡ Some v)
+stopped_waits job size classes worker P S done stop is e = pick done.waiting refl
+  where
+    own : List ℕ
+    own = stretch size classes done.part
+
+    pick : (x : Option Waiting) → done.waiting ≡ x → (v : Waiting) × (done.waiting ≡ Some v)
+    pick (Some v) q = (v, q)
+    pick None q =
+        let low = subst (IsLowest (IsOpenIn job own done.stop)) q is.lowest in
+        let none = not_stopped job own worker S done.stop done.firsts.items is.ended low in
+        let bad : Some stop ≡ None = sym e ∙ none in absurd (cc)
 
 module _ (job : Parts) (size : ℕ) (classes : List ℕ) (workers : ℕ) (P : Type 0) (S : Stops)
     (table : List (Option Done)) (found : AreFoundByPart job size classes workers P S table) where
@@ -248,6 +286,18 @@ module _ (job : Parts) (size : ℕ) (classes : List ℕ) (workers : ℕ) (P : Ty
     count = runs_count size classes 0 table;
     each = λ part run at. let x = run_back size classes table part run at in
         go part run x.0 x.1 x.2;
+    once = λ i k w a b s t ea eb wa wb sa sb.
+        let x = run_back size classes table i a ea in
+        let y = run_back size classes table k b eb in
+        let u = begun (stretch size classes i) x.0 a w x.2 wa in
+        let v = begun (stretch size classes k) y.0 b w y.2 wb in
+        let iu : slice_get table i ≡ Some (Some u.0) = x.1 ∙ ap Some u.1 in
+        let iv : slice_get table k ≡ Some (Some v.0) = y.1 ∙ ap Some v.1 in
+        let p = stopped_waits job size classes u.0.worker P S u.0 s (found.each i u.0 iu).2
+        (sym u.3 ∙ sa) in
+        let q = stopped_waits job size classes v.0.worker P S v.0 t (found.each k v.0 iv).2
+        (sym v.3 ∙ sb) in
+        found.once i k u.0 v.0 p.0 q.0 iu iv (u.2 ∙ sym v.2) p.1 q.1;
   }
     where
       go : (part : ℕ) (run : PartRun) (place : Option Done) → slice_get table part ≡ Some place
@@ -266,6 +316,8 @@ module _ (job : Parts) (size : ℕ) (classes : List ℕ) (workers : ℕ) (P : Ty
               f.1,
               λ stop q. stopped_there job (stretch size classes part) done.worker S done.stop
                   done.firsts.items ended stop q,
+              passed_there job (stretch size classes part) done.worker S done.stop
+                  done.firsts.items ended,
             ),
           )
       go part run None at e =

@@ -27,7 +27,8 @@ use Rattle.fault_ledger.specs.declared.Status.{Status}
 use Rattle.fault_ledger.specs.declared.Status.TheVariants as status_is
 use Rattle.workers.specs.Chosen.{Chosen}
 use Rattle.workers.specs.Settling.{AreSettled, IsShapeOver}
-use Rattle.workers.specs.Work.{EachReport, GivesTrue, IsStopped, ReportsTruly, Stops, WasNoDrop}
+use Rattle.workers.specs.Stops.{Stops}
+use Rattle.workers.specs.Work.{EachReport, GivesTrue, IsStopped, ReportsTruly, WasNoDrop}
 use Rattle.workers.specs.Work.{WorksOver}
 use Rattle.workers.proofs.TrueOutcomes.{true_fits}
 use Rattle.workers.proofs.SettledLedgers.{settled_past}
@@ -363,16 +364,16 @@ then_held a b p class block at m =
 -- a worker that its gate stopped for a piece that it has just claimed
 pub stopped_holding : (stops : Stops) (a b : Sitter) (class block : ℕ)
     → Makes a (Event.Claim a.worker) (Claimed (claim_is.Piece class block)) b
-    → stops a.worker class block
+    → stops.may a.worker class block
     → IsStopped b.place.shape stops b.worker b.seen
 stopped_holding stops a b class block m s =
     let g = given a b class block m in
     subst (λ (x : Sitter). IsStopped x.place.shape stops x.worker b.seen) (sym m.seat) (
       piece_at a.place.shape class block,
       ap (λ (x : Sitter). held_by x.worker b.seen) (sym m.seat) ∙ g.0,
-      subst (λ k. stops a.worker k (block_of a.place.shape (piece_at a.place.shape class block)))
+      subst (λ k. stops.may a.worker k (block_of a.place.shape (piece_at a.place.shape class block)))
           (sym (class_of-at a.place.shape class block g.1))
-          (subst (λ k. stops a.worker class k) (sym (block_of-at a.place.shape class block g.1)) s),
+          (subst (λ k. stops.may a.worker class k) (sym (block_of-at a.place.shape class block g.1)) s),
     )
 
 -- what stays settled

@@ -44,7 +44,8 @@ use Rattle.workers.specs.Stretches.{EachClaim, StandsFor}
 use Rattle.workers.specs.Stretches.{EndsServing, HasServed, IsAmong, Stands, crew_of}
 use Rattle.workers.specs.Stretches.{shape_of_stretches}
 use Rattle.workers.specs.Verdict.{AreClassFirsts}
-use Rattle.workers.specs.Work.{EachReport, Stops}
+use Rattle.workers.specs.Stops.{Stops}
+use Rattle.workers.specs.Work.{EachReport}
 use Rattle.workers.proofs.PartRefusals.{ceil_le}
 use Rattle.workers.proofs.RunsOfParts.{none_open, run_there}
 use Rattle.workers.proofs.SettledLedgers.{all_settled, finished_settled, settled_finished}
@@ -430,6 +431,17 @@ module _ {Z : Type 0} (job : Parts) (parts size : ℕ) (classes : List ℕ) (wor
               let l = lower w any in
               (all_stopped part at low w (omega (arith, lt, l))).1,
         );
+    once = λ i k a b v w ea eb same va wb.
+        let g = given.each i a ea in
+        let e = given.each k b eb in
+        let x = own_done g.1 g.2 g.4 a g.3 g.5 in
+        let y = own_done e.1 e.2 e.4 b e.3 e.5 in
+        let one : held_by g.1 h ≡ Some a.part = subst (Stands g.1 h a.part) va x.1 in
+        let other : held_by e.1 h ≡ Some b.part = subst (Stands e.1 h b.part) wb y.1 in
+        let worker : g.1 ≡ e.1 = sym x.0.worker_is ∙ (same ∙ y.0.worker_is) in
+        let both : Some a.part ≡ Some b.part = sym one ∙ (ap (λ n. held_by n h) worker ∙ other) in
+        let part : a.part ≡ b.part = cc in
+        sym g.0 ∙ (part ∙ e.0);
   }
 
   -- where all places are whole the ledger is finished

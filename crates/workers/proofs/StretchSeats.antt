@@ -26,7 +26,7 @@ use Rattle.workers.specs.declared.taken.Done.{Done}
 use Rattle.workers.specs.Alone.{IsDone}
 use Rattle.workers.specs.Stretches.{Accounts, AfterRun, ClaimsStretch, EachClaim}
 use Rattle.workers.specs.Stretches.{HasServed, IsAmong, SeesAllClaimed, Stands}
-use Rattle.workers.specs.Work.{Stops}
+use Rattle.workers.specs.Stops.{Stops}
 use Rattle.workers.proofs.ReturnsByPart.{kept, last_of}
 use Rattle.workers.proofs.SeatCalls.{given}
 

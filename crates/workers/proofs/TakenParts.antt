@@ -14,7 +14,7 @@ use Rattle.workers.specs.declared.taken.Served.{Served}
 use Rattle.workers.specs.Alone.{AreFoundUpTo, HasEnded, IsDone}
 use Rattle.workers.specs.Part.{stretch}
 use Rattle.workers.specs.Stretches.{HasServed}
-use Rattle.workers.specs.Work.{Stops}
+use Rattle.workers.specs.Stops.{Stops}
 use Rattle.workers.proofs.LoneWorkers.{found_none}
 
 -- what is found at first
@@ -28,9 +28,10 @@ none_found job classes firsts count none =
 
 -- what a worker found, under other gates of the same
 pub done_along : (job : Parts) (size : ℕ) (classes : List ℕ) (w : ℕ) (P P' : Type 0)
-    (S S' : Stops) (done : Done) → (P' → P) → ((u k b : ℕ) → S u k b → S' u k b)
+    (S S' : Stops) (done : Done) → (P' → P) → ((u k b : ℕ) → S.may u k b → S'.may u k b)
+    → ((u k b : ℕ) → S'.must u k b → S.must u k b)
     → IsDone job size classes w P S done → IsDone job size classes w P' S' done
-done_along job size classes w P P' S S' done q t is = record {
+done_along job size classes w P P' S S' done q t v is = record {
   worker_is = is.worker_is;
   ended = go done.stop is.ended;
   lowest = is.lowest;
@@ -40,7 +41,7 @@ done_along job size classes w P P' S S' done q t is = record {
     go : (stop : Option Stop) → HasEnded job (stretch size classes done.part) w S stop
         done.firsts.items → HasEnded job (stretch size classes done.part) w S' stop
         done.firsts.items
-    go None e = e
+    go None e = (e.0, λ k class b at lt still must. e.1 k class b at lt still (v w class b must))
     go (Some stop) e = (
       record {
         class = e.0.class;
@@ -50,16 +51,18 @@ done_along job size classes w P P' S S' done q t is = record {
         undetected = e.0.undetected;
       },
       e.1,
+      λ k class b at lt still must. e.2 k class b at lt still (v w class b must),
     )
 
 -- what a thread gives back, under other names of the same
 pub served_along : {E : Type 0} (r r' : Result Served E) (j j' : Parts) (u u' : Cut) (p p' : Place)
     (w w' : ℕ) (P P' : Type 0) (S S' : Stops) → r ≡ r' → j ≡ j' → u ≡ u' → p ≡ p' → w ≡ w'
-    → (P' → P) → ((v k b : ℕ) → S v k b → S' v k b)
+    → (P' → P) → ((v k b : ℕ) → S.may v k b → S'.may v k b)
+    → ((v k b : ℕ) → S'.must v k b → S.must v k b)
     → IfOk r (λ served. HasServed j u.size u.classes.items p w P S served.seat served.dones.items)
     → IfOk r' (λ served. HasServed j' u'.size u'.classes.items p' w' P' S' served.seat
     served.dones.items)
-served_along {E} r r' j j' u u' p p' w w' P P' S S' er ej eu ep ew q t is =
+served_along {E} r r' j j' u u' p p' w w' P P' S S' er ej eu ep ew q t v is =
     subst (λ (x : Result Served E). IfOk x (λ served. HasServed j' u'.size u'.classes.items p' w' P'
     S' served.seat served.dones.items)) er (go r is)
   where
@@ -83,7 +86,7 @@ served_along {E} r r' j j' u u' p p' w w' P P' S S' er ej eu ep ew q t is =
           accounts = record {
             done = All-weaker (λ done. IsDone j u.size u.classes.items w P S done)
                 (λ done. IsDone j u.size u.classes.items w P' S' done)
-                (λ done d. done_along j u.size u.classes.items w P P' S S' done q t d)
+                (λ done d. done_along j u.size u.classes.items w P P' S S' done q t v d)
                 served.dones.items h.accounts.done;
             stand = h.accounts.stand;
             claimed = h.accounts.claimed;

@@ -9,7 +9,8 @@ use Rattle.fault_ledger.specs.Seats.{Place, Sitter, newcomer, newcomers}
 use Rattle.patterns.proofs.Public.{length-map-below, get_or-map-below}
 use Rattle.workers.specs.Chosen.{Chosen}
 use Rattle.workers.specs.declared.threads.Worker.{Worker}
-use Rattle.workers.specs.Work.{HasRested, IsStopped, Returns, Stops, stops_over}
+use Rattle.workers.specs.Stops.{Stops}
+use Rattle.workers.specs.Work.{HasRested, IsStopped, Returns, stops_over}
 
 get_map : {A B : Type 0} (f : A → B) (xs : List A) (k : ℕ) (d : A)
     → f (get_or xs k d) ≡ get_or (map f xs) k (f d)
@@ -46,7 +47,7 @@ own_newcomer p n a e = e ∙ ap (newcomer p) (ap (λ (x : Sitter). x.worker) (sy
 -- what became of a seat, under other names of the same
 pub returns_along : (j j' : Parts) (o o' : Chosen) (p p' : Place) (w w' : ℕ) (P P' : Type 0)
     (S S' : Stops) (a a' : Sitter) → j ≡ j' → o ≡ o' → p ≡ p' → w ≡ w' → (P' → P)
-    → ((u k b : ℕ) → S u k b → S' u k b) → a ≡ a' → Returns j o p w P S a
+    → ((u k b : ℕ) → S.may u k b → S'.may u k b) → a ≡ a' → Returns j o p w P S a
     → Returns j' o' p' w' P' S' a'
 returns_along j j' o o' p p' w w' P P' S S' a a' e d f h q t s r =
     subst (λ x. Returns x o' p' w' P' S' a') e

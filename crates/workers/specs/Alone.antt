@@ -1,7 +1,6 @@
 -- The run of one worker alone over a list of classes: block after block, and on each block in the
 -- order of the list. A class that an earlier block detects is left out.
-use Rattle.std.specs.Prelude.{◌≡◌, ◌≢◌, ◌⊎◌, ◌<◌, ◌≤◌, ◌+◌, ℕ, nat_lt, if◌then◌else◌, List, []}
-use Rattle.std.specs.Prelude.{◌∷◌, length}
+use Rattle.std.specs.Prelude.{◌≡◌, ◌≢◌, ◌⊎◌, ◌↔◌, ◌<◌, ◌≤◌, ◌+◌, ⊤, ℕ, List, [], ◌∷◌, length}
 use Rattle.std.specs.Prelude.{slice_get, All, Option, Some, None}
 use Rattle.std.specs.declared.vec.Vec.{Vec}
 use Rattle.patterns.specs.Least.{Table, least}
@@ -11,21 +10,26 @@ use Rattle.workers.specs.declared.alone.Stop.{Stop}
 use Rattle.workers.specs.declared.alone.Waiting.{Waiting}
 use Rattle.workers.specs.Schedule.{IsTableOf}
 use Rattle.workers.specs.Verdict.{AreClassFirsts}
-use Rattle.workers.specs.Work.{Stops}
-use Rattle.workers.specs.Part.{AreAllByRegion, ArePartOf, stretch, stretch_size}
+use Rattle.workers.specs.Stops.{Stops}
+use Rattle.workers.specs.Part.{AreAllByRegion, ArePartOf, stretch, stretch_size, stretches_for}
 use Rattle.workers.specs.declared.taken.Done.{Done}
 
--- so many first blocks of the class at place k are done before the piece of this place and block
-abbrev pub done_before : ℕ → ℕ → ℕ → ℕ
-done_before place block k = if nat_lt k place then block + 1 else block
+-- Of two pieces of a list, each of a place and a block, the first comes before the second: it is on
+-- an earlier block, or on the same block and at an earlier place.
+abbrev pub IsEarlier : ℕ → ℕ → ℕ → ℕ → Type 0
+IsEarlier k b place block = (b < block) ⊎ ((b ≡ block) × (k < place))
 
--- the first tests of the classes of a list over the blocks that are done before a piece
+-- so many first blocks of the class at place k come before the piece of this place and block
+abbrev pub AreEarlier : ℕ → ℕ → ℕ → ℕ → Type 0
+AreEarlier place block k n = (b : ℕ) → (b < n) ↔ IsEarlier k b place block
+
+-- the first tests of the classes of a list over the blocks that come before a piece
 pub record AreFoundUpTo (job : Parts) (classes : List ℕ) (place block : ℕ)
     (firsts : List (Option ℕ)) : Type 0 where
   pub count : length firsts ≡ length classes
-  pub each : (table : Table) → IsTableOf job table → (k class : ℕ) (first : Option ℕ)
+  pub each : (table : Table) → IsTableOf job table → (k class n : ℕ) (first : Option ℕ)
       → slice_get classes k ≡ Some class → slice_get firsts k ≡ Some first
-      → first ≡ least table (done_before place block k) class
+      → AreEarlier place block k n → first ≡ least table n class
 
 -- no test of the first so many blocks detects the class
 abbrev pub IsUndetected : Parts → ℕ → ℕ → Type 0
@@ -37,16 +41,31 @@ pub record IsStopAt (job : Parts) (classes : List ℕ) (worker : ℕ) (stops : S
   pub class : ℕ
   pub at : slice_get classes stop.place ≡ Some class
   pub within : stop.block < blocks (length job.tests.tests)
-  pub stopped : stops worker class stop.block
+  pub stopped : stops.may worker class stop.block
   pub undetected : IsUndetected job class stop.block
+
+-- The gate let the worker pass each piece before this one whose class no earlier block detects, so
+-- it surely stops the worker at none of these.
+abbrev pub ArePassed : Parts → List ℕ → ℕ → Stops → ℕ → ℕ → Type 0
+ArePassed job classes worker stops place block = (k class b : ℕ) → slice_get classes k ≡ Some class
+    → IsEarlier k b place block → IsUndetected job class b → ¬ stops.must worker class b
+
+-- the same up to where a run ended: at a piece, or behind the last block
+abbrev pub HasPassed : Parts → List ℕ → ℕ → Stops → Option Stop → Type 0
+HasPassed job classes worker stops None =
+    ArePassed job classes worker stops 0 (blocks (length job.tests.tests))
+HasPassed job classes worker stops (Some stop) =
+    ArePassed job classes worker stops stop.place stop.block
 
 -- how a worker's run over a list ends: at a piece where the gate stopped it, or behind the last
 -- block
 abbrev pub HasEnded : Parts → List ℕ → ℕ → Stops → Option Stop → List (Option ℕ) → Type 0
 HasEnded job classes worker stops None firsts =
     AreFoundUpTo job classes 0 (blocks (length job.tests.tests)) firsts
+    × HasPassed job classes worker stops None
 HasEnded job classes worker stops (Some stop) firsts =
     IsStopAt job classes worker stops stop × AreFoundUpTo job classes stop.place stop.block firsts
+    × HasPassed job classes worker stops (Some stop)
 
 -- a class among the first n of a list isn't settled where the worker was stopped, and waits for
 -- this block
@@ -55,7 +74,7 @@ pub record IsOpenBelow (job : Parts) (classes : List ℕ) (stop : Stop)
   pub place : ℕ
   pub low : place < n
   pub at : slice_get classes place ≡ Some class
-  pub block_is : block ≡ done_before stop.place stop.block place
+  pub block_is : AreEarlier stop.place stop.block place block
   pub within : block < blocks (length job.tests.tests)
   pub undetected : IsUndetected job class block
 
@@ -71,12 +90,16 @@ IsLowest Waits None = (class block : ℕ) → ¬ Waits class block
 IsLowest Waits (Some lowest) = Waits lowest.class lowest.block
     × ((class block : ℕ) → Waits class block → lowest.class ≤ class)
 
--- the one of the lower class
-abbrev pub lower_of : Option Waiting → Option Waiting → Option Waiting
-lower_of None second = second
-lower_of (Some one) None = Some one
-lower_of (Some one) (Some other) =
-    if nat_lt other.class one.class then Some other else Some one
+-- a class that waits, or none, is no higher than another
+abbrev pub IsNoHigher : Option Waiting → Option Waiting → Type 0
+IsNoHigher lowest None = ⊤
+IsNoHigher None (Some other) = ⊥
+IsNoHigher (Some one) (Some other) = one.class ≤ other.class
+
+-- it is the lower of two: one of them, and no higher than either
+abbrev pub IsLowerOf : Option Waiting → Option Waiting → Option Waiting → Type 0
+IsLowerOf first second lowest = ((lowest ≡ first) ⊎ (lowest ≡ second))
+    × IsNoHigher lowest first × IsNoHigher lowest second
 
 -- What a worker found in a part, which is a stretch of the classes: its run over that ended so, it
 -- names the lowest class that isn't settled, and where the gate lets all pass it wasn't stopped.
@@ -161,26 +184,31 @@ abbrev pub AreAllStopped : Parts → ℕ → List ℕ → ℕ → Stops → List
 AreAllStopped job size classes workers stops runs = (w : ℕ) → w < workers
     → 0 < length (stretch size classes w) → IsStoppedAmong job stops runs w
 
--- How a run of a stretch ended: one of the workers ran it, and it was stopped only where the gate
--- may stop the worker. Or no worker began it: then it has no class, or the gate stopped each worker
--- in one of the runs.
+-- How a run of a stretch ended: one of the workers ran it, it was stopped only where the gate may
+-- stop the worker, and it passed no piece where the gate surely does. Or no worker began it: then it
+-- has no class, or the gate stopped each worker in one of the runs.
 abbrev pub HasRunSo : Parts → ℕ → List ℕ → ℕ → Stops → List PartRun → PartRun → Option ℕ → Type 0
 HasRunSo job size classes workers stops runs run (Some w) = (w < workers)
     × ((stop : Stop) → run.stop ≡ Some stop → IsStopAt job run.classes w stops stop)
+    × HasPassed job run.classes w stops run.stop
 HasRunSo job size classes workers stops runs run None = (run ≡ unbegun_run run.classes)
     × (0 < length run.classes → AreAllStopped job size classes workers stops runs)
 
--- the runs of so many stretches of classes
+-- the runs of so many stretches of classes, of which a worker is stopped in one at most
 pub record AreRunsOf (job : Parts) (size : ℕ) (classes : List ℕ) (workers : ℕ) (stops : Stops)
     (n : ℕ) (runs : List PartRun) : Type 0 where
   pub count : length runs ≡ n
   pub each : (part : ℕ) (run : PartRun) → slice_get runs part ≡ Some run
       → (run.classes ≡ stretch size classes part)
       × HasRunSo job size classes workers stops runs run run.worker
+  pub once : (i k w : ℕ) (a b : PartRun) (s t : Stop) → slice_get runs i ≡ Some a
+      → slice_get runs k ≡ Some b → a.worker ≡ Some w → b.worker ≡ Some w
+      → a.stop ≡ Some s → b.stop ≡ Some t → i ≡ k
 
 -- What stands in a place of a table of stretches is what one of so many workers found in the
 -- stretch of this number, and where nothing does no worker began it. Then it has no class, or the
--- gate stopped each worker in one of the runs, so it does not let all pass, and there is a block.
+-- gate stopped each worker in one of the runs, so it does not let all pass, and there is a block. A
+-- worker leaves a class open in one stretch at most.
 pub record AreFoundByPart (job : Parts) (size : ℕ) (classes : List ℕ) (workers : ℕ)
     (passing : Type 0) (stops : Stops) (table : List (Option Done)) : Type 0 where
   pub each : (part : ℕ) (done : Done) → slice_get table part ≡ Some (Some done)
@@ -190,6 +218,9 @@ pub record AreFoundByPart (job : Parts) (size : ℕ) (classes : List ℕ) (worke
       → 0 < length (stretch size classes part)
       → (¬ passing) × (0 < blocks (length job.tests.tests))
       × AreAllStopped job size classes workers stops (runs_from size classes 0 table)
+  pub once : (i k : ℕ) (a b : Done) (v w : Waiting) → slice_get table i ≡ Some (Some a)
+      → slice_get table k ≡ Some (Some b) → a.worker ≡ b.worker
+      → a.waiting ≡ Some v → b.waiting ≡ Some w → i ≡ k
 
 -- a place of a table of parts is whole: a worker found out all of the part, or it has no class
 abbrev pub IsWholeAt : ℕ → List ℕ → ℕ → Option Done → Type 0
@@ -247,9 +278,11 @@ PartsWaitFor job parts workers stops class block = (classes : List ℕ) × AreAl
     × StretchesWaitFor job (stretch_size (length classes) parts) classes parts workers stops class
     block
 
--- the same of the classes of a part, of so many parts, which are run in some stretches
+-- the same of the classes of a part, of so many parts, which are run in as many stretches as serve
+-- the workers
 abbrev pub PartWaitsFor : Parts → ℕ → ℕ → ℕ → Stops → ℕ → ℕ → Type 0
 PartWaitsFor job parts part workers stops class block =
-    (classes : List ℕ) × ArePartOf job parts part classes × (stretches : ℕ)
-    × StretchesWaitFor job (stretch_size (length classes) stretches) classes stretches workers stops
-    class block
+    (classes : List ℕ) × ArePartOf job parts part classes
+    × StretchesWaitFor job
+    (stretch_size (length classes) (stretches_for (length classes) workers)) classes
+    (stretches_for (length classes) workers) workers stops class block

@@ -4,6 +4,7 @@ pub mod Rank
 pub mod Verdict
 pub mod Settling
 pub mod Schedule
+pub mod Stops
 pub mod Work
 pub mod Alone
 pub mod Refused

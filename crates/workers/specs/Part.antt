@@ -1,6 +1,7 @@
 -- The parts of the classes, and what a run over a part says of each fault.
 use Rattle.std.specs.Prelude.{◌≡◌, ◌≢◌, ◌⊎◌, ◌<◌, ◌≤◌, ⊤, ℕ, ◌%◌, ◌*◌, max, List, length, take, drop}
-use Rattle.std.specs.Prelude.{slice_get, Option, Some, None, slice_index_or}
+use Rattle.std.specs.Prelude.{slice_get, Option, Some, None, slice_index_or, min, nat_lt}
+use Rattle.std.specs.Prelude.{if◌then◌else◌}
 use Rattle.std.specs.Int.{div_ceil}
 use Rattle.fault_model.specs.Fault.{Fault, faults}
 use Rattle.block_sim.specs.First.{IsFirst}
@@ -56,6 +57,16 @@ AreAllByRegion job classes = AreByRegion job (λ class. ⊤) classes
 -- small as it can be. The last stretches have fewer, or none.
 abbrev pub stretch_size : ℕ → ℕ → ℕ
 stretch_size count parts = div_ceil count parts
+
+-- In how many stretches so many workers run so many classes: one worker in one, several in four for
+-- each of them up to 64, but in no more than there are classes and in no fewer than one.
+abbrev pub stretches_for : ℕ → ℕ → ℕ
+stretches_for classes workers =
+    if nat_lt workers 2 then 1 else max (min (4 * min workers 64) classes) 1
+
+-- in how many parts so many workers run a job where no number is given
+abbrev pub parts_for : Parts → ℕ → ℕ
+parts_for job workers = stretches_for (length job.classes.representative) workers
 
 -- the classes of a stretch, counted from 0, of a list that is cut into stretches of this size
 abbrev pub stretch : ℕ → List ℕ → ℕ → List ℕ

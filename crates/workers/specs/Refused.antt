@@ -9,7 +9,8 @@ use Rattle.workers.specs.declared.RunFault.TheVariants.{Unfinished}
 use Rattle.workers.specs.Alone.{PartsWaitFor, PartWaitsFor, StretchesWaitFor}
 use Rattle.workers.specs.Chosen.{Chosen, every}
 use Rattle.workers.specs.Part.{ArePartOf, stretch_size}
-use Rattle.workers.specs.Work.{Stops, WaitsFor}
+use Rattle.workers.specs.Stops.{Stops}
+use Rattle.workers.specs.Work.{WaitsFor}
 
 -- when a number of workers is refused
 abbrev pub IsWorkersFault : ℕ → RunFault → Type 0

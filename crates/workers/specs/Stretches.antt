@@ -20,8 +20,10 @@ use Rattle.workers.specs.Alone.{AreDone}
 use Rattle.workers.specs.declared.parts.PartVerdict.{PartVerdict}
 use Rattle.workers.specs.declared.parts.PartVerdict.TheVariants.{First}
 use Rattle.workers.specs.Part.{AreAllByRegion, ArePartOf, stretch, stretch_count, stretch_size}
+use Rattle.workers.specs.Part.{stretches_for}
 use Rattle.workers.specs.Verdict.{AreClassFirsts, VerdictList}
-use Rattle.workers.specs.Work.{EachReport, Stops}
+use Rattle.workers.specs.Stops.{Stops}
+use Rattle.workers.specs.Work.{EachReport}
 
 -- the shape of a ledger of so many stretches: each is a class of the ledger, with one block
 abbrev pub shape_of_stretches : ℕ → ℕ → Shape
@@ -164,16 +166,16 @@ pub record IsOfStretches (job : Parts) (parts workers : ℕ) (v : VerdictList)
       → slice_get v.firsts i ≡ Some first
       → (k : ℕ) × (slice_get classes k ≡ Some class) × (slice_get firsts k ≡ Some first)
 
--- The verdicts of a part were found stretch by stretch of its classes, which are cut into some
--- stretches: that on a fault of one of these is one that was found of its class.
+-- The verdicts of a part were found stretch by stretch of its classes, which are cut into as many as
+-- serve the workers: that on a fault of one of these is one that was found of its class.
 pub record IsPartOfStretches (job : Parts) (parts part workers : ℕ)
     (verdicts : List PartVerdict) (closed : ClosedFace) : Type 0 where
   pub classes : List ℕ
   pub are : ArePartOf job parts part classes
-  pub stretches : ℕ
   pub firsts : List (Option ℕ)
-  pub of : AreOfStretches job (stretch_size (length classes) stretches) classes workers firsts
-      closed
+  pub of : AreOfStretches job
+      (stretch_size (length classes) (stretches_for (length classes) workers)) classes workers
+      firsts closed
   pub each : (i class : ℕ) (first : Option ℕ) → slice_get job.classes.class_of i ≡ Some class
       → slice_get verdicts i ≡ Some (First first)
       → (k : ℕ) × (slice_get classes k ≡ Some class) × (slice_get firsts k ≡ Some first)

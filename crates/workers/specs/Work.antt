@@ -19,6 +19,7 @@ use Rattle.workers.specs.declared.worker.End.{End}
 use Rattle.workers.specs.declared.worker.End.TheVariants.{Exhausted, AllSettled, Stopped}
 use Rattle.workers.specs.Chosen.{Chosen, every}
 use Rattle.workers.specs.Settling.{AreSettled, shape_for, shape_over}
+use Rattle.workers.specs.Stops.{Stops}
 use Rattle.workers.specs.Verdict.{VerdictList, verdicts}
 
 -- the outcome is the true one of the piece that is held, in a ledger of chosen classes
@@ -63,18 +64,17 @@ pub record WorksOver (job : Parts) (chosen : Chosen) (old new : Sitter) : Type 0
 abbrev pub Works : Parts → Sitter → Sitter → Type 0
 Works job old new = WorksOver job (every job.classes) old new
 
--- for which worker, class and block a gate may stop the worker
-abbrev pub Stops : Type 1
-Stops = ℕ → ℕ → ℕ → Type 0
-
--- the same by the ledger's numbers of chosen classes
+-- where a gate stops workers, by the ledger's numbers of chosen classes
 abbrev pub stops_over : Chosen → Stops → Stops
-stops_over chosen stops worker class block = stops worker (chosen.class_at class) block
+stops_over chosen stops = record {
+  may = λ worker class block. stops.may worker (chosen.class_at class) block;
+  must = λ worker class block. stops.must worker (chosen.class_at class) block;
+}
 
 -- a worker that its gate stopped holds the piece that it was stopped for
 abbrev pub IsStopped : Shape → Stops → ℕ → History → Type 0
 IsStopped shape stops w h = (piece : ℕ) × (held_by w h ≡ Some piece)
-    × stops w (class_of shape piece) (block_of shape piece)
+    × stops.may w (class_of shape piece) (block_of shape piece)
 
 -- how a seat stands at each end of its work
 abbrev pub EndsAs : Stops → Sitter → End → Type 0

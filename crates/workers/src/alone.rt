@@ -7,8 +7,8 @@ ghost use Rattle.block_sim.specs.First.{IsTrueOutcome};
 ghost use Rattle.block_sim.specs.Origins.{IsListed};
 ghost use Rattle.block_sim.specs.Parts.{BelongTogether, Parts};
 ghost use Rattle.block_sim.specs.RegionHits.{IsFirstOn, ServesRegions};
-ghost use Rattle.workers.specs.Alone.{AreFoundUpTo, HasEnded, IsLowest, IsOpenIn, IsStopAt};
-ghost use Rattle.workers.specs.Alone.{done_before, lower_of};
+ghost use Rattle.workers.specs.Alone.{AreEarlier, AreFoundUpTo, ArePassed, HasEnded, IsLowerOf};
+ghost use Rattle.workers.specs.Alone.{IsLowest, IsOpenIn, IsStopAt};
 ghost use Rattle.workers.specs.Turns.{AreAhead, AreBehind, AreRowsOf, IsTurn, IsWhole, between};
 ghost use Rattle.workers.specs.Turns.{classes_of};
 
@@ -125,13 +125,19 @@ fn run_block<G: Gate>(
     requires turn { (known : ℕ) × IsTurn job.now rows.now known turn }
     requires serves { ServesRegions simulation.old job.now }
     requires found { AreFoundUpTo job.now (classes_of rows.now) 0 turn.block firsts.old }
+    requires passed { ArePassed job.now (classes_of rows.now) worker (G.stops gate.now) 0
+        turn.block }
     requires ahead { AreAhead job.now rows.now firsts.old turn 0 turn.found
         simulation.old.hits }
     ensures stopped { IfSome result (λ stop.
         IsStopAt job.now (classes_of rows.now) worker (G.stops gate.now) stop
-        × AreFoundUpTo job.now (classes_of rows.now) stop.place stop.block firsts.new) }
+        × AreFoundUpTo job.now (classes_of rows.now) stop.place stop.block firsts.new
+        × ArePassed job.now (classes_of rows.now) worker (G.stops gate.now) stop.place
+        stop.block) }
     ensures ended { IfNone result (AreFoundUpTo job.now (classes_of rows.now) 0 (turn.block + 1)
         firsts.new) }
+    ensures passed { IfNone result (ArePassed job.now (classes_of rows.now) worker
+        (G.stops gate.now) 0 (turn.block + 1)) }
     ensures behind { IfNone result (AreBehind job.now rows.now firsts.new turn (length rows.now)
         simulation.new.hits) }
     ensures passing { G.passing gate.now → result ≡ None }
@@ -260,7 +266,7 @@ fn first_at(firsts: &[Option<u32>], place: usize) -> Option<u32>
 /// How many first blocks of the class at a place are done where the worker was stopped.
 fn done_before(stop: Stop, place: usize) -> u32
     requires { stop.block < 1024 }
-    ensures { result ≡ done_before stop.place stop.block place }
+    ensures { AreEarlier stop.place stop.block place result }
 {
     if place < stop.place {
         stop.block + 1
@@ -271,7 +277,7 @@ fn done_before(stop: Stop, place: usize) -> u32
 
 /// The one of the lower class.
 pub(crate) fn lower_of(first: Option<Waiting>, second: Option<Waiting>) -> Option<Waiting>
-    ensures { result ≡ lower_of first second }
+    ensures { IsLowerOf first second result }
 {
     match (first, second) {
         (Some(one), Some(other)) if other.class < one.class => second,

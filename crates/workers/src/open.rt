@@ -1,8 +1,10 @@
 //! Runs whose workers nothing stops, in as many parts as serve them.
 
-ghost use Rattle.std.specs.Prelude.{◌<◌, ◌≤◌, ⊤, ℕ, IfErr, IfOk, OnOk};
+ghost use Rattle.std.specs.Prelude.{◌<◌, ◌≤◌, ⊤, IfErr, IfOk, OnOk};
 ghost use Rattle.fault_ledger.specs.Seats.{ClosedFace};
+ghost use Rattle.workers.specs.Part.{parts_for};
 ghost use Rattle.workers.specs.Refused.{IsRunFault};
+ghost use Rattle.workers.specs.Stops.{no_stop};
 ghost use Rattle.workers.specs.Stretches.{IsOfStretches};
 ghost use Rattle.workers.specs.Verdict.{AreBehindHits, AreFirsts};
 
@@ -28,9 +30,9 @@ pub fn run_open<R: Threads + Wait>(
         AreFirsts job.now.list.model job.now.circuit job.now.tests.tests v.firsts) }
     ensures skipped { IfOk result (λ v. AreBehindHits job.now v.skipped) }
     ensures workers { OnOk result ((0 < workers) × (workers ≤ 64)) }
-    ensures stretches { IfOk result (λ v. (parts : ℕ) × (ledger : ClosedFace)
-        × IsOfStretches job.now parts workers v ledger) }
-    ensures refused { IfErr result (IsRunFault job.now workers ⊤ (λ _ _ _. ⊥)) }
+    ensures stretches { IfOk result (λ v. (ledger : ClosedFace)
+        × IsOfStretches job.now (parts_for job.now workers) workers v ledger) }
+    ensures refused { IfErr result (IsRunFault job.now workers ⊤ no_stop) }
 {
     let parts = parts_for(job, workers);
     match run_in_parts(rt, alloc, job, parts, workers, &OpenGate) {

@@ -3,7 +3,7 @@
 ghost use Rattle.std.specs.Prelude.{◌≡◌, ◌<◌, ◌≤◌, All, length};
 ghost use Rattle.patterns.specs.Tests.{max_pieces};
 ghost use Rattle.block_sim.specs.Parts.{BelongTogether};
-ghost use Rattle.workers.specs.Part.{stretch, stretch_count};
+ghost use Rattle.workers.specs.Part.{parts_for, stretch, stretch_count, stretches_for};
 ghost use Rattle.workers.specs.Rank.{IsCutOf};
 
 use crate::MAX_WORKERS;
@@ -19,7 +19,8 @@ const PARTS_OF_A_WORKER: u32 = 4;
 /// one, and several in some times more than they are, so that all end at about one time. No more
 /// than there are classes.
 pub(crate) fn stretches_for(classes: u32, workers: u32) -> u32
-    ensures { 0 < result }
+    ensures count { result ≡ stretches_for classes workers }
+    ensures some { 0 < result }
 {
     if workers < 2 {
         1
@@ -33,7 +34,8 @@ pub(crate) fn stretches_for(classes: u32, workers: u32) -> u32
 /// worker, and else some times more parts than workers. So each worker gets a thread of its own, if
 /// there are as many classes.
 pub fn parts_for(job: &Job, workers: u32) -> u32
-    ensures { 0 < result }
+    ensures count { result ≡ parts_for job.now workers }
+    ensures some { 0 < result }
 {
     stretches_for(job.classes().count(), workers)
 }

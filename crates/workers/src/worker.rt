@@ -29,16 +29,20 @@ pub enum End {
 
 /// What a worker asks before it begins a piece that it has claimed.
 pub trait Gate {
+    ghost use Rattle.workers.specs.Stops.{Stops};
+
     /// Where it holds, [`Gate::pass`] lets every piece pass.
     ghost passing: { Self → Type 0 };
 
-    /// What is so of a worker, a class and a block where [`Gate::pass`] stops the worker there.
-    ghost stops: { Self → ℕ → ℕ → ℕ → Type 0 };
+    /// Of which worker, class and block [`Gate::pass`] may stop the worker, and of which it surely
+    /// does.
+    ghost stops: { Self → Stops };
 
     /// Whether the worker may go on with the piece.
     fn pass(&self, worker: u32, class: u32, block: u32) -> bool
         ensures passing { passing self.now → result ≡ true }
-        ensures stopped { result ≡ false → stops self.now worker class block };
+        ensures stopped { result ≡ false → (stops self.now).may worker class block }
+        ensures shut { (stops self.now).must worker class block → result ≡ false };
 }
 
 /// A gate that lets every piece pass.
@@ -46,9 +50,11 @@ pub trait Gate {
 pub struct OpenGate;
 
 impl Gate for OpenGate {
+    ghost use Rattle.workers.specs.Stops.{no_stop};
+
     ghost passing = { λ _. Unit {0} };
 
-    ghost stops = { λ _ _ _ _. ⊥ };
+    ghost stops = { λ _. no_stop };
 
     fn pass(&self, _worker: u32, _class: u32, _block: u32) -> bool {
         true

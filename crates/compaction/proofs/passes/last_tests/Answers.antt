@@ -4,6 +4,7 @@ use Rattle.std.proofs.lemmas.Result.{err_from_is_err_and}
 use Rattle.std.specs.List.{ReversedBelow}
 use Rattle.fault_model.specs.declared.Model.TheVariants.{StuckAt}
 use Rattle.workers.specs.Refused.{IsRunFault}
+use Rattle.workers.specs.Stops.{no_stop}
 use Rattle.compaction.specs.Marks.{AreFinding, AreLast}
 use Rattle.compaction.proofs.KeptTests.{are_last, refused_alike}
 use Rattle.compaction.proofs.passes.last_tests.Goals as goal
@@ -17,7 +18,7 @@ returns-in_err-found-clause-refused g c =
     let p = err_from_is_err_and c.from_residual-in_err-found.result
     c.from_residual-in_err-found.ensures.1 in
     let job = c.args.job.now in
-    let given = subst (λ x. IsRunFault x c.args.workers ⊤ (λ _ _ _. ⊥) c.in_err-found.field-0.0)
+    let given = subst (λ x. IsRunFault x c.args.workers ⊤ no_stop c.in_err-found.field-0.0)
     c.in_ok-set_tests_of_any_size_in_threads.ensures.job c.in_err-found.ensures.refused in
     rw (p.1, p.2) (refused_alike job c.in_ok-turned.turned c.args.workers
     c.in_err-found.field-0.0

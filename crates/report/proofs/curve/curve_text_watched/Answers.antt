@@ -27,7 +27,7 @@ returns-clause-refused g c =
     c.parts_for-parts.result c.args.workers passing stops job (
       c.in_ok-job.ensures.job,
       c.in_ok-job.ensures.few,
-    ))
+    ) c.parts_for-parts.ensures.count)
     c.report_curve.ensures.refused
 
 pub returns-clause-workers : goal.returns-clause-workers

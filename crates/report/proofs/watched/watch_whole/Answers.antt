@@ -23,5 +23,5 @@ returns-clause-refused g c =
     c.parts_for-parts.result c.args.workers passing stops job (
       c.in_ok-job.ensures.job,
       c.in_ok-job.ensures.few,
-    ))
+    ) c.parts_for-parts.ensures.count)
     c.report_run.ensures.refused

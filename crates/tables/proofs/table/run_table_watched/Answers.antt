@@ -19,7 +19,7 @@ returns-clause-refused g c =
     c.parts_for-parts.result c.args.workers passing stops job (
       c.in_ok-job.ensures.job,
       c.in_ok-job.ensures.few,
-    ))
+    ) c.parts_for-parts.ensures.count)
     c.write_run.ensures.refused
 
 pub returns-clause-written : goal.returns-clause-written

@@ -1,4 +1,4 @@
-use Rattle.std.proofs.Common.{◌+◌, length, arith, subst, refl, sym, ap, ◌∙◌}
+use Rattle.std.proofs.Common.{length, arith, subst, refl, ap, ◌∙◌}
 use Rattle.patterns.specs.Tests.{TestList, blocks}
 use Rattle.workers.specs.Alone.{IsLowest, IsOpenBelow}
 use Rattle.workers.proofs.LoneWorkers.{open_hit, open_more, open_past}
@@ -28,16 +28,14 @@ pub loop-place-preserved : goal.loop-place-preserved
 loop-place-preserved c =
     let n = c.blocks-blocks.ensures
     ∙ ap (λ (t : TestList). blocks (length t.tests)) c.tests.ensures.part in
-    subst (IsLowest (IsOpenBelow c.args.job.now c.args.classes.now c.args.stop
-    (c.loop-place.place + 1))) (sym c.lower_of-lowest.ensures)
-    (open_more c.args.job.now c.args.classes.now c.args.stop c.loop-place.place
+    open_more c.args.job.now c.args.classes.now c.args.stop c.loop-place.place
     c.class_at-class.result c.done_before-block.result c.args.firsts.now _ c.loop-place.lowest
-    c.requires.found
+    c.lower_of-lowest.result c.requires.found
     c.class_at-class.ensures c.in-None.ensures c.done_before-block.ensures (omega (
       arith,
       n,
       c.if-block-blocks.false,
-    )) refl refl c.loop-place.invariant)
+    )) refl refl c.lower_of-lowest.ensures c.loop-place.invariant
 
 pub returns : goal.returns
 returns c = subst (λ n. IsLowest (IsOpenBelow c.args.job.now c.args.classes.now c.args.stop n)

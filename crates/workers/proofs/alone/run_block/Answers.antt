@@ -1,10 +1,11 @@
-use Rattle.std.proofs.Common.{◌+◌, ◌*◌, arith, refl}
+use Rattle.std.proofs.Common.{◌+◌, ◌*◌, arith, refl, true}
 use Rattle.std.specs.Prelude.{None}
 use Rattle.std.proofs.lemmas.List.{length-map}
 use Rattle.std.proofs.lemmas.Option.{slice_get_within}
 use Rattle.block_sim.specs.declared.origin.Listed.{Listed}
 use Rattle.workers.proofs.LoneWorkers.{found_block, found_clear, found_hit, found_known}
 use Rattle.workers.proofs.LoneWorkers.{undetected_here}
+use Rattle.workers.proofs.PassedPieces.{passed_block, passed_gate, passed_known}
 use Rattle.workers.specs.Turns.{classes_of}
 use Rattle.workers.proofs.Turns.{ahead_hit, ahead_on, behind_clear, behind_hit, behind_known}
 use Rattle.workers.proofs.Turns.{class_there, row_listed, told_at}
@@ -26,6 +27,9 @@ loop-place-preserved-in-Some g c =
     record {
       known = found_known job (classes_of rows) place c.args.turn.block c.in-Some._test firsts
           c.in-Some.ensures before.known;
+      passed = passed_known job (classes_of rows) c.args.worker (g.G.Gate.stops c.args.gate.now) place
+          c.args.turn.block c.in-Some._test firsts c.requires.together c.in-Some.ensures
+          before.known before.passed;
       whole = before.whole;
       ahead = ahead_on job rows firsts c.args.turn place c.loop-place.simulation.hits
           c.loop-place.found before.ahead;
@@ -48,6 +52,7 @@ returns-then-not-pass-clause-stopped g c =
             c.in-None.ensures c.loop-place.invariant.known;
       },
       c.loop-place.invariant.known,
+      c.loop-place.invariant.passed,
     )
 
 -- the class at the place, and the test that was found out of it
@@ -89,6 +94,8 @@ loop-place-preserved-in-Clear g c =
           c.requires.together is.within c.requires.block class c.in-None.ensures
           (c.in-Clear.ensures.here job turn.last row.class c.requires.turn.1.ordered told)
           before.known;
+      passed = passed_gate job (classes_of rows) c.args.worker (g.G.Gate.stops c.args.gate.now) place
+          turn.block row.class true class c.if-not-pass.ensures.shut refl before.passed;
       whole = now.whole;
       ahead = ahead_on job rows firsts turn place hits c.found_from-found.result now.ahead;
       behind = behind_clear job rows firsts turn place hits row at (
@@ -122,12 +129,21 @@ loop-place-preserved g c =
           c.requires.together is.within c.requires.block class c.in-None.ensures
           (c.in-Hit.ensures.here job turn.last row.class c.requires.turn.1.ordered told)
           before.known;
+      passed = passed_gate job (classes_of rows) c.args.worker (g.G.Gate.stops c.args.gate.now) place
+          turn.block row.class true class c.if-not-pass.ensures.shut refl before.passed;
       whole = now.whole;
       ahead = ahead_hit job rows firsts turn place hits test c.found_from-found.result low
           now.ahead;
       behind = behind_hit job rows firsts turn place hits test low now.behind;
       serves = now.serves;
     }
+
+pub returns-clause-passed : goal.returns-clause-passed
+returns-clause-passed g c =
+    let rows = length-map c.args.rows.now (λ (at : Listed). at.class) in
+    passed_block c.args.job.now (classes_of c.args.rows.now) c.args.worker
+    (g.G.Gate.stops c.args.gate.now) c.loop-place.place c.args.turn.block
+    (omega (arith, rows, c.loop-place-test.false)) c.loop-place.invariant.passed
 
 pub returns-clause-ended : goal.returns-clause-ended
 returns-clause-ended g c =

@@ -1,11 +1,12 @@
 use Rattle.block_sim.specs.RegionHits.{ServesRegions}
-use Rattle.workers.specs.Alone.{AreFoundUpTo}
+use Rattle.workers.specs.Alone.{AreFoundUpTo, ArePassed}
 use Rattle.workers.specs.Turns.{AreAhead, AreBehind, IsWhole, classes_of}
 use Rattle.workers.proofs.alone.run_block.Given as goal
 
 abbrev pub invariant-loop-place : goal.invariant-loop-place
 invariant-loop-place g l = record {
   known : AreFoundUpTo l.job (classes_of l.rows) l.place l.turn.block l.firsts;
+  passed : ArePassed l.job (classes_of l.rows) l.worker (g.G.Gate.stops l.gate) l.place l.turn.block;
   whole : IsWhole l.job l.rows l.turn l.found;
   ahead : AreAhead l.job l.rows l.firsts l.turn l.place l.found l.simulation.hits;
   behind : AreBehind l.job l.rows l.firsts l.turn l.place l.simulation.hits;

@@ -1,7 +1,7 @@
 use Rattle.std.proofs.Common.{◌≡◌, ◌+◌, ◌-◌, ◌<◌, sym, subst, inl, inr, arith}
 use Rattle.std.proofs.lemmas.Option.{slice_get_within}
 use Rattle.block_sim.specs.RegionHits.{HasFirst}
-use Rattle.workers.specs.Alone.{AreFoundUpTo}
+use Rattle.workers.specs.Alone.{AreFoundUpTo, ArePassed}
 use Rattle.workers.specs.Turns.{between, classes_of}
 use Rattle.workers.proofs.alone.run_list.Goals as goal
 
@@ -33,6 +33,8 @@ loop-block-preserved g c =
     record {
       found = subst (λ n. AreFoundUpTo c.args.job.now (classes_of c.args.rows.now) 0 (n + 1)
           c.run_block.new.firsts) block c.in-None.ensures.ended;
+      passed = subst (λ n. ArePassed c.args.job.now (classes_of c.args.rows.now) c.args.worker
+          (g.G.Gate.stops c.args.gate.now) 0 (n + 1)) block c.in-None.ensures.passed;
       few = omega (arith, within);
       ahead = λ k row lt idle.
           let low = slice_get_within c.args.rows.now k row idle.row_is in

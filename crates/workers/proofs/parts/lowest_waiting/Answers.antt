@@ -48,8 +48,7 @@ loop-place-preserved c =
       left = omega (arith, was.left, step.1);
       lowest = subst (λ rs. IsLowest (WaitsIn job rs) c.lower_of-lowest.result)
           (sym (runs_push size classes 0 c.loop-place.yielded place))
-          (subst (IsLowest (WaitsIn job (runs_from size classes 0 c.loop-place.yielded ++ run ∷ [])))
-          (sym c.lower_of-lowest.ensures)
           (waits_more job (runs_from size classes 0 c.loop-place.yielded) run c.loop-place.lowest
-          c.in_ok-waiting.waiting was.lowest own));
+          c.in_ok-waiting.waiting c.lower_of-lowest.result was.lowest own
+          c.lower_of-lowest.ensures);
     }

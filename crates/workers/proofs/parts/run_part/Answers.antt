@@ -1,7 +1,8 @@
-use Rattle.std.proofs.Common.{◌≡◌, ◌∙◌, List, ap, get_or, length, map, refl, subst}
+use Rattle.std.proofs.Common.{◌≡◌, ◌∙◌, List, ap, get_or, length, map, subst, ℕ}
 use Rattle.fault_model.specs.Collapse.{Collapsed}
 use Rattle.workers.specs.declared.parts.PartVerdict.{PartVerdict}
 use Rattle.workers.specs.declared.parts.PartVerdict.TheVariants.{OtherPart}
+use Rattle.workers.specs.Part.{stretches_for}
 use Rattle.workers.specs.Verdict.{AreClassFirsts}
 use Rattle.workers.proofs.PartsOfClasses.{part_verdict_there, part_verdicts, verdicts_under}
 use Rattle.workers.proofs.SharedStretches.{stretches_under}
@@ -43,17 +44,22 @@ returns-clause-stretches g c =
     let is : c.in_ok-verdicts.verdicts.items ≡ map (λ class. get_or table class OtherPart)
     job.classes.class_of =
     c.in_ok-verdicts.ensures ∙ ap (λ (l : List PartVerdict). map (λ class. get_or l class OtherPart)
-    job.classes.class_of) c.as_slice-3.ensures.value in (
+    job.classes.class_of) c.as_slice-3.ensures.value in
+    let few = c.count_in-few.ensures.count
+    ∙ ap (λ (l : List ℕ). length l) c.as_slice.ensures.value in
+    let stretches : c.new-cut.result.parts ≡ stretches_for (length classes) c.args.workers =
+    c.new-cut.ensures.parts ∙ (c.stretches_for.ensures.count
+    ∙ ap (λ n. stretches_for n c.args.workers) few) in (
       c.in_ok-gathered.gathered.ledger,
       record {
         classes = classes;
         are = c.in_ok-own.ensures;
-        stretches = c.new-cut.result.parts;
         firsts = firsts;
-        of = stretches_under job c.new-cut.result.parts c.new-cut.result.parts
+        of = stretches_under job c.new-cut.result.parts
+            (stretches_for (length classes) c.args.workers)
             c.new-cut.result.size c.new-cut.result.classes.items classes c.args.workers firsts
-            c.in_ok-gathered.gathered.ledger c.new-cut.ensures.cut refl c.new-cut.ensures.classes
-            c.in_ok-gathered.ensures.stretches;
+            c.in_ok-gathered.gathered.ledger c.new-cut.ensures.cut stretches
+            c.new-cut.ensures.classes c.in_ok-gathered.ensures.stretches;
         each = λ i class first at v.
             part_verdict_there job classes firsts table c.in_ok-verdicts.verdicts.items
             c.classes.ensures.together by is i class first at v;

@@ -1,7 +1,19 @@
-use Rattle.std.proofs.Common.{◌∙◌, None, eqb-true, length, subst, sym}
-use Rattle.workers.specs.Alone.{IsLowestIn, unbegun_run}
+use Rattle.std.proofs.Common.{◌∙◌, None, arith, eqb-true, length, subst, sym}
+use Rattle.workers.specs.Alone.{AreFoundUpTo, IsLowestIn, unbegun_run}
 use Rattle.workers.proofs.RunsOfParts.{unbegun_empty, unbegun_lowest}
+use Rattle.workers.proofs.TakenParts.{none_found}
 use Rattle.workers.proofs.taken.not_begun.Goals as goal
+
+pub lowest_open-requires-clause-found : goal.lowest_open-requires-clause-found
+lowest_open-requires-clause-found c =
+    let sized = c.in_ok-firsts.firsts.ok.0 in
+    let own = c.stretch-own.result.now in
+    subst (AreFoundUpTo c.args.job.now own 0 0) (sym c.as_slice.ensures.value)
+    (none_found c.args.job.now own c.in_ok-firsts.firsts.items (omega (
+      arith,
+      sized,
+      c.in_ok-firsts.ensures.count,
+    )) c.in_ok-firsts.ensures.none)
 
 pub returns-then-is_empty : goal.returns-then-is_empty
 returns-then-is_empty c =

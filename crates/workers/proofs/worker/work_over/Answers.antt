@@ -27,9 +27,9 @@ returns-then-not-pass-clause-ends g c =
     (Claimed x) c.claim.new.seat) c.in-Ok-Piece.field-0-is m.1 in
     stopped_holding (stops_over over (g.G.Gate.stops c.args.gate.now)) c.claims.seat
     c.claim.new.seat c.in-Ok-Piece.class c.in-Ok-Piece.block n
-    (subst (λ w. g.G.Gate.stops c.args.gate.now w (over.class_at c.in-Ok-Piece.class)
+    (subst (λ w. (g.G.Gate.stops c.args.gate.now).may w (over.class_at c.in-Ok-Piece.class)
     c.in-Ok-Piece.block) c.worker-worker.ensures.worker
-    (subst (λ k. g.G.Gate.stops c.args.gate.now c.worker-worker.result k c.in-Ok-Piece.block)
+    (subst (λ k. (g.G.Gate.stops c.args.gate.now).may c.worker-worker.result k c.in-Ok-Piece.block)
     c.class_at.ensures (c.pass.ensures.stopped c.if-not-pass.true)))
 
 pub finish_piece-reported-requires-clause-range : goal.finish_piece-reported-requires-clause-range

@@ -130,7 +130,7 @@ returns g c =
             (ap (λ x. x.promise.worker) k.handle_is ∙ i.3)
             (λ p. subst (λ x. g.G.Gate.passing x) (sym (ap (λ x. x.promise.gate.value) k.handle_is
             ∙ i.2)) p)
-            (λ u class block s. subst (λ x. g.G.Gate.stops x u class block)
+            (λ u class block s. subst (λ x. (g.G.Gate.stops x).may u class block)
             (ap (λ x. x.promise.gate.value) k.handle_is ∙ i.2) s)
             (get_or_from_slice_get c.in_ok-back.back.items w seat seat e)
             k.kept;
