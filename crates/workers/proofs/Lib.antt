@@ -11,6 +11,7 @@ mod ClassRanks
 mod LoneWorkers
 mod PassedPieces
 mod Turns
+mod OpenPlaces
 mod StretchSeats
 mod TakenParts
 mod RunsOfParts

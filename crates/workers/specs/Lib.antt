@@ -9,4 +9,5 @@ pub mod Work
 pub mod Alone
 pub mod Refused
 pub mod Turns
+pub mod OpenPlaces
 pub mod Stretches

@@ -9,9 +9,11 @@ ghost use Rattle.block_sim.specs.Parts.{BelongTogether, Parts};
 ghost use Rattle.block_sim.specs.RegionHits.{IsFirstOn, ServesRegions};
 ghost use Rattle.workers.specs.Alone.{AreEarlier, AreFoundUpTo, ArePassed, HasEnded, IsLowerOf};
 ghost use Rattle.workers.specs.Alone.{IsLowest, IsOpenIn, IsStopAt};
+ghost use Rattle.workers.specs.OpenPlaces.{AreNextOpen};
 ghost use Rattle.workers.specs.Turns.{AreAhead, AreBehind, AreRowsOf, IsTurn, IsWhole, between};
 ghost use Rattle.workers.specs.Turns.{classes_of};
 
+use crate::open_places::{leave_out, next_open};
 use crate::worker::Gate;
 use block_sim::{Job, Listed, RegionSimulation};
 use patterns::Outcome;
@@ -84,12 +86,14 @@ pub(crate) fn run_list<G: Gate>(
     worker: u32,
     simulation: &mut RegionSimulation,
     gate: &G,
+    next: &mut [usize],
     firsts: &mut [Option<u32>],
 ) -> Option<Stop>
     requires rows { All (IsListed job.now) rows.now }
     requires few { length rows.now ≤ length job.now.classes.representative }
     requires serves { ServesRegions simulation.old job.now }
     requires none { AreFoundUpTo job.now (classes_of rows.now) 0 0 firsts.old }
+    requires next { AreNextOpen firsts.old next.old }
     ensures ended { HasEnded job.now (classes_of rows.now) worker (G.stops gate.now) result
         firsts.new }
     ensures passing { G.passing gate.now → result ≡ None }
@@ -98,7 +102,7 @@ pub(crate) fn run_list<G: Gate>(
     let mut known = 0;
     for block in 0..job.tests().blocks() {
         let turn = turn_of(job, rows, block, known);
-        match run_block(job, rows, worker, turn, simulation, gate, firsts) {
+        match run_block(job, rows, worker, turn, simulation, gate, next, firsts) {
             Some(stop) => return Some(stop),
             None => known = turn.last + 1,
         }
@@ -106,8 +110,9 @@ pub(crate) fn run_list<G: Gate>(
     None
 }
 
-/// Simulates on a block the classes of a list that no earlier block detects. The gate is asked for
-/// each class; what is found out with the first open class of a region is kept for the others, and
+/// Simulates on a block the classes of a list that no earlier block detects, and leaves out those
+/// whose first test is known, so that it comes to none of them again. The gate is asked for each
+/// class; what is found out with the first open class of a region is kept for the others, and
 /// for the blocks behind this one that are found out with it.
 fn run_block<G: Gate>(
     job: &Job,
@@ -116,6 +121,7 @@ fn run_block<G: Gate>(
     turn: Turn,
     simulation: &mut RegionSimulation,
     gate: &G,
+    next: &mut [usize],
     firsts: &mut [Option<u32>],
 ) -> Option<Stop>
     requires together { BelongTogether job.now }
@@ -129,6 +135,7 @@ fn run_block<G: Gate>(
         turn.block }
     requires ahead { AreAhead job.now rows.now firsts.old turn 0 turn.found
         simulation.old.hits }
+    requires next { AreNextOpen firsts.old next.old }
     ensures stopped { IfSome result (λ stop.
         IsStopAt job.now (classes_of rows.now) worker (G.stops gate.now) stop
         × AreFoundUpTo job.now (classes_of rows.now) stop.place stop.block firsts.new
@@ -140,13 +147,19 @@ fn run_block<G: Gate>(
         (G.stops gate.now) 0 (turn.block + 1)) }
     ensures behind { IfNone result (AreBehind job.now rows.now firsts.new turn (length rows.now)
         simulation.new.hits) }
+    ensures next { IfNone result (AreNextOpen firsts.new next.new) }
     ensures passing { G.passing gate.now → result ≡ None }
     ensures serves { ServesRegions simulation.new job.now }
 {
     let mut found = turn.found;
-    for place in 0..rows.len() {
+    let mut before = 0;
+    let mut place = 0;
+    while place < rows.len() {
         match first_at(firsts, place) {
-            Some(_test) => continue,
+            Some(_test) => {
+                place = leave_out(next, before, place);
+                continue;
+            }
             None => {}
         }
         let class = row_at(rows, place).class;
@@ -155,9 +168,12 @@ fn run_block<G: Gate>(
             return Some(Stop { place, block });
         }
         found = found_from(job, rows, turn, place, found, simulation, firsts);
-        match outcome_on(simulation.hit_at(place), turn.block) {
+        let outcome = outcome_on(simulation.hit_at(place), turn.block);
+        before = place;
+        place = next_open(next, before);
+        match outcome {
             Outcome::Clear => continue,
-            Outcome::Hit(test) => firsts[place] = Some(64 * turn.block + test),
+            Outcome::Hit(test) => firsts[before] = Some(64 * turn.block + test),
         }
     }
     None

@@ -19,6 +19,7 @@ mod arrange;
 mod chosen;
 mod classes;
 mod open;
+mod open_places;
 mod pace;
 mod parts;
 mod ranks;

@@ -16,6 +16,7 @@ ghost use Rattle.workers.specs.Stretches.{SeesAllClaimed};
 
 use crate::RunFault;
 use crate::alone::{Stop, Waiting, lowest_open, rows_of, run_list};
+use crate::open_places::all_open;
 use crate::stretches::Cut;
 use crate::worker::Gate;
 use block_sim::{Job, RegionSimulation};
@@ -80,10 +81,13 @@ pub(crate) fn run_alone<G: Gate>(
     let own = cut.stretch(part);
     let rows = rows_of(alloc, job, own)?;
     let mut firsts = no_firsts(alloc, own.len())?;
+    let mut open = all_open(alloc, firsts.as_slice())?;
     let worker = member.number;
     let simulation = &mut member.simulation;
+    let listed = rows.as_slice();
+    let next = open.as_mut_slice();
     let found = firsts.as_mut_slice();
-    let stop = run_list(job, rows.as_slice(), worker, simulation, gate, found);
+    let stop = run_list(job, listed, worker, simulation, gate, next, found);
     let waiting = match stop {
         Some(stop) => lowest_open(job, own, stop, firsts.as_slice()),
         None => None,

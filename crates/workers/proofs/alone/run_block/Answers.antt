@@ -1,13 +1,16 @@
-use Rattle.std.proofs.Common.{◌+◌, ◌*◌, arith, refl, true}
+use Rattle.std.proofs.Common.{◌+◌, ◌*◌, Some, arith, refl, set, subst, sym, true}
 use Rattle.std.specs.Prelude.{None}
 use Rattle.std.proofs.lemmas.List.{length-map}
 use Rattle.std.proofs.lemmas.Option.{slice_get_within}
 use Rattle.block_sim.specs.declared.origin.Listed.{Listed}
-use Rattle.workers.proofs.LoneWorkers.{found_block, found_clear, found_hit, found_known}
+use Rattle.workers.proofs.LoneWorkers.{found_block, found_clear, found_hit}
 use Rattle.workers.proofs.LoneWorkers.{undetected_here}
-use Rattle.workers.proofs.PassedPieces.{passed_block, passed_gate, passed_known}
+use Rattle.workers.proofs.PassedPieces.{passed_block, passed_gate}
+use Rattle.workers.specs.OpenPlaces.{AreNextOpen, AreSettled}
 use Rattle.workers.specs.Turns.{classes_of}
-use Rattle.workers.proofs.Turns.{ahead_hit, ahead_on, behind_clear, behind_hit, behind_known}
+use Rattle.workers.proofs.OpenPlaces.{ahead_over, behind_over, found_up_to, left_out, open_more}
+use Rattle.workers.proofs.OpenPlaces.{passed_up_to, settled_more, settled_over}
+use Rattle.workers.proofs.Turns.{ahead_hit, behind_clear, behind_hit}
 use Rattle.workers.proofs.Turns.{class_there, row_listed, told_at}
 use Rattle.workers.proofs.alone.run_block.Goals as goal
 
@@ -17,25 +20,68 @@ first_at-requires g c =
     let rows = length-map c.args.rows.now (λ (at : Listed). at.class) in
     omega (arith, count, rows, c.loop-place-test.true)
 
+pub leave_out-place-requires-clause-before : goal.leave_out-place-requires-clause-before
+leave_out-place-requires-clause-before g c =
+    let last = c.loop-place.invariant in
+    let count = last.known.count in
+    let next = last.next.count in
+    let rows = length-map c.args.rows.now (λ (at : Listed). at.class) in
+    let low = last.low in
+    omega (arith, count, next, rows, low, c.loop-place-test.true)
+
+pub leave_out-place-requires-clause-place : goal.leave_out-place-requires-clause-place
+leave_out-place-requires-clause-place g c =
+    let last = c.loop-place.invariant in
+    let count = last.known.count in
+    let next = last.next.count in
+    let rows = length-map c.args.rows.now (λ (at : Listed). at.class) in
+    omega (arith, count, next, rows, c.loop-place-test.true)
+
+pub loop-place-smaller-in-Some : goal.loop-place-smaller-in-Some
+loop-place-smaller-in-Some g c =
+    let up = c.loop-place.invariant.next.behind c.loop-place.place c.leave_out-place.result
+    c.leave_out-place.ensures.behind in
+    omega (arith, up, c.loop-place-test.true)
+
 pub loop-place-preserved-in-Some : goal.loop-place-preserved-in-Some
 loop-place-preserved-in-Some g c =
     let job = c.args.job.now in
     let rows = c.args.rows.now in
     let firsts = c.loop-place.firsts in
     let place = c.loop-place.place in
-    let before = c.loop-place.invariant in
+    let before = c.loop-place.before in
+    let last = c.loop-place.invariant in
+    let to = c.leave_out-place.result in
+    let hits = c.loop-place.simulation.hits in
+    let is = c.leave_out-place.ensures.behind in
+    let up = last.next.behind place to is in
+    let here = c.in-Some.ensures in
+    let settled : AreSettled firsts place to = settled_over firsts place place to c.in-Some._test
+    (λ k le lt. absurd (omega (arith, le, lt))) here (last.next.between place to is) in
+    let gap : AreSettled firsts (before + 1) to = settled_over firsts (before + 1) place to
+    c.in-Some._test last.between here (last.next.between place to is) in
+    let low = last.low in
+    let count = last.known.count in
+    let next = last.next.count in
+    let long = length-map rows (λ (at : Listed). at.class) in
+    let end = last.next.within place to is in
     record {
-      known = found_known job (classes_of rows) place c.args.turn.block c.in-Some._test firsts
-          c.in-Some.ensures before.known;
-      passed = passed_known job (classes_of rows) c.args.worker (g.G.Gate.stops c.args.gate.now) place
-          c.args.turn.block c.in-Some._test firsts c.requires.together c.in-Some.ensures
-          before.known before.passed;
-      whole = before.whole;
-      ahead = ahead_on job rows firsts c.args.turn place c.loop-place.simulation.hits
-          c.loop-place.found before.ahead;
-      behind = behind_known job rows firsts c.args.turn place c.loop-place.simulation.hits
-          c.in-Some._test c.in-Some.ensures before.behind;
-      serves = before.serves;
+      low = omega (arith, low, up);
+      within = omega (arith, end, count, long);
+      next = subst (AreNextOpen firsts) (sym c.leave_out-place.ensures.left_out)
+          (left_out firsts c.loop-place.next before place to
+          (omega (arith, count, next, long, low, c.loop-place-test.true)) low is gap last.next);
+      between = gap;
+      known = found_up_to job (classes_of rows) c.args.turn.block firsts place to
+          (omega (arith, up)) settled last.known;
+      passed = passed_up_to job (classes_of rows) c.args.worker (g.G.Gate.stops c.args.gate.now)
+          c.args.turn.block firsts place to (omega (arith, up)) c.requires.together settled
+          last.known last.passed;
+      whole = last.whole;
+      ahead = ahead_over job rows firsts c.args.turn place to c.loop-place.found hits
+          (omega (arith, up)) last.ahead;
+      behind = behind_over job rows firsts c.args.turn place to hits settled last.behind;
+      serves = last.serves;
     }
 
 pub returns-then-not-pass-clause-stopped : goal.returns-then-not-pass-clause-stopped
@@ -73,6 +119,26 @@ overflow_add-firsts g c =
     let tests = c.requires.together.tests.count in
     omega (arith, low, within, tests)
 
+pub next_open-place-requires : goal.next_open-place-requires
+next_open-place-requires g c =
+    let last = c.loop-place.invariant in
+    let count = last.known.count in
+    let next = last.next.count in
+    let rows = length-map c.args.rows.now (λ (at : Listed). at.class) in
+    omega (arith, count, next, rows, c.loop-place-test.true)
+
+pub loop-place-smaller-in-Clear : goal.loop-place-smaller-in-Clear
+loop-place-smaller-in-Clear g c =
+    let up = c.loop-place.invariant.next.behind c.loop-place.place c.next_open-place.result
+    c.next_open-place.ensures in
+    omega (arith, up, c.loop-place-test.true)
+
+pub loop-place-smaller : goal.loop-place-smaller
+loop-place-smaller g c =
+    let up = c.loop-place.invariant.next.behind c.loop-place.place c.next_open-place.result
+    c.next_open-place.ensures in
+    omega (arith, up, c.loop-place-test.true)
+
 pub loop-place-preserved-in-Clear : goal.loop-place-preserved-in-Clear
 loop-place-preserved-in-Clear g c =
     let job = c.args.job.now in
@@ -80,29 +146,50 @@ loop-place-preserved-in-Clear g c =
     let firsts = c.loop-place.firsts in
     let turn = c.args.turn in
     let place = c.loop-place.place in
-    let before = c.loop-place.invariant in
+    let last = c.loop-place.invariant in
     let row = c.row_at-class.result in
     let at = c.row_at-class.ensures in
     let hits = c.found_from-found.new.simulation.hits in
     let now = c.found_from-found.ensures in
+    let found = c.found_from-found.result in
     let class = class_there rows place row at in
     let is = row_listed job rows place row c.requires.rows at in
-    let told = told_at job rows firsts turn place hits row c.hit_at.result c.found_from-found.result
+    let told = told_at job rows firsts turn place hits row c.hit_at.result found
     now.ahead now.low at c.in-None.ensures c.hit_at.ensures in
+    let to = c.next_open-place.result in
+    let step = c.next_open-place.ensures in
+    let up = last.next.behind place to step in
+    let settled = last.next.between place to step in
+    let end = last.next.within place to step in
+    let count = last.known.count in
+    let long = length-map rows (λ (at : Listed). at.class) in
     record {
-      known = found_clear job (classes_of rows) place turn.block row.class firsts
+      low = omega (arith, up);
+      within = omega (arith, end, count, long);
+      next = last.next;
+      between = settled;
+      known = found_up_to job (classes_of rows) turn.block firsts (place + 1) to (omega (arith, up))
+          settled
+          (found_clear job (classes_of rows) place turn.block row.class firsts
           c.requires.together is.within c.requires.block class c.in-None.ensures
           (c.in-Clear.ensures.here job turn.last row.class c.requires.turn.1.ordered told)
-          before.known;
-      passed = passed_gate job (classes_of rows) c.args.worker (g.G.Gate.stops c.args.gate.now) place
-          turn.block row.class true class c.if-not-pass.ensures.shut refl before.passed;
+          last.known);
+      passed = passed_up_to job (classes_of rows) c.args.worker (g.G.Gate.stops c.args.gate.now)
+          turn.block firsts (place + 1) to (omega (arith, up)) c.requires.together settled
+          (found_clear job (classes_of rows) place turn.block row.class firsts
+          c.requires.together is.within c.requires.block class c.in-None.ensures
+          (c.in-Clear.ensures.here job turn.last row.class c.requires.turn.1.ordered told)
+          last.known)
+          (passed_gate job (classes_of rows) c.args.worker (g.G.Gate.stops c.args.gate.now) place
+          turn.block row.class true class c.if-not-pass.ensures.shut refl last.passed);
       whole = now.whole;
-      ahead = ahead_on job rows firsts turn place hits c.found_from-found.result now.ahead;
-      behind = behind_clear job rows firsts turn place hits row at (
-        c.hit_at.result,
-        c.hit_at.ensures,
-        c.in-Clear.ensures.later job turn.last row.class refl told,
-      ) now.behind;
+      ahead = ahead_over job rows firsts turn place to found hits (omega (arith, up)) now.ahead;
+      behind = behind_over job rows firsts turn (place + 1) to hits settled
+          (behind_clear job rows firsts turn place hits row at (
+            c.hit_at.result,
+            c.hit_at.ensures,
+            c.in-Clear.ensures.later job turn.last row.class refl told,
+          ) now.behind);
       serves = now.serves;
     }
 
@@ -113,28 +200,51 @@ loop-place-preserved g c =
     let firsts = c.loop-place.firsts in
     let turn = c.args.turn in
     let place = c.loop-place.place in
-    let before = c.loop-place.invariant in
+    let last = c.loop-place.invariant in
     let row = c.row_at-class.result in
     let at = c.row_at-class.ensures in
     let hits = c.found_from-found.new.simulation.hits in
     let now = c.found_from-found.ensures in
+    let found = c.found_from-found.result in
     let class = class_there rows place row at in
     let is = row_listed job rows place row c.requires.rows at in
-    let told = told_at job rows firsts turn place hits row c.hit_at.result c.found_from-found.result
+    let told = told_at job rows firsts turn place hits row c.hit_at.result found
     now.ahead now.low at c.in-None.ensures c.hit_at.ensures in
     let low = slice_get_within firsts place None c.in-None.ensures in
     let test = 64 * turn.block + c.in-Hit.test in
+    let first = set firsts place (Some test) in
+    let to = c.next_open-place.result in
+    let step = c.next_open-place.ensures in
+    let up = last.next.behind place to step in
+    let end = last.next.within place to step in
+    let count = last.known.count in
+    let long = length-map rows (λ (at : Listed). at.class) in
+    let settled : AreSettled first (place + 1) to =
+    settled_more firsts place test (place + 1) to low (last.next.between place to step) in
     record {
-      known = found_hit job (classes_of rows) place turn.block row.class c.in-Hit.test firsts
+      low = omega (arith, up);
+      within = omega (arith, end, count, long);
+      next = open_more firsts c.loop-place.next place test low last.next;
+      between = settled;
+      known = found_up_to job (classes_of rows) turn.block first (place + 1) to (omega (arith, up))
+          settled
+          (found_hit job (classes_of rows) place turn.block row.class c.in-Hit.test firsts
           c.requires.together is.within c.requires.block class c.in-None.ensures
           (c.in-Hit.ensures.here job turn.last row.class c.requires.turn.1.ordered told)
-          before.known;
-      passed = passed_gate job (classes_of rows) c.args.worker (g.G.Gate.stops c.args.gate.now) place
-          turn.block row.class true class c.if-not-pass.ensures.shut refl before.passed;
+          last.known);
+      passed = passed_up_to job (classes_of rows) c.args.worker (g.G.Gate.stops c.args.gate.now)
+          turn.block first (place + 1) to (omega (arith, up)) c.requires.together settled
+          (found_hit job (classes_of rows) place turn.block row.class c.in-Hit.test firsts
+          c.requires.together is.within c.requires.block class c.in-None.ensures
+          (c.in-Hit.ensures.here job turn.last row.class c.requires.turn.1.ordered told)
+          last.known)
+          (passed_gate job (classes_of rows) c.args.worker (g.G.Gate.stops c.args.gate.now) place
+          turn.block row.class true class c.if-not-pass.ensures.shut refl last.passed);
       whole = now.whole;
-      ahead = ahead_hit job rows firsts turn place hits test c.found_from-found.result low
-          now.ahead;
-      behind = behind_hit job rows firsts turn place hits test low now.behind;
+      ahead = ahead_over job rows first turn (place + 1) to found hits (omega (arith, up))
+          (ahead_hit job rows firsts turn place hits test found low now.ahead);
+      behind = behind_over job rows first turn (place + 1) to hits settled
+          (behind_hit job rows firsts turn place hits test low now.behind);
       serves = now.serves;
     }
 

@@ -1,10 +1,16 @@
+use Rattle.std.proofs.Common.{◌+◌, ◌-◌, ◌≤◌, length}
 use Rattle.block_sim.specs.RegionHits.{ServesRegions}
 use Rattle.workers.specs.Alone.{AreFoundUpTo, ArePassed}
+use Rattle.workers.specs.OpenPlaces.{AreNextOpen, AreSettled}
 use Rattle.workers.specs.Turns.{AreAhead, AreBehind, IsWhole, classes_of}
 use Rattle.workers.proofs.alone.run_block.Given as goal
 
 abbrev pub invariant-loop-place : goal.invariant-loop-place
 invariant-loop-place g l = record {
+  low : l.before ≤ l.place;
+  within : l.place ≤ length l.rows;
+  next : AreNextOpen l.firsts l.next;
+  between : AreSettled l.firsts (l.before + 1) l.place;
   known : AreFoundUpTo l.job (classes_of l.rows) l.place l.turn.block l.firsts;
   passed : ArePassed l.job (classes_of l.rows) l.worker (g.G.Gate.stops l.gate) l.place l.turn.block;
   whole : IsWhole l.job l.rows l.turn l.found;
@@ -12,3 +18,6 @@ invariant-loop-place g l = record {
   behind : AreBehind l.job l.rows l.firsts l.turn l.place l.simulation.hits;
   serves : ServesRegions l.simulation l.job;
 }
+
+abbrev pub decreases-loop-place : goal.decreases-loop-place
+decreases-loop-place g l = length l.rows - l.place

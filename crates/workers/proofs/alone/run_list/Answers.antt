@@ -44,5 +44,6 @@ loop-block-preserved g c =
           (subst (λ n. HasFirst c.args.job.now (between (n + 1) turn.last) row
           c.run_block.new.simulation.hits k) block
           (c.in-None.ensures.behind k row low idle));
+      next = c.in-None.ensures.next;
       serves = c.run_block.ensures.serves;
     }

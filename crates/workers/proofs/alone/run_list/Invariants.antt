@@ -3,6 +3,7 @@ use Rattle.patterns.specs.Tests.{blocks}
 use Rattle.block_sim.specs.declared.origin.Listed.{Listed}
 use Rattle.block_sim.specs.RegionHits.{HasFirst, IsOpenAt, ServesRegions}
 use Rattle.workers.specs.Alone.{AreFoundUpTo, ArePassed}
+use Rattle.workers.specs.OpenPlaces.{AreNextOpen}
 use Rattle.workers.specs.Turns.{between, classes_of}
 use Rattle.workers.proofs.alone.run_list.Given as goal
 
@@ -13,5 +14,6 @@ invariant-loop-block g l = record {
   few : l.known ≤ blocks (length l.job.tests.tests);
   ahead : (k : ℕ) (row : Listed) → l.block < l.known → IsOpenAt l.rows l.firsts k row
       → HasFirst l.job (between l.block (l.known - 1)) row l.simulation.hits k;
+  next : AreNextOpen l.firsts l.next;
   serves : ServesRegions l.simulation l.job;
 }

@@ -1,6 +1,7 @@
 use Rattle.std.proofs.Common.{◌≡◌, ◌∙◌, ◌<◌, All, ap, arith, length, subst, sym}
 use Rattle.block_sim.specs.Origins.{IsListed}
 use Rattle.workers.specs.Alone.{AreFoundUpTo}
+use Rattle.workers.specs.OpenPlaces.{AreNextOpen}
 use Rattle.workers.specs.Turns.{classes_of}
 use Rattle.workers.proofs.PartsOfClasses.{stretch_within}
 use Rattle.workers.proofs.TakenParts.{none_found}
@@ -15,14 +16,14 @@ rows_of-requires g c =
 
 pub run_list-stop-requires-clause-rows : goal.run_list-stop-requires-clause-rows
 run_list-stop-requires-clause-rows g c =
-    subst (All (IsListed c.args.job.now)) (sym c.as_slice.ensures.value) c.in_ok-rows.ensures.each
+    subst (All (IsListed c.args.job.now)) (sym c.as_slice-listed.ensures.value) c.in_ok-rows.ensures.each
 
 pub run_list-stop-requires-clause-none : goal.run_list-stop-requires-clause-none
 run_list-stop-requires-clause-none g c =
     let sized = c.in_ok-firsts.firsts.ok.0 in
     let own = c.stretch-own.result.now in
-    let same : classes_of c.as_slice.result.now ≡ own =
-    ap classes_of c.as_slice.ensures.value ∙ c.in_ok-rows.ensures.same in
+    let same : classes_of c.as_slice-listed.result.now ≡ own =
+    ap classes_of c.as_slice-listed.ensures.value ∙ c.in_ok-rows.ensures.same in
     subst (λ l. AreFoundUpTo c.args.job.now l 0 0 c.as_mut_slice-found.result.now) (sym same)
     (subst (AreFoundUpTo c.args.job.now own 0 0) (sym c.as_mut_slice-found.ensures.value)
     (none_found c.args.job.now own c.in_ok-firsts.firsts.items (omega (
@@ -30,3 +31,10 @@ run_list-stop-requires-clause-none g c =
       sized,
       c.in_ok-firsts.ensures.count,
     )) c.in_ok-firsts.ensures.none))
+
+pub run_list-stop-requires-clause-next : goal.run_list-stop-requires-clause-next
+run_list-stop-requires-clause-next g c =
+    subst (λ l. AreNextOpen l c.as_mut_slice-next.result.now) (sym c.as_mut_slice-found.ensures.value)
+    (subst (AreNextOpen c.in_ok-firsts.firsts.items) (sym c.as_mut_slice-next.ensures.value)
+    (subst (λ l. AreNextOpen l c.in_ok-open.open.items) c.as_slice.ensures.value
+    c.in_ok-open.ensures))

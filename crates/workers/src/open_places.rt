@@ -1,0 +1,41 @@
+//! The places of a list whose classes may be open: behind each place the next one.
+
+ghost use Rattle.std.specs.Prelude.{◌≡◌, ◌+◌, ◌<◌, ℕ, All, IfOk, None, Some, length, slice_get};
+ghost use Rattle.std.specs.Prelude.{slice_set};
+ghost use Rattle.workers.specs.OpenPlaces.{AreNextOpen};
+
+use std::alloc::{AllocError, Global};
+
+/// The next place of each, where no first test is known yet.
+pub(crate) fn all_open(alloc: Global, firsts: &[Option<u32>]) -> Result<Vec<usize>, AllocError>
+    ensures { IfOk result (λ next. AreNextOpen firsts.now next.items) }
+{
+    let mut next = Vec::with_capacity(alloc, firsts.len())?;
+    for place in 0..firsts.len() {
+        next.push(place + 1)?;
+    }
+    Ok(next)
+}
+
+/// The next place whose class may be open.
+#[inline(always)]
+pub(crate) fn next_open(next: &[usize], place: usize) -> usize
+    requires { place < length next.now }
+    ensures { slice_get next.now place ≡ Some result }
+{
+    next[place]
+}
+
+/// Leaves a place out, the next one of a place before it. Gives the next one of that which is left
+/// out.
+#[inline(always)]
+pub(crate) fn leave_out(next: &mut [usize], before: usize, place: usize) -> usize
+    requires before { before < length next.old }
+    requires place { place < length next.old }
+    ensures behind { slice_get next.old place ≡ Some result }
+    ensures left_out { next.new ≡ slice_set next.old before result }
+{
+    let behind = next[place];
+    next[before] = behind;
+    behind
+}
