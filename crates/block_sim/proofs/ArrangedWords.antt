@@ -142,3 +142,18 @@ module _ (c d : List Statement) (well : IsWellFormed c) (arranged : IsArranged c
         clear = λ k lt own none still at. told.clear k lt own none still
             ((detected_same_at c d well same tests f (128 * group_of span + k)).0 at);
       }
+
+-- the signal of the line, and its number there
+pub carried_is : (c d : List Statement) (f : Fault) (origin : Origin) → IsWellFormed c
+    → IsArranged c d → Starts c d f origin
+    → (n : Name) × (name_on d (moved_line c d f.line) ≡ Some n) × Contains (names d) n
+    × (origin.carried ≡ signal d n)
+carried_is c d f origin well arranged starts =
+    let named = carries_there c d well arranged f.model f starts.listed in
+    let line : origin.fault.line ≡ moved_line c d f.line =
+    ap (λ (x : Fault). x.line) starts.moved in (
+      named.0,
+      named.1,
+      named.2,
+      starts.carried named.0 (ap (name_on d) line ∙ named.1),
+    )

@@ -64,3 +64,4 @@ mod KnownWords
 mod SensitizedLanes
 mod Groups
 mod PartsOfJobs
+mod ActiveLanes

@@ -1,41 +1,22 @@
-use Rattle.std.proofs.Common.{◌≡◌, ◌≢◌, ◌+◌, ◌*◌, ◌<◌, ◌^◌, ◌∙◌, ap, arith, inl, inr, map, subst, sym, List}
-use Rattle.std.specs.Prelude.{[], Contains, Some, bit_and, slice_index_or}
+use Rattle.std.proofs.Common.{◌≢◌, ◌+◌, ◌*◌, ◌<◌, ◌^◌, ap, arith, inl, inr, map, subst, sym}
+use Rattle.std.specs.Prelude.{[], bit_and, slice_index_or}
 use Rattle.std.specs.Bool.{Decides}
-use Rattle.bench_net.specs.Statement.{Name, Statement}
-use Rattle.bench_net.specs.Circuit.{IsWellFormed}
 use Rattle.bench_net.specs.Scan.{names, signal}
 use Rattle.bench_net.proofs.Public.{name_of-signal}
 use Rattle.lists.proofs.Places.{place_within}
-use Rattle.fault_model.specs.Detection.{IsInitialized, name_on}
+use Rattle.fault_model.specs.Detection.{IsInitialized}
 use Rattle.fault_model.specs.Fault.{Fault}
 use Rattle.fault_model.specs.Reordered.{moved_line}
 use Rattle.fault_model.proofs.Public.{same_bits}
-use Rattle.block_sim.specs.declared.origin.Origin.{Origin}
-use Rattle.block_sim.specs.Arranged.{IsArranged}
-use Rattle.block_sim.specs.Origins.{IsStuckOf, Starts}
+use Rattle.block_sim.specs.Origins.{IsStuckOf}
 use Rattle.block_sim.specs.Words.{lane}
 use Rattle.block_sim.proofs.BitBefore.{fits_where, masked_look_back}
 use Rattle.block_sim.proofs.ArrangedSignals.{reordered, well_there}
-use Rattle.block_sim.proofs.ArrangedWords.{carries_there, starts_there}
+use Rattle.block_sim.proofs.ArrangedWords.{carried_is, starts_there}
 use Rattle.std.proofs.lemmas.Option.{slice_get-get_or}
 use Rattle.block_sim.proofs.look_back.initialized_lanes.Goals as goal
 use Rattle.block_sim.proofs.look_back.initialized_lanes.Goals.{then-stuck, else-stuck}
 use Rattle.block_sim.proofs.look_back.initialized_lanes.Goals.{then-group-eq0, else-group-eq0}
-
--- the signal of the line, and its number there
-carried_is : (c d : List Statement) (f : Fault) (origin : Origin) → IsWellFormed c
-    → IsArranged c d → Starts c d f origin
-    → (n : Name) × (name_on d (moved_line c d f.line) ≡ Some n) × Contains (names d) n
-    × (origin.carried ≡ signal d n)
-carried_is c d f origin well arranged starts =
-    let named = carries_there c d well arranged f.model f starts.listed in
-    let line : origin.fault.line ≡ moved_line c d f.line =
-    ap (λ (x : Fault). x.line) starts.moved in (
-      named.0,
-      named.1,
-      named.2,
-      starts.carried named.0 (ap (name_on d) line ∙ named.1),
-    )
 
 pub origin_of-origin-requires : goal.origin_of-origin-requires
 origin_of-origin-requires c =

@@ -1,0 +1,67 @@
+//! Whether some test activates a fault: gives its line the complement of the stuck bit.
+
+ghost use Rattle.std.specs.Prelude.{◌≡◌, ◌↔◌, ◌+◌, ◌*◌, ◌<◌, ℕ, IsTrue, Some, length, not};
+ghost use Rattle.std.specs.Prelude.{slice_get};
+ghost use Rattle.std.specs.Bool.{Decides};
+ghost use Rattle.fault_model.specs.Detection.{HasBit};
+ghost use Rattle.fault_model.specs.Fault.{Fault};
+ghost use Rattle.block_sim.specs.Activation.{ActivatesAt, IsActivated};
+ghost use Rattle.block_sim.specs.Origins.{IsStuckOf};
+ghost use Rattle.block_sim.specs.Spans.{groups};
+ghost use Rattle.block_sim.specs.Words.{lane, test_of};
+
+use crate::block_lanes::lanes_below;
+use crate::job::Job;
+use crate::look_back::lanes_that_fit;
+use crate::origin::origin_of;
+use crate::words::Stuck;
+
+/// Whether some test of a job activates the fault of this number in its list: the test gives the
+/// line, without a fault, the complement of the stuck bit. A transition fault is activated where
+/// the test before gives the line the stuck bit, too, and in a list of pairs where that is the
+/// first of the pair. It takes no memory, and reads two words or so of each group of tests up to
+/// the first one with such a test.
+pub fn is_activated(job: &Job, fault: u32) -> bool
+    requires { fault < length job.now.list.list }
+    ensures { (f : Fault) → slice_get job.now.list.list fault ≡ Some f
+        → IsTrue result ↔ IsActivated job.now.circuit job.now.tests.tests f }
+{
+    let list = job.faults();
+    let stuck = Stuck {
+        model: list.model(),
+        line: list.line_of(fault),
+        at_one: list.stuck_of(fault),
+    };
+    for group in 0..job.tests().blocks().div_ceil(2) {
+        if activating_lanes(job, group, stuck) != 0 {
+            return true;
+        }
+    }
+    false
+}
+
+/// The lanes of a group whose tests activate a fault.
+fn activating_lanes(job: &Job, group: u32, stuck: Stuck) -> u128
+    requires group { group < groups (length job.now.tests.tests) }
+    requires stuck { (f : Fault) × IsStuckOf job.now.circuit f stuck }
+    ensures { (f : Fault) (k : ℕ) → IsStuckOf job.now.circuit f stuck → k < 128
+        → Decides (lane result k)
+        (ActivatesAt job.now.circuit job.now.tests.tests f (128 * group + k)) }
+{
+    let size = (job.tests().count() - 128 * group).min(128);
+    lanes_below(size) & lanes_that_fit(job, group, stuck) & opposite_lanes(job, group, stuck)
+}
+
+/// The lanes of a group whose tests give the line of a fault the complement of the stuck bit.
+fn opposite_lanes(job: &Job, group: u32, stuck: Stuck) -> u128
+    requires group { group < groups (length job.now.tests.tests) }
+    requires stuck { (f : Fault) × IsStuckOf job.now.circuit f stuck }
+    ensures { (f : Fault) (k : ℕ) → IsStuckOf job.now.circuit f stuck → k < 128
+        → Decides (lane result k) (HasBit job.now.circuit
+        (test_of job.now.tests.tests group k) f.line (not f.stuck)) }
+{
+    let words = job.words();
+    let origin = origin_of(words.circuit, stuck);
+    let word = words.of(group)[origin.carried as usize];
+    if stuck.at_one { !word } else { word }
+}
