@@ -1,0 +1,2 @@
+mod LinesInCircuit
+mod KnownReasons

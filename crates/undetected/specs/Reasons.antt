@@ -1,0 +1,51 @@
+-- Why no test of a list detects a fault.
+use Rattle.std.specs.Prelude.{◌≡◌, ⊤, ℕ, ◌<◌, List, length, Option, Some, None, slice_get}
+use Rattle.bench_net.specs.Statement.{Statement}
+use Rattle.bench_net.specs.Scan.{names}
+use Rattle.fault_model.specs.declared.Line.{Line}
+use Rattle.fault_model.specs.declared.Line.TheVariants as line
+use Rattle.fault_model.specs.declared.Model.{Model}
+use Rattle.fault_model.specs.Detection.{DetectsAt}
+use Rattle.fault_model.specs.Fault.{Fault, faults}
+use Rattle.fault_model.specs.Solution.{Test}
+use Rattle.block_sim.specs.Activation.{IsActivated}
+use Rattle.block_sim.specs.Events.{IsLive}
+use Rattle.undetected.specs.declared.Reason.{Reason}
+use Rattle.undetected.specs.declared.Reason.TheVariants.{NoPath, NotActivated, NotObserved}
+
+-- An observer is reached from the line: from a stem where its signal is live, from a gate's pin
+-- where that of the gate is; the branches at a data pin and at an output are observed.
+abbrev pub HasPath : List Statement → Line → Type 0
+HasPath c (line.Stem s) = IsLive c s
+HasPath c (line.Pin gate pin) = IsLive c gate
+HasPath c (line.Data cell) = ⊤
+HasPath c (line.Out output) = ⊤
+
+-- The reason of a fault that no test of the list detects. The first that holds is it: that no
+-- observer is reached, that no test activates the fault, that none detects it.
+abbrev pub IsReason : List Statement → List Test → Fault → Reason → Type 0
+IsReason c tests f NoPath = ¬ HasPath c f.line
+IsReason c tests f NotActivated = HasPath c f.line × (¬ IsActivated c tests f)
+IsReason c tests f NotObserved = HasPath c f.line × IsActivated c tests f
+    × ((t : ℕ) → ¬ DetectsAt c tests f t)
+
+-- with the first test that detects the fault: it has a reason where there is no such test
+abbrev pub HasReason : List Statement → List Test → Fault → Option ℕ → Option Reason → Type 0
+HasReason c tests f (Some t) reason = reason ≡ None
+HasReason c tests f None None = ⊥
+HasReason c tests f None (Some reason) = IsReason c tests f reason
+
+-- each fault of the circuit's list, before collapsing, has its reason
+pub record AreReasons (m : Model) (c : List Statement) (tests : List Test)
+    (firsts : List (Option ℕ)) (reasons : List (Option Reason)) : Type 0 where
+  pub count : length reasons ≡ length (faults m c)
+  pub each : (i : ℕ) (f : Fault) (first : Option ℕ) (reason : Option Reason)
+      → slice_get (faults m c) i ≡ Some f → slice_get firsts i ≡ Some first
+      → slice_get reasons i ≡ Some reason → HasReason c tests f first reason
+
+-- the numbers of stems and of gates are those of signals
+abbrev pub IsLineIn : List Statement → Line → Type 0
+IsLineIn c (line.Stem s) = s < length (names c)
+IsLineIn c (line.Pin gate pin) = gate < length (names c)
+IsLineIn c (line.Data cell) = ⊤
+IsLineIn c (line.Out output) = ⊤

@@ -1,0 +1,91 @@
+//! The reason of each fault.
+
+ghost use Rattle.std.specs.Prelude.{◌≡◌, ◌↔◌, ◌<◌, ℕ, IfOk, IsTrue, None, Option, Some};
+ghost use Rattle.std.specs.Prelude.{length, slice_get};
+ghost use Rattle.bench_net.specs.Scan.{names};
+ghost use Rattle.fault_model.specs.Fault.{Fault};
+ghost use Rattle.block_sim.specs.First.{IsFirst};
+ghost use Rattle.block_sim.specs.Flat.{AreLive};
+ghost use Rattle.block_sim.specs.Parts.{BelongTogether};
+ghost use Rattle.workers.specs.Verdict.{AreFirsts};
+ghost use Rattle.undetected.specs.Reasons.{AreReasons, HasPath, HasReason, IsLineIn, IsReason};
+
+use crate::Reason;
+use bench_net::Circuit;
+use block_sim::{Job, is_activated, live_signals};
+use fault_model::Line;
+use std::alloc::{AllocError, Global};
+use workers::Verdicts;
+
+/// For each fault of a job's list, before collapsing, why no test detects it; none for a fault that
+/// a test detects. The verdicts are those of a run of the job. It takes a byte or so for each fault
+/// and for each signal, and looks for each undetected fault at the fault-free words of its line.
+pub fn reasons(
+    alloc: Global,
+    job: &Job,
+    verdicts: &Verdicts,
+) -> Result<Vec<Option<Reason>>, AllocError>
+    requires { AreFirsts job.now.list.model job.now.circuit job.now.tests.tests
+        verdicts.now.firsts }
+    ensures { IfOk result (λ reasons. AreReasons job.now.list.model job.now.circuit
+        job.now.tests.tests verdicts.now.firsts reasons.items) }
+{
+    let live = live_signals(alloc, job.circuit())?;
+    let count = job.faults().count();
+    let mut reasons = Vec::with_capacity(alloc, count as usize)?;
+    for fault in 0..count {
+        reasons.push(reason_at(job, &live, verdicts, fault))?;
+    }
+    Ok(reasons)
+}
+
+/// The reason of the fault of a number, none if a test detects it.
+fn reason_at(job: &Job, live: &[bool], verdicts: &Verdicts, fault: u32) -> Option<Reason>
+    requires together { BelongTogether job.now }
+    requires firsts { AreFirsts job.now.list.model job.now.circuit job.now.tests.tests
+        verdicts.now.firsts }
+    requires live { AreLive job.now.circuit live.now }
+    requires room { length live.now ≡ length (names job.now.circuit) }
+    requires fault { fault < length job.now.list.list }
+    ensures { (f : Fault) (first : Option ℕ) → slice_get job.now.list.list fault ≡ Some f
+        → slice_get verdicts.now.firsts fault ≡ Some first
+        → HasReason job.now.circuit job.now.tests.tests f first result }
+{
+    match verdicts.first(fault) {
+        Some(_) => None,
+        None => Some(reason_of(job, live, fault)),
+    }
+}
+
+/// The reason of the fault of a number, which no test detects.
+fn reason_of(job: &Job, live: &[bool], fault: u32) -> Reason
+    requires live { AreLive job.now.circuit live.now }
+    requires room { length live.now ≡ length (names job.now.circuit) }
+    requires fault { fault < length job.now.list.list }
+    ensures { (f : Fault) → slice_get job.now.list.list fault ≡ Some f
+        → IsFirst job.now.circuit job.now.tests.tests f None
+        → IsReason job.now.circuit job.now.tests.tests f result }
+{
+    if !has_path(job.circuit(), live, job.faults().line_of(fault)) {
+        Reason::NoPath
+    } else if !is_activated(job, fault) {
+        Reason::NotActivated
+    } else {
+        Reason::NotObserved
+    }
+}
+
+/// Whether an observer is reached from a line.
+fn has_path(circuit: &Circuit, live: &[bool], line: Line) -> bool
+    requires live { AreLive circuit.now live.now }
+    requires room { length live.now ≡ length (names circuit.now) }
+    requires line { IsLineIn circuit.now line }
+    ensures { IsTrue result ↔ HasPath circuit.now line }
+{
+    let _circuit = circuit;
+    match line {
+        Line::Stem(signal) => live[signal as usize],
+        Line::Pin { gate, pin: _ } => live[gate as usize],
+        Line::Data { .. } | Line::Out { .. } => true,
+    }
+}
