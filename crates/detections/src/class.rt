@@ -1,8 +1,10 @@
 //! How many tests detect a class.
 
 ghost use Rattle.std.specs.Prelude.{◌<◌, ◌≤◌, length};
+ghost use Rattle.fault_model.specs.Collapse.{IsClassOf};
+ghost use Rattle.fault_model.specs.Fault.{Fault};
 ghost use Rattle.block_sim.specs.Parts.{HasRoom};
-ghost use Rattle.detections.specs.Detections.{IsClassCount};
+ghost use Rattle.detections.specs.Detections.{IsClassCount, IsCount};
 
 use block_sim::{Job, Workspace, detecting};
 
@@ -22,4 +24,17 @@ pub(crate) fn count_class(job: &Job, workspace: &mut Workspace, class: u32, most
         count = most.min(count.saturating_add(word.count_ones()));
     }
     count
+}
+
+/// How many tests detect the faults of a class. No more than `most` are counted, so that a class
+/// with `most` may be detected by more. It takes no memory and no thread.
+pub fn class_detections(job: &Job, workspace: &mut Workspace, class: u32, most: u32) -> u32
+    requires class { class < length job.now.classes.representative }
+    requires fits { HasRoom workspace.old job.now }
+    ensures count { (f : Fault) → IsClassOf job.now.list.model job.now.circuit f class
+        → IsCount job.now.circuit job.now.tests.tests most f result }
+    ensures fits { HasRoom workspace.new job.now }
+{
+    let _classes = job.classes();
+    count_class(job, workspace, class, most)
 }

@@ -2,7 +2,7 @@
 //!
 //! A test set that detects each fault several times also finds more of the defects that no fault
 //! model has (n-detect test sets: Ma, Franco and McCluskey, An Experimental Chip to Evaluate Test
-//! Techniques). [`detections`] counts, in threads.
+//! Techniques). [`detections`] counts, in threads, and [`class_detections`] counts for one class.
 #![tactic(auto)]
 
 mod class;
@@ -10,6 +10,7 @@ mod faults;
 mod share;
 mod threads;
 
+pub use class::class_detections;
 pub use faults::detections;
 use std::alloc::{AllocError, AllocFailed};
 use thiserror::Error;
