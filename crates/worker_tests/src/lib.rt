@@ -7,6 +7,8 @@ mod fixtures;
 #[cfg(test)]
 mod gates;
 #[cfg(test)]
+mod lists;
+#[cfg(test)]
 mod parts;
 #[cfg(test)]
 mod schedules;

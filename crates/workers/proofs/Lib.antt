@@ -8,6 +8,7 @@ mod ThreadHandles
 mod ClosedLedgers
 mod PartsOfClasses
 mod ClassRanks
+mod ListedRuns
 mod LoneWorkers
 mod PassedPieces
 mod Turns

@@ -164,7 +164,7 @@ passed_there job classes worker S None firsts e = e.1
 passed_there job classes worker S (Some stop) firsts e = e.2
 
 -- one that was not has found the first tests
-not_stopped_found : (job : Parts) (classes : List ℕ) (worker : ℕ) (S : Stops) (stop : Option Stop)
+pub not_stopped_found : (job : Parts) (classes : List ℕ) (worker : ℕ) (S : Stops) (stop : Option Stop)
     (firsts : List (Option ℕ)) → BelongTogether job → HasEnded job classes worker S stop firsts
     → stop ≡ None → AreClassFirsts job.list.model job.circuit job.tests.tests classes firsts
 not_stopped_found job classes worker S None firsts b e is = firsts_found job classes firsts b e.0

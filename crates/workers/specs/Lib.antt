@@ -11,3 +11,4 @@ pub mod Refused
 pub mod Turns
 pub mod OpenPlaces
 pub mod Stretches
+pub mod Listed

@@ -18,6 +18,7 @@ mod alone;
 mod arrange;
 mod chosen;
 mod classes;
+mod listed;
 mod open;
 mod open_places;
 mod pace;
@@ -39,6 +40,7 @@ ghost use Rattle.workers.specs.Refused.{IsWorkersFault};
 use block_sim::Job;
 pub use classes::run_classes;
 pub use fault_ledger::MAX_WORKERS;
+pub use listed::ListRunner;
 pub use open::run_open;
 pub use parts::{
     LedgerRun, PartVerdict, in_one_part, part_of, run_in_parts, run_over_ledger, run_part,

@@ -59,7 +59,7 @@ pub fn in_one_part()
 {}
 
 /// The verdict on each class, by its number, from the first tests of the classes of a list.
-fn by_class(
+pub(crate) fn by_class(
     alloc: Global,
     count: u32,
     classes: &[u32],
@@ -97,7 +97,7 @@ fn of_faults(
 }
 
 /// The verdict on a class, by the verdicts on all classes.
-fn verdict_on(by_class: &[PartVerdict], class: u32) -> PartVerdict
+pub(crate) fn verdict_on(by_class: &[PartVerdict], class: u32) -> PartVerdict
     ensures { result ≡ slice_index_or by_class.now class PartVerdict.OtherPart }
 {
     match by_class.get(class as usize) {
@@ -107,7 +107,7 @@ fn verdict_on(by_class: &[PartVerdict], class: u32) -> PartVerdict
 }
 
 /// The first test of each fault, which is that of its class.
-fn firsts_of_faults(
+pub(crate) fn firsts_of_faults(
     alloc: Global,
     job: &Job,
     by_class: &[PartVerdict],
@@ -126,7 +126,7 @@ fn firsts_of_faults(
 }
 
 /// The first test in a verdict; none in one of another part.
-fn first_in(verdict: PartVerdict) -> Option<u32>
+pub(crate) fn first_in(verdict: PartVerdict) -> Option<u32>
     ensures { result ≡ first_in verdict }
 {
     match verdict {
@@ -272,7 +272,7 @@ pub fn run_over_ledger<G: Gate + Sync, R: Threads + Wait>(
 }
 
 /// The number of pieces behind the first hits of all classes.
-fn skipped_behind(by_class: &[PartVerdict], blocks: u32) -> u64
+pub(crate) fn skipped_behind(by_class: &[PartVerdict], blocks: u32) -> u64
     requires { length by_class.now < 2 ^ 32 }
     ensures { result ≡ pieces_behind blocks (map first_in by_class.now) }
 {

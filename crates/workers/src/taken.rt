@@ -102,7 +102,7 @@ pub(crate) fn run_alone<G: Gate>(
 }
 
 /// No first test of so many classes.
-fn no_firsts(alloc: Global, count: usize) -> Result<Vec<Option<u32>>, AllocError>
+pub(crate) fn no_firsts(alloc: Global, count: usize) -> Result<Vec<Option<u32>>, AllocError>
     ensures count { IfOk result (λ firsts. vec_len firsts ≡ count) }
     ensures none { IfOk result (λ firsts. All (λ first. first ≡ None) firsts.items) }
 {
