@@ -8,6 +8,7 @@ ghost use Rattle.workers.specs.Part.{first_in};
 ghost use Rattle.workers.specs.Verdict.{AreBehindHits, AreClassFirsts, AreFirsts};
 
 use crate::alone::{rows_of, run_list};
+use crate::open_places::all_open;
 use crate::parts::{PartVerdict, by_class, first_in, firsts_of_faults, skipped_behind, verdict_on};
 use crate::ranks::all_classes;
 use crate::taken::no_firsts;
@@ -144,8 +145,11 @@ fn run_alone(
     let _tests = job.tests();
     let rows = rows_of(alloc, job, classes)?;
     let mut firsts = no_firsts(alloc, classes.len())?;
+    let mut open = all_open(alloc, firsts.as_slice())?;
+    let listed = rows.as_slice();
+    let next = open.as_mut_slice();
     let found = firsts.as_mut_slice();
-    let _stop = run_list(job, rows.as_slice(), 0, simulation, &OpenGate, found);
+    let _stop = run_list(job, listed, 0, simulation, &OpenGate, next, found);
     Ok(firsts)
 }
 
