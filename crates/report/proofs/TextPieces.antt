@@ -28,19 +28,16 @@ fault_by_parts m c fs i f l bit list at line_is bit_is =
     let own_model : f.model ≡ m = model_known m c fs i f list at in
     rw (own_line, own_bit, ← own_model) refl
 
--- the line of a fault of the list from its pieces: its line, what is wrong with it, and what is
--- said of it behind a word
-pub fault_line_text : (m : Model) (c : List Statement) (fs : List Fault) (i : ℕ) (f : Fault)
-    (l : Line) (bit : Bool) (front defect word said whole : List ℕ)
+-- a fault of the list from its pieces: its line, and what is wrong with it
+pub fault_pieces : (m : Model) (c : List Statement) (fs : List Fault) (i : ℕ) (f : Fault)
+    (l : Line) (bit : Bool) (front defect whole : List ℕ)
     → fs ≡ faults m c → slice_get fs i ≡ Some f → IfSome (slice_get fs i) (λ f. l ≡ f.line)
     → IfSome (slice_get fs i) (λ f. bit ≡ f.stuck)
-    → line_text c l ≡ front → defect ≡ defect_text m bit ++ codes " "
-    → whole ≡ front ++ (defect ++ (word ++ (said ++ codes "\n")))
-    → whole ≡ fault_text c f ++ (codes " " ++ word ++ said ++ codes "\n")
-fault_line_text m c fs i f l bit front defect word said whole list at line_is bit_is front_is
-    defect_is is =
+    → line_text c l ≡ front → defect ≡ defect_text m bit → whole ≡ front ++ defect
+    → whole ≡ fault_text c f
+fault_pieces m c fs i f l bit front defect whole list at line_is bit_is front_is defect_is is =
     let own = fault_by_parts m c fs i f l bit list at line_is bit_is in
-    rw (is, ← own, front_is, defect_is) (simp append_assoc)
+    rw (is, ← own, front_is, defect_is) refl
 
 -- the line of a fault with this first test, where it is asked for, and where it isn't
 pub is_first_line : (lines : Lines) (c : List Statement) (f : Fault) (first : Option ℕ)

@@ -41,7 +41,7 @@ pub use merged::Merged;
 pub use output::{Formatted, Out, OutFailed, Plain};
 pub use part::{part_text_in, part_text_watched};
 pub use part_reader::{PartFault, PartHeader, PartText, read_part};
-pub use report::{write_listing, write_report, write_report_with};
+pub use report::{write_fault, write_listing, write_report, write_report_with};
 pub use responses::responses_text_in;
 pub use text::{
     faults_text, faults_text_in, listing_bytes, report_bytes, schedule_text, schedule_text_in,

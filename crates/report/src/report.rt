@@ -32,15 +32,15 @@ fn cell_name(circuit: &Circuit, cell: u32) -> &str
     circuit.name_of(circuit.scan_cells()[cell as usize].q)
 }
 
-/// What is wrong with a line, by the model of its fault and the bit, between two spaces.
+/// What is wrong with a line, by the model of its fault and the bit, behind a space.
 fn defect(model: Model, bit: bool) -> &'static str
-    ensures { result.now ≡ defect_text model bit ++ codes " " }
+    ensures { result.now ≡ defect_text model bit }
 {
     match (model, bit) {
-        (Model::StuckAt, false) => " sa0 ",
-        (Model::StuckAt, true) => " sa1 ",
-        (Model::Transition | Model::TransitionPairs, false) => " str ",
-        (Model::Transition | Model::TransitionPairs, true) => " stf ",
+        (Model::StuckAt, false) => " sa0",
+        (Model::StuckAt, true) => " sa1",
+        (Model::Transition | Model::TransitionPairs, false) => " str",
+        (Model::Transition | Model::TransitionPairs, true) => " stf",
     }
 }
 
@@ -86,27 +86,59 @@ pub(crate) fn put_coverage<'a, W: Out>(
     put_pieces(&pieces, out)
 }
 
-/// Writes a line of a text: a line of the circuit by its kind, its name and, behind a gap, its
-/// place, then what is wrong with it, a word and what is said of it.
-fn put_line<'a, W: Out>(
+/// Writes a fault: a line of the circuit by its kind, its name and, behind a gap, its place, then
+/// what is wrong with it.
+fn put_words<'a, W: Out>(
     kind: &'a str,
     name: &'a str,
     gap: &'a str,
     place: &'a str,
     defect: &'a str,
-    word: &'a str,
-    said: &'a str,
     out: &mut W,
 ) -> Result<(), OutFailed>
     ensures { Writes result (W.seen out.old) (W.seen out.new)
-        (kind.now ++ (name.now ++ (gap.now ++ (place.now
-        ++ (defect.now ++ (word.now ++ (said.now ++ codes "\n"))))))) }
+        (kind.now ++ (name.now ++ (gap.now ++ (place.now ++ defect.now)))) }
 {
-    put_pieces(&[kind, name, gap, place, defect, word, said, "\n"], out)
+    put_pieces(&[kind, name, gap, place, defect], out)
 }
 
-/// Writes a line of the report or of the listing: a fault, a word and what is said of it. Pins and
-/// OUTPUT lines count from 1 in the text.
+/// Writes a fault of a list: its line, and what is wrong with it. Pins and OUTPUT lines count from 1
+/// in the text.
+fn put_fault<W: Out>(
+    circuit: &Circuit,
+    list: &Faults,
+    fault: u32,
+    out: &mut W,
+) -> Result<(), OutFailed>
+    requires list { list.now.list ≡ faults list.now.model circuit.now }
+    requires in_range { fault < length list.now.list }
+    ensures { (f : Fault) → slice_get list.now.list fault ≡ Some f
+        → Writes result (W.seen out.old) (W.seen out.new) (fault_text circuit.now f) }
+{
+    let wrong = defect(list.model(), list.stuck_of(fault));
+    let mut number = Buffer::new();
+    match list.line_of(fault) {
+        Line::Stem(signal) => {
+            let name = circuit.name_of(signal);
+            put_words("stem ", name, "", "", wrong, out)
+        }
+        Line::Pin { gate, pin } => {
+            let name = circuit.name_of(gate);
+            let place = number.format(u64::from(pin) + 1);
+            put_words("pin ", name, " ", place, wrong, out)
+        }
+        Line::Data { cell } => {
+            let name = cell_name(circuit, cell);
+            put_words("data ", name, "", "", wrong, out)
+        }
+        Line::Out { output } => {
+            let place = number.format(u64::from(output) + 1);
+            put_words("out ", place, "", "", wrong, out)
+        }
+    }
+}
+
+/// Writes a line of the report or of the listing: a fault, a word and what is said of it.
 pub(crate) fn put_fault_line<'a, W: Out>(
     circuit: &Circuit,
     list: &Faults,
@@ -121,27 +153,8 @@ pub(crate) fn put_fault_line<'a, W: Out>(
         → Writes result (W.seen out.old) (W.seen out.new)
         (fault_text circuit.now f ++ (codes " " ++ word.now ++ said.now ++ codes "\n")) }
 {
-    let wrong = defect(list.model(), list.stuck_of(fault));
-    let mut number = Buffer::new();
-    match list.line_of(fault) {
-        Line::Stem(signal) => {
-            let name = circuit.name_of(signal);
-            put_line("stem ", name, "", "", wrong, word, said, out)
-        }
-        Line::Pin { gate, pin } => {
-            let name = circuit.name_of(gate);
-            let place = number.format(u64::from(pin) + 1);
-            put_line("pin ", name, " ", place, wrong, word, said, out)
-        }
-        Line::Data { cell } => {
-            let name = cell_name(circuit, cell);
-            put_line("data ", name, "", "", wrong, word, said, out)
-        }
-        Line::Out { output } => {
-            let place = number.format(u64::from(output) + 1);
-            put_line("out ", place, "", "", wrong, word, said, out)
-        }
-    }
+    put_fault(circuit, list, fault, out)?;
+    put_pieces(&[" ", word, said, "\n"], out)
 }
 
 /// What is said of a fault's first test: its number, or `none`.
@@ -301,6 +314,21 @@ pub fn write_report_with<W: Out>(
 {
     put_report(job, verdicts, contents.lines, out)?;
     put_class_coverage(job, verdicts, contents.classes, out)?;
+    Ok(())
+}
+
+/// Writes the name of a fault of a job, as each line of a report and of the listing begins: its
+/// line, and what is wrong with it. It takes no memory.
+///
+/// # Errors
+///
+/// [`ReportFault::Write`] if the output takes nothing more. A beginning of the name went out.
+pub fn write_fault<W: Out>(job: &Job, fault: u32, out: &mut W) -> Result<(), ReportFault>
+    requires { fault < length job.now.list.list }
+    ensures { (f : Fault) → slice_get job.now.list.list fault ≡ Some f
+        → Writes result (W.seen out.old) (W.seen out.new) (fault_text job.now.circuit f) }
+{
+    put_fault(job.circuit(), job.faults(), fault, out)?;
     Ok(())
 }
 
